@@ -1,0 +1,18 @@
+//! The types of a configuration, of the journal and of the records, and what they mean.
+#![tactic(auto)]
+
+mod config;
+mod journal;
+mod template;
+
+pub use config::{
+    Action, ActionKind, Automation, Condition, Config, Form, Match, Mode, RepeatKind, SpanForm,
+    Trigger, TriggerRule, Unit,
+};
+pub use ha_clock::{Moment, Span};
+pub use ha_value::{Boxed, EntityId, Many, Num, Plain, Value, Word};
+pub use journal::{
+    Branch, Cmd, EndCause, Entry, Env, Item, Record, StateObject, WaitAsk, WaitEnd, next_object,
+    same_data, same_id, same_text,
+};
+pub use template::{Expr, Op, Piece, Template};

@@ -1,0 +1,2 @@
+pub mod many
+pub mod boxed
