@@ -1,0 +1,28 @@
+-- Entity ids: `domain.object_id`, each part one or more of `a` to `z`, `0` to `9` and `_`.
+use Rattle.std.specs.Prelude.{ℕ, Bool, ◌&&◌, ◌||◌, nat_eq, List, ◌∷◌, ◌++◌, Option, Some, None, if◌then◌else◌}
+use Rattle.std.specs.Char.{is_ascii_lowercase, is_ascii_digit}
+use Rattle.ha_value.specs.declared.value.EntityId.{EntityId}
+use Rattle.ha_value.specs.Lists.{some_all, before_first, after_first}
+
+abbrev pub is_name_byte : ℕ → Bool
+is_name_byte c = is_ascii_lowercase c || (is_ascii_digit c || nat_eq c 95)
+
+-- the form of a domain and of an object id
+abbrev pub is_name : List ℕ → Bool
+is_name text = some_all is_name_byte text
+
+abbrev pub is_entity : EntityId → Bool
+is_entity e = is_name e.domain && is_name e.object
+
+-- the id as it is written
+abbrev pub entity_text : EntityId → List ℕ
+entity_text e = e.domain ++ 46 ∷ e.object
+
+abbrev pub entity_from : List ℕ → Option (List ℕ) → Option EntityId
+entity_from domain None = None
+entity_from domain (Some object) =
+    if is_name domain && is_name object then Some (record { domain = domain; object = object }) else None
+
+-- the id that a text is, cut at its dot
+unfoldable pub read_entity : List ℕ → Option EntityId
+read_entity text = entity_from (before_first 46 text) (after_first 46 text)
