@@ -1,1 +1,2 @@
 mod Pins
+pub mod NumberLemmas
