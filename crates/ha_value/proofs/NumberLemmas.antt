@@ -6,26 +6,22 @@ use Rattle.std.proofs.lemmas.Bool.{cases_lt}
 use Rattle.std.proofs.lemmas.Bool.Decides.{nat_tests}
 use Rattle.std.proofs.lemmas.Int.{ints}
 use Rattle.std.proofs.lemmas.Nat.{div-mul-add, mod-mul-add, div-add-mod'}
-use Rattle.ha_value.specs.Numbers.{nearest, rounded}
+use Rattle.ha_value.specs.Numbers.{nearer, nearest, rounded}
 
--- the choice between a quotient and the next one, by what is left
-abbrev pub choice : ℕ → ℕ → ℕ → ℕ
-choice q r d = cond (ltb (2 * r) d) q (cond (ltb d (2 * r)) (q + 1) (q + q % 2))
+pub nearer-cases : (q r d : ℕ) → 0 < d → (nearer q r d ≡ q) ⊎ ((nearer q r d ≡ q + 1) × (0 < r))
+nearer-cases q r d h = grind (arith, nat_tests)
 
-pub choice-cases : (q r d : ℕ) → 0 < d → (choice q r d ≡ q) ⊎ ((choice q r d ≡ q + 1) × (0 < r))
-choice-cases q r d h = grind (arith, nat_tests)
-
-pub choice_zero : (q d : ℕ) → 0 < d → choice q 0 d ≡ q
-choice_zero q d h = grind (arith, nat_tests)
+pub nearer_zero : (q d : ℕ) → 0 < d → nearer q 0 d ≡ q
+nearer_zero q d h = grind (arith, nat_tests)
 
 -- what is nearest, by the quotient and the rest
-pub nearest-parts : (q r d : ℕ) → r < d → nearest (q * d + r) d ≡ choice q r d
+pub nearest-parts : (q r d : ℕ) → r < d → nearest (q * d + r) d ≡ nearer q r d
 nearest-parts q r d h = rw (div-mul-add q d r h, mod-mul-add q d r h) refl
 
 pub nearest-exact : (q d : ℕ) → 0 < d → nearest (q * d) d ≡ q
 nearest-exact q d h =
     let e : q * d ≡ q * d + 0 = omega arith in
-    ap (λ n. nearest n d) e ∙ nearest-parts q 0 d h ∙ choice_zero q d h
+    ap (λ n. nearest n d) e ∙ nearest-parts q 0 d h ∙ nearer_zero q d h
 
 pub nearest_zero : (d : ℕ) → 0 < d → nearest 0 d ≡ 0
 nearest_zero d h = ap (λ n. nearest n d) (sym (zero-mul d)) ∙ nearest-exact 0 d h
@@ -41,11 +37,11 @@ pub nearest_multiple-le : (n d l : ℕ) → 0 < d → l % d ≡ 0 → n ≤ l �
 nearest_multiple-le n d l h m b =
     let whole : l / d * d + l % d ≡ l = div-add-mod' l d in
     let parts : n / d * d + n % d ≡ n = div-add-mod' n d in
-    ⊎_elim (λ (e : choice (n / d) (n % d) d ≡ n / d). rw e (omega arith))
-    (λ (p : (choice (n / d) (n % d) d ≡ n / d + 1) × (0 < n % d)).
+    ⊎_elim (λ (e : nearer (n / d) (n % d) d ≡ n / d). rw e (omega arith))
+    (λ (p : (nearer (n / d) (n % d) d ≡ n / d + 1) × (0 < n % d)).
     let next : (n / d + 1) * d ≤ l / d * d = next_multiple (n / d) (n % d) (l / d) d (omega arith) p.1 in
     rw p.0 (omega arith))
-    (choice-cases (n / d) (n % d) d h)
+    (nearer-cases (n / d) (n % d) d h)
 
 pub neg-times : (q d : ℕ) → neg_ℤ (pos q) *ℤ pos d ≡ neg_ℤ (pos (q * d))
 neg-times zero d = rw (zero-mul d) refl
