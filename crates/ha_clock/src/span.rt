@@ -133,6 +133,11 @@ mod tests {
 
     #[test]
     fn spans(rt: HostRuntime) {
+        assert_eq!(rt;
+            Span::of(31_622_400_000).map(|span| span.millis()),
+            Some(31_622_400_000)
+        );
+        assert!(rt; Span::of(31_622_400_001).is_none());
         for (text, want) in [
             ("5", Some(5_000)),
             ("0:5", Some(300_000)),
