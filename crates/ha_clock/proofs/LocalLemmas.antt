@@ -1,5 +1,5 @@
 -- Local times at UTC.
-use Rattle.std.proofs.Common.{◌≡◌, ◌∙◌, ◌+◌, ◌*◌, ◌/◌, ◌%◌, ap, refl, arith, ℕ, ℤ, pos, ◌+ℤ◌, codes, unsigned_abs}
+use Rattle.std.proofs.Common.{◌≡◌, ◌∙◌, ◌+◌, ◌/◌, ◌%◌, ap, refl, arith, ℕ, pos, ◌+ℤ◌, codes, unsigned_abs}
 use Rattle.std.specs.Int.{int_div_euclid, int_rem_euclid}
 use Rattle.jiff_core.proofs.SignedLemmas.{signed_arith}
 use Rattle.ha_clock.specs.Local.{local_seconds, second_of_day, weekday_at, weekday_of_day}

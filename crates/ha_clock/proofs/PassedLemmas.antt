@@ -1,8 +1,8 @@
 -- The search over seconds finds a second for which the test holds.
-use Rattle.std.proofs.Common.{◌≡◌, ◌∙◌, ◌≤◌, ◌<◌, ◌+◌, ◌-◌, ◌*◌, ◌/◌, ap, sym, subst, refl, arith, ℕ, zero, suc, max, Bool, true, false, ◌||◌, List, inl, inr, ◌⊎◌, ◌↔◌}
+use Rattle.std.proofs.Common.{◌≡◌, ◌∙◌, ◌≤◌, ◌<◌, ◌+◌, ◌-◌, ◌*◌, ◌/◌, ap, sym, refl, arith, ℕ, zero, suc, Bool, true, false, ◌||◌, List, inl, inr, ◌⊎◌, ◌↔◌}
 use Rattle.std.proofs.lemmas.Bool.Decides.{leb_tells}
 use Rattle.ha_clock.specs.Local.{second_of_day}
-use Rattle.ha_clock.specs.Passed.{IsPassed, PassesSecond, holds_in, passed_count, passes_second}
+use Rattle.ha_clock.specs.Passed.{PassesSecond, holds_in, passed_count, passes_second}
 
 -- one of the n seconds up to `last`, with a local second of the day for which the test holds
 pub record Found (zone : List ℕ) (test : ℕ → Bool) (last n : ℕ) : Type 0 where

@@ -1,11 +1,15 @@
 //! Laws of the definitions that the contracts cite.
-ghost use Rattle.std.specs.Prelude.{◌≡◌, ℕ, Bool, List, ◌≤◌, ◌<◌, ◌+◌, ◌*◌, ◌/◌, ◌%◌, ◌↔◌, IsTrue, Some, codes};
+ghost use Rattle.std.specs.Prelude.{◌≡◌, ℕ, ℤ, Bool, List, ◌≤◌, ◌<◌, ◌+◌, ◌*◌, ◌/◌, ◌%◌, ◌↔◌, IsTrue, Some, codes};
+ghost use Rattle.jiff_tz.specs.PosixRule.{offset_at};
+ghost use Rattle.jiff_tz.specs.PosixText.{tz_view};
 ghost use Rattle.ha_clock.specs.Local.{hour_at, last_moment, minute_at, second_at, second_of_day, weekday_at};
 ghost use Rattle.ha_clock.specs.MomentText.{moment_of};
 ghost use Rattle.ha_clock.specs.Passed.{PassesSecond, passes_second};
 ghost use Rattle.ha_clock.specs.Print.{moment_text};
+ghost use Rattle.ha_clock.specs.Rule.{rule_offset};
 
 use crate::Moment;
+use jiff_tz::posix;
 
 /// What is printed of a moment is read as the same moment.
 pub fn printed_moment_is_read(at: Moment)
@@ -40,4 +44,11 @@ pub fn passed_seconds_are_searched(from: Moment, to: Moment)
 {
     let _ = from;
     let _ = to;
+}
+
+/// The offset of a rule is the one that `jiff` gives for it.
+pub fn rule_offset_is_jiffs(rule: &posix::TimeZone)
+    ensures { (n : ℤ) → rule_offset (tz_view rule.now) n ≡ (offset_at rule.now n).seconds }
+{
+    let _ = rule;
 }
