@@ -1,2 +1,5 @@
 pub mod Counts
+pub mod MemKeeper
+pub mod MemSink
+pub mod MemSource
 pub mod Told
