@@ -1,5 +1,6 @@
 pub mod Counts
 pub mod MemKeeper
+pub mod MemPlace
 pub mod MemSink
 pub mod MemSource
 pub mod Told
