@@ -1,4 +1,5 @@
 pub mod Counts
+pub mod FileSink
 pub mod MemKeeper
 pub mod MemPlace
 pub mod MemSink

@@ -2,7 +2,11 @@
 //! Each is a trait whose ghost members are its meaning, with a form in memory and a form over the system.
 #![tactic(auto)]
 
+mod dir_place;
 mod fault;
+mod file_keeper;
+mod file_sink;
+mod file_source;
 mod gate;
 mod keeper;
 mod mem_keeper;
@@ -13,7 +17,11 @@ mod place;
 mod sink;
 mod source;
 
+pub use dir_place::DirPlace;
 pub use fault::{Failed, IoFault};
+pub use file_keeper::FileKeeper;
+pub use file_sink::FileSink;
+pub use file_source::FileSource;
 pub use gate::{Gate, OpenGate};
 pub use keeper::Keeper;
 pub use mem_keeper::MemKeeper;
