@@ -1,7 +1,6 @@
 -- What contracts see of a place in memory.
-use Rattle.std.specs.Prelude.{Contains, ℕ, List, [], map, Option, None, Some, option_and_then, find, string_bytes}
+use Rattle.std.specs.Prelude.{Contains, ◌&&◌, ℕ, Bool, true, is_none, List, [], ◌∷◌, Option, None, Some, option_and_then, find, string_bytes}
 use Rattle.std.specs.Option.{option_map, option_map_or}
-use Rattle.std.specs.List.{IsDistinct}
 use Rattle.std.specs.Str.{bytes_eq}
 use Rattle.ha_io.specs.declared.mem_place.MemFile.{MemFile}
 use Rattle.ha_io.specs.declared.place.Opening.{Opening}
@@ -22,13 +21,14 @@ new_place files fails = record { files = files; fails = fails; calls = 0; faults
 abbrev pub name_of : MemFile → List ℕ
 name_of file = string_bytes file.name
 
--- no two files have the same name
-abbrev pub HasDistinctNames : List MemFile → Type 0
-HasDistinctNames files = IsDistinct bytes_eq (map name_of files)
-
 -- the file of this name
 abbrev pub file_named : List MemFile → List ℕ → Option MemFile
 file_named files name = find (λ file. bytes_eq (name_of file) name) files
+
+-- no file has the name of an earlier one
+abbrev pub have_distinct_names : List MemFile → Bool
+have_distinct_names [] = true
+have_distinct_names (file ∷ files) = is_none (file_named files (name_of file)) && have_distinct_names files
 
 -- the bytes under a name, `None` where there are none to read
 abbrev pub bytes_under : List MemFile → List ℕ → Option (List ℕ)

@@ -25,9 +25,12 @@ pub use file_source::FileSource;
 pub use gate::{Gate, OpenGate};
 pub use keeper::Keeper;
 pub use mem_keeper::MemKeeper;
-pub use mem_place::{MemFile, MemPlace};
+pub use mem_place::{MemFile, MemPlace, have_distinct_names};
 pub use mem_sink::MemSink;
 pub use mem_source::MemSource;
 pub use place::{Opening, Place};
 pub use sink::Sink;
 pub use source::Source;
+
+#[cfg(test)]
+mod tests;

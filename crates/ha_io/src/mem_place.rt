@@ -1,8 +1,8 @@
 // A place in memory.
-ghost use Rattle.std.specs.Prelude.{◌≡◌, ◌≤◌, ◌⊎◌, IfOk, IsErr, IsErrOf, IsNone, OnOk, Some};
+ghost use Rattle.std.specs.Prelude.{◌≡◌, ◌≤◌, ◌⊎◌, IfOk, IsErr, IsErrOf, IsNone, IsTrue, OnOk, Some};
 ghost use Rattle.std.specs.Option.{option_copied};
 ghost use Rattle.ha_io.specs.Counts.{Rose};
-ghost use Rattle.ha_io.specs.MemPlace.{FailsNext, HasDistinctNames, after_failed_opening, after_opening, bytes_under, file_named, new_place, sink_for, source_for};
+ghost use Rattle.ha_io.specs.MemPlace.{FailsNext, after_failed_opening, after_opening, bytes_under, file_named, have_distinct_names, new_place, sink_for, source_for};
 
 use crate::{IoFault, MemSink, MemSource, Opening, Place};
 use std::alloc::{AllocError, Global};
@@ -46,7 +46,7 @@ impl Model for MemPlace {
 impl MemPlace {
     /// `fails` lists the numbers, from 1, of the calls that fail, those of both kinds counted together.
     pub fn make(files: Vec<MemFile>, fails: Vec<u64>) -> MemPlace
-        requires { HasDistinctNames files.items }
+        requires { IsTrue (have_distinct_names files.items) }
         ensures { result ≡ new_place files.items fails.items }
     {
         MemPlace {
@@ -79,6 +79,18 @@ fn find_file<'a>(files: &'a [MemFile], name: &str) -> Option<&'a MemFile>
     ensures { option_copied result ≡ file_named files.now name.now }
 {
     files.iter().find(|file| file.name.as_str() == name)
+}
+
+/// Whether no two of the files have the same name.
+pub fn have_distinct_names(files: &[MemFile]) -> bool
+    ensures { result ≡ have_distinct_names files.now }
+{
+    match files {
+        [] => true,
+        [file, rest @ ..] => {
+            find_file(rest, file.name.as_str()).is_none() && have_distinct_names(rest)
+        }
+    }
 }
 
 /// A source over a copy of the file's bytes, if the file is there for reading.
