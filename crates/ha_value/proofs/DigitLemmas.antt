@@ -20,11 +20,11 @@ use Rattle.ha_value.proofs.NumberLemmas.{nearer_zero, nearest-parts, nearest-exa
 
 -- ---- tests of digits
 
-and_left : (a b : Bool) → (a && b) ≡ true → a ≡ true
+pub and_left : (a b : Bool) → (a && b) ≡ true → a ≡ true
 and_left true b h = refl
 and_left false b h = h
 
-and_right : (a b : Bool) → (a && b) ≡ true → b ≡ true
+pub and_right : (a b : Bool) → (a && b) ≡ true → b ≡ true
 and_right true b h = h
 and_right false b h = absurd (cc)
 
@@ -191,7 +191,7 @@ scaled_fits v n h l =
 nearer-scale : (q r d : ℕ) → nearer q (r * 1_000_000) (d * 1_000_000) ≡ nearer q r d
 nearer-scale q r d = grind (arith, nat_tests)
 
-short_places : (v k : ℕ) → k ≤ 6 → nearest (v * 1_000_000) (10 ^ k) ≡ v * 10 ^ (6 - k)
+pub short_places : (v k : ℕ) → k ≤ 6 → nearest (v * 1_000_000) (10 ^ k) ≡ v * 10 ^ (6 - k)
 short_places v k h =
     let sum : (6 - k) + k ≡ 6 = omega arith in
     let whole : 10 ^ ((6 - k) + k) ≡ 10 ^ (6 - k) * 10 ^ k = pow-add 10 (6 - k) k in

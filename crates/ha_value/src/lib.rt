@@ -3,6 +3,7 @@
 mod boxed;
 mod cut;
 mod id;
+pub mod laws;
 mod many;
 mod num;
 mod plain;
