@@ -3,6 +3,7 @@
 mod boxed;
 mod cut;
 mod id;
+pub mod laws;
 mod many;
 mod num;
 mod plain;
@@ -18,3 +19,6 @@ pub use plain::Plain;
 pub use truth::says_yes_text;
 pub use value::{EntityId, Num, Value, copy_pairs, copy_values, same_pairs, same_values};
 pub use word::{Word, WordFault};
+
+#[cfg(test)]
+mod tests;

@@ -17,7 +17,8 @@ fn is_word(text: &[u8], word: &[u8]) -> bool
 fn is_yes_word(text: &[u8]) -> bool
     ensures { result ≡ is_yes_word text.now }
 {
-    is_word(text, b"true") || (is_word(text, b"yes") || (is_word(text, b"on") || is_word(text, b"enable")))
+    is_word(text, b"true")
+        || (is_word(text, b"yes") || (is_word(text, b"on") || is_word(text, b"enable")))
 }
 
 /// Whether a rendered text, without blanks at its ends, is a number other than zero, or one of the words `true`, `yes`, `on` and `enable` in any case.
