@@ -54,20 +54,20 @@ differ : (a b : Timer) → nat_eq b.1 a.1 ≡ false → ((order a b ≡ Less) ×
 differ a b h = elim (leb_tells b.0 a.0) [
   | inr less ↦ inl (ap (λ o. ordering_then o (nat_cmp a.1 b.1)) (cmp_less a.0 b.0 less.1), before_due a.0 a.1 b.0 b.1 less.1)
   | inl fits ↦ elim (leb_tells a.0 b.0) [
-      | inr more ↦ inr (ap (λ o. ordering_then o (nat_cmp a.1 b.1)) (cmp_more a.0 b.0 more.1), after_that a.0 a.1 b.0 b.1 more.1)
-      | inl also ↦
-          let same : a.0 ≡ b.0 = omega (arith, fits.1, also.1) in
-          elim (leb_tells b.1 a.1) [
-            | inr low ↦ inl (ap (λ o. ordering_then o (nat_cmp a.1 b.1)) (cmp_same a.0 b.0 same) ∙ cmp_less a.1 b.1 low.1, before_key a.0 a.1 b.0 b.1 same low.1)
-            | inl high ↦ elim (eqb_tells b.1 a.1) [
-                | inl equal ↦ absurd (let bad : ◌≡◌ {A = Bool} true false = sym equal.0 ∙ h in cc)
-                | inr other ↦
-                    let apart = other.1 in
-                    let above : b.1 < a.1 = omega (arith, high.1, apart) in
-                    inr (ap (λ o. ordering_then o (nat_cmp a.1 b.1)) (cmp_same a.0 b.0 same) ∙ cmp_more a.1 b.1 above, after_key a.0 a.1 b.0 b.1 same above)
-              ]
+    | inr more ↦ inr (ap (λ o. ordering_then o (nat_cmp a.1 b.1)) (cmp_more a.0 b.0 more.1), after_that a.0 a.1 b.0 b.1 more.1)
+    | inl also ↦
+        let same : a.0 ≡ b.0 = omega (arith, fits.1, also.1) in
+        elim (leb_tells b.1 a.1) [
+          | inr low ↦ inl (ap (λ o. ordering_then o (nat_cmp a.1 b.1)) (cmp_same a.0 b.0 same) ∙ cmp_less a.1 b.1 low.1, before_key a.0 a.1 b.0 b.1 same low.1)
+          | inl high ↦ elim (eqb_tells b.1 a.1) [
+            | inl equal ↦ absurd (let bad : ◌≡◌ {A = Bool} true false = sym equal.0 ∙ h in cc)
+            | inr other ↦
+                let apart = other.1 in
+                let above : b.1 < a.1 = omega (arith, high.1, apart) in
+                inr (ap (λ o. ordering_then o (nat_cmp a.1 b.1)) (cmp_same a.0 b.0 same) ∙ cmp_more a.1 b.1 above, after_key a.0 a.1 b.0 b.1 same above)
           ]
-    ]
+        ]
+  ]
 ]
 
 pub absent_head : (key : ℕ) (x : Timer) (xs : List Timer) → due_of key (x ∷ xs) ≡ None → (nat_eq x.1 key ≡ false) × (due_of key xs ≡ None)

@@ -1,5 +1,6 @@
 //! Due times in order: what waits for a moment, taken out by due and then by key.
 #![tactic(auto)]
+
 ghost use Rattle.std.specs.Prelude.{◌≡◌, ◌<◌, ◌↔◌, [], IsNone, IsTrue, All, OnErr, OnOk, is_some};
 ghost use Rattle.timer_queue.specs.Timers.{after_due, due_of, first_due, inserted, removed};
 

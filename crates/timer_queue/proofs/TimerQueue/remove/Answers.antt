@@ -14,10 +14,11 @@ pub invariant_of-self : goal.invariant_of-self
 invariant_of-self c =
     let due : due_of c.args.key c.self.inside.timers.keys ≡ Some c.in-Some.due = sym (c.self.invariant.1 c.args.key) ∙ sym c.in-Some.ensures.value in
     let keys : c.remove-in-Some.new.self.keys ≡ removed c.args.key c.self.inside.timers.keys =
-    c.remove-in-Some.ensures.keys ∙ removed_is c.in-Some.due c.args.key c.self.inside.timers.keys c.self.invariant.0 due in
-    (ap distinct_keys keys ∙ distinct_removed c.args.key c.self.inside.timers.keys c.self.invariant.0,
+    c.remove-in-Some.ensures.keys ∙ removed_is c.in-Some.due c.args.key c.self.inside.timers.keys c.self.invariant.0 due in (
+      ap distinct_keys keys ∙ distinct_removed c.args.key c.self.inside.timers.keys c.self.invariant.0,
       λ q. map_removed (get nat_cmp c.self.inside.dues) (get nat_cmp c.remove.new.self) c.args.key c.self.inside.timers.keys c.remove.ensures.updates.0 c.self.invariant.1 q
-      ∙ ap (due_of q) (sym keys))
+          ∙ ap (due_of q) (sym keys),
+    )
 
 pub returns-in-Some-clause-rest : goal.returns-in-Some-clause-rest
 returns-in-Some-clause-rest c =
