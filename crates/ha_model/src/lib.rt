@@ -2,17 +2,21 @@
 #![tactic(auto)]
 
 mod config;
+mod faults;
 mod journal;
+mod steps;
 mod template;
 
 pub use config::{
     Action, ActionKind, Automation, Condition, Config, Form, Match, Mode, RepeatKind, SpanForm,
     Trigger, TriggerRule, Unit,
 };
+pub use faults::{CoreFault, TplFault};
 pub use ha_clock::{Moment, Span};
 pub use ha_value::{Boxed, EntityId, Many, Num, Plain, Value, Word};
 pub use journal::{
     Branch, Cmd, EndCause, Entry, Env, Item, Record, StateObject, WaitAsk, WaitEnd, next_object,
     same_data, same_id, same_text,
 };
+pub use steps::{Change, Firing, Progress, StepOut};
 pub use template::{Expr, Op, Piece, Template};

@@ -3,6 +3,7 @@
 mod boxed;
 mod many;
 mod plain;
+mod plain_base;
 mod value;
 mod word;
 
