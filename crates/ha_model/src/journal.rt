@@ -21,7 +21,9 @@ pub enum Cmd {
         attributes: Many<(Word, Value)>,
     },
     /// An entity goes.
-    Gone { entity: EntityId },
+    Gone {
+        entity: EntityId,
+    },
     /// An event with its data, whose keys are distinct.
     Event {
         kind: Word,
@@ -30,9 +32,16 @@ pub enum Cmd {
     /// It is now this moment, or later already.
     Moment(Moment),
     /// Turns the automation of that name on or off; with `stop`, turning it off ends its runs.
-    Switch { name: Word, on: bool, stop: bool },
+    Switch {
+        name: Word,
+        on: bool,
+        stop: bool,
+    },
     /// Asks the automation of that name for a run; with `skip`, whatever its conditions say.
-    Trigger { name: Word, skip: bool },
+    Trigger {
+        name: Word,
+        skip: bool,
+    },
     /// All states go, all runs end, and the switches are set anew.
     Restart,
     /// A line that was refused, by its code's number: 1 for L1.
@@ -61,7 +70,10 @@ pub enum Item {
     /// Per target: the automation, its new switch, and whether its runs are ended.
     Switched(Many<(u32, bool, bool)>),
     /// Asked these automations for a run; with `skip`, whatever their conditions say.
-    Triggered { automations: Many<u32>, skip: bool },
+    Triggered {
+        automations: Many<u32>,
+        skip: bool,
+    },
     /// Failed, by the code's number: 1 for F1.
     Failed(u8),
 }
@@ -84,7 +96,11 @@ pub enum Entry {
         zone: Word,
     },
     /// A line of a source, numbered from 0.
-    Line { source: u32, number: u64, cmd: Cmd },
+    Line {
+        source: u32,
+        number: u64,
+        cmd: Cmd,
+    },
     /// A step of the run with this serial, in one branch of its script, made by this worker.
     Step {
         worker: u32,

@@ -2,6 +2,7 @@
 #![tactic(auto)]
 
 mod config;
+mod copies;
 mod faults;
 mod journal;
 mod steps;
