@@ -1,2 +1,4 @@
 //! Copies of all types, and whether two values are the same.
 mod template;
+pub mod times;
+mod triggers;

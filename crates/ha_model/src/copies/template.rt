@@ -198,3 +198,145 @@ impl Plain for Expr {
         same_expr(self, other)
     }
 }
+
+impl Plain for Op {
+    fn copy(&self, _alloc: Global) -> Result<Op, AllocError> {
+        Ok(*self)
+    }
+
+    fn same(&self, other: &Op) -> bool {
+        same_op(*self, *other)
+    }
+}
+
+#[cycle(copy_template)]
+fn copy_template(alloc: Global, template: &Template) -> Result<Template, AllocError>
+    ensures { IfOk result (λ made. made ≡ template.now) }
+{
+    Ok(Template {
+        pieces: copy_pieces(alloc, template.pieces.as_slice())?,
+    })
+}
+
+#[cycle(copy_template)]
+fn copy_pieces(alloc: Global, pieces: &[Piece]) -> Result<Many<Piece>, AllocError>
+    ensures { IfOk result (λ made. made ≡ pieces.now) }
+{
+    let mut all = Many::make(alloc);
+    for i in 0..pieces.len() {
+        all.push(copy_piece(alloc, &pieces[i])?)?;
+    }
+    Ok(all)
+}
+
+#[cycle(copy_template)]
+fn copy_piece(alloc: Global, piece: &Piece) -> Result<Piece, AllocError>
+    ensures { IfOk result (λ made. made ≡ piece.now) }
+{
+    match piece {
+        Piece::Text(text) => Ok(Piece::Text(text.copy(alloc)?)),
+        Piece::Show(expr) => Ok(Piece::Show(expr.copy(alloc)?)),
+        Piece::Assign { name, value } => Ok(Piece::Assign {
+            name: name.copy(alloc)?,
+            value: value.copy(alloc)?,
+        }),
+        Piece::Choice { arms, fallback } => {
+            let items = arms.as_slice();
+            let mut all = Many::make(alloc);
+            for i in 0..items.len() {
+                let arm = &items[i];
+                all.push((arm.0.copy(alloc)?, copy_template(alloc, &arm.1)?))?;
+            }
+            Ok(Piece::Choice {
+                arms: all,
+                fallback: copy_template(alloc, fallback)?,
+            })
+        }
+    }
+}
+
+#[cycle(same_template)]
+fn same_template(left: &Template, right: &Template) -> bool
+    ensures { IsTrue result ↔ (left.now ≡ right.now) }
+{
+    same_pieces(left.pieces.as_slice(), right.pieces.as_slice())
+}
+
+#[cycle(same_template)]
+fn same_pieces(left: &[Piece], right: &[Piece]) -> bool
+    ensures { IsTrue result ↔ (left.now ≡ right.now) }
+{
+    if left.len() != right.len() {
+        return false;
+    }
+    for i in 0..left.len() {
+        if !same_piece(&left[i], &right[i]) {
+            return false;
+        }
+    }
+    true
+}
+
+#[cycle(same_template)]
+fn same_piece(left: &Piece, right: &Piece) -> bool
+    ensures { IsTrue result ↔ (left.now ≡ right.now) }
+{
+    match left {
+        Piece::Text(text) => match right {
+            Piece::Text(other) => text.same(other),
+            _ => false,
+        },
+        Piece::Show(expr) => match right {
+            Piece::Show(other) => expr.same(other),
+            _ => false,
+        },
+        Piece::Assign { name, value } => match right {
+            Piece::Assign {
+                name: other_name,
+                value: other_value,
+            } => name.same(other_name) && value.same(other_value),
+            _ => false,
+        },
+        Piece::Choice { arms, fallback } => match right {
+            Piece::Choice {
+                arms: other_arms,
+                fallback: other_fallback,
+            } => {
+                let a = arms.as_slice();
+                let b = other_arms.as_slice();
+                if a.len() != b.len() {
+                    return false;
+                }
+                for i in 0..a.len() {
+                    let x = &a[i];
+                    let y = &b[i];
+                    if !(x.0.same(&y.0) && same_template(&x.1, &y.1)) {
+                        return false;
+                    }
+                }
+                same_template(fallback, other_fallback)
+            }
+            _ => false,
+        },
+    }
+}
+
+impl Plain for Template {
+    fn copy(&self, alloc: Global) -> Result<Template, AllocError> {
+        copy_template(alloc, self)
+    }
+
+    fn same(&self, other: &Template) -> bool {
+        same_template(self, other)
+    }
+}
+
+impl Plain for Piece {
+    fn copy(&self, alloc: Global) -> Result<Piece, AllocError> {
+        copy_piece(alloc, self)
+    }
+
+    fn same(&self, other: &Piece) -> bool {
+        same_piece(self, other)
+    }
+}
