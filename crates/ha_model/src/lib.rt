@@ -5,8 +5,10 @@ mod config;
 mod copies;
 mod faults;
 mod journal;
+mod names;
 mod steps;
 mod template;
+mod traits;
 
 pub use config::{
     Action, ActionKind, Automation, Condition, Config, Form, Match, Mode, RepeatKind, SpanForm,
@@ -19,5 +21,7 @@ pub use journal::{
     Branch, Cmd, EndCause, Entry, Env, Item, Record, StateObject, WaitAsk, WaitEnd, next_object,
     same_data, same_id, same_text,
 };
+pub use names::run_name;
 pub use steps::{Change, Firing, Progress, StepOut};
 pub use template::{Expr, Op, Piece, Template};
+pub use traits::{Answers, Core, Ended};
