@@ -11,5 +11,7 @@ pub fn run_name(alloc: Global, config: &Config, automation: u32) -> Result<Word,
     requires { automation < length config.now.automations }
     ensures { IfOk result (λ name. name ≡ name_of config.now.automations automation) }
 {
-    config.automations.as_slice()[automation as usize].name.copy(alloc)
+    config.automations.as_slice()[automation as usize]
+        .name
+        .copy(alloc)
 }

@@ -51,10 +51,7 @@ fn copy_condition(alloc: Global, condition: &Condition) -> Result<Condition, All
 }
 
 #[cycle(copy_condition)]
-fn copy_conditions(
-    alloc: Global,
-    conditions: &[Condition],
-) -> Result<Many<Condition>, AllocError>
+fn copy_conditions(alloc: Global, conditions: &[Condition]) -> Result<Many<Condition>, AllocError>
     ensures { IfOk result (λ made. made ≡ conditions.now) }
 {
     let mut all = Many::make(alloc);

@@ -29,10 +29,7 @@ fn copy_forms(alloc: Global, forms: &[Form]) -> Result<Many<Form>, AllocError>
 }
 
 #[cycle(copy_form)]
-fn copy_fields(
-    alloc: Global,
-    fields: &[(Word, Form)],
-) -> Result<Many<(Word, Form)>, AllocError>
+fn copy_fields(alloc: Global, fields: &[(Word, Form)]) -> Result<Many<(Word, Form)>, AllocError>
     ensures { IfOk result (λ made. made ≡ fields.now) }
 {
     let mut all = Many::make(alloc);
