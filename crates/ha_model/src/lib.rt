@@ -3,6 +3,7 @@
 
 mod config;
 mod journal;
+pub mod laws;
 mod template;
 
 pub use config::{
