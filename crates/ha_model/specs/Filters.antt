@@ -160,7 +160,7 @@ module _ (sight : Sight) where
   -- there, and its text is this one, or one of the list
   abbrev pub text_is_one : Value-F Value → Text → Option Bool
   text_is_one (Value-F.Text s) t = Some (same s t)
-  text_is_one (Value-F.Items vs) t = Some (list_any (equal_value (Value.Text t)) vs)
+  text_is_one (Value-F.Items vs) t = Some (list_any (λ v. option_map_or (λ s. same s t) (text_of v) false) vs)
   text_is_one _ t = None
 
   abbrev pub is_state : Text → Value-F Value → Option Bool
