@@ -11,19 +11,19 @@ use Rattle.ha_value.specs.declared.value.Value.TheOpen.{Value-F}
 use Rattle.ha_value.specs.Numbers.{read_number, print_number}
 use Rattle.ha_value.specs.Truth.{says_yes_text}
 use Rattle.ha_value.specs.Ids.{read_entity}
-use Rattle.ha_value.specs.Arithmetic.{add, sub, mul, div, floor_div, modulo, negate, absolute, to_fixed, to_whole, round}
+use Rattle.ha_value.specs.Arithmetic.{add, floor_div, negate, to_whole, round}
 use Rattle.ha_model.specs.declared.template.Op.{Op}
 use Rattle.ha_model.specs.declared.template.Expr.{Expr}
 use Rattle.ha_model.specs.declared.template.Expr.TheOpen.{Expr-F}
 use Rattle.ha_model.specs.declared.template.Expr.TheViews.{roll-Expr}
 use Rattle.ha_model.specs.declared.template.Piece.{Piece}
 use Rattle.ha_model.specs.declared.template.Template.{Template}
-use Rattle.ha_model.specs.declared.template.Piece.TheOpen.{Piece-F, Template-F}
+use Rattle.ha_model.specs.declared.template.Piece.TheOpen.{Piece-F}
 use Rattle.ha_model.specs.declared.template.Piece.TheViews.{roll-Piece, roll-Template}
 use Rattle.ha_model.specs.declared.journal.StateObject.{StateObject}
 use Rattle.ha_model.specs.Words.{Text, same_entity}
 use Rattle.ha_model.specs.States.{Sight}
-use Rattle.ha_model.specs.Values.{operate, as_data, negation, part_at}
+use Rattle.ha_model.specs.Values.{operate, as_data, part_at}
 use Rattle.ha_model.specs.Filters.{filtered, applied}
 use Rattle.ha_model.specs.Templates.{rendered, says, is_true_text}
 use Rattle.ha_model.specs.ValueText.{print_value}

@@ -1,19 +1,12 @@
 -- The texts of the hall light's journal, and of some commands and items.
-use Rattle.std.proofs.Common.{◌≡◌, ℕ, List, [], ◌∷◌, ◌++◌, Bool, true, false, refl}
-use Rattle.std.specs.Prelude.{Option, Some, None, codes, pos}
+use Rattle.std.proofs.Common.{◌≡◌, ℕ, List, [], ◌∷◌, ◌++◌, true, false, refl}
+use Rattle.std.specs.Prelude.{codes}
 use Rattle.std.specs.Fmt.{digits}
-use Rattle.ha_value.specs.declared.value.Num.{Num}
-use Rattle.ha_value.specs.declared.value.Value.TheOpen.{Value-F}
-use Rattle.ha_value.specs.declared.value.Value.TheViews.{roll-Value}
 use Rattle.ha_value.specs.Numbers.{print_number}
 use Rattle.ha_model.specs.declared.journal.Cmd.{Cmd}
 use Rattle.ha_model.specs.declared.journal.Item.{Item}
 use Rattle.ha_model.specs.declared.journal.Entry.{Entry}
-use Rattle.ha_model.specs.declared.journal.Record.{Record}
-use Rattle.ha_model.specs.declared.journal.EndCause.{EndCause}
-use Rattle.ha_model.specs.Journal.{Journal}
-use Rattle.ha_model.specs.Records.{Records}
-use Rattle.ha_model.specs.Commands.{put_as, lines_of, ArePutFrom}
+use Rattle.ha_model.specs.Commands.{put_as}
 use Rattle.ha_model.specs.CommandText.{cmd_text, item_text}
 use Rattle.ha_model.specs.Texts.{call_text, error_text, store_text, check_text, rehearse_text}
 use Rattle.ha_model.proofs.RowTests2.{row, records, hall_light}

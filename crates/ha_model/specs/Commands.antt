@@ -1,5 +1,5 @@
 -- Commands: which a source may give, and what stands in the journal for one that was read.
-use Rattle.std.specs.Prelude.{ℕ, suc, ◌≡◌, ◌≢◌, ◌≤◌, IsTrue, Bool, true, not, ◌&&◌, List, [], ◌∷◌, ◌++◌, map, Option, Some, None, is_some, nat_eq, codes, if◌then◌else◌}
+use Rattle.std.specs.Prelude.{ℕ, suc, ◌≡◌, ◌≢◌, ◌≤◌, IsTrue, Bool, true, not, ◌&&◌, List, [], ◌∷◌, ◌++◌, map, is_some, nat_eq, codes, if◌then◌else◌}
 use Rattle.std.specs.List.{list_any, list_all, AllZip}
 use Rattle.std.specs.Option.{option_map_or}
 use Rattle.ha_value.specs.declared.value.EntityId.{EntityId}
@@ -13,7 +13,7 @@ use Rattle.ha_model.specs.declared.journal.Entry.{Entry}
 use Rattle.ha_model.specs.Words.{Text, Pairs, same, characters}
 use Rattle.ha_model.specs.Numbers.{is_in_range}
 use Rattle.ha_model.specs.ValueText.{pairs_depth}
-use Rattle.ha_model.specs.Entries.{Spoken, line_of}
+use Rattle.ha_model.specs.Entries.{line_of}
 use Rattle.ha_model.specs.Journal.{Journal, automations}
 use Rattle.ha_model.specs.States.{automation_named}
 

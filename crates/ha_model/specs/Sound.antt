@@ -1,14 +1,13 @@
 -- Sound configurations: what every configuration that is read meets, and the engine relies on.
-use Rattle.std.specs.Prelude.{ℕ, Bool, true, false, ◌&&◌, ◌||◌, nat_eq, nat_lt, nat_le, IsTrue, List, [], ◌∷◌, length, map, Option, Some, None}
+use Rattle.std.specs.Prelude.{ℕ, Bool, true, false, ◌&&◌, nat_eq, nat_lt, nat_le, IsTrue, List, length, map, Option}
 use Rattle.std.specs.List.{list_all}
 use Rattle.std.specs.Option.{option_map_or}
-use Rattle.ha_value.specs.declared.value.Num.{Num}
-use Rattle.ha_value.specs.Ids.{is_name, is_entity}
+use Rattle.ha_value.specs.Ids.{is_name}
 use Rattle.ha_model.specs.declared.template.Expr.{Expr}
 use Rattle.ha_model.specs.declared.template.Expr.TheOpen.{Expr-F}
 use Rattle.ha_model.specs.declared.template.Expr.TheFolds.{fold-Expr}
 use Rattle.ha_model.specs.declared.template.Template.{Template}
-use Rattle.ha_model.specs.declared.template.Piece.TheOpen.{Piece-F, Template-F}
+use Rattle.ha_model.specs.declared.template.Piece.TheOpen.{Piece-F}
 use Rattle.ha_model.specs.declared.template.Piece.TheFolds.{fold-Template}
 use Rattle.ha_model.specs.declared.config.Form.{Form}
 use Rattle.ha_model.specs.declared.config.Form.TheOpen.{Form-F}
@@ -23,7 +22,7 @@ use Rattle.ha_model.specs.declared.config.Condition.{Condition}
 use Rattle.ha_model.specs.declared.config.Condition.TheOpen.{Condition-F}
 use Rattle.ha_model.specs.declared.config.Condition.TheFolds.{fold-Condition}
 use Rattle.ha_model.specs.declared.config.Action.{Action}
-use Rattle.ha_model.specs.declared.config.ActionKind.TheOpen.{ActionKind-F, Action-F}
+use Rattle.ha_model.specs.declared.config.ActionKind.TheOpen.{ActionKind-F}
 use Rattle.ha_model.specs.declared.config.ActionKind.TheFolds.{fold-Action}
 use Rattle.ha_model.specs.declared.config.Automation.{Automation}
 use Rattle.ha_model.specs.declared.config.Config.{Config}

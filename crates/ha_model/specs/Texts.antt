@@ -1,6 +1,6 @@
 -- The texts that are written of a journal: its calls, its errors, the store, the trace; and the lines of the other commands.
 use Rattle.std.specs.Prelude.{ℕ, suc, Bool, false, List, [], ◌∷◌, ◌++◌, length, map, count_by, Option, Some, None, is_some, option_map, decimal, codes, if◌then◌else◌}
-use Rattle.std.specs.List.{concat, enumerate_from}
+use Rattle.std.specs.List.{concat}
 use Rattle.std.specs.Option.{option_map_or}
 use Rattle.ha_clock.specs.Print.{moment_text}
 use Rattle.ha_model.specs.declared.config.Config.{Config}
@@ -9,7 +9,6 @@ use Rattle.ha_model.specs.declared.config.Mode.{Mode}
 use Rattle.ha_model.specs.declared.journal.Cmd.{Cmd}
 use Rattle.ha_model.specs.declared.journal.Entry.{Entry}
 use Rattle.ha_model.specs.declared.journal.Entry.TheVariants.{Boot, Line, Step}
-use Rattle.ha_model.specs.declared.journal.Record.{Record}
 use Rattle.ha_model.specs.Words.{Text, comes_before}
 use Rattle.ha_model.specs.Entries.{Called, Stepped, step_of, line_of, call_in, failure_in, is_call}
 use Rattle.ha_model.specs.Journal.{Journal, automations}
