@@ -1,10 +1,26 @@
 //! Laws of the definitions alone. Each is a function that does nothing; its contract is the law.
-ghost use Rattle.std.specs.Prelude.{◌≡◌, ℕ, ◌∷◌};
-ghost use Rattle.ha_model.specs.Journal.{Journal};
-ghost use Rattle.ha_model.specs.Records.{Records};
-ghost use Rattle.ha_model.specs.Answers.{makers, cmds_of};
-ghost use Rattle.ha_model.specs.Lawful.{Lawful};
+//!
+//! `more j x` is the journal `j` with one more entry. The functions that keep a value for a
+//! journal, entry by entry, rest on the laws about it.
+ghost use Rattle.std.specs.Prelude.{◌≡◌, ℕ, List, [], ◌∷◌, ◌++◌, ◌||◌, Bool, true, false, None, Some, max, if◌then◌else◌};
+ghost use Rattle.ha_value.specs.declared.value.EntityId.{EntityId};
+ghost use Rattle.ha_model.specs.declared.journal.Cmd as cmd;
+ghost use Rattle.ha_model.specs.declared.journal.Cmd.{Cmd};
 ghost use Rattle.ha_model.specs.declared.journal.Entry.{Entry};
+ghost use Rattle.ha_model.specs.declared.journal.Entry.TheVariants.{Line, Step};
+ghost use Rattle.ha_model.specs.declared.journal.Item.{Item};
+ghost use Rattle.ha_model.specs.Words.{Text, Pairs, same_entity};
+ghost use Rattle.ha_model.specs.Entries.{report_in, gone_in, is_restart, IsBoot};
+ghost use Rattle.ha_model.specs.Journal.{Journal, HasEntry, automations, brings, now as now_lem};
+ghost use Rattle.ha_model.specs.Switches.{is_on, on_after};
+ghost use Rattle.ha_model.specs.States.{reported};
+ghost use Rattle.ha_model.specs.StateStep.{next_object};
+ghost use Rattle.ha_model.specs.Scripts.{Branch};
+ghost use Rattle.ha_model.specs.Records.{Records, records_of, passing};
+ghost use Rattle.ha_model.specs.RecordSteps.{more, records_after};
+ghost use Rattle.ha_model.specs.RunSteps.{runs_after};
+ghost use Rattle.ha_model.specs.Answers.{makers, cmds_of, OfOne};
+ghost use Rattle.ha_model.specs.Lawful.{Right, Lawful, Running, IsRightEntry, IsTurn, IsBusy, ready, is_quiet, is_rested, is_line_of};
 
 /// For a given first entry, given lines of each source and a given list of the makers of the
 /// entries, at most one journal with its records is lawful.
@@ -12,6 +28,97 @@ pub fn one_answer()
     ensures {
         (boot : Entry) (xs ys : Journal) (rs rs' : Records) → Lawful (boot ∷ xs) rs → Lawful (boot ∷ ys) rs'
             → makers xs ≡ makers ys → ((q : ℕ) → cmds_of q xs ≡ cmds_of q ys) → (xs ≡ ys) × (rs ≡ rs')
+    }
+{
+}
+
+/// With one source alone, at most one journal with that first entry and those lines is lawful and
+/// quiet.
+pub fn one_source()
+    ensures {
+        (boot : Entry) (xs ys : Journal) (rs rs' : Records) → Lawful (boot ∷ xs) rs → Lawful (boot ∷ ys) rs'
+            → OfOne xs → OfOne ys → is_quiet rs (boot ∷ xs) ≡ true → is_quiet rs' (boot ∷ ys) ≡ true
+            → ((q : ℕ) → cmds_of q xs ≡ cmds_of q ys) → (xs ≡ ys) × (rs ≡ rs')
+    }
+{
+}
+
+/// Now after one more entry.
+pub fn now_of_one_more()
+    ensures { (j : Journal) (x : Entry) → now_lem (more j x) ≡ max (now_lem j) (brings x) }
+{
+}
+
+/// The state of a reported entity after one more entry: a Report of it, a Gone of it, a Restart,
+/// or any other.
+pub fn states_of_one_more()
+    ensures report {
+        (j : Journal) (e entity : EntityId) (k n : ℕ) (text : Text) (attributes : Pairs)
+            → reported (more j (Line k n (Cmd.Report entity text attributes))) e
+            ≡ (if same_entity entity e
+                then Some (next_object (reported j e) text attributes (now_lem (more j (Line k n (Cmd.Report entity text attributes)))))
+                else reported j e)
+    }
+    ensures gone {
+        (j : Journal) (e entity : EntityId) (k n : ℕ)
+            → reported (more j (Line k n (Cmd.Gone entity))) e ≡ (if same_entity entity e then None else reported j e)
+    }
+    ensures restart { (j : Journal) (e : EntityId) (k n : ℕ) → reported (more j (Line k n Cmd.Restart)) e ≡ None }
+    ensures other {
+        (j : Journal) (e : EntityId) (x : Entry) → report_in x ≡ None → gone_in x ≡ None → is_restart x ≡ false
+            → reported (more j x) e ≡ reported j e
+    }
+{
+}
+
+/// A switch after one more entry.
+pub fn switches_of_one_more()
+    ensures { (j : Journal) (x : Entry) (a : ℕ) → HasEntry j → is_on (more j x) a ≡ on_after (automations j) a (is_on j a) x }
+{
+}
+
+/// The records after one more entry: first the ends that it gives, then its attempts in turn,
+/// then the begins. `table` says the same of a table that is changed call by call.
+pub fn records_of_one_more()
+    ensures records { (j : Journal) (x : Entry) → records_of (more j x) ≡ records_after j (records_of j) x }
+    ensures table {
+        (j : Journal) (x : Entry) → HasEntry j → records_of (more j x) ≡ runs_after (more j x) (records_of j) (passing (more j x))
+    }
+{
+}
+
+/// Who may step at a place is told by the entries before it.
+pub fn ready_of_the_past()
+    ensures { (j : Journal) (ys : List Entry) → HasEntry j → ready (records_of j) j ≡ ready (records_of (j ++ ys)) j }
+{
+}
+
+/// A source is rested after an entry where the journal is quiet then, or where it was rested
+/// before and the entry is no line of it.
+pub fn rested_of_one_more()
+    ensures {
+        (rs : Records) (k : ℕ) (j : Journal) (x : Entry)
+            → is_rested rs k (more j x) ≡ ((if is_line_of k x then false else is_rested rs k j) || is_quiet rs (more j x))
+    }
+{
+}
+
+/// A right journal stays right with one more right entry; a lawful one without closing steps
+/// stays so with a line whose turn it is and with a step of a worker that is not rested; and a
+/// lawful one stays lawful with a step of worker 0.
+pub fn one_more_is_lawful()
+    ensures right {
+        (j : Journal) (rs : Records) (x : Entry) → Right j rs → (IsBoot x → ⊥) → IsRightEntry rs j x
+            → Right (more j x) (records_after j rs x)
+    }
+    ensures running {
+        (j : Journal) (rs : Records) (x : Entry) → Running j rs → (IsBoot x → ⊥) → IsRightEntry rs j x → IsTurn rs j x
+            → IsBusy rs j x → Running (more j x) (records_after j rs x)
+    }
+    ensures closing {
+        (j : Journal) (rs : Records) (serial : ℕ) (branch : Branch) (item : Item) → Lawful j rs
+            → IsRightEntry rs j (Step 0 serial branch item) → IsTurn rs j (Step 0 serial branch item)
+            → Lawful (more j (Step 0 serial branch item)) (records_after j rs (Step 0 serial branch item))
     }
 {
 }
