@@ -21,7 +21,7 @@ use Rattle.ha_model.proofs.RunLaws.{automations-through}
 -- ---- ends, in an automation that is not of mode restart
 
 -- the next record then ends nothing
-end-any-next : (j : Journal) (r : Record) (next : Option ℕ) (n : ℕ) → is_restart_mode (mode_of (automations j) r.automation) ≡ false → end_below j r next n ≡ end_below j r None n
+pub end-any-next : (j : Journal) (r : Record) (next : Option ℕ) (n : ℕ) → is_restart_mode (mode_of (automations j) r.automation) ≡ false → end_below j r next n ≡ end_below j r None n
 end-any-next j r next zero m = refl
 end-any-next j r next (suc p) m =
     (λ i. or_else (end-any-next j r next p m i) (at_place (last_place (through j p)) (or_else (own_end (through j p) r) (none next i))))

@@ -64,18 +64,19 @@ HaveRecords all before (t ∷ ts) (r ∷ rs) =
 
 -- ---- how a record ends
 
--- why it ends at place p, if it does: its Step there ends its script, the entry turns its automation off and stops its runs, the entry
--- is a Restart, or, in mode restart, the next record of its automation has this place; the first three count after its own place
+-- after its own place, an entry that turns its automation off and stops its runs ends it, and so does a Restart
 abbrev pub outer_cause : Journal → Record → Option EndCause
 outer_cause k r =
     if last_is (stops (automations k) r.automation) k then Some EndCause.SwitchedOff
     else if last_is is_restart k then Some EndCause.Restarted
     else None
 
+-- why it ends at place p, if it does: its Step there ends its script; or one of those two does; or, in mode restart, the next record of its
+-- automation has this place
 abbrev pub cause_at : Journal → Record → Option ℕ → ℕ → Option EndCause
-cause_at j r next p = or_else
-    (if nat_lt r.place p then or_else (ended_by_script (through j p) r) (outer_cause (through j p) r) else None)
-    (if is_restart_mode (mode_of (automations j) r.automation) && option_map_or (λ q. nat_eq q p) next false then Some EndCause.Replaced else None)
+cause_at j r next p = or_else (ended_by_script (through j p) r) (or_else
+    (if nat_lt r.place p then outer_cause (through j p) r else None)
+    (if is_restart_mode (mode_of (automations j) r.automation) && option_map_or (λ q. nat_eq q p) next false then Some EndCause.Replaced else None))
 
 -- the first place below n at which there is something
 abbrev pub first_below : {X : Type 0} → (ℕ → Option X) → ℕ → Option (ℕ × X)
