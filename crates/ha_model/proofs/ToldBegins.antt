@@ -191,11 +191,37 @@ last-unended a p (x ∷ xs) y h g = by (nat_eq x.automation a) (last-unended a p
     by true ih h = (λ i. not (((λ k. has_ended_by p (some-same x y h k)) ∙ g) i) || list_any (is_unended a p) xs)
     by false ih h = ih h g
 
+-- the end of a record, if there is one
+abbrev end_in : Option Record → Option (Option (ℕ × EndCause))
+end_in o = option_map {T = Record} {U = Option (ℕ × EndCause)} (λ x. x.end) o
+
+end-or-none : (o o' : Option Record) → end_in o ≡ end_in o' → option_map_or (λ x. x.end) o None ≡ option_map_or (λ x. x.end) o' None
+end-or-none o o' h = back o ∙ (λ i. option_map_or (λ z. z) (h i) None) ∙ sym (back o')
+  where
+    back : (o : Option Record) → option_map_or (λ x. x.end) o None ≡ option_map_or (λ z. z) (end_in o) None
+    back None = refl
+    back (Some x) = refl
+
+-- a begin looks at the end of the record before it alone
+abbrev begin_by : Mode → ℕ → Option (ℕ × EndCause) → Option (Option (ℕ × EndCause)) → Option ℕ
+begin_by Mode.Queued p own (Some z) = begin_behind p own z
+begin_by Mode.Queued p own None = Some p
+begin_by Mode.Single p own o = Some p
+begin_by Mode.Restart p own o = Some p
+begin_by Mode.Parallel p own o = Some p
+
+begin-by : (m : Mode) (o : Option Record) (r : Record) → begin_of m o r ≡ begin_by m r.place r.end (end_in o)
+begin-by Mode.Single o r = refl
+begin-by Mode.Restart o r = refl
+begin-by Mode.Parallel o r = refl
+begin-by Mode.Queued None r = refl
+begin-by Mode.Queued (Some x) r = refl
+
 -- the invariants of a walk along the records: of those so far, the last one first, and of the same with their begins and calls, in order
 record Carried (j : Journal) (m : ℕ) (back told : Records) : Type 0 where
   past : AllPast j m back
   unended : (a p : ℕ) → list_any (is_unended a p) told ≡ list_any (is_unended a p) back
-  last : (a : ℕ) → option_map_or (λ x. x.end) (last_among a told) None ≡ option_map_or (λ x. x.end) (last_record a back) None
+  last : (a : ℕ) → end_in (last_among a told) ≡ end_in (last_record a back)
   queue : (a p : ℕ) (y : Record) → mode_of (automations j) a ≡ Mode.Queued → last_record a back ≡ Some y → has_ended_by p y ≡ true → list_any (is_unended a p) back ≡ false
 
 last-snoc : (a : ℕ) (xs : Records) (x : Record) → last_among a (xs ++ (x ∷ [])) ≡ or_else (if nat_eq x.automation a then Some x else None) (last_among a xs)
@@ -337,15 +363,20 @@ module _ (j : Journal) (right : Right j (records_of j)) (r : Record) (next : Opt
       by Mode.Queued h =
           (λ i. begin_of (h i) (last_record r.automation back) e)
           ∙ queued h (last_record r.automation back) refl
-          ∙ (λ i. if sym (carried.unended r.automation r.place) i then begins_behind E (sym (carried.last r.automation) i) else Some r.place)
+          ∙ (let ends = end-or-none (last_record r.automation back) (last_among r.automation told) (sym (carried.last r.automation)) in λ i. if sym (carried.unended r.automation r.place) i then begins_behind E (ends i) else Some r.place)
           ∙ (λ i. told_begin (sym h i) told f)
+
+  -- told by the one before it alone
+  begins-near : Carried j r.place back told → B ≡ begin_of M (last_among r.automation told) f
+  begins-near carried =
+      begin-by M (last_record r.automation back) e ∙ (λ i. begin_by M r.place E (sym (carried.last r.automation) i)) ∙ sym (begin-by M (last_among r.automation told) f)
 
   -- the invariants with this record
   carry : Stands → Carried j r.place back told → Carried j r.place (e ∷ back) (told ++ (f ∷ []))
   carry stands carried = record {
     past = (record { place = omega arith; ends = λ q lt m c h. owns-end j r q lt m next c h }, carried.past);
     unended = λ a p. list_any-append (is_unended a p) told (f ∷ []) ∙ or-back (list_any (is_unended a p) told) (is_unended a p f || false) ∙ (λ i. or_false (is_unended a p f) i || carried.unended a p i);
-    last = λ a. (λ i. option_map_or (λ x. x.end) (last-snoc a told f i) None) ∙ last_one a (nat_eq r.automation a);
+    last = λ a. (λ i. end_in (last-snoc a told f i)) ∙ last_one a (nat_eq r.automation a);
     queue = λ a p y m h ended. queue a p y m (nat_eq r.automation a) refl h ended;
   }
     where
@@ -353,7 +384,7 @@ module _ (j : Journal) (right : Right j (records_of j)) (r : Record) (next : Opt
       or_false true = refl
       or_false false = refl
 
-      last_one : (a : ℕ) (b : Bool) → option_map_or (λ x. x.end) (or_else (if b then Some f else None) (last_among a told)) None ≡ option_map_or (λ x. x.end) (if b then Some e else last_record a back) None
+      last_one : (a : ℕ) (b : Bool) → end_in (or_else (if b then Some f else None) (last_among a told)) ≡ end_in (if b then Some e else last_record a back)
       last_one a true = refl
       last_one a false = carried.last a
 
@@ -392,6 +423,7 @@ told-from j right m (r ∷ rs) back told sorted carried whole =
     let here : Carried j r.place back told = record { past = past-later j m r.place sorted.0 back carried.past; unended = carried.unended; last = carried.last; queue = carried.queue } in
     (record {
         begin = begins j right r next back told here;
+        near = begins-near j right r next back told here;
         end = ends-told j r (end_below j r next (length j)) made.begin made.calls next (late j right r next back told stands) (length j) (omega arith)
           ∙ (λ i. first_below (cause_at j made (sym (next-begins j j r.automation (one ∷ back) rs) i)) (length j));
         calls = refl;

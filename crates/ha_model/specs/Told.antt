@@ -10,7 +10,7 @@ use Rattle.ha_model.specs.declared.journal.Record.{Record}
 use Rattle.ha_model.specs.Words.{Pairs}
 use Rattle.ha_model.specs.Journal.{Journal, automations}
 use Rattle.ha_model.specs.Attempts.{Attempt}
-use Rattle.ha_model.specs.Records.{Records, through, passing, mode_of, max_of, lets_in, ended_by_script, stops, is_restart, last_is, is_restart_mode, next_place, or_else, calls_of}
+use Rattle.ha_model.specs.Records.{Records, through, passing, mode_of, max_of, lets_in, ended_by_script, stops, is_restart, last_is, is_restart_mode, next_place, or_else, begin_of, calls_of}
 
 -- ---- which attempts have a record
 
@@ -108,9 +108,11 @@ told_begin Mode.Queued before r =
 
 -- ---- all of it
 
--- a record between those before it and those behind it
+-- a record between those before it and those behind it; `near` says that its begin is also told by the record of its automation just
+-- before it alone
 pub record IsTold (j : Journal) (before : Records) (r : Record) (behind : Records) : Type 0 where
   pub begin : r.begin ≡ told_begin (mode_of (automations j) r.automation) before r
+  pub near : r.begin ≡ begin_of (mode_of (automations j) r.automation) (last_among r.automation before) r
   pub end : r.end ≡ first_below (cause_at j r (next_place r.automation behind)) (length j)
   pub calls : r.calls ≡ calls_of j r.serial
 

@@ -20,6 +20,7 @@ ghost use Rattle.ha_model.specs.Records.{Records, records_of, passing};
 ghost use Rattle.ha_model.specs.RecordSteps.{more, records_after};
 ghost use Rattle.ha_model.specs.RunSteps.{runs_after};
 ghost use Rattle.ha_model.specs.Answers.{makers, cmds_of, OfOne};
+ghost use Rattle.ha_model.specs.Told.{ByTheRules};
 ghost use Rattle.ha_model.specs.Lawful.{Right, Lawful, Running, IsRightEntry, IsTurn, IsBusy, ready, is_quiet, is_rested, is_line_of};
 
 /// For a given first entry, given lines of each source and a given list of the makers of the
@@ -120,5 +121,14 @@ pub fn one_more_is_lawful()
             → IsRightEntry rs j (Step 0 serial branch item) → IsTurn rs j (Step 0 serial branch item)
             → Lawful (more j (Step 0 serial branch item)) (records_after j rs (Step 0 serial branch item))
     }
+{
+}
+
+/// On a right journal the records are those of the rules: exactly the attempts that are admitted
+/// by the number of earlier records of their automation that have not ended have one, and each
+/// begins and ends as the rules say. In mode queued it is the same to ask whether an earlier
+/// record has not ended and whether the one just before has not.
+pub fn records_by_the_rules()
+    ensures { (j : Journal) (rs : Records) → Right j rs → ByTheRules j rs }
 {
 }
