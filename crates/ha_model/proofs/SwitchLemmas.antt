@@ -1,7 +1,6 @@
 -- Switches with one more entry.
-use Rattle.std.proofs.Common.{◌≡◌, ℕ, List, [], ◌∷◌, ◌++◌, Bool, true, refl, sym, ◌∙◌}
+use Rattle.std.proofs.Common.{◌≡◌, ℕ, List, [], ◌∷◌, ◌++◌, true, refl, sym, ◌∙◌}
 use Rattle.std.specs.Prelude.{fold}
-use Rattle.ha_model.specs.declared.config.Automation.{Automation}
 use Rattle.ha_model.specs.declared.journal.Entry.{Entry}
 use Rattle.ha_model.specs.Journal.{Journal, HasEntry, automations}
 use Rattle.ha_model.specs.Switches.{is_on, on_after}

@@ -1,6 +1,6 @@
 -- On right journals each record begins and ends as the rules say. In mode queued the runs of an automation end in their order, so whether an
 -- earlier one has not ended is told by the one just before.
-use Rattle.std.proofs.Common.{◌≡◌, ℕ, zero, suc, ◌+◌, ◌<◌, ◌≤◌, List, [], ◌∷◌, ◌++◌, length, Bool, true, false, refl, sym, ap, subst, ◌∙◌, rules, arith, Option, append_assoc}
+use Rattle.std.proofs.Common.{◌≡◌, ℕ, zero, suc, ◌<◌, ◌≤◌, List, [], ◌∷◌, ◌++◌, length, Bool, true, false, refl, sym, ap, subst, ◌∙◌, rules, arith, Option, append_assoc}
 use Rattle.std.specs.Prelude.{Some, None, not, slice_get, is_some, nat_eq, nat_le, nat_lt, option_map, option_and_then, ◌&&◌, ◌||◌, if◌then◌else◌}
 use Rattle.std.specs.List.{list_any}
 use Rattle.std.specs.Option.{option_map_or}
@@ -11,13 +11,12 @@ use Rattle.ha_model.specs.declared.journal.EndCause.{EndCause}
 use Rattle.ha_model.specs.declared.journal.Record.{Record}
 use Rattle.ha_model.specs.Journal.{Journal, automations}
 use Rattle.ha_model.specs.Attempts.{Attempt}
-use Rattle.ha_model.specs.Scripts.{Outcome}
 use Rattle.ha_model.specs.Records.{Records, through, last_place, passing, mode_of, or_else, own_cause, own_end, replaced, is_restart_mode, ended_by_script, script_end, ran, last_is, is_step_of, end_here, end_below, next_place, with_ends, lets_in_after, new_record, admitted, bare_below, bare, ended, with_begins, records_of, last_record, begin_of, begin_behind, calls_of}
-use Rattle.ha_model.specs.Lawful.{Right, is_running}
-use Rattle.ha_model.specs.Told.{has_ended_by, is_unended, outer_cause, cause_at, first_below, last_among, begins_behind, told_begin, IsTold, AreTold, ByTheRules}
+use Rattle.ha_model.specs.Lawful.{Right}
+use Rattle.ha_model.specs.Told.{has_ended_by, is_unended, outer_cause, cause_at, first_below, last_among, begins_behind, told_begin, AreTold, ByTheRules}
 use Rattle.ha_model.proofs.EqualLemmas.{and_left}
 use Rattle.ha_model.proofs.RecordLaws.{at_place, last-through}
-use Rattle.ha_model.proofs.RecordGrowth.{AllBelow, EndBelow, below-ends, is-at-most, is-over, true-false}
+use Rattle.ha_model.proofs.RecordGrowth.{AllBelow, is-at-most, true-false}
 use Rattle.ha_model.proofs.RunLaws.{automations-through, is-below}
 use Rattle.ha_model.proofs.LawfulLaws.{none-some}
 use Rattle.ha_model.proofs.OneAnswer.{some-same}

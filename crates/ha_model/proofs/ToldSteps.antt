@@ -1,6 +1,6 @@
 -- On right journals a run makes its Steps after its begin, and so after its own place.
-use Rattle.std.proofs.Common.{◌≡◌, ℕ, zero, suc, ◌+◌, ◌-◌, ◌<◌, ◌≤◌, ◌⊎◌, inl, inr, List, [], ◌∷◌, ◌++◌, length, take, Bool, true, false, refl, sym, ap, subst, ◌∙◌, rules, arith, Option, append_assoc, length-append}
-use Rattle.std.specs.Prelude.{Some, None, slice_get, nat_eq, nat_le, nat_lt, ◌&&◌, if◌then◌else◌}
+use Rattle.std.proofs.Common.{◌≡◌, ℕ, zero, suc, ◌-◌, ◌<◌, ◌≤◌, ◌⊎◌, inl, inr, List, [], ◌∷◌, ◌++◌, length, take, Bool, true, false, refl, sym, ap, subst, ◌∙◌, arith, Option, append_assoc, length-append}
+use Rattle.std.specs.Prelude.{Some, None, slice_get, nat_le, nat_lt, if◌then◌else◌}
 use Rattle.std.specs.Option.{option_map_or}
 use Rattle.std.proofs.lemmas.Bool.{eqb-true, leb-true}
 use Rattle.std.proofs.lemmas.Bool.Decides.{leb_tells}
@@ -12,9 +12,8 @@ use Rattle.ha_model.specs.declared.journal.Entry.TheVariants.{Boot, Line, Step}
 use Rattle.ha_model.specs.declared.journal.Record.{Record}
 use Rattle.ha_model.specs.Words.{EachAfter, last_of}
 use Rattle.ha_model.specs.Journal.{Journal}
-use Rattle.ha_model.specs.Records.{Records, through, last_is, is_step_of, begin_of, begin_behind, records_of}
+use Rattle.ha_model.specs.Records.{Records, through, last_is, is_step_of, begin_of, begin_behind}
 use Rattle.ha_model.specs.Lawful.{Right, IsRightEntry, is_running}
-use Rattle.ha_model.proofs.EqualLemmas.{and_left}
 use Rattle.ha_model.proofs.RecordGrowth.{true-false}
 use Rattle.ha_model.proofs.LawfulLaws.{none-some}
 use Rattle.ha_model.proofs.OneAnswer.{some-same}

@@ -7,7 +7,6 @@ use Rattle.ha_model.specs.declared.config.Mode.{Mode}
 use Rattle.ha_model.specs.declared.config.Automation.{Automation}
 use Rattle.ha_model.specs.declared.journal.EndCause.{EndCause}
 use Rattle.ha_model.specs.declared.journal.Record.{Record}
-use Rattle.ha_model.specs.Words.{Pairs}
 use Rattle.ha_model.specs.Journal.{Journal, automations}
 use Rattle.ha_model.specs.Attempts.{Attempt}
 use Rattle.ha_model.specs.Records.{Records, through, passing, mode_of, max_of, lets_in, ended_by_script, stops, is_restart, last_is, is_restart_mode, next_place, or_else, begin_of, calls_of}
