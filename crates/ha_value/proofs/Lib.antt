@@ -1,1 +1,4 @@
 mod Pins
+pub mod CutLemmas
+pub mod NumberLemmas
+pub mod DigitLemmas

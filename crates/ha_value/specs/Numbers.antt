@@ -30,11 +30,15 @@ compare a b = int_cmp (millionths a) (millionths b)
 
 -- ---- rounding
 
--- n over d, to the nearest whole number, and to the even one of two that are equally near
+-- of a quotient and the next whole number the one that is nearer, by what is left over d, and the even one of the two where both are equally near
+abbrev pub nearer : ℕ → ℕ → ℕ → ℕ
+nearer quotient left d =
+    if nat_lt (2 * left) d then quotient
+    else (if nat_lt d (2 * left) then quotient + 1 else quotient + quotient % 2)
+
+-- n over d, to the nearest whole number, half to even
 abbrev pub nearest : ℕ → ℕ → ℕ
-nearest n d =
-    if nat_lt (2 * (n % d)) d then n / d
-    else (if nat_lt d (2 * (n % d)) then n / d + 1 else n / d + n / d % 2)
+nearest n d = nearer (n / d) (n % d) d
 
 -- the same with signs: what is halfway goes to the even neighbour on both sides of zero
 abbrev pub rounded : ℤ → ℤ → ℤ

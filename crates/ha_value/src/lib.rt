@@ -1,6 +1,7 @@
 #![tactic(auto)]
 
 mod boxed;
+mod cut;
 mod many;
 mod num;
 mod plain;
