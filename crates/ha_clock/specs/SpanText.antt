@@ -21,19 +21,22 @@ clock_seconds _ _ _ = None
 abbrev pub is_colon : ℕ → Bool
 is_colon b = b == 58
 
--- what follows the hours and a colon: the minutes, or the minutes, a colon and the seconds
-unfoldable pub after_hours : Option ℕ → List ℕ → Option ℕ
-after_hours hours text = elim (position is_colon text) [
-  | None ↦ clock_seconds hours (number_of text) (Some 0)
-  | Some i ↦ clock_seconds hours (number_of (take i text)) (number_of (drop (i + 1) text))
-]
+-- what follows the hours and a colon, by the place of its first colon: the minutes, or the minutes,
+-- that colon and the seconds
+abbrev pub after_hours : Option ℕ → List ℕ → Option ℕ → Option ℕ
+after_hours hours text None = clock_seconds hours (number_of text) (Some 0)
+after_hours hours text (Some i) = clock_seconds hours (number_of (take i text)) (number_of (drop (i + 1) text))
+
+-- a text, by the place of its first colon: the seconds, or the hours, that colon and the rest
+abbrev pub by_colon : List ℕ → Option ℕ → Option ℕ
+by_colon text None = number_of text
+by_colon text (Some i) =
+    let rest = drop (i + 1) text in
+    after_hours (number_of (take i text)) rest (position is_colon rest)
 
 -- the seconds of a text, with no bound
 unfoldable pub span_seconds : List ℕ → Option ℕ
-span_seconds text = elim (position is_colon text) [
-  | None ↦ number_of text
-  | Some i ↦ after_hours (number_of (take i text)) (drop (i + 1) text)
-]
+span_seconds text = by_colon text (position is_colon text)
 
 -- a number that is not over the seconds of the longest span
 abbrev pub within_bound : Option ℕ → Option ℕ
