@@ -11,7 +11,7 @@ use Rattle.ha_value.specs.declared.value.Value.TheViews.{roll-Value, out-roll-Va
 use Rattle.ha_value.specs.Ids.{read_entity}
 use Rattle.ha_value.specs.Numbers.{read_number, print_number}
 use Rattle.ha_value.specs.Arithmetic.{add}
-use Rattle.ha_clock.specs.SpanText.{span_of, span_seconds, number_of, number_from, after_hours}
+use Rattle.ha_clock.specs.SpanText.{span_of, span_seconds, number_of, number_from}
 use Rattle.ha_model.specs.declared.template.Expr.{Expr}
 use Rattle.ha_model.specs.declared.template.Op.{Op}
 use Rattle.ha_model.specs.declared.template.Expr.TheOpen.{Expr-F}
@@ -148,7 +148,7 @@ abbrev delays : SpanForm → List Action
 delays d = act (ActionKind-F.Delay d) ∷ []
 
 delayed : ◌≡◌ {A = Option Outcome} (whole (delays (SpanForm.Text (text_template (codes "00:01:30")))) [] (at 0 [] ∷ at 90000 [] ∷ [])) (Some (record { items = N ∷ N ∷ []; status = Status.Done }))
-unfolding span_of span_seconds number_of number_from after_hours
+unfolding span_of span_seconds number_of number_from
 delayed = simp (rolls)
 
 too_early : ◌≡◌ {A = Option Outcome} (whole (delays (SpanForm.Parts (text_template (codes "0") ∷ text_template (codes "0") ∷ text_template (codes "1") ∷ text_template (codes "30") ∷ text_template (codes "0") ∷ []))) [] (at 0 [] ∷ at 89999 [] ∷ [])) None
@@ -156,5 +156,5 @@ unfolding read_number
 too_early = simp (rolls)
 
 no_duration : ◌≡◌ {A = Option Outcome} (whole (delays (SpanForm.Text (text_template (codes "1:75")))) [] (at 0 [] ∷ [])) (Some (record { items = Item.Failed 4 ∷ []; status = Status.Faulted }))
-unfolding span_of span_seconds number_of number_from after_hours
+unfolding span_of span_seconds number_of number_from
 no_duration = simp (rolls)

@@ -225,6 +225,6 @@ at_20 : holds (sight night 1) (roll-Condition (Condition-F.Time (Some 79200) (So
 unfolding local_seconds zone_offset zone_of
 at_20 = simp rolls
 
-at_22 : holds (sight night 2) (roll-Condition (Condition-F.Time (Some 79200) (Some 21600) None)) [] ≡ true
+at_22 : holds (sight night 2) (roll-Condition (Condition-F.Time (Some 79200) (Some 21600) (Some (2 ∷ [])))) [] ≡ true
 unfolding local_seconds zone_offset zone_of
 at_22 = simp rolls
