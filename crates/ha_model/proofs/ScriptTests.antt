@@ -29,50 +29,11 @@ use Rattle.ha_model.specs.declared.journal.Item.{Item}
 use Rattle.ha_model.specs.Words.{Text}
 use Rattle.ha_model.specs.States.{Sight}
 use Rattle.ha_model.specs.Scripts.{Spot, Outcome, Status, whole, turns}
-use Rattle.ha_model.proofs.RowTests2.{text_template, show, act, call}
+use Rattle.ha_model.specs.WorkedHall.{text_template, show, act, call}
 use Rattle.ha_model.proofs.Rolls.{rolls}
+use Rattle.ha_model.specs.WorkedScripts.{seen, at, number, literal, n_name, said, set_n, thing, notify, notify_n, N, apart, colours, raised, false_inside, delays}
 
--- two automations, of which the second is off, and no states
-abbrev seen : ℕ → Sight
-seen n = record { states = λ e. None; now = n; zone = codes "UTC"; automations = (codes "a", true) ∷ (codes "b", false) ∷ [] }
-
-abbrev at : ℕ → List ℕ → Spot
-at n b = record { place = n; branch = b; sight = seen n; wait_end = λ ask p. None }
-
-abbrev number : ℕ → Value
-number n = Value.Number (Num.Whole (pos n))
-
-abbrev literal : ℕ → Expr
-literal n = roll-Expr (Expr-F.Plain (roll-Value (Value-F.Number (Num.Whole (pos n)))))
-
-abbrev n_name : Expr
-n_name = roll-Expr (Expr-F.Name (codes "n"))
-
-abbrev said : Expr → Form
-said e = roll-Form (Form-F.Text (show e))
-
-abbrev set_n : Form → Action
-set_n f = act (ActionKind-F.Set ((codes "n", f) ∷ []))
-
-abbrev thing : EntityId
-thing = record { domain = codes "a"; object = codes "b" }
-
-abbrev notify : Text → ℕ → Item
-notify s n = Item.Call s (thing ∷ []) ((codes "n", number n) ∷ [])
-
-abbrev notify_n : Text → Action
-notify_n s = call s (codes "a.b") ((codes "n", said n_name) ∷ [])
-
-abbrev N : Item
-N = Item.Nothing
-
--- each list of a parallel block has the scopes for itself, and afterwards they are as they were before it
-abbrev apart : List Action
-apart = set_n (said (literal 1))
-    ∷ act (ActionKind-F.Parallel ((set_n (said (literal 2)) ∷ notify_n (codes "notify.a") ∷ []) ∷ (notify_n (codes "notify.b") ∷ []) ∷ []))
-    ∷ notify_n (codes "notify.c") ∷ []
-
-six_steps : (whole apart [] (at 1 [] ∷ at 2 [] ∷ at 3 (0 ∷ []) ∷ at 4 (1 ∷ []) ∷ at 5 (0 ∷ []) ∷ at 6 [] ∷ []))
+pub six_steps : (whole apart [] (at 1 [] ∷ at 2 [] ∷ at 3 (0 ∷ []) ∷ at 4 (1 ∷ []) ∷ at 5 (0 ∷ []) ∷ at 6 [] ∷ []))
     ≡ Some (record { items = N ∷ N ∷ N ∷ notify (codes "notify.b") 1 ∷ notify (codes "notify.a") 2 ∷ notify (codes "notify.c") 1 ∷ []; status = Status.Done })
 unfolding digits read_number print_number read_entity
 six_steps = simp (rolls, out-roll-Value, outs-Number)
@@ -82,30 +43,15 @@ no_seventh : (whole apart [] (at 1 [] ∷ at 2 [] ∷ at 3 (1 ∷ []) ∷ at 4 (
 unfolding digits read_number print_number read_entity
 no_seventh = simp (rolls, out-roll-Value, outs-Number)
 
--- a loop over a list of two: the block's step, and two steps for each turn
-abbrev colours : List Action
-colours = act (ActionKind-F.Repeat (RepeatKind.Each (roll-Form (Form-F.Plain (number 7)) ∷ roll-Form (Form-F.Plain (number 8)) ∷ []))
-    (call (codes "notify.c") (codes "a.b") ((codes "n", roll-Form (Form-F.Text (show (roll-Expr (Expr-F.Field (roll-Expr (Expr-F.Name (codes "repeat"))) (codes "item")))))) ∷ []) ∷ [])) ∷ []
-
 five_steps : ◌≡◌ {A = Option Outcome} (whole colours [] (at 5 [] ∷ at 6 [] ∷ at 7 [] ∷ at 8 [] ∷ at 9 [] ∷ [])) (Some (record { items = N ∷ notify (codes "notify.c") 7 ∷ N ∷ notify (codes "notify.c") 8 ∷ N ∷ []; status = Status.Done }))
 unfolding digits turns read_number print_number read_entity
 five_steps = simp (rolls, outs-Number, outs-Pairs)
 
--- a list of two steps that is set, once raised and then told: the name that is set in a turn is the one that was there before the loop
-abbrev raised : List Action
-raised = set_n (said (literal 0))
-    ∷ act (ActionKind-F.Repeat (RepeatKind.Count (text_template (codes "1"))) (set_n (said (roll-Expr (Expr-F.Pair Op.Plus n_name (literal 5)))) ∷ []))
-    ∷ notify_n (codes "notify.x") ∷ []
-
-raised_once : ◌≡◌ {A = Option Outcome} (whole raised [] (at 1 [] ∷ at 2 [] ∷ at 3 [] ∷ at 4 [] ∷ at 5 [] ∷ [])) (Some (record { items = N ∷ N ∷ N ∷ N ∷ notify (codes "notify.x") 5 ∷ []; status = Status.Done }))
+pub raised_once : ◌≡◌ {A = Option Outcome} (whole raised [] (at 1 [] ∷ at 2 [] ∷ at 3 [] ∷ at 4 [] ∷ at 5 [] ∷ [])) (Some (record { items = N ∷ N ∷ N ∷ N ∷ notify (codes "notify.x") 5 ∷ []; status = Status.Done }))
 unfolding digits turns read_number print_number read_entity add
 raised_once = simp (rolls, out-roll-Value, outs-Number)
 
--- a false condition ends its block, and the script goes on behind it
-abbrev false_inside : List Action
-false_inside = act (ActionKind-F.Block (act (ActionKind-F.Test (roll-Condition (Condition-F.Or []))) ∷ act ActionKind-F.Stop ∷ [])) ∷ notify_n (codes "notify.x") ∷ []
-
-goes_on_behind : ◌≡◌ {A = Option Outcome} (whole false_inside ((codes "n", number 4) ∷ []) (at 1 [] ∷ at 2 [] ∷ at 3 [] ∷ [])) (Some (record { items = N ∷ N ∷ notify (codes "notify.x") 4 ∷ []; status = Status.Done }))
+pub goes_on_behind : ◌≡◌ {A = Option Outcome} (whole false_inside ((codes "n", number 4) ∷ []) (at 1 [] ∷ at 2 [] ∷ at 3 [] ∷ [])) (Some (record { items = N ∷ N ∷ notify (codes "notify.x") 4 ∷ []; status = Status.Done }))
 unfolding digits read_number print_number read_entity
 goes_on_behind = simp (rolls, outs-Number)
 
@@ -142,10 +88,6 @@ no_count = simp (rolls)
 below_none : ◌≡◌ {A = Option Outcome} (whole (act (ActionKind-F.Repeat (RepeatKind.Count (text_template (codes "-2"))) []) ∷ []) [] (at 1 [] ∷ [])) (Some (record { items = N ∷ []; status = Status.Done }))
 unfolding read_number
 below_none = simp (rolls)
-
--- a minute and a half, of a text and of parts; the second place is not allowed before
-abbrev delays : SpanForm → List Action
-delays d = act (ActionKind-F.Delay d) ∷ []
 
 delayed : ◌≡◌ {A = Option Outcome} (whole (delays (SpanForm.Text (text_template (codes "00:01:30")))) [] (at 0 [] ∷ at 90000 [] ∷ [])) (Some (record { items = N ∷ N ∷ []; status = Status.Done }))
 unfolding span_of span_seconds number_of number_from

@@ -9,14 +9,14 @@ use Rattle.ha_model.specs.declared.journal.Entry.{Entry}
 use Rattle.ha_model.specs.Commands.{put_as}
 use Rattle.ha_model.specs.CommandText.{cmd_text, item_text}
 use Rattle.ha_model.specs.Texts.{call_text, error_text, store_text, check_text, rehearse_text}
-use Rattle.ha_model.proofs.RowTests2.{row, records, hall_light}
+use Rattle.ha_model.specs.WorkedHall.{row, records, hall_light}
 use Rattle.ha_model.proofs.Rolls.{rolls}
 
 -- a line, with the LF that ends it
 abbrev a_line : List ℕ → List ℕ
 a_line t = t ++ 10 ∷ []
 
-calls : call_text row records ≡ a_line (codes "{\"run\":\"hall_light\",\"number\":1,\"call\":1,\"service\":\"light.turn_on\",\"target\":[\"light.hall\"],\"data\":{\"brightness\":128}}")
+pub calls : call_text row records ≡ a_line (codes "{\"run\":\"hall_light\",\"number\":1,\"call\":1,\"service\":\"light.turn_on\",\"target\":[\"light.hall\"],\"data\":{\"brightness\":128}}")
     ++ a_line (codes "{\"run\":\"hall_light\",\"number\":1,\"call\":2,\"service\":\"light.turn_off\",\"target\":[\"light.hall\"],\"data\":{}}")
 unfolding digits print_number
 calls = simp rolls
@@ -29,7 +29,7 @@ errors : error_text (Entry.Line 3 7 (Cmd.Refused 5) ∷ Entry.Line 0 1 Cmd.TooLo
 unfolding digits
 errors = refl
 
-stored : store_text row ≡ codes "{\"switches\":{\"hall_light\":true},\"version\":1}"
+pub stored : store_text row ≡ codes "{\"switches\":{\"hall_light\":true},\"version\":1}"
 stored = refl
 
 checked : check_text (record { automations = hall_light ∷ [] }) ≡ a_line (codes "automation.hall_light restart 10 triggers 1 conditions 0 actions 3") ++ a_line (codes "ok 1")

@@ -37,7 +37,7 @@ use Rattle.ha_model.specs.Conditions.{holds}
 use Rattle.ha_model.specs.Triggers.{sight, moves, any_second}
 use Rattle.ha_model.specs.Templates.{rendered, says}
 use Rattle.ha_model.specs.Attempts.{Attempt, attempts, by_hand}
-use Rattle.ha_model.proofs.RowTests2.{show}
+use Rattle.ha_model.specs.WorkedHall.{show}
 use Rattle.ha_model.proofs.Rolls.{rolls}
 
 -- 2024-05-01T20:00:00Z

@@ -2,7 +2,7 @@
 //!
 //! `more j x` is the journal `j` with one more entry. The functions that keep a value for a
 //! journal, entry by entry, rest on the laws about it.
-ghost use Rattle.std.specs.Prelude.{◌≡◌, ℕ, List, [], ◌∷◌, ◌++◌, ◌||◌, Bool, true, false, None, Some, max, if◌then◌else◌};
+ghost use Rattle.std.specs.Prelude.{◌≡◌, ℕ, List, [], ◌∷◌, ◌++◌, ◌||◌, Bool, true, false, None, Some, max, codes, if◌then◌else◌};
 ghost use Rattle.ha_value.specs.declared.value.EntityId.{EntityId};
 ghost use Rattle.ha_model.specs.declared.journal.Cmd as cmd;
 ghost use Rattle.ha_model.specs.declared.journal.Cmd.{Cmd};
@@ -15,12 +15,19 @@ ghost use Rattle.ha_model.specs.Journal.{Journal, HasEntry, automations, brings,
 ghost use Rattle.ha_model.specs.Switches.{is_on, on_after};
 ghost use Rattle.ha_model.specs.States.{reported};
 ghost use Rattle.ha_model.specs.StateStep.{next_object};
-ghost use Rattle.ha_model.specs.Scripts.{Branch};
+ghost use Rattle.ha_model.specs.Scripts.{Branch, Status, whole};
 ghost use Rattle.ha_model.specs.Records.{Records, records_of, passing};
 ghost use Rattle.ha_model.specs.RecordSteps.{more, records_after};
 ghost use Rattle.ha_model.specs.RunSteps.{runs_after};
 ghost use Rattle.ha_model.specs.Answers.{makers, cmds_of, OfOne};
 ghost use Rattle.ha_model.specs.Told.{ByTheRules};
+ghost use Rattle.ha_model.specs.Commands.{lines_of, placed_line};
+ghost use Rattle.ha_model.specs.Texts.{as_line, call_text, call_text_of, error_text, error_text_of, store_text, trace_text, trace_line};
+ghost use Rattle.ha_model.specs.WorkedHall as hall;
+ghost use Rattle.ha_model.specs.WorkedModes as modes;
+ghost use Rattle.ha_model.specs.WorkedScripts as scripts;
+ghost use Rattle.ha_model.specs.declared.config.Mode.{Mode};
+ghost use Rattle.ha_model.specs.declared.journal.EndCause.{EndCause};
 ghost use Rattle.ha_model.specs.Lawful.{Right, Lawful, Running, IsRightEntry, IsTurn, IsBusy, ready, is_quiet, is_rested, is_line_of};
 
 /// For a given first entry, given lines of each source and a given list of the makers of the
@@ -130,5 +137,72 @@ pub fn one_more_is_lawful()
 /// record has not ended and whether the one just before has not.
 pub fn records_by_the_rules()
     ensures { (j : Journal) (rs : Records) → Right j rs → ByTheRules j rs }
+{
+}
+
+/// The calls, the errors and the trace of a journal with one more entry, and the lines of a
+/// source.
+pub fn texts_of_one_more()
+    ensures calls { (j : Journal) (x : Entry) (rs : Records) → call_text (more j x) rs ≡ call_text j rs ++ call_text_of rs j x }
+    ensures errors { (j : Journal) (x : Entry) → error_text (more j x) ≡ error_text j ++ error_text_of x }
+    ensures trace {
+        (j : Journal) (x : Entry) → HasEntry j → trace_text (more j x) false ≡ trace_text j false ++ trace_line (automations j) x
+    }
+    ensures lines { (k : ℕ) (j : Journal) (x : Entry) → lines_of k (more j x) ≡ lines_of k j ++ placed_line k j x }
+{
+}
+
+/// The hall light's journal is lawful and quiet, with these records, calls and store.
+pub fn hall_light_goes_out()
+    ensures lawful { Lawful hall.row hall.records }
+    ensures quiet { is_quiet hall.records hall.row ≡ true }
+    ensures calls {
+        call_text hall.row hall.records
+            ≡ as_line (codes "{\"run\":\"hall_light\",\"number\":1,\"call\":1,\"service\":\"light.turn_on\",\"target\":[\"light.hall\"],\"data\":{\"brightness\":128}}")
+            ++ as_line (codes "{\"run\":\"hall_light\",\"number\":1,\"call\":2,\"service\":\"light.turn_off\",\"target\":[\"light.hall\"],\"data\":{}}")
+    }
+    ensures store { store_text hall.row ≡ codes "{\"switches\":{\"hall_light\":true},\"version\":1}" }
+{
+}
+
+/// A door that opens twice, before its first run has made a step: in mode restart the new run
+/// replaces the old one, in mode single there is none, and in mode queued it waits. Where the
+/// first one then ends, the queued one begins, and a switch ends it.
+pub fn a_door_opens_twice()
+    ensures restart {
+        records_of (modes.twice Mode.Restart)
+            ≡ modes.run 1 2 Mode.Restart (Some 2) (Some (4, EndCause.Replaced)) 0 ∷ modes.run 2 4 Mode.Restart (Some 4) None 0 ∷ []
+    }
+    ensures single { records_of (modes.twice Mode.Single) ≡ modes.run 1 2 Mode.Single (Some 2) None 0 ∷ [] }
+    ensures queued { records_of (modes.twice Mode.Queued) ≡ modes.run 1 2 Mode.Queued (Some 2) None 0 ∷ modes.run 2 4 Mode.Queued None None 0 ∷ [] }
+    ensures queued_then {
+        records_of modes.then_done
+            ≡ modes.run 1 2 Mode.Queued (Some 2) (Some (5, EndCause.Done)) 1 ∷ modes.run 2 4 Mode.Queued (Some 5) (Some (6, EndCause.SwitchedOff)) 0 ∷ []
+    }
+{
+}
+
+/// Scripts on their places: each list of a parallel block has the variables for itself, and
+/// behind the block they are as before it; a name that a turn sets is the one that was there
+/// before the loop; and a false condition ends its block alone.
+pub fn scopes_of_scripts()
+    ensures apart {
+        whole scripts.apart [] (scripts.at 1 [] ∷ scripts.at 2 [] ∷ scripts.at 3 (0 ∷ []) ∷ scripts.at 4 (1 ∷ []) ∷ scripts.at 5 (0 ∷ []) ∷ scripts.at 6 [] ∷ [])
+            ≡ Some (record {
+                items = Item.Nothing ∷ Item.Nothing ∷ Item.Nothing ∷ scripts.notify (codes "notify.b") 1 ∷ scripts.notify (codes "notify.a") 2 ∷ scripts.notify (codes "notify.c") 1 ∷ [];
+                status = Status.Done;
+            })
+    }
+    ensures raised {
+        whole scripts.raised [] (scripts.at 1 [] ∷ scripts.at 2 [] ∷ scripts.at 3 [] ∷ scripts.at 4 [] ∷ scripts.at 5 [] ∷ [])
+            ≡ Some (record {
+                items = Item.Nothing ∷ Item.Nothing ∷ Item.Nothing ∷ Item.Nothing ∷ scripts.notify (codes "notify.x") 5 ∷ [];
+                status = Status.Done;
+            })
+    }
+    ensures false_condition {
+        whole scripts.false_inside ((codes "n", scripts.number 4) ∷ []) (scripts.at 1 [] ∷ scripts.at 2 [] ∷ scripts.at 3 [] ∷ [])
+            ≡ Some (record { items = Item.Nothing ∷ Item.Nothing ∷ scripts.notify (codes "notify.x") 4 ∷ []; status = Status.Done })
+    }
 {
 }
