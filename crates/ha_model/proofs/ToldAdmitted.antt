@@ -130,7 +130,7 @@ count-alike j a p lt mode (f ∷ fs) (r ∷ rs) h m =
     both : is_unended a p f ≡ (nat_eq r.automation a && is_none now)
     both = (λ i. nat_eq (h.0.automation i) a && not (has_ended_by p f)) ∙ by (nat_eq r.automation a) refl
 
-admitted-alike : (j : Journal) (t : Tried) → t.place < length j → (fs rs : Records) → AllAlike j fs rs
+pub admitted-alike : (j : Journal) (t : Tried) → t.place < length j → (fs rs : Records) → AllAlike j fs rs
     → is_admitted (automations j) fs t ≡ lets_in_after (automations (through j t.place)) (with_ends (through j t.place) rs) t.attempt.automation
 admitted-alike j t lt fs rs h =
     by (mode_of (automations j) a) refl
@@ -152,10 +152,10 @@ admitted-alike j t lt fs rs h =
 
 -- ---- the bare records, attempt by attempt
 
-abbrev new_of : Journal → Records → Tried → Record
+abbrev pub new_of : Journal → Records → Tried → Record
 new_of j before t = new_record (through j t.place) before (t.order, t.attempt)
 
-abbrev let_in_at : Journal → Records → Tried → Bool
+abbrev pub let_in_at : Journal → Records → Tried → Bool
 let_in_at j before t = lets_in_after (automations (through j t.place)) (with_ends (through j t.place) before) t.attempt.automation
 
 abbrev pub admit_each : Journal → Records → List Tried → Records
@@ -194,7 +194,7 @@ each-append j before (t ∷ ts) us = by (let_in_at j before t) (λ bs. each-appe
         ∙ (let e = append_assoc before (new ∷ []) (admit_each j (before ++ (new ∷ [])) ts) in λ i. new ∷ (admit_each j (before ++ (new ∷ [])) ts ++ admit_each j (e i) us))
     by false ih = ih before
 
-bare-each : (j : Journal) (n : ℕ) → bare_below j n ≡ admit_each j [] (passing_below j n)
+pub bare-each : (j : Journal) (n : ℕ) → bare_below j n ≡ admit_each j [] (passing_below j n)
 bare-each j zero = refl
 bare-each j (suc p) =
     let us = map (tried_at p) (passing (through j p)) in
@@ -204,7 +204,7 @@ bare-each j (suc p) =
 
 -- ---- the law
 
-abbrev AllBelowPlace : ℕ → List Tried → Type 0
+abbrev pub AllBelowPlace : ℕ → List Tried → Type 0
 AllBelowPlace n [] = Unit {0}
 AllBelowPlace n (t ∷ ts) = (t.place < n) × AllBelowPlace n ts
 
@@ -216,7 +216,7 @@ below-tried : (n p : ℕ) → p < n → (xs : List (ℕ × Attempt)) → AllBelo
 below-tried n p lt [] = tt
 below-tried n p lt (x ∷ xs) = (lt, below-tried n p lt xs)
 
-below-passing : (j : Journal) (n m : ℕ) → m ≤ n → AllBelowPlace n (passing_below j m)
+pub below-passing : (j : Journal) (n m : ℕ) → m ≤ n → AllBelowPlace n (passing_below j m)
 below-passing j n zero le = tt
 below-passing j n (suc p) le = below-append n (passing_below j p) (map (tried_at p) (passing (through j p))) (below-passing j n p (omega arith)) (below-tried n p (omega arith) (passing (through j p)))
 

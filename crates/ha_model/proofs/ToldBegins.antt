@@ -24,7 +24,7 @@ use Rattle.ha_model.proofs.StepLaws.{serial-at}
 use Rattle.ha_model.proofs.ToldAdmitted.{ended-by, end-any-next, records-admitted}
 use Rattle.ha_model.proofs.ToldSteps.{step-runs, begins-late}
 
-below : (a b : ℕ) → nat_lt a b ≡ true → a < b
+pub below : (a b : ℕ) → nat_lt a b ≡ true → a < b
 below a b h = leb-true (suc a) b h
 
 not-below : (a b : ℕ) → b ≤ a → nat_lt a b ≡ false
@@ -32,7 +32,7 @@ not-below a b le = search rules
 
 -- ---- places do not fall along the records
 
-abbrev SortedFrom : ℕ → Records → Type 0
+abbrev pub SortedFrom : ℕ → Records → Type 0
 SortedFrom m [] = Unit {0}
 SortedFrom m (r ∷ rs) = (m ≤ r.place) × SortedFrom r.place rs
 
@@ -73,7 +73,7 @@ or-assoc None b c = refl
 or-assoc (Some x) b c = refl
 
 -- an end of a record with its fields set is the bare record's
-ends-told : (j : Journal) (r : Record) (e : Option (ℕ × EndCause)) (b : Option ℕ) (c : ℕ) (next : Option ℕ)
+pub ends-told : (j : Journal) (r : Record) (e : Option (ℕ × EndCause)) (b : Option ℕ) (c : ℕ) (next : Option ℕ)
     → ((p : ℕ) → p < length j → last_is (is_step_of r.serial) (through j p) ≡ true → r.place < p)
     → (n : ℕ) → n ≤ length j → end_below j r next n ≡ first_below (cause_at j (record r { end = e; begin = b; calls = c }) next) n
 ends-told j r e b c next late zero le = refl
@@ -149,15 +149,15 @@ owns-end j r q lt m next c h =
 
 -- ---- what is known of the records before one
 
-record Past (j : Journal) (m : ℕ) (x : Record) : Type 0 where
-  place : x.place ≤ m
-  ends : (q : ℕ) → q < length j → is_restart_mode (mode_of (automations j) x.automation) ≡ false → (c : EndCause) → own_end (through j q) x ≡ Some c → has_ended_by q x ≡ true
+pub record Past (j : Journal) (m : ℕ) (x : Record) : Type 0 where
+  pub place : x.place ≤ m
+  pub ends : (q : ℕ) → q < length j → is_restart_mode (mode_of (automations j) x.automation) ≡ false → (c : EndCause) → own_end (through j q) x ≡ Some c → has_ended_by q x ≡ true
 
-abbrev AllPast : Journal → ℕ → Records → Type 0
+abbrev pub AllPast : Journal → ℕ → Records → Type 0
 AllPast j m [] = Unit {0}
 AllPast j m (x ∷ xs) = Past j m x × AllPast j m xs
 
-past-later : (j : Journal) (m n : ℕ) → m ≤ n → (xs : Records) → AllPast j m xs → AllPast j n xs
+pub past-later : (j : Journal) (m n : ℕ) → m ≤ n → (xs : Records) → AllPast j m xs → AllPast j n xs
 past-later j m n le [] h = tt
 past-later j m n le (x ∷ xs) h = (record { place = omega (arith, h.0.place); ends = h.0.ends }, past-later j m n le xs h.1)
 
@@ -191,10 +191,10 @@ last-unended a p (x ∷ xs) y h g = by (nat_eq x.automation a) (last-unended a p
     by false ih h = ih h g
 
 -- the end of a record, if there is one
-abbrev end_in : Option Record → Option (Option (ℕ × EndCause))
+abbrev pub end_in : Option Record → Option (Option (ℕ × EndCause))
 end_in o = option_map {T = Record} {U = Option (ℕ × EndCause)} (λ x. x.end) o
 
-end-or-none : (o o' : Option Record) → end_in o ≡ end_in o' → option_map_or (λ x. x.end) o None ≡ option_map_or (λ x. x.end) o' None
+pub end-or-none : (o o' : Option Record) → end_in o ≡ end_in o' → option_map_or (λ x. x.end) o None ≡ option_map_or (λ x. x.end) o' None
 end-or-none o o' h = back o ∙ (λ i. option_map_or (λ z. z) (h i) None) ∙ sym (back o')
   where
     back : (o : Option Record) → option_map_or (λ x. x.end) o None ≡ option_map_or (λ z. z) (end_in o) None
@@ -217,11 +217,11 @@ begin-by Mode.Queued None r = refl
 begin-by Mode.Queued (Some x) r = refl
 
 -- the invariants of a walk along the records: of those so far, the last one first, and of the same with their begins and calls, in order
-record Carried (j : Journal) (m : ℕ) (back told : Records) : Type 0 where
-  past : AllPast j m back
-  unended : (a p : ℕ) → list_any (is_unended a p) told ≡ list_any (is_unended a p) back
-  last : (a : ℕ) → end_in (last_among a told) ≡ end_in (last_record a back)
-  queue : (a p : ℕ) (y : Record) → mode_of (automations j) a ≡ Mode.Queued → last_record a back ≡ Some y → has_ended_by p y ≡ true → list_any (is_unended a p) back ≡ false
+pub record Carried (j : Journal) (m : ℕ) (back told : Records) : Type 0 where
+  pub past : AllPast j m back
+  pub unended : (a p : ℕ) → list_any (is_unended a p) told ≡ list_any (is_unended a p) back
+  pub last : (a : ℕ) → end_in (last_among a told) ≡ end_in (last_record a back)
+  pub queue : (a p : ℕ) (y : Record) → mode_of (automations j) a ≡ Mode.Queued → last_record a back ≡ Some y → has_ended_by p y ≡ true → list_any (is_unended a p) back ≡ false
 
 last-snoc : (a : ℕ) (xs : Records) (x : Record) → last_among a (xs ++ (x ∷ [])) ≡ or_else (if nat_eq x.automation a then Some x else None) (last_among a xs)
 last-snoc a [] x = by (nat_eq x.automation a)
@@ -243,37 +243,32 @@ or-back false false = refl
 
 -- ---- one record
 
-module _ (j : Journal) (right : Right j (records_of j)) (r : Record) (next : Option ℕ) (back told : Records) where
-  abbrev E : Option (ℕ × EndCause)
+module _ (j : Journal) (r : Record) (next : Option ℕ) (back told : Records) where
+  abbrev pub E : Option (ℕ × EndCause)
   E = end_below j r next (length j)
 
-  abbrev e : Record
+  abbrev pub e : Record
   e = record r { end = E }
 
-  abbrev M : Mode
+  abbrev pub M : Mode
   M = mode_of (automations j) r.automation
 
-  abbrev B : Option ℕ
+  abbrev pub B : Option ℕ
   B = begin_of M (last_record r.automation back) e
 
-  abbrev f : Record
+  abbrev pub f : Record
   f = record e { begin = B; calls = calls_of j r.serial }
 
-  -- the record stands at its place in the list
-  abbrev Stands : Type 0
-  Stands = (i : ℕ) × (slice_get (records_of j) i ≡ Some f)
+  -- it makes its Steps after its begin
+  abbrev pub RunsAt : Type 0
+  RunsAt = (q : ℕ) → q < length j → last_is (is_step_of r.serial) (through j q) ≡ true → option_map_or (λ b. nat_lt b q) B false ≡ true
 
-  runs-at : Stands → (q : ℕ) → q < length j → last_is (is_step_of r.serial) (through j q) ≡ true → option_map_or (λ b. nat_lt b q) B false ≡ true
-  runs-at stands q lt step =
-      and_left (option_map_or (λ b. nat_lt b q) B false) (option_map_or (λ e. nat_le q e.0) E true)
-      (step-runs j (records_of j) stands.0 q f right lt stands.1 (serial-at j stands.0 f stands.1) step)
-
-  late : Stands → (q : ℕ) → q < length j → last_is (is_step_of r.serial) (through j q) ≡ true → r.place < q
-  late stands q lt step = begins-late M (last_record r.automation back) e q (runs-at stands q lt step)
+  pub late : RunsAt → (q : ℕ) → q < length j → last_is (is_step_of r.serial) (through j q) ≡ true → r.place < q
+  late runs q lt step = begins-late M (last_record r.automation back) e q (runs q lt step)
 
   -- in mode queued: where it has ended, the one before it has ended too
-  in-order : Stands → AllPast j r.place back → M ≡ Mode.Queued → (y : Record) → last_record r.automation back ≡ Some y → (p : ℕ) → has_ended_by p e ≡ true → has_ended_by p y ≡ true
-  in-order stands past queued y previous p h = by E refl h
+  in-order : RunsAt → AllPast j r.place back → M ≡ Mode.Queued → (y : Record) → last_record r.automation back ≡ Some y → (p : ℕ) → has_ended_by p e ≡ true → has_ended_by p y ≡ true
+  in-order runs past queued y previous p h = by E refl h
     where
       not_restart : is_restart_mode M ≡ false
       not_restart = (λ i. is_restart_mode (queued i))
@@ -314,7 +309,7 @@ module _ (j : Journal) (right : Right j (records_of j)) (r : Record) (next : Opt
 
           by_script : (s : Bool) → last_is (is_step_of r.serial) (through j q) ≡ s → r.place < last_place (through j q)
               → or_else (if s then option_and_then (λ o. script_end o.status) (ran (through j q) r) else None) (outer_cause (through j q) r) ≡ Some c → has_ended_by q y ≡ true
-          by_script true g lt' h = begun q c ended (runs-at stands q lt g)
+          by_script true g lt' h = begun q c ended (runs q lt g)
           by_script false g lt' h = outer (ended_by_script (through j q) y) lt' h refl
 
           after : (t : Bool) → nat_lt r.place (last_place (through j q)) ≡ t → (if t then own_cause (through j q) r else None) ≡ Some c → has_ended_by q y ≡ true
@@ -328,7 +323,7 @@ module _ (j : Journal) (right : Right j (records_of j)) (r : Record) (next : Opt
           ended-later q p (leb-true q p h) y.end (caused q c g own.early own.cause)
 
   -- its begin
-  begins : Carried j r.place back told → B ≡ told_begin M told f
+  pub begins : Carried j r.place back told → B ≡ told_begin M told f
   begins carried = by M refl
     where
       queued : M ≡ Mode.Queued → (o : Option Record) → last_record r.automation back ≡ o → begin_of Mode.Queued o e
@@ -371,8 +366,8 @@ module _ (j : Journal) (right : Right j (records_of j)) (r : Record) (next : Opt
       begin-by M (last_record r.automation back) e ∙ (λ i. begin_by M r.place E (sym (carried.last r.automation) i)) ∙ sym (begin-by M (last_among r.automation told) f)
 
   -- the invariants with this record
-  carry : Stands → Carried j r.place back told → Carried j r.place (e ∷ back) (told ++ (f ∷ []))
-  carry stands carried = record {
+  pub carry : RunsAt → Carried j r.place back told → Carried j r.place (e ∷ back) (told ++ (f ∷ []))
+  carry runs carried = record {
     past = (record { place = omega arith; ends = λ q lt m c h. owns-end j r q lt m next c h }, carried.past);
     unended = λ a p. list_any-append (is_unended a p) told (f ∷ []) ∙ or-back (list_any (is_unended a p) told) (is_unended a p f || false) ∙ (λ i. or_false (is_unended a p f) i || carried.unended a p i);
     last = λ a. (λ i. end_in (last-snoc a told f i)) ∙ last_one a (nat_eq r.automation a);
@@ -398,7 +393,7 @@ module _ (j : Journal) (right : Right j (records_of j)) (r : Record) (next : Opt
           rest : r.automation ≡ a → has_ended_by p e ≡ true → (o : Option Record) → last_record a back ≡ o → list_any (is_unended a p) back ≡ false
           rest same done None g = none-unended a p back g
           rest same done (Some z) g =
-              carried.queue a p z m g (in-order stands carried.past ((λ i. mode_of (automations j) (same i)) ∙ m) z ((λ i. last_record (same i) back) ∙ g) p done)
+              carried.queue a p z m g (in-order runs carried.past ((λ i. mode_of (automations j) (same i)) ∙ m) z ((λ i. last_record (same i) back) ∙ g) p done)
 
 -- ---- all records
 
@@ -407,7 +402,7 @@ next-begins j k a before [] = refl
 next-begins j k a before (r ∷ rs) =
     (λ i. if nat_eq r.automation a then Some r.place else next-begins j k a (record r { end = end_below k r (next_place r.automation rs) (length k) } ∷ before) rs i)
 
-get-middle : {X : Type 0} (xs : List X) (x : X) (ys : List X) → slice_get (xs ++ (x ∷ ys)) (length xs) ≡ Some x
+pub get-middle : {X : Type 0} (xs : List X) (x : X) (ys : List X) → slice_get (xs ++ (x ∷ ys)) (length xs) ≡ Some x
 get-middle [] x ys = refl
 get-middle (z ∷ zs) x ys = get-middle zs x ys
 
@@ -416,18 +411,22 @@ told-from : (j : Journal) (right : Right j (records_of j)) (m : ℕ) (rs back to
 told-from j right m [] back told sorted carried whole = tt
 told-from j right m (r ∷ rs) back told sorted carried whole =
     let next = next_place r.automation rs in
-    let one = e j right r next back told in
-    let made = f j right r next back told in
-    let stands : Stands j right r next back told = (length told, (λ i. slice_get (whole i) (length told)) ∙ get-middle told made (with_begins j (one ∷ back) (with_ends j rs))) in
+    let one = e j r next back told in
+    let made = f j r next back told in
+    let index : slice_get (records_of j) (length told) ≡ Some made
+        = (λ i. slice_get (whole i) (length told)) ∙ get-middle told made (with_begins j (one ∷ back) (with_ends j rs)) in
+    let runs : RunsAt j r next back told = λ q lt step.
+        and_left (option_map_or (λ b. nat_lt b q) (B j r next back told) false) (option_map_or (λ e. nat_le q e.0) (E j r next back told) true)
+        (step-runs j (records_of j) (length told) q made right.entries lt index (serial-at j (length told) made index) step) in
     let here : Carried j r.place back told = record { past = past-later j m r.place sorted.0 back carried.past; unended = carried.unended; last = carried.last; queue = carried.queue } in
     (record {
-        begin = begins j right r next back told here;
-        near = begins-near j right r next back told here;
-        end = ends-told j r (end_below j r next (length j)) made.begin made.calls next (late j right r next back told stands) (length j) (omega arith)
+        begin = begins j r next back told here;
+        near = begins-near j r next back told here;
+        end = ends-told j r (end_below j r next (length j)) made.begin made.calls next (late j r next back told runs) (length j) (omega arith)
           ∙ (λ i. first_below (cause_at j made (sym (next-begins j j r.automation (one ∷ back) rs) i)) (length j));
         calls = refl;
       },
-      told-from j right r.place rs (one ∷ back) (told ++ (made ∷ [])) sorted.1 (carry j right r next back told stands here)
+      told-from j right r.place rs (one ∷ back) (told ++ (made ∷ [])) sorted.1 (carry j r next back told runs here)
       (whole ∙ sym (append_assoc told (made ∷ []) (with_begins j (one ∷ back) (with_ends j rs)))))
 
 -- LAW: on a right journal the records are those of the rules

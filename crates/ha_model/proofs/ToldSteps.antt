@@ -13,7 +13,7 @@ use Rattle.ha_model.specs.declared.journal.Record.{Record}
 use Rattle.ha_model.specs.Words.{EachAfter, last_of}
 use Rattle.ha_model.specs.Journal.{Journal}
 use Rattle.ha_model.specs.Records.{Records, through, last_is, is_step_of, begin_of, begin_behind}
-use Rattle.ha_model.specs.Lawful.{Right, IsRightEntry, is_running}
+use Rattle.ha_model.specs.Lawful.{IsRightEntry, is_running}
 use Rattle.ha_model.proofs.RecordGrowth.{true-false}
 use Rattle.ha_model.proofs.LawfulLaws.{none-some}
 use Rattle.ha_model.proofs.OneAnswer.{some-same}
@@ -34,7 +34,7 @@ each-at P before (y ∷ ys) zero x h e = subst (λ z. P (before ++ []) z) (some-
 each-at P before (y ∷ ys) (suc p) x h e = subst (λ l. P l x) (append_assoc before (y ∷ []) (take p ys)) (each-at P (before ++ (y ∷ [])) ys p x h.1 e)
 
 -- a Step of a record's serial is made while it runs
-pub step-runs : (j : Journal) (rs : Records) (i p : ℕ) (f : Record) → Right j rs → p < length j → slice_get rs i ≡ Some f → f.serial ≡ suc i
+pub step-runs : (j : Journal) (rs : Records) (i p : ℕ) (f : Record) → EachAfter (IsRightEntry rs) [] j → p < length j → slice_get rs i ≡ Some f → f.serial ≡ suc i
     → last_is (is_step_of f.serial) (through j p) ≡ true → is_running p f ≡ true
 step-runs j rs i p f right lt found serial step = by (slice_get j p) refl ((λ k. option_map_or (is_step_of f.serial) (sym (last-get p j lt) k) false) ∙ step)
   where
@@ -42,7 +42,7 @@ step-runs j rs i p f right lt found serial step = by (slice_get j p) refl ((λ k
     entry (Boot text config stored start zone) e h = absurd (true-false (sym h))
     entry (Line source number cmd) e h = absurd (true-false (sym h))
     entry (Step worker s branch item) e h =
-        let right_entry : IsRightEntry rs (take p j) (Step worker s branch item) = each-at (IsRightEntry rs) [] j p (Step worker s branch item) right.entries e in
+        let right_entry : IsRightEntry rs (take p j) (Step worker s branch item) = each-at (IsRightEntry rs) [] j p (Step worker s branch item) right e in
         let same : s ≡ f.serial = eqb-true s f.serial h in
         let at : s - 1 ≡ i = omega (arith, same, serial) in
         let is_f : right_entry.0 ≡ f = some-same right_entry.0 f (sym right_entry.1 ∙ ap (slice_get rs) at ∙ found) in
