@@ -13,7 +13,7 @@ use Rattle.ha_model.specs.Journal.{Journal, automations}
 use Rattle.ha_model.specs.Attempts.{Attempt}
 use Rattle.ha_model.specs.Records.{Records, through, last_place, passing, mode_of, or_else, own_cause, own_end, replaced, is_restart_mode, ended_by_script, script_end, ran, last_is, is_step_of, end_here, end_below, next_place, with_ends, lets_in_after, new_record, admitted, bare_below, bare, ended, with_begins, records_of, last_record, begin_of, begin_behind, calls_of}
 use Rattle.ha_model.specs.Lawful.{Right}
-use Rattle.ha_model.specs.Told.{has_ended_by, is_unended, outer_cause, cause_at, first_below, last_among, begins_behind, told_begin, AreTold, ByTheRules}
+use Rattle.ha_model.specs.Told.{has_ended_by, is_unended, outer_cause, cause_at, first_below, last_among, begins_behind, told_begin, AreTold, AreNear, ByTheRules}
 use Rattle.ha_model.proofs.EqualLemmas.{and_left}
 use Rattle.ha_model.proofs.RecordLaws.{at_place, last-through}
 use Rattle.ha_model.proofs.RecordGrowth.{AllBelow, is-at-most, true-false}
@@ -407,8 +407,8 @@ get-middle [] x ys = refl
 get-middle (z ∷ zs) x ys = get-middle zs x ys
 
 told-from : (j : Journal) (right : Right j (records_of j)) (m : ℕ) (rs back told : Records) → SortedFrom m rs → Carried j m back told → records_of j ≡ told ++ with_begins j back (with_ends j rs)
-    → AreTold j told (with_begins j back (with_ends j rs))
-told-from j right m [] back told sorted carried whole = tt
+    → AreTold j told (with_begins j back (with_ends j rs)) × AreNear j told (with_begins j back (with_ends j rs))
+told-from j right m [] back told sorted carried whole = (tt, tt)
 told-from j right m (r ∷ rs) back told sorted carried whole =
     let next = next_place r.automation rs in
     let one = e j r next back told in
@@ -419,22 +419,27 @@ told-from j right m (r ∷ rs) back told sorted carried whole =
         and_left (option_map_or (λ b. nat_lt b q) (B j r next back told) false) (option_map_or (λ e. nat_le q e.0) (E j r next back told) true)
         (step-runs j (records_of j) (length told) q made right.entries lt index (serial-at j (length told) made index) step) in
     let here : Carried j r.place back told = record { past = past-later j m r.place sorted.0 back carried.past; unended = carried.unended; last = carried.last; queue = carried.queue } in
-    (record {
+    let rest = told-from j right r.place rs (one ∷ back) (told ++ (made ∷ [])) sorted.1 (carry j r next back told runs here)
+        (whole ∙ sym (append_assoc told (made ∷ []) (with_begins j (one ∷ back) (with_ends j rs)))) in
+    ((record {
         begin = begins j r next back told here;
-        near = begins-near j r next back told here;
         end = ends-told j r (end_below j r next (length j)) made.begin made.calls next (late j r next back told runs) (length j) (omega arith)
           ∙ (λ i. first_below (cause_at j made (sym (next-begins j j r.automation (one ∷ back) rs) i)) (length j));
         calls = refl;
-      },
-      told-from j right r.place rs (one ∷ back) (told ++ (made ∷ [])) sorted.1 (carry j r next back told runs here)
-      (whole ∙ sym (append_assoc told (made ∷ []) (with_begins j (one ∷ back) (with_ends j rs)))))
+      }, rest.0),
+      (begins-near j r next back told here, rest.1))
+
+both-told : (j : Journal) → Right j (records_of j) → AreTold j [] (records_of j) × AreNear j [] (records_of j)
+both-told j right =
+    told-from j right 0 (bare j) [] [] (sorted-bare j (length j) (omega arith)).sorted
+    (record { past = tt; unended = λ a p. refl; last = λ a. refl; queue = λ a p y m h. absurd (none-some y h) }) refl
 
 -- LAW: on a right journal the records are those of the rules
 pub by-the-rules : (j : Journal) (rs : Records) → Right j rs → ByTheRules j rs
 by-the-rules j rs right =
     subst (ByTheRules j) (sym right.records_are)
-    (record {
-      admitted = records-admitted j;
-      told = told-from j (subst (Right j) right.records_are right) 0 (bare j) [] [] (sorted-bare j (length j) (omega arith)).sorted
-        (record { past = tt; unended = λ a p. refl; last = λ a. refl; queue = λ a p y m h. absurd (none-some y h) }) refl;
-    })
+    (record { admitted = records-admitted j; told = (both-told j (subst (Right j) right.records_are right)).0 })
+
+-- LAW: and each begin is told by the record just before
+pub by-the-one-before : (j : Journal) (rs : Records) → Right j rs → AreNear j [] rs
+by-the-one-before j rs right = subst (AreNear j []) (sym right.records_are) (both-told j (subst (Right j) right.records_are right)).1

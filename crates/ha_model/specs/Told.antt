@@ -107,11 +107,9 @@ told_begin Mode.Queued before r =
 
 -- ---- all of it
 
--- a record between those before it and those behind it; `near` says that its begin is also told by the record of its automation just
--- before it alone
+-- a record between those before it and those behind it
 pub record IsTold (j : Journal) (before : Records) (r : Record) (behind : Records) : Type 0 where
   pub begin : r.begin ≡ told_begin (mode_of (automations j) r.automation) before r
-  pub near : r.begin ≡ begin_of (mode_of (automations j) r.automation) (last_among r.automation before) r
   pub end : r.end ≡ first_below (cause_at j r (next_place r.automation behind)) (length j)
   pub calls : r.calls ≡ calls_of j r.serial
 
@@ -123,3 +121,10 @@ AreTold j before (r ∷ rs) = IsTold j before r rs × AreTold j (before ++ (r �
 pub record ByTheRules (j : Journal) (rs : Records) : Type 0 where
   pub admitted : HaveRecords (automations j) [] (passing_below j (length j)) rs
   pub told : AreTold j [] rs
+
+-- each begin is also told by the record of its automation just before it alone: in mode queued it is the same to ask whether an earlier
+-- one has not ended and whether this one has not
+abbrev pub AreNear : Journal → Records → Records → Type 0
+AreNear j before [] = Unit {0}
+AreNear j before (r ∷ rs) =
+    (r.begin ≡ begin_of (mode_of (automations j) r.automation) (last_among r.automation before) r) × AreNear j (before ++ (r ∷ [])) rs

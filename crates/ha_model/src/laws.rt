@@ -9,7 +9,7 @@ ghost use Rattle.ha_model.specs.declared.journal.Cmd.{Cmd};
 ghost use Rattle.ha_model.specs.declared.journal.Entry.{Entry};
 ghost use Rattle.ha_model.specs.declared.journal.Entry.TheVariants.{Line, Step};
 ghost use Rattle.ha_model.specs.declared.journal.Item.{Item};
-ghost use Rattle.ha_model.specs.Words.{Text, Pairs, same_entity};
+ghost use Rattle.ha_model.specs.Words.{Text, Pairs, EachAfter, same_entity};
 ghost use Rattle.ha_model.specs.Entries.{report_in, gone_in, is_restart, IsBoot};
 ghost use Rattle.ha_model.specs.Journal.{Journal, HasEntry, automations, brings, now as now_lem};
 ghost use Rattle.ha_model.specs.Switches.{is_on, on_after};
@@ -20,7 +20,7 @@ ghost use Rattle.ha_model.specs.Records.{Records, records_of, passing};
 ghost use Rattle.ha_model.specs.RecordSteps.{more, records_after};
 ghost use Rattle.ha_model.specs.RunSteps.{runs_after};
 ghost use Rattle.ha_model.specs.Answers.{makers, cmds_of, OfOne};
-ghost use Rattle.ha_model.specs.Told.{ByTheRules};
+ghost use Rattle.ha_model.specs.Told.{ByTheRules, AreNear};
 ghost use Rattle.ha_model.specs.Commands.{lines_of, placed_line};
 ghost use Rattle.ha_model.specs.Texts.{as_line, call_text, call_text_of, error_text, error_text_of, store_text, trace_text, trace_line};
 ghost use Rattle.ha_model.specs.WorkedHall as hall;
@@ -131,12 +131,17 @@ pub fn one_more_is_lawful()
 {
 }
 
-/// On a right journal the records are those of the rules: exactly the attempts that are admitted
-/// by the number of earlier records of their automation that have not ended have one, and each
-/// begins and ends as the rules say. In mode queued it is the same to ask whether an earlier
-/// record has not ended and whether the one just before has not.
+/// The records are exactly those of the rules: the attempts that are admitted by the number of
+/// earlier records of their automation that have not ended have one, and each begins and ends as
+/// the rules say. On a right journal they are so, and no other list is, whose steps are right.
+/// `near` says that in mode queued it is the same to ask whether an earlier record has not ended
+/// and whether the one just before has not.
 pub fn records_by_the_rules()
-    ensures { (j : Journal) (rs : Records) → Right j rs → ByTheRules j rs }
+    ensures rules { (j : Journal) (rs : Records) → Right j rs → ByTheRules j rs }
+    ensures only {
+        (j : Journal) (rs : Records) → ByTheRules j rs → EachAfter (IsRightEntry rs) [] j → rs ≡ records_of j
+    }
+    ensures near { (j : Journal) (rs : Records) → Right j rs → AreNear j [] rs }
 {
 }
 
