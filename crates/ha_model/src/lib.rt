@@ -1,6 +1,8 @@
 //! The types of a configuration, of the journal and of the records, and what they mean.
 #![tactic(auto)]
 
+pub mod laws;
+
 mod config;
 mod copies;
 mod faults;

@@ -12,7 +12,7 @@ ghost use Rattle.ha_model.specs.States.{Sight};
 ghost use Rattle.ha_model.specs.Sights.{automation_seen, switch_seen, switch_of, changes_switch};
 ghost use Rattle.ha_model.specs.Templates.{rendered};
 ghost use Rattle.ha_model.specs.Conditions.{holds};
-ghost use Rattle.ha_model.specs.PutAs.{put_as};
+ghost use Rattle.ha_model.specs.Commands.{put_as};
 ghost use Rattle.ha_model.specs.Lawful.{Right, IsFair, is_line_of, shuts, is_rested, is_quiet, ready, pick};
 
 use crate::config::{Condition, Config};
