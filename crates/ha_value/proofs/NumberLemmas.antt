@@ -1,5 +1,5 @@
 -- Rounding to the nearest whole number: exact quotients, and multiples that stay in bounds.
-use Rattle.std.proofs.Common.{◌≡◌, ◌⊎◌, inl, inr, ⊎_elim, ℕ, zero, suc, ◌+◌, ◌-◌, ◌*◌, ◌/◌, ◌%◌, ◌^◌, ◌<◌, ◌≤◌, Bool, true, false, cond, ltb, ℤ, pos, negsuc, neg_ℤ, ◌*ℤ◌, ◌<ℤ◌, unsigned_abs, refl, sym, ap, subst, ◌∙◌, arith}
+use Rattle.std.proofs.Common.{◌≡◌, ◌⊎◌, inl, inr, ⊎_elim, ℕ, zero, suc, ◌+◌, ◌*◌, ◌/◌, ◌%◌, ◌<◌, ◌≤◌, true, false, ltb, ℤ, pos, negsuc, neg_ℤ, ◌*ℤ◌, ◌<ℤ◌, unsigned_abs, refl, sym, ap, ◌∙◌, arith}
 use Rattle.std.proofs.Math.Nat.{mul-le-mul_right, mul_right_comm, zero-mul}
 use lib.IntN.{*ℤ_comm}
 use Rattle.std.proofs.lemmas.Bool.{cases_lt}
@@ -108,22 +108,24 @@ record IsHigh (q r d : ℕ) : Type 0 where
 tied : (q r d : ℕ) → 2 * r ≡ d → IsLow q r d ⊎ IsHigh q r d
 tied q r d e = ⊎_elim
     (λ (odd : 0 < q % 2). inr (record {
-        half = omega arith;
-        value = rw (not_less_test (2 * r) d (omega arith), not_less_test d (2 * r) (omega arith)) (omega arith);
-        tie = λ t. omega arith }))
+      half = omega arith;
+      value = rw (not_less_test (2 * r) d (omega arith), not_less_test d (2 * r) (omega arith)) (omega arith);
+      tie = λ t. omega arith;
+    }))
     (λ (even : q % 2 ≤ 0). inl (record {
-        half = omega arith;
-        value = rw (not_less_test (2 * r) d (omega arith), not_less_test d (2 * r) (omega arith)) (omega arith);
-        tie = λ t. omega arith }))
+      half = omega arith;
+      value = rw (not_less_test (2 * r) d (omega arith), not_less_test d (2 * r) (omega arith)) (omega arith);
+      tie = λ t. omega arith;
+    }))
     (cases_lt 0 (q % 2))
 
 sides : (q r d : ℕ) → IsLow q r d ⊎ IsHigh q r d
 sides q r d = ⊎_elim
     (λ (less : 2 * r < d). inl (record { half = omega arith; value = rw (less_test (2 * r) d less) refl; tie = λ t. absurd (omega arith) }))
     (λ (rest : d ≤ 2 * r). ⊎_elim
-        (λ (more : d < 2 * r). inr (record { half = rest; value = rw (not_less_test (2 * r) d rest, less_test d (2 * r) more) refl; tie = λ t. absurd (omega arith) }))
-        (λ (same : 2 * r ≤ d). tied q r d (omega arith))
-        (cases_lt d (2 * r)))
+    (λ (more : d < 2 * r). inr (record { half = rest; value = rw (not_less_test (2 * r) d rest, less_test d (2 * r) more) refl; tie = λ t. absurd (omega arith) }))
+    (λ (same : 2 * r ≤ d). tied q r d (omega arith))
+    (cases_lt d (2 * r)))
     (cases_lt (2 * r) d)
 
 pub record IsNear (n d v : ℕ) : Type 0 where
@@ -135,15 +137,17 @@ pub record IsNear (n d v : ℕ) : Type 0 where
 near : (q r d n : ℕ) → 0 < d → q * d + r ≡ n → r < d → IsNear n d (nearer q r d)
 near q r d n p e l = ⊎_elim
     (λ (s : IsLow q r d). rw s.value (record {
-        below = omega arith;
-        above = omega (arith, s.half);
-        even_below = λ t. absurd (omega arith);
-        even_above = λ t. s.tie (omega arith) }))
+      below = omega arith;
+      above = omega (arith, s.half);
+      even_below = λ t. absurd (omega arith);
+      even_above = λ t. s.tie (omega arith);
+    }))
     (λ (s : IsHigh q r d). rw s.value (record {
-        below = omega (arith, s.half);
-        above = omega arith;
-        even_below = λ t. s.tie (omega arith);
-        even_above = λ t. absurd (omega arith) }))
+      below = omega (arith, s.half);
+      above = omega arith;
+      even_below = λ t. s.tie (omega arith);
+      even_above = λ t. absurd (omega arith);
+    }))
     (sides q r d)
 
 pub nearest-IsNear : (n d : ℕ) → 0 < d → IsNear n d (nearest n d)

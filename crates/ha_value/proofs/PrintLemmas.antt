@@ -1,5 +1,5 @@
 -- What is printed is read as the same number, and a written id as the same id.
-use Rattle.std.proofs.Common.{◌≡◌, ◌⊎◌, ⊎_elim, inl, inr, ℕ, zero, suc, ◌+◌, ◌-◌, ◌*◌, ◌/◌, ◌%◌, ◌^◌, ◌<◌, ◌≤◌, Bool, true, false, cond, ◌&&◌, nat_eq, List, [], ◌∷◌, ◌++◌, length, get_or, Option, Some, None, ℤ, pos, negsuc, neg_ℤ, unsigned_abs, option_and_then, decimal, refl, sym, ap, ◌∙◌, arith}
+use Rattle.std.proofs.Common.{◌≡◌, ◌⊎◌, ⊎_elim, inl, inr, ℕ, suc, ◌+◌, ◌-◌, ◌*◌, ◌/◌, ◌%◌, ◌^◌, ◌<◌, ◌≤◌, Bool, true, false, nat_eq, List, [], ◌∷◌, ◌++◌, length, Some, None, ℤ, pos, negsuc, neg_ℤ, unsigned_abs, option_and_then, decimal, refl, sym, ap, ◌∙◌, arith}
 use mathlib.Core.List.{append-nil}
 use Rattle.std.proofs.Math.Nat.{mul_assoc, div-div-eq-div-mul}
 use Rattle.std.proofs.lemmas.Bool.Decides.{nat_tests}
@@ -13,7 +13,7 @@ use Rattle.ha_value.specs.declared.value.EntityId.{EntityId}
 use Rattle.ha_value.specs.declared.value.Num.{Num}
 use Rattle.ha_value.specs.Ids.{is_name, is_name_byte, is_entity, entity_text, read_entity}
 use Rattle.ha_value.specs.Lists.{some_all, before_end, before_first, after_first}
-use Rattle.ha_value.specs.Numbers.{nearest, signed, has_minus, without_sign, number_from, number_of_text, kept_in_range, read_number, print_number, places_text, sign_text, digit, is_digit_zero, is_in_range}
+use Rattle.ha_value.specs.Numbers.{nearest, signed, has_minus, without_sign, number_from, number_of_text, kept_in_range, read_number, print_number, places_text, digit, is_digit_zero, is_in_range}
 use Rattle.ha_value.proofs.DigitLemmas.{value-cons, joined_value, short_places, some_all_from, and_left, and_right}
 
 test_cases : (b : Bool) → (b ≡ true) ⊎ (b ≡ false)
@@ -113,16 +113,18 @@ kept : (ds : List ℕ) → list_all is_ascii_digit ds ≡ true → Kept ds
 kept [] h = record { short = omega arith; value = refl; digits = refl }
 kept (c ∷ cs) h = ⊎_elim
     (λ (e : list_all is_digit_zero (c ∷ cs) ≡ true). record {
-        short = rw e (omega arith);
-        value = rw e (omega (arith, all_zeros_value (c ∷ cs) e));
-        digits = rw e refl })
+      short = rw e (omega arith);
+      value = rw e (omega (arith, all_zeros_value (c ∷ cs) e));
+      digits = rw e refl;
+    })
     (λ (e : list_all is_digit_zero (c ∷ cs) ≡ false).
-        let rest : Kept cs = kept cs (and_right (is_ascii_digit c) _ h) in
-        let step : suc (length cs) - suc (length (before_end is_digit_zero cs)) ≡ length cs - length (before_end is_digit_zero cs) = omega arith in
-        record {
-            short = rw e (omega (arith, rest.short));
-            value = rw (e, value-cons c (before_end is_digit_zero cs), step, scale_cons (digit_value c) (digits_value 10 (before_end is_digit_zero cs)) (length (before_end is_digit_zero cs)) (length cs) rest.short, rest.value) (sym (value-cons c cs));
-            digits = rw (e, and_left (is_ascii_digit c) _ h) rest.digits })
+    let rest : Kept cs = kept cs (and_right (is_ascii_digit c) _ h) in
+    let step : suc (length cs) - suc (length (before_end is_digit_zero cs)) ≡ length cs - length (before_end is_digit_zero cs) = omega arith in
+    record {
+      short = rw e (omega (arith, rest.short));
+      value = rw (e, value-cons c (before_end is_digit_zero cs), step, scale_cons (digit_value c) (digits_value 10 (before_end is_digit_zero cs)) (length (before_end is_digit_zero cs)) (length cs) rest.short, rest.value) (sym (value-cons c cs));
+      digits = rw (e, and_left (is_ascii_digit c) _ h) rest.digits;
+    })
     (test_cases (list_all is_digit_zero (c ∷ cs)))
 
 digit_value-digit : (n : ℕ) → digit_value (digit n) ≡ n % 10
@@ -150,7 +152,7 @@ six_digits m h =
     let c : m / 100 / 10 ≡ m / 1_000 = div-div-eq-div-mul m 100 10 in
     let d : m / 10 / 10 ≡ m / 100 = div-div-eq-div-mul m 10 10 in
     joined_digits m (m / 10) (m / 100) (m / 1_000) (m / 10_000) (m / 100_000) h (tail_value m)
-        (div-add-mod' m 10) (d_step (m / 10) (m / 100) d) (d_step (m / 100) (m / 1_000) c) (d_step (m / 1_000) (m / 10_000) b) (d_step (m / 10_000) (m / 100_000) a)
+    (div-add-mod' m 10) (d_step (m / 10) (m / 100) d) (d_step (m / 100) (m / 1_000) c) (d_step (m / 1_000) (m / 10_000) b) (d_step (m / 10_000) (m / 100_000) a)
   where
     d_step : (n q : ℕ) → n / 10 ≡ q → q * 10 + n % 10 ≡ n
     d_step n q e = rw (← e) (div-add-mod' n 10)
@@ -253,8 +255,8 @@ joined_cut : (c : ℕ) (xs rest : List ℕ) → after_first c xs ≡ Some rest �
 joined_cut c [] rest h = absurd (cc)
 joined_cut c (x ∷ xs) rest h = ⊎_elim
     (λ (e : nat_eq x c ≡ true).
-        let same : x ≡ c = grind (arith, nat_tests) in
-        let all : Some xs ≡ Some rest = rw e at h in
-        rw e (let tail : xs ≡ rest = cc in rw (same, tail) refl))
+    let same : x ≡ c = grind (arith, nat_tests) in
+    let all : Some xs ≡ Some rest = rw e at h in
+    rw e (let tail : xs ≡ rest = cc in rw (same, tail) refl))
     (λ (e : nat_eq x c ≡ false). rw e (ap (λ r. x ∷ r) (joined_cut c xs rest (rw e at h))))
     (test_cases (nat_eq x c))

@@ -1,4 +1,4 @@
-use Rattle.std.proofs.Common.{◌≡◌, ◌*◌, ◌-◌, ◌^◌, ◌<◌, length, arith}
+use Rattle.std.proofs.Common.{◌*◌, ◌-◌, ◌^◌, ◌<◌, length, arith}
 use Rattle.std.specs.Str.Parse.{digits_value}
 use Rattle.ha_value.proofs.DigitLemmas.{scaled_fits, value-lt}
 use Rattle.ha_value.proofs.num.read.scaled.Goals as goal

@@ -1,6 +1,6 @@
-use Rattle.std.proofs.Common.{◌≡◌, ◌≤◌, ◌∙◌, ℤ, pos, negsuc, neg_ℤ, ◌*ℤ◌, unsigned_abs, ◌*◌, arith, ap}
+use Rattle.std.proofs.Common.{◌≡◌, ◌≤◌, ◌∙◌, unsigned_abs, ◌*◌, arith}
 use Rattle.std.proofs.lemmas.Int.{ints}
-use Rattle.ha_value.specs.Numbers.{nearest, rounded}
+use Rattle.ha_value.specs.Numbers.{nearest}
 use Rattle.ha_value.proofs.NumberLemmas.{negative_multiple, nearest_multiple-le}
 use Rattle.ha_value.proofs.num.round.nearest_multiple.Goals as goal
 
