@@ -61,33 +61,43 @@ fn a_refused_save_leaves_the_text(rt: HostRuntime) -> Result<(), Fail> {
     Ok(())
 }
 
-fn home(alloc: Global) -> Result<MemFile, AllocError> {
-    Ok(MemFile {
+/// A place with one file, whose source and sink fail at their first call, and whose second call fails.
+fn home(alloc: Global) -> Result<MemPlace, Fail> {
+    let mut files = Vec::new(alloc);
+    files.push(MemFile {
         name: text(alloc, "home")?,
         bytes: Some(bytes(alloc, "[]")?),
         read_fails: numbers(alloc, &[1])?,
         write_fails: numbers(alloc, &[1])?,
         write_zeros: numbers(alloc, &[2])?,
-    })
+    })?;
+    if !have_distinct_names(&files) {
+        return Err(Fail::from("distinct"));
+    }
+    Ok(MemPlace::make(files, numbers(alloc, &[2])?))
 }
 
 #[test]
-fn a_place_opens_by_name(rt: HostRuntime) -> Result<(), Fail> {
-    let alloc = rt.alloc();
-    let mut files = Vec::new(alloc);
-    files.push(home(alloc)?)?;
-    assert!(rt; have_distinct_names(&files));
-    let mut place = MemPlace::make(files, numbers(alloc, &[3])?);
-    let mut source = place.reading(alloc, "home")?;
+fn a_place_reads_by_name(rt: HostRuntime) -> Result<(), Fail> {
+    let mut place = home(rt.alloc())?;
     let mut buf = [0u8; 2];
+    let mut source = place.reading(rt.alloc(), "home")?;
     assert!(rt; source.read(&mut buf).is_err());
     assert!(rt; source.read(&mut buf)? == 2);
-    assert!(rt; place.reading(alloc, "other").is_err());
-    assert!(rt; place.reading(alloc, "home").is_err());
-    let mut sink = place.writing(alloc, "home")?;
+    assert!(rt; place.reading(rt.alloc(), "home").is_err());
+    assert!(rt; place.reading(rt.alloc(), "other").is_err());
+    Ok(())
+}
+
+#[test]
+fn a_place_writes_by_name(rt: HostRuntime) -> Result<(), Fail> {
+    let mut place = home(rt.alloc())?;
+    let mut sink = place.writing(rt.alloc(), "home")?;
     assert!(rt; sink.write(b"x").is_err());
     assert!(rt; sink.write(b"x")? == 0);
-    assert!(rt; place.writing(alloc, "other")?.write(b"x")? == 1);
+    assert!(rt; place.writing(rt.alloc(), "home").is_err());
+    let mut other = place.writing(rt.alloc(), "other")?;
+    assert!(rt; other.write(b"x")? == 1);
     Ok(())
 }
 
