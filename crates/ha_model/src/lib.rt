@@ -1,10 +1,9 @@
 //! The types of a configuration, of the journal and of the records, and what they mean.
 #![tactic(auto)]
 
-pub mod laws;
-
 mod config;
 mod journal;
+pub mod laws;
 mod template;
 
 pub use config::{
