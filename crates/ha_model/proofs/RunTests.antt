@@ -110,11 +110,11 @@ blinks = simp rolls
 waits : ◌≡◌ {A = Option Outcome} (whole waiting [] (spot_at blink 3 [] ∷ spot_at blink 8 [] ∷ spot_at blink 8 [] ∷ []))
     (Some (record { items = N ∷ N ∷ Item.Call (codes "notify.b") [] ((codes "done", Value.Flag true) ∷ (codes "left", Value.Number (Num.Fixed (pos 5000000))) ∷ []) ∷ []; status = Status.Done }))
 unfolding read_entity says_yes_text read_number print_number digits
-waits = simp (rolls, out-roll-Value, outs-Text, outs-Flag, outs-Number, outs-Pairs)
+waits = simp (rolls, out-roll-Value, outs-Flag, outs-Number, outs-Pairs)
 
 not_before : ◌≡◌ {A = Option Outcome} (whole waiting [] (spot_at blink 3 [] ∷ spot_at blink 6 [] ∷ [])) None
 unfolding read_entity says_yes_text read_number print_number digits
-not_before = simp (rolls, out-roll-Value, outs-Text, outs-Flag)
+not_before = simp (rolls, out-roll-Value, outs-Flag)
 
 -- ---- a wait that may not go on stops the whole script where it times out
 
