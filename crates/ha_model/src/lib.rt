@@ -2,18 +2,27 @@
 #![tactic(auto)]
 
 mod config;
+mod copies;
+mod faults;
 mod journal;
 pub mod laws;
+mod names;
+mod steps;
 mod template;
+mod traits;
 
 pub use config::{
     Action, ActionKind, Automation, Condition, Config, Form, Match, Mode, RepeatKind, SpanForm,
     Trigger, TriggerRule, Unit,
 };
+pub use faults::{CoreFault, TplFault};
 pub use ha_clock::{Moment, Span};
 pub use ha_value::{Boxed, EntityId, Many, Num, Plain, Value, Word};
 pub use journal::{
     Branch, Cmd, EndCause, Entry, Env, Item, Record, StateObject, WaitAsk, WaitEnd, next_object,
     same_data, same_id, same_text,
 };
+pub use names::run_name;
+pub use steps::{Change, Firing, Progress, StepOut};
 pub use template::{Expr, Op, Piece, Template};
+pub use traits::{Answers, Core, Ended};

@@ -3,6 +3,11 @@ use Rattle.std.proofs.Common.{◌≡◌, ℕ, zero, suc, ◌+◌, ◌-◌, ◌<�
 use Rattle.std.proofs.lemmas.List.{take_rest}
 use Rattle.std.proofs.lemmas.Bool.Decides.{nat_tests}
 use Rattle.std.specs.List.{list_all}
+use Rattle.std.specs.Str.{IsAscii, IsUtf8}
+use Rattle.std.proofs.lemmas.Str.{IsUtf8-from_ascii}
+use Rattle.std.proofs.lemmas.Str.Ascii.{IsAscii-nil, IsAscii-cons}
+use Rattle.ha_value.specs.Ids.{is_name, is_name_byte}
+use Rattle.ha_value.specs.Numbers.{is_digit_zero}
 use Rattle.ha_value.specs.Lists.{some_all, after_front, before_end, before_first, after_first}
 
 is_not : (x c : ℕ) → (x ≡ c → ⊥) → nat_eq x c ≡ false
@@ -91,4 +96,55 @@ after_front-passed p xs b = after_front-cut p xs (length xs) (omega arith) b (λ
 
 pub ruleset cuts = (before_first-found, after_first-cut, before_first-absent, after_first-absent, after_front-cut, after_front-passed, before_end-found)
 
-pub ruleset alls = (list_all-passes, list_all-fails)
+pub some_all-passes : (p : ℕ → Bool) (xs : List ℕ) → 0 < length xs → ((k : ℕ) → k < length xs → p (get_or xs k 0) ≡ true) → some_all p xs ≡ true
+some_all-passes p [] l b = absurd (omega arith)
+some_all-passes p (x ∷ xs) l b = list_all-passes p (x ∷ xs) b
+
+pub some_all-fails : (p : ℕ → Bool) (xs : List ℕ) (i : ℕ) → i < length xs → p (get_or xs i 0) ≡ false → some_all p xs ≡ false
+some_all-fails p [] i h e = absurd (omega arith)
+some_all-fails p (x ∷ xs) i h e = list_all-fails p (x ∷ xs) i h e
+
+pub ruleset alls = (list_all-passes, list_all-fails, some_all-passes, some_all-fails)
+
+-- ---- texts of ASCII bytes
+
+and_left : (a b : Bool) → (a && b) ≡ true → a ≡ true
+and_left true b h = refl
+and_left false b h = h
+
+and_right : (a b : Bool) → (a && b) ≡ true → b ≡ true
+and_right true b h = h
+and_right false b h = absurd (cc)
+
+name_byte_small : (c : ℕ) → is_name_byte c ≡ true → c < 128
+name_byte_small c h = grind (arith, nat_tests)
+
+name_ascii : (xs : List ℕ) → list_all is_name_byte xs ≡ true → IsAscii xs
+name_ascii [] h = IsAscii-nil
+name_ascii (x ∷ xs) h = IsAscii-cons x xs (name_byte_small x (and_left _ _ h)) (name_ascii xs (and_right (is_name_byte x) _ h))
+
+pub name_utf8 : (xs : List ℕ) → is_name xs ≡ true → IsUtf8 xs
+name_utf8 [] h = absurd (cc)
+name_utf8 (x ∷ xs) h = IsUtf8-from_ascii (x ∷ xs) (name_ascii (x ∷ xs) h)
+
+either_ascii : (b : Bool) (xs ys : List ℕ) → IsAscii xs → IsAscii ys → IsAscii (cond b xs ys)
+either_ascii true xs ys h k = h
+either_ascii false xs ys h k = k
+
+pub before_end_ascii : (p : ℕ → Bool) (xs : List ℕ) → IsAscii xs → IsAscii (before_end p xs)
+before_end_ascii p [] h = IsAscii-nil
+before_end_ascii p (x ∷ xs) h =
+    either_ascii (list_all p (x ∷ xs)) [] (x ∷ before_end p xs) IsAscii-nil (IsAscii-cons x (before_end p xs) (h 0) (before_end_ascii p xs (λ i. h (suc i))))
+
+small_ascii : (x : ℕ) (xs : List ℕ) → x < 58 → IsAscii xs → IsAscii (x ∷ xs)
+small_ascii x xs h k = IsAscii-cons x xs (omega arith) k
+
+-- five digits without the zeros behind
+pub places_utf8 : (a b c d e : ℕ) → a < 58 → b < 58 → c < 58 → d < 58 → e < 58 → IsUtf8 (before_end is_digit_zero (a ∷ b ∷ c ∷ d ∷ e ∷ []))
+places_utf8 a b c d e h i j k l =
+    let five : IsAscii (e ∷ []) = small_ascii e [] l IsAscii-nil in
+    let four : IsAscii (d ∷ e ∷ []) = small_ascii d (e ∷ []) k five in
+    let three : IsAscii (c ∷ d ∷ e ∷ []) = small_ascii c (d ∷ e ∷ []) j four in
+    let two : IsAscii (b ∷ c ∷ d ∷ e ∷ []) = small_ascii b (c ∷ d ∷ e ∷ []) i three in
+    let one : IsAscii (a ∷ b ∷ c ∷ d ∷ e ∷ []) = small_ascii a (b ∷ c ∷ d ∷ e ∷ []) h two in
+    IsUtf8-from_ascii (before_end is_digit_zero (a ∷ b ∷ c ∷ d ∷ e ∷ [])) (before_end_ascii is_digit_zero (a ∷ b ∷ c ∷ d ∷ e ∷ []) one)

@@ -20,11 +20,11 @@ use Rattle.ha_value.proofs.NumberLemmas.{nearer_zero, nearest-parts, nearest-exa
 
 -- ---- tests of digits
 
-and_left : (a b : Bool) → (a && b) ≡ true → a ≡ true
+pub and_left : (a b : Bool) → (a && b) ≡ true → a ≡ true
 and_left true b h = refl
 and_left false b h = h
 
-and_right : (a b : Bool) → (a && b) ≡ true → b ≡ true
+pub and_right : (a b : Bool) → (a && b) ≡ true → b ≡ true
 and_right true b h = h
 and_right false b h = absurd (cc)
 
@@ -157,9 +157,9 @@ half_away (c ∷ cs) l h n =
     let value : digit_value c ≡ c - 48 = digit_is c one in
     let rest : digits_value 10 cs < 10 ^ length cs = value-lt cs (and_right (is_ascii_digit c) _ h) in
     rw (value-cons c cs, pow-suc 10 (length cs)) (⊎_elim
-        (λ (less : c < 53). cmp_less c 53 less ∙ sym (cmp_less _ _ (below_half (digit_value c) (10 ^ length cs) (digits_value 10 cs) (omega arith) rest)))
-        (λ (more : 53 ≤ c). cmp_greater c 53 (omega arith) ∙ sym (cmp_greater _ _ (above_half (digit_value c) (10 ^ length cs) (digits_value 10 cs) (omega arith) (omega arith))))
-        (cases_lt c 53))
+    (λ (less : c < 53). cmp_less c 53 less ∙ sym (cmp_less _ _ (below_half (digit_value c) (10 ^ length cs) (digits_value 10 cs) (omega arith) rest)))
+    (λ (more : 53 ≤ c). cmp_greater c 53 (omega arith) ∙ sym (cmp_greater _ _ (above_half (digit_value c) (10 ^ length cs) (digits_value 10 cs) (omega arith) (omega arith))))
+    (cases_lt c 53))
 
 five : (ds : List ℕ) → 0 < length ds → get_or ds 0 0 ≡ 53 →
     2 * digits_value 10 ds ≡ 10 ^ length ds + 2 * digits_value 10 (take (length ds - 1) (drop 1 ds))
@@ -191,7 +191,7 @@ scaled_fits v n h l =
 nearer-scale : (q r d : ℕ) → nearer q (r * 1_000_000) (d * 1_000_000) ≡ nearer q r d
 nearer-scale q r d = grind (arith, nat_tests)
 
-short_places : (v k : ℕ) → k ≤ 6 → nearest (v * 1_000_000) (10 ^ k) ≡ v * 10 ^ (6 - k)
+pub short_places : (v k : ℕ) → k ≤ 6 → nearest (v * 1_000_000) (10 ^ k) ≡ v * 10 ^ (6 - k)
 short_places v k h =
     let sum : (6 - k) + k ≡ 6 = omega arith in
     let whole : 10 ^ ((6 - k) + k) ≡ 10 ^ (6 - k) * 10 ^ k = pow-add 10 (6 - k) k in
@@ -224,14 +224,14 @@ places_value ds kept e h = ⊎_elim long short (cases_lt 6 (length ds))
         let front : length (take 6 ds) ≡ 6 = length-take-le 6 ds (omega arith) in
         let scale : digits_value 10 (take 6 ds) * 10 ^ (6 - length (take 6 ds)) ≡ digits_value 10 (take 6 ds) = rw front (omega arith) in
         let value : digits_value 10 ds ≡ digits_value 10 (take 6 ds) * 10 ^ length (drop 6 ds) + digits_value 10 (drop 6 ds) =
-            ap (digits_value 10) (sym (take-append-drop 6 ds)) ∙ value-append (take 6 ds) (drop 6 ds) in
+        ap (digits_value 10) (sym (take-append-drop 6 ds)) ∙ value-append (take 6 ds) (drop 6 ds) in
         let long_by : length ds ≡ length (drop 6 ds) + 6 = omega (arith, length-drop 6 ds) in
         let power : 10 ^ length ds ≡ 10 ^ length (drop 6 ds) * 1_000_000 = ap (λ n. 10 ^ n) long_by ∙ pow-add 10 (length (drop 6 ds)) 6 in
         let less : digits_value 10 (drop 6 ds) < 10 ^ length (drop 6 ds) = value-lt (drop 6 ds) (list_all-drop 6 ds h) in
         rw six (ap (λ q. nearer q (digits_value 10 (drop 6 ds)) (10 ^ length (drop 6 ds))) scale
-            ∙ sym (long_places (digits_value 10 (take 6 ds)) (10 ^ length (drop 6 ds)) (digits_value 10 (drop 6 ds)) less)
-            ∙ ap (λ n. nearest (n * 1_000_000) (10 ^ length (drop 6 ds) * 1_000_000)) (sym value)
-            ∙ ap (λ n. nearest (digits_value 10 ds * 1_000_000) n) (sym power))
+        ∙ sym (long_places (digits_value 10 (take 6 ds)) (10 ^ length (drop 6 ds)) (digits_value 10 (drop 6 ds)) less)
+        ∙ ap (λ n. nearest (n * 1_000_000) (10 ^ length (drop 6 ds) * 1_000_000)) (sym value)
+        ∙ ap (λ n. nearest (digits_value 10 ds * 1_000_000) n) (sym power))
 
     short : length ds ≤ 6 → nearer (digits_value 10 (take kept ds) * 10 ^ (6 - length (take kept ds))) (digits_value 10 (drop kept ds)) (10 ^ length (drop kept ds)) ≡ nearest (digits_value 10 ds * 1_000_000) (10 ^ length ds)
     short l =
@@ -307,12 +307,12 @@ pub fixed-no_units : (minus : Bool) (w p : List ℕ) → ((some_all is_ascii_dig
     option_and_then kept_in_range (number_from minus w (Some p)) ≡ None
 fixed-no_units minus w p never = ⊎_elim
     (λ (d : some_all is_ascii_digit w ≡ true). ⊎_elim
-        (λ (e : some_all is_ascii_digit p ≡ true). fixed-some minus w p d e ∙ ⊎_elim
-            (λ (l : 1_000_000_000_000 < digits_value 10 w). fixed_dropped minus _ (omega arith))
-            (λ (l : digits_value 10 w ≤ 1_000_000_000_000). absurd (never (d, l)))
-            (cases_lt 1_000_000_000_000 (digits_value 10 w)))
-        (λ (e : some_all is_ascii_digit p ≡ false). fixed-no_places minus w p (λ t. absurd (cc (e, t))))
-        (test_cases (some_all is_ascii_digit p)))
+    (λ (e : some_all is_ascii_digit p ≡ true). fixed-some minus w p d e ∙ ⊎_elim
+    (λ (l : 1_000_000_000_000 < digits_value 10 w). fixed_dropped minus _ (omega arith))
+    (λ (l : digits_value 10 w ≤ 1_000_000_000_000). absurd (never (d, l)))
+    (cases_lt 1_000_000_000_000 (digits_value 10 w)))
+    (λ (e : some_all is_ascii_digit p ≡ false). fixed-no_places minus w p (λ t. absurd (cc (e, t))))
+    (test_cases (some_all is_ascii_digit p)))
     (λ (d : some_all is_ascii_digit w ≡ false). rw d refl)
     (test_cases (some_all is_ascii_digit w))
 

@@ -2,3 +2,4 @@ mod Pins
 pub mod CutLemmas
 pub mod NumberLemmas
 pub mod DigitLemmas
+pub mod PrintLemmas

@@ -5,7 +5,7 @@ use lib.IntN.{*ℤ_comm}
 use Rattle.std.proofs.lemmas.Bool.{cases_lt}
 use Rattle.std.proofs.lemmas.Bool.Decides.{nat_tests}
 use Rattle.std.proofs.lemmas.Int.{ints}
-use Rattle.std.proofs.lemmas.Nat.{div-mul-add, mod-mul-add, div-add-mod'}
+use Rattle.std.proofs.lemmas.Nat.{div-mul-add, mod-mul-add, mod_below, div-add-mod'}
 use Rattle.ha_value.specs.Numbers.{nearer, nearest, rounded}
 
 pub nearer-cases : (q r d : ℕ) → 0 < d → (nearer q r d ≡ q) ⊎ ((nearer q r d ≡ q + 1) × (0 < r))
@@ -86,3 +86,65 @@ rounded-scale_right a b = ap (λ z. rounded z (pos 1_000_000)) (scale_right a b 
 pub ruleset rounding = (nearest_multiple-le, rounded-times_neg)
 
 pub ruleset products = (rounded-scale_left, rounded-scale_right)
+
+-- ---- what is nearest is near
+
+less_test : (a b : ℕ) → a < b → ltb a b ≡ true
+less_test a b h = grind (arith, nat_tests)
+
+not_less_test : (a b : ℕ) → b ≤ a → ltb a b ≡ false
+not_less_test a b h = grind (arith, nat_tests)
+
+record IsLow (q r d : ℕ) : Type 0 where
+  half : 2 * r ≤ d
+  value : nearer q r d ≡ q
+  tie : 2 * r ≡ d → q % 2 ≡ 0
+
+record IsHigh (q r d : ℕ) : Type 0 where
+  half : d ≤ 2 * r
+  value : nearer q r d ≡ q + 1
+  tie : 2 * r ≡ d → (q + 1) % 2 ≡ 0
+
+tied : (q r d : ℕ) → 2 * r ≡ d → IsLow q r d ⊎ IsHigh q r d
+tied q r d e = ⊎_elim
+    (λ (odd : 0 < q % 2). inr (record {
+        half = omega arith;
+        value = rw (not_less_test (2 * r) d (omega arith), not_less_test d (2 * r) (omega arith)) (omega arith);
+        tie = λ t. omega arith }))
+    (λ (even : q % 2 ≤ 0). inl (record {
+        half = omega arith;
+        value = rw (not_less_test (2 * r) d (omega arith), not_less_test d (2 * r) (omega arith)) (omega arith);
+        tie = λ t. omega arith }))
+    (cases_lt 0 (q % 2))
+
+sides : (q r d : ℕ) → IsLow q r d ⊎ IsHigh q r d
+sides q r d = ⊎_elim
+    (λ (less : 2 * r < d). inl (record { half = omega arith; value = rw (less_test (2 * r) d less) refl; tie = λ t. absurd (omega arith) }))
+    (λ (rest : d ≤ 2 * r). ⊎_elim
+        (λ (more : d < 2 * r). inr (record { half = rest; value = rw (not_less_test (2 * r) d rest, less_test d (2 * r) more) refl; tie = λ t. absurd (omega arith) }))
+        (λ (same : 2 * r ≤ d). tied q r d (omega arith))
+        (cases_lt d (2 * r)))
+    (cases_lt (2 * r) d)
+
+pub record IsNear (n d v : ℕ) : Type 0 where
+  pub below : 2 * (v * d) ≤ 2 * n + d
+  pub above : 2 * n ≤ 2 * (v * d) + d
+  pub even_below : 2 * (v * d) ≡ 2 * n + d → v % 2 ≡ 0
+  pub even_above : 2 * n ≡ 2 * (v * d) + d → v % 2 ≡ 0
+
+near : (q r d n : ℕ) → 0 < d → q * d + r ≡ n → r < d → IsNear n d (nearer q r d)
+near q r d n p e l = ⊎_elim
+    (λ (s : IsLow q r d). rw s.value (record {
+        below = omega arith;
+        above = omega (arith, s.half);
+        even_below = λ t. absurd (omega arith);
+        even_above = λ t. s.tie (omega arith) }))
+    (λ (s : IsHigh q r d). rw s.value (record {
+        below = omega (arith, s.half);
+        above = omega arith;
+        even_below = λ t. s.tie (omega arith);
+        even_above = λ t. absurd (omega arith) }))
+    (sides q r d)
+
+pub nearest-IsNear : (n d : ℕ) → 0 < d → IsNear n d (nearest n d)
+nearest-IsNear n d h = near (n / d) (n % d) d n h (div-add-mod' n d) (mod_below n d h)

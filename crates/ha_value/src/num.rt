@@ -4,6 +4,7 @@ ghost use Rattle.ha_value.specs.Numbers.{compare, is_in_range, is_zero, milliont
 
 mod arithmetic;
 mod exact;
+mod print;
 mod read;
 mod round;
 

@@ -1,6 +1,6 @@
 //! Arithmetic. Intermediate values have 128 bits, so every result is exact before its range is tested.
-ghost use Rattle.std.specs.Prelude.{◌≡◌, ◌<◌, ◌≤◌, ◌^◌, ◌-ℤ◌, ◌*ℤ◌, pos, false, unsigned_abs};
-ghost use Rattle.ha_value.specs.Numbers.{is_zero};
+ghost use Rattle.std.specs.Prelude.{◌≡◌, ◌<◌, ◌≤◌, ◌^◌, ◌-ℤ◌, ◌*ℤ◌, pos, true, false, unsigned_abs, IfOk};
+ghost use Rattle.ha_value.specs.Numbers.{is_in_range, is_zero};
 ghost use Rattle.ha_value.specs.Arithmetic.{absolute, add, checked, div, floor_div, floored_quotient, modulo, mul, negate, sub, to_fixed};
 
 use crate::num::exact::{floor, remainder, rounded};
@@ -9,7 +9,8 @@ use crate::value::Num;
 
 /// The whole number, where it is in range.
 fn whole(value: i128) -> Result<Num, NumFault>
-    ensures { result ≡ checked (Num.Whole value) }
+    ensures value { result ≡ checked (Num.Whole value) }
+    ensures in_range { IfOk result (λ n. is_in_range n ≡ true) }
 {
     if value.unsigned_abs() <= WHOLE_LIMIT as u128 {
         Ok(Num::Whole(value as i64))
@@ -20,7 +21,8 @@ fn whole(value: i128) -> Result<Num, NumFault>
 
 /// The number of that many millionths, where it is in range.
 fn fixed(value: i128) -> Result<Num, NumFault>
-    ensures { result ≡ checked (Num.Fixed value) }
+    ensures value { result ≡ checked (Num.Fixed value) }
+    ensures in_range { IfOk result (λ n. is_in_range n ≡ true) }
 {
     if value.unsigned_abs() <= FIXED_LIMIT as u128 {
         Ok(Num::Fixed(value as i64))
@@ -67,7 +69,8 @@ impl Num {
     /// The sum: whole where both numbers are, else fixed-point.
     #[tactic(auto, unfolding(crate::specs::Arithmetic::add))]
     pub fn add(&self, other: &Num) -> Result<Num, NumFault>
-        ensures { result ≡ add self.now other.now }
+        ensures value { result ≡ add self.now other.now }
+        ensures in_range { IfOk result (λ n. is_in_range n ≡ true) }
     {
         match (*self, *other) {
             (Num::Whole(a), Num::Whole(b)) => whole(a as i128 + b as i128),
@@ -78,7 +81,8 @@ impl Num {
     /// The difference: whole where both numbers are, else fixed-point.
     #[tactic(auto, unfolding(crate::specs::Arithmetic::sub))]
     pub fn sub(&self, other: &Num) -> Result<Num, NumFault>
-        ensures { result ≡ sub self.now other.now }
+        ensures value { result ≡ sub self.now other.now }
+        ensures in_range { IfOk result (λ n. is_in_range n ≡ true) }
     {
         match (*self, *other) {
             (Num::Whole(a), Num::Whole(b)) => whole(difference(a as i128, b as i128)),
@@ -89,7 +93,8 @@ impl Num {
     /// The product: whole where both numbers are, else fixed-point and rounded half to even.
     #[tactic(auto, using(crate::proofs::NumberLemmas::products), unfolding(crate::specs::Arithmetic::mul))]
     pub fn mul(&self, other: &Num) -> Result<Num, NumFault>
-        ensures { result ≡ mul self.now other.now }
+        ensures value { result ≡ mul self.now other.now }
+        ensures in_range { IfOk result (λ n. is_in_range n ≡ true) }
     {
         match (*self, *other) {
             (Num::Whole(a), Num::Whole(b)) => whole(product(a, b)),
@@ -102,7 +107,8 @@ impl Num {
     /// The quotient, always fixed-point and rounded half to even.
     #[tactic(auto, unfolding(crate::specs::Arithmetic::div))]
     pub fn div(&self, other: &Num) -> Result<Num, NumFault>
-        ensures { result ≡ div self.now other.now }
+        ensures value { result ≡ div self.now other.now }
+        ensures in_range { IfOk result (λ n. is_in_range n ≡ true) }
     {
         if other.is_zero() {
             return Err(NumFault::Zero);
@@ -113,7 +119,8 @@ impl Num {
     /// The greatest whole value that is not above the quotient; fixed-point unless both numbers are whole.
     #[tactic(auto, unfolding(crate::specs::Arithmetic::floor_div))]
     pub fn floor_div(&self, other: &Num) -> Result<Num, NumFault>
-        ensures { result ≡ floor_div self.now other.now }
+        ensures value { result ≡ floor_div self.now other.now }
+        ensures in_range { IfOk result (λ n. is_in_range n ≡ true) }
     {
         if other.is_zero() {
             return Err(NumFault::Zero);
@@ -127,7 +134,8 @@ impl Num {
     /// `a - b * (a // b)`, also where `a // b` would be out of range.
     #[tactic(auto, unfolding(crate::specs::Arithmetic::modulo))]
     pub fn modulo(&self, other: &Num) -> Result<Num, NumFault>
-        ensures { result ≡ modulo self.now other.now }
+        ensures value { result ≡ modulo self.now other.now }
+        ensures in_range { IfOk result (λ n. is_in_range n ≡ true) }
     {
         if other.is_zero() {
             return Err(NumFault::Zero);
@@ -141,7 +149,8 @@ impl Num {
     /// The number with the other sign; Range comes only where the number is itself out of range.
     #[tactic(auto, unfolding(crate::specs::Arithmetic::negate))]
     pub fn negate(&self) -> Result<Num, NumFault>
-        ensures { result ≡ negate self.now }
+        ensures value { result ≡ negate self.now }
+        ensures in_range { IfOk result (λ n. is_in_range n ≡ true) }
     {
         match self {
             Num::Whole(a) => whole(-(*a as i128)),
@@ -152,7 +161,8 @@ impl Num {
     /// The number without its sign; Range comes only where the number is itself out of range.
     #[tactic(auto, unfolding(crate::specs::Arithmetic::absolute))]
     pub fn absolute(&self) -> Result<Num, NumFault>
-        ensures { result ≡ absolute self.now }
+        ensures value { result ≡ absolute self.now }
+        ensures in_range { IfOk result (λ n. is_in_range n ≡ true) }
     {
         match self {
             Num::Whole(a) => whole((*a as i128).abs()),
@@ -163,7 +173,8 @@ impl Num {
     /// The same value as a fixed-point number; Range comes only where the number is itself out of range.
     #[tactic(auto, unfolding(crate::specs::Arithmetic::to_fixed))]
     pub fn to_fixed(&self) -> Result<Num, NumFault>
-        ensures { result ≡ to_fixed self.now }
+        ensures value { result ≡ to_fixed self.now }
+        ensures in_range { IfOk result (λ n. is_in_range n ≡ true) }
     {
         fixed(self.millionths())
     }

@@ -5,7 +5,7 @@ ghost use Rattle.std.specs.List.{list_all};
 ghost use Rattle.std.specs.Ordering.{nat_cmp};
 ghost use Rattle.std.specs.Str.Parse.{digits_value};
 ghost use Rattle.ha_value.specs.Lists.{some_all};
-ghost use Rattle.ha_value.specs.Numbers.{has_minus, kept_in_range, nearer, nearest, number_from, read_number, signed, without_sign};
+ghost use Rattle.ha_value.specs.Numbers.{has_minus, is_in_range, kept_in_range, nearer, nearest, number_from, read_number, signed, without_sign};
 
 use crate::cut::cut_at;
 use crate::num::{FIXED_LIMIT, WHOLE_LIMIT};
@@ -159,7 +159,8 @@ fn scaled(places: &[u8]) -> u64
 /// The number of that many millionths, where it is in range.
 fn fixed(minus: bool, millionths: u64) -> Option<Num>
     requires { millionths < 2 ^ 63 }
-    ensures { result ≡ kept_in_range (Num.Fixed (signed minus millionths)) }
+    ensures value { result ≡ kept_in_range (Num.Fixed (signed minus millionths)) }
+    ensures in_range { IfSome result (λ n. is_in_range n ≡ true) }
 {
     if millionths <= FIXED_LIMIT {
         Some(Num::Fixed(signed(minus, millionths)))
@@ -171,7 +172,8 @@ fn fixed(minus: bool, millionths: u64) -> Option<Num>
 /// Digits without a dot.
 #[tactic(auto, using(crate::proofs::DigitLemmas::reads))]
 fn whole_number(minus: bool, whole: &[u8]) -> Option<Num>
-    ensures { result ≡ option_and_then kept_in_range (number_from minus whole.now None) }
+    ensures value { result ≡ option_and_then kept_in_range (number_from minus whole.now None) }
+    ensures in_range { IfSome result (λ n. is_in_range n ≡ true) }
 {
     match units_of(whole) {
         None => None,
@@ -182,7 +184,8 @@ fn whole_number(minus: bool, whole: &[u8]) -> Option<Num>
 /// The digits before a dot and those behind it.
 #[tactic(auto, using(crate::proofs::DigitLemmas::reads))]
 fn fixed_number(minus: bool, whole: &[u8], places: &[u8]) -> Option<Num>
-    ensures { result ≡ option_and_then kept_in_range (number_from minus whole.now (Some places.now)) }
+    ensures value { result ≡ option_and_then kept_in_range (number_from minus whole.now (Some places.now)) }
+    ensures in_range { IfSome result (λ n. is_in_range n ≡ true) }
 {
     match units_of(whole) {
         None => None,
@@ -197,7 +200,8 @@ impl Num {
     /// The number of a text. None where the text is no number text, and where its number is out of range after rounding.
     #[tactic(auto, unfolding(crate::specs::Numbers::read_number))]
     pub fn read(text: &[u8]) -> Option<Num>
-        ensures { result ≡ read_number text.now }
+        ensures value { result ≡ read_number text.now }
+        ensures in_range { IfSome result (λ n. is_in_range n ≡ true) }
     {
         let minus = has_minus(text);
         let (whole, places) = cut_at(without_sign(text), b'.');

@@ -1,0 +1,24 @@
+//! Why a call of the engine's parts has no answer.
+use thiserror::Error;
+
+/// Why a template has no text or value.
+#[derive(Clone, Copy, Debug, PartialEq, Eq, Drop, Error)]
+pub enum TplFault {
+    /// The meaning of the template is a fault.
+    #[error("template fault")]
+    Fault,
+    /// Memory ran out.
+    #[error("no memory")]
+    Memory,
+}
+
+/// Why an entry was not put.
+#[derive(Clone, Copy, Debug, PartialEq, Eq, Drop, Error)]
+pub enum CoreFault {
+    /// Memory ran out. The core is spent, its journal and records as before.
+    #[error("no memory")]
+    Memory,
+    /// The journal has 1,048,576 entries. All is as before.
+    #[error("journal full")]
+    Full,
+}
