@@ -1,37 +1,24 @@
 -- Scripts alone: loops, blocks, parallel lists, calls of automations, and failures.
-use Rattle.std.proofs.Common.{◌≡◌, ℕ, List, [], ◌∷◌, true, false}
+use Rattle.std.proofs.Common.{◌≡◌, [], ◌∷◌, true, false}
 use Rattle.std.specs.Fmt.{digits}
-use Rattle.std.specs.Prelude.{Option, Some, None, codes, pos}
-use Rattle.ha_value.specs.declared.value.Num.{Num}
-use Rattle.ha_value.specs.declared.value.EntityId.{EntityId}
+use Rattle.std.specs.Prelude.{Option, Some, None, codes}
 use Rattle.ha_value.specs.declared.value.Value.{Value}
 use Rattle.ha_value.specs.declared.value.Value.TheVariants.{outs-Flag, outs-Number, outs-Pairs}
-use Rattle.ha_value.specs.declared.value.Value.TheOpen.{Value-F}
-use Rattle.ha_value.specs.declared.value.Value.TheViews.{roll-Value, out-roll-Value}
+use Rattle.ha_value.specs.declared.value.Value.TheViews.{out-roll-Value}
 use Rattle.ha_value.specs.Ids.{read_entity}
 use Rattle.ha_value.specs.Numbers.{read_number, print_number}
 use Rattle.ha_value.specs.Arithmetic.{add}
 use Rattle.ha_clock.specs.SpanText.{span_of, span_seconds, number_of, number_from}
-use Rattle.ha_model.specs.declared.template.Expr.{Expr}
-use Rattle.ha_model.specs.declared.template.Op.{Op}
-use Rattle.ha_model.specs.declared.template.Expr.TheOpen.{Expr-F}
-use Rattle.ha_model.specs.declared.template.Expr.TheViews.{roll-Expr}
-use Rattle.ha_model.specs.declared.config.Form.{Form}
 use Rattle.ha_model.specs.declared.config.Form.TheOpen.{Form-F}
 use Rattle.ha_model.specs.declared.config.Form.TheViews.{roll-Form}
 use Rattle.ha_model.specs.declared.config.SpanForm.{SpanForm}
 use Rattle.ha_model.specs.declared.config.RepeatKind.{RepeatKind}
-use Rattle.ha_model.specs.declared.config.Condition.TheOpen.{Condition-F}
-use Rattle.ha_model.specs.declared.config.Condition.TheViews.{roll-Condition}
-use Rattle.ha_model.specs.declared.config.Action.{Action}
 use Rattle.ha_model.specs.declared.config.ActionKind.TheOpen.{ActionKind-F}
 use Rattle.ha_model.specs.declared.journal.Item.{Item}
-use Rattle.ha_model.specs.Words.{Text}
-use Rattle.ha_model.specs.States.{Sight}
-use Rattle.ha_model.specs.Scripts.{Spot, Outcome, Status, whole, turns}
-use Rattle.ha_model.specs.WorkedHall.{text_template, show, act, call}
+use Rattle.ha_model.specs.Scripts.{Outcome, Status, whole, turns}
+use Rattle.ha_model.specs.WorkedHall.{text_template, act, call}
 use Rattle.ha_model.proofs.Rolls.{rolls}
-use Rattle.ha_model.specs.WorkedScripts.{seen, at, number, literal, n_name, said, set_n, thing, notify, notify_n, N, apart, colours, raised, false_inside, delays}
+use Rattle.ha_model.specs.WorkedScripts.{at, number, notify, N, apart, colours, raised, false_inside, delays}
 
 pub six_steps : (whole apart [] (at 1 [] ∷ at 2 [] ∷ at 3 (0 ∷ []) ∷ at 4 (1 ∷ []) ∷ at 5 (0 ∷ []) ∷ at 6 [] ∷ []))
     ≡ Some (record { items = N ∷ N ∷ N ∷ notify (codes "notify.b") 1 ∷ notify (codes "notify.a") 2 ∷ notify (codes "notify.c") 1 ∷ []; status = Status.Done })

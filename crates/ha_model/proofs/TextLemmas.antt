@@ -1,14 +1,11 @@
 -- The texts of a journal with one more entry.
-use Rattle.std.proofs.Common.{◌≡◌, ℕ, zero, suc, ◌-◌, List, [], ◌∷◌, ◌++◌, Bool, false, refl, sym, ap, subst, ◌∙◌, Option, append_assoc}
-use Rattle.std.specs.Prelude.{Some, None}
-use Rattle.std.specs.Option.{option_map_or}
+use Rattle.std.proofs.Common.{◌≡◌, ℕ, List, [], ◌∷◌, ◌++◌, false, refl, sym, ap, ◌∙◌, append_assoc}
 use Rattle.ha_model.specs.declared.journal.Entry.{Entry}
-use Rattle.ha_model.specs.declared.journal.Record.{Record}
 use Rattle.ha_model.specs.Words.{Text}
 use Rattle.ha_model.specs.Journal.{Journal, HasEntry, automations}
 use Rattle.ha_model.specs.RecordSteps.{more}
 use Rattle.ha_model.specs.Records.{Records}
-use Rattle.ha_model.specs.Commands.{Placed, placed_line, placed_from, lines_of}
+use Rattle.ha_model.specs.Commands.{placed_line, placed_from, lines_of}
 use Rattle.ha_model.specs.Texts.{texts_after, call_text_of, call_text, error_text_of, error_text, trace_line, trace_text}
 use Rattle.ha_model.proofs.RecordGrowth.{automations-more}
 

@@ -63,7 +63,7 @@ ended-by j r p (suc m) le h = by (leb_tells (suc p) m) (λ le'. ended-by j r p m
     by (inl (t, le')) ih = later (omega arith) (end_below j r None m) (or_else (own_end (through j m) r) (replaced (through j m) r None)) (ih le')
     by (inr (f, lt)) ih =
         (let same : suc m ≡ suc p = omega arith in
-          (λ i. option_map_or (λ e. nat_le e.0 p) (end_below j r None (same i)) false) ∙ within (end_below j r None (suc p)) (below-ends j r None (suc p) (omega arith)))
+        (λ i. option_map_or (λ e. nat_le e.0 p) (end_below j r None (same i)) false) ∙ within (end_below j r None (suc p)) (below-ends j r None (suc p) (omega arith)))
 
 -- ---- a record with its end and begin, against the bare one
 
@@ -116,7 +116,7 @@ count-alike j a p lt mode (f ∷ fs) (r ∷ rs) h m =
     here : nat_eq r.automation a ≡ true → now ≡ end_below j r None (suc p)
     here e =
         let mode' : is_restart_mode (mode_of (automations (through j p)) r.automation) ≡ false
-            = (λ i. is_restart_mode (mode_of (automations-through j p i) (eqb-true r.automation a e i))) ∙ mode in
+        = (λ i. is_restart_mode (mode_of (automations-through j p i) (eqb-true r.automation a e i))) ∙ mode in
         let len : length (through j p) ≡ suc p = length-take-le (suc p) j lt in
         end-any-next (through j p) r (next_place r.automation rs) (length (through j p)) mode'
         ∙ (λ i. end_below (through j p) r None (len i)) ∙ end-through j r None p (suc p) (omega arith)

@@ -103,7 +103,7 @@ ends-told j r e b c next late (suc p) le =
     here =
         (λ i. option_map {T = EndCause} {U = ℕ × EndCause} (λ x. (place i, x)) (or_else (own_told i) (replaced_told i)))
         ∙ (λ i. option_map {T = EndCause} {U = ℕ × EndCause} (λ x. (p, x)) (or-assoc (ended_by_script k r) (if nat_lt r.place p then outer_cause k r else None)
-          (if is_restart_mode (mode_of (automations j) r.automation) && option_map_or (λ q. nat_eq q p) next false then Some EndCause.Replaced else None) i))
+        (if is_restart_mode (mode_of (automations j) r.automation) && option_map_or (λ q. nat_eq q p) next false then Some EndCause.Replaced else None) i))
 
 -- in an automation that is not of mode restart, an end at q is the entry's own
 record OwnEnd (j : Journal) (r : Record) (n q : ℕ) (c : EndCause) : Type 0 where
@@ -117,7 +117,7 @@ own-of j r (suc p) le m q c h = by (end_below j r None p) refl (own_end (through
     plain : or_else (end_below j r None p) (at_place p (own_end (through j p) r)) ≡ end_below j r None (suc p)
     plain =
         let none : replaced (through j p) r None ≡ None
-            = (λ i. if ((λ i. is_restart_mode (mode_of (automations-through j p i) r.automation)) ∙ m) i && false then Some EndCause.Replaced else None) in
+        = (λ i. if ((λ i. is_restart_mode (mode_of (automations-through j p i) r.automation)) ∙ m) i && false then Some EndCause.Replaced else None) in
         let or_none : or_else (own_end (through j p) r) None ≡ own_end (through j p) r = both (own_end (through j p) r) in
         (λ i. or_else (end_below j r None p) (at_place (sym (last-through j p le) i) (sym or_none i)))
         ∙ (λ i. or_else (end_below j r None p) (at_place (last_place (through j p)) (or_else (own_end (through j p) r) (sym none i))))
@@ -414,20 +414,24 @@ told-from j right m (r ∷ rs) back told sorted carried whole =
     let one = e j r next back told in
     let made = f j r next back told in
     let index : slice_get (records_of j) (length told) ≡ Some made
-        = (λ i. slice_get (whole i) (length told)) ∙ get-middle told made (with_begins j (one ∷ back) (with_ends j rs)) in
+    = (λ i. slice_get (whole i) (length told)) ∙ get-middle told made (with_begins j (one ∷ back) (with_ends j rs)) in
     let runs : RunsAt j r next back told = λ q lt step.
-        and_left (option_map_or (λ b. nat_lt b q) (B j r next back told) false) (option_map_or (λ e. nat_le q e.0) (E j r next back told) true)
-        (step-runs j (records_of j) (length told) q made right.entries lt index (serial-at j (length told) made index) step) in
+    and_left (option_map_or (λ b. nat_lt b q) (B j r next back told) false) (option_map_or (λ e. nat_le q e.0) (E j r next back told) true)
+    (step-runs j (records_of j) (length told) q made right.entries lt index (serial-at j (length told) made index) step) in
     let here : Carried j r.place back told = record { past = past-later j m r.place sorted.0 back carried.past; unended = carried.unended; last = carried.last; queue = carried.queue } in
     let rest = told-from j right r.place rs (one ∷ back) (told ++ (made ∷ [])) sorted.1 (carry j r next back told runs here)
-        (whole ∙ sym (append_assoc told (made ∷ []) (with_begins j (one ∷ back) (with_ends j rs)))) in
-    ((record {
-        begin = begins j r next back told here;
-        end = ends-told j r (end_below j r next (length j)) made.begin made.calls next (late j r next back told runs) (length j) (omega arith)
-          ∙ (λ i. first_below (cause_at j made (sym (next-begins j j r.automation (one ∷ back) rs) i)) (length j));
-        calls = refl;
-      }, rest.0),
-      (begins-near j r next back told here, rest.1))
+    (whole ∙ sym (append_assoc told (made ∷ []) (with_begins j (one ∷ back) (with_ends j rs)))) in (
+      (
+        record {
+          begin = begins j r next back told here;
+          end = ends-told j r (end_below j r next (length j)) made.begin made.calls next (late j r next back told runs) (length j) (omega arith)
+              ∙ (λ i. first_below (cause_at j made (sym (next-begins j j r.automation (one ∷ back) rs) i)) (length j));
+          calls = refl;
+        },
+        rest.0,
+      ),
+      (begins-near j r next back told here, rest.1),
+    )
 
 both-told : (j : Journal) → Right j (records_of j) → AreTold j [] (records_of j) × AreNear j [] (records_of j)
 both-told j right =

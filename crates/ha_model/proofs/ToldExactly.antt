@@ -1,24 +1,23 @@
 -- No other list than that of `records_of` is the one of the rules.
-use Rattle.std.proofs.Common.{◌≡◌, ℕ, zero, suc, ◌+◌, ◌<◌, ◌≤◌, ◌⊎◌, inl, inr, List, [], ◌∷◌, ◌++◌, length, map, Bool, true, false, cond, refl, sym, ap, subst, ◌∙◌, arith, Option, append_assoc}
+use Rattle.std.proofs.Common.{◌≡◌, ℕ, zero, suc, ◌+◌, ◌<◌, ◌≤◌, ◌⊎◌, inl, inr, List, [], ◌∷◌, ◌++◌, length, map, Bool, true, false, cond, refl, sym, subst, ◌∙◌, arith, Option, append_assoc}
 use Rattle.std.specs.Prelude.{Some, None, is_some, slice_get, nat_eq, nat_le, nat_lt, count_by, fold, option_map, if◌then◌else◌}
 use Rattle.std.specs.List.{list_any}
 use Rattle.std.specs.Option.{option_map_or}
 use Rattle.std.proofs.lemmas.Bool.Decides.{leb_tells}
 use Rattle.ha_model.specs.declared.config.Mode.{Mode}
 use Rattle.ha_model.specs.declared.journal.EndCause.{EndCause}
-use Rattle.ha_model.specs.declared.journal.Entry.{Entry}
 use Rattle.ha_model.specs.declared.journal.Record.{Record}
 use Rattle.ha_model.specs.Words.{EachAfter}
-use Rattle.ha_model.specs.Journal.{Journal, IsJournal, automations}
+use Rattle.ha_model.specs.Journal.{Journal, automations}
 use Rattle.ha_model.specs.Attempts.{Attempt}
 use Rattle.ha_model.specs.Records.{Records, through, passing, mode_of, is_restart_mode, last_is, is_step_of, end_below, next_place, with_ends, bare, or_else, end_here, with_begins, records_of, last_record, begin_of, calls_of}
-use Rattle.ha_model.specs.Lawful.{Right, IsRightEntry, is_running}
-use Rattle.ha_model.specs.Told.{Tried, tried_at, passing_below, has_ended_by, is_unended, is_admitted, IsRecordOf, HaveRecords, cause_at, first_below, last_among, begins_behind, told_begin, IsTold, AreTold, ByTheRules}
+use Rattle.ha_model.specs.Lawful.{IsRightEntry}
+use Rattle.ha_model.specs.Told.{Tried, tried_at, passing_below, has_ended_by, is_unended, IsRecordOf, HaveRecords, last_among, begins_behind, told_begin, AreTold, ByTheRules}
 use Rattle.ha_model.proofs.EqualLemmas.{and_left}
 use Rattle.ha_model.proofs.RecordLaws.{last-through}
 use Rattle.ha_model.proofs.RecordGrowth.{true-false}
 use Rattle.ha_model.proofs.LawfulLaws.{none-some}
-use Rattle.ha_model.proofs.ToldAdmitted.{AllAlike, Alike, admitted-alike, admit_each, new_of, let_in_at, bare-each, ended-by, end-any-next, AllBelowPlace, below-passing, all-alike}
+use Rattle.ha_model.proofs.ToldAdmitted.{AllAlike, admitted-alike, admit_each, new_of, bare-each, AllBelowPlace, below-passing, all-alike}
 use Rattle.ha_model.proofs.ToldSteps.{step-runs}
 use Rattle.ha_model.proofs.ToldBegins.{below, SortedFrom, Carried, past-later, end-or-none, get-middle, ends-told, E, e, M, B, f, RunsAt, begins, carry}
 
@@ -124,15 +123,15 @@ again j all entries m (r ∷ rs) back told sorted carried whole rules numbers =
     let made : Record = f j r next back told in
     let index : slice_get all (length told) ≡ Some r = (λ i. slice_get (whole i) (length told)) ∙ get-middle told r rs in
     let runs_r : (q : ℕ) → q < length j → last_is (is_step_of r.serial) (through j q) ≡ true → option_map_or (λ b. nat_lt b q) r.begin false ≡ true
-        = λ q lt step. and_left (option_map_or (λ b. nat_lt b q) r.begin false) (option_map_or (λ e. nat_le q e.0) r.end true) (step-runs j all (length told) q r entries lt index numbers.0 step) in
+    = λ q lt step. and_left (option_map_or (λ b. nat_lt b q) r.begin false) (option_map_or (λ e. nat_le q e.0) r.end true) (step-runs j all (length told) q r entries lt index numbers.0 step) in
     let late_r : (q : ℕ) → q < length j → last_is (is_step_of r.serial) (through j q) ≡ true → r.place < q
-        = λ q lt step. told-late j r back told here q ((λ i. option_map_or (λ b. nat_lt b q) (sym rules.0.begin i) false) ∙ runs_r q lt step) in
+    = λ q lt step. told-late j r back told here q ((λ i. option_map_or (λ b. nat_lt b q) (sym rules.0.begin i) false) ∙ runs_r q lt step) in
     let ends : r.end ≡ E j r next back told = rules.0.end ∙ sym (ends-told j r r.end r.begin r.calls next late_r (length j) (omega arith)) in
     let begin : r.begin ≡ B j r next back told
-        = rules.0.begin
-        ∙ (λ i. told_begin (M j r next back told) told (record r { end = ends i }))
-        ∙ sym (told-same (M j r next back told) told (e j r next back told) (B j r next back told) (calls_of j r.serial))
-        ∙ sym (begins j r next back told here) in
+    = rules.0.begin
+    ∙ (λ i. told_begin (M j r next back told) told (record r { end = ends i }))
+    ∙ sym (told-same (M j r next back told) told (e j r next back told) (B j r next back told) (calls_of j r.serial))
+    ∙ sym (begins j r next back told here) in
     let same : r ≡ made = (let calls = rules.0.calls in λ i. record r { end = ends i; begin = begin i; calls = calls i }) in
     let runs : RunsAt j r next back told = λ q lt step. (λ i. option_map_or (λ b. nat_lt b q) (sym begin i) false) ∙ runs_r q lt step in
     let carried' : Carried j r.place (e j r next back told ∷ back) (told ++ (r ∷ [])) = subst (λ x. Carried j r.place (e j r next back told ∷ back) (told ++ (x ∷ []))) (sym same) (carry j r next back told runs here) in
@@ -193,7 +192,7 @@ admitted-only j [] low before (r ∷ rs) b h g = absurd g
 admitted-only j (t ∷ ts) low before [] b h g =
     admitted-only j ts low.1 before [] b tt g.1
     ∙ (let e = sym (sym (admitted-alike j t low.0 before (stripped before) (alike-stripped j before b)) ∙ g.0) in
-      λ i. if e i then new_of j (stripped before) t ∷ admit_each j (stripped before ++ (new_of j (stripped before) t ∷ [])) ts else admit_each j (stripped before) ts)
+    λ i. if e i then new_of j (stripped before) t ∷ admit_each j (stripped before ++ (new_of j (stripped before) t ∷ [])) ts else admit_each j (stripped before) ts)
 admitted-only j (t ∷ ts) low before (r ∷ rs) b h (inl g) =
     let new = new_of j (stripped before) t in
     let made : strip r ≡ new = strip-new j t low.0 before r g.1 in
@@ -201,11 +200,11 @@ admitted-only j (t ∷ ts) low before (r ∷ rs) b h (inl g) =
     ∙ (λ i. new ∷ admit_each j (stripped-snoc before r i) ts)
     ∙ (λ i. new ∷ admit_each j (stripped before ++ (made i ∷ [])) ts)
     ∙ (let e = sym (sym (admitted-alike j t low.0 before (stripped before) (alike-stripped j before b)) ∙ g.0) in
-      λ i. if e i then new ∷ admit_each j (stripped before ++ (new ∷ [])) ts else admit_each j (stripped before) ts)
+    λ i. if e i then new ∷ admit_each j (stripped before ++ (new ∷ [])) ts else admit_each j (stripped before) ts)
 admitted-only j (t ∷ ts) low before (r ∷ rs) b h (inr g) =
     admitted-only j ts low.1 before (r ∷ rs) b h g.1
     ∙ (let e = sym (sym (admitted-alike j t low.0 before (stripped before) (alike-stripped j before b)) ∙ g.0) in
-      λ i. if e i then new_of j (stripped before) t ∷ admit_each j (stripped before ++ (new_of j (stripped before) t ∷ [])) ts else admit_each j (stripped before) ts)
+    λ i. if e i then new_of j (stripped before) t ∷ admit_each j (stripped before ++ (new_of j (stripped before) t ∷ [])) ts else admit_each j (stripped before) ts)
 
 -- the records with their ends and begins do not look at the ends and begins of those that they are made from
 next-stripped : (a : ℕ) (rs : Records) → next_place a (stripped rs) ≡ next_place a rs
@@ -227,7 +226,7 @@ ends-stripped : (j : Journal) (rs : Records) → all_ended_only (with_ends j rs)
 ends-stripped j [] = refl
 ends-stripped j (r ∷ rs) =
     let ends : end_below j r (next_place r.automation rs) (length j) ≡ end_below j (strip r) (next_place r.automation (stripped rs)) (length j)
-        = sym ((λ i. end_below j (strip r) (next-stripped r.automation rs i) (length j)) ∙ end-stripped j r (next_place r.automation rs) (length j)) in
+    = sym ((λ i. end_below j (strip r) (next-stripped r.automation rs i) (length j)) ∙ end-stripped j r (next_place r.automation rs) (length j)) in
     (λ i. record r { begin = None; calls = 0; end = ends i } ∷ ends-stripped j rs i)
 
 last-ended-only : (a : ℕ) (back : Records) → last_record a (all_ended_only back) ≡ option_map {T = Record} {U = Record} ended_only (last_record a back)
@@ -251,7 +250,7 @@ begins-ended-only j back [] = refl
 begins-ended-only j back (r ∷ rs) =
     let m = mode_of (automations j) r.automation in
     let begin : begin_of m (last_record r.automation (all_ended_only back)) (ended_only r) ≡ begin_of m (last_record r.automation back) r
-        = (λ i. begin_of m (last-ended-only r.automation back i) (ended_only r)) ∙ begin-ended-only m (last_record r.automation back) r in
+    = (λ i. begin_of m (last-ended-only r.automation back i) (ended_only r)) ∙ begin-ended-only m (last_record r.automation back) r in
     (λ i. record r { begin = begin i; calls = calls_of j r.serial } ∷ begins-ended-only j (r ∷ back) rs i)
 
 ends-of-all : (j : Journal) (rs qs : Records) → AllAlike j qs rs → qs ≡ rs → AllEnds j rs
@@ -266,9 +265,9 @@ pub exactly : (j : Journal) (rs : Records) → ByTheRules j rs → EachAfter (Is
 exactly j rs rules entries =
     let ts = passing_below j (length j) in
     let itself : rs ≡ with_begins j [] (with_ends j rs)
-        = again j rs entries 0 rs [] [] (sorted-records j 0 [] ts rs (sorted-passing j (length j)) rules.admitted)
-          (record { past = tt; unended = λ a p. refl; last = λ a. refl; queue = λ a p y m h. absurd (none-some y h) }) refl rules.told (numbered j [] ts rs rules.admitted) in
+    = again j rs entries 0 rs [] [] (sorted-records j 0 [] ts rs (sorted-passing j (length j)) rules.admitted)
+    (record { past = tt; unended = λ a p. refl; last = λ a. refl; queue = λ a p y m h. absurd (none-some y h) }) refl rules.told (numbered j [] ts rs rules.admitted) in
     let attempts : stripped rs ≡ bare j
-        = admitted-only j ts (below-passing j (length j) (length j) (omega arith)) [] rs tt (ends-of-all j rs (with_begins j [] (with_ends j rs)) (all-alike j [] rs) (sym itself)) rules.admitted
-          ∙ sym (bare-each j (length j)) in
+    = admitted-only j ts (below-passing j (length j) (length j) (omega arith)) [] rs tt (ends-of-all j rs (with_begins j [] (with_ends j rs)) (all-alike j [] rs) (sym itself)) rules.admitted
+    ∙ sym (bare-each j (length j)) in
     itself ∙ sym (begins-ended-only j [] (with_ends j rs)) ∙ (λ i. with_begins j [] (ends-stripped j rs i)) ∙ (λ i. with_begins j [] (with_ends j (attempts i)))

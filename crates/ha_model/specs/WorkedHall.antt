@@ -31,11 +31,9 @@ use Rattle.ha_model.specs.declared.template.Expr.{Expr}
 use Rattle.ha_model.specs.Words.{Text, Pairs}
 use Rattle.ha_model.specs.Journal.{Journal}
 use Rattle.ha_model.specs.Triggers.{variables}
-use Rattle.ha_model.specs.Scripts.{Spot, Status, whole}
+use Rattle.ha_model.specs.Scripts.{Spot}
 use Rattle.ha_model.specs.Waits.{next_spot}
 use Rattle.ha_model.specs.Records.{Records}
-use Rattle.ha_model.specs.Lawful.{Lawful, Right}
-use Rattle.ha_value.specs.Ids.{read_entity}
 
 abbrev pub text_template : Text → Template
 text_template t = roll-Template (record { pieces = roll-Piece (Piece-F.Text t) ∷ [] })
@@ -87,15 +85,15 @@ off_item = Item.Call (codes "light.turn_off") (light ∷ []) []
 abbrev pub step : Item → Entry
 step i = Entry.Step 0 1 [] i
 
-abbrev pub row : Journal
-row = Entry.Boot [] (record { automations = hall_light ∷ [] }) None start (codes "UTC") ∷ report 0 (codes "off") ∷ report 1 (codes "on")
+abbrev pub journal : Journal
+journal = Entry.Boot [] (record { automations = hall_light ∷ [] }) None start (codes "UTC") ∷ report 0 (codes "off") ∷ report 1 (codes "on")
     ∷ step on_item ∷ step Item.Nothing ∷ Entry.Line 0 2 (Cmd.Moment (start + 120000)) ∷ step Item.Nothing ∷ step off_item ∷ []
 
 abbrev pub env : Pairs
-env = (codes "trigger", variables row the_trigger (Some hall) 2) ∷ []
+env = (codes "trigger", variables journal the_trigger (Some hall) 2) ∷ []
 
 abbrev pub spot : ℕ → Spot
-spot n = next_spot (take n row) []
+spot n = next_spot (take n journal) []
 
 abbrev pub the_record : Record
 the_record = record { serial = 1; automation = 0; number = 1; place = 2; order = 0; env = env; begin = Some 2; end = Some (7, EndCause.Done); calls = 2 }

@@ -22,8 +22,6 @@ use Rattle.ha_model.specs.declared.journal.EndCause.{EndCause}
 use Rattle.ha_model.specs.Words.{Text, Pairs}
 use Rattle.ha_model.specs.Journal.{Journal}
 use Rattle.ha_model.specs.Triggers.{variables}
-use Rattle.ha_model.specs.Records.{records_of}
-use Rattle.ha_value.specs.Ids.{read_entity}
 
 abbrev pub text_template : Text → Template
 text_template t = roll-Template (record { pieces = roll-Piece (Piece-F.Text t) ∷ [] })

@@ -1,17 +1,11 @@
 -- Worked scripts: lists side by side, loops, blocks and the services of automations.
 use Rattle.std.specs.Prelude.{ℕ, List, [], ◌∷◌, true, false}
-use Rattle.std.specs.Fmt.{digits}
-use Rattle.std.specs.Prelude.{Option, Some, None, codes, pos}
+use Rattle.std.specs.Prelude.{None, codes, pos}
 use Rattle.ha_value.specs.declared.value.Num.{Num}
 use Rattle.ha_value.specs.declared.value.EntityId.{EntityId}
 use Rattle.ha_value.specs.declared.value.Value.{Value}
-use Rattle.ha_value.specs.declared.value.Value.TheVariants.{outs-Flag, outs-Number, outs-Pairs}
 use Rattle.ha_value.specs.declared.value.Value.TheOpen.{Value-F}
-use Rattle.ha_value.specs.declared.value.Value.TheViews.{roll-Value, out-roll-Value}
-use Rattle.ha_value.specs.Ids.{read_entity}
-use Rattle.ha_value.specs.Numbers.{read_number, print_number}
-use Rattle.ha_value.specs.Arithmetic.{add}
-use Rattle.ha_clock.specs.SpanText.{span_of, span_seconds, number_of, number_from}
+use Rattle.ha_value.specs.declared.value.Value.TheViews.{roll-Value}
 use Rattle.ha_model.specs.declared.template.Expr.{Expr}
 use Rattle.ha_model.specs.declared.template.Op.{Op}
 use Rattle.ha_model.specs.declared.template.Expr.TheOpen.{Expr-F}
@@ -28,7 +22,7 @@ use Rattle.ha_model.specs.declared.config.ActionKind.TheOpen.{ActionKind-F}
 use Rattle.ha_model.specs.declared.journal.Item.{Item}
 use Rattle.ha_model.specs.Words.{Text}
 use Rattle.ha_model.specs.States.{Sight}
-use Rattle.ha_model.specs.Scripts.{Spot, Outcome, Status, whole, turns}
+use Rattle.ha_model.specs.Scripts.{Spot}
 use Rattle.ha_model.specs.WorkedHall.{text_template, show, act, call}
 
 -- two automations, of which the second is off, and no states

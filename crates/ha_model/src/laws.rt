@@ -33,103 +33,74 @@ ghost use Rattle.ha_model.specs.Lawful.{Right, Lawful, Running, IsRightEntry, Is
 /// For a given first entry, given lines of each source and a given list of the makers of the
 /// entries, at most one journal with its records is lawful.
 pub fn one_answer()
-    ensures {
-        (boot : Entry) (xs ys : Journal) (rs rs' : Records) → Lawful (boot ∷ xs) rs → Lawful (boot ∷ ys) rs'
-            → makers xs ≡ makers ys → ((q : ℕ) → cmds_of q xs ≡ cmds_of q ys) → (xs ≡ ys) × (rs ≡ rs')
-    }
-{
-}
+    ensures { (boot : Entry) (xs ys : Journal) (rs rs' : Records) → Lawful (boot ∷ xs) rs → Lawful (boot ∷ ys) rs'
+        → makers xs ≡ makers ys → ((q : ℕ) → cmds_of q xs ≡ cmds_of q ys) → (xs ≡ ys) × (rs ≡ rs') }
+{}
 
 /// With one source alone, at most one journal with that first entry and those lines is lawful and
 /// quiet.
 pub fn one_source()
-    ensures {
-        (boot : Entry) (xs ys : Journal) (rs rs' : Records) → Lawful (boot ∷ xs) rs → Lawful (boot ∷ ys) rs'
-            → OfOne xs → OfOne ys → is_quiet rs (boot ∷ xs) ≡ true → is_quiet rs' (boot ∷ ys) ≡ true
-            → ((q : ℕ) → cmds_of q xs ≡ cmds_of q ys) → (xs ≡ ys) × (rs ≡ rs')
-    }
-{
-}
+    ensures { (boot : Entry) (xs ys : Journal) (rs rs' : Records) → Lawful (boot ∷ xs) rs → Lawful (boot ∷ ys) rs'
+        → OfOne xs → OfOne ys → is_quiet rs (boot ∷ xs) ≡ true → is_quiet rs' (boot ∷ ys) ≡ true
+        → ((q : ℕ) → cmds_of q xs ≡ cmds_of q ys) → (xs ≡ ys) × (rs ≡ rs') }
+{}
 
 /// Now after one more entry.
 pub fn now_of_one_more()
     ensures { (j : Journal) (x : Entry) → now_lem (more j x) ≡ max (now_lem j) (brings x) }
-{
-}
+{}
 
 /// The state of a reported entity after one more entry: a Report of it, a Gone of it, a Restart,
 /// or any other.
 pub fn states_of_one_more()
-    ensures report {
-        (j : Journal) (e entity : EntityId) (k n : ℕ) (text : Text) (attributes : Pairs)
-            → reported (more j (Line k n (Cmd.Report entity text attributes))) e
-            ≡ (if same_entity entity e
-                then Some (next_object (reported j e) text attributes (now_lem (more j (Line k n (Cmd.Report entity text attributes)))))
-                else reported j e)
-    }
-    ensures gone {
-        (j : Journal) (e entity : EntityId) (k n : ℕ)
-            → reported (more j (Line k n (Cmd.Gone entity))) e ≡ (if same_entity entity e then None else reported j e)
-    }
+    ensures report { (j : Journal) (e entity : EntityId) (k n : ℕ) (text : Text) (attributes : Pairs)
+        → reported (more j (Line k n (Cmd.Report entity text attributes))) e
+        ≡ (if same_entity entity e
+        then Some (next_object (reported j e) text attributes (now_lem (more j (Line k n (Cmd.Report entity text attributes)))))
+        else reported j e) }
+    ensures gone { (j : Journal) (e entity : EntityId) (k n : ℕ)
+        → reported (more j (Line k n (Cmd.Gone entity))) e ≡ (if same_entity entity e then None else reported j e) }
     ensures restart { (j : Journal) (e : EntityId) (k n : ℕ) → reported (more j (Line k n Cmd.Restart)) e ≡ None }
-    ensures other {
-        (j : Journal) (e : EntityId) (x : Entry) → report_in x ≡ None → gone_in x ≡ None → is_restart x ≡ false
-            → reported (more j x) e ≡ reported j e
-    }
-{
-}
+    ensures other { (j : Journal) (e : EntityId) (x : Entry) → report_in x ≡ None → gone_in x ≡ None → is_restart x ≡ false
+        → reported (more j x) e ≡ reported j e }
+{}
 
 /// A switch after one more entry.
 pub fn switches_of_one_more()
     ensures { (j : Journal) (x : Entry) (a : ℕ) → HasEntry j → is_on (more j x) a ≡ on_after (automations j) a (is_on j a) x }
-{
-}
+{}
 
 /// The records after one more entry: first the ends that it gives, then its attempts in turn,
 /// then the begins. `table` says the same of a table that is changed call by call.
 pub fn records_of_one_more()
     ensures records { (j : Journal) (x : Entry) → records_of (more j x) ≡ records_after j (records_of j) x }
-    ensures table {
-        (j : Journal) (x : Entry) → HasEntry j → records_of (more j x) ≡ runs_after (more j x) (records_of j) (passing (more j x))
-    }
-{
-}
+    ensures table { (j : Journal) (x : Entry) → HasEntry j → records_of (more j x) ≡ runs_after (more j x) (records_of j) (passing (more j x)) }
+{}
 
 /// Who may step at a place is told by the entries before it.
 pub fn ready_of_the_past()
     ensures { (j : Journal) (ys : List Entry) → HasEntry j → ready (records_of j) j ≡ ready (records_of (j ++ ys)) j }
-{
-}
+{}
 
 /// A source is rested after an entry where the journal is quiet then, or where it was rested
 /// before and the entry is no line of it.
 pub fn rested_of_one_more()
-    ensures {
-        (rs : Records) (k : ℕ) (j : Journal) (x : Entry)
-            → is_rested rs k (more j x) ≡ ((if is_line_of k x then false else is_rested rs k j) || is_quiet rs (more j x))
-    }
-{
-}
+    ensures { (rs : Records) (k : ℕ) (j : Journal) (x : Entry)
+        → is_rested rs k (more j x) ≡ ((if is_line_of k x then false else is_rested rs k j) || is_quiet rs (more j x)) }
+{}
 
 /// A right journal stays right with one more right entry; a lawful one without closing steps
 /// stays so with a line whose turn it is and with a step of a worker that is not rested; and a
 /// lawful one stays lawful with a step of worker 0.
 pub fn one_more_is_lawful()
-    ensures right {
-        (j : Journal) (rs : Records) (x : Entry) → Right j rs → (IsBoot x → ⊥) → IsRightEntry rs j x
-            → Right (more j x) (records_after j rs x)
-    }
-    ensures running {
-        (j : Journal) (rs : Records) (x : Entry) → Running j rs → (IsBoot x → ⊥) → IsRightEntry rs j x → IsTurn rs j x
-            → IsBusy rs j x → Running (more j x) (records_after j rs x)
-    }
-    ensures closing {
-        (j : Journal) (rs : Records) (serial : ℕ) (branch : Branch) (item : Item) → Lawful j rs
-            → IsRightEntry rs j (Step 0 serial branch item) → IsTurn rs j (Step 0 serial branch item)
-            → Lawful (more j (Step 0 serial branch item)) (records_after j rs (Step 0 serial branch item))
-    }
-{
-}
+    ensures right { (j : Journal) (rs : Records) (x : Entry) → Right j rs → (IsBoot x → ⊥) → IsRightEntry rs j x
+        → Right (more j x) (records_after j rs x) }
+    ensures running { (j : Journal) (rs : Records) (x : Entry) → Running j rs → (IsBoot x → ⊥) → IsRightEntry rs j x → IsTurn rs j x
+        → IsBusy rs j x → Running (more j x) (records_after j rs x) }
+    ensures closing { (j : Journal) (rs : Records) (serial : ℕ) (branch : Branch) (item : Item) → Lawful j rs
+        → IsRightEntry rs j (Step 0 serial branch item) → IsTurn rs j (Step 0 serial branch item)
+        → Lawful (more j (Step 0 serial branch item)) (records_after j rs (Step 0 serial branch item)) }
+{}
 
 /// The records are exactly those of the rules: the attempts that are admitted by the number of
 /// earlier records of their automation that have not ended have one, and each begins and ends as
@@ -138,76 +109,55 @@ pub fn one_more_is_lawful()
 /// and whether the one just before has not.
 pub fn records_by_the_rules()
     ensures rules { (j : Journal) (rs : Records) → Right j rs → ByTheRules j rs }
-    ensures only {
-        (j : Journal) (rs : Records) → ByTheRules j rs → EachAfter (IsRightEntry rs) [] j → rs ≡ records_of j
-    }
+    ensures only { (j : Journal) (rs : Records) → ByTheRules j rs → EachAfter (IsRightEntry rs) [] j → rs ≡ records_of j }
     ensures near { (j : Journal) (rs : Records) → Right j rs → AreNear j [] rs }
-{
-}
+{}
 
 /// The calls, the errors and the trace of a journal with one more entry, and the lines of a
 /// source.
 pub fn texts_of_one_more()
     ensures calls { (j : Journal) (x : Entry) (rs : Records) → call_text (more j x) rs ≡ call_text j rs ++ call_text_of rs j x }
     ensures errors { (j : Journal) (x : Entry) → error_text (more j x) ≡ error_text j ++ error_text_of x }
-    ensures trace {
-        (j : Journal) (x : Entry) → HasEntry j → trace_text (more j x) false ≡ trace_text j false ++ trace_line (automations j) x
-    }
+    ensures trace { (j : Journal) (x : Entry) → HasEntry j → trace_text (more j x) false ≡ trace_text j false ++ trace_line (automations j) x }
     ensures lines { (k : ℕ) (j : Journal) (x : Entry) → lines_of k (more j x) ≡ lines_of k j ++ placed_line k j x }
-{
-}
+{}
 
 /// The hall light's journal is lawful and quiet, with these records, calls and store.
 pub fn hall_light_goes_out()
-    ensures lawful { Lawful hall.row hall.records }
-    ensures quiet { is_quiet hall.records hall.row ≡ true }
-    ensures calls {
-        call_text hall.row hall.records
-            ≡ as_line (codes "{\"run\":\"hall_light\",\"number\":1,\"call\":1,\"service\":\"light.turn_on\",\"target\":[\"light.hall\"],\"data\":{\"brightness\":128}}")
-            ++ as_line (codes "{\"run\":\"hall_light\",\"number\":1,\"call\":2,\"service\":\"light.turn_off\",\"target\":[\"light.hall\"],\"data\":{}}")
-    }
-    ensures store { store_text hall.row ≡ codes "{\"switches\":{\"hall_light\":true},\"version\":1}" }
-{
-}
+    ensures lawful { Lawful hall.journal hall.records }
+    ensures quiet { is_quiet hall.records hall.journal ≡ true }
+    ensures calls { call_text hall.journal hall.records
+        ≡ as_line (codes "{\"run\":\"hall_light\",\"number\":1,\"call\":1,\"service\":\"light.turn_on\",\"target\":[\"light.hall\"],\"data\":{\"brightness\":128}}")
+        ++ as_line (codes "{\"run\":\"hall_light\",\"number\":1,\"call\":2,\"service\":\"light.turn_off\",\"target\":[\"light.hall\"],\"data\":{}}") }
+    ensures store { store_text hall.journal ≡ codes "{\"switches\":{\"hall_light\":true},\"version\":1}" }
+{}
 
 /// A door that opens twice, before its first run has made a step: in mode restart the new run
 /// replaces the old one, in mode single there is none, and in mode queued it waits. Where the
 /// first one then ends, the queued one begins, and a switch ends it.
 pub fn a_door_opens_twice()
-    ensures restart {
-        records_of (modes.twice Mode.Restart)
-            ≡ modes.run 1 2 Mode.Restart (Some 2) (Some (4, EndCause.Replaced)) 0 ∷ modes.run 2 4 Mode.Restart (Some 4) None 0 ∷ []
-    }
+    ensures restart { records_of (modes.twice Mode.Restart)
+        ≡ modes.run 1 2 Mode.Restart (Some 2) (Some (4, EndCause.Replaced)) 0 ∷ modes.run 2 4 Mode.Restart (Some 4) None 0 ∷ [] }
     ensures single { records_of (modes.twice Mode.Single) ≡ modes.run 1 2 Mode.Single (Some 2) None 0 ∷ [] }
     ensures queued { records_of (modes.twice Mode.Queued) ≡ modes.run 1 2 Mode.Queued (Some 2) None 0 ∷ modes.run 2 4 Mode.Queued None None 0 ∷ [] }
-    ensures queued_then {
-        records_of modes.then_done
-            ≡ modes.run 1 2 Mode.Queued (Some 2) (Some (5, EndCause.Done)) 1 ∷ modes.run 2 4 Mode.Queued (Some 5) (Some (6, EndCause.SwitchedOff)) 0 ∷ []
-    }
-{
-}
+    ensures queued_then { records_of modes.then_done
+        ≡ modes.run 1 2 Mode.Queued (Some 2) (Some (5, EndCause.Done)) 1 ∷ modes.run 2 4 Mode.Queued (Some 5) (Some (6, EndCause.SwitchedOff)) 0 ∷ [] }
+{}
 
 /// Scripts on their places: each list of a parallel block has the variables for itself, and
 /// behind the block they are as before it; a name that a turn sets is the one that was there
 /// before the loop; and a false condition ends its block alone.
 pub fn scopes_of_scripts()
-    ensures apart {
-        whole scripts.apart [] (scripts.at 1 [] ∷ scripts.at 2 [] ∷ scripts.at 3 (0 ∷ []) ∷ scripts.at 4 (1 ∷ []) ∷ scripts.at 5 (0 ∷ []) ∷ scripts.at 6 [] ∷ [])
-            ≡ Some (record {
-                items = Item.Nothing ∷ Item.Nothing ∷ Item.Nothing ∷ scripts.notify (codes "notify.b") 1 ∷ scripts.notify (codes "notify.a") 2 ∷ scripts.notify (codes "notify.c") 1 ∷ [];
-                status = Status.Done;
-            })
-    }
-    ensures raised {
-        whole scripts.raised [] (scripts.at 1 [] ∷ scripts.at 2 [] ∷ scripts.at 3 [] ∷ scripts.at 4 [] ∷ scripts.at 5 [] ∷ [])
-            ≡ Some (record {
-                items = Item.Nothing ∷ Item.Nothing ∷ Item.Nothing ∷ Item.Nothing ∷ scripts.notify (codes "notify.x") 5 ∷ [];
-                status = Status.Done;
-            })
-    }
-    ensures false_condition {
-        whole scripts.false_inside ((codes "n", scripts.number 4) ∷ []) (scripts.at 1 [] ∷ scripts.at 2 [] ∷ scripts.at 3 [] ∷ [])
-            ≡ Some (record { items = Item.Nothing ∷ Item.Nothing ∷ scripts.notify (codes "notify.x") 4 ∷ []; status = Status.Done })
-    }
-{
-}
+    ensures apart { whole scripts.apart [] (scripts.at 1 [] ∷ scripts.at 2 [] ∷ scripts.at 3 (0 ∷ []) ∷ scripts.at 4 (1 ∷ []) ∷ scripts.at 5 (0 ∷ []) ∷ scripts.at 6 [] ∷ [])
+        ≡ Some (record {
+          items = Item.Nothing ∷ Item.Nothing ∷ Item.Nothing ∷ scripts.notify (codes "notify.b") 1 ∷ scripts.notify (codes "notify.a") 2 ∷ scripts.notify (codes "notify.c") 1 ∷ [];
+          status = Status.Done;
+        }) }
+    ensures raised { whole scripts.raised [] (scripts.at 1 [] ∷ scripts.at 2 [] ∷ scripts.at 3 [] ∷ scripts.at 4 [] ∷ scripts.at 5 [] ∷ [])
+        ≡ Some (record {
+          items = Item.Nothing ∷ Item.Nothing ∷ Item.Nothing ∷ Item.Nothing ∷ scripts.notify (codes "notify.x") 5 ∷ [];
+          status = Status.Done;
+        }) }
+    ensures false_condition { whole scripts.false_inside ((codes "n", scripts.number 4) ∷ []) (scripts.at 1 [] ∷ scripts.at 2 [] ∷ scripts.at 3 [] ∷ [])
+        ≡ Some (record { items = Item.Nothing ∷ Item.Nothing ∷ scripts.notify (codes "notify.x") 4 ∷ []; status = Status.Done }) }
+{}

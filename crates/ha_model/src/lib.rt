@@ -1,12 +1,11 @@
 //! The types of a configuration, of the journal and of the records, and what they mean.
 #![tactic(auto)]
 
-pub mod laws;
-
 mod config;
 mod copies;
 mod faults;
 mod journal;
+pub mod laws;
 mod names;
 mod steps;
 mod template;

@@ -1,4 +1,4 @@
-use Rattle.ha_model.proofs.RowTests2.{it_is_lawful, it_is_quiet}
+use Rattle.ha_model.proofs.HallLightTests.{it_is_lawful, it_is_quiet}
 use Rattle.ha_model.proofs.TextTests as texts
 use Rattle.ha_model.proofs.laws.hall_light_goes_out.Goals as goal
 
