@@ -1,6 +1,6 @@
 //! Entity ids: `domain.object_id`.
 ghost use Rattle.std.specs.Prelude.{◌≡◌, ◌↔◌, true, Some, None, Err, IfOk, MatchOption};
-ghost use Rattle.ha_value.specs.Ids.{entity_text, is_name, is_name_byte, read_entity, IsParts};
+ghost use Rattle.ha_value.specs.Ids.{entity_text, is_entity, is_name, is_name_byte, read_entity, IsParts};
 
 use crate::cut::cut_at;
 use crate::value::EntityId;
@@ -62,7 +62,8 @@ fn parts_of(text: &[u8]) -> Option<(&[u8], &[u8])>
 fn entity_of(alloc: Global, domain: &[u8], object: &[u8]) -> Result<EntityId, AllocError>
     requires domain { is_name domain.now ≡ true }
     requires object { is_name object.now ≡ true }
-    ensures { IfOk result (λ id. id ≡ record { domain = domain.now; object = object.now }) }
+    ensures value { IfOk result (λ id. id ≡ record { domain = domain.now; object = object.now }) }
+    ensures form { IfOk result (λ id. is_entity id ≡ true) }
 {
     Ok(EntityId {
         domain: Word::from_bytes(alloc, domain)?,
@@ -74,6 +75,7 @@ impl EntityId {
     /// The id that the text is.
     pub fn read(alloc: Global, text: &[u8]) -> Result<EntityId, EntityFault>
         ensures ok { IfOk result (λ id. read_entity text.now ≡ Some id) }
+        ensures form { IfOk result (λ id. is_entity id ≡ true) }
         ensures shape { (result ≡ Err EntityFault.Shape) ↔ (read_entity text.now ≡ None) }
     {
         match parts_of(text) {
