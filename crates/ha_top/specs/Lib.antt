@@ -1,0 +1,11 @@
+pub mod Words
+pub mod WordsView
+pub mod FirstForm
+pub mod FirstConfig
+pub mod PartsView
+pub mod Whole
+pub mod Lines
+pub mod Commands
+pub mod ReportView
+pub mod Steps
+pub mod Headline

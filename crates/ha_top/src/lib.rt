@@ -1,0 +1,26 @@
+//! The program as a function over its words and the outside.
+#![tactic(auto)]
+
+mod ascii;
+mod config;
+mod form;
+mod lines;
+mod outcome;
+mod plain_core;
+mod prepare;
+mod report;
+mod rule;
+mod run;
+mod status;
+mod text;
+mod top;
+mod whole;
+mod words;
+
+pub use outcome::Outcome;
+pub use status::Status;
+pub use top::{hearth, run_live};
+pub use words::{RunWords, WordsFault};
+
+#[cfg(test)]
+mod tests;

@@ -1,0 +1,40 @@
+//! How a run of the program ended.
+
+use ha_value::Word;
+
+/// How a run of the program ended. `number` is the status that the process ends with.
+#[derive(Debug, Drop)]
+pub enum Status {
+    /// All sources were read to their end, and all that was due was done.
+    Ok,
+    /// The words are none of the program's.
+    Usage,
+    /// The configuration is refused at this line, counted from 1, with this code.
+    ConfigRefused { line: u32, code: u8 },
+    /// This file could not be opened.
+    OpenFault { name: Word },
+    /// Reading failed: of this source, counted from 0, or of the configuration.
+    ReadFault { source: Option<u32> },
+    /// Writing failed, or a sink took no byte.
+    WriteFault { zero: bool },
+    /// This source, counted from 0, has more bytes than its bound.
+    SourceTooLong { source: u32 },
+    /// Memory ran out.
+    Memory,
+}
+
+impl Status {
+    /// The number that the process ends with.
+    pub fn number(&self) -> u8 {
+        match self {
+            Status::Ok => 0,
+            Status::Usage => 1,
+            Status::ConfigRefused { .. } => 2,
+            Status::OpenFault { .. } => 3,
+            Status::ReadFault { .. } => 4,
+            Status::WriteFault { .. } => 5,
+            Status::SourceTooLong { .. } => 8,
+            Status::Memory => 10,
+        }
+    }
+}

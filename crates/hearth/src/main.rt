@@ -1,0 +1,27 @@
+//! The program `hearth`: its words, the system's files and standard streams, and the status that the run ends with.
+#![tactic(auto)]
+
+use ha_io::{DirPlace, FileSink, MemKeeper, OpenGate};
+use ha_top::hearth;
+use std::process::ExitCode;
+use std::{env, io};
+
+fn main(rt: HostRuntime) -> io::Result<ExitCode> {
+    let alloc = rt.alloc();
+    let words: Vec<String> = env::args(&rt)?.skip(1).collect(alloc)?;
+    let mut place = DirPlace::make(rt.clone()?, rt.stdin());
+    let out = FileSink::output(rt.stdout());
+    let err = FileSink::errors(rt.stderr());
+    let keep = MemKeeper::make(alloc, None, Vec::new(alloc));
+    let outcome = hearth(
+        &rt,
+        alloc,
+        words.as_slice(),
+        &mut place,
+        out,
+        err,
+        keep,
+        &OpenGate::make(),
+    );
+    Ok(ExitCode::from(outcome.status.number()))
+}
