@@ -1,0 +1,11 @@
+//! Texts of names and streams: slugs, and the lines of a stream.
+#![tactic(auto)]
+
+mod lines;
+mod slugs;
+
+pub use lines::LineCut;
+pub use slugs::slug;
+
+#[cfg(test)]
+mod tests;

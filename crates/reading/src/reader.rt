@@ -1,0 +1,114 @@
+//! The reader of bytes.
+
+ghost use Rattle.std.specs.Prelude.{◌≡◌, ◌<◌, ℕ, length, drop, if◌then◌else◌};
+ghost use Rattle.reading.specs.Answer.{Gives, front};
+ghost use Rattle.reading.specs.Bytes.{expect, is_blank, sees, skip};
+
+use crate::fault::{Bad, Stop};
+use std::marker::Model;
+
+/// Clauses see the bytes that are still to be read.
+#[derive(Drop)]
+pub struct Reader<'a> {
+    rest: &'a [u8],
+}
+
+impl<'a> Model for Reader<'a> {
+    ghost use Rattle.std.specs.Prelude.{List, ℕ};
+
+    ghost Value = { List ℕ };
+
+    ghost view = { λ r. r.rest.now };
+}
+
+/// Blanks are space and tab.
+fn is_blank(b: u8) -> bool
+    ensures { result ≡ is_blank b }
+{
+    b == b' ' || b == b'\t'
+}
+
+impl<'a> Reader<'a> {
+    pub fn new(text: &'a [u8]) -> Reader<'a>
+        ensures { result ≡ text.now }
+    {
+        Reader { rest: text }
+    }
+
+    /// The bytes that are left.
+    pub fn rest(&self) -> &'a [u8]
+        ensures { result.now ≡ self.now }
+    {
+        self.rest
+    }
+
+    /// How many bytes are left.
+    pub fn left(&self) -> usize
+        ensures { result ≡ length self.now }
+    {
+        self.rest.len()
+    }
+
+    /// The next byte, which stays.
+    pub fn peek(&self) -> Option<u8>
+        ensures { result ≡ front self.now }
+    {
+        self.rest.first().copied()
+    }
+
+    /// Takes the next byte.
+    pub fn bump(&mut self)
+        requires { 0 < length self.old }
+        ensures { self.new ≡ drop 1 self.old }
+    {
+        self.rest = &self.rest[1..];
+    }
+
+    /// The fault at the place of the next byte.
+    pub fn stop<C>(&self, code: C) -> Stop<Bad<C>>
+        ensures { result ≡ Stop.Fault (record { left = length self.now; code = code }) }
+    {
+        Stop::Fault(Bad {
+            left: self.left(),
+            code,
+        })
+    }
+
+    /// Takes the next byte where it is this one.
+    pub fn eat(&mut self, b: u8) -> bool
+        ensures found { result ≡ sees b self.old }
+        ensures rest { self.new ≡ (if sees b self.old then drop 1 self.old else self.old) }
+    {
+        let found = self.peek() == Some(b);
+        if found {
+            self.bump();
+        }
+        found
+    }
+
+    /// Takes the blanks at the front.
+    #[tactic(auto, unfolding(crate::specs::Bytes::skip))]
+    pub fn skip_blanks(&mut self)
+        ensures { self.new ≡ skip self.old }
+    {
+        while let Some(b) = self.peek()
+            && is_blank(b)
+        {
+            self.bump();
+        }
+    }
+
+    /// Takes this word, or stops at the first byte that is another.
+    #[tactic(auto, unfolding(crate::specs::Bytes::expect))]
+    pub fn expect<C: Copy + Drop>(&mut self, word: &[u8], code: C) -> Result<(), Stop<Bad<C>>>
+        ensures { Gives (expect code word.now self.old) result self.new }
+    {
+        'word: for w in word {
+            if self.peek() != Some(*w) {
+                return Err(self.stop(code));
+            }
+            self.bump();
+        }
+        Ok(())
+    }
+}
