@@ -1,0 +1,25 @@
+-- Single bytes of the notation.
+use Rattle.std.specs.Prelude.{ℕ, ◌+◌, ◌-◌, Bool, true, false, not, ◌||◌, ◌&&◌, ◌==◌, nat_le, if◌then◌else◌, Option, Some, None}
+
+abbrev pub is_in : ℕ → ℕ → ℕ → Bool
+is_in low high b = nat_le low b && nat_le b high
+
+abbrev pub is_digit : ℕ → Bool
+is_digit b = is_in 48 57 b
+
+abbrev pub begins_number : ℕ → Bool
+begins_number b = is_digit b || b == 45 || b == 43
+
+-- an ASCII byte that stands for itself in a string
+abbrev pub is_plain : ℕ → Bool
+is_plain b = is_in 32 127 b && not (b == 34) && not (b == 92)
+
+-- the value of a hexadecimal digit, and 16 for any other byte
+abbrev pub hex_value : ℕ → ℕ
+hex_value b = if is_digit b then b - 48 else (if is_in 97 102 b then b - 97 + 10 else (if is_in 65 70 b then b - 65 + 10 else 16))
+
+-- what a letter or sign behind a backslash stands for
+abbrev pub unescaped : ℕ → Option ℕ
+unescaped b =
+    if b == 34 then Some 34 else (if b == 92 then Some 92 else (if b == 47 then Some 47 else (if b == 98 then Some 8 else
+    (if b == 102 then Some 12 else (if b == 110 then Some 10 else (if b == 114 then Some 13 else (if b == 116 then Some 9 else None)))))))

@@ -1,0 +1,62 @@
+//! Single bytes of the notation.
+
+ghost use Rattle.std.specs.Prelude.{◌≡◌, ◌≤◌, ◌<◌, true};
+ghost use Rattle.flow_line.specs.Bytes.{begins_number, hex_value, is_digit, is_in, is_plain, unescaped};
+
+/// Whether the byte is from `low` to `high`, both included.
+pub fn is_in(low: u8, high: u8, b: u8) -> bool
+    ensures { result ≡ is_in low high b }
+{
+    low <= b && b <= high
+}
+
+pub fn is_digit(b: u8) -> bool
+    ensures { result ≡ is_digit b }
+{
+    is_in(b'0', b'9', b)
+}
+
+pub fn begins_number(b: u8) -> bool
+    ensures { result ≡ begins_number b }
+{
+    is_digit(b) || b == b'-' || b == b'+'
+}
+
+/// An ASCII byte that stands for itself in a string.
+pub fn is_plain(b: u8) -> bool
+    ensures { result ≡ is_plain b }
+{
+    is_in(0x20, 0x7F, b) && b != b'"' && b != b'\\'
+}
+
+/// The value of a hexadecimal digit, and 16 for any other byte.
+pub fn hex_value(b: u8) -> u8
+    ensures { result ≡ hex_value b }
+{
+    if is_digit(b) {
+        b - b'0'
+    } else if is_in(b'a', b'f', b) {
+        b - b'a' + 10
+    } else if is_in(b'A', b'F', b) {
+        b - b'A' + 10
+    } else {
+        16
+    }
+}
+
+/// What a letter or sign behind a backslash stands for.
+pub fn unescaped(b: u8) -> Option<char>
+    ensures { result ≡ unescaped b }
+{
+    match b {
+        b'"' => Some('"'),
+        b'\\' => Some('\\'),
+        b'/' => Some('/'),
+        b'b' => Some('\u{8}'),
+        b'f' => Some('\u{C}'),
+        b'n' => Some('\n'),
+        b'r' => Some('\r'),
+        b't' => Some('\t'),
+        _ => None,
+    }
+}

@@ -1,0 +1,18 @@
+//! Values of lines: `read_value` reads the notation, `print_value` writes it.
+//!
+//! The notation is that of JSON, but for numbers, which are number text (`ha_value`), and for keys, which are distinct. The
+//! grammar is `specs/Grammar.antt`; how it is read from left to right, with the first fault, is `specs/Reading.antt`.
+#![tactic(auto)]
+
+mod bytes;
+mod fault;
+mod number;
+mod read;
+mod text;
+mod value;
+
+pub use fault::{Code, FlowFault};
+pub use read::read_value;
+
+#[cfg(test)]
+mod tests;

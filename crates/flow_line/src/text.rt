@@ -1,0 +1,214 @@
+//! Strings.
+
+ghost use Rattle.std.specs.Prelude.{◌≡◌, ◌+◌, ◌*◌, ◌≤◌, ◌<◌, ◌^◌, length, true, IfOk};
+ghost use Rattle.std.specs.Char.{IsScalar};
+ghost use Rattle.reading.specs.Answer.{Gives, front};
+ghost use Rattle.flow_line.specs.Text.{byte_in, character, character_at, escape, hex_in, high_digits, next_bits, sequence, string, text, three_more, two_more, unicode, unit};
+
+use crate::bytes::{hex_value, is_in, is_plain, unescaped};
+use crate::value::{FlowReader, Stopped};
+use ha_value::Word;
+use std::alloc::Global;
+
+/// The character of a code that is one.
+fn scalar(code: u32) -> char
+    requires { IsScalar code }
+    ensures { result ≡ code }
+{
+    match char::from_u32(code) {
+        Some(c) => c,
+        None => unreachable!(),
+    }
+}
+
+impl<'a> FlowReader<'a> {
+    /// The next byte, where it is from `low` to `high`.
+    pub fn byte_in(&mut self, low: u8, high: u8) -> Result<u8, Stopped>
+        ensures { Gives (byte_in low high (front self.old) self.old) result self.new }
+    {
+        match self.peek() {
+            Some(b) if is_in(low, high, b) => {
+                self.bump();
+                Ok(b)
+            }
+            _ => Err(self.wrong()),
+        }
+    }
+
+    /// One more byte of a character: the bits so far, and six more.
+    #[tactic(auto, unfolding(crate::specs::Text::next_bits))]
+    fn next_bits(&mut self, low: u8, high: u8, bits: u32) -> Result<u32, Stopped>
+        requires few { bits < 2 ^ 24 }
+        requires continues { 128 ≤ low }
+        ensures exact { Gives (next_bits low high bits self.old) result self.new }
+        ensures few { IfOk result (λ code. code < bits * 64 + 128) }
+    {
+        let b = self.byte_in(low, high)?;
+        Ok(bits * 64 + u32::from(b - 0x80))
+    }
+
+    #[tactic(auto, unfolding(crate::specs::Text::two_more))]
+    fn two_more(&mut self, low: u8, high: u8, bits: u32) -> Result<u32, Stopped>
+        requires few { bits < 2 ^ 16 }
+        requires continues { 128 ≤ low }
+        ensures exact { Gives (two_more low high bits self.old) result self.new }
+    {
+        let code = self.next_bits(low, high, bits)?;
+        self.next_bits(0x80, 0xBF, code)
+    }
+
+    #[tactic(auto, unfolding(crate::specs::Text::three_more))]
+    fn three_more(&mut self, low: u8, high: u8, bits: u32) -> Result<u32, Stopped>
+        requires few { bits < 2 ^ 8 }
+        requires continues { 128 ≤ low }
+        ensures exact { Gives (three_more low high bits self.old) result self.new }
+    {
+        let code = self.next_bits(low, high, bits)?;
+        self.two_more(0x80, 0xBF, code)
+    }
+
+    /// A character of two bytes or more that begins with this one. The second byte's range leaves out what has a shorter form,
+    /// the surrogates and what is over the last character (Unicode, "Well-Formed UTF-8 Byte Sequences").
+    fn sequence(&mut self, b: u8) -> Result<u32, Stopped>
+        requires { 0 < length self.old }
+        ensures { Gives (sequence b self.old) result self.new }
+    {
+        if is_in(0xC2, 0xDF, b) {
+            self.bump();
+            self.next_bits(0x80, 0xBF, u32::from(b - 0xC0))
+        } else if is_in(0xE0, 0xEF, b) {
+            self.bump();
+            let low = if b == 0xE0 { 0xA0 } else { 0x80 };
+            let high = if b == 0xED { 0x9F } else { 0xBF };
+            self.two_more(low, high, u32::from(b - 0xE0))
+        } else if is_in(0xF0, 0xF4, b) {
+            self.bump();
+            let low = if b == 0xF0 { 0x90 } else { 0x80 };
+            let high = if b == 0xF4 { 0x8F } else { 0xBF };
+            self.three_more(low, high, u32::from(b - 0xF0))
+        } else {
+            Err(self.wrong())
+        }
+    }
+
+    /// A hexadecimal digit whose value is from `low` to `high`.
+    fn hex_in(&mut self, low: u8, high: u8) -> Result<u32, Stopped>
+        requires { high < 16 }
+        ensures exact { Gives (hex_in low high (front self.old) self.old) result self.new }
+        ensures few { IfOk result (λ digit. digit < 16) }
+        ensures least { IfOk result (λ digit. low ≤ digit) }
+    {
+        let Some(b) = self.peek() else {
+            return Err(self.wrong());
+        };
+        let digit = hex_value(b);
+        if !is_in(low, high, digit) {
+            return Err(self.wrong());
+        }
+        self.bump();
+        Ok(u32::from(digit))
+    }
+
+    /// The first two digits of a unit, of the low half of a pair or of a unit that is none.
+    #[tactic(auto, unfolding(crate::specs::Text::high_digits))]
+    fn high_digits(&mut self, low: bool) -> Result<u32, Stopped>
+        ensures exact { Gives (high_digits low self.old) result self.new }
+        ensures few { IfOk result (λ code. code < 2 ^ 8) }
+        ensures least { IfOk result (λ code. low ≡ true → 0xDC ≤ code) }
+    {
+        let a = self.hex_in(if low { 13 } else { 0 }, if low { 13 } else { 15 })?;
+        let last = if a == 13 && !low { 11 } else { 15 };
+        let b = self.hex_in(if low { 12 } else { 0 }, last)?;
+        Ok(a * 16 + b)
+    }
+
+    /// A unit: four digits.
+    #[tactic(auto, unfolding(crate::specs::Text::unit))]
+    fn unit(&mut self, low: bool) -> Result<u32, Stopped>
+        ensures exact { Gives (unit low self.old) result self.new }
+        ensures few { IfOk result (λ code. code < 2 ^ 16) }
+        ensures least { IfOk result (λ code. low ≡ true → 0xDC00 ≤ code) }
+    {
+        let high = self.high_digits(low)?;
+        let c = self.hex_in(0, 15)?;
+        let d = self.hex_in(0, 15)?;
+        Ok(high * 256 + c * 16 + d)
+    }
+
+    /// A unit behind `\u`, and where it is the high half of a pair, the low half behind another `\u`.
+    #[tactic(auto, unfolding(crate::specs::Text::unicode))]
+    fn unicode(&mut self) -> Result<u32, Stopped>
+        ensures { Gives (unicode self.old) result self.new }
+    {
+        let code = self.unit(false)?;
+        if !(0xD800 <= code && code <= 0xDBFF) {
+            return Ok(code);
+        }
+        self.expect(b"\\u")?;
+        let half = self.unit(true)?;
+        Ok(0x1_0000 + (code - 0xD800) * 0x400 + (half - 0xDC00))
+    }
+
+    /// What stands behind a backslash.
+    fn escape(&mut self) -> Result<u32, Stopped>
+        ensures { Gives (escape (front self.old) self.old) result self.new }
+    {
+        let Some(b) = self.peek() else {
+            return Err(self.wrong());
+        };
+        if b == b'u' {
+            self.bump();
+            return self.unicode();
+        }
+        let Some(c) = unescaped(b) else {
+            return Err(self.wrong());
+        };
+        self.bump();
+        Ok(u32::from(c))
+    }
+
+    #[tactic(auto, unfolding(crate::specs::Text::character))]
+    fn code(&mut self) -> Result<u32, Stopped>
+        ensures { Gives (character self.old) result self.new }
+    {
+        let Some(b) = self.peek() else {
+            return Err(self.wrong());
+        };
+        if b == b'\\' {
+            self.bump();
+            return self.escape();
+        }
+        if is_plain(b) {
+            self.bump();
+            return Ok(u32::from(b));
+        }
+        self.sequence(b)
+    }
+
+    fn character(&mut self) -> Result<char, Stopped>
+        ensures { Gives (character self.old) result self.new }
+    {
+        Ok(scalar(self.code()?))
+    }
+
+    /// A string behind its opening quote.
+    #[tactic(auto, unfolding(crate::specs::Text::characters))]
+    pub fn text(&mut self, alloc: Global) -> Result<Word, Stopped>
+        ensures { Gives (text self.old) result self.new }
+    {
+        let mut text = String::new(alloc);
+        'characters: while !self.eat(b'"') {
+            let c = self.character()?;
+            text.push(c)?;
+        }
+        Ok(Word::from_string(text))
+    }
+
+    #[tactic(auto, unfolding(crate::specs::Text::string))]
+    pub fn string(&mut self, alloc: Global) -> Result<Word, Stopped>
+        ensures { Gives (string self.old) result self.new }
+    {
+        self.expect(b"\"")?;
+        self.text(alloc)
+    }
+}

@@ -1,0 +1,3 @@
+pub mod Cuts
+pub mod Times
+pub mod Utf8
