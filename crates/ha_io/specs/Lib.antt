@@ -5,3 +5,4 @@ pub mod MemPlace
 pub mod MemSink
 pub mod MemSource
 pub mod Told
+pub mod Whole

@@ -16,6 +16,7 @@ mod mem_source;
 mod place;
 mod sink;
 mod source;
+mod whole;
 
 pub use dir_place::DirPlace;
 pub use fault::{Failed, IoFault};
@@ -31,6 +32,7 @@ pub use mem_source::MemSource;
 pub use place::{Opening, Place};
 pub use sink::Sink;
 pub use source::Source;
+pub use whole::{Unread, Unwritten, read_whole, write_whole};
 
 #[cfg(test)]
 mod tests;

@@ -5,7 +5,7 @@ use Rattle.std.specs.Fmt.{digits}
 use Rattle.ha_value.specs.declared.value.Num.{Num}
 use Rattle.ha_value.specs.declared.value.EntityId.{EntityId}
 use Rattle.ha_value.specs.declared.value.Value.{Value}
-use Rattle.ha_value.specs.declared.value.Value.TheVariants.{outs-Null, outs-Flag, outs-Number, outs-Text, outs-Pairs}
+use Rattle.ha_value.specs.declared.value.Value.TheVariants.{outs-Flag, outs-Number, outs-Pairs}
 use Rattle.ha_value.specs.declared.value.Value.TheOpen.{Value-F}
 use Rattle.ha_value.specs.declared.value.Value.TheViews.{roll-Value, out-roll-Value}
 use Rattle.ha_value.specs.Ids.{read_entity}
@@ -33,14 +33,13 @@ use Rattle.ha_model.specs.declared.journal.Cmd.{Cmd}
 use Rattle.ha_model.specs.declared.journal.Item.{Item}
 use Rattle.ha_model.specs.declared.journal.Entry.{Entry}
 use Rattle.ha_model.specs.declared.journal.EndCause.{EndCause}
-use Rattle.ha_model.specs.declared.journal.Record.{Record}
-use Rattle.ha_model.specs.Words.{Text, Pairs}
+use Rattle.ha_model.specs.Words.{Text}
 use Rattle.ha_model.specs.Journal.{Journal}
 use Rattle.ha_model.specs.Switches.{is_on}
 use Rattle.ha_model.specs.Triggers.{variables}
 use Rattle.ha_model.specs.Scripts.{Spot, Outcome, Status, whole, turns}
 use Rattle.ha_model.specs.Waits.{next_spot}
-use Rattle.ha_model.specs.Records.{Records, records_of}
+use Rattle.ha_model.specs.Records.{records_of}
 use Rattle.ha_model.specs.WorkedHall.{text_template, show, act}
 use Rattle.ha_model.proofs.Rolls.{rolls}
 

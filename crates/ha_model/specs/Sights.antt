@@ -1,16 +1,11 @@
--- What a place sees of the automations, and what an entry does to their switches.
-use Rattle.std.specs.Prelude.{ℕ, ◌-◌, Bool, not, ◌||◌, nat_eq, List, Option, Some, None, length, take, slice_get, find, option_map, codes, if◌then◌else◌}
-use Rattle.std.specs.List.{list_any, enumerate_from}
-use Rattle.ha_value.specs.declared.value.EntityId.{EntityId}
-use Rattle.ha_model.specs.Words.{Text, same, up_to}
+-- The switches that a place sees, and whether the last entry changed one.
+use Rattle.std.specs.Prelude.{ℕ, ◌-◌, Bool, not, ◌||◌, nat_eq, Option, length, take, slice_get, option_map}
+use Rattle.std.specs.List.{list_any}
+use Rattle.ha_model.specs.Words.{up_to}
 use Rattle.ha_model.specs.Equal.{same_flag}
 use Rattle.ha_model.specs.Journal.{Journal, automations}
 use Rattle.ha_model.specs.Switches.{is_on}
 use Rattle.ha_model.specs.States.{Sight}
-
--- the place of the automation whose entity the id names, if it names one
-abbrev pub automation_seen : Sight → EntityId → Option ℕ
-automation_seen sight e = if same e.domain (codes "automation") then option_map (λ p. p.0) (find (λ p. same p.1.0 e.object) (enumerate_from 0 sight.automations)) else None
 
 -- the switch of an automation, if there is such an automation
 abbrev pub switch_seen : Sight → ℕ → Option Bool

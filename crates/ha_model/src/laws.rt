@@ -2,13 +2,15 @@
 //!
 //! `more j x` is the journal `j` with one more entry. The functions that keep a value for a
 //! journal, entry by entry, rest on the laws about it.
-ghost use Rattle.std.specs.Prelude.{◌≡◌, ℕ, List, [], ◌∷◌, ◌++◌, ◌||◌, Bool, true, false, None, Some, max, codes, if◌then◌else◌};
+ghost use Rattle.std.specs.Prelude.{◌≡◌, ℕ, List, [], ◌∷◌, ◌++◌, ◌||◌, Bool, true, false, None, Some, length, max, codes, if◌then◌else◌};
+ghost use Rattle.ha_value.specs.Ids.{entity_text};
 ghost use Rattle.ha_value.specs.declared.value.EntityId.{EntityId};
 ghost use Rattle.ha_model.specs.declared.journal.Cmd as cmd;
 ghost use Rattle.ha_model.specs.declared.journal.Cmd.{Cmd};
 ghost use Rattle.ha_model.specs.declared.journal.Entry.{Entry};
 ghost use Rattle.ha_model.specs.declared.journal.Entry.TheVariants.{Line, Step};
 ghost use Rattle.ha_model.specs.declared.journal.Item.{Item};
+ghost use Rattle.ha_model.specs.declared.journal.Record.{Record};
 ghost use Rattle.ha_model.specs.Words.{Text, Pairs, EachAfter, same_entity};
 ghost use Rattle.ha_model.specs.Entries.{report_in, gone_in, is_restart, IsBoot};
 ghost use Rattle.ha_model.specs.Journal.{Journal, HasEntry, automations, brings, now as now_lem};
@@ -16,9 +18,10 @@ ghost use Rattle.ha_model.specs.Switches.{is_on, on_after};
 ghost use Rattle.ha_model.specs.States.{reported};
 ghost use Rattle.ha_model.specs.StateStep.{next_object};
 ghost use Rattle.ha_model.specs.Scripts.{Branch, Status, whole};
-ghost use Rattle.ha_model.specs.Records.{Records, records_of, passing};
+ghost use Rattle.ha_model.specs.Records.{Records, actions_of, records_of, passing, ran_on, spots};
 ghost use Rattle.ha_model.specs.RecordSteps.{more, records_after};
 ghost use Rattle.ha_model.specs.RunSteps.{runs_after};
+ghost use Rattle.ha_model.specs.Branches.{branches_of};
 ghost use Rattle.ha_model.specs.Answers.{makers, cmds_of, OfOne};
 ghost use Rattle.ha_model.specs.Told.{ByTheRules, AreNear};
 ghost use Rattle.ha_model.specs.Commands.{lines_of, placed_line};
@@ -26,9 +29,12 @@ ghost use Rattle.ha_model.specs.Texts.{as_line, call_text, call_text_of, error_t
 ghost use Rattle.ha_model.specs.WorkedHall as hall;
 ghost use Rattle.ha_model.specs.WorkedModes as modes;
 ghost use Rattle.ha_model.specs.WorkedScripts as scripts;
+ghost use Rattle.ha_model.specs.Waits.{next_spot};
+ghost use Rattle.ha_model.specs.OneCall.{IsCallable, call_made, one_call};
+ghost use Rattle.ha_model.specs.OneRun.{AllEnded, IsBegun, SameNumbers};
 ghost use Rattle.ha_model.specs.declared.config.Mode.{Mode};
 ghost use Rattle.ha_model.specs.declared.journal.EndCause.{EndCause};
-ghost use Rattle.ha_model.specs.Lawful.{Right, Lawful, Running, IsRightEntry, IsTurn, IsBusy, ready, is_quiet, is_rested, is_line_of};
+ghost use Rattle.ha_model.specs.Lawful.{Right, Lawful, Running, IsRightEntry, IsTurn, IsBusy, ready, is_quiet, is_rested, is_line_of, may_step};
 
 /// For a given first entry, given lines of each source and a given list of the makers of the
 /// entries, at most one journal with its records is lawful.
@@ -120,6 +126,32 @@ pub fn texts_of_one_more()
     ensures errors { (j : Journal) (x : Entry) → error_text (more j x) ≡ error_text j ++ error_text_of x }
     ensures trace { (j : Journal) (x : Entry) → HasEntry j → trace_text (more j x) false ≡ trace_text j false ++ trace_line (automations j) x }
     ensures lines { (k : ℕ) (j : Journal) (x : Entry) → lines_of k (more j x) ≡ lines_of k j ++ placed_line k j x }
+{}
+
+/// Where all runs have ended, the journal is quiet; where the last one alone is live and has made no step, its own branch
+/// is ready and nothing else. Each source is rested where the journal is quiet, and none is behind its own line where it is not.
+pub fn one_run_at_a_time()
+    ensures ended { (j : Journal) (rs : Records) → AllEnded (length j) rs → is_quiet rs j ≡ true }
+    ensures begun { (k : ℕ) (j : Journal) (rs : Records) (b : IsBegun k j rs) → branches_of (actions_of (automations j) b.run.automation) ≡ [] ∷ []
+        → may_step rs j b.run [] ≡ true → ready rs j ≡ (b.run.serial, []) ∷ [] }
+    ensures rested { (rs : Records) (k : ℕ) (j : Journal) → HasEntry j → is_quiet rs j ≡ true → is_rested rs k j ≡ true }
+    ensures busy { (rs : Records) (k number : ℕ) (cmd : Cmd) (j before : Journal) → j ≡ more before (Line k number cmd) → is_quiet rs j ≡ false
+        → is_rested rs k j ≡ false }
+{}
+
+/// The calls' text of a right journal is the same by records that have grown: it tells of a run only its automation and its
+/// number.
+pub fn calls_of_grown_records()
+    ensures { (j : Journal) (rs rs' : Records) → Right j rs → SameNumbers rs rs' → call_text j rs ≡ call_text j rs' }
+{}
+
+/// A script that is one call of literal texts, of a service and for a target outside `automation`, has the outer branch
+/// alone. At its first place it makes that call, and is done.
+pub fn one_call_is_made()
+    ensures branch { (service target : Text) → branches_of (one_call service target) ≡ [] ∷ [] }
+    ensures call { (j : Journal) (r : Record) (service target : EntityId) → IsCallable service → IsCallable target
+        → actions_of (automations j) r.automation ≡ one_call (entity_text service) (entity_text target) → spots j r.serial ≡ []
+        → ran_on j r (spots j r.serial ++ (next_spot j [] ∷ [])) ≡ Some (call_made service target) }
 {}
 
 /// The hall light's journal is lawful and quiet, with these records, calls and store.

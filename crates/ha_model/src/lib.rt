@@ -3,6 +3,7 @@
 
 mod config;
 mod copies;
+mod data;
 mod faults;
 mod journal;
 pub mod laws;
@@ -15,6 +16,7 @@ pub use config::{
     Action, ActionKind, Automation, Condition, Config, Form, Match, Mode, RepeatKind, SpanForm,
     Trigger, TriggerRule, Unit,
 };
+pub use data::as_data;
 pub use faults::{CoreFault, TplFault};
 pub use ha_clock::{Moment, Span};
 pub use ha_value::{Boxed, EntityId, Many, Num, Plain, Value, Word};

@@ -9,7 +9,9 @@ ghost use Rattle.ha_model.specs.declared.journal.Record.{Record};
 ghost use Rattle.ha_model.specs.declared.journal.WaitEnd.{WaitEnd};
 ghost use Rattle.ha_model.specs.Journal.{automations};
 ghost use Rattle.ha_model.specs.States.{Sight};
-ghost use Rattle.ha_model.specs.Sights.{automation_seen, switch_seen, switch_of, changes_switch};
+ghost use Rattle.ha_model.specs.Calls.{automation_at};
+ghost use Rattle.ha_model.specs.Sights.{switch_seen, switch_of, changes_switch};
+ghost use Rattle.ha_model.specs.Texts.{store_text};
 ghost use Rattle.ha_model.specs.Templates.{rendered};
 ghost use Rattle.ha_model.specs.Conditions.{holds};
 ghost use Rattle.ha_model.specs.Commands.{put_as};
@@ -43,7 +45,7 @@ pub trait Answers {
 
     /// The place of the automation that has this id as its entity.
     fn automation(&self, id: &EntityId) -> Option<u32>
-        ensures { result ≡ automation_seen (sight self.now) id.now };
+        ensures { result ≡ automation_at (sight self.now).automations id.now };
 
     /// Whether the automation is on.
     fn is_on(&self, automation: u32) -> bool
@@ -136,7 +138,8 @@ pub trait Core: Sized {
 
     /// The text that keeps the switches.
     fn store_text(&self, alloc: Global) -> Result<Word, AllocError>
-        requires { is_spent self.now ≡ false };
+        requires { is_spent self.now ≡ false }
+        ensures { IfOk result (λ text. text ≡ store_text (entries self.now)) };
 
     /// Whether the last entry is the boot or changed a switch.
     fn last_changed_switch(&self) -> bool

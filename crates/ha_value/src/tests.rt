@@ -131,9 +131,8 @@ fn truths(rt: HostRuntime) -> Result<(), Fail> {
 
 #[test]
 fn lists(rt: HostRuntime) -> Result<(), Fail> {
-    let mut list: Many<u32> = Many::with_capacity(rt.alloc(), 2)?;
+    let mut list: Many<u32> = Many::make(rt.alloc());
     assert!(rt; list.is_empty());
-    list.reserve(4)?;
     list.push(1)?;
     list.push(2)?;
     list.insert(1, 5)?;
