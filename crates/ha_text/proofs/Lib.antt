@@ -1,2 +1,5 @@
 pub mod LineLemmas
+pub mod PieceLemmas
+pub mod Shorten
 pub mod SlugLemmas
+pub mod Taking

@@ -3,7 +3,7 @@ use Rattle.std.proofs.Common.{◌≡◌, ℕ, Bool, true, false, cond, not, ◌&
 use Rattle.std.specs.Prelude.{◌==◌, codes}
 use Rattle.std.proofs.lemmas.Bool.{eqb-true}
 use Rattle.std.proofs.lemmas.List.{append-nil}
-use Rattle.ha_text.specs.Slug.{stays, lower, closed, runs, joined, named}
+use Rattle.ha_text.specs.Slug.{stays, lower, runs, joined, named}
 
 chosen_is : (b : Bool) → (b ≡ true) ⊎ (b ≡ false)
 chosen_is true = inl refl

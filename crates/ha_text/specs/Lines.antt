@@ -1,6 +1,6 @@
 -- The lines of a stream. A line ends by LF, and one CR before it is dropped; what follows the last LF is a line too. A line of
 -- only spaces and tabs is no line. Of a longer line 65,537 bytes are kept.
-use Rattle.std.specs.Prelude.{◌≡◌, ℕ, Bool, true, false, ◌||◌, ◌==◌, if◌then◌else◌, List, [], ◌∷◌, ◌++◌, take, drop, length, ◌≤◌, ◌<◌, Option, Some, None}
+use Rattle.std.specs.Prelude.{◌≡◌, ℕ, Bool, false, not, ◌||◌, ◌==◌, if◌then◌else◌, List, [], ◌∷◌, ◌++◌, take, drop, length, ◌≤◌, ◌<◌, Option, Some, None}
 use Rattle.std.specs.Global.{Vec}
 use Rattle.std.specs.List.{list_all}
 
@@ -61,6 +61,10 @@ pub record IsNone (old new : List ℕ) : Type 0 where
 abbrev pub NoBreak : List ℕ → Type 0
 NoBreak [] = Unit {0}
 NoBreak (b ∷ line) = ((b == 10) ≡ false) × NoBreak line
+
+-- the same as a test
+abbrev pub is_open : List ℕ → Bool
+is_open line = list_all (λ b. not (b == 10)) line
 
 -- a text begins with so many bytes that an LF ends, and this is kept of them
 pub record IsFront (text : List ℕ) (kept : List (List ℕ)) (long : ℕ) : Type 0 where

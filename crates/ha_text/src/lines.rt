@@ -1,8 +1,8 @@
 //! The lines of a stream that comes in pieces.
 
-ghost use Rattle.std.specs.Prelude.{◌≡◌, ◌≤◌, ◌++◌, [], length, drop, vec_len, ◌==◌, MatchResult, MatchOption, IfOk, OnOk, OnErr, option_to_list, IsTrue};
+ghost use Rattle.std.specs.Prelude.{◌≡◌, ◌≤◌, ◌<◌, ◌^◌, ◌+◌, ◌++◌, ◌∷◌, [], take, false, length, drop, true, vec_len, ◌==◌, MatchResult, MatchOption, IfOk, OnOk, OnErr, option_to_list, IsTrue};
 ghost use Rattle.std.specs.List.{list_all, position};
-ghost use Rattle.ha_text.specs.Lines.{IsFront, IsNone, NoBreak, IsTaken, SameLines, counted, is_blank, kept_of, lines_of, longest, whole_lines, without_cr};
+ghost use Rattle.ha_text.specs.Lines.{IsFront, IsNone, NoBreak, IsTaken, SameLines, counted, is_blank, is_open, kept_of, lines_of, longest, whole_lines, without_cr};
 
 use std::alloc::{AllocError, Global};
 use std::marker::Model;
@@ -10,28 +10,35 @@ use std::marker::Model;
 /// How many bytes of a line are kept: one more than a line may have. It is a function so that proofs do not compute with it.
 #[tactic(auto, unfolding(crate::specs::Lines::longest))]
 fn longest() -> usize
-    ensures { result ≡ longest }
+    ensures value { result ≡ longest }
+    ensures few { result < 2 ^ 20 }
 {
     65_537
 }
 
 /// Cuts a stream into lines. A line ends by LF, and one CR before it is dropped. A line of only spaces and tabs is no line. Of
 /// a longer line 65,537 bytes are kept. Clauses see the bytes that were pushed and not taken yet, or others that give the same
-/// lines; so a stream gives the same lines however it is cut into pieces.
+/// lines; so a stream gives the same lines however it is cut into pieces. Beside whole lines, a few bytes more than those that
+/// are kept of a line are held.
 #[derive(Debug, Drop)]
 pub struct LineCut {
     alloc: Global,
     held: Vec<u8>,
+    /// The place of the first byte that was not taken.
     start: usize,
-    ghost within: { start ≤ vec_len held },
+    /// The place of the line that no LF ends yet.
+    begun: usize,
 }
 
 impl Model for LineCut {
-    ghost use Rattle.std.specs.Prelude.{List, ℕ, drop};
+    ghost use Rattle.std.specs.Prelude.{◌≡◌, ◌≤◌, List, ℕ, drop, true, vec_len};
+    ghost use Rattle.ha_text.specs.Lines.{is_open};
 
     ghost Value = { List ℕ };
 
     ghost view = { λ c. drop c.start c.held.items };
+
+    ghost invariant = { λ c. (c.start ≤ c.begun) × (c.begun ≤ vec_len c.held) × (is_open (drop c.begun c.held.items) ≡ true) };
 }
 
 fn is_blank(b: u8) -> bool
@@ -73,6 +80,36 @@ fn first_break(bytes: &[u8]) -> Option<usize>
     bytes.iter().position(|b| *b == b'\n')
 }
 
+/// A byte that stands for others: blank where all are, and no LF.
+fn mark_of(line: &[u8]) -> u8
+    ensures blank { is_blank result ≡ list_all is_blank line.now }
+    ensures no_break { (result == 10) ≡ false }
+{
+    if is_no_line(line) { b' ' } else { b'x' }
+}
+
+/// Puts two bytes at a place, and drops all that stands behind them.
+fn end_with(bytes: &mut Vec<u8>, at: usize, first: u8, second: u8)
+    requires { at + 2 ≤ vec_len bytes.old }
+    ensures { bytes.new.items ≡ take at bytes.old.items ++ first ∷ second ∷ [] }
+{
+    bytes[at] = first;
+    bytes[at + 1] = second;
+    bytes.truncate(at + 2);
+}
+
+/// The place behind the last LF, 0 where there is none.
+fn behind_last_break(piece: &[u8]) -> usize
+    ensures bound { result ≤ length piece.now }
+    ensures open { is_open (drop result piece.now) ≡ true }
+{
+    let mut at = piece.len();
+    'back: while at > 0 && piece[at - 1] != b'\n' {
+        at -= 1;
+    }
+    at
+}
+
 impl LineCut {
     pub fn make(alloc: Global) -> LineCut
         ensures { result ≡ [] }
@@ -81,14 +118,8 @@ impl LineCut {
             alloc,
             held: Vec::new(alloc),
             start: 0,
+            begun: 0,
         }
-    }
-
-    /// The bytes that are held.
-    fn rest(&self) -> &[u8]
-        ensures { result.now ≡ self.now }
-    {
-        &self.held[self.start..]
     }
 
     /// The next piece of the stream.
@@ -96,7 +127,49 @@ impl LineCut {
         ensures ok { OnOk result (SameLines self.new (self.old ++ piece.now)) }
         ensures err { OnErr result (self.new ≡ self.old) }
     {
-        self.held.extend_from_slice(piece)
+        self.forget_taken();
+        self.append(piece)?;
+        self.shorten();
+        Ok(())
+    }
+
+    /// Lets go of the bytes that were taken.
+    fn forget_taken(&mut self)
+        ensures { self.new ≡ self.old }
+    {
+        let left = self.held.len() - self.start;
+        self.held.copy_within(self.start.., 0);
+        self.held.truncate(left);
+        self.begun -= self.start;
+        self.start = 0;
+    }
+
+    fn append(&mut self, piece: &[u8]) -> Result<(), AllocError>
+        ensures ok { OnOk result (self.new ≡ self.old ++ piece.now) }
+        ensures err { OnErr result (self.new ≡ self.old) }
+    {
+        let behind = behind_last_break(piece);
+        let before = self.held.len();
+        self.held.extend_from_slice(piece)?;
+        if behind > 0 {
+            self.begun = before + behind;
+        }
+        Ok(())
+    }
+
+    /// Of a line that no LF ends yet, drops the bytes in the middle that are not kept: its first bytes, its last one, and one
+    /// that tells whether those between are blank, give the same lines.
+    fn shorten(&mut self)
+        ensures { SameLines self.new self.old }
+    {
+        let front = self.begun + longest();
+        if self.held.len() <= front + 2 {
+            return;
+        }
+        let last = self.held.len() - 1;
+        let mark = mark_of(&self.held[front..last]);
+        let end = self.held[last];
+        end_with(&mut self.held, front, mark, end);
     }
 }
 
@@ -119,7 +192,11 @@ impl LineCut {
     {
         let mut start = self.start;
         'lines: loop {
-            match front_line(self.alloc, &self.held[start..])? {
+            if start == self.begun {
+                self.start = start;
+                return Ok(None);
+            }
+            match front_line(self.alloc, &self.held[start..self.begun])? {
                 None => {
                     self.start = start;
                     return Ok(None);
@@ -149,6 +226,7 @@ impl LineCut {
         let last = counted(self.alloc, &self.held[start..])?;
         self.held.clear();
         self.start = 0;
+        self.begun = 0;
         Ok(last)
     }
 }

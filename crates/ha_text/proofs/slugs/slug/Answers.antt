@@ -1,7 +1,6 @@
-use Rattle.std.proofs.Common.{◌≡◌, ◌<◌, ◌+◌, ◌++◌, ◌∷◌, [], ℕ, List, Bool, true, false, drop, length, get_or, cond, not, ◌&&◌, refl, sym, ap, ◌∙◌, arith, drop-cons, drop_of_length-le, append-nil, string_bytes, add-one}
-use Rattle.std.specs.Prelude.{nat_eq, string_len, codes}
-use Rattle.std.proofs.lemmas.Bool.{eqb-true}
-use Rattle.ha_text.specs.Slug.{stays, lower, runs, joined, named, slug}
+use Rattle.std.proofs.Common.{◌≡◌, ◌<◌, ◌+◌, ◌++◌, ◌∷◌, [], ℕ, List, false, drop, length, get_or, not, sym, ap, ◌∙◌, drop-cons, drop_of_length-le, append-nil, string_bytes, add-one}
+use Rattle.std.specs.Prelude.{nat_eq, string_len}
+use Rattle.ha_text.specs.Slug.{runs, joined, named}
 use Rattle.ha_text.proofs.SlugLemmas.{behind, written, passed, no_more, from_start}
 use Rattle.ha_text.proofs.slugs.slug.Goals as goal
 use Rattle.ha_text.proofs.slugs.slug.Goals.{then-stays+in_ok-put, else-stays}

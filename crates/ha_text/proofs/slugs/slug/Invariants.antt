@@ -1,6 +1,5 @@
-use Rattle.std.proofs.Common.{◌≡◌, ◌++◌, drop, not, false, string_bytes, length}
+use Rattle.std.proofs.Common.{◌≡◌, ◌++◌, drop, not, false, string_bytes}
 use Rattle.std.specs.Prelude.{nat_eq, string_len}
-use Rattle.ha_text.specs.Slug.{runs, joined}
 use Rattle.ha_text.proofs.SlugLemmas.{behind}
 use Rattle.ha_text.proofs.slugs.slug.Given as goal
 

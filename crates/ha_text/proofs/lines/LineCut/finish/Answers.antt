@@ -1,4 +1,4 @@
-use Rattle.std.proofs.Common.{◌≡◌, sym, ◌∙◌, ap, length, drop, take, refl, ◌-◌}
+use Rattle.std.proofs.Common.{sym, ◌∙◌, ap, length, drop, take, refl, ◌-◌}
 use Rattle.ha_text.specs.Lines.{kept_of, lines_of, counted}
 use Rattle.ha_text.proofs.LineLemmas.{front_passed, last_line, slice_rest, rest_free}
 use Rattle.ha_text.proofs.lines.LineCut.finish.Goals as goal
