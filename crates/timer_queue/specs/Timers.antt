@@ -1,0 +1,39 @@
+-- Timers, ordered by due, then key. A timer is a due, in milliseconds from 1970 on, and a key.
+use Rattle.std.specs.Prelude.{ℕ, ◌&&◌, ◌||◌, nat_eq, nat_le, nat_lt, not, Bool, true, List, [], ◌∷◌, Option, Some, None, is_some, if◌then◌else◌}
+
+abbrev pub Timer : Type 0
+Timer = ℕ × ℕ
+
+-- the earlier due is before, and of equal dues the lower key
+abbrev pub is_before : Timer → Timer → Bool
+is_before a b = nat_lt a.0 b.0 || (nat_eq a.0 b.0 && nat_lt a.1 b.1)
+
+-- the timers with one more at its place
+abbrev pub inserted : Timer → List Timer → List Timer
+inserted t [] = t ∷ []
+inserted t (x ∷ xs) = if is_before t x then t ∷ x ∷ xs else x ∷ inserted t xs
+
+-- the due of a key, if there is a timer of it
+abbrev pub due_of : ℕ → List Timer → Option ℕ
+due_of key [] = None
+due_of key (x ∷ xs) = if nat_eq x.1 key then Some x.0 else due_of key xs
+
+-- the timers without a key
+abbrev pub removed : ℕ → List Timer → List Timer
+removed key [] = []
+removed key (x ∷ xs) = if nat_eq x.1 key then removed key xs else x ∷ removed key xs
+
+-- the key of the first timer, if it is due at or before a moment
+abbrev pub first_due : ℕ → List Timer → Option ℕ
+first_due now [] = None
+first_due now (x ∷ xs) = if nat_le x.0 now then Some x.1 else None
+
+-- the timers without that one
+abbrev pub after_due : ℕ → List Timer → List Timer
+after_due now [] = []
+after_due now (x ∷ xs) = if nat_le x.0 now then xs else x ∷ xs
+
+-- each key has one timer
+abbrev pub distinct_keys : List Timer → Bool
+distinct_keys [] = true
+distinct_keys (x ∷ xs) = not (is_some (due_of x.1 xs)) && distinct_keys xs
