@@ -1,21 +1,19 @@
 -- The characters of strings and their grammar.
-use Rattle.std.proofs.Common.{◌≡◌, ℕ, zero, suc, ◌+◌, ◌-◌, ◌*◌, ◌≤◌, ◌<◌, Bool, true, false, cond, not, ◌&&◌, ◌⊎◌, List, [], ◌∷◌, ◌++◌, length, drop, Option, Some, None, Result, Ok, Err, refl, sym, ap, subst, ◌∙◌, arith, inl, inr}
+use Rattle.std.proofs.Common.{◌≡◌, ℕ, suc, ◌+◌, ◌*◌, ◌≤◌, ◌<◌, Bool, true, false, cond, not, ◌&&◌, ◌⊎◌, List, [], ◌∷◌, ◌++◌, Option, Some, None, Ok, refl, sym, ap, subst, ◌∙◌, arith, inl, inr}
 use Rattle.std.specs.Prelude.{◌==◌, nat_le, nat_lt, codes, encode_utf8}
 use Rattle.std.specs.Char.{IsScalar}
 use Rattle.std.specs.Char.Utf16.{is_high_surrogate, is_low_surrogate, surrogate_pair_char}
 use Rattle.std.proofs.lemmas.Bool.{and_parts, leb-true, le-leb, eqb-true, eq-eqb}
 use Rattle.std.proofs.lemmas.Str.{encode_ascii}
-use Rattle.reading.specs.declared.fault.Bad.{Bad}
-use Rattle.reading.specs.Answer.{◌>>=◌, Answer, front, stop}
+use Rattle.reading.specs.Answer.{◌>>=◌, front, stop}
 use Rattle.reading.specs.Bytes.{expect}
 use Rattle.reading.proofs.Basics.{bind_ok, ok_parts, chosen, chosen_is}
 use Rattle.reading.proofs.Bytes.{expect_found}
-use Rattle.flow_line.specs.declared.fault.Code.{Code}
 use Rattle.flow_line.specs.declared.fault.Code.TheVariants.{Syntax}
 use Rattle.flow_line.specs.Bytes.{is_in, is_plain, hex_value, unescaped}
-use Rattle.flow_line.specs.Text.{hex_in, high_digits, unit, unicode, short_escape, escape, sequence, character, character_at}
+use Rattle.flow_line.specs.Text.{hex_in, high_digits, unit, unicode, short_escape, escape, sequence, character}
 use Rattle.flow_line.specs.Grammar.{IsUnit, unit as unit_of, stands_as_is, IsCharacter, itself, short, whole, halves}
-use Rattle.flow_line.proofs.Utf8.{Fault, in_parts, sequence_found, low_of, high_of}
+use Rattle.flow_line.proofs.Utf8.{Fault, in_parts, sequence_found}
 use lib.Utf8.{low_scalar}
 use Rattle.flow_line.proofs.Utf8.{order}
 

@@ -1,17 +1,14 @@
 -- What is read is in the grammar, and takes a byte at least.
-use Rattle.std.proofs.Common.{◌≡◌, ℕ, zero, suc, ◌+◌, ◌≤◌, ◌<◌, Bool, true, false, cond, not, ◌&&◌, ◌||◌, ◌⊎◌, eqb, List, [], ◌∷◌, ◌++◌, length, drop, Option, Some, None, Result, Ok, Err, refl, sym, ap, subst, ◌∙◌, append_assoc, arith, length-append, inl, inr}
-use Rattle.std.specs.Prelude.{codes, ◌==◌, encode_utf8}
+use Rattle.std.proofs.Common.{◌≡◌, ℕ, zero, suc, ◌<◌, true, false, cond, List, [], ◌∷◌, ◌++◌, length, drop, Ok, sym, ap, subst, ◌∙◌, append_assoc, arith, length-append, inl, inr}
+use Rattle.std.specs.Prelude.{codes, encode_utf8}
 use Rattle.std.specs.Str.{encode_utf8_all}
-use Rattle.std.proofs.lemmas.Bool.{eqb-true}
 use Rattle.std.proofs.lemmas.List.{append-nil}
 use Rattle.std.proofs.lemmas.Str.{length-encode, len_utf8_bounds}
-use Rattle.reading.specs.declared.fault.Bad.{Bad}
-use Rattle.reading.specs.Answer.{◌>>=◌, Answer, Rule, front, made, stop}
-use Rattle.reading.specs.Bytes.{sees, skip, expect}
+use Rattle.reading.specs.Answer.{◌>>=◌, Answer}
+use Rattle.reading.specs.Bytes.{sees, expect}
 use Rattle.reading.specs.Rows.{repeat}
-use Rattle.reading.proofs.Basics.{bind_ok, ok_parts, made_ok, chosen, chosen_is}
-use Rattle.reading.proofs.Bytes.{expect_found, length-skip, sees_front}
-use Rattle.flow_line.specs.declared.fault.Code.{Code}
+use Rattle.reading.proofs.Basics.{bind_ok, ok_parts, made_ok, chosen}
+use Rattle.reading.proofs.Bytes.{expect_found, sees_front}
 use Rattle.flow_line.specs.declared.fault.Code.TheVariants.{Syntax}
 use Rattle.flow_line.specs.Text.{character, characters, goes_on, over, text, string}
 use Rattle.flow_line.specs.Grammar.{IsUnit, unit, IsCharacter, itself, short, whole, halves, IsCharacters, close, more, IsString, string as string_of}
@@ -34,7 +31,7 @@ characters_longer (more c cs) = omega (arith, character_longer c, characters_lon
 pub string_longer : {t s rest : List ℕ} → IsString t s rest → length rest < length t
 string_longer (string_of cs) = characters_longer cs
 
-abbrev Turns : ℕ → List ℕ → List ℕ → Answer ℕ Fault (List ℕ)
+abbrev pub Turns : ℕ → List ℕ → List ℕ → Answer ℕ Fault (List ℕ)
 Turns n found t = repeat over (λ _. goes_on) (λ _. character) n found t
 
 turns_found : (n : ℕ) (found t cs rest : List ℕ) → Turns n found t ≡ Ok (cs, rest) → (tail : List ℕ) × (cs ≡ found ++ tail) × IsCharacters t tail rest

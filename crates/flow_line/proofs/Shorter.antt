@@ -1,20 +1,18 @@
 -- A value that is read takes a byte at least.
-use Rattle.std.proofs.Common.{◌≡◌, ℕ, zero, suc, ◌+◌, ◌≤◌, ◌<◌, Bool, true, false, cond, ◌||◌, ◌⊎◌, List, [], ◌∷◌, ◌++◌, length, take, drop, Option, Some, None, Result, Ok, Err, refl, sym, ap, subst, ◌∙◌, arith, length-append, inl, inr}
+use Rattle.std.proofs.Common.{◌≡◌, ℕ, zero, suc, ◌≤◌, ◌<◌, Bool, true, false, cond, ◌||◌, List, [], ◌∷◌, length, take, drop, Option, Some, None, Ok, ap, ◌∙◌, arith, length-append, inl, inr}
 use Rattle.std.specs.Prelude.{codes, ◌==◌, ◌-◌}
 use Rattle.std.proofs.lemmas.Bool.{eqb-true}
 use Rattle.ha_value.specs.declared.value.Num.{Num}
 use Rattle.ha_value.specs.declared.value.Value.{Value}
 use Rattle.ha_value.specs.declared.value.Value.TheVariants.{Null, Flag, Number, Text, Items, Pairs}
 use Rattle.ha_value.specs.Numbers.{read_number}
-use Rattle.reading.specs.declared.fault.Bad.{Bad}
-use Rattle.reading.specs.Answer.{◌>>=◌, Answer, Rule, front, made, stop}
+use Rattle.reading.specs.Answer.{◌>>=◌, front, made, stop}
 use Rattle.reading.specs.Bytes.{sees, skip, expect}
 use Rattle.reading.specs.Rows.{closed_by}
 use Rattle.reading.proofs.Basics.{bind_ok, ok_parts, made_ok, chosen, chosen_is, IsShorter, Sound, Longer}
 use Rattle.reading.proofs.Bytes.{expect_found, length-skip}
 use Rattle.reading.proofs.RowLaws.{closed_found, closed_longer}
-use Rattle.flow_line.specs.declared.fault.Code.{Code}
-use Rattle.flow_line.specs.declared.fault.Code.TheVariants.{Syntax, RepeatedKey, Depth, Range}
+use Rattle.flow_line.specs.declared.fault.Code.TheVariants.{Syntax, RepeatedKey, Depth}
 use Rattle.flow_line.specs.Bytes.{is_digit, begins_number}
 use Rattle.flow_line.specs.Text.{Reads, byte_in, text, string}
 use Rattle.flow_line.specs.Reading.{skip_digits, skip_sign, digits, numeral, in_range, number, has_key, key, pair, items, pairs, Start, of_null, of_true, of_false, quote, bracket, brace, numeric, nothing, start_of, value_by, value}
@@ -51,7 +49,7 @@ numeral_shorter t x rest e =
       | inr h ↦ let p = ok_parts {F = Fault} b.0 (x, rest) h.1 in omega (arith, ap length p.1, length-skip_sign t)
     ]
 
-in_range_rest : (o : Option Num) (at end : List ℕ) (n : Num) (rest : List ℕ) → in_range o at end ≡ Ok (n, rest) → (o ≡ Some n) × (end ≡ rest)
+pub in_range_rest : (o : Option Num) (at end : List ℕ) (n : Num) (rest : List ℕ) → in_range o at end ≡ Ok (n, rest) → (o ≡ Some n) × (end ≡ rest)
 in_range_rest None at end n rest e = absurd cc
 in_range_rest (Some m) at end n rest e = let p = ok_parts {F = Fault} (m, end) (n, rest) e in (ap (λ (k : Num). Some k) p.0, p.1)
 

@@ -1,11 +1,11 @@
 -- How values begin.
-use Rattle.std.proofs.Common.{◌≡◌, ℕ, zero, suc, ◌≤◌, Bool, true, false, cond, ◌||◌, ◌⊎◌, List, [], ◌∷◌, Option, Some, None, refl, sym, ap, ◌∙◌, inl, inr}
+use Rattle.std.proofs.Common.{◌≡◌, ℕ, zero, suc, true, false, List, Some, refl, sym, ap, ◌∙◌, inl, inr}
 use Rattle.std.specs.Prelude.{◌==◌}
 use Rattle.std.proofs.lemmas.Bool.{eqb-true}
 use Rattle.ha_value.specs.declared.value.Value.TheVariants.{Number}
 use Rattle.reading.specs.Answer.{front, made}
 use Rattle.reading.proofs.Basics.{chosen_is}
-use Rattle.flow_line.specs.Bytes.{is_digit, begins_number}
+use Rattle.flow_line.specs.Bytes.{begins_number}
 use Rattle.flow_line.specs.Reading.{number, value, start_of, numeric}
 
 no_number : (k : ℕ) → begins_number k ≡ false → (b : ℕ) → begins_number b ≡ true → (b == k) ≡ false

@@ -1,10 +1,9 @@
 -- Reading a string's characters one after the other, as a loop does.
-use Rattle.std.proofs.Common.{◌≡◌, ℕ, zero, suc, ◌≤◌, ◌<◌, Bool, true, false, cond, List, [], ◌∷◌, ◌++◌, length, drop, Result, Ok, Err, refl, sym, ap, subst, ◌∙◌, arith}
+use Rattle.std.proofs.Common.{◌≡◌, ℕ, ◌<◌, Bool, true, false, cond, List, [], ◌∷◌, ◌++◌, length, drop, Ok, Err, refl, sym, ap, ◌∙◌, arith}
 use Rattle.std.specs.Prelude.{encode_utf8}
 use Rattle.std.specs.Str.{encode_utf8_all}
 use Rattle.std.proofs.lemmas.List.{append-nil}
 use Rattle.std.proofs.lemmas.Str.{encodes-append}
-use Rattle.reading.specs.declared.fault.Bad.{Bad}
 use Rattle.reading.specs.declared.fault.Stop.{Stop}
 use Rattle.reading.specs.declared.fault.Stop.TheVariants as stops
 use Rattle.reading.specs.Answer.{Answer, Gives, made}

@@ -1,17 +1,17 @@
 -- Characters of two bytes or more.
-use Rattle.std.proofs.Common.{◌≡◌, ℕ, zero, suc, ◌+◌, ◌-◌, ◌*◌, ◌/◌, ◌%◌, ◌≤◌, ◌<◌, Bool, true, false, cond, not, ◌&&◌, ◌⊎◌, List, [], ◌∷◌, ◌++◌, length, drop, Option, Some, None, Result, Ok, Err, refl, sym, ap, subst, ◌∙◌, arith, inl, inr}
+use Rattle.std.proofs.Common.{◌≡◌, ℕ, suc, ◌+◌, ◌-◌, ◌*◌, ◌/◌, ◌≤◌, ◌<◌, Bool, true, false, cond, ◌&&◌, ◌⊎◌, List, [], ◌∷◌, ◌++◌, Ok, refl, sym, ap, subst, ◌∙◌, arith, inl, inr}
 use Rattle.std.specs.Prelude.{◌==◌, nat_le, nat_lt, encode_utf8}
 use Rattle.std.specs.Char.{IsScalar}
-use Rattle.std.proofs.lemmas.Bool.{and_parts, cases_lt, leb-true, le-leb, lt-ltb, le-ltb, eqb-true, eq-eqb}
+use Rattle.std.proofs.lemmas.Bool.{and_parts, cases_lt, leb-true, le-leb, lt-ltb, le-ltb, eq-eqb}
 use Rattle.reading.specs.declared.fault.Bad.{Bad}
-use Rattle.reading.specs.Answer.{◌>>=◌, Answer, front, stop}
+use Rattle.reading.specs.Answer.{front, stop}
 use Rattle.reading.proofs.Basics.{bind_ok, ok_parts, chosen}
 use Rattle.flow_line.specs.declared.fault.Code.{Code}
 use Rattle.flow_line.specs.declared.fault.Code.TheVariants.{Syntax}
 use Rattle.flow_line.specs.Bytes.{is_in}
 use Rattle.flow_line.specs.Text.{byte_in, next_bits, two_more, three_more, sequence}
 use lib.Utf8.{encode}
-use lib.Utf8.{scalar, low_scalar, next}
+use lib.Utf8.{low_scalar, next}
 
 abbrev pub Fault : Type 0
 Fault = Bad Code
@@ -73,15 +73,15 @@ less c n h = lt-ltb c n h
 not_less : (c n : ℕ) → n ≤ c → nat_lt c n ≡ false
 not_less c n h = le-ltb c n h
 
-encode_two : (c : ℕ) → 128 ≤ c → c < 2048 → encode_utf8 c ≡ (192 + c / 64) ∷ next c ∷ []
+pub encode_two : (c : ℕ) → 128 ≤ c → c < 2048 → encode_utf8 c ≡ (192 + c / 64) ∷ next c ∷ []
 unfolding encode
 encode_two c l h = chosen_second (nat_lt c 128) _ _ (not_less c 128 l) ∙ chosen_first (nat_lt c 2048) _ _ (less c 2048 h)
 
-encode_three : (c : ℕ) → 2048 ≤ c → c < 65536 → encode_utf8 c ≡ (224 + c / 4096) ∷ next (c / 64) ∷ next c ∷ []
+pub encode_three : (c : ℕ) → 2048 ≤ c → c < 65536 → encode_utf8 c ≡ (224 + c / 4096) ∷ next (c / 64) ∷ next c ∷ []
 unfolding encode
 encode_three c l h = chosen_second (nat_lt c 128) _ _ (not_less c 128 (omega arith)) ∙ chosen_second (nat_lt c 2048) _ _ (not_less c 2048 l) ∙ chosen_first (nat_lt c 65536) _ _ (less c 65536 h)
 
-encode_four : (c : ℕ) → 65536 ≤ c → encode_utf8 c ≡ (240 + c / 262144) ∷ next (c / 4096) ∷ next (c / 64) ∷ next c ∷ []
+pub encode_four : (c : ℕ) → 65536 ≤ c → encode_utf8 c ≡ (240 + c / 262144) ∷ next (c / 4096) ∷ next (c / 64) ∷ next c ∷ []
 unfolding encode
 encode_four c l = chosen_second (nat_lt c 128) _ _ (not_less c 128 (omega arith)) ∙ chosen_second (nat_lt c 2048) _ _ (not_less c 2048 (omega arith)) ∙ chosen_second (nat_lt c 65536) _ _ (not_less c 65536 l)
 

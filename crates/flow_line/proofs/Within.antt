@@ -1,5 +1,5 @@
 -- A fault stands within the text.
-use Rattle.std.proofs.Common.{◌≡◌, ℕ, zero, suc, ◌+◌, ◌-◌, ◌*◌, ◌≤◌, ◌<◌, Bool, true, false, cond, not, ◌&&◌, ◌||◌, ◌⊎◌, List, [], ◌∷◌, ◌++◌, length, take, drop, Option, Some, None, Result, Ok, Err, refl, sym, ap, subst, ◌∙◌, arith, length-append, inl, inr}
+use Rattle.std.proofs.Common.{◌≡◌, ℕ, zero, suc, ◌+◌, ◌-◌, ◌*◌, ◌≤◌, Bool, true, false, cond, not, ◌&&◌, List, [], ◌∷◌, ◌++◌, length, take, drop, Option, Some, None, Ok, Err, refl, sym, ap, ◌∙◌, arith, length-append, inl, inr}
 use Rattle.std.specs.Prelude.{codes, ◌==◌}
 use Rattle.std.specs.Char.Utf16.{surrogate_pair_char}
 use Rattle.std.specs.Str.{encode_utf8_all}
@@ -7,8 +7,7 @@ use Rattle.ha_value.specs.declared.value.Num.{Num}
 use Rattle.ha_value.specs.declared.value.Value.{Value}
 use Rattle.ha_value.specs.declared.value.Value.TheVariants.{Null, Flag, Number, Text, Items, Pairs}
 use Rattle.ha_value.specs.Numbers.{read_number}
-use Rattle.reading.specs.declared.fault.Bad.{Bad}
-use Rattle.reading.specs.Answer.{◌>>=◌, Answer, Rule, front, made, stop}
+use Rattle.reading.specs.Answer.{◌>>=◌, front, made, stop}
 use Rattle.reading.specs.Bytes.{sees, skip, expect}
 use Rattle.reading.specs.Rows.{repeat, after_item, row, closed_by}
 use Rattle.reading.proofs.Basics.{bad, bind_ok, bind_err, made_err, ok_parts, chosen, stop_left, IsShorter}
@@ -20,8 +19,8 @@ use Rattle.flow_line.specs.Text.{Reads, byte_in, next_bits, two_more, three_more
 use Rattle.flow_line.specs.Reading.{skip_digits, skip_sign, digits, numeral, in_range, number, has_key, key, pair, items, pairs, Start, of_null, of_true, of_false, quote, bracket, brace, numeric, nothing, start_of, value_by, value, ended, document}
 use Rattle.flow_line.proofs.Utf8.{Fault, byte_in_found, next_bits_found}
 use Rattle.flow_line.proofs.Characters.{hex_found, unit_found, character_found}
-use Rattle.flow_line.proofs.Found.{character_longer, text_found, string_found, string_longer}
-use Rattle.flow_line.proofs.Shorter.{length-drop_one, length-skip_sign, digits_shorter, numeral_shorter, key_shorter, value_shorter, pair_shorter}
+use Rattle.flow_line.proofs.Found.{character_longer}
+use Rattle.flow_line.proofs.Shorter.{length-drop_one, length-skip_sign, digits_shorter, key_shorter, value_shorter, pair_shorter}
 
 abbrev pub Within : {A : Type 0} → Reads A → Type 0
 Within rule = (t : List ℕ) (f : Fault) → rule t ≡ Err f → f.left ≤ length t
@@ -279,7 +278,7 @@ left_within =
     bind_within (value 32) (λ v u. cond (ended (front u)) (Ok (v, u)) (stop Syntax u)) (shorter_keeps (value 32) (value_shorter 32)) (value_within 32)
     (λ v. cond_within (λ u. ended (front u)) (λ u. Ok (v, u)) (stop Syntax) (ok_within (λ _. v) (λ u. u)) (stop_within Syntax))
 
-is_end : (u : List ℕ) → ended (front u) ≡ true → u ≡ []
+pub is_end : (u : List ℕ) → ended (front u) ≡ true → u ≡ []
 is_end [] h = refl
 is_end (b ∷ u) h = absurd cc
 

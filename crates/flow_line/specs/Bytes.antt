@@ -1,5 +1,5 @@
 -- Single bytes of the notation.
-use Rattle.std.specs.Prelude.{ℕ, ◌+◌, ◌-◌, Bool, true, false, not, ◌||◌, ◌&&◌, ◌==◌, nat_le, if◌then◌else◌, Option, Some, None}
+use Rattle.std.specs.Prelude.{ℕ, ◌+◌, ◌-◌, Bool, not, ◌||◌, ◌&&◌, ◌==◌, nat_le, if◌then◌else◌, Option, Some, None}
 
 abbrev pub is_in : ℕ → ℕ → ℕ → Bool
 is_in low high b = nat_le low b && nat_le b high

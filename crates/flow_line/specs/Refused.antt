@@ -1,12 +1,15 @@
--- What reading a whole text answers.
-use Rattle.std.specs.Prelude.{◌≡◌, ℕ, ◌+◌, List, [], ◌∷◌, ◌++◌, length, take, drop, ◌≤◌, Result, Ok, Err}
+-- What reading a whole text answers, and what its first fault is.
+use Rattle.std.specs.Prelude.{◌≡◌, ℕ, zero, suc, ◌+◌, ◌≤◌, Bool, true, false, ◌||◌, ◌==◌, List, [], ◌∷◌, ◌++◌, length, take, drop, Option, Some, None, Result, Ok, Err}
+use Rattle.ha_value.specs.declared.value.Num.{Num}
 use Rattle.ha_value.specs.declared.value.Value.{Value}
 use Rattle.reading.specs.declared.fault.Bad.{Bad}
-use Rattle.reading.specs.Answer.{Answer}
+use Rattle.reading.specs.Answer.{Answer, front}
+use Rattle.reading.specs.Spelling.{Never, IsClosed}
 use Rattle.flow_line.specs.declared.fault.FlowFault.{FlowFault}
 use Rattle.flow_line.specs.declared.fault.FlowFault.TheVariants as faults
 use Rattle.flow_line.specs.declared.fault.Code.{Code}
 use Rattle.flow_line.specs.declared.fault.Code.TheVariants.{Syntax, RepeatedKey, Depth, Range}
+use Rattle.flow_line.specs.Grammar.{IsString, IsNumber, IsPair, IsValueOver, IsDocument, IsUnbounded}
 
 abbrev pub number_of : Code → ℕ
 number_of Syntax = 1
@@ -28,3 +31,69 @@ abbrev pub Tells : List ℕ → Answer ℕ (Bad Code) Value → Result Value Flo
 Tells text answer (Ok v) = answer ≡ Ok (v, [])
 Tells text answer (Err faults.Memory) = Unit {0}
 Tells text answer (Err (faults.Bad at code)) = (f : Bad Code) × (answer ≡ Err f) × IsFault text f at code
+
+-- ---- the first fault
+
+-- The notation alone: numbers of any size, keys that may stand again, and so many brackets in one another.
+unfoldable pub IsNotation : ℕ → List ℕ → Value → List ℕ → Type 0
+IsNotation zero = IsValueOver (λ n. Unit {0}) Never Never
+IsNotation (suc depth) = IsValueOver (λ n. Unit {0}) (IsClosed 93 (λ found. IsNotation depth)) (IsClosed 125 (λ found. IsPair (IsNotation depth) []))
+
+-- both begin with the same key, however it is spelled
+pub record SameKey (a b : List ℕ) : Type 0 where
+  pub key : List ℕ
+  pub text : List ℕ
+  pub text' : List ℕ
+  pub rest : List ℕ
+  pub rest' : List ℕ
+  pub a_is : a ≡ 34 ∷ text
+  pub b_is : b ≡ 34 ∷ text'
+  pub a_key : IsString text key rest
+  pub b_key : IsString text' key rest'
+
+abbrev pub is_bracket : Option ℕ → Bool
+is_bracket None = false
+is_bracket (Some b) = b == 91 || b == 123
+
+-- both begin with the same opening bracket
+abbrev pub SameBracket : List ℕ → List ℕ → Type 0
+SameBracket a b = (front b ≡ front a) × (is_bracket (front a) ≡ true)
+
+-- both begin with the same number, which is complete
+pub record SameNumber (a b : List ℕ) : Type 0 where
+  pub n : Num
+  pub rest : List ℕ
+  pub rest' : List ℕ
+  pub a_number : IsNumber (λ n. Unit {0}) a n rest
+  pub b_number : IsNumber (λ n. Unit {0}) b n rest'
+  pub first : front b ≡ front a
+
+-- Two texts begin alike, as far as a fault at their front depends on them: by the next byte, the key, the bracket or the number.
+abbrev pub Like : Code → List ℕ → List ℕ → Type 0
+Like Syntax a b = front b ≡ front a
+Like RepeatedKey a b = SameKey a b
+Like Depth a b = SameBracket a b
+Like Range a b = SameNumber a b
+
+-- A text is no value; for the syntax it is not even one of the notation.
+abbrev pub IsNone : Code → List ℕ → Type 0
+IsNone Syntax text = (depth : ℕ) (v : Value) → 32 ≤ depth → IsNotation depth text v [] → ⊥
+IsNone RepeatedKey text = (v : Value) → IsDocument text v → ⊥
+IsNone Depth text = (v : Value) → IsDocument text v → ⊥
+IsNone Range text = (v : Value) → IsDocument text v → ⊥
+
+-- some text that begins so is a value, with numbers of any size
+abbrev pub Begins : List ℕ → Type 0
+Begins text = (more : List ℕ) × (v : Value) × IsUnbounded (text ++ more) v
+
+-- Up to this byte a reading goes on. What the code speaks of begins there, and whatever text goes on alike is no value.
+pub record IsFirstFault (text : List ℕ) (at : ℕ) (code : Code) : Type 0 where
+  pub within : at ≤ length text
+  pub goes_on : Begins (take at text)
+  pub here : Like code (drop at text) (drop at text)
+  pub no_more : (other : List ℕ) → Like code (drop at text) other → IsNone code (take at text ++ other)
+
+abbrev pub Refuses : List ℕ → Result Value FlowFault → Type 0
+Refuses text (Ok v) = Unit {0}
+Refuses text (Err faults.Memory) = Unit {0}
+Refuses text (Err (faults.Bad at code)) = IsFirstFault text at code

@@ -5,14 +5,24 @@
 #![tactic(auto)]
 
 mod bytes;
+mod command;
 mod fault;
+mod fields;
+mod keys;
+pub mod laws;
 mod number;
+mod print;
 mod read;
+mod refusal;
 mod text;
 mod value;
 
+pub use command::read_cmd;
 pub use fault::{Code, FlowFault};
+pub use print::print_value;
 pub use read::read_value;
 
+#[cfg(test)]
+mod line_tests;
 #[cfg(test)]
 mod tests;

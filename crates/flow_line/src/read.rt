@@ -1,7 +1,9 @@
 //! The reader of a whole text.
 
 ghost use Rattle.std.specs.Prelude.{◌≡◌, ◌<◌, ◌^◌, length, IfOk};
-ghost use Rattle.flow_line.specs.Refused.{Tells};
+ghost use Rattle.ha_value.specs.declared.value.Value.{Value};
+ghost use Rattle.flow_line.specs.Grammar.{IsDocument};
+ghost use Rattle.flow_line.specs.Refused.{Answers, Refuses, Tells};
 ghost use Rattle.flow_line.specs.Reading.{document};
 
 use crate::fault::FlowFault;
@@ -13,6 +15,12 @@ use std::alloc::Global;
 /// The value that the whole text is, or the first fault. The text may be any bytes.
 pub fn read_value(alloc: Global, text: &[u8]) -> Result<Value, FlowFault>
     requires { length text.now < 2 ^ 32 }
+    // What is read is in the grammar.
+    ensures found { IfOk result (λ v. IsDocument text.now v) }
+    // What is in the grammar is read, unless memory runs out.
+    ensures only { (v : Value) → IsDocument text.now v → Answers result v }
+    // What is refused has its first fault there.
+    ensures refused { Refuses text.now result }
     // Which value or fault it is.
     ensures exact { Tells text.now (document text.now) result }
 {

@@ -5,3 +5,4 @@ pub mod Local
 pub mod Opens
 pub mod RowLaws
 pub mod Rows
+pub mod Solid

@@ -12,7 +12,8 @@
 //! A grammar is a relation `Spelling` (`specs/Spelling.antt`): text, value, rest. The laws about rules and spellings are
 //! `proofs/`: a rule's answer is spelled (`Sound`), and is shorter; what is spelled is read (`Complete`); a fault depends on
 //! nothing behind it (`Local`); a spelling may be followed by anything (`Frames`); what stands before a fault can be gone on
-//! with (`Opens`). Each has a law for binds, blanks, words, rows and lists in brackets, which a reader puts together.
+//! with (`Opens`). Each has a law for binds, blanks, words, rows and lists in brackets, which a reader puts together. For rules
+//! that look at nothing behind what they take, as those of a character, one law says the last three together (`Solid`).
 #![tactic(auto)]
 
 mod fault;

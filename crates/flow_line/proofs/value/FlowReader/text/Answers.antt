@@ -1,5 +1,4 @@
-use Rattle.std.proofs.Common.{◌≡◌, ◌++◌, List, ℕ, Ok, Err, string_bytes}
-use Rattle.std.specs.Prelude.{encode_utf8}
+use Rattle.std.proofs.Common.{string_bytes}
 use Rattle.std.proofs.lemmas.Result.{err_from_is_err_and}
 use Rattle.flow_line.proofs.Strings.{character_fails, shorter_now, one_further, whole_text}
 use Rattle.flow_line.proofs.value.FlowReader.text.Goals as goal

@@ -1,4 +1,4 @@
-use Rattle.std.proofs.Common.{◌≡◌, ℕ, List, length, string_bytes, IsUtf8}
+use Rattle.std.proofs.Common.{◌≡◌, ℕ, List, length, string_bytes}
 use Rattle.std.specs.Str.{encode_utf8_all}
 use Rattle.reading.proofs.Rows.{Repeats}
 use Rattle.flow_line.specs.Text.{characters, character, goes_on, over}

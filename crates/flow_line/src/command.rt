@@ -1,0 +1,270 @@
+//! The command of a line.
+
+ghost use Rattle.std.specs.Prelude.{◌≡◌, length, option_copied, IfOk};
+ghost use Rattle.std.specs.Str.{is_utf8};
+ghost use Rattle.ha_value.specs.Ids.{read_entity};
+ghost use Rattle.ha_model.specs.Commands.{put_as, IsFair};
+ghost use Rattle.ha_model.specs.Journal.{Journal};
+ghost use Rattle.ha_model.specs.Words.{characters, goes_on};
+ghost use Rattle.flow_line.specs.Command.{automation, cmd_by, cmd_of, cmd_of_pairs, event_of, gone_of, is_automation, moment_of_pairs, pairs_of, report_of, reportable, restart_of, state_of, switch_of, trigger_of, turned, command_of, IsFairOncePut, IsInTime, IsLineMap, Says};
+
+use crate::fault::FlowFault;
+use crate::fields::{Pairs, Refused, take, take_flag, take_map, take_text};
+use crate::keys::{Command, has_keys, only_command};
+use crate::read::read_value;
+use crate::refusal::Refusal;
+use ha_clock::read_moment;
+use ha_model::Cmd;
+use ha_value::{EntityFault, EntityId, Value, Word};
+use reading::Stop;
+use std::alloc::{AllocError, Global};
+
+/// A line may have this many bytes.
+const LINE_BYTES: usize = 65_536;
+
+/// A state may have this many characters.
+const STATE_CHARACTERS: usize = 255;
+
+fn goes_on(byte: u8) -> bool
+    ensures { result ≡ goes_on byte }
+{
+    128 <= byte && byte < 192
+}
+
+fn characters(text: &[u8]) -> usize
+    ensures { result ≡ characters text.now }
+{
+    text.iter().filter(|byte| !goes_on(**byte)).count()
+}
+
+/// The entity id that a text is.
+fn entity_of(alloc: Global, text: &Word) -> Result<Option<EntityId>, AllocError>
+    ensures { IfOk result (λ id. id ≡ read_entity text.now) }
+{
+    match EntityId::read(alloc, text.bytes()) {
+        Ok(id) => Ok(Some(id)),
+        Err(EntityFault::Shape) => Ok(None),
+        Err(EntityFault::Memory) => Err(AllocError),
+    }
+}
+
+fn is_automation(id: &EntityId) -> bool
+    ensures { result ≡ is_automation id.now }
+{
+    id.domain.bytes() == b"automation".as_slice()
+}
+
+/// The entity that is reported: no automation.
+fn reportable(id: Option<EntityId>) -> Result<EntityId, Refused>
+    ensures { Says (reportable id) result }
+{
+    match id {
+        Some(id) if !is_automation(&id) => Ok(id),
+        _ => Err(Stop::Fault(Refusal::Id)),
+    }
+}
+
+/// The name of the automation.
+fn automation(id: Option<EntityId>) -> Result<Word, Refused>
+    ensures { Says (automation id) result }
+{
+    match id {
+        Some(id) if is_automation(&id) => {
+            let EntityId { object, .. } = id;
+            Ok(object)
+        }
+        _ => Err(Stop::Fault(Refusal::Id)),
+    }
+}
+
+/// A state that is short enough.
+fn state_of(text: Word) -> Result<Word, Refused>
+    ensures { Says (state_of text) result }
+{
+    if characters(text.bytes()) <= STATE_CHARACTERS {
+        Ok(text)
+    } else {
+        Err(Stop::Fault(Refusal::LongState))
+    }
+}
+
+/// Whether the text turns on.
+fn turned(text: &Word) -> Result<bool, Refused>
+    ensures { Says (turned text.now) result }
+{
+    match text.bytes() {
+        b"on" => Ok(true),
+        b"off" => Ok(false),
+        _ => Err(Stop::Fault(Refusal::Kind)),
+    }
+}
+
+#[tactic(auto, using(crate::proofs::Taking::behind), unfolding(crate::specs::Command::report_of))]
+fn report(alloc: Global, pairs: &mut Pairs) -> Result<Cmd, Refused>
+    ensures exact { Says (report_of pairs.old) result }
+    ensures in_time { IfOk result IsInTime }
+{
+    let id = take_text(pairs, b"report")?;
+    let text = take_text(pairs, b"state")?;
+    let attributes = take_map(alloc, pairs, b"attributes")?;
+    let entity = reportable(entity_of(alloc, &id)?)?;
+    let text = state_of(text)?;
+    Ok(Cmd::Report {
+        entity,
+        text,
+        attributes,
+    })
+}
+
+#[tactic(auto, unfolding(crate::specs::Command::gone_of))]
+fn gone(alloc: Global, pairs: &mut Pairs) -> Result<Cmd, Refused>
+    ensures exact { Says (gone_of pairs.old) result }
+    ensures in_time { IfOk result IsInTime }
+{
+    let id = take_text(pairs, b"gone")?;
+    let entity = reportable(entity_of(alloc, &id)?)?;
+    Ok(Cmd::Gone { entity })
+}
+
+#[tactic(auto, using(crate::proofs::Taking::behind), unfolding(crate::specs::Command::event_of))]
+fn event(alloc: Global, pairs: &mut Pairs) -> Result<Cmd, Refused>
+    ensures exact { Says (event_of pairs.old) result }
+    ensures in_time { IfOk result IsInTime }
+{
+    let kind = take_text(pairs, b"event")?;
+    let fields = take_map(alloc, pairs, b"data")?;
+    Ok(Cmd::Event {
+        kind,
+        pairs: fields,
+    })
+}
+
+#[tactic(auto, unfolding(crate::specs::Command::moment_of_pairs))]
+fn moment(pairs: &mut Pairs) -> Result<Cmd, Refused>
+    ensures exact { Says (moment_of_pairs pairs.old) result }
+    ensures in_time { IfOk result IsInTime }
+{
+    let text = take_text(pairs, b"moment")?;
+    match read_moment(text.bytes()) {
+        Some(at) => Ok(Cmd::Moment(at)),
+        None => Err(Stop::Fault(Refusal::NoMoment)),
+    }
+}
+
+#[tactic(auto, using(crate::proofs::Taking::behind), unfolding(crate::specs::Command::switch_of))]
+fn switch(alloc: Global, pairs: &mut Pairs) -> Result<Cmd, Refused>
+    ensures exact { Says (switch_of pairs.old) result }
+    ensures in_time { IfOk result IsInTime }
+{
+    let id = take_text(pairs, b"switch")?;
+    let to = take_text(pairs, b"to")?;
+    let on = turned(&to)?;
+    let stop = take_flag(pairs, b"stop_actions")?;
+    let name = automation(entity_of(alloc, &id)?)?;
+    Ok(Cmd::Switch { name, on, stop })
+}
+
+#[tactic(auto, using(crate::proofs::Taking::behind), unfolding(crate::specs::Command::trigger_of))]
+fn trigger(alloc: Global, pairs: &mut Pairs) -> Result<Cmd, Refused>
+    ensures exact { Says (trigger_of pairs.old) result }
+    ensures in_time { IfOk result IsInTime }
+{
+    let id = take_text(pairs, b"trigger")?;
+    let skip = take_flag(pairs, b"skip_condition")?;
+    let name = automation(entity_of(alloc, &id)?)?;
+    Ok(Cmd::Trigger { name, skip })
+}
+
+#[tactic(auto, unfolding(crate::specs::Command::restart_of))]
+fn restart(pairs: &mut Pairs) -> Result<Cmd, Refused>
+    ensures exact { Says (restart_of pairs.old) result }
+    ensures in_time { IfOk result IsInTime }
+{
+    match take(pairs, b"restart") {
+        Some(Value::Flag(true)) => Ok(Cmd::Restart),
+        _ => Err(Stop::Fault(Refusal::Kind)),
+    }
+}
+
+/// The command of its values.
+fn command_by(alloc: Global, command: Command, pairs: &mut Pairs) -> Result<Cmd, Refused>
+    ensures exact { Says (cmd_by command pairs.old) result }
+    ensures in_time { IfOk result IsInTime }
+{
+    match command {
+        Command::Report => report(alloc, pairs),
+        Command::Gone => gone(alloc, pairs),
+        Command::Event => event(alloc, pairs),
+        Command::Moment => moment(pairs),
+        Command::Switch => switch(alloc, pairs),
+        Command::Trigger => trigger(alloc, pairs),
+        Command::Restart => restart(pairs),
+    }
+}
+
+/// The command of a line's map.
+#[tactic(auto, unfolding(crate::specs::Command::cmd_of_pairs))]
+fn command_of_pairs(alloc: Global, pairs: &mut Pairs) -> Result<Cmd, Refused>
+    ensures exact { Says (cmd_of_pairs pairs.old) result }
+    ensures in_time { IfOk result IsInTime }
+{
+    let command = only_command(pairs)?;
+    if !has_keys(command, pairs) {
+        return Err(Stop::Fault(Refusal::Keys));
+    }
+    command_by(alloc, command, pairs)
+}
+
+fn is_utf8(text: &[u8]) -> bool
+    ensures { result ≡ is_utf8 text.now }
+{
+    match str::from_utf8(text) {
+        Ok(_) => true,
+        Err(_) => false,
+    }
+}
+
+/// The map that a line is.
+#[tactic(auto, using(crate::proofs::Sound::line_map), unfolding(crate::specs::Command::pairs_of))]
+fn pairs_of(alloc: Global, line: &[u8]) -> Result<Pairs, Refused>
+    ensures exact { Says (pairs_of line.now) result }
+    ensures sound { IfOk result IsLineMap }
+{
+    if line.len() > LINE_BYTES {
+        return Err(Stop::Fault(Refusal::LongLine));
+    }
+    if !is_utf8(line) {
+        return Err(Stop::Fault(Refusal::NotUtf8));
+    }
+    match read_value(alloc, line) {
+        Ok(Value::Pairs(pairs)) => Ok(pairs),
+        Err(FlowFault::Memory) => Err(Stop::Memory),
+        _ => Err(Stop::Fault(Refusal::NoMap)),
+    }
+}
+
+/// The command of a line, or why there is none.
+#[tactic(auto, using(crate::proofs::Fair::fair_of_pairs))]
+fn command_of(alloc: Global, line: &[u8]) -> Result<Cmd, Refused>
+    ensures exact { Says (command_of line.now) result }
+    ensures fair { IfOk result IsFairOncePut }
+{
+    let mut pairs = pairs_of(alloc, line)?;
+    command_of_pairs(alloc, &mut pairs)
+}
+
+/// The command of a line whose end is cut off. A bad line is `Cmd::Refused` with its code's number. That an automation of
+/// this name is missing is found where the line is put.
+#[tactic(auto, unfolding(crate::specs::Command::cmd_of))]
+pub fn read_cmd(alloc: Global, line: &[u8]) -> Result<Cmd, AllocError>
+    // Which command or refusal it is.
+    ensures exact { IfOk result (λ made. made ≡ cmd_of line.now) }
+    // It is fair, but for the automation that it may name, which decides what is put.
+    ensures fair { IfOk result (λ made. (j : Journal) → IsFair j (put_as j made)) }
+{
+    match command_of(alloc, line) {
+        Ok(made) => Ok(made),
+        Err(Stop::Memory) => Err(AllocError),
+        Err(Stop::Fault(refusal)) => Ok(Cmd::Refused(refusal.code())),
+    }
+}
