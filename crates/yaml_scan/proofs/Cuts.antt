@@ -1,11 +1,11 @@
 -- One byte more of a line.
-use Rattle.std.proofs.Common.{◌≡◌, ℕ, zero, suc, ◌+◌, ◌-◌, ◌≤◌, ◌<◌, Bool, true, false, cond, eqb, List, [], ◌∷◌, ◌++◌, length, take, drop, get_or, refl, sym, ap, ◌∙◌, append_assoc, arith, length-take, drop-cons, add-one, ◌⊎◌, inl, inr}
+use Rattle.std.proofs.Common.{◌≡◌, ℕ, ◌+◌, ◌-◌, ◌≤◌, ◌<◌, Bool, true, false, cond, List, [], ◌∷◌, ◌++◌, length, take, drop, get_or, refl, sym, ap, ◌∙◌, append_assoc, arith, length-take, drop-cons, add-one, ◌⊎◌, inl, inr}
 use Rattle.std.specs.Prelude.{◌==◌}
 use Rattle.std.proofs.Math.ListN.{drop_of_length-le}
 use Rattle.std.proofs.lemmas.Bool.{eqb-true}
 use Rattle.std.proofs.lemmas.List.{drop-append-le, take_more, drop-take}
 use Rattle.yaml_scan.specs.declared.line.RawLine.{RawLine}
-use Rattle.yaml_scan.specs.Lines.{lines_from, line_of, last_line, without_cr}
+use Rattle.yaml_scan.specs.Lines.{lines_from, line_of, without_cr}
 
 -- the bytes of a line so far, and one more
 pub grown : (text : List ℕ) (start i : ℕ) → start ≤ i → i < length text → drop start (take (i + 1) text) ≡ drop start (take i text) ++ get_or text i 0 ∷ []

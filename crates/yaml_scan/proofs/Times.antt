@@ -1,5 +1,5 @@
 -- So many times a byte.
-use Rattle.std.proofs.Common.{◌≡◌, ℕ, zero, suc, ◌+◌, List, [], ◌∷◌, ◌++◌, refl, sym, ap, ◌∙◌, append_assoc, arith}
+use Rattle.std.proofs.Common.{◌≡◌, ℕ, zero, suc, ◌+◌, List, [], ◌∷◌, ◌++◌, refl, ap, ◌∙◌, append_assoc, arith}
 use Rattle.yaml_scan.specs.Words.{times}
 
 pub times_more : (n b : ℕ) → times n b ++ b ∷ [] ≡ times (n + 1) b

@@ -1,7 +1,6 @@
 -- A quoted scalar, perhaps over several lines.
 use Rattle.std.specs.Prelude.{◌≡◌, ℕ, zero, suc, ◌+◌, ◌-◌, ◌*◌, Bool, true, false, not, ◌||◌, ◌&&◌, ◌==◌, nat_lt, nat_le, if◌then◌else◌, List, [], ◌∷◌, ◌++◌, drop, Option, Some, None, Result, Ok, Err, encode_utf8}
 use Rattle.yaml_scan.specs.declared.line.RawLine.{RawLine}
-use Rattle.yaml_scan.specs.declared.fault.Fault.{Fault}
 use Rattle.yaml_scan.specs.declared.fault.Code.TheVariants.{Structure}
 use Rattle.yaml_scan.specs.declared.quoted.Last.{Last}
 use Rattle.yaml_scan.specs.declared.quoted.Last.TheVariants.{Usual, Quote, Backslash, Digits}

@@ -1,4 +1,4 @@
-use Rattle.std.proofs.Common.{◌≡◌, ℕ, ◌+◌, take, drop, arith, sym, ◌∙◌, ap, List, []}
+use Rattle.std.proofs.Common.{arith, ◌∙◌, []}
 use Rattle.yaml_scan.specs.Lines.{lines_from}
 use Rattle.yaml_scan.proofs.Cuts.{at_end, at_other}
 use Rattle.yaml_scan.proofs.text.lines.Goals.{then-text-i-eq10+in_ok-line+in_ok-push, else-text-i-eq10}

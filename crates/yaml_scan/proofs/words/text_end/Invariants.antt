@@ -1,4 +1,4 @@
-use Rattle.std.proofs.Common.{◌≡◌, ◌≤◌, drop, false}
+use Rattle.std.proofs.Common.{◌≡◌, ◌≤◌, drop}
 use Rattle.yaml_scan.specs.Words.{text_end}
 use Rattle.yaml_scan.proofs.words.text_end.Given as goal
 

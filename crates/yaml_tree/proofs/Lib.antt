@@ -1,0 +1,17 @@
+pub mod AllLines
+pub mod Floors
+pub mod FlowRuns
+pub mod Found
+pub mod Keys
+pub mod LeafFound
+pub mod Lines
+pub mod LinesFound
+pub mod NodeLeaf
+pub mod Only
+pub mod PiecesFound
+pub mod PiecesRead
+pub mod QuotesFound
+pub mod QuotesRead
+pub mod Rows
+pub mod Shorter
+pub mod TextFound

@@ -1,0 +1,12 @@
+pub mod Entities
+pub mod Flow
+pub mod Grammar
+pub mod Layout
+pub mod Leaves
+pub mod Nodes
+pub mod Pieces
+pub mod Quotes
+pub mod Readers
+pub mod Spelling
+pub mod Starts
+pub mod Tree

@@ -1,0 +1,105 @@
+-- The grammar of lines, and of the pieces that stand on them. In each rule a text, or what is left of one, is a spelling of
+-- something, and then a rest follows. `Quotes` has quoted scalars. Plain and block scalars, flow, and keys in quotes are what the
+-- definitions of `Plain`, `Block`, `Flow` and `Quoted` read.
+use Rattle.std.specs.Prelude.{◌≡◌, ℕ, ◌+◌, ◌-◌, Bool, true, false, not, ◌||◌, ◌&&◌, ◌==◌, List, [], ◌∷◌, ◌++◌, length, take, drop, Some, None, Result, Ok, Err}
+use Rattle.std.specs.Str.{is_utf8}
+use Rattle.yaml_scan.specs.declared.line.RawLine.{RawLine}
+use Rattle.yaml_scan.specs.declared.fault.YamlFault.{YamlFault}
+use Rattle.yaml_scan.specs.declared.fault.YamlFault.TheVariants as faults
+use Rattle.yaml_scan.specs.Lines.{line_of, without_cr, without_mark, without_start, is_blank_line, is_mark, is_directive}
+use Rattle.yaml_scan.specs.Words.{sees, is_blank, is_empty, nothing_left, breaks, colon_at, trimmed, without_blanks}
+use Rattle.yaml_scan.specs.Plain.{plain}
+use Rattle.yaml_scan.specs.Block.{block}
+use Rattle.yaml_scan.specs.Quoted.{State, opened, run}
+use Rattle.yaml_tree.specs.declared.node.Node.{Node}
+use Rattle.yaml_tree.specs.declared.piece.Piece.{Piece}
+use Rattle.yaml_tree.specs.declared.starts.Start.TheVariants as starts
+use Rattle.yaml_tree.specs.Nodes.{word, scalar_node}
+use Rattle.yaml_tree.specs.Starts.{start, is_merge}
+use Rattle.yaml_tree.specs.Leaves.{colon_behind}
+use Rattle.yaml_tree.specs.Flow.{Ended, flow}
+use Rattle.yaml_tree.specs.Quotes.{IsQuoted}
+use Rattle.yaml_tree.specs.Pieces.{dash as dash_piece, key as key_piece, leaf as leaf_piece, floor}
+use Rattle.yaml_tree.specs.Grammar.{IsTree}
+
+-- ---- lines
+
+-- no line ends within these bytes
+pub data IsUnbroken : List ℕ → Type 0 where
+  none : IsUnbroken []
+  byte : {b : ℕ} {bytes : List ℕ} → (b == 10) ≡ false → IsUnbroken bytes → IsUnbroken (b ∷ bytes)
+
+-- The text's lines from this number on. Each ends by an LF, perhaps with a CR before it; the last one may end with the text.
+pub data IsLines : ℕ → List ℕ → List RawLine → Type 0 where
+  none : {n : ℕ} → IsLines n [] []
+  last : {n b : ℕ} {bytes : List ℕ} → IsUnbroken (b ∷ bytes) → IsLines n (b ∷ bytes) (line_of n (b ∷ bytes) ∷ [])
+  line : {n : ℕ} {bytes rest : List ℕ} {ls : List RawLine} → IsUnbroken bytes → IsLines (n + 1) rest ls → IsLines n (bytes ++ 10 ∷ rest) (line_of n (without_cr bytes) ∷ ls)
+
+-- Each line is UTF-8, has no tab among its leading blanks and is no directive. Behind the first one that is not blank none is a mark.
+pub data AreClean : Bool → List RawLine → Type 0 where
+  none : {begun : Bool} → AreClean begun []
+  line : {begun : Bool} {l : RawLine} {ls : List RawLine}
+      → sees 9 l.content ≡ false → is_directive l ≡ false → (begun && is_mark l) ≡ false → is_utf8 l.content ≡ true
+      → AreClean (begun || not (is_blank_line l)) ls → AreClean begun (l ∷ ls)
+
+-- ---- what stands on a line
+
+-- blanks, and then something else, whose column it is
+pub data IsAt : ℕ → List ℕ → ℕ → List ℕ → Type 0 where
+  here : {column b : ℕ} {bytes : List ℕ} → is_blank b ≡ false → IsAt column (b ∷ bytes) column (b ∷ bytes)
+  blank : {column at b : ℕ} {bytes rest : List ℕ} → is_blank b ≡ true → IsAt (column + 1) bytes at rest → IsAt column (b ∷ bytes) at rest
+
+-- A dash is followed by a space, or by nothing.
+abbrev pub is_dash : List ℕ → Bool
+is_dash [] = false
+is_dash (b ∷ bytes) = b == 45 && breaks bytes
+
+-- A scalar or flow of the line n that begins here, how many nodes stand in one another in it, and the lines behind it. Further
+-- lines of a scalar stand at the column right or beyond. Where it is fresh a key might stand here too.
+pub data IsLeaf (fresh : Bool) (right n : ℕ) : List ℕ → List RawLine → Node → ℕ → List RawLine → Type 0 where
+  in_quotes : {b : ℕ} {bytes s : List ℕ} {ls ls' : List RawLine} → start b bytes ≡ starts.InQuotes → IsQuoted right b bytes ls s ls' → IsLeaf fresh right n (b ∷ bytes) ls (scalar_node n s false) 1 ls'
+  in_lines : {b : ℕ} {bytes s : List ℕ} {ls ls' : List RawLine} → start b bytes ≡ starts.InLines → block right n (b == 62) bytes ls ≡ Ok (s, ls') → IsLeaf fresh right n (b ∷ bytes) ls (scalar_node n s false) 1 ls'
+  is_plain : {b : ℕ} {bytes s : List ℕ} {ls ls' : List RawLine} → start b bytes ≡ starts.Plain → plain right n (b ∷ bytes) ls ≡ Ok (s, ls') → IsLeaf fresh right n (b ∷ bytes) ls (scalar_node n s true) 1 ls'
+  in_brackets : {b : ℕ} {bytes : List ℕ} {f : Ended} {ls : List RawLine}
+      → start b bytes ≡ starts.InBrackets → flow n (b == 123) bytes ≡ Ok f → (fresh && colon_behind (without_blanks f.rest)) ≡ false → nothing_left false f.rest ≡ true → f.repeated ≡ false
+      → IsLeaf fresh right n (b ∷ bytes) ls f.node f.height ls
+
+-- A key of the line n that begins at this column: its text, which is not empty, and the column and bytes behind its colon.
+pub data IsKey (n column : ℕ) : List ℕ → List ℕ → ℕ → List ℕ → Type 0 where
+  plain_key : {b at : ℕ} {bytes : List ℕ}
+      → start b bytes ≡ starts.Plain → colon_at false 0 (b ∷ bytes) ≡ Some at → is_merge (trimmed (take at (b ∷ bytes))) ≡ false → is_empty (trimmed (take at (b ∷ bytes))) ≡ false
+      → IsKey n column (b ∷ bytes) (trimmed (take at (b ∷ bytes))) (column + at + 1) (drop (at + 1) (b ∷ bytes))
+  quoted_key : {b : ℕ} {bytes behind : List ℕ} {s : State}
+      → start b bytes ≡ starts.InQuotes → run (opened b n) bytes ≡ (s, Some behind) → s.bad ≡ None → colon_behind behind ≡ true → is_empty s.text ≡ false
+      → IsKey n column (b ∷ bytes) s.text (column + (length (b ∷ bytes) - length behind) + 1) (drop 1 behind)
+
+-- The pieces of what is left of the line n from this column on, and the lines behind them: dashes, and then perhaps a key or a
+-- leaf, or both. Whether a space stands before; further lines of a leaf stand right of the last piece.
+pub data IsHeads (n : ℕ) : ℕ → Bool → ℕ → List ℕ → List RawLine → List Piece → List RawLine → Type 0 where
+  nothing : {right column : ℕ} {spaced : Bool} {bytes : List ℕ} {ls : List RawLine} → nothing_left spaced bytes ≡ true → IsHeads n right spaced column bytes ls [] ls
+  dash : {right column at b : ℕ} {spaced : Bool} {bytes rest : List ℕ} {ls ls' : List RawLine} {ps : List Piece}
+      → IsAt column bytes at (b ∷ rest) → is_dash (b ∷ rest) ≡ true → IsHeads n (at + 1) false (at + 1) rest ls ps ls' → IsHeads n right spaced column bytes ls (dash_piece n at ∷ ps) ls'
+  leaf : {right column at height : ℕ} {spaced : Bool} {bytes rest : List ℕ} {x : Node} {ls ls' : List RawLine}
+      → IsAt column bytes at rest → is_dash rest ≡ false → IsLeaf true right n rest ls x height ls' → IsHeads n right spaced column bytes ls (leaf_piece n at x height false ∷ []) ls'
+  key : {right column at behind : ℕ} {spaced : Bool} {bytes rest k after : List ℕ} {ls : List RawLine}
+      → IsAt column bytes at rest → is_dash rest ≡ false → IsKey n at rest k behind after → nothing_left false after ≡ true → IsHeads n right spaced column bytes ls (key_piece n at (word k) ∷ []) ls
+  key_value : {right column at behind value height : ℕ} {spaced : Bool} {bytes rest k after bytes' : List ℕ} {x : Node} {ls ls' : List RawLine}
+      → IsAt column bytes at rest → is_dash rest ≡ false → IsKey n at rest k behind after → IsAt behind after value bytes' → IsLeaf false (at + 1) n bytes' ls x height ls'
+      → IsHeads n right spaced column bytes ls (key_piece n at (word k) ∷ leaf_piece n value x height false ∷ []) ls'
+
+-- all lines and their pieces, behind those that were found
+pub data IsPieces : List Piece → List RawLine → List Piece → Type 0 where
+  none : {found : List Piece} → IsPieces found [] found
+  line : {found ps all : List Piece} {l : RawLine} {ls ls' : List RawLine} → IsHeads l.line (floor found) true l.indent l.content ls ps ls' → IsPieces (found ++ ps) ls' all → IsPieces found (l ∷ ls) all
+
+-- ---- the whole text
+
+-- The lines behind a byte order mark, all of them clean, the pieces of those behind a `---` at the front, and their tree.
+pub data IsText (text : List ℕ) (root : Node) : Type 0 where
+  text : {ls : List RawLine} {ps : List Piece} → IsLines 1 (without_mark text) ls → AreClean false ls → IsPieces [] (without_start ls) ps → IsTree ps root → IsText text root
+
+-- this tree is the answer, unless memory ran out
+abbrev pub IsRead : Result Node YamlFault → Node → Type 0
+IsRead (Ok x) root = x ≡ root
+IsRead (Err (faults.Bad n code)) root = ⊥
+IsRead (Err faults.Memory) root = Unit {0}

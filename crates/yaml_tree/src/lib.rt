@@ -1,0 +1,27 @@
+//! The tree of a YAML text.
+#![tactic(auto)]
+
+mod entities;
+mod flow;
+mod layout;
+mod leaf;
+mod node;
+mod pairs;
+mod piece;
+mod pieces;
+mod readers;
+mod starts;
+mod tree;
+
+pub use flow::{Flow, Frame, Turn};
+pub use layout::{Begins, Head, Layout};
+pub use leaf::{Trouble, Wrong};
+pub use node::{Node, NodeKind};
+pub use pairs::Pairs;
+pub use piece::{Piece, What};
+pub use pieces::Pieces;
+pub use starts::Start;
+pub use tree::read_tree;
+
+#[cfg(test)]
+mod tests;
