@@ -1,0 +1,29 @@
+-- What a table of states says, and which journals it stands for.
+use Rattle.std.specs.Prelude.{◌≡◌, Bool, false, Option, option_and_then, if◌then◌else◌}
+use Rattle.std.specs.BTreeMap.{get_by_text}
+use Rattle.ha_value.specs.declared.value.EntityId.{EntityId}
+use Rattle.ha_model.specs.declared.journal.StateObject.{StateObject}
+use Rattle.ha_model.specs.Words.{same_entity}
+use Rattle.ha_model.specs.Journal.{Journal}
+use Rattle.ha_model.specs.States.{states}
+use Rattle.state_table.specs.declared.table.StateTable.{StateTable}
+
+-- the state of an entity in the table
+abbrev pub at : StateTable → EntityId → Option StateObject
+at t e = option_and_then (λ domain. get_by_text domain e.object) (get_by_text t.domains e.domain)
+
+-- the table stands for a journal: it has the states after it
+abbrev pub StandsFor : StateTable → Journal → Type 0
+StandsFor t j = (e : EntityId) → at t e ≡ states j e
+
+-- it stands for the journal but for the entities that are left
+abbrev pub StandsBut : (EntityId → Bool) → StateTable → Journal → Type 0
+StandsBut left t j = (e : EntityId) → left e ≡ false → at t e ≡ states j e
+
+-- the new table has this at the entity, and is as the old one at the others
+abbrev pub ChangesAt : StateTable → StateTable → EntityId → Option StateObject → Type 0
+ChangesAt old new entity object = (e : EntityId) → at new e ≡ (if same_entity entity e then object else at old e)
+
+-- two tables have the same states
+abbrev pub AgreesWith : StateTable → StateTable → Type 0
+AgreesWith old new = (e : EntityId) → at new e ≡ at old e

@@ -1,0 +1,97 @@
+//! The states of one domain, by object id.
+ghost use Rattle.std.specs.Prelude.{◌≡◌, None, Some, IfOk, OnErr, OnOk, is_some, string_bytes};
+ghost use Rattle.std.specs.BTreeMap.{get_by_text};
+ghost use Rattle.ha_model.specs.StateStep.{next_object as next_object_lem};
+ghost use Rattle.state_table.specs.Domain.{change_of, ChangesName, SaysTheSame};
+
+use ha_model::{
+    Change, Many, Moment, Plain, StateObject, Value, Word, next_object, same_data, same_text,
+};
+use std::alloc::{AllocError, Global};
+use std::collections::BTreeMap;
+
+/// The states of one domain.
+pub type Domain = BTreeMap<String, StateObject>;
+
+/// The text as a key.
+pub fn key_of(alloc: Global, word: &Word) -> Result<String, AllocError>
+    ensures { IfOk result (λ key. string_bytes key ≡ word.now) }
+{
+    String::from_str(alloc, word.as_str())
+}
+
+/// What a report changes in a state that is there.
+fn update(
+    alloc: Global,
+    object: &mut StateObject,
+    text: &Word,
+    attributes: &Many<(Word, Value)>,
+    now: Moment,
+) -> Result<Change, AllocError>
+    ensures change { IfOk result (λ change. change ≡ change_of (Some object.old) text.now attributes.now) }
+    ensures ok { OnOk result (object.new ≡ next_object_lem (Some object.old) text.now attributes.now now) }
+    ensures err { OnErr result (object.new ≡ object.old) }
+{
+    if !same_text(&object.text, text) {
+        *object = next_object(alloc, None, text, attributes, now)?;
+        return Ok(Change::Text);
+    }
+    if same_data(&object.attributes, attributes) {
+        return Ok(Change::Same);
+    }
+    object.attributes = attributes.copy(alloc)?;
+    object.updated = now;
+    Ok(Change::Attributes)
+}
+
+/// A report of the entity with this object id.
+pub fn report_in(
+    alloc: Global,
+    domain: &mut Domain,
+    name: &Word,
+    text: &Word,
+    attributes: &Many<(Word, Value)>,
+    now: Moment,
+) -> Result<Change, AllocError>
+    ensures change { IfOk result (λ change. change ≡ change_of (get_by_text domain.old name.now) text.now attributes.now) }
+    ensures ok { OnOk result (ChangesName domain.old domain.new name.now (Some (next_object_lem (get_by_text domain.old name.now) text.now attributes.now now))) }
+    ensures err { OnErr result (SaysTheSame domain.old domain.new) }
+{
+    match domain.get_mut(name.as_str()) {
+        Some(object) => update(alloc, object, text, attributes, now),
+        None => {
+            let key = key_of(alloc, name)?;
+            let object = next_object(alloc, None, text, attributes, now)?;
+            domain.insert(key, object)?;
+            Ok(Change::Appeared)
+        }
+    }
+}
+
+/// Gives the entity with this object id a state.
+pub fn put_in(
+    alloc: Global,
+    domain: &mut Domain,
+    name: &Word,
+    object: StateObject,
+) -> Result<(), AllocError>
+    ensures ok { OnOk result (ChangesName domain.old domain.new name.now (Some object)) }
+    ensures err { OnErr result (SaysTheSame domain.old domain.new) }
+{
+    match domain.get_mut(name.as_str()) {
+        Some(old) => *old = object,
+        None => {
+            let key = key_of(alloc, name)?;
+            domain.insert(key, object)?;
+        }
+    }
+    Ok(())
+}
+
+/// Takes the state of the entity with this object id away, and says whether there was one.
+pub fn remove_from(domain: &mut Domain, name: &Word) -> bool
+    ensures found { result ≡ is_some (get_by_text domain.old name.now) }
+    ensures rest { ChangesName domain.old domain.new name.now None }
+{
+    domain.remove(name.as_str()).is_some()
+}

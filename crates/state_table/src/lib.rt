@@ -1,0 +1,11 @@
+//! The states of all entities, changed entry by entry.
+#![tactic(auto)]
+
+mod domain;
+pub mod laws;
+mod table;
+
+pub use table::StateTable;
+
+#[cfg(test)]
+mod tests;

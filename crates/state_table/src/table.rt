@@ -1,0 +1,137 @@
+//! The table of states.
+ghost use Rattle.std.specs.Prelude.{◌≡◌, ◌&&◌, not, true, false, ℕ, [], ◌∷◌, Bool, None, Some, IfOk, OnErr, OnOk, is_some};
+ghost use Rattle.std.specs.Option.{option_copied};
+ghost use Rattle.ha_value.specs.declared.value.EntityId.{EntityId};
+ghost use Rattle.ha_model.specs.declared.journal.Cmd.{Cmd};
+ghost use Rattle.ha_model.specs.declared.journal.Entry.TheVariants.{Line};
+ghost use Rattle.ha_model.specs.Words.{same_entity};
+ghost use Rattle.ha_model.specs.Journal.{Journal, now as now_of};
+ghost use Rattle.ha_model.specs.RecordSteps.{more};
+ghost use Rattle.ha_model.specs.States.{states};
+ghost use Rattle.ha_model.specs.StateStep.{next_object};
+ghost use Rattle.state_table.specs.Domain.{change_of};
+ghost use Rattle.state_table.specs.Anew.{is_automation, sets_anew, switch_object};
+ghost use Rattle.state_table.specs.Table.{at, AgreesWith, ChangesAt, StandsBut, StandsFor};
+
+use crate::domain::{Domain, key_of, put_in, remove_from, report_in};
+use ha_model::{Change, EntityId, Many, Moment, StateObject, Value, Word};
+use std::alloc::{AllocError, Global};
+use std::collections::BTreeMap;
+
+/// The states of all entities: by domain, and there by object id.
+#[derive(Drop)]
+pub struct StateTable {
+    domains: BTreeMap<String, Domain>,
+}
+
+impl StateTable {
+    /// No states.
+    pub fn make(alloc: Global) -> StateTable
+        ensures empty { (e : EntityId) → at result e ≡ None }
+        ensures stands { StandsFor result [] }
+    {
+        StateTable {
+            domains: BTreeMap::new(alloc),
+        }
+    }
+
+    /// The state of an entity, found in the logarithm of the number of entities.
+    pub fn get(&self, entity: &EntityId) -> Option<&StateObject>
+        ensures { option_copied result ≡ at self.now entity.now }
+    {
+        match self.domains.get(entity.domain.as_str()) {
+            Some(domain) => domain.get(entity.object.as_str()),
+            None => None,
+        }
+    }
+
+    /// A report of an entity, after which Now is `now`. After an error the states are as before.
+    pub fn report(
+        &mut self,
+        alloc: Global,
+        entity: &EntityId,
+        text: &Word,
+        attributes: &Many<(Word, Value)>,
+        now: Moment,
+    ) -> Result<Change, AllocError>
+        ensures change { IfOk result (λ change. change ≡ change_of (at self.old entity.now) text.now attributes.now) }
+        ensures ok { OnOk result (ChangesAt self.old self.new entity.now (Some (next_object (at self.old entity.now) text.now attributes.now now))) }
+        ensures stands { OnOk result ((j : Journal) (k n : ℕ) → StandsFor self.old j → is_automation entity.now ≡ false
+            → now ≡ now_of (more j (Line k n (Cmd.Report entity.now text.now attributes.now)))
+            → StandsFor self.new (more j (Line k n (Cmd.Report entity.now text.now attributes.now)))) }
+        ensures err { OnErr result (AgreesWith self.old self.new) }
+    {
+        match self.domains.get_mut(entity.domain.as_str()) {
+            Some(domain) => report_in(alloc, domain, &entity.object, text, attributes, now),
+            None => {
+                let key = key_of(alloc, &entity.domain)?;
+                let mut domain = BTreeMap::new(alloc);
+                let change = report_in(alloc, &mut domain, &entity.object, text, attributes, now)?;
+                self.domains.insert(key, domain)?;
+                Ok(change)
+            }
+        }
+    }
+
+    /// An entity goes; the answer is whether it was there.
+    pub fn gone(&mut self, entity: &EntityId) -> bool
+        ensures found { result ≡ is_some (at self.old entity.now) }
+        ensures rest { ChangesAt self.old self.new entity.now None }
+        ensures stands { (j : Journal) (k n : ℕ) → StandsFor self.old j → is_automation entity.now ≡ false
+            → StandsFor self.new (more j (Line k n (Cmd.Gone entity.now))) }
+    {
+        match self.domains.get_mut(entity.domain.as_str()) {
+            Some(domain) => remove_from(domain, &entity.object),
+            None => false,
+        }
+    }
+
+    /// A Restart takes all states away; the switches of the automations are then set one by one.
+    pub fn clear(&mut self)
+        ensures empty { (e : EntityId) → at self.new e ≡ None }
+        ensures stands { (j : Journal) (k n : ℕ) → StandsBut (sets_anew j (Line k n Cmd.Restart)) self.new (more j (Line k n Cmd.Restart)) }
+    {
+        self.domains.clear();
+    }
+
+    /// An automation was turned on or off, or booted or restarted, at `now`. After an error the
+    /// states are as before.
+    pub fn set_switch(
+        &mut self,
+        alloc: Global,
+        entity: &EntityId,
+        on: bool,
+        now: Moment,
+    ) -> Result<(), AllocError>
+        ensures ok { OnOk result (ChangesAt self.old self.new entity.now (Some (switch_object on now))) }
+        ensures stands { OnOk result ((j : Journal) (left : EntityId → Bool) → StandsBut left self.old j
+            → states j entity.now ≡ Some (switch_object on now)
+            → StandsBut (λ e. left e && not (same_entity entity.now e)) self.new j) }
+        ensures err { OnErr result (AgreesWith self.old self.new) }
+    {
+        let object = switched(alloc, on, now)?;
+        match self.domains.get_mut(entity.domain.as_str()) {
+            Some(domain) => put_in(alloc, domain, &entity.object, object),
+            None => {
+                let key = key_of(alloc, &entity.domain)?;
+                let mut domain = BTreeMap::new(alloc);
+                put_in(alloc, &mut domain, &entity.object, object)?;
+                self.domains.insert(key, domain)?;
+                Ok(())
+            }
+        }
+    }
+}
+
+/// The state of an automation whose switch was set at that moment.
+fn switched(alloc: Global, on: bool, now: Moment) -> Result<StateObject, AllocError>
+    ensures { IfOk result (λ object. object ≡ switch_object on now) }
+{
+    let text = if on { "on" } else { "off" };
+    Ok(StateObject {
+        text: Word::from_str(alloc, text)?,
+        attributes: Many::make(alloc),
+        changed: now,
+        updated: now,
+    })
+}
