@@ -1,15 +1,14 @@
 -- What a refused file tells.
-use Rattle.std.proofs.Common.{◌≡◌, ◌≤◌, ◌+◌, ◌<◌, ◌++◌, ◌∙◌, ℕ, Bool, true, false, List, Option, Some, None, length, nat_le, if◌then◌else◌, ◌&&◌, ap, sym, subst, refl, arith, length-append}
+use Rattle.std.proofs.Common.{◌≡◌, ◌≤◌, ◌++◌, ℕ, false, List, Option, Some, None, length, nat_le, if◌then◌else◌, ◌&&◌, ap, sym, subst, refl, arith, length-append}
 use Rattle.std.specs.Prelude.{IfSome, IsSomeAnd, option_and_then}
 use Rattle.std.specs.Char.{is_ascii}
 use Rattle.std.specs.List.{list_all}
 use Rattle.std.proofs.lemmas.Bool.Decides.{nat_tests}
 use Rattle.ha_io.specs.Told.{Gives, HasFile}
-use Rattle.ha_model.specs.declared.config.Config.{Config}
 use Rattle.ha_top.specs.declared.status.Status.{Status}
 use Rattle.ha_top.specs.Words.{Text}
 use Rattle.ha_top.specs.FirstForm.{parts_of}
-use Rattle.ha_top.specs.FirstConfig.{config_of, config_of_parts, code_of, most_bytes}
+use Rattle.ha_top.specs.FirstConfig.{config_of, config_of_parts, most_bytes}
 use Rattle.ha_top.specs.Headline.{Files, HoldsRefused, IsRefusedAt}
 
 -- a text over the bound is refused, with its own code

@@ -1,5 +1,5 @@
 -- What a test of texts tells.
-use Rattle.std.proofs.Common.{◌≡◌, ◌↔◌, ◌&&◌, ℕ, List, [], ◌∷◌, Bool, true, false, IsTrue, bytes_eq, subst, refl, arith, Option, Some, None, is_some, nat_eq, nat_le, length, ap, sym, ◌∙◌, if◌then◌else◌}
+use Rattle.std.proofs.Common.{◌≡◌, ◌↔◌, ◌&&◌, ℕ, List, [], ◌∷◌, Bool, true, false, IsTrue, bytes_eq, subst, refl, arith, nat_le, length}
 use Rattle.std.specs.Char.{is_ascii, is_ascii_alphabetic}
 use Rattle.std.specs.List.{list_all}
 use Rattle.std.proofs.lemmas.Bool.Decides.{nat_tests}

@@ -1,130 +1,137 @@
 -- What each way to end a run answers for.
-use Rattle.std.proofs.Common.{◌≡◌, ◌⊎◌, ◌+◌, inl, inr, ℕ, List, [], ◌∷◌, Option, Some, None, ap, arith, codes, get_or, length, map, refl, subst, sym, ◌∙◌}
-use Rattle.std.specs.Prelude.{IfSome, IsSome}
+use Rattle.std.proofs.Common.{◌≡◌, ◌⊎◌, ◌≤◌, inl, inr, ℕ, List, [], ◌∷◌, Option, Some, None, ap, arith, get_or, length, map, refl, subst, sym, ◌∙◌}
+use Rattle.std.specs.Prelude.{IfSome, IsSome, IsSomeAnd, option_and_then, slice_get}
+use Rattle.std.proofs.lemmas.Bool.{false≢true}
 use Rattle.ha_model.specs.declared.config.Config.{Config}
 use Rattle.ha_model.specs.declared.journal.Entry.{Entry}
-use Rattle.ha_model.specs.declared.journal.Entry.TheVariants.{Boot}
-use Rattle.ha_model.specs.Answers.{cmds_of}
+use Rattle.ha_model.specs.Records.{Records}
 use Rattle.ha_top.specs.declared.status.Status.{Status}
 use Rattle.ha_top.specs.Words.{Text, Plan}
 use Rattle.ha_top.specs.FirstConfig.{config_of}
-use Rattle.ha_top.specs.Lines.{lines_of}
-use Rattle.ha_top.specs.Commands.{command_of}
-use Rattle.ha_top.specs.Steps.{Adds}
-use Rattle.ha_top.specs.Headline.{AreReadOf, Ends, Files, IsEarly, IsLate, IsJournalOf, HoldsText, HoldsRefused, IsRun}
+use Rattle.ha_top.specs.Headline.{AreRead, AreReadOf, Files, HoldsRefused, HoldsText, IsBeforeLines, IsBooted, IsEarly, IsJournalOf, IsOfFiles, IsOver, IsPut, IsRefusedAt, IsRun, IsUnbooted, IsWithin, StandsAt, config_under, most_source_bytes, source_bytes}
+use Rattle.ha_top.proofs.StatusLemmas.{IsUnready, before_no_refusal, before_unready, early_before, early_no_length, early_unready, put_no_length, put_no_refusal, put_no_usage, stands_by, stands_memory, stands_unready, unready_no_ok, unready_no_usage}
 
-early_no_ok : (s : Status) → IsEarly s → s ≡ Status.Ok → ⊥
-early_no_ok (Status.ConfigRefused l k) e h = cc
-early_no_ok (Status.OpenFault n) e h = cc
-early_no_ok (Status.ReadFault n) e h = cc
-early_no_ok Status.Memory e h = cc
-early_no_ok Status.Ok e h = e
-early_no_ok Status.Usage e h = e
-early_no_ok (Status.WriteFault z) e h = e
-early_no_ok (Status.SourceTooLong n) e h = e
+-- ---- the configuration's file
 
-early_no_usage : (s : Status) → IsEarly s → s ≡ Status.Usage → ⊥
-early_no_usage (Status.ConfigRefused l k) e h = cc
-early_no_usage (Status.OpenFault n) e h = cc
-early_no_usage (Status.ReadFault n) e h = cc
-early_no_usage Status.Memory e h = cc
-early_no_usage Status.Ok e h = e
-early_no_usage Status.Usage e h = e
-early_no_usage (Status.WriteFault z) e h = e
-early_no_usage (Status.SourceTooLong n) e h = e
+-- a refused file gives no configuration
+refused_none : (file : Option Text) (l k : ℕ) → IsSomeAnd file (λ text. IsRefusedAt text l k) → option_and_then config_of file ≡ None
+refused_none None l k r = refl
+refused_none (Some text) l k r = r.refused
 
-late_no_ok : (s : Status) → IsLate s → s ≡ Status.Ok → ⊥
-late_no_ok (Status.ConfigRefused l k) e h = e
-late_no_ok (Status.OpenFault n) e h = cc
-late_no_ok (Status.ReadFault n) e h = cc
-late_no_ok Status.Memory e h = cc
-late_no_ok Status.Ok e h = e
-late_no_ok Status.Usage e h = e
-late_no_ok (Status.WriteFault z) e h = cc
-late_no_ok (Status.SourceTooLong n) e h = cc
+some_none : (o : Option Config) → IsSome o → o ≡ None → ⊥
+some_none None s e = absurd (false≢true s)
+some_none (Some c) s e = cc
 
-late_no_usage : (s : Status) → IsLate s → s ≡ Status.Usage → ⊥
-late_no_usage (Status.ConfigRefused l k) e h = e
-late_no_usage (Status.OpenFault n) e h = cc
-late_no_usage (Status.ReadFault n) e h = cc
-late_no_usage Status.Memory e h = cc
-late_no_usage Status.Ok e h = e
-late_no_usage Status.Usage e h = e
-late_no_usage (Status.WriteFault z) e h = cc
-late_no_usage (Status.SourceTooLong n) e h = cc
-
-late_no_refusal : (s : Status) (l k : ℕ) → IsLate s → s ≡ Status.ConfigRefused l k → ⊥
-late_no_refusal (Status.ConfigRefused a b) l k e h = e
-late_no_refusal (Status.OpenFault n) l k e h = cc
-late_no_refusal (Status.ReadFault n) l k e h = cc
-late_no_refusal Status.Memory l k e h = cc
-late_no_refusal Status.Ok l k e h = e
-late_no_refusal Status.Usage l k e h = e
-late_no_refusal (Status.WriteFault z) l k e h = cc
-late_no_refusal (Status.SourceTooLong n) l k e h = cc
+-- a file that was taken
+taken_config : (f : Files) (name text : Text) (config : Config) → f name ≡ Some text → config_of text ≡ Some config → config_under f name ≡ Some config
+taken_config f name text config t c = ap (option_and_then config_of) t ∙ c
 
 -- the run ended before a configuration was read
-pub early_run : (files : Option Files) (plan : Plan) (s : Status) (j : List Entry) → IsEarly s
-    → ((l k : ℕ) → s ≡ Status.ConfigRefused l k → HoldsRefused files plan.config l k) → IsRun files plan s j
-early_run None plan s j e r = record { ok = λ h. absurd (early_no_ok s e h); refused = r; early = tt; no_usage = early_no_usage s e }
-early_run (Some f) plan s j e r = record { ok = λ h. absurd (early_no_ok s e h); refused = r; early = λ t p q. e; no_usage = early_no_usage s e }
-
--- one text has one configuration, or none
-clash : (f : Files) (name text other : Text) (config : Config) → f name ≡ Some text → config_of text ≡ Some config → f name ≡ Some other → config_of other ≡ None → ⊥
-clash f name text other config p q h k =
-    let same : ◌≡◌ {A = Option Text} (Some text) (Some other) = sym p ∙ h in
-    let texts : text ≡ other = cc in
-    cc
-
--- the run ended after it
-pub late_run : (files : Option Files) (plan : Plan) (s : Status) (j : List Entry) (text : Text) (config : Config) → IsLate s
-    → HoldsText files plan.config text → config_of text ≡ Some config → IsRun files plan s j
-late_run None plan s j text config e t c = record { ok = λ h. absurd (late_no_ok s e h); refused = λ l k h. absurd (late_no_refusal s l k e h); early = tt; no_usage = late_no_usage s e }
-late_run (Some f) plan s j text config e t c = record {
-  ok = λ h. absurd (late_no_ok s e h);
-  refused = λ l k h. absurd (late_no_refusal s l k e h);
-  early = λ other p q. absurd (clash f plan.config text other config t c p q);
-  no_usage = late_no_usage s e;
+early_of_files : (f : Files) (plan : Plan) (s : Status) → IsEarly plan.config s
+    → ((l k : ℕ) → s ≡ Status.ConfigRefused l k → IsSomeAnd (f plan.config) (λ text. IsRefusedAt text l k)) → IsOfFiles f plan s
+early_of_files f plan s e r = record {
+  config_first = λ h. e;
+  refused = r;
+  source_next = λ some h. early_before plan.config s e (λ l k q. some_none _ some (refused_none (f plan.config) l k (r l k q)));
+  too_long = λ k h. absurd (early_no_length plan.config s k e h);
 }
 
--- all was read and put
-pub whole_run : (files : Option Files) (plan : Plan) (j : List Entry) (text : Text) (config : Config) → HoldsText files plan.config text → config_of text ≡ Some config
-    → IfSome files (λ f. IsJournalOf f plan j) → IsRun files plan Status.Ok j
-whole_run None plan j text config t c w = record { ok = λ h. w; refused = λ l k h. tt; early = tt; no_usage = λ h. cc }
-whole_run (Some f) plan j text config t c w = record {
-  ok = λ h. w;
-  refused = λ l k h. absurd (let bad : ◌≡◌ {A = Status} Status.Ok (Status.ConfigRefused l k) = h in cc);
-  early = λ other p q. absurd (clash f plan.config text other config t c p q);
-  no_usage = λ h. cc;
+pub early_run : (files : Option Files) (plan : Plan) (s : Status) (j : List Entry) (rs : Records) → IsEarly plan.config s
+    → ((l k : ℕ) → s ≡ Status.ConfigRefused l k → HoldsRefused files plan.config l k) → IsUnbooted j rs → IsRun files plan s j rs
+early_run files plan s j rs e r u = record {
+  stands = stands_unready (IsBooted files plan) s j rs (early_unready plan.config s e) u;
+  of_files = by files r;
+  no_usage = unready_no_usage s (early_unready plan.config s e);
+}
+  where
+    by : (o : Option Files) → ((l k : ℕ) → s ≡ Status.ConfigRefused l k → HoldsRefused o plan.config l k) → IfSome o (λ f. IsOfFiles f plan s)
+    by None r' = tt
+    by (Some f) r' = early_of_files f plan s e r'
+
+-- ---- the source
+
+-- the bytes of the one source
+one_source : (f : Files) (plan : Plan) (name : Text) → plan.sources ≡ name ∷ [] → source_bytes f plan 0 ≡ f name
+one_source f plan name n = ap (λ (z : List Text). option_and_then f (slice_get z 0)) n
+
+-- the run ended after the configuration was read, before the first line
+before_of_files : (f : Files) (plan : Plan) (s : Status) (text name : Text) (config : Config) → IsBeforeLines s → f plan.config ≡ Some text → config_of text ≡ Some config
+    → plan.sources ≡ name ∷ [] → ((k : ℕ) → s ≡ Status.SourceTooLong k → (k ≡ 0) × IsOver (f name)) → IsOfFiles f plan s
+before_of_files f plan s text name config b t c n o = record {
+  config_first = λ h. absurd (let bad : config_under f plan.config ≡ Some config = taken_config f plan.config text config t c in cc);
+  refused = λ l k h. absurd (before_no_refusal s l k b h);
+  source_next = λ some h. b;
+  too_long = λ k h. ((o k h).0, is_some, (let P : Option Text → Type 0 = IsOver in subst P (sym (one_source f plan name n)) (o k h).1));
+}
+  where
+    is_some : IsSome (config_under f plan.config)
+    is_some = let P : Option Config → Type 0 = λ z. IsSome z in subst P (sym (taken_config f plan.config text config t c)) refl
+
+pub before_run : (files : Option Files) (plan : Plan) (s : Status) (j : List Entry) (rs : Records) (text name : Text) (config : Config) → IsBeforeLines s
+    → HoldsText files plan.config text → config_of text ≡ Some config → plan.sources ≡ name ∷ []
+    → ((k : ℕ) → s ≡ Status.SourceTooLong k → (k ≡ 0) × IfSome files (λ f. IsOver (f name))) → IsUnbooted j rs → IsRun files plan s j rs
+before_run files plan s j rs text name config b t c n o u = record {
+  stands = stands_unready (IsBooted files plan) s j rs (before_unready s b) u;
+  of_files = by files t o;
+  no_usage = unready_no_usage s (before_unready s b);
+}
+  where
+    by : (x : Option Files) → HoldsText x plan.config text → ((k : ℕ) → s ≡ Status.SourceTooLong k → (k ≡ 0) × IfSome x (λ f. IsOver (f name))) → IfSome x (λ f. IsOfFiles f plan s)
+    by None t' o' = tt
+    by (Some f) t' o' = before_of_files f plan s text name config b t' c n o'
+
+-- ---- the lines
+
+put_of_files : (f : Files) (plan : Plan) (s : Status) (text name lines : Text) (config : Config) → IsPut s → f plan.config ≡ Some text → config_of text ≡ Some config
+    → plan.sources ≡ name ∷ [] → f name ≡ Some lines → length lines ≤ most_source_bytes → IsOfFiles f plan s
+put_of_files f plan s text name lines config p t c n l w = record {
+  config_first = λ h. absurd (let bad : config_under f plan.config ≡ Some config = taken_config f plan.config text config t c in cc);
+  refused = λ a b h. absurd (put_no_refusal s a b p h);
+  source_next = λ some h. absurd (h (let P : Option Text → Type 0 = IsWithin in subst P (sym (one_source f plan name n ∙ l)) w));
+  too_long = λ k h. absurd (put_no_length s k p h);
 }
 
--- want of memory may come anywhere
-pub memory_run : (files : Option Files) (plan : Plan) (j : List Entry) → IsRun files plan Status.Memory j
-memory_run files plan j = early_run files plan Status.Memory j tt (λ l k h. absurd (let bad : ◌≡◌ {A = Status} Status.Memory (Status.ConfigRefused l k) = h in cc))
+pub put_run : (files : Option Files) (plan : Plan) (s : Status) (j : List Entry) (rs : Records) (text name lines : Text) (config : Config) → IsPut s
+    → HoldsText files plan.config text → config_of text ≡ Some config → plan.sources ≡ name ∷ [] → HoldsText files name lines → length lines ≤ most_source_bytes
+    → StandsAt (IsJournalOf text plan.start lines) s j rs → IsRun files plan s j rs
+put_run files plan s j rs text name lines config p t c n l w stands = record {
+  stands = stands_by (IsJournalOf text plan.start lines) (IsBooted files plan) (λ j' rs' unput is. record { text = text; lines = lines; read = read files t l; journal_is = is }) s j rs stands;
+  of_files = by files t l;
+  no_usage = put_no_usage s p;
+}
+  where
+    read : (x : Option Files) → HoldsText x plan.config text → HoldsText x name lines → IfSome x (λ f. AreRead f plan text lines)
+    read None t' l' = tt
+    read (Some f) t' l' = record { text_is = t'; lines_are = ap (map f) n ∙ ap (λ (z : Option Text). z ∷ []) l'; within = w }
 
--- the journal of a run whose lines were all put
-journal_of : (files : Option Files) (plan : Plan) (j : List Entry) (text : Text) (config : Config) (name lines : Text) → HoldsText files plan.config text
-    → config_of text ≡ Some config → plan.sources ≡ name ∷ [] → HoldsText files name lines
-    → Adds (Boot text config None plan.start (codes "UTC") ∷ []) j (map command_of (lines_of lines)) → IfSome files (λ f. IsJournalOf f plan j)
-journal_of None plan j text config name lines t c n l e = tt
-journal_of (Some f) plan j text config name lines t c n l e = record {
-  text = text;
-  lines = lines;
-  config = config;
-  later = e.more;
-  text_is = t;
-  lines_are = ap (map f) n ∙ ap (λ (z : Option Text). z ∷ []) l;
-  config_is = c;
-  boots = e.behind;
-  puts = ap (cmds_of 0) e.behind ∙ e.lines;
+    by : (x : Option Files) → HoldsText x plan.config text → HoldsText x name lines → IfSome x (λ f. IsOfFiles f plan s)
+    by None t' l' = tt
+    by (Some f) t' l' = put_of_files f plan s text name lines config p t' c n l' w
+
+-- ---- want of memory
+
+memory_of_files : (f : Files) (plan : Plan) → IsOfFiles f plan Status.Memory
+memory_of_files f plan = record {
+  config_first = λ h. tt;
+  refused = λ l k h. absurd (let bad : ◌≡◌ {A = Status} Status.Memory (Status.ConfigRefused l k) = h in cc);
+  source_next = λ some h. tt;
+  too_long = λ k h. absurd (let bad : ◌≡◌ {A = Status} Status.Memory (Status.SourceTooLong k) = h in cc);
 }
 
--- the run ended after the boot, or all was read and put
-pub ended_run : (files : Option Files) (plan : Plan) (s : Status) (j : List Entry) (text : Text) (config : Config) (name lines : Text) → HoldsText files plan.config text
-    → config_of text ≡ Some config → plan.sources ≡ name ∷ [] → HoldsText files name lines → Ends text config plan.start lines s j → IsRun files plan s j
-ended_run files plan s j text config name lines t c n l (inl late) = late_run files plan s j text config late t c
-ended_run files plan s j text config name lines t c n l (inr e) =
-    subst (λ z. IsRun files plan z j) (sym e.0) (whole_run files plan j text config t c (journal_of files plan j text config name lines t c n l e.1))
+-- want of memory may come last
+pub memory_run : (files : Option Files) (plan : Plan) (j : List Entry) (rs : Records) → StandsAt (IsBooted files plan) Status.Memory j rs → IsRun files plan Status.Memory j rs
+memory_run files plan j rs stands = record { stands = stands; of_files = by files; no_usage = λ h. cc }
+  where
+    by : (o : Option Files) → IfSome o (λ f. IsOfFiles f plan Status.Memory)
+    by None = tt
+    by (Some f) = memory_of_files f plan
+
+pub told_run : (files : Option Files) (plan : Plan) (s r : Status) (j : List Entry) (rs : Records) → (r ≡ s) ⊎ (r ≡ Status.Memory) → IsRun files plan s j rs → IsRun files plan r j rs
+told_run files plan s r j rs (inl e) run = subst (λ z. IsRun files plan z j rs) (sym e) run
+told_run files plan s r j rs (inr e) run =
+    subst (λ z. IsRun files plan z j rs) (sym e) (memory_run files plan j rs (stands_memory (IsBooted files plan) s j rs run.stands))
+
+-- ---- the sources
 
 -- a list of one
 pub one_of : (xs : List Text) (x : Text) → length xs ≡ 1 → x ≡ get_or xs 0 x → xs ≡ x ∷ []
@@ -133,11 +140,8 @@ one_of (y ∷ []) x h e = ap (λ z. z ∷ []) (sym e)
 one_of (y ∷ z ∷ rest) x h e = absurd (omega (arith, h))
 
 -- nothing was read where the run did not end well
-pub unread_early : (files : Option Files) (sources : List Text) (s : Status) (names left : List (Option Text)) → IsEarly s → AreReadOf files sources s names left
-unread_early files sources s names left e h = absurd (early_no_ok s e h)
-
-pub unread_late : (files : Option Files) (sources : List Text) (s : Status) (names left : List (Option Text)) → IsLate s → AreReadOf files sources s names left
-unread_late files sources s names left e h = absurd (late_no_ok s e h)
+pub unready_sources : (files : Option Files) (sources : List Text) (s : Status) (names left : List (Option Text)) → IsUnready s → AreReadOf files sources s names left
+unready_sources files sources s names left e h = absurd (unready_no_ok s e h)
 
 -- the one source was read
 pub read_one : (files : Option Files) (sources : List Text) (s : Status) (names left : List (Option Text)) (name : Text) → sources ≡ name ∷ []
@@ -145,3 +149,8 @@ pub read_one : (files : Option Files) (sources : List Text) (s : Status) (names 
 read_one None sources s names left name n r h = tt
 read_one (Some f) sources s names left name n r h =
     let told = r refl in (told.0 ∙ ap (map {A = Text} {B = Option Text} Some) (sym n), told.1 ∙ ap (map {A = Text} {B = Option Text} (λ z. Some [])) (sym n))
+
+-- the status that was told, or want of memory
+pub told_sources : (files : Option Files) (sources : List Text) (s r : Status) (names left : List (Option Text)) → (r ≡ s) ⊎ (r ≡ Status.Memory) → AreReadOf files sources s names left → AreReadOf files sources r names left
+told_sources files sources s r names left (inl e) are h = are (sym e ∙ h)
+told_sources files sources s r names left (inr e) are h = absurd (let bad : ◌≡◌ {A = Status} Status.Memory Status.Ok = sym e ∙ h in cc)

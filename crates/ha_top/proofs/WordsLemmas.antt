@@ -1,5 +1,5 @@
 -- Six words, and any other number of them.
-use Rattle.std.proofs.Common.{◌≡◌, ℕ, List, [], ◌∷◌, length, map, Some, None, string_bytes, get_or, refl, arith, Global, ◌<◌, ◌≤◌}
+use Rattle.std.proofs.Common.{◌≡◌, List, [], ◌∷◌, length, map, None, string_bytes, get_or, refl, arith, Global}
 use Rattle.std.specs.declared.string.String.{String}
 use Rattle.std.proofs.lemmas.List.{length-map}
 use Rattle.ha_top.specs.Words.{Text, plan_of, plan_of_six}

@@ -1,11 +1,10 @@
 -- The configuration of a text in the first form.
-use Rattle.std.specs.Prelude.{ℕ, ◌&&◌, Bool, true, false, List, [], ◌∷◌, length, map, nat_le, Option, Some, None, option_map, option_and_then, codes, if◌then◌else◌}
+use Rattle.std.specs.Prelude.{ℕ, ◌&&◌, List, [], ◌∷◌, length, map, nat_le, Option, None, option_map, option_and_then, codes, if◌then◌else◌}
 use Rattle.std.specs.Char.{is_ascii, to_ascii_lowercase}
 use Rattle.std.specs.List.{list_all}
 use Rattle.ha_value.specs.Ids.{entity_text}
 use Rattle.ha_value.specs.declared.value.EntityId.{EntityId}
 use Rattle.ha_model.specs.declared.template.Template.{Template}
-use Rattle.ha_model.specs.declared.template.Piece.{Piece}
 use Rattle.ha_model.specs.declared.config.Config.{Config}
 use Rattle.ha_model.specs.declared.config.Automation.{Automation}
 use Rattle.ha_model.specs.declared.config.Trigger.{Trigger}
@@ -13,11 +12,10 @@ use Rattle.ha_model.specs.declared.config.TriggerRule.{TriggerRule}
 use Rattle.ha_model.specs.declared.config.Match.{Match}
 use Rattle.ha_model.specs.declared.config.Mode.{Mode}
 use Rattle.ha_model.specs.declared.config.Action.{Action}
-use Rattle.ha_model.specs.declared.config.ActionKind.{ActionKind}
 use Rattle.ha_model.specs.declared.config.ActionKind.TheVariants.{Call}
 use Rattle.ha_model.specs.declared.template.Piece.TheVariants as piece
 use Rattle.ha_top.specs.Words.{Text}
-use Rattle.ha_top.specs.FirstForm.{Parts, parts_of, is_alias, is_state, outside_id}
+use Rattle.ha_top.specs.FirstForm.{Parts, parts_of, is_alias, is_short, is_state, outside_id}
 
 -- a template that is a literal text
 unfoldable pub literal : Text → Template
@@ -60,7 +58,7 @@ abbrev pub with_entity_id : Parts → EntityId → Option Config
 with_entity_id p entity = option_and_then (with_service_id p entity) (outside_id p.service)
 
 abbrev pub config_of_parts : Parts → Option Config
-config_of_parts p = if is_alias p.alias && is_state p.to then option_and_then (with_entity_id p) (outside_id p.entity) else None
+config_of_parts p = if is_alias p.alias && is_state p.to && is_short p.service && is_short p.target then option_and_then (with_entity_id p) (outside_id p.entity) else None
 
 -- a text over this many bytes is refused before all else
 abbrev pub most_bytes : ℕ

@@ -1,8 +1,7 @@
 -- The first form of a configuration: one automation, whose text has five parts free.
-use Rattle.std.specs.Prelude.{ℕ, ◌&&◌, ◌||◌, Bool, true, false, not, nat_eq, nat_le, List, [], ◌∷◌, ◌++◌, length, take, drop, position, unwrap_or, map, Option, Some, None, is_some, option_map, option_and_then, codes, bytes_eq, if◌then◌else◌}
+use Rattle.std.specs.Prelude.{ℕ, ◌&&◌, ◌||◌, Bool, not, nat_eq, nat_le, [], ◌∷◌, ◌++◌, length, take, drop, position, unwrap_or, map, Option, Some, None, option_and_then, codes, bytes_eq, if◌then◌else◌}
 use Rattle.std.specs.Char.{is_ascii_alphabetic, is_ascii_alphanumeric, to_ascii_lowercase}
 use Rattle.std.specs.List.{list_all}
-use Rattle.std.specs.Option.{option_map_or}
 use Rattle.ha_value.specs.Ids.{read_entity}
 use Rattle.ha_value.specs.declared.value.EntityId.{EntityId}
 use Rattle.ha_top.specs.Words.{Text}
@@ -85,6 +84,10 @@ is_state_byte b = is_ascii_alphanumeric b || nat_eq b 95
 
 abbrev pub is_state : Text → Bool
 is_state text = nat_le 1 (length text) && (nat_le (length text) 64 && list_all is_state_byte text)
+
+-- a text that a template may give
+abbrev pub is_short : Text → Bool
+is_short text = nat_le (length text) 65_536
 
 -- an entity id of another domain than `automation`
 abbrev pub is_outside : EntityId → Bool

@@ -3,9 +3,13 @@ pub mod WordsView
 pub mod FirstForm
 pub mod FirstConfig
 pub mod PartsView
-pub mod Whole
-pub mod Lines
 pub mod Commands
-pub mod ReportView
 pub mod Steps
 pub mod Headline
+pub mod FirstPath
+pub mod Attempt
+pub mod ShownView
+pub mod StatusLine
+pub mod Causes
+pub mod Kept
+pub mod WordsStatus

@@ -1,5 +1,5 @@
 -- The words of a command line, and the plan that they are.
-use Rattle.std.specs.Prelude.{ℕ, ◌&&◌, Bool, true, false, not, nat_eq, List, [], ◌∷◌, Option, Some, None, option_map, codes, bytes_eq, if◌then◌else◌}
+use Rattle.std.specs.Prelude.{ℕ, ◌&&◌, Bool, false, not, nat_eq, List, [], ◌∷◌, Option, None, option_map, codes, bytes_eq, if◌then◌else◌}
 use Rattle.ha_clock.specs.MomentText.{moment_of}
 
 abbrev pub Text : Type 0

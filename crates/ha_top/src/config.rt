@@ -9,7 +9,7 @@ ghost use Rattle.ha_top.specs.FirstConfig.{automation_with, call_of, code_of, co
 ghost use Rattle.ha_top.specs.PartsView.{parts_view};
 
 use crate::ascii::{ascii_word, lower_word};
-use crate::form::{Found, is_alias, is_state, parts_of};
+use crate::form::{Found, is_alias, is_short, is_state, parts_of};
 use ha_model::{
     Action, ActionKind, Automation, Config, Match, Mode, Piece, Template, Trigger, TriggerRule,
 };
@@ -213,7 +213,8 @@ fn with_entity_id(
 fn config_of_parts(alloc: Global, parts: &Found) -> Result<Option<Config>, AllocError>
     ensures { IfOk result (λ config. config ≡ config_of_parts (parts_view parts.now)) }
 {
-    if !(is_alias(parts.alias) && is_state(parts.to)) {
+    let fits = is_alias(parts.alias) && is_state(parts.to);
+    if !(fits && is_short(parts.service) && is_short(parts.target)) {
         return Ok(None);
     }
     match outside_id(alloc, parts.entity)? {

@@ -2,7 +2,7 @@
 ghost use Rattle.std.specs.Prelude.{◌≡◌, ◌<◌, ◌≤◌, take, drop, position, IfSome, ◌&&◌, ◌||◌, Some, None, IfOk, IfErr, length, map, nat_eq, option_map, is_some, bytes_eq, if◌then◌else◌, codes};
 ghost use Rattle.std.specs.Char.{is_ascii_alphabetic, to_ascii_lowercase};
 ghost use Rattle.std.specs.List.{list_all};
-ghost use Rattle.ha_top.specs.FirstForm.{behind, is_alias, is_state, is_state_byte, is_stop, outside_id, part_of, parts_of, past_part, stop_of, with_alias, with_entity, with_service, with_target, with_to};
+ghost use Rattle.ha_top.specs.FirstForm.{behind, is_alias, is_short, is_state, is_state_byte, is_stop, outside_id, part_of, parts_of, past_part, stop_of, with_alias, with_entity, with_service, with_target, with_to};
 ghost use Rattle.ha_top.specs.PartsView.{parts_view};
 
 const BEFORE_ALIAS: &[u8] = b"automation:\n  - alias: ";
@@ -16,6 +16,9 @@ const BEFORE_SERVICE: &[u8] = b"'\n    actions:\n      - action: ";
 const BEFORE_TARGET: &[u8] = b"\n        target:\n          entity_id: ";
 
 const LAST: &[u8] = b"\n";
+
+/// The bytes that a text which a template gives may have.
+const MOST_RENDERED: usize = 65_536;
 
 /// The free parts of a text in the first form.
 #[derive(Drop)]
@@ -189,4 +192,11 @@ pub(crate) fn is_state(text: &[u8]) -> bool
     ensures { result ≡ is_state text.now }
 {
     text.len() >= 1 && (text.len() <= 64 && are_state_bytes(text))
+}
+
+/// Whether a template may give a text: a call whose service or target is longer fails.
+pub(crate) fn is_short(text: &[u8]) -> bool
+    ensures { result ≡ is_short text.now }
+{
+    text.len() <= MOST_RENDERED
 }

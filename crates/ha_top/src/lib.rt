@@ -2,19 +2,19 @@
 #![tactic(auto)]
 
 mod ascii;
+mod attempt;
+mod commands;
 mod config;
 mod form;
-mod lines;
 mod outcome;
 mod plain_core;
 mod prepare;
-mod report;
+mod quoted;
 mod rule;
 mod run;
 mod status;
 mod text;
 mod top;
-mod whole;
 mod words;
 
 pub use outcome::Outcome;

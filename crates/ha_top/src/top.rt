@@ -1,11 +1,18 @@
 //! The program as a function over its words and the outside.
-ghost use Rattle.std.specs.Prelude.{◌≡◌, ◌∷◌, [], ◌⊎◌, IfOk, OnOk, OnErr, codes, true, IsSome, None, Some, length, map, string_bytes};
+ghost use Rattle.std.specs.Prelude.{◌≡◌, ◌∷◌, [], ◌⊎◌, IfOk, MatchResult, codes, true, None, Some, length, map, string_bytes};
 ghost use Rattle.std.specs.Char.{is_ascii};
 ghost use Rattle.std.specs.List.{list_all};
 ghost use Rattle.ha_model.specs.declared.journal.Entry.TheVariants.{Boot};
+ghost use Rattle.ha_model.specs.Lawful.{is_quiet};
+ghost use Rattle.ha_model.specs.Texts.{call_text, error_text};
+ghost use Rattle.ha_top.specs.Causes.{OneRose, OpenCause, ReadCause, WriteCause};
+ghost use Rattle.ha_top.specs.FirstConfig.{config_of};
+ghost use Rattle.ha_top.specs.Headline.{AreErrorsWritten, AreReadOf, IsJournalOf, IsPut, IsRun, IsUnbooted, IsWritten, StandsAt, TookLine};
+ghost use Rattle.ha_top.specs.Kept.{IsKept};
+ghost use Rattle.ha_top.specs.Steps.{NeverFall, status_of};
 ghost use Rattle.ha_top.specs.Words.{Plan, plan_of};
+ghost use Rattle.ha_top.specs.WordsStatus.{words_status};
 ghost use Rattle.ha_top.specs.WordsView.{plan_view};
-ghost use Rattle.ha_top.specs.Headline.{AreReadOf, Ends, IsLate, IsRun};
 
 use crate::ascii::ascii_word;
 use crate::outcome::Outcome;
@@ -15,26 +22,26 @@ use crate::rule::rule_of;
 use crate::run::{Cut, put_all};
 use crate::status::Status;
 use crate::text::status_line;
-use crate::whole::{Unwritten, write_whole};
 use crate::words::{RunWords, WordsFault, read_words};
-use ha_io::{Gate, Keeper, Place, Sink, Source};
+use ha_io::{Gate, Keeper, Place, Sink, Source, Unwritten, write_whole};
 use ha_model::{Entry, Record};
 use ha_value::Many;
 use std::alloc::{AllocError, Global};
 
 /// Writes the status line, where there is one. A sink that fails changes nothing of the status; want of memory does.
 fn told<K: Sink>(alloc: Global, err: &mut K, status: Status) -> Status
-    ensures { (result ≡ status) ⊎ (result ≡ Status.Memory) }
+    ensures status { (result ≡ status) ⊎ (result ≡ Status.Memory) }
+    ensures line { TookLine (OneRose (K.faults err.old) (K.faults err.new) (K.zeros err.old) (K.zeros err.new)) result (K.written err.old) (K.written err.new) }
+    ensures counts { NeverFall (K.faults err.old) (K.faults err.new) (K.zeros err.old) (K.zeros err.new) }
 {
-    if status.number() == 0 {
-        return status;
-    }
     let Ok(line) = status_line(alloc, &status) else {
         return Status::Memory;
     };
     match write_whole(err, line.as_bytes()) {
+        Ok(()) => status,
+        Err(Unwritten::Failed) => status,
+        Err(Unwritten::Zero) => status,
         Err(Unwritten::Memory) => Status::Memory,
-        _ => status,
     }
 }
 
@@ -51,6 +58,7 @@ struct Ran<S: Source> {
 fn unbooted<S: Source>(alloc: Global, end: Unready<S>) -> Ran<S>
     ensures status { result.status ≡ end.status }
     ensures journal { result.journal ≡ [] }
+    ensures records { result.records ≡ [] }
     ensures sources { result.sources ≡ end.sources }
 {
     let Unready { status, sources } = end;
@@ -64,8 +72,12 @@ fn unbooted<S: Source>(alloc: Global, end: Unready<S>) -> Ran<S>
 
 /// The core after the boot of the configuration.
 fn boot(alloc: Global, plan: &RunWords, configured: Configured) -> Result<Core, AllocError>
-    requires { list_all is_ascii configured.text.items ≡ true }
-    ensures { IfOk result (λ core. core.journal.items ≡ Boot configured.text.items configured.config None plan.now.start (codes "UTC") ∷ []) }
+    requires ascii { list_all is_ascii configured.text.items ≡ true }
+    requires first { config_of configured.text.items ≡ Some configured.config }
+    ensures kept { IfOk result IsKept }
+    ensures entry { IfOk result (λ core. core.journal.items ≡ Boot configured.text.items configured.config None plan.now.start (codes "UTC") ∷ []) }
+    ensures records { IfOk result (λ core. core.records.items ≡ []) }
+    ensures quiet { IfOk result (λ core. is_quiet core.records.items core.journal.items ≡ true) }
 {
     let Configured { text, config } = configured;
     let rule = rule_of(alloc, &config)?;
@@ -75,8 +87,7 @@ fn boot(alloc: Global, plan: &RunWords, configured: Configured) -> Result<Core, 
 
 /// The status of a run that was cut, or was not.
 fn status_of(put: Result<(), Cut>) -> Status
-    ensures ok { OnOk put (result ≡ Status.Ok) }
-    ensures cut { OnErr put (IsLate result) }
+    ensures { MatchResult put (λ done. result ≡ Status.Ok) (λ cut. result ≡ status_of cut) }
 {
     match put {
         Ok(()) => Status::Ok,
@@ -94,8 +105,15 @@ fn run_ready<S: Source, K: Sink>(
     out: &mut K,
     err: &mut K,
 ) -> Ran<S>
-    requires { list_all is_ascii configured.text.items ≡ true }
-    ensures ends { Ends configured.text.items configured.config plan.now.start lines.bytes.items result.status result.journal }
+    requires ascii { list_all is_ascii configured.text.items ≡ true }
+    requires first { config_of configured.text.items ≡ Some configured.config }
+    ensures stands { StandsAt (IsJournalOf configured.text.items plan.now.start lines.bytes.items) result.status result.journal result.records }
+    ensures put { IsPut result.status }
+    ensures calls { IsWritten result.status (call_text result.journal result.records) (K.written out.old) (K.written out.new) }
+    ensures errors { IsWritten result.status (error_text result.journal) (K.written err.old) (K.written err.new) }
+    ensures cause { WriteCause (OneRose (K.faults out.old) (K.faults out.new) (K.faults err.old) (K.faults err.new)) (OneRose (K.zeros out.old) (K.zeros out.new) (K.zeros err.old) (K.zeros err.new)) result.status }
+    ensures out_counts { NeverFall (K.faults out.old) (K.faults out.new) (K.zeros out.old) (K.zeros out.new) }
+    ensures err_counts { NeverFall (K.faults err.old) (K.faults err.new) (K.zeros err.old) (K.zeros err.new) }
     ensures sources { result.sources ≡ lines.sources }
 {
     let Lines { bytes, sources } = lines;
@@ -127,7 +145,14 @@ fn run_files<P: Place>(
     err: &mut P::Sink,
 ) -> Ran<P::Source>
     requires { length plan.now.sources ≡ 1 }
-    ensures run { IsRun (P.holds place.old) (plan_view plan.now) result.status result.journal }
+    ensures run { IsRun (P.holds place.old) (plan_view plan.now) result.status result.journal result.records }
+    ensures unopened { OpenCause (plan.now.config ∷ plan.now.sources) (P.faults place.old) (P.faults place.new) (P.last place.new) result.status }
+    ensures unread { ReadCause (plan_view plan.now) (map P.Source.faults result.sources) (map P.Source.name result.sources) result.status }
+    ensures unwritten { WriteCause (OneRose (P.Sink.faults out.old) (P.Sink.faults out.new) (P.Sink.faults err.old) (P.Sink.faults err.new)) (OneRose (P.Sink.zeros out.old) (P.Sink.zeros out.new) (P.Sink.zeros err.old) (P.Sink.zeros err.new)) result.status }
+    ensures calls { IsWritten result.status (call_text result.journal result.records) (P.Sink.written out.old) (P.Sink.written out.new) }
+    ensures errors { IsWritten result.status (error_text result.journal) (P.Sink.written err.old) (P.Sink.written err.new) }
+    ensures out_counts { NeverFall (P.Sink.faults out.old) (P.Sink.faults out.new) (P.Sink.zeros out.old) (P.Sink.zeros out.new) }
+    ensures err_counts { NeverFall (P.Sink.faults err.old) (P.Sink.faults err.new) (P.Sink.zeros err.old) (P.Sink.zeros err.new) }
     ensures sources { AreReadOf (P.holds place.old) plan.now.sources result.status (map P.Source.name result.sources) (map P.Source.left result.sources) }
 {
     let configured = match read_config_file(alloc, place, &plan.config) {
@@ -153,7 +178,17 @@ pub fn run_live<R, P: Place, Q: Keeper, G: Gate>(
     _gate: &G,
 ) -> Outcome<P, Q>
     requires { length plan.now.sources ≡ 1 }
-    ensures run { IsRun (P.holds place.old) (plan_view plan.now) result.status result.journal }
+    ensures run { IsRun (P.holds place.old) (plan_view plan.now) result.status result.journal result.records }
+
+    // The calls, the error lines and the status line that were written.
+    ensures calls { IsWritten result.status (call_text result.journal result.records) (P.Sink.written out) (P.Sink.written result.out) }
+    ensures errors { AreErrorsWritten (OneRose (P.Sink.faults err) (P.Sink.faults result.err) (P.Sink.zeros err) (P.Sink.zeros result.err)) result.status result.journal (P.Sink.written err) (P.Sink.written result.err) }
+
+    // The outside's faults.
+    ensures unopened { OpenCause (plan.now.config ∷ plan.now.sources) (P.faults place.old) (P.faults place.new) (P.last place.new) result.status }
+    ensures unread { ReadCause (plan_view plan.now) (map P.Source.faults result.sources) (map P.Source.name result.sources) result.status }
+    ensures unwritten { WriteCause (OneRose (P.Sink.faults out) (P.Sink.faults result.out) (P.Sink.faults err) (P.Sink.faults result.err)) (OneRose (P.Sink.zeros out) (P.Sink.zeros result.out) (P.Sink.zeros err) (P.Sink.zeros result.err)) result.status }
+
     ensures sources { AreReadOf (P.holds place.old) plan.now.sources result.status (map P.Source.name result.sources) (map P.Source.left result.sources) }
     ensures keep { result.keep ≡ keep }
 {
@@ -175,6 +210,16 @@ pub fn run_live<R, P: Place, Q: Keeper, G: Gate>(
     }
 }
 
+/// The status of words that were not read.
+fn words_status(fault: WordsFault) -> Status
+    ensures { result ≡ words_status fault }
+{
+    match fault {
+        WordsFault::Usage => Status::Usage,
+        WordsFault::Memory => Status::Memory,
+    }
+}
+
 /// The program: what its words ask for, on the outside that it is handed.
 pub fn hearth<R, P: Place, Q: Keeper, G: Gate>(
     rt: &R,
@@ -186,19 +231,29 @@ pub fn hearth<R, P: Place, Q: Keeper, G: Gate>(
     keep: Q,
     gate: &G,
 ) -> Outcome<P, Q>
+    // Words that are no plan.
     ensures usage { result.status ≡ Status.Usage → plan_of (map string_bytes words.now) ≡ None }
     ensures no_plan { plan_of (map string_bytes words.now) ≡ None → (result.status ≡ Status.Usage) ⊎ (result.status ≡ Status.Memory) }
-    ensures run { (plan : Plan) → plan_of (map string_bytes words.now) ≡ Some plan → IsRun (P.holds place.old) plan result.status result.journal }
+    ensures unplanned { plan_of (map string_bytes words.now) ≡ None → IsUnbooted result.journal result.records }
+
+    ensures run { (plan : Plan) → plan_of (map string_bytes words.now) ≡ Some plan → IsRun (P.holds place.old) plan result.status result.journal result.records }
+
+    // The calls, the error lines and the status line that were written.
+    ensures calls { IsWritten result.status (call_text result.journal result.records) (P.Sink.written out) (P.Sink.written result.out) }
+    ensures errors { AreErrorsWritten (OneRose (P.Sink.faults err) (P.Sink.faults result.err) (P.Sink.zeros err) (P.Sink.zeros result.err)) result.status result.journal (P.Sink.written err) (P.Sink.written result.err) }
+
+    // The outside's faults.
+    ensures unopened { (plan : Plan) → plan_of (map string_bytes words.now) ≡ Some plan → OpenCause (plan.config ∷ plan.sources) (P.faults place.old) (P.faults place.new) (P.last place.new) result.status }
+    ensures unread { (plan : Plan) → plan_of (map string_bytes words.now) ≡ Some plan → ReadCause plan (map P.Source.faults result.sources) (map P.Source.name result.sources) result.status }
+    ensures unwritten { WriteCause (OneRose (P.Sink.faults out) (P.Sink.faults result.out) (P.Sink.faults err) (P.Sink.faults result.err)) (OneRose (P.Sink.zeros out) (P.Sink.zeros result.out) (P.Sink.zeros err) (P.Sink.zeros result.err)) result.status }
+
     ensures sources { (plan : Plan) → plan_of (map string_bytes words.now) ≡ Some plan → AreReadOf (P.holds place.old) plan.sources result.status (map P.Source.name result.sources) (map P.Source.left result.sources) }
     ensures keep { result.keep ≡ keep }
 {
     match read_words(alloc, words) {
         Ok(plan) => run_live(rt, alloc, &plan, place, out, err, keep, gate),
         Err(fault) => {
-            let status = match fault {
-                WordsFault::Usage => Status::Usage,
-                WordsFault::Memory => Status::Memory,
-            };
+            let status = words_status(fault);
             Outcome {
                 status: told(alloc, &mut err, status),
                 journal: Many::make(alloc),

@@ -1,5 +1,5 @@
 use Rattle.std.proofs.Common.{Err, ap, sym, ◌∙◌}
-use Rattle.ha_top.specs.declared.whole.Unread.{Unread}
+use Rattle.ha_io.specs.declared.whole.Unread.{Unread}
 use Rattle.ha_top.proofs.FileLemmas.{too_long}
 use Rattle.ha_top.proofs.prepare.read_text.Goals as goal
 

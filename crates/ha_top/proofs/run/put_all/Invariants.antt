@@ -1,17 +1,23 @@
-use Rattle.std.proofs.Common.{◌≡◌, ◌≤◌, ◌+◌, ◌++◌, map, length, List}
+use Rattle.std.proofs.Common.{◌≡◌, ◌++◌, map, length, List, true, count_by}
 use Rattle.ha_model.specs.declared.journal.Cmd.{Cmd}
-use Rattle.ha_top.specs.Steps.{Adds}
-use Rattle.ha_top.specs.Lines.{lines_of}
+use Rattle.ha_model.specs.Lawful.{is_quiet, is_line_of}
+use Rattle.ha_text.specs.Lines.{lines_of, whole_lines}
+use Rattle.ha_top.specs.Steps.{GoesOn, NeverFall, nothing, stage}
+use Rattle.ha_top.specs.Kept.{IsKept}
 use Rattle.ha_top.specs.Commands.{command_of}
 use Rattle.ha_top.proofs.run.put_all.Given as goal
 
-abbrev pub invariant-loop-next : goal.invariant-loop-next
-invariant-loop-next g l = record {
+abbrev pub invariant-lines : goal.invariant-lines
+invariant-lines g l = record {
   done : List Cmd;
-  added : Adds l.initial.core.journal.items l.core.journal.items done;
-  whole : done ++ map command_of (lines_of l.rest) ≡ map command_of (lines_of l.bytes);
-  counted : l.number + length l.rest ≤ length l.bytes;
+  kept : IsKept l.core;
+  quiet : is_quiet l.core.records.items l.core.journal.items ≡ true;
+  number : l.number ≡ count_by (is_line_of 0) l.core.journal.items;
+  gone : GoesOn done nothing (stage l.initial.core (g.K.Sink.written l.initial.out) (g.K.Sink.written l.initial.err)) (stage l.core (g.K.Sink.written l.out) (g.K.Sink.written l.err));
+  whole : done ++ map command_of (lines_of l.cut) ≡ map command_of (lines_of l.bytes);
+  out_counts : NeverFall (g.K.Sink.faults l.initial.out) (g.K.Sink.faults l.out) (g.K.Sink.zeros l.initial.out) (g.K.Sink.zeros l.out);
+  err_counts : NeverFall (g.K.Sink.faults l.initial.err) (g.K.Sink.faults l.err) (g.K.Sink.zeros l.initial.err) (g.K.Sink.zeros l.err);
 }
 
-abbrev pub decreases-loop-next : goal.decreases-loop-next
-decreases-loop-next g l = length l.rest
+abbrev pub decreases-lines : goal.decreases-lines
+decreases-lines g l = length (whole_lines l.cut)

@@ -1,4 +1,3 @@
-use Rattle.std.proofs.Common.{map, string_bytes}
 use Rattle.ha_top.proofs.WordsLemmas.{of_six, other_words}
 use Rattle.ha_top.proofs.words.read_words.Goals as goal
 
