@@ -5,7 +5,7 @@ ghost use Rattle.std.specs.Str.{is_utf8};
 ghost use Rattle.ha_value.specs.Ids.{read_entity};
 ghost use Rattle.ha_model.specs.Commands.{put_as, IsFair};
 ghost use Rattle.ha_model.specs.Journal.{Journal};
-ghost use Rattle.ha_model.specs.Words.{characters, goes_on};
+ghost use Rattle.ha_model.specs.Words.{characters};
 ghost use Rattle.flow_line.specs.Command.{automation, cmd_by, cmd_of, cmd_of_pairs, event_of, gone_of, is_automation, moment_of_pairs, pairs_of, report_of, reportable, restart_of, state_of, switch_of, trigger_of, turned, command_of, IsFairOncePut, IsInTime, IsLineMap, Says};
 
 use crate::fault::FlowFault;
@@ -14,7 +14,7 @@ use crate::keys::{Command, has_keys, only_command};
 use crate::read::read_value;
 use crate::refusal::Refusal;
 use ha_clock::read_moment;
-use ha_model::Cmd;
+use ha_model::{Cmd, characters};
 use ha_value::{EntityFault, EntityId, Value, Word};
 use reading::Stop;
 use std::alloc::{AllocError, Global};
@@ -24,18 +24,6 @@ const LINE_BYTES: usize = 65_536;
 
 /// A state may have this many characters.
 const STATE_CHARACTERS: usize = 255;
-
-fn goes_on(byte: u8) -> bool
-    ensures { result ≡ goes_on byte }
-{
-    128 <= byte && byte < 192
-}
-
-fn characters(text: &[u8]) -> usize
-    ensures { result ≡ characters text.now }
-{
-    text.iter().filter(|byte| !goes_on(**byte)).count()
-}
 
 /// The entity id that a text is.
 fn entity_of(alloc: Global, text: &Word) -> Result<Option<EntityId>, AllocError>

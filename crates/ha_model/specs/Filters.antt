@@ -11,7 +11,7 @@ use Rattle.ha_value.specs.Ids.{read_entity}
 use Rattle.ha_model.specs.declared.journal.StateObject.{StateObject}
 use Rattle.ha_model.specs.Words.{Text, same, first_pair, last_of, first_of_list, lower, upper, without_breaks, characters, is_empty_text, replaced_all}
 use Rattle.ha_model.specs.Equal.{equal_value}
-use Rattle.ha_model.specs.Numbers.{read_number, less, absolute, as_whole, as_fixed, rounded_to}
+use Rattle.ha_model.specs.Numbers.{read_number, less, absolute, as_whole, as_fixed, rounded_to, is_in_range}
 use Rattle.ha_model.specs.States.{Sight}
 use Rattle.ha_model.specs.Values.{Result, flag, made_text, printed, number_of, text_of, items_of, is_null}
 
@@ -54,8 +54,12 @@ places_of (v ∷ []) = option_and_then small (number_of v)
     small _ = None
 places_of (x ∷ y ∷ more) = None
 
+-- a number in range, rounded; there is no other one in a configuration or journal
+abbrev pub rounded_in_range : Num → ℕ → Option Num
+rounded_in_range n places = if is_in_range n then Some (rounded_to places n) else None
+
 abbrev pub to_places : Value → List Value → Result
-to_places v args = option_map Value.Number (option_and_then (λ n. option_map (λ places. rounded_to places n) (places_of args)) (number_of v))
+to_places v args = option_map Value.Number (option_and_then (λ n. option_and_then (rounded_in_range n) (places_of args)) (number_of v))
 
 -- all are numbers
 abbrev pub all_numbers : List Value → Option (List Num)

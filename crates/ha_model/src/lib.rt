@@ -10,6 +10,7 @@ pub mod laws;
 mod names;
 mod steps;
 mod template;
+mod texts;
 mod traits;
 
 pub use config::{
@@ -27,4 +28,5 @@ pub use journal::{
 pub use names::run_name;
 pub use steps::{Change, Firing, Progress, StepOut};
 pub use template::{Expr, Op, Piece, Template};
+pub use texts::characters;
 pub use traits::{Answers, Core, Ended};

@@ -1,11 +1,8 @@
 -- What a call answers where the definitions give a value, or none.
-use Rattle.std.specs.Prelude.{◌≡◌, ◌<◌, ◌≤◌, Bool, true, ℕ, nat_le, pos, negsuc, ◌++◌, length, Option, Some, None, Result, Ok, Err, if◌then◌else◌}
-use Rattle.std.specs.Option.{option_map_or}
+use Rattle.std.specs.Prelude.{◌≡◌, ◌<◌, ◌≤◌, ℕ, nat_le, pos, negsuc, ◌++◌, length, Option, Some, None, Result, Ok, Err, if◌then◌else◌}
 use Rattle.ha_value.specs.declared.value.Num.{Num}
 use Rattle.ha_value.specs.declared.value.Value.{Value}
-use Rattle.ha_value.specs.Numbers.{is_in_range}
 use Rattle.ha_model.specs.declared.faults.TplFault.{TplFault}
-use Rattle.ha_model.specs.Values.{number_of}
 use Rattle.ha_model.specs.Words.{Text}
 
 -- the answer is what is given, or a fault where nothing is; where memory ran out, it says nothing
@@ -13,10 +10,6 @@ abbrev pub Gives : {X : Type 0} → Result X TplFault → Option X → Type 0
 Gives (Ok x) given = given ≡ Some x
 Gives (Err TplFault.Fault) given = given ≡ None
 Gives (Err TplFault.Memory) given = Unit {0}
-
--- a number is in range
-abbrev pub is_sound : Value → Bool
-is_sound v = option_map_or is_in_range (number_of v) true
 
 -- a number where there is one, else another value
 abbrev pub or_other : Option Num → Option Value → Option Value

@@ -1,8 +1,8 @@
 //! The filters, by their numbers.
-ghost use Rattle.std.specs.Prelude.{◌≡◌, Some, true, if◌then◌else◌};
+ghost use Rattle.std.specs.Prelude.{Some, if◌then◌else◌};
 ghost use Rattle.ha_model.specs.Values.{is_null};
 ghost use Rattle.ha_model.specs.Filters.{bare_filter, filter_without, filter_with, filtered};
-ghost use Rattle.tpl_fns.specs.Outcome.{Gives, is_sound};
+ghost use Rattle.tpl_fns.specs.Outcome.{Gives};
 
 use crate::lists::{count, first, last};
 use crate::numbers::{is_number, to_float, to_int, to_places, without_sign};
@@ -18,7 +18,6 @@ use std::alloc::Global;
 /// Fault comes exactly where the filter gives nothing: on another number, on a number of arguments
 /// that it has not, and on kinds that it does not take.
 pub fn filter(alloc: Global, name: u8, value: &Value, args: &[Value]) -> Result<Value, TplFault>
-    requires { is_sound value.now ≡ true }
     ensures { Gives result (filtered name value.now args.now) }
 {
     match args {
@@ -36,7 +35,6 @@ pub fn filter(alloc: Global, name: u8, value: &Value, args: &[Value]) -> Result<
 }
 
 fn without_arguments(alloc: Global, name: u8, value: &Value) -> Result<Value, TplFault>
-    requires { is_sound value.now ≡ true }
     ensures { Gives result (filter_without name value.now) }
 {
     match name {
@@ -66,7 +64,6 @@ fn bare(alloc: Global, name: u8, value: &Value) -> Result<Value, TplFault>
 }
 
 fn with_one(alloc: Global, name: u8, value: &Value, arg: &Value) -> Result<Value, TplFault>
-    requires { is_sound value.now ≡ true }
     ensures { Gives result (filter_with name value.now arg.now) }
 {
     match name {

@@ -9,8 +9,7 @@ ghost use Rattle.tpl_fns.specs.Outcome.{Gives};
 ghost use Rattle.tpl_fns.specs.Extremes.{beats, better};
 
 use crate::outcome::{copied, given};
-use crate::texts::characters;
-use ha_model::{Num, TplFault, Value};
+use ha_model::{Num, TplFault, Value, characters};
 use std::alloc::Global;
 use std::cmp::Ordering;
 
@@ -27,7 +26,7 @@ pub fn count(value: &Value) -> Result<Value, TplFault>
     ensures { Gives result (option_map filters.count_value (filters.length_of (out-Value value.now))) }
 {
     match value {
-        Value::Text(text) => Ok(counted(characters(text))),
+        Value::Text(text) => Ok(counted(characters(text.bytes()))),
         Value::Items(items) => Ok(counted(items.as_slice().len())),
         Value::Pairs(pairs) => Ok(counted(pairs.as_slice().len())),
         Value::Null | Value::Flag(_) | Value::Number(_) => Err(TplFault::Fault),

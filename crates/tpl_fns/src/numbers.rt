@@ -1,11 +1,11 @@
 //! Filters and functions on numbers.
-ghost use Rattle.std.specs.Prelude.{◌≡◌, ◌≤◌, true, IfSome, option_and_then, option_map};
+ghost use Rattle.std.specs.Prelude.{◌≡◌, ◌≤◌, IfSome, option_and_then, option_map};
 ghost use Rattle.std.specs.Option.{option_copied, option_to_list};
 ghost use Rattle.ha_value.specs.declared.value.Value.TheViews.{out-Value};
 ghost use Rattle.ha_model.specs.Filters as filters;
 ghost use Rattle.ha_model.specs.Numbers.{absolute as absolute_lem, as_fixed};
 ghost use Rattle.ha_model.specs.Values.{number_of};
-ghost use Rattle.tpl_fns.specs.Outcome.{Gives, is_sound, or_other, small};
+ghost use Rattle.tpl_fns.specs.Outcome.{Gives, or_other, small};
 
 use crate::outcome::{copied, given};
 use crate::texts::without_breaks;
@@ -98,14 +98,25 @@ fn places_of(places: Option<&Value>) -> Option<u8>
     }
 }
 
+/// The number rounded half to even, where it is in range.
+fn rounded_in_range(number: &Num, places: u8) -> Option<Num>
+    requires { places ≤ 6 }
+    ensures { result ≡ filters.rounded_in_range number.now places }
+{
+    if number.is_in_range() {
+        Some(number.round(places))
+    } else {
+        None
+    }
+}
+
 /// `round`: half to even.
 pub fn to_places(value: &Value, places: Option<&Value>) -> Result<Value, TplFault>
-    requires { is_sound value.now ≡ true }
     ensures { Gives result (filters.to_places value.now (option_to_list (option_copied places.entry))) }
 {
     match value {
         Value::Number(number) => match places_of(places) {
-            Some(places) => Ok(Value::Number(number.round(places))),
+            Some(places) => given(rounded_in_range(number, places)),
             None => Err(TplFault::Fault),
         },
         _ => Err(TplFault::Fault),

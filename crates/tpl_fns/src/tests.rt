@@ -1,14 +1,9 @@
-ghost use Rattle.std.specs.Prelude.{◌≡◌, true, IfOk};
-ghost use Rattle.tpl_fns.specs.Outcome.{is_sound};
-
 use crate::{filter, function_of_values};
 use ha_model::{Many, Num, Plain, TplFault, Value, Word};
 use std::alloc::{AllocError, Global};
 use std::test::Fail;
 
-fn text(alloc: Global, text: &str) -> Result<Value, AllocError>
-    ensures { IfOk result (λ v. is_sound v ≡ true) }
-{
+fn text(alloc: Global, text: &str) -> Result<Value, AllocError> {
     Ok(Value::Text(Word::from_str(alloc, text)?))
 }
 

@@ -3,7 +3,7 @@ ghost use Rattle.std.specs.Prelude.{◌≡◌, ◌≤◌, ◌<◌, ◌^◌, ◌+
 ghost use Rattle.ha_value.specs.Lists.{after_front, before_end};
 ghost use Rattle.ha_model.specs.Filters as filters;
 ghost use Rattle.ha_model.specs.Values as values;
-ghost use Rattle.ha_model.specs.Words.{characters, goes_on, is_blank_or_break, lower, upper, replaced_all, without_breaks as without_breaks_lem};
+ghost use Rattle.ha_model.specs.Words.{is_blank_or_break, lower, upper, replaced_all, without_breaks as without_breaks_lem};
 ghost use Rattle.ha_value.specs.Numbers.{print_number};
 ghost use Rattle.tpl_fns.specs.Outcome.{Adds, Gives};
 
@@ -148,21 +148,6 @@ pub fn trimmed(alloc: Global, value: &Value) -> Result<Value, TplFault>
         },
         _ => Err(TplFault::Fault),
     }
-}
-
-/// How many characters a text has.
-pub fn characters(text: &Word) -> usize
-    ensures value { result ≡ characters text.now }
-    ensures size { result < 2 ^ 63 }
-{
-    text.bytes().iter().filter(|byte| !goes_on(**byte)).count()
-}
-
-/// Whether a byte of UTF-8 goes on with a character.
-fn goes_on(byte: u8) -> bool
-    ensures { result ≡ goes_on byte }
-{
-    128 <= byte && byte < 192
 }
 
 /// Appends a text to one that is made. The fault is that it would have more than 65,536 bytes.
