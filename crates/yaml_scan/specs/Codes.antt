@@ -1,5 +1,5 @@
 -- The codes of the faults.
-use Rattle.std.specs.Prelude.{ℕ}
+use Rattle.std.specs.Prelude.{ℕ, List, ◌∷◌, decimal}
 use Rattle.yaml_scan.specs.declared.fault.Code.{Code}
 use Rattle.yaml_scan.specs.declared.fault.Code.TheVariants.{Tab, Structure, LeftOut, RepeatedKey, UnknownKey, MissingKey, Kind, EntityId, Time, Number, Template, Limit, NotUtf8, UnknownKind}
 
@@ -19,3 +19,7 @@ number_of Template = 11
 number_of Limit = 12
 number_of NotUtf8 = 13
 number_of UnknownKind = 14
+
+-- the letter C and the number
+abbrev pub printed : Code → List ℕ
+printed code = 67 ∷ decimal (number_of code)

@@ -1,8 +1,8 @@
 //! Why a text is refused.
 
-ghost use Rattle.std.specs.Prelude.{◌≡◌};
+ghost use Rattle.std.specs.Prelude.{◌≡◌, Some};
 ghost use Rattle.yaml_scan.specs.declared.fault.YamlFault.TheVariants.{Memory};
-ghost use Rattle.yaml_scan.specs.Codes.{number_of};
+ghost use Rattle.yaml_scan.specs.Codes.{number_of, printed};
 
 use std::alloc::{AllocError, AllocFailed};
 use std::fmt;
@@ -59,6 +59,8 @@ impl Code {
 }
 
 impl fmt::Display for Code {
+    ghost output = { λ code. Some (printed code) };
+
     fn fmt<W: fmt::Write>(&self, f: &mut fmt::Formatter<W>) -> fmt::Result {
         let number = self.number();
         write!(f, "C{number}")
