@@ -8,7 +8,8 @@ use Rattle.yaml_scan.specs.Words.{sees, is_blank, is_empty, breaks}
 use Rattle.yaml_scan.specs.Lines.{is_blank_line, is_mark, is_directive, is_start, without_start}
 use Rattle.yaml_tree.specs.declared.piece.Piece.{Piece}
 use Rattle.yaml_tree.specs.Pieces.{Found, floor, heads, is_begun, is_over, go_on, pieces}
-use Rattle.yaml_tree.specs.Spelling.{IsAt, here, blank, is_dash, IsLeaf, IsKey, IsHeads, nothing, dash as dash_is, leaf as leaf_is, key as key_is, key_value, IsPieces, none as no_line, line as a_line, AreClean, line as clean_line}
+use Rattle.yaml_tree.specs.Keys.{IsKey}
+use Rattle.yaml_tree.specs.Spelling.{IsAt, here, blank, is_dash, IsLeaf, IsHeads, nothing, dash as dash_is, leaf as leaf_is, key as key_is, key_value, IsPieces, none as no_line, line as a_line, AreClean, line as clean_line}
 use Rattle.yaml_tree.proofs.LinesFound.{tested, and_true}
 use Rattle.yaml_tree.proofs.Shorter.{IsEnd, all, later, end_shorter}
 use Rattle.yaml_tree.proofs.LeafFound.{leaf_told}
@@ -79,9 +80,9 @@ comment_none {n = n} {b = b} {bytes = bytes} {ls = ls} {ls' = ls'} e (leaf_is {r
     let l' : IsLeaf true right n (b ∷ bytes) ls x height ls' = subst (λ (w : List ℕ). IsLeaf true right n w ls x height ls') (at_sign a e) l in
     absurd (no_two (b == 35) e (no_comment true right n b bytes ls (x, height) ls' (leaf_told right true n b bytes ls x height ls' l')))
 comment_none {n = n} {b = b} {bytes = bytes} e (key_is {at = at} {behind = behind} {k = k} {after = after} a d i h) =
-    absurd (no_two (b == 35) e (key_no_comment (subst (λ (w : List ℕ). IsKey n at w k behind after) (at_sign a e) i)))
+    absurd (no_two (b == 35) e (key_no_comment (subst (λ (w : List ℕ). IsKey at w k behind after) (at_sign a e) i)))
 comment_none {n = n} {b = b} {bytes = bytes} e (key_value {at = at} {behind = behind} {k = k} {after = after} a d i v l) =
-    absurd (no_two (b == 35) e (key_no_comment (subst (λ (w : List ℕ). IsKey n at w k behind after) (at_sign a e) i)))
+    absurd (no_two (b == 35) e (key_no_comment (subst (λ (w : List ℕ). IsKey at w k behind after) (at_sign a e) i)))
 
 no_bytes : {column at : ℕ} {rest : List ℕ} → IsAt column [] at rest → ⊥
 no_bytes a = elim a [ ]

@@ -19,11 +19,13 @@ use Rattle.yaml_tree.specs.Flow.{Ended, flow}
 use Rattle.yaml_tree.specs.Leaves.{Leafs, scalar, wrong, colon_behind, flow_by, leaf_by, leaf_of}
 use Rattle.yaml_tree.specs.Spelling.{IsLeaf, in_quotes, in_lines, is_plain, in_brackets}
 use Rattle.yaml_tree.proofs.LinesFound.{tested}
+use Rattle.yaml_tree.proofs.BlocksFound.{block_found, block_read}
+use Rattle.yaml_tree.proofs.PlainsFound.{plain_found, plain_read}
 use Rattle.yaml_tree.proofs.QuotesFound.{quoted_found}
 use Rattle.yaml_tree.proofs.QuotesRead.{quoted_read}
 
 -- what begins in quotes
-quote_is : (b : ℕ) (rest : List ℕ) → start b rest ≡ starts.InQuotes → (b ≡ 39) ⊎ (b ≡ 34)
+pub quote_is : (b : ℕ) (rest : List ℕ) → start b rest ≡ starts.InQuotes → (b ≡ 39) ⊎ (b ≡ 34)
 quote_is b rest e =
     elim (tested (b == 34 || b == 39)) [
       | inl h ↦ which h
@@ -83,10 +85,10 @@ by_start right fresh n b rest ls x height behind starts.InQuotes i e =
     given (scalar_node n p.0 false) x 1 height p.2 p.3 (in_quotes i (quoted_found b right n (quote_is b rest i) rest ls p.0 behind p.1))
 by_start right fresh n b rest ls x height behind starts.InLines i e =
     let p = scalar_parts n false (block right n (b == 62) rest ls) x height behind e in
-    given (scalar_node n p.0 false) x 1 height p.2 p.3 (in_lines i p.1)
+    given (scalar_node n p.0 false) x 1 height p.2 p.3 (in_lines i (block_found right (b == 62) n rest ls p.0 behind p.1))
 by_start right fresh n b rest ls x height behind starts.Plain i e =
     let p = scalar_parts n true (plain right n (b ∷ rest) ls) x height behind e in
-    given (scalar_node n p.0 true) x 1 height p.2 p.3 (is_plain i p.1)
+    given (scalar_node n p.0 true) x 1 height p.2 p.3 (is_plain i (plain_found right n (b ∷ rest) ls p.0 behind p.1))
 by_start right fresh n b rest ls x height behind starts.InBrackets i e = flow_found right fresh n b rest ls x height behind (flow n (b == 123) rest) i refl e
 by_start right fresh n b rest ls x height behind starts.LeftOut i e = absurd cc
 by_start right fresh n b rest ls x height behind starts.Refused i e = absurd cc
@@ -102,6 +104,6 @@ By right fresh n b rest ls s = leaf_by s right fresh n b rest ls
 
 pub leaf_told : (right : ℕ) (fresh : Bool) (n b : ℕ) (rest : List ℕ) (ls : List RawLine) (x : Node) (height : ℕ) (behind : List RawLine) → IsLeaf fresh right n (b ∷ rest) ls x height behind → leaf_of right fresh n (b ∷ rest) ls ≡ Ok ((x, height), behind)
 leaf_told right fresh n b rest ls x height behind (in_quotes {s = s} i q) = ap (By right fresh n b rest ls) i ∙ ap (scalar n false) (quoted_read b right n (quote_is b rest i) rest ls s behind q)
-leaf_told right fresh n b rest ls x height behind (in_lines i e) = ap (By right fresh n b rest ls) i ∙ ap (scalar n false) e
-leaf_told right fresh n b rest ls x height behind (is_plain i e) = ap (By right fresh n b rest ls) i ∙ ap (scalar n true) e
+leaf_told right fresh n b rest ls x height behind (in_lines i l) = ap (By right fresh n b rest ls) i ∙ ap (scalar n false) (block_read right (b == 62) l n)
+leaf_told right fresh n b rest ls x height behind (is_plain i p) = ap (By right fresh n b rest ls) i ∙ ap (scalar n true) (plain_read right p n)
 leaf_told right fresh n b rest ls x height behind (in_brackets i e c d k) = ap (By right fresh n b rest ls) i ∙ ap (λ (r : Result Ended Code). flow_by fresh n r ls) e ∙ rw (c, d, k) refl

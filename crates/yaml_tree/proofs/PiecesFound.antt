@@ -13,9 +13,11 @@ use Rattle.yaml_tree.specs.declared.starts.Start.TheVariants as starts
 use Rattle.yaml_tree.specs.Nodes.{word}
 use Rattle.yaml_tree.specs.Starts.{start, is_merge}
 use Rattle.yaml_tree.specs.Leaves.{Leafs, leaf_by, colon_behind}
+use Rattle.yaml_tree.specs.Keys.{IsKey}
 use Rattle.yaml_tree.specs.Pieces.{Found, found, dash, key, leaf, floor, leaf_found, leaf_at, value_at, keyed, plain_key, quoted_key, node_by, heads}
-use Rattle.yaml_tree.specs.Spelling.{IsAt, here, blank, is_dash, IsLeaf, IsKey, plain_key as plain_is, quoted_key as quoted_is, IsHeads, nothing, dash as dash_is, leaf as leaf_is, key as key_is, key_value}
+use Rattle.yaml_tree.specs.Spelling.{IsAt, here, blank, is_dash, IsLeaf, IsHeads, nothing, dash as dash_is, leaf as leaf_is, key as key_is, key_value}
 use Rattle.yaml_tree.proofs.LinesFound.{tested}
+use Rattle.yaml_tree.proofs.KeysFound.{plain_key_found, quoted_key_found}
 use Rattle.yaml_tree.proofs.LeafFound.{leaf_found_is, leaf_told}
 use Rattle.yaml_tree.proofs.Shorter.{IsEnd, all, leaf_end}
 
@@ -116,7 +118,7 @@ pushed : (ps : List Piece) (p q : Piece) → (ps ++ p ∷ []) ++ q ∷ [] ≡ ps
 pushed ps p q = append_assoc ps (p ∷ []) (q ∷ [])
 
 behind_key : (ps : List Piece) (n right column at : ℕ) (spaced : Bool) (bytes rest k : List ℕ) (behind : ℕ) (after : List ℕ) (ls : List RawLine) (f : Found)
-    → IsAt column bytes at rest → is_dash rest ≡ false → IsKey n at rest k behind after → Behind (ps ++ key n at (word k) ∷ []) n behind after ls f
+    → IsAt column bytes at rest → is_dash rest ≡ false → IsKey at rest k behind after → Behind (ps ++ key n at (word k) ∷ []) n behind after ls f
     → Good f ps (λ qs ls'. IsHeads n right spaced column bytes ls qs ls')
 behind_key ps n right column at spaced bytes rest k behind after ls f a d is (empty h e) = (key n at (word k) ∷ [], ls, e, key_is a d is h)
 behind_key ps n right column at spaced bytes rest k behind after ls f a d is (value {at = v} {height = height} {rest = bytes'} {x = x} {behind = ls'} p l e) = (
@@ -127,7 +129,7 @@ behind_key ps n right column at spaced bytes rest k behind after ls f a d is (va
 )
 
 key_found : (ps : List Piece) (n column b : ℕ) (spaced : Bool) (rest k : List ℕ) (behind : ℕ) (after : List ℕ) (ls : List RawLine)
-    → is_blank b ≡ false → is_dash (b ∷ rest) ≡ false → (is_empty k ≡ false → IsKey n column (b ∷ rest) k behind after) → (keyed ps n column k behind after ls).fault ≡ None
+    → is_blank b ≡ false → is_dash (b ∷ rest) ≡ false → (is_empty k ≡ false → IsKey column (b ∷ rest) k behind after) → (keyed ps n column k behind after ls).fault ≡ None
     → Good (keyed ps n column k behind after ls) ps (λ qs ls'. IsHeads n (floor ps) spaced column (b ∷ rest) ls qs ls')
 key_found ps n column b spaced rest k behind after ls no_blank no_dash is e =
     elim (tested (is_empty k)) [
@@ -142,7 +144,7 @@ plain_found ps n column b spaced rest ls None s c no_blank no_dash e = fresh_lea
 plain_found ps n column b spaced rest ls (Some at) s c no_blank no_dash e =
     elim (tested (is_merge (trimmed (take at (b ∷ rest))))) [
       | inl h ↦ absurd (let q : Some (record { line = n; code = LeftOut }) ≡ None = rw h at e in cc)
-      | inr h ↦ rw h (key_found ps n column b spaced rest (trimmed (take at (b ∷ rest))) (column + at + 1) (drop (at + 1) (b ∷ rest)) ls no_blank no_dash (λ some. plain_is s c h some) (rw h at e))
+      | inr h ↦ rw h (key_found ps n column b spaced rest (trimmed (take at (b ∷ rest))) (column + at + 1) (drop (at + 1) (b ∷ rest)) ls no_blank no_dash (λ some. plain_key_found column b rest at s c h some) (rw h at e))
     ]
 
 no_bad : (bad : Option ℕ) → is_some bad ≡ false → bad ≡ None
@@ -157,7 +159,7 @@ quoted_found ps n column b spaced rest ls s (Some behind) i r no_blank no_dash e
       | inr h ↦ rw h (fresh_leaf ps n column b spaced rest ls no_blank no_dash (rw h at e))
       | inl h ↦ elim (tested (is_some s.bad)) [
         | inl k ↦ absurd (let q : Some (record { line = n; code = Structure }) ≡ None = rw (h, k) at e in cc)
-        | inr k ↦ rw (h, k) (key_found ps n column b spaced rest s.text (column + (length (b ∷ rest) - length behind) + 1) (drop 1 behind) ls no_blank no_dash (λ some. quoted_is i r (no_bad s.bad k) h some) (rw (h, k) at e))
+        | inr k ↦ rw (h, k) (key_found ps n column b spaced rest s.text (column + (length (b ∷ rest) - length behind) + 1) (drop 1 behind) ls no_blank no_dash (λ some. quoted_key_found n column b rest s behind i r (no_bad s.bad k) h some) (rw (h, k) at e))
       ]
     ]
 

@@ -16,10 +16,13 @@ use Rattle.yaml_tree.specs.declared.starts.Start.TheVariants as starts
 use Rattle.yaml_tree.specs.Nodes.{word, scalar_node}
 use Rattle.yaml_tree.specs.Starts.{start}
 use Rattle.yaml_tree.specs.Leaves.{Leafs, scalar, leaf_of, leaf_by, colon_behind}
+use Rattle.yaml_tree.specs.Keys.{IsKey, plain as plain_is, quoted as quoted_is}
 use Rattle.yaml_tree.specs.Pieces.{found, dash, key, leaf, floor, leaf_found, leaf_at, value_at, plain_key, quoted_key, node_by, heads}
-use Rattle.yaml_tree.specs.Spelling.{IsAt, here, blank, is_dash, IsLeaf, IsKey, plain_key as plain_is, quoted_key as quoted_is, IsHeads, nothing, dash as dash_is, leaf as leaf_is, key as key_is, key_value}
-use Rattle.yaml_tree.proofs.LeafFound.{leaf_told}
+use Rattle.yaml_tree.specs.Spelling.{IsAt, here, blank, is_dash, IsLeaf, IsHeads, nothing, dash as dash_is, leaf as leaf_is, key as key_is, key_value}
+use Rattle.yaml_tree.proofs.KeyTexts.{key_text_read}
+use Rattle.yaml_tree.proofs.LeafFound.{quote_is, leaf_told}
 use Rattle.yaml_tree.proofs.LinesFound.{tested, and_true}
+use Rattle.yaml_tree.proofs.OneLine.{one_line_read, one_line_shorter}
 use Rattle.yaml_tree.proofs.PiecesFound.{floor_more}
 
 -- ---- blanks
@@ -132,24 +135,28 @@ no_key starts.Refused ps n column b rest ls x behind e = refl
 
 -- ---- keys
 
-pub key_no_comment : {n column b : ℕ} {rest k after : List ℕ} {behind : ℕ} → IsKey n column (b ∷ rest) k behind after → (b == 35) ≡ false
-key_no_comment (plain_is {b = b} {bytes = rest} s c m some) =
+pub key_no_comment : {column b : ℕ} {rest k after : List ℕ} {behind : ℕ} → IsKey column (b ∷ rest) k behind after → (b == 35) ≡ false
+key_no_comment (plain_is {b = b} {bytes = rest} s i m some) =
     elim (tested (b == 35)) [
       | inr h ↦ h
       | inl h ↦ absurd (let q : start 35 rest ≡ starts.Plain = subst (λ (x : ℕ). start x rest ≡ starts.Plain) (eqb-true b 35 h) s in cc)
     ]
-key_no_comment (quoted_is {b = b} {bytes = rest} s r bad c some) =
+key_no_comment (quoted_is {b = b} {bytes = rest} s i c some) =
     elim (tested (b == 35)) [
       | inr h ↦ h
       | inl h ↦ absurd (let q : start 35 rest ≡ starts.InQuotes = subst (λ (x : ℕ). start x rest ≡ starts.InQuotes) (eqb-true b 35 h) s in cc)
     ]
 
-key_read : {n column b : ℕ} {rest k after : List ℕ} {behind : ℕ} → IsKey n column (b ∷ rest) k behind after → (ps : List Piece) (ls : List RawLine)
+key_read : {column b : ℕ} {rest k after : List ℕ} {behind : ℕ} → IsKey column (b ∷ rest) k behind after → (n : ℕ) (ps : List Piece) (ls : List RawLine)
     → node_by (start b rest) ps n column b rest ls ≡ value_at (ps ++ key n column (word k) ∷ []) n behind after ls
-key_read {n = n} {column = column} (plain_is {b = b} {at = at} {bytes = rest} s c m some) ps ls =
-    ap (λ (i : Start). node_by i ps n column b rest ls) s ∙ ap (λ (o : Option ℕ). plain_key ps n column (b ∷ rest) o ls) c ∙ rw (m, some) refl
-key_read {n = n} {column = column} (quoted_is {b = b} {bytes = rest} {behind = after} {s = q} s r bad c some) ps ls =
-    ap (λ (i : Start). node_by i ps n column b rest ls) s ∙ ap (λ (x : State × Option (List ℕ)). quoted_key ps n column (b ∷ rest) x.0 x.1 ls) r ∙ rw (c, bad, some) refl
+key_read {column = column} (plain_is {b = b} {behind = behind} {bytes = rest} {s = k} {rest = after} s i m some) n ps ls =
+    let r = key_text_read i in
+    ap (λ (x : Start). node_by x ps n column b rest ls) s ∙ ap (λ (o : Option ℕ). plain_key ps n column (b ∷ rest) o ls) r.1 ∙ rw (r.2, m, some, r.4) (ap (λ (x : ℕ). value_at (ps ++ key n column (word k) ∷ []) n x after ls) r.3)
+key_read {column = column} (quoted_is {b = b} {bytes = rest} {s = k} {rest = after} s i c some) n ps ls =
+    let two = quote_is b rest s in
+    let le = one_line_shorter b 0 two i in
+    let same : column + (length (b ∷ rest) - length (58 ∷ after)) + 1 ≡ column + (length (b ∷ rest) - length after) = omega arith in
+    ap (λ (x : Start). node_by x ps n column b rest ls) s ∙ ap (λ (x : State × Option (List ℕ)). quoted_key ps n column (b ∷ rest) x.0 x.1 ls) (one_line_read b 0 two i n) ∙ rw (c, some) (ap (λ (x : ℕ). value_at (ps ++ key n column (word k) ∷ []) n x after ls) same)
 
 value_read : (ps : List Piece) (n column at height : ℕ) (bytes rest : List ℕ) (x : Node) (ls behind : List RawLine) → IsAt column bytes at rest → IsLeaf false (floor ps) n rest ls x height behind
     → value_at ps n column bytes ls ≡ found (ps ++ leaf n at x height false ∷ []) behind
@@ -193,11 +200,11 @@ heads_read {n = n} {column = column} {spaced = spaced} {bytes = bytes} {ls = ls}
     ∙ no_key (start r.0 r.1) ps n at r.0 r.1 ls (x, height) ls' (leaf_told (floor ps) true n r.0 r.1 ls x height ls' l') ∙ leaf_read ps n true at r.0 height r.1 x ls ls' l'
 heads_read {n = n} {column = column} {spaced = spaced} {ls = ls} (key_is {at = at} {behind = behind} {rest = rest} {k = k} {after = after} a d key' e) ps f =
     let r = front_of a in
-    let key'' : IsKey n at (r.0 ∷ r.1) k behind after = subst (λ (x : List ℕ). IsKey n at x k behind after) r.2 key' in
-    here_read a ps n spaced ls r.0 r.1 r.2 d (key_no_comment key'') ∙ key_read key'' ps ls ∙ rw e refl
+    let key'' : IsKey at (r.0 ∷ r.1) k behind after = subst (λ (x : List ℕ). IsKey at x k behind after) r.2 key' in
+    here_read a ps n spaced ls r.0 r.1 r.2 d (key_no_comment key'') ∙ key_read key'' n ps ls ∙ rw e refl
 heads_read {n = n} {column = column} {spaced = spaced} {ls = ls} {ls' = ls'} (key_value {at = at} {behind = behind} {value = value} {height = height} {rest = rest} {k = k} {after = after} {bytes' = bytes'} {x = x} a d key' v l) ps f =
     let r = front_of a in
-    let key'' : IsKey n at (r.0 ∷ r.1) k behind after = subst (λ (x : List ℕ). IsKey n at x k behind after) r.2 key' in
+    let key'' : IsKey at (r.0 ∷ r.1) k behind after = subst (λ (x : List ℕ). IsKey at x k behind after) r.2 key' in
     let l' : IsLeaf false (floor (ps ++ key n at (word k) ∷ [])) n bytes' ls x height ls' = subst (λ (right : ℕ). IsLeaf false right n bytes' ls x height ls') (sym (floor_more ps (key n at (word k)))) l in
-    here_read a ps n spaced ls r.0 r.1 r.2 d (key_no_comment key'') ∙ key_read key'' ps ls
+    here_read a ps n spaced ls r.0 r.1 r.2 d (key_no_comment key'') ∙ key_read key'' n ps ls
     ∙ value_read (ps ++ key n at (word k) ∷ []) n behind value height after bytes' x ls ls' v l' ∙ ap (λ (qs : List Piece). found qs ls') (pushed ps (key n at (word k)) (leaf n value x height false))

@@ -24,7 +24,7 @@ at_letter b c letter v is gives_v ok none_behind e =
     let same : v ≡ c = cc in
     (ap is_character (sym same) ∙ ok, ap digits_behind is ∙ none_behind)
 
-escape_is : (b c : ℕ) → escape b ≡ Some c → (is_character c ≡ true) × (digits_behind b ≡ 0)
+pub escape_is : (b c : ℕ) → escape b ≡ Some c → (is_character c ≡ true) × (digits_behind b ≡ 0)
 escape_is b c e =
     elim (tested (b == 92)) [
       | inl h0 ↦ at_letter b c 92 92 (eqb-true b 92 h0) refl refl refl e
@@ -71,7 +71,7 @@ escape_is b c e =
 -- ---- scalars
 
 module _ (quote floor first : ℕ) (two : (quote ≡ 39) ⊎ (quote ≡ 34)) where
-  no_blank_quote : is_blank quote ≡ false
+  pub no_blank_quote : is_blank quote ≡ false
   no_blank_quote = elim two [ inl e ↦ rw e refl | inr e ↦ rw e refl ]
 
   differs : (b : ℕ) → is_blank b ≡ true → (b == quote) ≡ false
@@ -116,53 +116,52 @@ module _ (quote floor first : ℕ) (two : (quote ≡ 39) ⊎ (quote ≡ 34)) whe
 
   -- ---- digits
 
-  one_digit : (exact d b w value n : ℕ) (text rest : List ℕ) (ls : List RawLine) → w ≡ 0 → hex b ≡ Some d → Near value exact → is_character (16 * exact + d) ≡ true
-      → Go floor first (digit_step (at_last quote n (Digits (suc w) value) text [] None) (suc w) value b (hex b)) rest ls ≡ Go floor first (at_last quote n Usual (text ++ encode_utf8 (16 * exact + d)) [] None) rest ls
-  one_digit exact d b w value n text rest ls z h near c =
+  one_digit : (exact d b w value n : ℕ) (text : List ℕ) → w ≡ 0 → hex b ≡ Some d → Near value exact → is_character (16 * exact + d) ≡ true
+      → digit_step (at_last quote n (Digits (suc w) value) text [] None) (suc w) value b (hex b) ≡ at_last quote n Usual (text ++ encode_utf8 (16 * exact + d)) [] None
+  one_digit exact d b w value n text z h near c =
       elim (near_more value exact d near) [
         | inr p ↦ absurd (past_no_character (16 * exact + d) p.1 c)
         | inl p ↦
             let c' : is_character (shifted value d) ≡ true = ap is_character p ∙ c in
-            rw (h, z, c') (ap (λ (v : ℕ). Go floor first (at_last quote n Usual ((text ++ []) ++ encode_utf8 v) [] None) rest ls) p ∙ ap (λ (x : List ℕ). Go floor first (at_last quote n Usual (x ++ encode_utf8 (16 * exact + d)) [] None) rest ls) (append-nil text))
+            rw (h, z, c') (ap (λ (v : ℕ). at_last quote n Usual ((text ++ []) ++ encode_utf8 v) [] None) p ∙ ap (λ (x : List ℕ). at_last quote n Usual (x ++ encode_utf8 (16 * exact + d)) [] None) (append-nil text))
       ]
 
-  more_digits : (d b w value n : ℕ) (text rest : List ℕ) (ls : List RawLine) → hex b ≡ Some d
-      → Go floor first (digit_step (at_last quote n (Digits (suc (suc w)) value) text [] None) (suc (suc w)) value b (hex b)) rest ls ≡ Go floor first (at_last quote n (Digits (suc w) (shifted value d)) text [] None) rest ls
-  more_digits d b w value n text rest ls h =
+  more_digits : (d b w value n : ℕ) (text : List ℕ) → hex b ≡ Some d → digit_step (at_last quote n (Digits (suc (suc w)) value) text [] None) (suc (suc w)) value b (hex b) ≡ at_last quote n (Digits (suc w) (shifted value d)) text [] None
+  more_digits d b w value n text h =
       let not_one : nat_le (suc (suc w)) 1 ≡ false = lt-leb (suc (suc w)) 1 (omega arith) in
       let one_less : suc (suc w) - 1 ≡ suc w = omega arith in
-      rw (h, not_one) (ap (λ (x : ℕ). Go floor first (at_last quote n (Digits x (shifted value d)) (text ++ []) [] None) rest ls) one_less ∙ ap (λ (x : List ℕ). Go floor first (at_last quote n (Digits (suc w) (shifted value d)) x [] None) rest ls) (append-nil text))
+      rw (h, not_one) (ap (λ (x : ℕ). at_last quote n (Digits x (shifted value d)) (text ++ []) [] None) one_less ∙ ap (λ (x : List ℕ). at_last quote n (Digits (suc w) (shifted value d)) x [] None) (append-nil text))
 
   none_is : {wanted value all : ℕ} {bytes rest : List ℕ} → IsDigits wanted value bytes all rest → wanted ≡ 0 → (value ≡ all) × (bytes ≡ rest)
   none_is none e = (refl, refl)
   none_is (digit h i) e = absurd (omega arith)
 
-  digits_read : {wanted exact all : ℕ} {bytes rest : List ℕ} → IsDigits wanted exact bytes all rest → (w value n : ℕ) (text : List ℕ) (ls : List RawLine) → wanted ≡ suc w → Near value exact → is_character all ≡ true
-      → Go floor first (at_last quote n (Digits (suc w) value) text [] None) bytes ls ≡ Go floor first (at_last quote n Usual (text ++ encode_utf8 all) [] None) rest ls
+  pub digits_read : {wanted exact all : ℕ} {bytes rest : List ℕ} → IsDigits wanted exact bytes all rest → (w value n : ℕ) (text : List ℕ) → wanted ≡ suc w → Near value exact → is_character all ≡ true
+      → run (at_last quote n (Digits (suc w) value) text [] None) bytes ≡ run (at_last quote n Usual (text ++ encode_utf8 all) [] None) rest
   unfolding run
-  digits_read none w value n text ls s near c = absurd (omega arith)
-  digits_read (digit {wanted = zero} {value = exact} {all = all} {b = b} {d = d} {bytes = bytes} {rest = rest} h i) w value n text ls s near c =
+  digits_read none w value n text s near c = absurd (omega arith)
+  digits_read (digit {wanted = zero} {value = exact} {all = all} {b = b} {d = d} {bytes = bytes} {rest = rest} h i) w value n text s near c =
       let end = none_is i refl in
       let c' : is_character (16 * exact + d) ≡ true = ap is_character end.0 ∙ c in
-      one_digit exact d b w value n text bytes ls (omega arith) h near c' ∙ ap (λ (v : ℕ). Go floor first (at_last quote n Usual (text ++ encode_utf8 v) [] None) bytes ls) end.0 ∙ ap (λ (x : List ℕ). Go floor first (at_last quote n Usual (text ++ encode_utf8 all) [] None) x ls) end.1
-  digits_read (digit {wanted = suc k} {value = exact} {b = b} {d = d} {bytes = bytes} h i) w value n text ls s near c =
+      ap (λ (x : State). run x bytes) (one_digit exact d b w value n text (omega arith) h near c' ∙ ap (λ (v : ℕ). at_last quote n Usual (text ++ encode_utf8 v) [] None) end.0) ∙ ap (λ (x : List ℕ). run (at_last quote n Usual (text ++ encode_utf8 all) [] None) x) end.1
+  digits_read (digit {wanted = suc k} {value = exact} {b = b} {d = d} {bytes = bytes} h i) w value n text s near c =
       let w_is : w ≡ suc k = omega arith in
-      let more = digits_read i k (shifted value d) n text ls refl (near_more value exact d near) c in
-      subst (λ (x : ℕ). Go floor first (digit_step (at_last quote n (Digits (suc x) value) text [] None) (suc x) value b (hex b)) bytes ls ≡ Go floor first (at_last quote n (Digits (suc k) (shifted value d)) text [] None) bytes ls) (sym w_is) (more_digits d b k value n text bytes ls h) ∙ more
+      let more = digits_read i k (shifted value d) n text refl (near_more value exact d near) c in
+      subst (λ (x : ℕ). run (digit_step (at_last quote n (Digits (suc x) value) text [] None) (suc x) value b (hex b)) bytes ≡ run (at_last quote n (Digits (suc k) (shifted value d)) text [] None) bytes) (sym w_is) (ap (λ (x : State). run x bytes) (more_digits d b k value n text h)) ∙ more
 
   -- ---- all
 
   -- the text that is read is the one that is meant
-  after : (text blanks piece more body : List ℕ) → (((text ++ blanks) ++ piece) ++ kept [] more) ++ body ≡ (text ++ blanks) ++ (piece ++ body)
+  pub after : (text blanks piece more body : List ℕ) → (((text ++ blanks) ++ piece) ++ kept [] more) ++ body ≡ (text ++ blanks) ++ (piece ++ body)
   after text blanks piece more body = ap (λ (x : List ℕ). (((text ++ blanks) ++ piece) ++ x) ++ body) (kept_none more) ∙ ap (λ (x : List ℕ). x ++ body) (append-nil ((text ++ blanks) ++ piece)) ∙ append_assoc (text ++ blanks) piece body
 
   answer : (t t' : List ℕ) (ls : List RawLine) (r : Reading (List ℕ)) → r ≡ Ok (t, ls) → t ≡ t' → r ≡ Ok (t', ls)
   answer t t' ls r e s = e ∙ ap (λ (x : List ℕ). Ok (x, ls)) s
 
-  kept_all : (blanks bytes : List ℕ) → only_blanks bytes ≡ false → kept blanks bytes ≡ blanks
+  pub kept_all : (blanks bytes : List ℕ) → only_blanks bytes ≡ false → kept blanks bytes ≡ blanks
   kept_all blanks bytes o = rw o refl
 
-  suc_not_zero : (w : ℕ) → (suc w == 0) ≡ false
+  pub suc_not_zero : (w : ℕ) → (suc w == 0) ≡ false
   suc_not_zero w = elim (tested (suc w == 0)) [
     | inr h ↦ h
     | inl h ↦ absurd (let q : suc w ≡ 0 = eqb-true (suc w) 0 h in omega arith)
@@ -205,7 +204,7 @@ module _ (quote floor first : ℕ) (two : (quote ≡ 39) ⊎ (quote ≡ 34)) whe
       let some_behind : (digits_behind b == 0) ≡ false = rw d (suc_not_zero w) in
       answer ((((text ++ blanks) ++ encode_utf8 all) ++ kept [] more) ++ body) ((text ++ blanks) ++ (encode_utf8 all ++ body)) ls' _
       (rw (no_quote, double, some_behind) (ap (λ (x : List ℕ). Go floor first (at_last quote n (Digits (digits_behind b) 0) x [] None) bytes ls) (append-nil (text ++ blanks)) ∙ ap (λ (m : ℕ). Go floor first (at_last quote n (Digits m 0) (text ++ blanks) [] None) bytes ls) d
-      ∙ digits_read i w 0 n (text ++ blanks) ls refl (inl refl) c ∙ inside_read j e n ((text ++ blanks) ++ encode_utf8 all) []))
+      ∙ ap (λ (r : State × Option (List ℕ)). led r.0 r.1 ls (further floor first 0 r.0 ls)) (digits_read i w 0 n (text ++ blanks) refl (inl refl) c) ∙ inside_read j e n ((text ++ blanks) ++ encode_utf8 all) []))
       (after text blanks (encode_utf8 all) more body)
   inside_read (broken {bytes = bytes} {next = next} {s = body} {ls = ls} {ls' = behind} {ls'' = ls'} {k = k} o i j) e n text blanks =
       let r = next_read i 0 n Usual text (blanks ++ bytes) refl in

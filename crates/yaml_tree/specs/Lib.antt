@@ -1,10 +1,13 @@
+pub mod Blocks
 pub mod Entities
 pub mod Flow
 pub mod Grammar
+pub mod Keys
 pub mod Layout
 pub mod Leaves
 pub mod Nodes
 pub mod Pieces
+pub mod Plains
 pub mod Quotes
 pub mod Readers
 pub mod Spelling
