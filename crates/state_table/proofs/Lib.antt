@@ -1,3 +1,4 @@
+pub mod NameLemmas
 pub mod StateLaws
 pub mod DomainLemmas
 pub mod TableLemmas

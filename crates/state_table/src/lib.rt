@@ -3,6 +3,7 @@
 
 mod domain;
 pub mod laws;
+mod names;
 mod table;
 
 pub use table::StateTable;

@@ -1,7 +1,8 @@
 //! The table of states.
-ghost use Rattle.std.specs.Prelude.{◌≡◌, ◌&&◌, not, true, false, ℕ, [], ◌∷◌, Bool, None, Some, IfOk, OnErr, OnOk, is_some};
+ghost use Rattle.std.specs.Prelude.{◌≡◌, ◌&&◌, not, true, false, ℕ, [], ◌∷◌, Bool, None, Some, IfOk, OnErr, OnOk, is_some, option_and_then};
 ghost use Rattle.std.specs.Option.{option_copied};
 ghost use Rattle.ha_value.specs.declared.value.EntityId.{EntityId};
+ghost use Rattle.ha_value.specs.Ids.{read_entity};
 ghost use Rattle.ha_model.specs.declared.journal.Cmd.{Cmd};
 ghost use Rattle.ha_model.specs.declared.journal.Entry.TheVariants.{Line};
 ghost use Rattle.ha_model.specs.Words.{same_entity};
@@ -14,6 +15,7 @@ ghost use Rattle.state_table.specs.Anew.{is_automation, sets_anew, switch_object
 ghost use Rattle.state_table.specs.Table.{at, AgreesWith, ChangesAt, StandsBut, StandsFor};
 
 use crate::domain::{Domain, key_of, put_in, remove_from, report_in};
+use crate::names::parts_of;
 use ha_model::{Change, EntityId, Many, Moment, StateObject, Value, Word};
 use std::alloc::{AllocError, Global};
 use std::collections::BTreeMap;
@@ -39,8 +41,24 @@ impl StateTable {
     pub fn get(&self, entity: &EntityId) -> Option<&StateObject>
         ensures { option_copied result ≡ at self.now entity.now }
     {
-        match self.domains.get(entity.domain.as_str()) {
-            Some(domain) => domain.get(entity.object.as_str()),
+        self.find(entity.domain.as_str(), entity.object.as_str())
+    }
+
+    /// The state of the entity that the text names; none where the text is no entity id.
+    pub fn named(&self, id: &str) -> Option<&StateObject>
+        ensures { option_copied result ≡ option_and_then (at self.now) (read_entity id.now) }
+    {
+        match parts_of(id) {
+            Some((domain, object)) => self.find(domain, object),
+            None => None,
+        }
+    }
+
+    fn find(&self, domain: &str, object: &str) -> Option<&StateObject>
+        ensures { option_copied result ≡ at self.now (record { domain = domain.now; object = object.now }) }
+    {
+        match self.domains.get(domain) {
+            Some(domain) => domain.get(object),
             None => None,
         }
     }

@@ -75,6 +75,9 @@ fn what_goes_appears_anew(rt: HostRuntime) -> Result<(), Fail> {
     assert_eq!(rt; change, Change::Appeared);
     assert!(rt; is_state(&table, &lamp, b"on", 5, 5));
     assert!(rt; is_state(&table, &door, b"on", 0, 0));
+    assert!(rt; table.named("light.y").is_some());
+    assert!(rt; table.named("light.z").is_none());
+    assert!(rt; table.named("light").is_none());
     Ok(())
 }
 

@@ -17,13 +17,13 @@ front_self : (old rest : Text) → take (length old) (old ++ rest) ≡ old
 front_self [] rest = refl
 front_self (x ∷ xs) rest = ap (λ l. x ∷ l) (front_self xs rest)
 
-whole : (n : ℕ) (t : Text) → take n t ++ drop n t ≡ t
+pub whole : (n : ℕ) (t : Text) → take n t ++ drop n t ≡ t
 whole zero t = refl
 whole (suc n) [] = refl
 whole (suc n) (x ∷ xs) = ap (λ l. x ∷ l) (whole n xs)
 
 -- a text begins with another where that is its front
-begins : (old rest : Text) → begins_with old (old ++ rest) ≡ true
+pub begins : (old rest : Text) → begins_with old (old ++ rest) ≡ true
 begins old rest = (bytes_decides old (take (length old) (old ++ rest))).1 (sym (front_self old rest))
 
 -- and does not where no rest follows it

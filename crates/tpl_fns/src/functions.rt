@@ -73,7 +73,7 @@ fn of_three(alloc: Global, name: u8, x: &Value, y: &Value, z: &Value) -> Result<
 }
 
 /// `iif`: the second where the first is true, else the third.
-fn chosen(alloc: Global, test: &Value, yes: &Value, no: &Value) -> Result<Value, TplFault>
+pub fn chosen(alloc: Global, test: &Value, yes: &Value, no: &Value) -> Result<Value, TplFault>
     ensures { Gives result (Some (if truth test.now then yes.now else no.now)) }
 {
     if test.truth() {

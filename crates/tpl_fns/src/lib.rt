@@ -1,4 +1,4 @@
-//! The filters of templates, and the functions that ask no state.
+//! The filters of templates, the functions that ask no state, and the texts that templates make.
 #![tactic(auto)]
 
 mod filters;
@@ -9,7 +9,9 @@ mod outcome;
 mod texts;
 
 pub use filters::filter;
-pub use functions::function_of_values;
+pub use functions::{chosen, function_of_values};
+pub use outcome::{copied, given};
+pub use texts::{add, joined, printed, without_breaks, word};
 
 #[cfg(test)]
 mod tests;

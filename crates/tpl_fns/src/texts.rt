@@ -1,5 +1,5 @@
 //! Filters on texts.
-ghost use Rattle.std.specs.Prelude.{◌≡◌, ◌≤◌, ◌<◌, ◌^◌, ◌++◌, length, Some};
+ghost use Rattle.std.specs.Prelude.{◌≡◌, ◌≤◌, ◌<◌, ◌^◌, ◌+◌, ◌++◌, length, Some, IfOk};
 ghost use Rattle.ha_value.specs.Lists.{after_front, before_end};
 ghost use Rattle.ha_model.specs.Filters as filters;
 ghost use Rattle.ha_model.specs.Values as values;
@@ -8,7 +8,7 @@ ghost use Rattle.ha_value.specs.Numbers.{print_number};
 ghost use Rattle.tpl_fns.specs.Outcome.{Adds, Gives};
 
 use ha_model::{Num, TplFault, Value, Word};
-use std::alloc::Global;
+use std::alloc::{AllocError, Global};
 
 /// The bytes that a text made in a template may have.
 const TEXT_LIMIT: usize = 65_536;
@@ -60,7 +60,8 @@ fn made(text: Word) -> Result<Value, TplFault>
     }
 }
 
-fn word(alloc: Global, text: &str) -> Result<Word, TplFault>
+/// A copy of the text.
+pub fn word(alloc: Global, text: &str) -> Result<Word, TplFault>
     ensures { Gives result (Some text.now) }
 {
     match Word::from_str(alloc, text) {
@@ -79,7 +80,7 @@ fn number_text(alloc: Global, number: &Num) -> Result<Word, TplFault>
 }
 
 /// The printed text; a list or a map has none.
-fn printed(alloc: Global, value: &Value) -> Result<Word, TplFault>
+pub fn printed(alloc: Global, value: &Value) -> Result<Word, TplFault>
     ensures { Gives result (values.printed value.now) }
 {
     match value {
@@ -151,7 +152,7 @@ pub fn trimmed(alloc: Global, value: &Value) -> Result<Value, TplFault>
 }
 
 /// Appends a text to one that is made. The fault is that it would have more than 65,536 bytes.
-fn add(made: &mut Word, more: &str) -> Result<(), TplFault>
+pub fn add(made: &mut Word, more: &str) -> Result<(), TplFault>
     requires { length made.old ≤ 65_536 }
     ensures { Adds made.old made.new more.now result }
 {
@@ -160,6 +161,30 @@ fn add(made: &mut Word, more: &str) -> Result<(), TplFault>
     }
     match made.push_str(more) {
         Ok(()) => Ok(()),
+        Err(_) => Err(TplFault::Memory),
+    }
+}
+
+/// The two texts, one behind the other, in one allocation.
+fn both(alloc: Global, left: &str, right: &str) -> Result<Word, AllocError>
+    requires { length left.now + length right.now ≤ 65_536 }
+    ensures { IfOk result (λ made. made ≡ left.now ++ right.now) }
+{
+    let mut text = String::with_capacity(alloc, left.len() + right.len())?;
+    text.push_str(left)?;
+    text.push_str(right)?;
+    Ok(Word::from_string(text))
+}
+
+/// Two texts joined; the whole has at most 65,536 bytes.
+pub fn joined(alloc: Global, left: &str, right: &str) -> Result<Value, TplFault>
+    ensures { Gives result (values.made_text (left.now ++ right.now)) }
+{
+    if TEXT_LIMIT < left.len() || TEXT_LIMIT - left.len() < right.len() {
+        return Err(TplFault::Fault);
+    }
+    match both(alloc, left, right) {
+        Ok(made) => Ok(Value::Text(made)),
         Err(_) => Err(TplFault::Memory),
     }
 }
