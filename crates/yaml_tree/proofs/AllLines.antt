@@ -12,9 +12,10 @@ use Rattle.yaml_tree.specs.Keys.{IsKey}
 use Rattle.yaml_tree.specs.Spelling.{IsAt, here, blank, is_dash, IsLeaf, IsHeads, nothing, dash as dash_is, leaf as leaf_is, key as key_is, key_value, IsPieces, none as no_line, line as a_line, AreClean, line as clean_line}
 use Rattle.yaml_tree.proofs.LinesFound.{tested, and_true}
 use Rattle.yaml_tree.proofs.Shorter.{IsEnd, all, later, end_shorter}
-use Rattle.yaml_tree.proofs.LeafFound.{leaf_told}
-use Rattle.yaml_tree.proofs.PiecesFound.{Good, heads_found, heads_end}
-use Rattle.yaml_tree.proofs.PiecesRead.{heads_read, no_comment, key_no_comment}
+use Rattle.yaml_tree.proofs.LeafFound.{leaf_no_comment}
+use Rattle.yaml_tree.proofs.PiecesFound.{Passes, Good, heads_found, heads_end}
+use Rattle.yaml_tree.proofs.PiecesRead.{heads_read, key_no_comment}
+use Rattle.yaml_tree.proofs.Low.{Low, low_parts, low_before, low_all}
 
 or_left : (a b : Bool) → a ≡ true → (a || b) ≡ true
 or_left true b e = refl
@@ -77,8 +78,8 @@ comment_none {b = b} {bytes = bytes} e (dash_is {b = c} {rest = rest} a d r) =
     let is : is_dash (b ∷ bytes) ≡ true = ap is_dash (sym (at_sign a e)) ∙ d in
     absurd (let q : 45 ≡ 35 = sym (eqb-true b 45 (and_true (b == 45) (breaks bytes) is).0) ∙ eqb-true b 35 e in omega (arith, q))
 comment_none {n = n} {b = b} {bytes = bytes} {ls = ls} {ls' = ls'} e (leaf_is {right = right} {height = height} {x = x} a d l) =
-    let l' : IsLeaf true right n (b ∷ bytes) ls x height ls' = subst (λ (w : List ℕ). IsLeaf true right n w ls x height ls') (at_sign a e) l in
-    absurd (no_two (b == 35) e (no_comment true right n b bytes ls (x, height) ls' (leaf_told right true n b bytes ls x height ls' l')))
+    let l' : IsLeaf right n (b ∷ bytes) ls x height ls' = subst (λ (w : List ℕ). IsLeaf right n w ls x height ls') (at_sign a e) l in
+    absurd (no_two (b == 35) e (leaf_no_comment right n b bytes ls x height ls' l'))
 comment_none {n = n} {b = b} {bytes = bytes} e (key_is {at = at} {behind = behind} {k = k} {after = after} a d i h) =
     absurd (no_two (b == 35) e (key_no_comment (subst (λ (w : List ℕ). IsKey at w k behind after) (at_sign a e) i)))
 comment_none {n = n} {b = b} {bytes = bytes} e (key_value {at = at} {behind = behind} {k = k} {after = after} a d i v l) =
@@ -118,16 +119,16 @@ next_clean ps qs begun l ls ls' right some (clean_line t d m u r) i =
 -- ---- all lines
 
 abbrev Read : List Piece → List RawLine → Found → Type 0
-Read ps ls f = f.fault ≡ None → IsPieces ps ls f.pieces
+Read ps ls f = Passes f → IsPieces ps ls f.pieces
 
 went_on : (k : ℕ) (ps : List Piece) (l : RawLine) (ls : List RawLine) (f : Found) (o : Option Fault) → f.fault ≡ o
-    → (f.fault ≡ None → Good f ps (λ qs ls'. IsHeads l.line (floor ps) true l.indent l.content ls qs ls'))
+    → (Passes f → Good f ps (λ qs ls'. IsHeads l.line (floor ps) true l.indent l.content ls qs ls'))
     → ((qs : List Piece) (ls' : List RawLine) → IsHeads l.line (floor ps) true l.indent l.content ls qs ls' → Read (ps ++ qs) ls' (pieces k (ps ++ qs) ls')) → Read ps (l ∷ ls) (go_on f o (pieces k))
-went_on k ps l ls f (Some fault) is good more e = absurd (let q : Some fault ≡ None = sym is ∙ e in cc)
+went_on k ps l ls f (Some fault) is good more e = absurd (let q : Some fault ≡ None = sym is ∙ e.0 in cc)
 went_on k ps l ls f None is good more e =
-    let g = good is in
+    let g = good (is, low_before k f.pieces f.rest e.1) in
     let same : pieces k f.pieces f.rest ≡ pieces k (ps ++ g.0) g.1 = ap (λ (x : Found). pieces k x.pieces x.rest) g.2 in
-    subst (λ (x : Found). IsPieces ps (l ∷ ls) x.pieces) (sym same) (a_line g.3 (more g.0 g.1 g.3 (ap (λ (x : Found). x.fault) (sym same) ∙ e)))
+    subst (λ (x : Found). IsPieces ps (l ∷ ls) x.pieces) (sym same) (a_line g.3 (more g.0 g.1 g.3 (subst Passes same e)))
 
 pub pieces_found : (k : ℕ) (ps : List Piece) (begun : Bool) (ls : List RawLine) → length ls < k → (is_begun ps ≡ true → begun ≡ true) → AreClean begun ls → Read ps ls (pieces k ps ls)
 unfolding pieces
@@ -142,15 +143,15 @@ pieces_found (suc k) ps begun (l ∷ ls) lt some c e =
     pieces_found k (ps ++ qs) n.0 ls' (omega arith) n.1 n.2) in
     rw h (went_on k ps l ls f f.fault refl (heads_found l.content ps l.line true l.indent ls) more (rw h at e))
 
-pub pieces_read : (k : ℕ) (ps : List Piece) (begun : Bool) (ls : List RawLine) (whole : List Piece) → length ls < k → (is_begun ps ≡ true → begun ≡ true) → AreClean begun ls → IsPieces ps ls whole → ((pieces k ps ls).pieces ≡ whole) × ((pieces k ps ls).fault ≡ None)
+pub pieces_read : (k : ℕ) (ps : List Piece) (begun : Bool) (ls : List RawLine) (whole : List Piece) → length ls < k → (is_begun ps ≡ true → begun ≡ true) → AreClean begun ls → IsPieces ps ls whole → Low whole → ((pieces k ps ls).pieces ≡ whole) × ((pieces k ps ls).fault ≡ None)
 unfolding pieces
-pieces_read zero ps begun ls whole lt some c p = absurd (omega arith)
-pieces_read (suc k) ps begun [] whole lt some c no_line = (refl, refl)
-pieces_read (suc k) ps begun (l ∷ ls) whole lt some c (a_line {ps = qs} {ls' = ls'} i r) =
+pieces_read zero ps begun ls whole lt some c p low = absurd (omega arith)
+pieces_read (suc k) ps begun [] whole lt some c no_line low = (refl, refl)
+pieces_read (suc k) ps begun (l ∷ ls) whole lt some c (a_line {ps = qs} {ls' = ls'} i r) low =
     let h = not_over ps begun l ls some c in
-    let e = heads_read i ps refl in
+    let e = heads_read i ps refl (low_parts ps qs (low_all r low)).1 in
     let n = next_clean ps qs begun l ls ls' (floor ps) some c i in
     let le = end_shorter (heads_end i) in
-    let more = pieces_read k (ps ++ qs) n.0 ls' whole (omega arith) n.1 n.2 r in
+    let more = pieces_read k (ps ++ qs) n.0 ls' whole (omega arith) n.1 n.2 r low in
     let same : go_on (heads ps l.line true l.indent l.content ls) (heads ps l.line true l.indent l.content ls).fault (pieces k) ≡ pieces k (ps ++ qs) ls' = ap (λ (f : Found). go_on f f.fault (pieces k)) e in
     (rw h (ap (λ (f : Found). f.pieces) same ∙ more.0), rw h (ap (λ (f : Found). f.fault) same ∙ more.1))

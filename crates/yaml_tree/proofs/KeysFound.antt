@@ -1,8 +1,8 @@
 -- Keys that are read are in their grammar.
-use Rattle.std.proofs.Common.{◌≡◌, ℕ, ◌+◌, ◌-◌, true, false, ◌&&◌, List, [], ◌∷◌, length, take, drop, Some, None, refl, ap, subst, ◌∙◌, arith}
+use Rattle.std.proofs.Common.{◌≡◌, ℕ, ◌+◌, ◌-◌, true, false, List, [], ◌∷◌, length, take, drop, Some, None, ap, subst, arith}
 use Rattle.std.specs.Prelude.{◌==◌}
-use Rattle.std.proofs.lemmas.Bool.{eqb-true, and_right}
-use Rattle.yaml_scan.specs.Words.{sees, is_empty, breaks, colon_at, trimmed}
+use Rattle.std.proofs.lemmas.Bool.{eqb-true}
+use Rattle.yaml_scan.specs.Words.{is_empty, breaks, colon_at, trimmed}
 use Rattle.yaml_scan.specs.Quoted.{State, opened, run}
 use Rattle.yaml_tree.specs.declared.starts.Start.TheVariants as starts
 use Rattle.yaml_tree.specs.Starts.{start, is_merge}
@@ -10,9 +10,9 @@ use Rattle.yaml_tree.specs.Leaves.{colon_behind}
 use Rattle.yaml_tree.specs.Quotes.{IsInside}
 use Rattle.yaml_tree.specs.Keys.{IsKey, plain, quoted}
 use Rattle.yaml_tree.proofs.LinesFound.{and_true}
-use Rattle.yaml_tree.proofs.LeafFound.{quote_is}
+use Rattle.yaml_tree.proofs.BracketSteps.{quote_is}
 use Rattle.yaml_tree.proofs.KeyTexts.{key_text_found}
-use Rattle.yaml_tree.proofs.OneLine.{one_line_found}
+use Rattle.yaml_tree.proofs.OneLine.{inside_found, inside_shorter}
 
 pub plain_key_found : (column b : ℕ) (rest : List ℕ) (at : ℕ) → start b rest ≡ starts.Plain → colon_at false 0 (b ∷ rest) ≡ Some at → is_merge (trimmed (take at (b ∷ rest))) ≡ false → is_empty (trimmed (take at (b ∷ rest))) ≡ false
     → IsKey column (b ∷ rest) (trimmed (take at (b ∷ rest))) (column + at + 1) (drop (at + 1) (b ∷ rest))
@@ -29,7 +29,9 @@ pub quoted_key_found : (n column b : ℕ) (rest : List ℕ) (s : State) (behind 
 quoted_key_found n column b rest s behind i r good c some =
     let is = colon_is behind c in
     let after : List ℕ = drop 1 behind in
-    let f = one_line_found b 0 (quote_is b rest i) n rest s behind r good (ap (λ (x : List ℕ). b == 39 && sees 39 x) is.0 ∙ and_right (b == 39) false refl) in
+    let two = quote_is b rest i in
+    let inside = inside_found b two rest behind n s r good in
+    let shorter = inside_shorter b two inside in
     let long : length behind ≡ length (58 ∷ after) = ap (λ (x : List ℕ). length x) is.0 in
-    let same : column + (length (b ∷ rest) - length after) ≡ column + (length (b ∷ rest) - length behind) + 1 = omega (arith, f.1, long) in
-    subst (λ (k : ℕ). IsKey column (b ∷ rest) s.text k after) same (quoted i (subst (λ (x : List ℕ). IsInside b 0 rest [] s.text x []) is.0 f.0) is.1 some)
+    let same : column + (length (b ∷ rest) - length after) ≡ column + (length (b ∷ rest) - length behind) + 1 = omega (arith, shorter, long) in
+    subst (λ (k : ℕ). IsKey column (b ∷ rest) s.text k after) same (quoted i (subst (λ (x : List ℕ). IsInside b 0 rest [] s.text x []) is.0 inside) is.1 some)

@@ -1,5 +1,12 @@
 pub mod AllLines
 pub mod BlocksFound
+pub mod BracketKeys
+pub mod BracketRuns
+pub mod BracketSpots
+pub mod BracketSteps
+pub mod BracketWords
+pub mod BracketsFound
+pub mod BracketsRead
 pub mod Floors
 pub mod FlowRuns
 pub mod Found
@@ -9,6 +16,7 @@ pub mod KeysFound
 pub mod LeafFound
 pub mod Lines
 pub mod LinesFound
+pub mod Low
 pub mod NodeLeaf
 pub mod OneLine
 pub mod Only

@@ -10,16 +10,21 @@ use Rattle.yaml_tree.specs.declared.node.Node.{Node}
 use Rattle.yaml_tree.specs.declared.piece.Piece.{Piece}
 use Rattle.yaml_tree.specs.declared.starts.Start.{Start}
 use Rattle.yaml_tree.specs.declared.starts.Start.TheVariants as starts
-use Rattle.yaml_tree.specs.Nodes.{word}
+use Rattle.yaml_tree.specs.Nodes.{word, scalar_node}
 use Rattle.yaml_tree.specs.Starts.{start, is_merge}
 use Rattle.yaml_tree.specs.Leaves.{Leafs, leaf_by, colon_behind}
 use Rattle.yaml_tree.specs.Keys.{IsKey}
 use Rattle.yaml_tree.specs.Pieces.{Found, found, dash, key, leaf, floor, leaf_found, leaf_at, value_at, keyed, plain_key, quoted_key, node_by, heads}
-use Rattle.yaml_tree.specs.Spelling.{IsAt, here, blank, is_dash, IsLeaf, IsHeads, nothing, dash as dash_is, leaf as leaf_is, key as key_is, key_value}
+use Rattle.yaml_tree.specs.Spelling.{IsAt, here, blank, is_dash, IsLeaf, in_quotes, in_lines, is_plain, in_brackets, IsHeads, nothing, dash as dash_is, leaf as leaf_is, key as key_is, key_value}
 use Rattle.yaml_tree.proofs.LinesFound.{tested}
 use Rattle.yaml_tree.proofs.KeysFound.{plain_key_found, quoted_key_found}
 use Rattle.yaml_tree.proofs.LeafFound.{leaf_found_is, leaf_told}
 use Rattle.yaml_tree.proofs.Shorter.{IsEnd, all, leaf_end}
+use Rattle.yaml_tree.proofs.Low.{Low, low_parts}
+
+-- no fault was found, and no leaf has more than 64 nodes in one another
+abbrev pub Passes : Found → Type 0
+Passes f = (f.fault ≡ None) × Low f.pieces
 
 -- more pieces and lines behind them, of which something holds
 abbrev pub Good : Found → List Piece → (List Piece → List RawLine → Type 0) → Type 0
@@ -75,18 +80,18 @@ heads_blank n right column b spaced bytes ls ls' qs h (key_value a d k v l) = ke
 
 -- ---- scalars and flow
 
-leaf_ok : (r : Leafs) (ps : List Piece) (n column : ℕ) (ls : List RawLine) → (leaf_found ps n column r ls).fault ≡ None
-    → (x : Node) × (height : ℕ) × (behind : List RawLine) × (r ≡ Ok ((x, height), behind)) × (leaf_found ps n column r ls ≡ found (ps ++ leaf n column x height false ∷ []) behind)
-leaf_ok (Ok y) ps n column ls e = (y.0.0, y.0.1, y.1, refl, refl)
-leaf_ok (Err w) ps n column ls e = absurd cc
+leaf_ok : (r : Leafs) (ps : List Piece) (n column : ℕ) (ls : List RawLine) → Passes (leaf_found ps n column r ls)
+    → (x : Node) × (height : ℕ) × (behind : List RawLine) × (r ≡ Ok ((x, height), behind)) × (height ≤ 64) × (leaf_found ps n column r ls ≡ found (ps ++ leaf n column x height false ∷ []) behind)
+leaf_ok (Ok y) ps n column ls e = (y.0.0, y.0.1, y.1, refl, (low_parts ps (leaf n column y.0.0 y.0.1 false ∷ []) e.1).1.0, refl)
+leaf_ok (Err w) ps n column ls e = absurd (let q : Some w.fault ≡ None = e.0 in cc)
 
-leaf_here : (ps : List Piece) (n : ℕ) (fresh : Bool) (column b : ℕ) (rest : List ℕ) (ls : List RawLine) → (leaf_at ps n fresh column (b ∷ rest) ls).fault ≡ None
-    → (x : Node) × (height : ℕ) × (behind : List RawLine) × IsLeaf fresh (floor ps) n (b ∷ rest) ls x height behind × (leaf_at ps n fresh column (b ∷ rest) ls ≡ found (ps ++ leaf n column x height false ∷ []) behind)
+leaf_here : (ps : List Piece) (n : ℕ) (fresh : Bool) (column b : ℕ) (rest : List ℕ) (ls : List RawLine) → Passes (leaf_at ps n fresh column (b ∷ rest) ls)
+    → (x : Node) × (height : ℕ) × (behind : List RawLine) × IsLeaf (floor ps) n (b ∷ rest) ls x height behind × (leaf_at ps n fresh column (b ∷ rest) ls ≡ found (ps ++ leaf n column x height false ∷ []) behind)
 leaf_here ps n fresh column b rest ls e =
     let l = leaf_ok (leaf_by (start b rest) (floor ps) fresh n b rest ls) ps n column ls e in
-    (l.0, l.1, l.2, leaf_found_is (floor ps) fresh n b rest ls l.0 l.1 l.2 l.3, l.4)
+    (l.0, l.1, l.2, leaf_found_is (floor ps) fresh n b rest ls l.0 l.1 l.2 l.4 l.3, l.5)
 
-fresh_leaf : (ps : List Piece) (n column b : ℕ) (spaced : Bool) (rest : List ℕ) (ls : List RawLine) → is_blank b ≡ false → is_dash (b ∷ rest) ≡ false → (leaf_at ps n true column (b ∷ rest) ls).fault ≡ None
+fresh_leaf : (ps : List Piece) (n column b : ℕ) (spaced : Bool) (rest : List ℕ) (ls : List RawLine) → is_blank b ≡ false → is_dash (b ∷ rest) ≡ false → Passes (leaf_at ps n true column (b ∷ rest) ls)
     → Good (leaf_at ps n true column (b ∷ rest) ls) ps (λ qs behind. IsHeads n (floor ps) spaced column (b ∷ rest) ls qs behind)
 fresh_leaf ps n column b spaced rest ls no_blank no_dash e =
     let l = leaf_here ps n true column b rest ls e in
@@ -98,16 +103,16 @@ fresh_leaf ps n column b spaced rest ls no_blank no_dash e =
 data Behind (ps : List Piece) (n column : ℕ) (bytes : List ℕ) (ls : List RawLine) (f : Found) : Type 0 where
   empty : nothing_left false bytes ≡ true → f ≡ found ps ls → Behind ps n column bytes ls f
   value : {at height : ℕ} {rest : List ℕ} {x : Node} {behind : List RawLine}
-      → IsAt column bytes at rest → IsLeaf false (floor ps) n rest ls x height behind → f ≡ found (ps ++ leaf n at x height false ∷ []) behind → Behind ps n column bytes ls f
+      → IsAt column bytes at rest → IsLeaf (floor ps) n rest ls x height behind → f ≡ found (ps ++ leaf n at x height false ∷ []) behind → Behind ps n column bytes ls f
 
 value_here : (ps : List Piece) (n column : ℕ) (bytes : List ℕ) (ls : List RawLine) (w : List ℕ) → without_blanks bytes ≡ w → nothing_left false bytes ≡ false
-    → (leaf_at ps n false (column + (length bytes - length w)) w ls).fault ≡ None → Behind ps n column bytes ls (leaf_at ps n false (column + (length bytes - length w)) w ls)
+    → Passes (leaf_at ps n false (column + (length bytes - length w)) w ls) → Behind ps n column bytes ls (leaf_at ps n false (column + (length bytes - length w)) w ls)
 value_here ps n column bytes ls [] is some e = absurd (let q : true ≡ false = sym (all_blank bytes false is) ∙ some in cc)
 value_here ps n column bytes ls (b ∷ rest) is some e =
     let l = leaf_here ps n false (column + (length bytes - length (b ∷ rest))) b rest ls e in
     value (at_found bytes column b rest is) l.3 l.4
 
-value_found : (ps : List Piece) (n column : ℕ) (bytes : List ℕ) (ls : List RawLine) → (value_at ps n column bytes ls).fault ≡ None → Behind ps n column bytes ls (value_at ps n column bytes ls)
+value_found : (ps : List Piece) (n column : ℕ) (bytes : List ℕ) (ls : List RawLine) → Passes (value_at ps n column bytes ls) → Behind ps n column bytes ls (value_at ps n column bytes ls)
 value_found ps n column bytes ls e =
     elim (tested (nothing_left false bytes)) [
       | inl h ↦ empty h (rw h refl)
@@ -125,25 +130,25 @@ behind_key ps n right column at spaced bytes rest k behind after ls f a d is (va
   key n at (word k) ∷ leaf n v x height false ∷ [],
   ls',
   e ∙ ap (λ (qs : List Piece). found qs ls') (pushed ps (key n at (word k)) (leaf n v x height false)),
-  key_value a d is p (subst (λ (right : ℕ). IsLeaf false right n bytes' ls x height ls') (floor_more ps (key n at (word k))) l),
+  key_value a d is p (subst (λ (right : ℕ). IsLeaf right n bytes' ls x height ls') (floor_more ps (key n at (word k))) l),
 )
 
 key_found : (ps : List Piece) (n column b : ℕ) (spaced : Bool) (rest k : List ℕ) (behind : ℕ) (after : List ℕ) (ls : List RawLine)
-    → is_blank b ≡ false → is_dash (b ∷ rest) ≡ false → (is_empty k ≡ false → IsKey column (b ∷ rest) k behind after) → (keyed ps n column k behind after ls).fault ≡ None
+    → is_blank b ≡ false → is_dash (b ∷ rest) ≡ false → (is_empty k ≡ false → IsKey column (b ∷ rest) k behind after) → Passes (keyed ps n column k behind after ls)
     → Good (keyed ps n column k behind after ls) ps (λ qs ls'. IsHeads n (floor ps) spaced column (b ∷ rest) ls qs ls')
 key_found ps n column b spaced rest k behind after ls no_blank no_dash is e =
     elim (tested (is_empty k)) [
-      | inl h ↦ absurd (let q : Some (record { line = n; code = Structure }) ≡ None = rw h at e in cc)
+      | inl h ↦ absurd (let q : Some (record { line = n; code = Structure }) ≡ None = rw h at e.0 in cc)
       | inr h ↦ rw h (behind_key ps n (floor ps) column column spaced (b ∷ rest) (b ∷ rest) k behind after ls (value_at (ps ++ key n column (word k) ∷ []) n behind after ls) (here no_blank) no_dash (is h)
           (value_found (ps ++ key n column (word k) ∷ []) n behind after ls (rw h at e)))
     ]
 
 plain_found : (ps : List Piece) (n column b : ℕ) (spaced : Bool) (rest : List ℕ) (ls : List RawLine) (c : Option ℕ) → start b rest ≡ starts.Plain → colon_at false 0 (b ∷ rest) ≡ c → is_blank b ≡ false → is_dash (b ∷ rest) ≡ false
-    → (plain_key ps n column (b ∷ rest) c ls).fault ≡ None → Good (plain_key ps n column (b ∷ rest) c ls) ps (λ qs ls'. IsHeads n (floor ps) spaced column (b ∷ rest) ls qs ls')
+    → Passes (plain_key ps n column (b ∷ rest) c ls) → Good (plain_key ps n column (b ∷ rest) c ls) ps (λ qs ls'. IsHeads n (floor ps) spaced column (b ∷ rest) ls qs ls')
 plain_found ps n column b spaced rest ls None s c no_blank no_dash e = fresh_leaf ps n column b spaced rest ls no_blank no_dash e
 plain_found ps n column b spaced rest ls (Some at) s c no_blank no_dash e =
     elim (tested (is_merge (trimmed (take at (b ∷ rest))))) [
-      | inl h ↦ absurd (let q : Some (record { line = n; code = LeftOut }) ≡ None = rw h at e in cc)
+      | inl h ↦ absurd (let q : Some (record { line = n; code = LeftOut }) ≡ None = rw h at e.0 in cc)
       | inr h ↦ rw h (key_found ps n column b spaced rest (trimmed (take at (b ∷ rest))) (column + at + 1) (drop (at + 1) (b ∷ rest)) ls no_blank no_dash (λ some. plain_key_found column b rest at s c h some) (rw h at e))
     ]
 
@@ -152,19 +157,19 @@ no_bad None e = refl
 no_bad (Some n) e = absurd cc
 
 quoted_found : (ps : List Piece) (n column b : ℕ) (spaced : Bool) (rest : List ℕ) (ls : List RawLine) (s : State) (end : Option (List ℕ)) → start b rest ≡ starts.InQuotes → run (opened b n) rest ≡ (s, end) → is_blank b ≡ false → is_dash (b ∷ rest) ≡ false
-    → (quoted_key ps n column (b ∷ rest) s end ls).fault ≡ None → Good (quoted_key ps n column (b ∷ rest) s end ls) ps (λ qs ls'. IsHeads n (floor ps) spaced column (b ∷ rest) ls qs ls')
+    → Passes (quoted_key ps n column (b ∷ rest) s end ls) → Good (quoted_key ps n column (b ∷ rest) s end ls) ps (λ qs ls'. IsHeads n (floor ps) spaced column (b ∷ rest) ls qs ls')
 quoted_found ps n column b spaced rest ls s None i r no_blank no_dash e = fresh_leaf ps n column b spaced rest ls no_blank no_dash e
 quoted_found ps n column b spaced rest ls s (Some behind) i r no_blank no_dash e =
     elim (tested (colon_behind behind)) [
       | inr h ↦ rw h (fresh_leaf ps n column b spaced rest ls no_blank no_dash (rw h at e))
       | inl h ↦ elim (tested (is_some s.bad)) [
-        | inl k ↦ absurd (let q : Some (record { line = n; code = Structure }) ≡ None = rw (h, k) at e in cc)
+        | inl k ↦ absurd (let q : Some (record { line = n; code = Structure }) ≡ None = rw (h, k) at e.0 in cc)
         | inr k ↦ rw (h, k) (key_found ps n column b spaced rest s.text (column + (length (b ∷ rest) - length behind) + 1) (drop 1 behind) ls no_blank no_dash (λ some. quoted_key_found n column b rest s behind i r (no_bad s.bad k) h some) (rw (h, k) at e))
       ]
     ]
 
 node_found : (ps : List Piece) (n column b : ℕ) (spaced : Bool) (rest : List ℕ) (ls : List RawLine) (s : Start) → start b rest ≡ s → is_blank b ≡ false → is_dash (b ∷ rest) ≡ false
-    → (node_by s ps n column b rest ls).fault ≡ None → Good (node_by s ps n column b rest ls) ps (λ qs ls'. IsHeads n (floor ps) spaced column (b ∷ rest) ls qs ls')
+    → Passes (node_by s ps n column b rest ls) → Good (node_by s ps n column b rest ls) ps (λ qs ls'. IsHeads n (floor ps) spaced column (b ∷ rest) ls qs ls')
 node_found ps n column b spaced rest ls starts.InQuotes i no_blank no_dash e = quoted_found ps n column b spaced rest ls (run (opened b n) rest).0 (run (opened b n) rest).1 i refl no_blank no_dash e
 node_found ps n column b spaced rest ls starts.Plain i no_blank no_dash e = plain_found ps n column b spaced rest ls (colon_at false 0 (b ∷ rest)) i refl no_blank no_dash e
 node_found ps n column b spaced rest ls starts.InBrackets i no_blank no_dash e = fresh_leaf ps n column b spaced rest ls no_blank no_dash e
@@ -184,7 +189,7 @@ after_dash ps n column b spaced rest ls f no_blank is g = (
   dash_is (here no_blank) is (subst (λ (right : ℕ). IsHeads n right false (column + 1) rest ls g.0 g.1) (floor_more ps (dash n column)) g.3),
 )
 
-pub heads_found : (bytes : List ℕ) (ps : List Piece) (n : ℕ) (spaced : Bool) (column : ℕ) (ls : List RawLine) → (heads ps n spaced column bytes ls).fault ≡ None
+pub heads_found : (bytes : List ℕ) (ps : List Piece) (n : ℕ) (spaced : Bool) (column : ℕ) (ls : List RawLine) → Passes (heads ps n spaced column bytes ls)
     → Good (heads ps n spaced column bytes ls) ps (λ qs ls'. IsHeads n (floor ps) spaced column bytes ls qs ls')
 unfolding heads nothing_left
 heads_found [] ps n spaced column ls e = ([], ls, ap (λ (qs : List Piece). found qs ls) (sym (append-nil ps)), nothing refl)
@@ -208,14 +213,18 @@ pub at_longer : {column at : ℕ} {bytes rest : List ℕ} → IsAt column bytes 
 at_longer (here {b = b} {bytes = bytes} h) = (b, bytes, refl)
 at_longer (blank h a) = at_longer a
 
-leaf_lines : {column at : ℕ} {bytes rest : List ℕ} (right n height : ℕ) (fresh : Bool) (x : Node) (ls ls' : List RawLine) → IsAt column bytes at rest → IsLeaf fresh right n rest ls x height ls' → IsEnd ls' ls
-leaf_lines right n height fresh x ls ls' a l =
-    let r = at_longer a in
-    leaf_end right fresh n r.0 r.1 ls (x, height) ls' (leaf_told right fresh n r.0 r.1 ls x height ls' (subst (λ (bytes : List ℕ). IsLeaf fresh right n bytes ls x height ls') r.2 l))
+leaf_lines : {right n height : ℕ} {bytes : List ℕ} {x : Node} {ls ls' : List RawLine} → IsLeaf right n bytes ls x height ls' → IsEnd ls' ls
+leaf_lines {right = right} {n = n} {ls = ls} {ls' = ls'} (in_quotes {b = b} {bytes = bytes} {s = s} i q) =
+    leaf_end right false n b bytes ls (scalar_node n s false, 1) ls' (leaf_told right false n b bytes ls (scalar_node n s false) 1 ls' (omega arith) (in_quotes i q))
+leaf_lines {right = right} {n = n} {ls = ls} {ls' = ls'} (in_lines {b = b} {bytes = bytes} {s = s} i q) =
+    leaf_end right false n b bytes ls (scalar_node n s false, 1) ls' (leaf_told right false n b bytes ls (scalar_node n s false) 1 ls' (omega arith) (in_lines i q))
+leaf_lines {right = right} {n = n} {ls = ls} {ls' = ls'} (is_plain {b = b} {bytes = bytes} {s = s} i q) =
+    leaf_end right false n b bytes ls (scalar_node n s true, 1) ls' (leaf_told right false n b bytes ls (scalar_node n s true) 1 ls' (omega arith) (is_plain i q))
+leaf_lines (in_brackets i f d) = all
 
 pub heads_end : {n right column : ℕ} {spaced : Bool} {bytes : List ℕ} {ls ls' : List RawLine} {qs : List Piece} → IsHeads n right spaced column bytes ls qs ls' → IsEnd ls' ls
 heads_end (nothing e) = all
 heads_end (dash_is a d r) = heads_end r
-heads_end {n = n} {ls = ls} {ls' = ls'} (leaf_is {right = right} {height = height} {x = x} a d l) = leaf_lines right n height true x ls ls' a l
+heads_end (leaf_is a d l) = leaf_lines l
 heads_end (key_is a d k e) = all
-heads_end {n = n} {ls = ls} {ls' = ls'} (key_value {at = at} {height = height} {x = x} a d k v l) = leaf_lines (at + 1) n height false x ls ls' v l
+heads_end (key_value a d k v l) = leaf_lines l

@@ -15,14 +15,16 @@ use Rattle.yaml_tree.specs.declared.starts.Start.{Start}
 use Rattle.yaml_tree.specs.declared.starts.Start.TheVariants as starts
 use Rattle.yaml_tree.specs.Nodes.{word, scalar_node}
 use Rattle.yaml_tree.specs.Starts.{start}
-use Rattle.yaml_tree.specs.Leaves.{Leafs, scalar, leaf_of, leaf_by, colon_behind}
+use Rattle.yaml_tree.specs.Leaves.{Leafs, scalar, leaf_by, colon_behind}
 use Rattle.yaml_tree.specs.Keys.{IsKey, plain as plain_is, quoted as quoted_is}
 use Rattle.yaml_tree.specs.Pieces.{found, dash, key, leaf, floor, leaf_found, leaf_at, value_at, plain_key, quoted_key, node_by, heads}
 use Rattle.yaml_tree.specs.Spelling.{IsAt, here, blank, is_dash, IsLeaf, IsHeads, nothing, dash as dash_is, leaf as leaf_is, key as key_is, key_value}
+use Rattle.yaml_tree.proofs.BracketSteps.{quote_is}
 use Rattle.yaml_tree.proofs.KeyTexts.{key_text_read}
-use Rattle.yaml_tree.proofs.LeafFound.{quote_is, leaf_told}
+use Rattle.yaml_tree.proofs.LeafFound.{leaf_told, leaf_no_comment}
 use Rattle.yaml_tree.proofs.LinesFound.{tested, and_true}
-use Rattle.yaml_tree.proofs.OneLine.{one_line_read, one_line_shorter}
+use Rattle.yaml_tree.proofs.Low.{Low}
+use Rattle.yaml_tree.proofs.OneLine.{inside_read, inside_shorter}
 use Rattle.yaml_tree.proofs.PiecesFound.{floor_more}
 
 -- ---- blanks
@@ -66,17 +68,9 @@ some_left (blank {b = b} h a) k spaced = rw h (some_left a k (b == 32))
 
 -- ---- scalars and flow
 
--- no scalar or flow begins by `#`
-pub no_comment : (fresh : Bool) (floor n b : ℕ) (rest : List ℕ) (ls : List RawLine) (x : Node × ℕ) (behind : List RawLine) → leaf_of floor fresh n (b ∷ rest) ls ≡ Ok (x, behind) → (b == 35) ≡ false
-no_comment fresh floor n b rest ls x behind e =
-    elim (tested (b == 35)) [
-      | inr h ↦ h
-      | inl h ↦ absurd (let q : leaf_of floor fresh n (35 ∷ rest) ls ≡ Ok (x, behind) = subst (λ (c : ℕ). leaf_of floor fresh n (c ∷ rest) ls ≡ Ok (x, behind)) (eqb-true b 35 h) e in cc)
-    ]
-
-leaf_read : (ps : List Piece) (n : ℕ) (fresh : Bool) (column b height : ℕ) (rest : List ℕ) (x : Node) (ls behind : List RawLine) → IsLeaf fresh (floor ps) n (b ∷ rest) ls x height behind
+leaf_read : (ps : List Piece) (n : ℕ) (fresh : Bool) (column b height : ℕ) (rest : List ℕ) (x : Node) (ls behind : List RawLine) → height ≤ 64 → IsLeaf (floor ps) n (b ∷ rest) ls x height behind
     → leaf_at ps n fresh column (b ∷ rest) ls ≡ found (ps ++ leaf n column x height false ∷ []) behind
-leaf_read ps n fresh column b height rest x ls behind l = ap (λ (r : Leafs). leaf_found ps n column r ls) (leaf_told (floor ps) fresh n b rest ls x height behind l)
+leaf_read ps n fresh column b height rest x ls behind low l = ap (λ (r : Leafs). leaf_found ps n column r ls) (leaf_told (floor ps) fresh n b rest ls x height behind low l)
 
 scalar_ok : (n : ℕ) (is_plain : Bool) (r : Reading (List ℕ)) (x : Node × ℕ) (behind : List RawLine) → scalar n is_plain r ≡ Ok (x, behind) → (t : List ℕ) × (r ≡ Ok (t, behind))
 scalar_ok n is_plain (Ok y) x behind e =
@@ -154,17 +148,17 @@ key_read {column = column} (plain_is {b = b} {behind = behind} {bytes = rest} {s
     ap (λ (x : Start). node_by x ps n column b rest ls) s ∙ ap (λ (o : Option ℕ). plain_key ps n column (b ∷ rest) o ls) r.1 ∙ rw (r.2, m, some, r.4) (ap (λ (x : ℕ). value_at (ps ++ key n column (word k) ∷ []) n x after ls) r.3)
 key_read {column = column} (quoted_is {b = b} {bytes = rest} {s = k} {rest = after} s i c some) n ps ls =
     let two = quote_is b rest s in
-    let le = one_line_shorter b 0 two i in
+    let lt = inside_shorter b two i in
     let same : column + (length (b ∷ rest) - length (58 ∷ after)) + 1 ≡ column + (length (b ∷ rest) - length after) = omega arith in
-    ap (λ (x : Start). node_by x ps n column b rest ls) s ∙ ap (λ (x : State × Option (List ℕ)). quoted_key ps n column (b ∷ rest) x.0 x.1 ls) (one_line_read b 0 two i n) ∙ rw (c, some) (ap (λ (x : ℕ). value_at (ps ++ key n column (word k) ∷ []) n x after ls) same)
+    ap (λ (x : Start). node_by x ps n column b rest ls) s ∙ ap (λ (x : State × Option (List ℕ)). quoted_key ps n column (b ∷ rest) x.0 x.1 ls) (inside_read b two rest k (58 ∷ after) n i) ∙ rw (c, some) (ap (λ (x : ℕ). value_at (ps ++ key n column (word k) ∷ []) n x after ls) same)
 
-value_read : (ps : List Piece) (n column at height : ℕ) (bytes rest : List ℕ) (x : Node) (ls behind : List RawLine) → IsAt column bytes at rest → IsLeaf false (floor ps) n rest ls x height behind
+value_read : (ps : List Piece) (n column at height : ℕ) (bytes rest : List ℕ) (x : Node) (ls behind : List RawLine) → IsAt column bytes at rest → height ≤ 64 → IsLeaf (floor ps) n rest ls x height behind
     → value_at ps n column bytes ls ≡ found (ps ++ leaf n at x height false ∷ []) behind
-value_read ps n column at height bytes [] x ls behind a l = elim l [ ]
-value_read ps n column at height bytes (b ∷ rest) x ls behind a l =
-    let some = some_left a (no_comment false (floor ps) n b rest ls (x, height) behind (leaf_told (floor ps) false n b rest ls x height behind l)) false in
+value_read ps n column at height bytes [] x ls behind a low l = elim l [ ]
+value_read ps n column at height bytes (b ∷ rest) x ls behind a low l =
+    let some = some_left a (leaf_no_comment (floor ps) n b rest ls x height behind l) false in
     let is = at_is a in
-    rw some (ap (λ (w : List ℕ). leaf_at ps n false (column + (length bytes - length w)) w ls) (sym is.0) ∙ ap (λ (c : ℕ). leaf_at ps n false c (b ∷ rest) ls) (sym is.1) ∙ leaf_read ps n false at b height rest x ls behind l)
+    rw some (ap (λ (w : List ℕ). leaf_at ps n false (column + (length bytes - length w)) w ls) (sym is.0) ∙ ap (λ (c : ℕ). leaf_at ps n false c (b ∷ rest) ls) (sym is.1) ∙ leaf_read ps n false at b height rest x ls behind low l)
 
 -- ---- a line
 
@@ -187,24 +181,24 @@ front_of (blank h a) = front_of a
 dash_no_comment : (b : ℕ) (rest : List ℕ) → is_dash (b ∷ rest) ≡ true → (b == 35) ≡ false
 dash_no_comment b rest e = ap (λ (c : ℕ). c == 35) (eqb-true b 45 (and_true (b == 45) (breaks rest) e).0)
 
-pub heads_read : {n right column : ℕ} {spaced : Bool} {bytes : List ℕ} {ls ls' : List RawLine} {qs : List Piece} → IsHeads n right spaced column bytes ls qs ls' → (ps : List Piece) → right ≡ floor ps → heads ps n spaced column bytes ls ≡ found (ps ++ qs) ls'
-heads_read {n = n} {column = column} {spaced = spaced} {bytes = bytes} {ls = ls} (nothing e) ps f = nothing_read bytes ps n column spaced ls e ∙ ap (λ (qs : List Piece). found qs ls) (sym (append-nil ps))
-heads_read {n = n} {column = column} {spaced = spaced} {bytes = bytes} {ls = ls} {ls' = ls'} (dash_is {at = at} {b = b} {rest = rest} {ps = qs} a d r) ps f =
+pub heads_read : {n right column : ℕ} {spaced : Bool} {bytes : List ℕ} {ls ls' : List RawLine} {qs : List Piece} → IsHeads n right spaced column bytes ls qs ls' → (ps : List Piece) → right ≡ floor ps → Low qs → heads ps n spaced column bytes ls ≡ found (ps ++ qs) ls'
+heads_read {n = n} {column = column} {spaced = spaced} {bytes = bytes} {ls = ls} (nothing e) ps f low = nothing_read bytes ps n column spaced ls e ∙ ap (λ (qs : List Piece). found qs ls) (sym (append-nil ps))
+heads_read {n = n} {column = column} {spaced = spaced} {bytes = bytes} {ls = ls} {ls' = ls'} (dash_is {at = at} {b = b} {rest = rest} {ps = qs} a d r) ps f low =
     let w = at_read a ps n spaced ls in
-    let more = heads_read r (ps ++ dash n at ∷ []) (sym (floor_more ps (dash n at))) in
+    let more = heads_read r (ps ++ dash n at ∷ []) (sym (floor_more ps (dash n at))) low.1 in
     w.1 ∙ step ps n at b w.0 rest ls (at_no_blank a) (dash_no_comment b rest d) ∙ rw d (more ∙ ap (λ (x : List Piece). found x ls') (append_assoc ps (dash n at ∷ []) qs))
-heads_read {n = n} {column = column} {spaced = spaced} {bytes = bytes} {ls = ls} {ls' = ls'} (leaf_is {right = right} {at = at} {height = height} {rest = rest} {x = x} a d l) ps f =
+heads_read {n = n} {column = column} {spaced = spaced} {bytes = bytes} {ls = ls} {ls' = ls'} (leaf_is {right = right} {at = at} {height = height} {rest = rest} {x = x} a d l) ps f low =
     let r = front_of a in
-    let l' : IsLeaf true (floor ps) n (r.0 ∷ r.1) ls x height ls' = subst (λ (k : ℕ). IsLeaf true k n (r.0 ∷ r.1) ls x height ls') f (subst (λ (bytes : List ℕ). IsLeaf true right n bytes ls x height ls') r.2 l) in
-    here_read a ps n spaced ls r.0 r.1 r.2 d (no_comment true (floor ps) n r.0 r.1 ls (x, height) ls' (leaf_told (floor ps) true n r.0 r.1 ls x height ls' l'))
-    ∙ no_key (start r.0 r.1) ps n at r.0 r.1 ls (x, height) ls' (leaf_told (floor ps) true n r.0 r.1 ls x height ls' l') ∙ leaf_read ps n true at r.0 height r.1 x ls ls' l'
-heads_read {n = n} {column = column} {spaced = spaced} {ls = ls} (key_is {at = at} {behind = behind} {rest = rest} {k = k} {after = after} a d key' e) ps f =
+    let l' : IsLeaf (floor ps) n (r.0 ∷ r.1) ls x height ls' = subst (λ (k : ℕ). IsLeaf k n (r.0 ∷ r.1) ls x height ls') f (subst (λ (bytes : List ℕ). IsLeaf right n bytes ls x height ls') r.2 l) in
+    here_read a ps n spaced ls r.0 r.1 r.2 d (leaf_no_comment (floor ps) n r.0 r.1 ls x height ls' l')
+    ∙ no_key (start r.0 r.1) ps n at r.0 r.1 ls (x, height) ls' (leaf_told (floor ps) true n r.0 r.1 ls x height ls' low.0 l') ∙ leaf_read ps n true at r.0 height r.1 x ls ls' low.0 l'
+heads_read {n = n} {column = column} {spaced = spaced} {ls = ls} (key_is {at = at} {behind = behind} {rest = rest} {k = k} {after = after} a d key' e) ps f low =
     let r = front_of a in
     let key'' : IsKey at (r.0 ∷ r.1) k behind after = subst (λ (x : List ℕ). IsKey at x k behind after) r.2 key' in
     here_read a ps n spaced ls r.0 r.1 r.2 d (key_no_comment key'') ∙ key_read key'' n ps ls ∙ rw e refl
-heads_read {n = n} {column = column} {spaced = spaced} {ls = ls} {ls' = ls'} (key_value {at = at} {behind = behind} {value = value} {height = height} {rest = rest} {k = k} {after = after} {bytes' = bytes'} {x = x} a d key' v l) ps f =
+heads_read {n = n} {column = column} {spaced = spaced} {ls = ls} {ls' = ls'} (key_value {at = at} {behind = behind} {value = value} {height = height} {rest = rest} {k = k} {after = after} {bytes' = bytes'} {x = x} a d key' v l) ps f low =
     let r = front_of a in
     let key'' : IsKey at (r.0 ∷ r.1) k behind after = subst (λ (x : List ℕ). IsKey at x k behind after) r.2 key' in
-    let l' : IsLeaf false (floor (ps ++ key n at (word k) ∷ [])) n bytes' ls x height ls' = subst (λ (right : ℕ). IsLeaf false right n bytes' ls x height ls') (sym (floor_more ps (key n at (word k)))) l in
+    let l' : IsLeaf (floor (ps ++ key n at (word k) ∷ [])) n bytes' ls x height ls' = subst (λ (right : ℕ). IsLeaf right n bytes' ls x height ls') (sym (floor_more ps (key n at (word k)))) l in
     here_read a ps n spaced ls r.0 r.1 r.2 d (key_no_comment key'') ∙ key_read key'' n ps ls
-    ∙ value_read (ps ++ key n at (word k) ∷ []) n behind value height after bytes' x ls ls' v l' ∙ ap (λ (qs : List Piece). found qs ls') (pushed ps (key n at (word k)) (leaf n value x height false))
+    ∙ value_read (ps ++ key n at (word k) ∷ []) n behind value height after bytes' x ls ls' v low.1.0 l' ∙ ap (λ (qs : List Piece). found qs ls') (pushed ps (key n at (word k)) (leaf n value x height false))

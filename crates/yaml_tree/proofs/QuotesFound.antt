@@ -23,7 +23,7 @@ pick_bad : (c : Bool) (x y : State) → is_some x.bad ≡ true → is_some y.bad
 pick_bad true x y p q = p
 pick_bad false x y p q = q
 
-usual_bad : (s : State) (b : ℕ) → is_some s.bad ≡ true → is_some (usual_step s b).bad ≡ true
+pub usual_bad : (s : State) (b : ℕ) → is_some s.bad ≡ true → is_some (usual_step s b).bad ≡ true
 usual_bad s b h =
     pick_bad (b == s.quote) (awaits s Quote) (cond (b == 92 && s.quote == 34) (awaits s Backslash) (cond (is_blank b) (waits s b) (added s (b ∷ [])))) h
     (pick_bad (b == 92 && s.quote == 34) (awaits s Backslash) (cond (is_blank b) (waits s b) (added s (b ∷ []))) h (pick_bad (is_blank b) (waits s b) (added s (b ∷ [])) h h))
@@ -45,7 +45,7 @@ step_bad Quote s b h = h
 step_bad Backslash s b h = pick_bad (digits_behind b == 0) (escaped s (escape b)) (awaits s (Digits (digits_behind b) 0)) (escaped_bad s (escape b) h) h
 step_bad (Digits wanted value) s b h = digit_bad s wanted value b (hex b) h
 
-run_bad : (bytes : List ℕ) (s : State) → is_some s.bad ≡ true → is_some (run s bytes).0.bad ≡ true
+pub run_bad : (bytes : List ℕ) (s : State) → is_some s.bad ≡ true → is_some (run s bytes).0.bad ≡ true
 unfolding run
 run_bad [] s h = h
 run_bad (b ∷ bytes) s h = elim (tested (is_closed s b)) [
@@ -114,7 +114,7 @@ past_no_character value lt h =
     let q : (nat_lt value 55296 || (nat_lt 57343 value && false)) ≡ true = rw big at h in
     past_false (nat_lt value 55296) (nat_lt 57343 value) q small
 
-near_character : (value exact : ℕ) → Near value exact → is_character value ≡ true → value ≡ exact
+pub near_character : (value exact : ℕ) → Near value exact → is_character value ≡ true → value ≡ exact
 near_character value exact (inl e) h = e
 near_character value exact (inr p) h = absurd (past_no_character value p.0 h)
 

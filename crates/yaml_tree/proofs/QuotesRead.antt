@@ -152,13 +152,13 @@ module _ (quote floor first : ℕ) (two : (quote ≡ 39) ⊎ (quote ≡ 34)) whe
   -- ---- all
 
   -- the text that is read is the one that is meant
-  pub after : (text blanks piece more body : List ℕ) → (((text ++ blanks) ++ piece) ++ kept [] more) ++ body ≡ (text ++ blanks) ++ (piece ++ body)
+  after : (text blanks piece more body : List ℕ) → (((text ++ blanks) ++ piece) ++ kept [] more) ++ body ≡ (text ++ blanks) ++ (piece ++ body)
   after text blanks piece more body = ap (λ (x : List ℕ). (((text ++ blanks) ++ piece) ++ x) ++ body) (kept_none more) ∙ ap (λ (x : List ℕ). x ++ body) (append-nil ((text ++ blanks) ++ piece)) ∙ append_assoc (text ++ blanks) piece body
 
   answer : (t t' : List ℕ) (ls : List RawLine) (r : Reading (List ℕ)) → r ≡ Ok (t, ls) → t ≡ t' → r ≡ Ok (t', ls)
   answer t t' ls r e s = e ∙ ap (λ (x : List ℕ). Ok (x, ls)) s
 
-  pub kept_all : (blanks bytes : List ℕ) → only_blanks bytes ≡ false → kept blanks bytes ≡ blanks
+  kept_all : (blanks bytes : List ℕ) → only_blanks bytes ≡ false → kept blanks bytes ≡ blanks
   kept_all blanks bytes o = rw o refl
 
   pub suc_not_zero : (w : ℕ) → (suc w == 0) ≡ false

@@ -17,6 +17,7 @@ use Rattle.yaml_tree.proofs.LinesFound.{least_none, lines_found, lines_read, cle
 use Rattle.yaml_tree.proofs.AllLines.{start_clean, pieces_found, pieces_read}
 use Rattle.yaml_tree.proofs.Found.{document_found}
 use Rattle.yaml_tree.proofs.Only.{document_read}
+use Rattle.yaml_tree.proofs.Low.{low_tree}
 
 no_fault : (o : Option Fault) (r : Answer Node) (x : Node) → judged o r ≡ Ok x → o ≡ None
 no_fault None r x e = refl
@@ -42,7 +43,8 @@ text_found bytes root e =
     let clean = clean_found ls false h.0 in
     let c = start_clean ls false clean in
     let begun : is_begun [] ≡ true → c.0 ≡ true = λ e. absurd cc in
-    text_is (lines_found (without_mark bytes) [] 1 no_byte) clean (pieces_found (suc (length behind)) [] c.0 behind (omega arith) begun c.1 h.1) (document_found f.pieces root h.2 h.3)
+    let laid = document_found f.pieces root h.2 h.3 in
+    text_is (lines_found (without_mark bytes) [] 1 no_byte) clean (pieces_found (suc (length behind)) [] c.0 behind (omega arith) begun c.1 (h.1, low_tree f.pieces root laid)) laid
 
 pub text_read : (bytes : List ℕ) (root : Node) → IsText bytes root → tree bytes ≡ Ok root
 text_read bytes root (text_is {ls = ls} {ps = ps} l c p t) =
@@ -51,7 +53,7 @@ text_read bytes root (text_is {ls = ls} {ps = ps} l c p t) =
     (let clean : line_fault xs ≡ None = ap line_fault is ∙ clean_read ls false c in
     let k = start_clean ls false c in
     let begun : is_begun [] ≡ true → k.0 ≡ true = λ e. absurd cc in
-    let q = pieces_read (suc (length (without_start ls))) [] k.0 (without_start ls) ps (omega arith) begun k.1 p in
+    let q = pieces_read (suc (length (without_start ls))) [] k.0 (without_start ls) ps (omega arith) begun k.1 p (low_tree ps root t) in
     let pieces_are : (all_pieces (without_start xs)).pieces ≡ ps = ap (λ (x : List RawLine). (all_pieces (without_start x)).pieces) is ∙ q.0 in
     let no_fault_in : (all_pieces (without_start xs)).fault ≡ None = ap (λ (x : List RawLine). (all_pieces (without_start x)).fault) is ∙ q.1 in
     let laid : document (all_pieces (without_start xs)).pieces ≡ Ok (root, []) = ap document pieces_are ∙ document_read ps root t in

@@ -10,6 +10,7 @@ use Rattle.yaml_tree.specs.declared.flow.Turn.{Turn}
 use Rattle.yaml_tree.specs.declared.flow.Turn.TheVariants as turns
 use Rattle.yaml_tree.specs.Nodes.{null, word, scalar_node, listed, mapped, has_key}
 use Rattle.yaml_tree.specs.Starts.{left_out, no_plain, is_merge}
+use Rattle.yaml_tree.specs.Brackets.{is_word_end, ends_key}
 
 -- What was read: the innermost open bracket and those around it, whether an item was read last, so that a comma or the end
 -- comes next, how many nodes stand in one another, whether a key was repeated, whether a space was read last, and the bytes
@@ -98,10 +99,6 @@ keyed m key = if is_empty key then fails Structure else on (awaiting m key)
 abbrev pub alone : Machine → List ℕ → Step
 alone m key = if is_empty key then fails Structure else on (holding (awaiting m key) (null m.line))
 
-abbrev pub ends_key : List ℕ → Bool
-ends_key [] = true
-ends_key (b ∷ rest) = is_blank b || b == 44 || b == 91 || b == 93 || b == 123 || b == 125
-
 -- a colon, and behind it a blank, a comma, a bracket or a brace
 abbrev pub colon_behind : List ℕ → Bool
 colon_behind [] = false
@@ -119,10 +116,7 @@ quoted_by m s (Some rest) = if is_some s.bad then fails Structure else quoted_he
 abbrev pub quoted : Machine → ℕ → Step
 quoted m b = let r : State × Option (List ℕ) = quoted_run (opened b m.line) m.rest in quoted_by m r.0 r.1
 
--- where a plain scalar ends: before a comma, a bracket or a comment
-abbrev pub is_word_end : ℕ → Bool → Bool
-is_word_end b spaced = b == 44 || b == 91 || b == 93 || b == 123 || b == 125 || (b == 35 && spaced)
-
+-- where a plain scalar ends in these bytes
 unfoldable pub word_end : Bool → ℕ → List ℕ → ℕ
 word_end spaced at [] = at
 word_end spaced at (b ∷ rest) = if is_word_end b spaced then at else word_end (b == 32) (at + 1) rest

@@ -1,4 +1,5 @@
 pub mod Blocks
+pub mod Brackets
 pub mod Entities
 pub mod Flow
 pub mod Grammar

@@ -1,21 +1,19 @@
 -- The grammar of lines, and of the pieces that stand on them. In each rule a text, or what is left of one, is a spelling of
--- something, and then a rest follows. `Plains`, `Quotes` and `Blocks` have scalars, `Keys` has keys. Flow is what the definition of
--- `Flow` reads.
+-- something, and then a rest follows. `Plains`, `Quotes` and `Blocks` have scalars, `Keys` has keys, and `Brackets` flow.
 use Rattle.std.specs.Prelude.{◌≡◌, ℕ, ◌+◌, Bool, true, false, not, ◌||◌, ◌&&◌, ◌==◌, List, [], ◌∷◌, ◌++◌, Result, Ok, Err}
 use Rattle.std.specs.Str.{is_utf8}
 use Rattle.yaml_scan.specs.declared.line.RawLine.{RawLine}
 use Rattle.yaml_scan.specs.declared.fault.YamlFault.{YamlFault}
 use Rattle.yaml_scan.specs.declared.fault.YamlFault.TheVariants as faults
 use Rattle.yaml_scan.specs.Lines.{line_of, without_cr, without_mark, without_start, is_blank_line, is_mark, is_directive}
-use Rattle.yaml_scan.specs.Words.{sees, is_blank, nothing_left, breaks, without_blanks}
+use Rattle.yaml_scan.specs.Words.{sees, is_blank, nothing_left, breaks}
 use Rattle.yaml_tree.specs.declared.node.Node.{Node}
 use Rattle.yaml_tree.specs.declared.piece.Piece.{Piece}
 use Rattle.yaml_tree.specs.declared.starts.Start.TheVariants as starts
 use Rattle.yaml_tree.specs.Nodes.{word, scalar_node}
 use Rattle.yaml_tree.specs.Starts.{start}
-use Rattle.yaml_tree.specs.Leaves.{colon_behind}
-use Rattle.yaml_tree.specs.Flow.{Ended, flow}
 use Rattle.yaml_tree.specs.Blocks.{IsBlock}
+use Rattle.yaml_tree.specs.Brackets.{IsFlow}
 use Rattle.yaml_tree.specs.Keys.{IsKey}
 use Rattle.yaml_tree.specs.Plains.{IsPlain}
 use Rattle.yaml_tree.specs.Quotes.{IsQuoted}
@@ -55,14 +53,13 @@ is_dash [] = false
 is_dash (b ∷ bytes) = b == 45 && breaks bytes
 
 -- A scalar or flow of the line n that begins here, how many nodes stand in one another in it, and the lines behind it. Further
--- lines of a scalar stand at the column right or beyond. Where it is fresh a key might stand here too.
-pub data IsLeaf (fresh : Bool) (right n : ℕ) : List ℕ → List RawLine → Node → ℕ → List RawLine → Type 0 where
-  in_quotes : {b : ℕ} {bytes s : List ℕ} {ls ls' : List RawLine} → start b bytes ≡ starts.InQuotes → IsQuoted right b bytes ls s ls' → IsLeaf fresh right n (b ∷ bytes) ls (scalar_node n s false) 1 ls'
-  in_lines : {b : ℕ} {bytes s : List ℕ} {ls ls' : List RawLine} → start b bytes ≡ starts.InLines → IsBlock right (b == 62) bytes ls s ls' → IsLeaf fresh right n (b ∷ bytes) ls (scalar_node n s false) 1 ls'
-  is_plain : {b : ℕ} {bytes s : List ℕ} {ls ls' : List RawLine} → start b bytes ≡ starts.Plain → IsPlain right (b ∷ bytes) ls s ls' → IsLeaf fresh right n (b ∷ bytes) ls (scalar_node n s true) 1 ls'
-  in_brackets : {b : ℕ} {bytes : List ℕ} {f : Ended} {ls : List RawLine}
-      → start b bytes ≡ starts.InBrackets → flow n (b == 123) bytes ≡ Ok f → (fresh && colon_behind (without_blanks f.rest)) ≡ false → nothing_left false f.rest ≡ true → f.repeated ≡ false
-      → IsLeaf fresh right n (b ∷ bytes) ls f.node f.height ls
+-- lines of a scalar stand at the column right or beyond.
+pub data IsLeaf (right n : ℕ) : List ℕ → List RawLine → Node → ℕ → List RawLine → Type 0 where
+  in_quotes : {b : ℕ} {bytes s : List ℕ} {ls ls' : List RawLine} → start b bytes ≡ starts.InQuotes → IsQuoted right b bytes ls s ls' → IsLeaf right n (b ∷ bytes) ls (scalar_node n s false) 1 ls'
+  in_lines : {b : ℕ} {bytes s : List ℕ} {ls ls' : List RawLine} → start b bytes ≡ starts.InLines → IsBlock right (b == 62) bytes ls s ls' → IsLeaf right n (b ∷ bytes) ls (scalar_node n s false) 1 ls'
+  is_plain : {b : ℕ} {bytes s : List ℕ} {ls ls' : List RawLine} → start b bytes ≡ starts.Plain → IsPlain right (b ∷ bytes) ls s ls' → IsLeaf right n (b ∷ bytes) ls (scalar_node n s true) 1 ls'
+  in_brackets : {b height : ℕ} {bytes rest : List ℕ} {x : Node} {ls : List RawLine}
+      → start b bytes ≡ starts.InBrackets → IsFlow n (b ∷ bytes) x height rest → nothing_left false rest ≡ true → IsLeaf right n (b ∷ bytes) ls x height ls
 
 -- The pieces of what is left of the line n from this column on, and the lines behind them: dashes, and then perhaps a key or a
 -- leaf, or both. Whether a space stands before; further lines of a leaf stand right of the last piece.
@@ -71,11 +68,11 @@ pub data IsHeads (n : ℕ) : ℕ → Bool → ℕ → List ℕ → List RawLine 
   dash : {right column at b : ℕ} {spaced : Bool} {bytes rest : List ℕ} {ls ls' : List RawLine} {ps : List Piece}
       → IsAt column bytes at (b ∷ rest) → is_dash (b ∷ rest) ≡ true → IsHeads n (at + 1) false (at + 1) rest ls ps ls' → IsHeads n right spaced column bytes ls (dash_piece n at ∷ ps) ls'
   leaf : {right column at height : ℕ} {spaced : Bool} {bytes rest : List ℕ} {x : Node} {ls ls' : List RawLine}
-      → IsAt column bytes at rest → is_dash rest ≡ false → IsLeaf true right n rest ls x height ls' → IsHeads n right spaced column bytes ls (leaf_piece n at x height false ∷ []) ls'
+      → IsAt column bytes at rest → is_dash rest ≡ false → IsLeaf right n rest ls x height ls' → IsHeads n right spaced column bytes ls (leaf_piece n at x height false ∷ []) ls'
   key : {right column at behind : ℕ} {spaced : Bool} {bytes rest k after : List ℕ} {ls : List RawLine}
       → IsAt column bytes at rest → is_dash rest ≡ false → IsKey at rest k behind after → nothing_left false after ≡ true → IsHeads n right spaced column bytes ls (key_piece n at (word k) ∷ []) ls
   key_value : {right column at behind value height : ℕ} {spaced : Bool} {bytes rest k after bytes' : List ℕ} {x : Node} {ls ls' : List RawLine}
-      → IsAt column bytes at rest → is_dash rest ≡ false → IsKey at rest k behind after → IsAt behind after value bytes' → IsLeaf false (at + 1) n bytes' ls x height ls'
+      → IsAt column bytes at rest → is_dash rest ≡ false → IsKey at rest k behind after → IsAt behind after value bytes' → IsLeaf (at + 1) n bytes' ls x height ls'
       → IsHeads n right spaced column bytes ls (key_piece n at (word k) ∷ leaf_piece n value x height false ∷ []) ls'
 
 -- all lines and their pieces, behind those that were found

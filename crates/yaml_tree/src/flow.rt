@@ -1,7 +1,8 @@
 //! Flow on one line, token by token.
 
 ghost use Rattle.std.specs.Prelude.{◌≡◌, ◌<◌, ◌≤◌, ◌+◌, ◌∷◌, ℕ, suc, length, drop, take, false, OnOk, IfOk};
-ghost use Rattle.yaml_tree.specs.Flow.{fresh, held, node_of, closing, wants_key, kept, holding, opens, closes, behind, awaiting, keyed, alone, ends_key, colon_behind, quoted_here, quoted, word_end, plain_key, plain_by, plain, scalar, after_step, item_step, token, step, start, run, raised, is_word_end, IsTurn, IsStep, IsRan};
+ghost use Rattle.yaml_tree.specs.Flow.{fresh, held, node_of, closing, wants_key, kept, holding, opens, closes, behind, awaiting, keyed, alone, colon_behind, quoted_here, quoted, word_end, plain_key, plain_by, plain, scalar, after_step, item_step, token, step, start, run, raised, IsTurn, IsStep, IsRan};
+ghost use Rattle.yaml_tree.specs.Brackets.{ends_key, is_stop, is_word_end};
 ghost use Rattle.yaml_scan.specs.Words.{colon_at};
 
 use crate::node::{Node, NodeKind, null, scalar_node, word};
@@ -443,7 +444,7 @@ fn ends_key(rest: &[u8]) -> bool
     let Some(b) = rest.first().copied() else {
         return true;
     };
-    is_blank(b) || b == b',' || b == b'[' || b == b']' || b == b'{' || b == b'}'
+    is_blank(b) || is_stop(b)
 }
 
 fn colon_behind(rest: &[u8]) -> bool
@@ -473,5 +474,11 @@ fn word_end(bytes: &[u8]) -> usize
 fn is_word_end(b: u8, spaced: bool) -> bool
     ensures { result ≡ is_word_end b spaced }
 {
-    matches!(b, b',' | b'[' | b']' | b'{' | b'}') || (b == b'#' && spaced)
+    is_stop(b) || (b == b'#' && spaced)
+}
+
+fn is_stop(b: u8) -> bool
+    ensures { result ≡ is_stop b }
+{
+    matches!(b, b',' | b'[' | b']' | b'{' | b'}')
 }
