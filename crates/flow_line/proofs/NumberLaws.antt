@@ -143,7 +143,7 @@ numeral_open t f e =
           ]
     ]
 
-range_stops : (o : Option Num) (at end : List ℕ) (f : Fault) → in_range o at end ≡ Err f → f.left ≡ length at
+pub range_stops : (o : Option Num) (at end : List ℕ) (f : Fault) → in_range o at end ≡ Err f → f.left ≡ length at
 range_stops None at end f e = stop_left {T = ℕ} {A = Num} Range at f e
 range_stops (Some n) at end f e = absurd cc
 

@@ -8,6 +8,7 @@ mod bytes;
 mod command;
 mod fault;
 mod fields;
+mod found_pairs;
 mod keys;
 pub mod laws;
 mod number;

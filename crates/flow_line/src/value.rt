@@ -5,10 +5,11 @@ ghost use Rattle.reading.specs.Answer.{Gives, front, made};
 ghost use Rattle.reading.specs.Bytes.{expect, sees, skip};
 ghost use Rattle.reading.specs.declared.fault.Stop.{Stop};
 ghost use Rattle.flow_line.specs.declared.fault.Code.TheVariants.{Syntax};
-ghost use Rattle.flow_line.specs.Reading.{document, has_key, items, key, number, pair, pairs, value};
+ghost use Rattle.flow_line.specs.Reading.{document, items, key, number, pair, pairs, value};
 
 use crate::bytes::begins_number;
 use crate::fault::Code;
+use crate::found_pairs::FoundPairs;
 use ha_value::{Many, Plain, Value, Word};
 use reading::{Bad, Reader, Stop};
 use std::alloc::Global;
@@ -32,15 +33,6 @@ impl<'a> Model for FlowReader<'a> {
     ghost Value = { List ℕ };
 
     ghost view = { λ r. r.bytes };
-}
-
-fn has_key(pairs: &Many<(Word, Value)>, key: &Word) -> bool
-    ensures { result ≡ has_key pairs.now key.now }
-{
-    pairs
-        .as_slice()
-        .iter()
-        .any(|pair| pair.0.bytes() == key.bytes())
 }
 
 impl<'a> FlowReader<'a> {
@@ -182,17 +174,17 @@ impl<'a> FlowReader<'a> {
     fn pairs(&mut self, alloc: Global, depth: usize) -> Result<Many<(Word, Value)>, Stopped>
         ensures { Gives (pairs (value depth) self.old) result self.new }
     {
-        let mut pairs = Many::make(alloc);
+        let mut pairs = FoundPairs::new(alloc);
         self.skip_blanks();
         if self.eat(b'}') {
-            return Ok(pairs);
+            return Ok(pairs.into_list());
         }
         'pairs: loop {
             let pair = self.pair(alloc, depth, &pairs)?;
-            pairs.push(pair)?;
+            pairs = pairs.push(alloc, pair)?;
             self.skip_blanks();
             if self.eat(b'}') {
-                return Ok(pairs);
+                return Ok(pairs.into_list());
             }
             self.expect(b",")?;
             self.skip_blanks();
@@ -206,7 +198,7 @@ impl<'a> FlowReader<'a> {
         &mut self,
         alloc: Global,
         depth: usize,
-        found: &Many<(Word, Value)>,
+        found: &FoundPairs,
     ) -> Result<(Word, Value), Stopped>
         ensures { Gives (pair (value depth) found.now self.old) result self.new }
     {
@@ -219,12 +211,12 @@ impl<'a> FlowReader<'a> {
     }
 
     #[tactic(auto, unfolding(crate::specs::Reading::key))]
-    fn key(&mut self, alloc: Global, found: &Many<(Word, Value)>) -> Result<Word, Stopped>
+    fn key(&mut self, alloc: Global, found: &FoundPairs) -> Result<Word, Stopped>
         ensures { Gives (key found.now self.old) result self.new }
     {
         let repeated = self.bytes.stop(Code::RepeatedKey);
         let key = self.string(alloc)?;
-        if has_key(found, &key) {
+        if found.has(&key) {
             return Err(repeated);
         }
         Ok(key)
