@@ -1,0 +1,198 @@
+//! Characters, numbers and strings.
+
+ghost use Rattle.std.specs.Prelude.{◌≡◌, ◌≢◌, ◌≤◌, ◌<◌, ◌++◌, length, None, IfSome};
+ghost use Rattle.reading.specs.Answer.{Gives, made};
+ghost use Rattle.tpl_parse.specs.Literal.{before_range_end, begins_places, behind_number, byte_in, character, escape, escape_at, further, is_digit, number, skip_digits, string, string_character, unescaped};
+ghost use Rattle.tpl_parse.specs.Leaves.{Leaves};
+
+use crate::parser::{Parser, Stopped};
+use ha_value::{Num, Word};
+use std::alloc::Global;
+
+/// What a byte behind a backslash stands for, where it is an escape.
+fn unescaped(b: u8) -> Option<u8>
+    ensures exact { result ≡ unescaped b }
+    ensures ascii { IfSome result (λ meant. meant < 128) }
+{
+    match b {
+        b'\\' | b'\'' | b'"' => Some(b),
+        b'n' => Some(b'\n'),
+        b't' => Some(b'\t'),
+        _ => None,
+    }
+}
+
+/// What the escape at the front of the text stands for.
+fn escape_at(rest: &[u8]) -> Option<u8>
+    ensures exact { result ≡ escape_at rest.now }
+    ensures ascii { IfSome result (λ meant. meant < 128) }
+    ensures within { IfSome result (λ meant. 2 ≤ length rest.now) }
+{
+    match rest.first() {
+        Some(b'\\') => escape(rest[1..].first().copied()),
+        _ => None,
+    }
+}
+
+fn escape(b: Option<u8>) -> Option<u8>
+    ensures exact { result ≡ escape b }
+    ensures ascii { IfSome result (λ meant. meant < 128) }
+    ensures some { IfSome result (λ meant. b ≢ None) }
+{
+    match b {
+        Some(b) => unescaped(b),
+        None => None,
+    }
+}
+
+/// How many bytes stand before the first digit with which the number is out of range. Only a text that is refused comes here.
+#[tactic(auto, unfolding(crate::specs::Literal::before_range_end))]
+fn before_range_end(digits: &[u8]) -> usize
+    ensures { result ≡ before_range_end 0 digits.now digits.now }
+{
+    let mut more = digits;
+    let mut count = 0;
+    'digits: while let Some(b) = more.first() {
+        if *b != b'.' && Num::read(&digits[..count + 1]).is_none() {
+            return count;
+        }
+        more = &more[1..];
+        count += 1;
+    }
+    count
+}
+
+fn is_digit(b: Option<u8>) -> bool
+    ensures { result ≡ is_digit b }
+{
+    match b {
+        Some(b) => b.is_ascii_digit(),
+        None => false,
+    }
+}
+
+/// Whether a dot with a digit behind it begins the text.
+fn begins_places(rest: &[u8]) -> bool
+    ensures { result ≡ begins_places rest.now }
+{
+    match rest.first() {
+        Some(b'.') => is_digit(rest[1..].first().copied()),
+        _ => false,
+    }
+}
+
+impl<'a> Parser<'a> {
+    /// One byte from `low` to `high`.
+    fn byte_in(&mut self, low: u8, high: u8) -> Result<(), Stopped>
+        ensures { Gives (byte_in low high self.old) result self.new }
+    {
+        match self.peek() {
+            Some(b) if low <= b && b <= high => {
+                self.bump();
+                Ok(())
+            }
+            _ => Err(self.wrong()),
+        }
+    }
+
+    /// One character. The second byte's range leaves out what has a shorter form, the surrogates and what is over the last
+    /// character (Unicode, "Well-Formed UTF-8 Byte Sequences").
+    #[tactic(auto, unfolding(crate::specs::Literal::character))]
+    pub fn character(&mut self) -> Result<(), Stopped>
+        ensures { Gives (character self.old) result self.new }
+    {
+        let (low, high, further) = match self.peek() {
+            Some(0..=0x7F) => {
+                self.bump();
+                return Ok(());
+            }
+            Some(0xC2..=0xDF) => (0x80, 0xBF, 0),
+            Some(0xE0) => (0xA0, 0xBF, 1),
+            Some(0xED) => (0x80, 0x9F, 1),
+            Some(0xE1..=0xEF) => (0x80, 0xBF, 1),
+            Some(0xF0) => (0x90, 0xBF, 2),
+            Some(0xF1..=0xF3) => (0x80, 0xBF, 2),
+            Some(0xF4) => (0x80, 0x8F, 2),
+            _ => return Err(self.wrong()),
+        };
+        self.bump();
+        self.byte_in(low, high)?;
+        self.further(further)
+    }
+
+    /// So many bytes that go on with a character.
+    #[tactic(auto, unfolding(crate::specs::Literal::further))]
+    fn further(&mut self, count: usize) -> Result<(), Stopped>
+        ensures { Gives (further count self.old) result self.new }
+    {
+        if count == 0 {
+            return Ok(());
+        }
+        self.byte_in(0x80, 0xBF)?;
+        self.further(count - 1)
+    }
+
+    #[tactic(auto, unfolding(crate::specs::Literal::skip_digits))]
+    fn skip_digits(&mut self)
+        ensures exact { self.new ≡ skip_digits self.old }
+        ensures shorter { length self.new ≤ length self.old }
+    {
+        while let Some(b) = self.peek()
+            && b.is_ascii_digit()
+        {
+            self.bump();
+        }
+    }
+
+    /// Takes digits, and perhaps a dot with digits. A dot with no digit behind it is not the number's.
+    fn skip_numeral(&mut self)
+        ensures { self.new ≡ behind_number self.old }
+    {
+        self.skip_digits();
+        if begins_places(self.rest()) {
+            self.bump();
+            self.skip_digits();
+        }
+    }
+
+    #[tactic(auto, unfolding(crate::specs::Literal::number))]
+    pub fn number(&mut self) -> Result<Num, Stopped>
+        ensures { Gives (number self.old) result self.new }
+    {
+        let text = self.rest();
+        self.skip_numeral();
+        let digits = self.before(text);
+        match Num::read(digits) {
+            Some(number) => Ok(number),
+            None => Err(Parser::new(text).wrong_behind(before_range_end(digits))),
+        }
+    }
+
+    /// A string behind its opening quote.
+    #[tactic(auto, unfolding(crate::specs::Literal::string))]
+    pub fn string(&mut self, alloc: Global, quote: u8) -> Result<Word, Stopped>
+        ensures { Gives (string quote self.old) result self.new }
+    {
+        let mut text = Word::new(alloc);
+        'characters: while !self.eat(quote) {
+            self.string_character(&mut text)?;
+        }
+        Ok(text)
+    }
+
+    /// A character or an escape, put behind the text. A backslash that begins no escape stays.
+    #[tactic(auto, unfolding(crate::specs::Literal::string_character))]
+    fn string_character(&mut self, text: &mut Word) -> Result<(), Stopped>
+        ensures { Leaves (made (λ c. text.old ++ c) (string_character self.old)) result text.new self.new }
+    {
+        let rest = self.rest();
+        if let Some(meant) = escape_at(rest) {
+            self.take_bytes(2);
+            text.push_byte(meant)?;
+            return Ok(());
+        }
+        self.character()?;
+        text.push_bytes(self.before(rest))?;
+        Ok(())
+    }
+}
