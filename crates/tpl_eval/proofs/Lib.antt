@@ -1,0 +1,9 @@
+pub mod NameLemmas
+pub mod PairLemmas
+pub mod ListLemmas
+pub mod PartLemmas
+pub mod StepLemmas
+pub mod PieceLemmas
+pub mod ArmLemmas
+pub mod EqualLemmas
+pub mod OrderLemmas

@@ -1,0 +1,123 @@
+-- Pieces, one after the other.
+use Rattle.std.proofs.Common.{◌≡◌, ◌∙◌, ap, ℕ, zero, suc, ◌+◌, ◌<◌, ◌≤◌, refl, List, [], ◌∷◌, ◌++◌, length, get_or, drop, map, sym, subst, arith, drop-cons, append_assoc, append-nil, length-append}
+use Rattle.std.specs.Prelude.{Option, Some, None, Ok, Err, option_map, option_and_then, unwrap_or}
+use Rattle.ha_model.specs.declared.faults.TplFault.{TplFault}
+use Rattle.ha_model.specs.declared.template.Expr.{Expr}
+use Rattle.ha_model.specs.declared.template.Template.{Template}
+use Rattle.ha_model.specs.declared.template.Piece.TheOpen.{Piece-F}
+use Rattle.ha_model.specs.declared.template.Piece.TheVariants.{Choice, outs-Choice}
+use Rattle.ha_model.specs.declared.template.Piece.TheViews.{out-Piece, out-Template}
+use Rattle.ha_model.specs.declared.template.Piece.TheFolds.{map-Piece}
+use Rattle.ha_model.proofs.Rolls.{pieces_of-out, piece-out}
+use Rattle.ha_model.specs.declared.template.Piece.{Piece}
+use Rattle.ha_model.specs.States.{Sight}
+use Rattle.ha_model.specs.Words.{Text, Pairs}
+use Rattle.ha_model.specs.Templates.{choose_arm, joined, piece_step, pieces_of, PieceMeaning, TemplateMeaning}
+use Rattle.tpl_eval.specs.declared.page.Page.{Page}
+use Rattle.tpl_eval.specs.Pieces.{arms_of, behind, piece_of, Chooses, TooLong, Writes}
+use Rattle.tpl_eval.proofs.ArmLemmas.{get_here, get_past}
+
+abbrev Written : Type 0
+Written = Option (Text × Pairs)
+
+abbrev text_in : Written → Option Text
+text_in = option_map (λ r. r.0)
+
+-- what is written, and then what f writes in the environment that is left
+abbrev then : Written → (Pairs → Written) → Written
+then o f = option_and_then (λ r. option_map (λ s. (r.0 ++ s.0, s.1)) (f r.1)) o
+
+inside : (p q : Text × Pairs) → Some p ≡ Some q → p ≡ q
+inside p q h = cc
+
+then-behind : (before after : Text) (left : Pairs) (o : Written) (f : Pairs → Written) → behind before o ≡ Some (after, left) → behind before (then o f) ≡ behind after (f left)
+then-behind before after left None f h = absurd (cc)
+then-behind before after left (Some r) f h = (λ k. behind before (option_map (λ s. (r.0 ++ s.0, s.1)) (f (is_left k)))) ∙ by (f left)
+  where
+    is_left : r.1 ≡ left
+    is_left = ap (λ (p : Text × Pairs). p.1) (inside (before ++ r.0, r.1) (after, left) h)
+
+    is_after : before ++ r.0 ≡ after
+    is_after = ap (λ (p : Text × Pairs). p.0) (inside (before ++ r.0, r.1) (after, left) h)
+
+    by : (o : Written) → behind before (option_map (λ s. (r.0 ++ s.0, s.1)) o) ≡ behind after o
+    by None = refl
+    by (Some s) = λ k. Some ((sym (append_assoc before r.0 s.0) ∙ ap (λ t. t ++ s.0) is_after) k, s.1)
+
+then-long : (before : Text) (o : Written) (f : Pairs → Written) → TooLong (text_in (behind before o)) → TooLong (text_in (behind before (then o f)))
+then-long before None f h = tt
+then-long before (Some r) f h = by (f r.1)
+  where
+    by : (o : Written) → TooLong (text_in (behind before (option_map (λ s. (r.0 ++ s.0, s.1)) o)))
+    by None = tt
+    by (Some s) = omega (arith, h, length-append before r.0, length-append before (r.0 ++ s.0), length-append r.0 s.0)
+
+drop_past : {X : Type 0} (n : ℕ) (xs : List X) → length xs ≤ n → drop n xs ≡ []
+drop_past zero [] le = refl
+drop_past zero (x ∷ xs) le = absurd (omega arith)
+drop_past (suc n) [] le = refl
+drop_past (suc n) (x ∷ xs) le = drop_past n xs (omega arith)
+
+module _ (sight : Sight) where
+  abbrev pub written : List Piece → Pairs → Written
+  written ps env = joined sight (map (piece_of sight) ps) env
+
+  -- the text so far and what the rest writes behind it is the whole
+  abbrev pub Follows : Text → Written → Text → List Piece → ℕ → Pairs → Type 0
+  Follows first whole text ps i env = behind first whole ≡ behind text (written (drop i ps) env)
+
+  next : (ps : List Piece) (i : ℕ) (p : Piece) (env : Pairs) → i < length ps → p ≡ get_or ps i p → written (drop i ps) env ≡ then (piece_of sight p env) (written (drop (i + 1) ps))
+  next ps i p env lt is =
+      ap (λ l. written l env) (drop-cons ps i p lt)
+      ∙ (λ k. then (piece_of sight (sym is k) env) (written (drop (suc i) ps)))
+      ∙ (let e : suc i ≡ i + 1 = omega arith in λ k. then (piece_of sight p env) (written (drop (e k) ps)))
+
+  module _ (first text : Text) (whole : Written) (ps : List Piece) (i : ℕ) (env : Pairs) (known : Follows first whole text ps i env) where
+    pub follows-more : (p : Piece) (after : Text) (left : Pairs) → i < length ps → p ≡ get_or ps i p → behind text (piece_of sight p env) ≡ Some (after, left) → Follows first whole after ps (i + 1) left
+    follows-more p after left lt is made = known ∙ ap (behind text) (next ps i p env lt is) ∙ then-behind text after left (piece_of sight p env) (written (drop (i + 1) ps)) made
+
+    pub follows-long : (p : Piece) → i < length ps → p ≡ get_or ps i p → TooLong (text_in (behind text (piece_of sight p env))) → TooLong (text_in (behind first whole))
+    follows-long p lt is long =
+        subst (λ (o : Written). TooLong (text_in o)) (sym (known ∙ ap (behind text) (next ps i p env lt is))) (then-long text (piece_of sight p env) (written (drop (i + 1) ps)) long)
+
+    pub follows-all : length ps ≤ i → behind first whole ≡ Some (text, env)
+    follows-all le = known ∙ ap (λ l. behind text (written l env)) (drop_past i ps le) ∙ (λ k. Some (append-nil text k, env))
+
+-- the answer for one piece, told of the whole
+pub follows-fault : (sight : Sight) (first text : Text) (whole : Written) (ps : List Piece) (i : ℕ) (env : Pairs) → Follows sight first whole text ps i env → (p : Piece) → i < length ps → p ≡ get_or ps i p
+    → (run : Pairs) (old old' new : Page) (fault : TplFault) → old.text ≡ first → old'.text ≡ text → Writes {Y = Unit {0}} run old' new (piece_of sight p env) (Err fault) → Writes {Y = Unit {0}} run old new whole (Err fault)
+follows-fault sight first text whole ps i env known p lt is run old old' new TplFault.Fault e f h =
+    subst (λ (t : Text). TooLong (text_in (behind t whole))) (sym e)
+    (follows-long sight first text whole ps i env known p lt is (subst (λ (t : Text). TooLong (text_in (behind t (piece_of sight p env)))) f h))
+follows-fault sight first text whole ps i env known p lt is run old old' new TplFault.Memory e f h = tt
+
+module _ (sight : Sight) (env : Pairs) where
+  -- a template is its pieces, and a choice one of its arms
+  pub template-is : (t : Template) (ps : List Piece) → ps ≡ (out-Template t).pieces → pieces_of sight t env ≡ written sight ps env
+  template-is t ps h = pieces_of-out sight t env ∙ (λ k. written sight (sym h k) env)
+
+  pub choice-is : (x : Piece) (arms : List (Expr × Template)) (fallback : Template) → x ≡ Choice arms fallback → piece_of sight x env ≡ choose_arm sight (arms_of sight arms) (pieces_of sight fallback) env
+  choice-is x arms fallback h =
+      ap (λ y. piece_of sight y env) h ∙ piece-out sight (Choice arms fallback) env
+      ∙ ap (λ z. piece_step sight (map-Piece Piece Template (PieceMeaning sight) (TemplateMeaning sight) (piece_of sight) (pieces_of sight) z) env) (outs arms fallback)
+    where
+      outs : (arms : List (Expr × Template)) (fallback : Template) → out-Piece (Choice arms fallback) ≡ Piece-F.Choice arms fallback
+      outs arms fallback = simp outs-Choice
+
+  choice-by : (x : Piece) (arms found : List (Expr × Template)) (fallback : Template) → x ≡ Choice arms fallback → found ≡ arms → piece_of sight x env ≡ choose_arm sight (arms_of sight found) (pieces_of sight fallback) env
+  choice-by x arms found fallback h e = choice-is x arms fallback h ∙ (λ k. choose_arm sight (arms_of sight (sym e k)) (pieces_of sight fallback) env)
+
+  module _ (x : Piece) (arms found : List (Expr × Template)) (fallback : Template) (h : x ≡ Choice arms fallback) (e : found ≡ arms) where
+    pub choice-fault : (run : Pairs) (old new : Page) (fault : TplFault) → Chooses sight found env (Err fault) → Writes {Y = Unit {0}} run old new (piece_of sight x env) (Err fault)
+    choice-fault run old new TplFault.Fault none = subst (λ (o : Written). TooLong (text_in (behind old.text o))) (sym (choice-by x arms found fallback h e ∙ none (pieces_of sight fallback))) tt
+    choice-fault run old new TplFault.Memory none = tt
+
+    pub choice-arm : (place : ℕ) (a : Expr × Template) → Chooses sight found env (Ok place) → place < length found → a ≡ get_or found place a → piece_of sight x env ≡ pieces_of sight a.1 env
+    choice-arm place a known lt is =
+        choice-by x arms found fallback h e ∙ known (pieces_of sight fallback)
+        ∙ (λ k. unwrap_or (option_map (λ y. pieces_of sight y.1) (get_here found place a lt is k)) (pieces_of sight fallback) env)
+
+    pub choice-none : (place : ℕ) → Chooses sight found env (Ok place) → length found ≤ place → piece_of sight x env ≡ pieces_of sight fallback env
+    choice-none place known le =
+        choice-by x arms found fallback h e ∙ known (pieces_of sight fallback)
+        ∙ (λ k. unwrap_or (option_map (λ y. pieces_of sight y.1) (get_past found place le k)) (pieces_of sight fallback) env)

@@ -1,0 +1,9 @@
+use Rattle.std.proofs.Common.{◌++◌}
+use Rattle.ha_model.specs.States.{Sight}
+use Rattle.tpl_eval.specs.Seen.{Sees}
+use Rattle.tpl_eval.proofs.ArmLemmas.{Passes}
+use Rattle.tpl_eval.proofs.pieces.first_true.Given as goal
+
+-- the arms before this place are not chosen
+abbrev pub invariant-loop-i : goal.invariant-loop-i
+invariant-loop-i l = (sight : Sight) → Sees sight l.states → Passes sight l.arms (l.env ++ l.set) l.i

@@ -1,0 +1,15 @@
+use Rattle.std.proofs.Common.{arith, ◌∙◌, sym}
+use Rattle.tpl_eval.proofs.NameLemmas.{last-found, last-passed}
+use Rattle.tpl_eval.proofs.scope.last_value.Goals as goal
+
+pub returns-then-same_text : goal.returns-then-same_text
+returns-then-same_text c =
+    last-found c.args.name.now c.args.pairs.now c.loop-left.left c.index-pairs-left.result (omega arith) c.loop-left.invariant.within c.index-pairs-left.is c.loop-left.invariant.before
+    (sym c.same_text.ensures ∙ c.if-same_text.true)
+
+pub loop-left-preserved : goal.loop-left-preserved
+loop-left-preserved c = record {
+  within = omega arith;
+  before = last-passed c.args.name.now c.args.pairs.now c.loop-left.left c.index-pairs-left.result (omega arith) c.loop-left.invariant.within c.index-pairs-left.is c.loop-left.invariant.before
+      (sym c.same_text.ensures ∙ c.if-same_text.false);
+}

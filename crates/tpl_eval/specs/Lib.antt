@@ -1,0 +1,7 @@
+pub mod Held
+pub mod Scope
+pub mod Pairs
+pub mod Kinds
+pub mod Seen
+pub mod Pieces
+pub mod Operators

@@ -1,0 +1,89 @@
+//! The longest chains that a template of 16,384 bytes can hold.
+use crate::render;
+use ha_model::{Many, Plain};
+use state_table::StateTable;
+use std::alloc::{AllocError, Global};
+use std::test::Fail;
+use std::thread::{Threads, join};
+use tpl_parse::parse;
+
+/// A text, a part so many times, another text, and as often what closes the part.
+fn chain(
+    alloc: Global,
+    first: &[u8],
+    part: &[u8],
+    count: usize,
+    middle: &[u8],
+    close: &[u8],
+) -> Result<Vec<u8>, AllocError> {
+    let mut all = Vec::new(alloc);
+    all.extend_from_slice(first)?;
+    for _i in 0..count {
+        all.extend_from_slice(part)?;
+    }
+    all.extend_from_slice(middle)?;
+    for _i in 0..count {
+        all.extend_from_slice(close)?;
+    }
+    Ok(all)
+}
+
+/// Whether the text is read, rendered, and copied as the same; the copies are dropped then.
+fn goes_through(alloc: Global, text: &[u8]) -> bool {
+    if 16_384 < text.len() {
+        return false;
+    }
+    let states = StateTable::make(alloc);
+    match parse(alloc, text) {
+        Ok(template) => {
+            let rendered = render(alloc, &template, &states, &Many::make(alloc)).is_ok();
+            match template.copy(alloc) {
+                Ok(copy) => rendered && copy.same(&template),
+                Err(_) => false,
+            }
+        }
+        Err(_) => false,
+    }
+}
+
+/// On two threads, so that one of them has the stack that a thread has by default.
+fn on_threads<R: Threads + Sync>(rt: &R, alloc: Global, text: &[u8]) -> bool {
+    let both = join(
+        rt,
+        || goes_through(alloc, text),
+        || goes_through(alloc, text),
+    );
+    both.0 && both.1
+}
+
+#[test]
+fn a_long_sum_goes_through(rt: HostRuntime) -> Result<(), Fail> {
+    let alloc = rt.alloc();
+    let text = chain(alloc, b"{{1", b"+1", 8_189, b"}}", b"")?;
+    assert!(rt; on_threads(&rt, alloc, text.as_slice()));
+    Ok(())
+}
+
+#[test]
+fn a_long_path_goes_through(rt: HostRuntime) -> Result<(), Fail> {
+    let alloc = rt.alloc();
+    let text = chain(alloc, b"{{[a", b".a", 8_184, b"]|length}}", b"")?;
+    assert!(rt; on_threads(&rt, alloc, text.as_slice()));
+    Ok(())
+}
+
+#[test]
+fn many_filters_go_through(rt: HostRuntime) -> Result<(), Fail> {
+    let alloc = rt.alloc();
+    let text = chain(alloc, b"{{1", b"|abs", 4_094, b"}}", b"")?;
+    assert!(rt; on_threads(&rt, alloc, text.as_slice()));
+    Ok(())
+}
+
+#[test]
+fn many_choices_in_one_another_go_through(rt: HostRuntime) -> Result<(), Fail> {
+    let alloc = rt.alloc();
+    let text = chain(alloc, b"", b"{%if 1%}", 963, b"", b"{%endif%}")?;
+    assert!(rt; on_threads(&rt, alloc, text.as_slice()));
+    Ok(())
+}

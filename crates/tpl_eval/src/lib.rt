@@ -1,0 +1,26 @@
+//! Templates rendered: the values of expressions, and the text of the joined pieces.
+#![tactic(auto)]
+
+mod equal;
+mod held;
+mod operators;
+mod page;
+mod pairs;
+mod parts;
+mod pieces;
+mod rendering;
+mod scope;
+mod states;
+mod steps;
+mod value;
+mod within;
+
+pub use rendering::render;
+pub use states::function;
+
+#[cfg(test)]
+mod deep_tests;
+#[cfg(test)]
+mod tests;
+#[cfg(test)]
+mod text_tests;

@@ -1,0 +1,181 @@
+//! The pieces of a template, written one after the other.
+ghost use Rattle.std.specs.Prelude.{◌≡◌, ◌++◌, [], ◌∷◌, option_and_then, option_map, true};
+ghost use Rattle.ha_value.specs.Truth.{truth};
+ghost use Rattle.ha_model.specs.States.{Sight};
+ghost use Rattle.ha_model.specs.Values.{printed as printed_lem};
+ghost use Rattle.ha_model.specs.Templates.{pieces_of, value_of as value_lem};
+ghost use Rattle.ha_model.specs.declared.template.Piece.TheViews.{out-Piece};
+ghost use Rattle.tpl_fns.specs.Outcome.{Gives};
+ghost use Rattle.tpl_eval.specs.Kinds.{is_choice};
+ghost use Rattle.tpl_eval.specs.Pieces.{Chooses, piece_of, Sets, Writes};
+ghost use Rattle.tpl_eval.specs.Seen.{Sees};
+
+use crate::held::truth_of;
+use crate::page::{Page, add_shown, append, kept_value};
+use crate::scope::Scope;
+use crate::value::value_of;
+use ha_model::{Expr, Piece, Plain, Template, TplFault, Value, Word};
+use state_table::StateTable;
+use std::alloc::Global;
+
+/// Writes a template.
+#[cycle(pieces)]
+pub fn write_template(
+    template: &Template,
+    alloc: Global,
+    states: &StateTable,
+    env: &[(Word, Value)],
+    page: &mut Page,
+) -> Result<(), TplFault>
+    ensures { (sight : Sight) → Sees sight states.now → Writes env.now page.old page.new (pieces_of sight template.now (env.now ++ page.old.set)) result }
+{
+    let pieces = template.pieces.as_slice();
+    for i in 0..pieces.len() {
+        match write_piece(&pieces[i], alloc, states, env, page) {
+            Ok(()) => {}
+            Err(fault) => return Err(fault),
+        }
+    }
+    Ok(())
+}
+
+#[cycle(pieces)]
+fn write_piece(
+    piece: &Piece,
+    alloc: Global,
+    states: &StateTable,
+    env: &[(Word, Value)],
+    page: &mut Page,
+) -> Result<(), TplFault>
+    ensures { (sight : Sight) → Sees sight states.now → Writes env.now page.old page.new (piece_of sight piece.now (env.now ++ page.old.set)) result }
+{
+    match piece {
+        Piece::Text(text) => append(&mut page.text, text.as_str()),
+        Piece::Show(expr) => show(alloc, states, env, expr, page),
+        Piece::Assign { name, value } => assign(alloc, states, env, name, value, page),
+        Piece::Choice { .. } => write_choice(piece, alloc, states, env, page),
+    }
+}
+
+/// Writes the first arm whose test is true, else the fallback.
+#[cycle(pieces)]
+fn write_choice(
+    piece: &Piece,
+    alloc: Global,
+    states: &StateTable,
+    env: &[(Word, Value)],
+    page: &mut Page,
+) -> Result<(), TplFault>
+    requires { is_choice (out-Piece piece.now) ≡ true }
+    ensures { (sight : Sight) → Sees sight states.now → Writes env.now page.old page.new (piece_of sight piece.now (env.now ++ page.old.set)) result }
+{
+    let Piece::Choice { arms, fallback } = piece else {
+        unreachable!()
+    };
+    let arms = arms.as_slice();
+    match first_true(alloc, states, env, page.set.as_slice(), arms) {
+        Ok(place) => {
+            if place < arms.len() {
+                write_template(&arms[place].1, alloc, states, env, page)
+            } else {
+                write_template(fallback, alloc, states, env, page)
+            }
+        }
+        Err(fault) => Err(fault),
+    }
+}
+
+/// The place of the first arm whose test is true, or how many there are.
+fn first_true<'a>(
+    alloc: Global,
+    states: &'a StateTable,
+    env: &'a [(Word, Value)],
+    set: &'a [(Word, Value)],
+    arms: &'a [(Expr, Template)],
+) -> Result<usize, TplFault>
+    ensures { (sight : Sight) → Sees sight states.now → Chooses sight arms.now (env.now ++ set.now) result }
+{
+    for i in 0..arms.len() {
+        match holds(alloc, states, env, set, &arms[i].0) {
+            Ok(true) => return Ok(i),
+            Ok(false) => {}
+            Err(fault) => return Err(fault),
+        }
+    }
+    Ok(arms.len())
+}
+
+/// Whether an arm's test is true.
+fn holds<'a>(
+    alloc: Global,
+    states: &'a StateTable,
+    env: &'a [(Word, Value)],
+    set: &'a [(Word, Value)],
+    expr: &'a Expr,
+) -> Result<bool, TplFault>
+    ensures { (sight : Sight) → Sees sight states.now → Gives result (option_map truth (value_lem sight expr.now (env.now ++ set.now))) }
+{
+    let scope = Scope {
+        alloc,
+        states,
+        env,
+        set,
+    };
+    truth_of(value_of(&scope, expr))
+}
+
+/// Writes the value of an expression.
+fn show(
+    alloc: Global,
+    states: &StateTable,
+    env: &[(Word, Value)],
+    expr: &Expr,
+    page: &mut Page,
+) -> Result<(), TplFault>
+    ensures { (sight : Sight) → Sees sight states.now
+        → Writes env.now page.old page.new (option_and_then (λ v. option_map (λ t. (t, env.now ++ page.old.set)) (printed_lem v)) (value_lem sight expr.now (env.now ++ page.old.set))) result }
+{
+    let scope = Scope {
+        alloc,
+        states,
+        env,
+        set: page.set.as_slice(),
+    };
+    add_shown(&scope, &mut page.text, expr)
+}
+
+/// Sets a name, for the rest of the whole template.
+fn assign(
+    alloc: Global,
+    states: &StateTable,
+    env: &[(Word, Value)],
+    name: &Word,
+    expr: &Expr,
+    page: &mut Page,
+) -> Result<(), TplFault>
+    ensures { (sight : Sight) → Sees sight states.now
+        → Writes env.now page.old page.new (option_map (λ v. ([], (env.now ++ page.old.set) ++ ((name.now, v) ∷ []))) (value_lem sight expr.now (env.now ++ page.old.set))) result }
+{
+    let scope = Scope {
+        alloc,
+        states,
+        env,
+        set: page.set.as_slice(),
+    };
+    match kept_value(&scope, expr) {
+        Ok(value) => set_name(alloc, name, value, page),
+        Err(fault) => Err(fault),
+    }
+}
+
+fn set_name(alloc: Global, name: &Word, value: Value, page: &mut Page) -> Result<(), TplFault>
+    ensures { Sets page.old page.new name.now value result }
+{
+    match name.copy(alloc) {
+        Ok(name) => match page.set.push((name, value)) {
+            Ok(()) => Ok(()),
+            Err(_) => Err(TplFault::Memory),
+        },
+        Err(_) => Err(TplFault::Memory),
+    }
+}
