@@ -53,7 +53,6 @@ pub later : {A : Type 0} (rule : Reads A) → Keeps rule → (t : List ℕ) (n :
 later rule h t n le = larger (length t) n (rule t) le (h t)
 
 -- ---- blanks and tokens
-
 length-drop_some : (n : ℕ) (t : List ℕ) → length (drop n t) ≤ length t
 length-drop_some n t = omega (arith, length-drop n t)
 
