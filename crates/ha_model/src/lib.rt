@@ -6,7 +6,6 @@ mod copies;
 mod data;
 mod faults;
 mod journal;
-pub mod laws;
 mod names;
 mod steps;
 mod template;

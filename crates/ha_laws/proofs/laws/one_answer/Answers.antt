@@ -1,0 +1,5 @@
+use Rattle.ha_laws.proofs.OneAnswer as answer
+use Rattle.ha_laws.proofs.laws.one_answer.Goals as goal
+
+pub returns : goal.returns
+returns c = answer.one_answer
