@@ -38,4 +38,6 @@ module _ (j : Journal) where
       of (TriggerRule.Time seconds) o = head_pairs (codes "time") t
       of (TriggerRule.Pattern hours minutes seconds) o = head_pairs (codes "time_pattern") t
       of (TriggerRule.Template x) o = head_pairs (codes "template") t
-      of _ o = head_pairs (codes "homeassistant") t
+      of TriggerRule.Start o = head_pairs (codes "homeassistant") t
+      of (TriggerRule.State entities attribute from to) None = head_pairs (codes "state") t
+      of (TriggerRule.Numeric entities attribute above below) None = head_pairs (codes "numeric_state") t
