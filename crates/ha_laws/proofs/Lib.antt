@@ -18,3 +18,6 @@ pub mod ToldSteps
 pub mod TriggerTests
 pub mod PrefixLaws
 pub mod PlainLine
+pub mod ReadLines
+pub mod RightMore
+pub mod HoldTests

@@ -16,7 +16,7 @@ use Rattle.ha_model.specs.Records.{Records, records_of, actions_of, spots}
 use Rattle.ha_model.specs.RecordSteps.{more}
 use Rattle.ha_laws.specs.Makers.{Maker, Source, Worker, maker, makers, cmds_of, IsOfOne, OfOne}
 use Rattle.ha_model.specs.NextPlace.{next_item}
-use Rattle.ha_model.specs.Lawful.{is_running, IsRightEntry, ready, pick, is_line_of, is_empty, is_quiet, is_rested, is_closing, IsTurn, IsDue, Lawful}
+use Rattle.ha_model.specs.Lawful.{is_running, IsRightEntry, ready, pick, is_line_of, is_empty, is_quiet, is_rested, is_by_worker_0, IsTurn, IsDue, Lawful}
 use Rattle.ha_model.proofs.AppendLemmas.{append-nil, SameRun, SameUpTo, ready-same}
 use Rattle.ha_model.proofs.RecordGrowth.{HasEntry, true-false}
 use Rattle.ha_model.proofs.LawfulLaws.{none-some, rested-same}
@@ -33,7 +33,7 @@ head_or d [] = d
 head_or d (x ∷ xs) = x
 
 -- a record that runs at the end of the common prefix is one of the prefix's
-back-same : (n : ℕ) (rs rs' : Records) (i : ℕ) (r' : Record) → SameUpTo n rs rs' → slice_get rs' i ≡ Some r' → is_running n r' ≡ true → (r : Record) × (slice_get rs i ≡ Some r) × SameRun n r r'
+pub back-same : (n : ℕ) (rs rs' : Records) (i : ℕ) (r' : Record) → SameUpTo n rs rs' → slice_get rs' i ≡ Some r' → is_running n r' ≡ true → (r : Record) × (slice_get rs i ≡ Some r) × SameRun n r r'
 back-same n [] [] i r' s e run = absurd (none-some r' e)
 back-same n [] (y' ∷ rs') zero r' s e run = absurd (true-false (sym run ∙ (λ k. is_running n (sym (some-same y' r' e) k)) ∙ s.0 n (omega arith)))
 back-same n [] (y' ∷ rs') (suc i) r' s e run = back-same n [] rs' i r' s.1 e run
@@ -184,11 +184,11 @@ one_answer boot xs ys rs rs' lawful lawful' all cmds =
 
 -- all entries are of source 0 and worker 0
 
-closing-cmds : (q : ℕ) (xs : Journal) → list_all is_closing xs ≡ true → cmds_of q xs ≡ []
+closing-cmds : (q : ℕ) (xs : Journal) → list_all is_by_worker_0 xs ≡ true → cmds_of q xs ≡ []
 closing-cmds q [] h = refl
-closing-cmds q (Boot text config stored start zone ∷ xs) h = closing-cmds q xs (and_right false (list_all is_closing xs) h)
+closing-cmds q (Boot text config stored start zone ∷ xs) h = closing-cmds q xs (and_right false (list_all is_by_worker_0 xs) h)
 closing-cmds q (Line source number cmd ∷ xs) h = absurd (true-false (sym h))
-closing-cmds q (Step worker serial branch item ∷ xs) h = closing-cmds q xs (and_right (nat_eq worker 0) (list_all is_closing xs) h)
+closing-cmds q (Step worker serial branch item ∷ xs) h = closing-cmds q xs (and_right (nat_eq worker 0) (list_all is_by_worker_0 xs) h)
 
 -- a line and a step cannot both stand after the same prefix
 line-or-step : (d : Journal) (rs rs' : Records) → SameUpTo (length d) (records_of d) rs → SameUpTo (length d) (records_of d) rs' → (k n : ℕ) (cmd : Cmd) (k' s : ℕ) (b : Branch) (item : Item) (xs ys : Journal)

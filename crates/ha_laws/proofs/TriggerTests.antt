@@ -34,7 +34,8 @@ use Rattle.ha_model.specs.Journal.{Journal}
 use Rattle.ha_model.specs.Switches.{since}
 use Rattle.ha_model.specs.States.{reported, states}
 use Rattle.ha_model.specs.Conditions.{holds}
-use Rattle.ha_model.specs.Triggers.{sight, moves, any_second}
+use Rattle.ha_clock.specs.Passed.{holds_in, passes_second}
+use Rattle.ha_model.specs.Triggers.{sight, moves}
 use Rattle.ha_model.specs.Templates.{rendered, says}
 use Rattle.ha_model.specs.Attempts.{Attempt, attempts, by_hand}
 use Rattle.ha_laws.specs.WorkedHall.{show}
@@ -131,19 +132,19 @@ clock = boot (triggered (codes "a") (trigger (TriggerRule.Time (72002 ∷ [])) N
     ∷ moment 1999 ∷ moment 2000 ∷ moment 1000 ∷ moment 5500 ∷ []
 
 before_it : attempted clock 1 ≡ []
-unfolding any_second local_seconds zone_offset zone_of
+unfolding passes_second holds_in local_seconds zone_offset zone_of
 before_it = refl
 
 at_it : attempted clock 2 ≡ 0 ∷ []
-unfolding any_second local_seconds zone_offset zone_of
+unfolding passes_second holds_in local_seconds zone_offset zone_of
 at_it = refl
 
 a_late_moment : attempted clock 3 ≡ []
-unfolding any_second local_seconds zone_offset zone_of
+unfolding passes_second holds_in local_seconds zone_offset zone_of
 a_late_moment = refl
 
 each_fifth : attempted clock 4 ≡ 1 ∷ []
-unfolding any_second local_seconds zone_offset zone_of
+unfolding passes_second holds_in local_seconds zone_offset zone_of
 each_fifth = refl
 
 -- ---- a template trigger: `{{ states('light.x')|int > 20 }}` with a hold

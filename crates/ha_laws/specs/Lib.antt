@@ -6,3 +6,4 @@ pub mod Makers
 pub mod WorkedHall
 pub mod WorkedModes
 pub mod WorkedScripts
+pub mod WorkedHolds

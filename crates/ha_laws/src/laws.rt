@@ -24,11 +24,12 @@ ghost use Rattle.ha_model.specs.RunSteps.{runs_after};
 ghost use Rattle.ha_model.specs.Branches.{branches_of};
 ghost use Rattle.ha_laws.specs.Makers.{makers, cmds_of, OfOne};
 ghost use Rattle.ha_laws.specs.Told.{ByTheRules, AreNear};
-ghost use Rattle.ha_model.specs.Commands.{lines_of, placed_line};
+ghost use Rattle.ha_model.specs.Commands.{ArePutFrom, lines_of, placed_line};
 ghost use Rattle.ha_model.specs.Texts.{as_line, call_text, call_text_of, error_text, error_text_of, store_text, trace_text, trace_line};
 ghost use Rattle.ha_laws.specs.WorkedHall as hall;
 ghost use Rattle.ha_laws.specs.WorkedModes as modes;
 ghost use Rattle.ha_laws.specs.WorkedScripts as scripts;
+ghost use Rattle.ha_laws.specs.WorkedHolds as holds;
 ghost use Rattle.ha_model.specs.Waits.{next_spot};
 ghost use Rattle.ha_laws.specs.OneCall.{IsCallable, call_made, one_call};
 ghost use Rattle.ha_laws.specs.OneRun.{AllEnded, IsBegun, SameNumbers};
@@ -37,18 +38,22 @@ ghost use Rattle.ha_model.specs.declared.journal.EndCause.{EndCause};
 ghost use Rattle.ha_model.specs.Lawful.{Right, Lawful, Running, IsRightEntry, IsTurn, IsBusy, ready, is_quiet, is_rested, is_line_of, may_step};
 
 /// For a given first entry, given lines of each source and a given list of the makers of the
-/// entries, at most one journal with its records is lawful.
+/// entries, at most one journal with its records is lawful; and so it is where the lines are put
+/// from given commands that were read.
 pub fn one_answer()
-    ensures { (boot : Entry) (xs ys : Journal) (rs rs' : Records) → Lawful (boot ∷ xs) rs → Lawful (boot ∷ ys) rs'
+    ensures put { (boot : Entry) (xs ys : Journal) (rs rs' : Records) → Lawful (boot ∷ xs) rs → Lawful (boot ∷ ys) rs'
         → makers xs ≡ makers ys → ((q : ℕ) → cmds_of q xs ≡ cmds_of q ys) → (xs ≡ ys) × (rs ≡ rs') }
 {}
 
 /// With one source alone, at most one journal with that first entry and those lines is lawful and
-/// quiet.
+/// quiet; and so it is with lines that are put from given commands.
 pub fn one_source()
-    ensures { (boot : Entry) (xs ys : Journal) (rs rs' : Records) → Lawful (boot ∷ xs) rs → Lawful (boot ∷ ys) rs'
+    ensures put { (boot : Entry) (xs ys : Journal) (rs rs' : Records) → Lawful (boot ∷ xs) rs → Lawful (boot ∷ ys) rs'
         → OfOne xs → OfOne ys → is_quiet rs (boot ∷ xs) ≡ true → is_quiet rs' (boot ∷ ys) ≡ true
         → ((q : ℕ) → cmds_of q xs ≡ cmds_of q ys) → (xs ≡ ys) × (rs ≡ rs') }
+    ensures read { (boot : Entry) (xs ys : Journal) (rs rs' : Records) → Lawful (boot ∷ xs) rs → Lawful (boot ∷ ys) rs'
+        → OfOne xs → OfOne ys → is_quiet rs (boot ∷ xs) ≡ true → is_quiet rs' (boot ∷ ys) ≡ true
+        → (read : ℕ → List Cmd) → ((q : ℕ) → ArePutFrom q (boot ∷ xs) (read q)) → ((q : ℕ) → ArePutFrom q (boot ∷ ys) (read q)) → (xs ≡ ys) × (rs ≡ rs') }
 {}
 
 /// Now after one more entry.
@@ -106,6 +111,15 @@ pub fn one_more_is_lawful()
     ensures closing { (j : Journal) (rs : Records) (serial : ℕ) (branch : Branch) (item : Item) → Lawful j rs
         → IsRightEntry rs j (Step 0 serial branch item) → IsTurn rs j (Step 0 serial branch item)
         → Lawful (more j (Step 0 serial branch item)) (records_after j rs (Step 0 serial branch item)) }
+{}
+
+/// Where a journal is right with one more entry, whose turn it is and whose worker is busy, it is
+/// lawful with the new records, if it was lawful without closing steps; and the same of a step of
+/// worker 0, be it a closing one.
+pub fn right_and_due_is_lawful()
+    ensures running { (j : Journal) (rs rs' : Records) (x : Entry) → Running j rs → Right (more j x) rs' → IsTurn rs j x → IsBusy rs j x → Running (more j x) rs' }
+    ensures closing { (j : Journal) (rs rs' : Records) (serial : ℕ) (branch : Branch) (item : Item) → Lawful j rs → Right (more j (Step 0 serial branch item)) rs'
+        → IsTurn rs j (Step 0 serial branch item) → Lawful (more j (Step 0 serial branch item)) rs' }
 {}
 
 /// The records are exactly those of the rules: the attempts that are admitted by the number of
@@ -174,6 +188,21 @@ pub fn a_door_opens_twice()
     ensures queued { records_of (modes.twice Mode.Queued) ≡ modes.run 1 2 Mode.Queued (Some 2) None 0 ∷ modes.run 2 4 Mode.Queued None None 0 ∷ [] }
     ensures queued_then { records_of modes.then_done
         ≡ modes.run 1 2 Mode.Queued (Some 2) (Some (5, EndCause.Done)) 1 ∷ modes.run 2 4 Mode.Queued (Some 5) (Some (6, EndCause.SwitchedOff)) 0 ∷ [] }
+{}
+
+/// In mode queued with `max: 1` a second opening is refused while the first run is live, and one
+/// after its end begins at once.
+pub fn a_queue_takes_one()
+    ensures { records_of holds.queue_of_one ≡ holds.queue_run 1 2 (Some (5, EndCause.Done)) 1 ∷ holds.queue_run 2 7 None 0 ∷ [] }
+{}
+
+/// Triggers with a `for` of five seconds, and a Gone between: a number stays in its bounds, a
+/// template of the state becomes false and true again, and an attribute that was already absent
+/// stays so.
+pub fn holds_over_a_gone()
+    ensures number { (holds.attempted holds.number_held 3 ≡ []) × (holds.attempted holds.number_held 4 ≡ 0 ∷ []) }
+    ensures template { (holds.attempted holds.template_held 5 ≡ []) × (holds.attempted holds.template_held 6 ≡ 0 ∷ []) }
+    ensures attribute { (holds.attempted holds.attribute_held 5 ≡ []) × (holds.attempted holds.attribute_held 6 ≡ 0 ∷ []) }
 {}
 
 /// Scripts on their places: each list of a parallel block has the variables for itself, and
