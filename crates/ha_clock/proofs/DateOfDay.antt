@@ -29,17 +29,22 @@ days_of_years-suc : (n : ℕ) → days_of_years (suc n) ≡ days_of_years n + da
 unfolding days_of_years
 days_of_years-suc n = refl
 
+-- by induction on the years between them
+days_of_years_grow : (between first : ℕ) → days_of_years first ≤ days_of_years (between + first)
+days_of_years_grow zero first =
+    let same : zero + first ≡ first = omega arith in rw same (omega arith)
+days_of_years_grow (suc between) first =
+    let next : suc between + first ≡ suc (between + first) = omega arith in
+    let fewer = days_of_years_grow between first in
+    let last_year = days_of_years-suc (between + first) in
+    rw next (omega arith)
+
 days_of_years_mono : (a b : ℕ) → a ≤ b → days_of_years a ≤ days_of_years b
-days_of_years_mono a zero h =
-    let same : a ≡ zero = omega arith in rw same (omega arith)
-days_of_years_mono a (suc b) h = elim (leb_tells a b) [
-  | inl below ↦
-      let earlier = days_of_years_mono a b below.1 in
-      let step = days_of_years-suc b in
-      omega arith
-  | inr above ↦
-      let same : a ≡ suc b = omega arith in rw same (omega arith)
-]
+days_of_years_mono a b h =
+    let apart : b - a + a ≡ b = omega arith in
+    let grown = days_of_years_grow (b - a) a in
+    let whole : days_of_years (b - a + a) ≡ days_of_years b = ap days_of_years apart in
+    omega (arith, grown, whole)
 
 year_start : (y : ℕ) → day_count (pos y) 1 1 ≡ days_of_years (y + 10000)
 unfolding day_count

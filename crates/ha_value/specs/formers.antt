@@ -1,2 +1,1 @@
 pub mod many
-pub mod boxed

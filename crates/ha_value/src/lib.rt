@@ -1,6 +1,8 @@
+//! Numbers, texts, values, lists and entity ids. A box that contracts see as its value is the
+//! kit's (`sqlite_items`); the list `Many` is of this crate, and stands on that crate's
+//! definitions of how a list holds its items.
 #![tactic(auto)]
 
-mod boxed;
 mod cut;
 mod id;
 pub mod laws;
@@ -11,11 +13,11 @@ mod truth;
 mod value;
 mod word;
 
-pub use boxed::Boxed;
 pub use id::EntityFault;
 pub use many::Many;
 pub use num::NumFault;
 pub use plain::Plain;
+pub use sqlite_items::Boxed;
 pub use truth::says_yes_text;
 pub use value::{EntityId, Num, Value, copy_pairs, copy_values, same_pairs, same_values};
 pub use word::{Word, WordFault};

@@ -1,48 +1,35 @@
--- `Many` as a type that may hold the type that holds it.
-use mathlib.Core.Path.{◌≡◌, refl, sym}
-use mathlib.Core.List.{List, []}
-use mathlib.Core.Former.{Former, this, list, via, children}
-use base.Stored.{code_map}
+-- `Many` as a type that may hold the type that holds it. How a list is split into its items, counted
+-- and coded is as of the kit's list of items; where they lie is as of its own vector. It serves the
+-- check alone: no contract speaks of it.
+use mathlib.Core.Path.{refl}
+use mathlib.Core.Former.{Former, this, list, via}
 use denote.RattleType.{RattleType}
+use denote.Hole.Fix.{over}
 use denote.HoleLaws.{Alike}
 use denote.HolePlaces.{Recodes, struct_places, laid}
-use denote.Hole.Carrier.{listed, list-listed}
-use denote.Hole.Fix.{over}
-use denote.Param.Weighed.{Weighed, w_list}
 use denote.Model.Placed.{view_places}
+use Rattle.sqlite_items.specs.formers.items.Items as kit
 use Rattle.std.specs.formers.vec.Vec as vec
-use Rattle.std.specs.declared.alloc.Global.{Global}
 use Rattle.std.specs.contracts.alloc.Global as heap
+use Rattle.std.specs.declared.alloc.Global.{Global}
 use Rattle.std.specs.contracts.impls.GlobalAllocator.TheImpl.{ghosts}
+use Rattle.ha_value.specs.contracts.many.Many as M
+use Rattle.ha_value.specs.contracts.many.Many.TheInside as inner
 use Rattle.ha_value.specs.declared.many.Many.TheInside.{Inside}
 use Rattle.ha_value.specs.declared.many.Many.TheView.{view, invariant}
-use Rattle.ha_value.specs.contracts.many.Many as C
-use Rattle.ha_value.specs.contracts.many.Many.TheInside as I
+pub use Rattle.sqlite_items.specs.formers.items.Items.{the_former, the_weighed, the_empty, the_items, the_items_listed}
 
-abbrev pub the_former : Former {0} → Former {0}
-the_former g = list g
+abbrev vector : Former {0}
+vector = via (vec.the_former this Global) Inside (λ X i. i.held) (λ X v. record { held = v }) (λ X i. refl) (λ X v. refl)
 
-abbrev pub the_weighed : {g : Former {0}} → Weighed g → Weighed (the_former g)
-the_weighed w = w_list w
+module _ (From To : RattleType) (turned : From.Denot → To.Denot) where
+  pub the_places : Alike From To turned → Alike (M.the_row From) (M.the_row To) ((the_former this).map From.Denot To.Denot turned)
+  the_places alike =
+      let lies = laid _ _ _ (vec.the_places heap.the_row ghosts From To turned alike) in
+      view_places vector (list this) view (λ X Y k u. refl) (λ X u. refl) From.Denot To.Denot turned
+      (M.the_row From).coded (M.the_row To).coded (invariant From.Denot) (invariant To.Denot)
+      (λ u p q. refl) (λ u p q. refl) (λ u e. tt) (λ u e. tt) (over (inner.the_row From)) (over (inner.the_row To))
+      (struct_places (inner.the_type From) (inner.the_type To) (vec.mapped turned, tt) _ (λ d. refl) refl (lies, tt))
 
-pub the_empty : List ⊥
-the_empty = []
-
-abbrev pub the_items : (X : Type 0) → List X → List X
-the_items X d = d
-
-pub the_items_listed : (X : Type 0) (d : List X) → listed _ (children (the_former this) X d) ≡ the_items X d
-the_items_listed X d = list-listed X d
-
-abbrev fields : Former {0}
-fields = via (vec.the_former this Global) Inside (λ X a. a.items) (λ X v. record { items = v }) (λ X a. refl) (λ X v. refl)
-
-module _ (R S : RattleType) (h : R.Denot → S.Denot) where
-  pub the_places : Alike R S h → Alike (C.the_row R) (C.the_row S) ((the_former this).map R.Denot S.Denot h)
-  the_places a = view_places fields (list this) view (λ X Y k u. refl) (λ X u. refl) R.Denot S.Denot h (C.the_row R).coded (C.the_row S).coded
-      (invariant R.Denot) (invariant S.Denot) (λ u p q. refl) (λ u p q. refl) (λ u e. tt) (λ u e. tt)
-      (over (I.the_row R)) (over (I.the_row S))
-      (struct_places (I.the_type R) (I.the_type S) (vec.mapped h, tt) _ (λ d. refl) refl (laid _ _ _ (vec.the_places heap.the_row ghosts R S h a), tt))
-
-  pub the_codes_placed : Recodes R S h → Recodes (C.the_row R) (C.the_row S) ((the_former this).map R.Denot S.Denot h)
-  the_codes_placed e d = sym (code_map R.coded.code S.coded.code h (λ x. sym (e x)) d)
+  pub the_codes_placed : Recodes From To turned → Recodes (M.the_row From) (M.the_row To) ((the_former this).map From.Denot To.Denot turned)
+  the_codes_placed recoded = kit.the_codes_placed From To turned recoded
