@@ -2,6 +2,7 @@
 use Rattle.std.proofs.Common.{◌≡◌, ℕ, ◌≤◌, Bool, true, false, cond, [], ◌∷◌, map, Option, Some, None, Ok, Err, refl, sym, ap, subst, ◌∙◌, inl, inr, arith, IsTrue}
 use Rattle.std.specs.Prelude.{codes, nat_le, ◌&&◌}
 use Rattle.std.specs.List.{list_all}
+use Rattle.std.specs.Str.{is_utf8}
 use Rattle.std.proofs.lemmas.Bool.{and_parts, leb-true}
 use Rattle.std.proofs.lemmas.Slice.Eq.{bytes_eq-Decides}
 use Rattle.reading.proofs.Basics.{chosen}
@@ -17,13 +18,13 @@ use Rattle.ha_model.specs.declared.journal.Cmd.{Cmd}
 use Rattle.ha_model.specs.declared.journal.Cmd.TheVariants as cmd
 use Rattle.ha_model.specs.Words.{Text, Pairs, same, first_pair, characters}
 use Rattle.ha_model.specs.ValueText.{deepest, depth_of, depth_step, pairs_depth}
-use Rattle.ha_model.specs.Commands.{all_distinct, keys_of, is_sound_value, sound_step, are_sound_pairs, has_automation, AreFairPairs, IsFair, IsReportable}
+use Rattle.ha_model.specs.Commands.{all_distinct, keys_of, is_sound_value, sound_step, are_sound_pairs, utf8_step, has_utf8_texts, have_utf8_texts, has_automation, AreFairPairs, IsFair, IsReportable}
 use Rattle.ha_model.specs.Journal.{Journal}
 use Rattle.flow_line.specs.declared.keys.Command.{Command}
 use Rattle.flow_line.specs.declared.keys.Command.TheVariants.{Report, Gone, Event, Moment, Switch, Trigger, Restart}
 use Rattle.flow_line.specs.declared.refusal.Refusal.TheVariants.{Id, LongState, Keys}
-use Rattle.flow_line.specs.Command.{Checked, ◌>>=◌, IsLineMap, IsInTime, IsFairOncePut, as_true, at_moment, automation, cmd_by, cmd_of_pairs, event_of, flag_in, flag_of, gone_of, has_keys, is_automation, map_in, map_of, moment_of_pairs, named, only, report_of, reportable, restart_of, restarts, state_of, switch_of, text_of, trigger_of, turned, value_of, with_keys}
-use Rattle.flow_line.proofs.Sound.{deep_layer, sound_layer}
+use Rattle.flow_line.specs.Command.{Checked, ◌>>=◌, IsLineMap, IsInTime, IsFairOncePut, as_true, at_moment, automation, cmd_by, cmd_of_pairs, event_of, flag_in, flag_of, gone_of, has_keys, is_automation, key_of, map_in, map_of, moment_of_pairs, named, only, report_of, reportable, restart_of, restarts, state_of, switch_of, text_in, text_of, trigger_of, turned, value_of, with_keys}
+use Rattle.flow_line.proofs.Sound.{deep_layer, sound_layer, utf8_layer, utf8-out}
 use Rattle.ha_model.proofs.Rolls.{depth_of-out, is_sound_value-out}
 
 abbrev as_ok : Cmd → Checked Cmd
@@ -35,14 +36,16 @@ bound (Err refusal) f y e = absurd cc
 
 -- ---- maps inside the line's map
 
-at_key : (key : Text) (ps : Pairs) (v : Value) → list_all (λ (p : Text × Value). is_sound_value p.1) ps ≡ true → first_pair key ps ≡ Some v
-    → (is_sound_value v ≡ true) × (depth_of v ≤ deepest (map (λ (p : Text × Value). depth_of p.1) ps))
-at_key key [] v s e = absurd cc
-at_key key (p ∷ ps) v s e =
+at_key : (key : Text) (ps : Pairs) (v : Value) → list_all (λ (p : Text × Value). is_sound_value p.1) ps ≡ true → have_utf8_texts ps ≡ true → first_pair key ps ≡ Some v
+    → (is_sound_value v ≡ true) × (depth_of v ≤ deepest (map (λ (p : Text × Value). depth_of p.1) ps)) × (has_utf8_texts v ≡ true)
+at_key key [] v s u e = absurd cc
+at_key key (p ∷ ps) v s u e =
     let d = and_parts (is_sound_value p.1) (list_all (λ (p : Text × Value). is_sound_value p.1) ps) s in
+    let w = and_parts (is_utf8 p.0 && has_utf8_texts p.1) (have_utf8_texts ps) u in
+    let own = and_parts (is_utf8 p.0) (has_utf8_texts p.1) w.0 in
     elim (chosen (same p.0 key) (Some p.1) (first_pair key ps) (Some v) e) [
-      | inl h ↦ let is : p.1 ≡ v = some_same p.1 v h.1 in (ap is_sound_value (sym is) ∙ d.0, (let l = ap depth_of is in omega arith))
-      | inr h ↦ let r = at_key key ps v d.1 h.1 in (r.0, (let l = r.1 in omega arith))
+      | inl h ↦ let is : p.1 ≡ v = some_same p.1 v h.1 in (ap is_sound_value (sym is) ∙ d.0, (let l = ap depth_of is in omega arith), ap has_utf8_texts (sym is) ∙ own.1)
+      | inr h ↦ let r = at_key key ps v d.1 w.1 h.1 in (r.0, (let l = r.1 in omega arith), r.2)
     ]
   where
     some_same : (a b : Value) → Some a ≡ Some b → a ≡ b
@@ -60,7 +63,7 @@ abbrev as_map : Pairs → Checked Pairs
 as_map x = Ok x
 
 no_pairs : AreFairPairs []
-no_pairs = (refl, omega arith)
+no_pairs = (refl, refl, omega arith)
 
 inner_map : (key : Text) (ps a : Pairs) → IsLineMap ps → map_of (first_pair key ps) ≡ Ok a → AreFairPairs a
 inner_map key ps a line e =
@@ -68,15 +71,37 @@ inner_map key ps a line e =
       | None ↦ λ h m. subst AreFairPairs (ok_same [] a m) no_pairs
       | Some v ↦ λ h m.
           let parts = and_parts (all_distinct (keys_of ps)) (list_all (λ (p : Text × Value). is_sound_value p.1) ps) line.sound in
-          let here = at_key key ps v parts.1 h in
+          let here = at_key key ps v parts.1 line.utf8 h in
           let is = layer_is (out-Value v) a m in
           let sound : is_sound_value v ≡ are_sound_pairs a = is_sound_value-out v ∙ ap (λ (x : Value-F Value). sound_step (map-Value Value Bool is_sound_value x)) is ∙ sound_layer a in
           let deep : depth_of v ≡ pairs_depth a = depth_of-out v ∙ ap (λ (x : Value-F Value). depth_step (map-Value Value ℕ depth_of x)) is ∙ deep_layer a in
-          (sym sound ∙ here.0, (let l = line.deep in let k = here.1 in omega arith))
+          let utf8 : has_utf8_texts v ≡ have_utf8_texts a = utf8-out v ∙ ap (λ (x : Value-F Value). utf8_step (map-Value Value Bool has_utf8_texts x)) is ∙ utf8_layer a in
+          (sym sound ∙ here.0, sym utf8 ∙ here.2, (let l = line.deep in let k = here.1 in omega arith))
     ]) refl e
   where
     ok_same : (x y : Pairs) → as_map x ≡ Ok y → x ≡ y
     ok_same x y e = cc
+
+-- ---- texts inside the line's map
+
+text_layer : (x : Value-F Value) (t : Text) → text_in x ≡ Ok t → x ≡ Value-F.Text t
+text_layer (Value-F.Text u) t e = cc
+text_layer Value-F.Null t e = absurd cc
+text_layer (Value-F.Flag b) t e = absurd cc
+text_layer (Value-F.Number n) t e = absurd cc
+text_layer (Value-F.Items vs) t e = absurd cc
+text_layer (Value-F.Pairs ps) t e = absurd cc
+
+inner_text : (key : Text) (ps : Pairs) (t : Text) → IsLineMap ps → text_of (first_pair key ps) ≡ Ok t → is_utf8 t ≡ true
+inner_text key ps t line e =
+    (elim (first_pair key ps) as (λ o. first_pair key ps ≡ o → text_of o ≡ Ok t → is_utf8 t ≡ true) [
+      | None ↦ λ h m. absurd cc
+      | Some v ↦ λ h m.
+          let parts = and_parts (all_distinct (keys_of ps)) (list_all (λ (p : Text × Value). is_sound_value p.1) ps) line.sound in
+          let here = at_key key ps v parts.1 line.utf8 h in
+          let is = text_layer (out-Value v) t m in
+          sym (utf8-out v ∙ ap (λ (x : Value-F Value). utf8_step (map-Value Value Bool has_utf8_texts x)) is) ∙ here.2
+    ]) refl e
 
 -- ---- ids and states
 
@@ -105,6 +130,22 @@ reports text e h =
     elsewhere : (e : EntityId) → is_automation e ≡ false → e.domain ≡ codes "automation" → ⊥
     elsewhere e other d = let same_domain = (bytes_eq-Decides e.domain (codes "automation")).1 d in cc
 
+object_of : (text : Text) (name : Text) → automation (read_entity text) ≡ Ok name → is_name name ≡ true
+object_of text name h =
+    (elim (read_entity text) as (λ o. read_entity text ≡ o → automation o ≡ Ok name → is_name name ≡ true) [
+      | None ↦ λ r k. absurd cc
+      | Some x ↦ λ r k. elim (chosen (is_automation x) (Ok x.object) (Err Id) (Ok name) k) [
+        | inl c ↦ let is : x.object ≡ name = (let m = c.1 in cc) in ap is_name (sym is) ∙ (and_parts (is_name x.domain) (is_name x.object) (id_has_form text x r)).1
+        | inr c ↦ absurd (let m = c.1 in cc)
+      ]
+    ]) refl h
+
+same_state : (text state : Text) → state_of text ≡ Ok state → text ≡ state
+same_state text state e = elim (chosen (nat_le (characters text) 255) (Ok text) (Err LongState) (Ok state) e) [
+  | inl c ↦ (let m = c.1 in cc)
+  | inr c ↦ absurd (let m = c.1 in cc)
+]
+
 short : (text state : Text) → state_of text ≡ Ok state → characters state ≤ 255
 short text state e = elim (chosen (nat_le (characters text) 255) (Ok text) (Err LongState) (Ok state) e) [
   | inl c ↦ let is : text ≡ state = (let m = c.1 in cc) in subst (λ (t : Text). characters t ≤ 255) is (leb-true (characters text) 255 c.0)
@@ -132,7 +173,7 @@ report_fair ps c line e =
     let entity = bound (reportable (read_entity id.0)) _ c attributes.2 in
     let state = bound (state_of text.0) _ c entity.2 in
     subst IsFairOncePut (made (cmd.Report entity.0 state.0 attributes.0) c state.2)
-    (λ j. (reports id.0 entity.0 entity.1, short text.0 state.0 state.1, inner_map (codes "attributes") ps attributes.0 line attributes.1))
+    (λ j. (reports id.0 entity.0 entity.1, ap is_utf8 (sym (same_state text.0 state.0 state.1)) ∙ inner_text (codes "state") ps text.0 line text.1, short text.0 state.0 state.1, inner_map (codes "attributes") ps attributes.0 line attributes.1))
 
 gone_fair : (ps : Pairs) (c : Cmd) → gone_of ps ≡ Ok c → IsFairOncePut c
 unfolding gone_of
@@ -146,7 +187,7 @@ unfolding event_of
 event_fair ps c line e =
     let kind = bound (text_of (value_of Event ps)) _ c e in
     let fields = bound (map_of (first_pair (codes "data") ps)) _ c kind.2 in
-    subst IsFairOncePut (made (cmd.Event kind.0 fields.0) c fields.2) (λ j. inner_map (codes "data") ps fields.0 line fields.1)
+    subst IsFairOncePut (made (cmd.Event kind.0 fields.0) c fields.2) (λ j. (inner_text (key_of Event) ps kind.0 line kind.1, inner_map (codes "data") ps fields.0 line fields.1))
 
 at_fair : (o : Option ℕ) (c : Cmd) → IsInTime c → at_moment o ≡ Ok c → IsFairOncePut c
 at_fair None c t e = absurd cc
@@ -164,7 +205,7 @@ switch_fair ps c e =
     let on = bound (turned to.0) _ c to.2 in
     let ends = bound (flag_of (first_pair (codes "stop_actions") ps)) _ c on.2 in
     let name = bound (automation (read_entity id.0)) _ c ends.2 in
-    subst IsFairOncePut (made (cmd.Switch name.0 on.0 ends.0) c name.2) (λ j. put_named j name.0 (cmd.Switch name.0 on.0 ends.0) (λ h. h))
+    subst IsFairOncePut (made (cmd.Switch name.0 on.0 ends.0) c name.2) (λ j. put_named j name.0 (cmd.Switch name.0 on.0 ends.0) (λ h. (object_of id.0 name.0 name.1, h)))
 
 trigger_fair : (ps : Pairs) (c : Cmd) → trigger_of ps ≡ Ok c → IsFairOncePut c
 unfolding trigger_of
@@ -172,7 +213,7 @@ trigger_fair ps c e =
     let id = bound (text_of (value_of Trigger ps)) _ c e in
     let skip = bound (flag_of (first_pair (codes "skip_condition") ps)) _ c id.2 in
     let name = bound (automation (read_entity id.0)) _ c skip.2 in
-    subst IsFairOncePut (made (cmd.Trigger name.0 skip.0) c name.2) (λ j. put_named j name.0 (cmd.Trigger name.0 skip.0) (λ h. h))
+    subst IsFairOncePut (made (cmd.Trigger name.0 skip.0) c name.2) (λ j. put_named j name.0 (cmd.Trigger name.0 skip.0) (λ h. (object_of id.0 name.0 name.1, h)))
 
 restart_fair : (ps : Pairs) (c : Cmd) → restart_of ps ≡ Ok c → IsFairOncePut c
 unfolding restart_of

@@ -12,20 +12,20 @@ use Rattle.ha_value.specs.declared.value.Value.{Value}
 use Rattle.ha_value.specs.declared.value.Value.TheVariants.{rolls-Null, rolls-Flag, rolls-Number, rolls-Text, rolls-Items, rolls-Pairs}
 use Rattle.ha_value.specs.declared.value.Value.TheOpen.{Value-F}
 use Rattle.ha_value.specs.declared.value.Value.TheViews.{roll-Value}
-use Rattle.ha_value.specs.declared.value.Value.TheFolds.{fold-roll-Value, ind-Value, map-Value}
+use Rattle.ha_value.specs.declared.value.Value.TheFolds.{ind-Value, map-Value}
 use Rattle.ha_value.specs.Numbers.{is_in_range, print_number}
 use Rattle.std.proofs.lemmas.List.{append-nil}
 use Rattle.ha_model.specs.Words.{Text, Pairs, same}
 use Rattle.ha_model.specs.ValueText.{comma_joined, deepest, depth_of, depth_step, escaped_byte, pair_text, print_step, print_value, quoted}
-use Rattle.ha_model.specs.Commands.{all_distinct, keys_of, is_sound_value, sound_step}
+use Rattle.ha_model.specs.Commands.{all_distinct, keys_of, is_sound_value, sound_step, utf8_step, has_utf8_texts}
 use Rattle.ha_model.proofs.Rolls.{depth_of-roll, is_sound_value-roll, print_value-roll}
 use Rattle.reading.specs.Bytes.{skip, is_blank}
 use Rattle.reading.specs.Spelling.{IsClosed}
 use Rattle.std.specs.Prelude.{◌==◌}
 use Rattle.flow_line.specs.Bytes.{begins_number, is_digit}
 use Rattle.flow_line.specs.Reading.{has_key}
-use Rattle.flow_line.specs.Print.{has_utf8_texts, utf8_step}
 use Rattle.flow_line.specs.Grammar.{IsString, IsPair, pair, IsValueOver, null, yes, no, numeric, text, list, map as map_of, IsValue, IsDocument}
+use Rattle.flow_line.proofs.Sound.{utf8-roll}
 use Rattle.flow_line.proofs.Numbers.{number_front}
 use Rattle.flow_line.proofs.Whole.{InRange}
 use Rattle.flow_line.proofs.PrintedText.{Stops, shown_number, shown_string}
@@ -141,9 +141,6 @@ Prints v = (depth : ℕ) → depth_of v ≤ depth → is_sound_value v ≡ true 
 
 abbrev Printed : Type 0
 Printed = (v : Value) × Prints v
-
-utf8-roll : (x : Value-F Value) → has_utf8_texts (roll-Value x) ≡ utf8_step (map-Value Value Bool has_utf8_texts x)
-utf8-roll x = fold-roll-Value Bool utf8_step x
 
 all_good : (depth : ℕ) (ys : List Printed) → deepest (map depth_of (map (λ (e : Printed). e.0) ys)) ≤ depth → list_all (λ b. b) (map is_sound_value (map (λ (e : Printed). e.0) ys)) ≡ true
     → list_all (λ b. b) (map has_utf8_texts (map (λ (e : Printed). e.0) ys)) ≡ true → AllGood depth (map (λ (e : Printed). e.0) ys)

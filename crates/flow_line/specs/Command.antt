@@ -14,7 +14,7 @@ use Rattle.ha_model.specs.declared.journal.Cmd.TheVariants as cmd
 use Rattle.ha_clock.specs.Local.{last_moment}
 use Rattle.ha_model.specs.Journal.{Journal}
 use Rattle.ha_model.specs.ValueText.{pairs_depth}
-use Rattle.ha_model.specs.Commands.{are_sound_pairs, put_as, IsFair}
+use Rattle.ha_model.specs.Commands.{are_sound_pairs, have_utf8_texts, put_as, IsFair}
 use Rattle.ha_model.specs.Words.{Text, Pairs, same, first_pair, has_name, characters}
 use Rattle.reading.specs.declared.fault.Bad.{Bad}
 use Rattle.reading.specs.declared.fault.Stop.{Stop}
@@ -281,10 +281,11 @@ cmd_of line = as_cmd (command_of line)
 
 -- ---- what a command is known to be
 
--- a line's map: its numbers are in range, its keys are distinct at each level, and it is nested at most 32 deep
+-- a line's map: its numbers are in range, its keys are distinct at each level, its texts are UTF-8, and it is nested at most 32 deep
 pub record IsLineMap (pairs : Pairs) : Type 0 where
   pub sound : are_sound_pairs pairs ≡ true
   pub deep : pairs_depth pairs ≤ 32
+  pub utf8 : have_utf8_texts pairs ≡ true
 
 -- a moment is not past the last one
 abbrev pub IsInTime : Cmd → Type 0

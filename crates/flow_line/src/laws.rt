@@ -1,10 +1,9 @@
 //! Laws of the definitions. Each is the contract of a function that does nothing.
 
 ghost use Rattle.std.specs.Prelude.{◌≡◌, ◌≤◌, ℕ, [], IsTrue, Ok};
-ghost use Rattle.ha_model.specs.Commands.{is_sound_value};
+ghost use Rattle.ha_model.specs.Commands.{has_utf8_texts, is_sound_value};
 ghost use Rattle.ha_model.specs.ValueText.{depth_of, print_value};
 ghost use Rattle.flow_line.specs.Grammar.{IsDocument};
-ghost use Rattle.flow_line.specs.Print.{has_utf8_texts};
 ghost use Rattle.flow_line.specs.Reading.{document};
 ghost use Rattle.flow_line.specs.Refused.{IsFirstFault};
 ghost use Rattle.flow_line.specs.declared.fault.Code.{Code};

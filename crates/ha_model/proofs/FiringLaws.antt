@@ -1,6 +1,6 @@
 -- Which triggers fire at one more entry, and which attempts it has by them.
 use Rattle.std.proofs.Common.{◌≡◌, ℕ, zero, suc, ◌+◌, ◌<◌, ◌≤◌, List, [], ◌∷◌, ◌++◌, length, take, filter, Bool, true, false, cond, refl, sym, subst, ◌∙◌, rules, arith, Option}
-use Rattle.std.specs.Prelude.{Some, None, not, nat_eq, nat_lt, is_some, slice_get, find, filter_map, flat_map, option_map, codes, ◌&&◌, ◌||◌, if◌then◌else◌}
+use Rattle.std.specs.Prelude.{Some, None, not, nat_eq, nat_lt, is_some, slice_get, find, map, filter_map, flat_map, option_map, codes, ◌&&◌, ◌||◌, if◌then◌else◌}
 use Rattle.std.specs.List.{enumerate_from, cons_option}
 use Rattle.std.specs.Option.{option_map_or}
 use Rattle.ha_value.specs.declared.value.EntityId.{EntityId}
@@ -17,8 +17,8 @@ use Rattle.ha_model.specs.Journal.{Journal, HasEntry, automations, now}
 use Rattle.ha_model.specs.Switches.{is_on, opens_segment, since, switched_at}
 use Rattle.ha_model.specs.States.{states, reported, of_automation as state_of_automation, automation_named}
 use Rattle.ha_model.specs.Conditions.{hold_all, watched_text}
-use Rattle.ha_model.specs.Triggers.{sight, matches, is_absent, same_optional, state_moves, moves, starts, fires, fired_from, variables, entities_of}
-use Rattle.ha_model.specs.Attempts.{Attempt, fired_for, fired_by, of_automation, fired, attempts_asked, attempts_of, attempts, passes}
+use Rattle.ha_model.specs.Triggers.{sight, matches, is_absent, same_optional, state_moves, moves, starts, fires, fired_from, variables, Fired, entities_of, firing_for, firings_by}
+use Rattle.ha_model.specs.Attempts.{Attempt, attempt_for, fired_for, fired, attempts_asked, attempts_of, attempts, passes}
 use Rattle.ha_model.specs.Records.{last_place, passing}
 use Rattle.ha_model.specs.RecordSteps.{more}
 use Rattle.ha_model.proofs.EqualLemmas.{same-refl, same_value-refl, same_pairs-refl}
@@ -172,18 +172,18 @@ abbrev nobody : List Attempt
 nobody = []
 
 module _ (j : Journal) (p : ℕ) where
-  none-for : (a : ℕ) (t : Trigger) → FiresNot j p t → (es : List (Option EntityId)) → filter_map (λ e. fired_for j p a e t) es ≡ []
-  none-for a t h [] = refl
-  none-for a t h (e ∷ es) = (λ i. cons_option (option_map {T = ℕ} {U = Attempt} (λ q. record { automation = a; env = (codes "trigger", variables j t e q) ∷ []; skip = false }) (h e (since (take (suc p) j) a) i)) (none-for a t h es i))
+  none-for : (since : ℕ) (t : ℕ × Trigger) → FiresNot j p t.1 → (es : List (Option EntityId)) → filter_map (firing_for j since p t) es ≡ []
+  none-for since t h [] = refl
+  none-for since t h (e ∷ es) = (λ i. cons_option (option_map {T = ℕ} {U = Fired} (λ q. record { trigger = t.0; entity = e; variables = variables j t.1 e q }) (h e since i)) (none-for since t h es i))
 
-  none-of : (a : ℕ) (ts : List Trigger) → EachOf (FiresNot j p) ts → flat_map (fired_by j p a) ts ≡ []
-  none-of a [] h = refl
-  none-of a (t ∷ ts) h = (λ i. none-for a t h.0 (entities_of j t.rule) i ++ none-of a ts h.1 i)
+  none-of : (since n : ℕ) (ts : List Trigger) → EachOf (FiresNot j p) ts → flat_map (firings_by j since p) (enumerate_from n ts) ≡ []
+  none-of since n [] h = refl
+  none-of since n (t ∷ ts) h = (λ i. none-for since (n, t) h.0 (entities_of j t.rule) i ++ none-of since (n + 1) ts h.1 i)
 
-  none-from : (n : ℕ) (all : List Automation) → EachTrigger (FiresNot j p) all → flat_map (of_automation j p) (enumerate_from n all) ≡ []
+  none-from : (n : ℕ) (all : List Automation) → EachTrigger (FiresNot j p) all → flat_map (fired_for j p) (enumerate_from n all) ≡ []
   none-from n [] h = refl
   none-from n (a ∷ all) h =
-      (λ i. (if is_on (take (suc p) j) n then none-of n a.triggers h.0 i else []) ++ none-from (n + 1) all h.1 i)
+      (λ i. (if is_on (take (suc p) j) n then map (attempt_for n) (none-of (since (take (suc p) j) n) 0 a.triggers h.0 i) else []) ++ none-from (n + 1) all h.1 i)
       ∙ by (is_on (take (suc p) j) n)
     where
       by : (b : Bool) → (if b then nobody else nobody) ++ nobody ≡ nobody

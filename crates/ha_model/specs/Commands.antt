@@ -2,11 +2,12 @@
 use Rattle.std.specs.Prelude.{ℕ, suc, ◌≡◌, ◌≢◌, ◌≤◌, IsTrue, Bool, true, not, ◌&&◌, List, [], ◌∷◌, ◌++◌, map, is_some, nat_eq, codes, if◌then◌else◌}
 use Rattle.std.specs.List.{list_any, list_all, AllZip}
 use Rattle.std.specs.Option.{option_map_or}
+use Rattle.std.specs.Str.{is_utf8}
 use Rattle.ha_value.specs.declared.value.EntityId.{EntityId}
 use Rattle.ha_value.specs.declared.value.Value.{Value}
 use Rattle.ha_value.specs.declared.value.Value.TheOpen.{Value-F}
 use Rattle.ha_value.specs.declared.value.Value.TheFolds.{fold-Value}
-use Rattle.ha_value.specs.Ids.{is_entity}
+use Rattle.ha_value.specs.Ids.{is_entity, is_name}
 use Rattle.ha_clock.specs.Local.{last_moment}
 use Rattle.ha_model.specs.declared.journal.Cmd.{Cmd}
 use Rattle.ha_model.specs.declared.journal.Entry.{Entry}
@@ -42,11 +43,26 @@ is_sound_value = fold-Value Bool sound_step
 abbrev pub are_sound_pairs : Pairs → Bool
 are_sound_pairs ps = all_distinct (keys_of ps) && list_all (λ p. is_sound_value p.1) ps
 
+abbrev pub utf8_step : Value-F Bool → Bool
+utf8_step Value-F.Null = true
+utf8_step (Value-F.Flag b) = true
+utf8_step (Value-F.Number n) = true
+utf8_step (Value-F.Text t) = is_utf8 t
+utf8_step (Value-F.Items bs) = list_all (λ b. b) bs
+utf8_step (Value-F.Pairs ps) = list_all (λ p. is_utf8 p.0 && p.1) ps
+
+-- the texts and keys in a value are UTF-8, as each `Word` is
+abbrev pub has_utf8_texts : Value → Bool
+has_utf8_texts = fold-Value Bool utf8_step
+
+abbrev pub have_utf8_texts : Pairs → Bool
+have_utf8_texts ps = list_all (λ p. is_utf8 p.0 && has_utf8_texts p.1) ps
+
 -- ---- fair commands
 
 -- the attributes or the data of a command: a map in the command's map, which is nested at most 32 deep in all
 abbrev pub AreFairPairs : Pairs → Type 0
-AreFairPairs ps = IsTrue (are_sound_pairs ps) × (suc (pairs_depth ps) ≤ 32)
+AreFairPairs ps = IsTrue (are_sound_pairs ps) × IsTrue (have_utf8_texts ps) × (suc (pairs_depth ps) ≤ 32)
 
 -- an entity that a line may report: in the form of an id, and no automation
 abbrev pub IsReportable : EntityId → Type 0
@@ -55,14 +71,18 @@ IsReportable e = IsTrue (is_entity e) × (e.domain ≢ codes "automation")
 abbrev pub has_automation : Journal → Text → Bool
 has_automation j name = is_some (automation_named (automations j) name)
 
+-- the name of an automation, in the form of an object id
+abbrev pub IsOfAutomation : Journal → Text → Type 0
+IsOfAutomation j name = IsTrue (is_name name) × IsTrue (has_automation j name)
+
 -- A command that a source may give. The codes of refused lines are 1 to 10; 11 stands for a command that the engine doesn't take yet.
 abbrev pub IsFair : Journal → Cmd → Type 0
-IsFair j (Cmd.Report entity text attributes) = IsReportable entity × (characters text ≤ 255) × AreFairPairs attributes
+IsFair j (Cmd.Report entity text attributes) = IsReportable entity × IsTrue (is_utf8 text) × (characters text ≤ 255) × AreFairPairs attributes
 IsFair j (Cmd.Gone entity) = IsReportable entity
-IsFair j (Cmd.Event kind pairs) = AreFairPairs pairs
+IsFair j (Cmd.Event kind pairs) = IsTrue (is_utf8 kind) × AreFairPairs pairs
 IsFair j (Cmd.Moment at) = at ≤ last_moment
-IsFair j (Cmd.Switch name on stop) = IsTrue (has_automation j name)
-IsFair j (Cmd.Trigger name skip) = IsTrue (has_automation j name)
+IsFair j (Cmd.Switch name on stop) = IsOfAutomation j name
+IsFair j (Cmd.Trigger name skip) = IsOfAutomation j name
 IsFair j Cmd.Restart = Unit {0}
 IsFair j (Cmd.Refused code) = (1 ≤ code) × (code ≤ 11)
 IsFair j Cmd.Lost = Unit {0}

@@ -58,16 +58,46 @@ pub record Reported : Type 0 where
 
 abbrev pub report_in : Entry → Option Reported
 report_in (Line source number (Cmd.Report entity text attributes)) = Some (record { entity = entity; text = text; attributes = attributes })
-report_in _ = None
+report_in (Line source number (Cmd.Gone entity)) = None
+report_in (Line source number (Cmd.Event kind pairs)) = None
+report_in (Line source number (Cmd.Moment at)) = None
+report_in (Line source number (Cmd.Switch name on stop)) = None
+report_in (Line source number (Cmd.Trigger name skip)) = None
+report_in (Line source number Cmd.Restart) = None
+report_in (Line source number (Cmd.Refused code)) = None
+report_in (Line source number Cmd.Lost) = None
+report_in (Line source number Cmd.TooLong) = None
+report_in (Boot text config stored start zone) = None
+report_in (Step worker serial branch item) = None
 
 abbrev pub gone_in : Entry → Option EntityId
 gone_in (Line source number (Cmd.Gone entity)) = Some entity
-gone_in _ = None
+gone_in (Line source number (Cmd.Report entity text attributes)) = None
+gone_in (Line source number (Cmd.Event kind pairs)) = None
+gone_in (Line source number (Cmd.Moment at)) = None
+gone_in (Line source number (Cmd.Switch name on stop)) = None
+gone_in (Line source number (Cmd.Trigger name skip)) = None
+gone_in (Line source number Cmd.Restart) = None
+gone_in (Line source number (Cmd.Refused code)) = None
+gone_in (Line source number Cmd.Lost) = None
+gone_in (Line source number Cmd.TooLong) = None
+gone_in (Boot text config stored start zone) = None
+gone_in (Step worker serial branch item) = None
 
 -- the moment that a line brings
 abbrev pub moment_in : Entry → Option ℕ
 moment_in (Line source number (Cmd.Moment at)) = Some at
-moment_in _ = None
+moment_in (Line source number (Cmd.Report entity text attributes)) = None
+moment_in (Line source number (Cmd.Gone entity)) = None
+moment_in (Line source number (Cmd.Event kind pairs)) = None
+moment_in (Line source number (Cmd.Switch name on stop)) = None
+moment_in (Line source number (Cmd.Trigger name skip)) = None
+moment_in (Line source number Cmd.Restart) = None
+moment_in (Line source number (Cmd.Refused code)) = None
+moment_in (Line source number Cmd.Lost) = None
+moment_in (Line source number Cmd.TooLong) = None
+moment_in (Boot text config stored start zone) = None
+moment_in (Step worker serial branch item) = None
 
 abbrev pub is_moment : Entry → Bool
 is_moment x = is_some (moment_in x)
@@ -76,13 +106,37 @@ is_moment x = is_some (moment_in x)
 abbrev pub event_in : Entry → Option (Text × Pairs)
 event_in (Line source number (Cmd.Event kind pairs)) = Some (kind, pairs)
 event_in (Step worker serial branch (Item.Fired kind pairs)) = Some (kind, pairs)
-event_in _ = None
+event_in (Line source number (Cmd.Report entity text attributes)) = None
+event_in (Line source number (Cmd.Gone entity)) = None
+event_in (Line source number (Cmd.Moment at)) = None
+event_in (Line source number (Cmd.Switch name on stop)) = None
+event_in (Line source number (Cmd.Trigger name skip)) = None
+event_in (Line source number Cmd.Restart) = None
+event_in (Line source number (Cmd.Refused code)) = None
+event_in (Line source number Cmd.Lost) = None
+event_in (Line source number Cmd.TooLong) = None
+event_in (Step worker serial branch Item.Nothing) = None
+event_in (Step worker serial branch (Item.Call service target fields)) = None
+event_in (Step worker serial branch (Item.Switched targets)) = None
+event_in (Step worker serial branch (Item.Triggered automations skip)) = None
+event_in (Step worker serial branch (Item.Failed code)) = None
+event_in (Boot text config stored start zone) = None
 
 -- ---- boots, restarts and switches
 
 abbrev pub is_restart : Entry → Bool
 is_restart (Line source number Cmd.Restart) = true
-is_restart _ = false
+is_restart (Line source number (Cmd.Report entity text attributes)) = false
+is_restart (Line source number (Cmd.Gone entity)) = false
+is_restart (Line source number (Cmd.Event kind pairs)) = false
+is_restart (Line source number (Cmd.Moment at)) = false
+is_restart (Line source number (Cmd.Switch name on stop)) = false
+is_restart (Line source number (Cmd.Trigger name skip)) = false
+is_restart (Line source number (Cmd.Refused code)) = false
+is_restart (Line source number Cmd.Lost) = false
+is_restart (Line source number Cmd.TooLong) = false
+is_restart (Boot text config stored start zone) = false
+is_restart (Step worker serial branch item) = false
 
 -- a Boot or a Restart
 abbrev pub opens_segment : Entry → Bool
@@ -101,7 +155,19 @@ turning (Boot text config stored start zone) = Turning.Opens stored
 turning (Line source number Cmd.Restart) = Turning.Restarts
 turning (Line source number (Cmd.Switch name on stop)) = Turning.Turns name on stop
 turning (Step worker serial branch (Item.Switched targets)) = Turning.TurnsEach targets
-turning _ = Turning.Leaves
+turning (Line source number (Cmd.Report entity text attributes)) = Turning.Leaves
+turning (Line source number (Cmd.Gone entity)) = Turning.Leaves
+turning (Line source number (Cmd.Event kind pairs)) = Turning.Leaves
+turning (Line source number (Cmd.Moment at)) = Turning.Leaves
+turning (Line source number (Cmd.Trigger name skip)) = Turning.Leaves
+turning (Line source number (Cmd.Refused code)) = Turning.Leaves
+turning (Line source number Cmd.Lost) = Turning.Leaves
+turning (Line source number Cmd.TooLong) = Turning.Leaves
+turning (Step worker serial branch Item.Nothing) = Turning.Leaves
+turning (Step worker serial branch (Item.Call service target fields)) = Turning.Leaves
+turning (Step worker serial branch (Item.Fired kind pairs)) = Turning.Leaves
+turning (Step worker serial branch (Item.Triggered automations skip)) = Turning.Leaves
+turning (Step worker serial branch (Item.Failed code)) = Turning.Leaves
 
 -- ---- attempts that an entry names itself, with whether their conditions are skipped
 
@@ -113,7 +179,21 @@ pub data Asked : Type 0 where
 abbrev pub asked_in : Entry → Asked
 asked_in (Line source number (Cmd.Trigger name skip)) = Asked.ByName name skip
 asked_in (Step worker serial branch (Item.Triggered automations skip)) = Asked.ByNumber automations skip
-asked_in _ = Asked.Nobody
+asked_in (Line source number (Cmd.Report entity text attributes)) = Asked.Nobody
+asked_in (Line source number (Cmd.Gone entity)) = Asked.Nobody
+asked_in (Line source number (Cmd.Event kind pairs)) = Asked.Nobody
+asked_in (Line source number (Cmd.Moment at)) = Asked.Nobody
+asked_in (Line source number (Cmd.Switch name on stop)) = Asked.Nobody
+asked_in (Line source number Cmd.Restart) = Asked.Nobody
+asked_in (Line source number (Cmd.Refused code)) = Asked.Nobody
+asked_in (Line source number Cmd.Lost) = Asked.Nobody
+asked_in (Line source number Cmd.TooLong) = Asked.Nobody
+asked_in (Step worker serial branch Item.Nothing) = Asked.Nobody
+asked_in (Step worker serial branch (Item.Call service target fields)) = Asked.Nobody
+asked_in (Step worker serial branch (Item.Fired kind pairs)) = Asked.Nobody
+asked_in (Step worker serial branch (Item.Switched targets)) = Asked.Nobody
+asked_in (Step worker serial branch (Item.Failed code)) = Asked.Nobody
+asked_in (Boot text config stored start zone) = Asked.Nobody
 
 -- ---- calls, failures and refusals
 
@@ -124,7 +204,11 @@ pub record Called : Type 0 where
 
 abbrev pub call_in : Item → Option Called
 call_in (Item.Call service target fields) = Some (record { service = service; target = target; fields = fields })
-call_in _ = None
+call_in Item.Nothing = None
+call_in (Item.Fired kind pairs) = None
+call_in (Item.Switched targets) = None
+call_in (Item.Triggered automations skip) = None
+call_in (Item.Failed code) = None
 
 abbrev pub is_call : Item → Bool
 is_call item = is_some (call_in item)
@@ -132,13 +216,24 @@ is_call item = is_some (call_in item)
 -- the code with which a step failed
 abbrev pub failure_in : Item → Option ℕ
 failure_in (Item.Failed code) = Some code
-failure_in _ = None
+failure_in Item.Nothing = None
+failure_in (Item.Call service target fields) = None
+failure_in (Item.Fired kind pairs) = None
+failure_in (Item.Switched targets) = None
+failure_in (Item.Triggered automations skip) = None
 
 -- after this line its source has no other
 abbrev pub shuts_source : Cmd → Bool
 shuts_source Cmd.Lost = true
 shuts_source Cmd.TooLong = true
-shuts_source _ = false
+shuts_source (Cmd.Report entity text attributes) = false
+shuts_source (Cmd.Gone entity) = false
+shuts_source (Cmd.Event kind pairs) = false
+shuts_source (Cmd.Moment at) = false
+shuts_source (Cmd.Switch name on stop) = false
+shuts_source (Cmd.Trigger name skip) = false
+shuts_source Cmd.Restart = false
+shuts_source (Cmd.Refused code) = false
 
 -- ---- the classes of entries that laws speak of
 
@@ -146,9 +241,20 @@ shuts_source _ = false
 abbrev pub IsPlain : Cmd → Type 0
 IsPlain (Cmd.Switch name on stop) = ⊥
 IsPlain Cmd.Restart = ⊥
-IsPlain _ = Unit {0}
+IsPlain (Cmd.Report entity text attributes) = Unit {0}
+IsPlain (Cmd.Gone entity) = Unit {0}
+IsPlain (Cmd.Event kind pairs) = Unit {0}
+IsPlain (Cmd.Moment at) = Unit {0}
+IsPlain (Cmd.Trigger name skip) = Unit {0}
+IsPlain (Cmd.Refused code) = Unit {0}
+IsPlain Cmd.Lost = Unit {0}
+IsPlain Cmd.TooLong = Unit {0}
 
 -- an item that switches nothing
 abbrev pub SwitchesNone : Item → Type 0
 SwitchesNone (Item.Switched targets) = ⊥
-SwitchesNone _ = Unit {0}
+SwitchesNone Item.Nothing = Unit {0}
+SwitchesNone (Item.Call service target fields) = Unit {0}
+SwitchesNone (Item.Fired kind pairs) = Unit {0}
+SwitchesNone (Item.Triggered automations skip) = Unit {0}
+SwitchesNone (Item.Failed code) = Unit {0}

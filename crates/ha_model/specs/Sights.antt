@@ -3,7 +3,7 @@ use Rattle.std.specs.Prelude.{ℕ, ◌-◌, Bool, not, ◌||◌, nat_eq, Option,
 use Rattle.std.specs.List.{list_any}
 use Rattle.ha_model.specs.Words.{up_to}
 use Rattle.ha_model.specs.Equal.{same_flag}
-use Rattle.ha_model.specs.Journal.{Journal, automations}
+use Rattle.ha_model.specs.Journal.{Journal, automations, unit_of}
 use Rattle.ha_model.specs.Switches.{is_on}
 use Rattle.ha_model.specs.States.{Sight}
 
@@ -12,7 +12,7 @@ abbrev pub switch_seen : Sight → ℕ → Option Bool
 switch_seen sight a = option_map (λ p. p.1) (slice_get sight.automations a)
 
 abbrev pub switch_of : Journal → ℕ → Option Bool
-switch_of j a = option_map (λ x. is_on j a) (slice_get (automations j) a)
+switch_of j a = option_map (λ x. is_on j a) (unit_of (automations j) a)
 
 -- the last entry is the first, or it changed a switch
 abbrev pub changes_switch : Journal → Bool

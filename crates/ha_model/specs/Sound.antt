@@ -1,8 +1,12 @@
 -- Sound configurations: what every configuration that is read meets, and the engine relies on.
-use Rattle.std.specs.Prelude.{ℕ, Bool, true, false, ◌&&◌, nat_eq, nat_lt, nat_le, IsTrue, List, length, map, Option}
+use Rattle.std.specs.Prelude.{ℕ, Bool, true, false, ◌&&◌, nat_eq, nat_lt, nat_le, IsTrue, List, [], ◌∷◌, length, map, Option}
 use Rattle.std.specs.List.{list_all}
 use Rattle.std.specs.Option.{option_map_or}
+use Rattle.std.specs.Str.{is_utf8}
 use Rattle.ha_value.specs.Ids.{is_name}
+use Rattle.ha_value.specs.declared.value.Value.{Value}
+use Rattle.ha_value.specs.declared.value.Value.TheOpen.{Value-F}
+use Rattle.ha_value.specs.declared.value.Value.TheFolds.{fold-Value}
 use Rattle.ha_model.specs.declared.template.Expr.{Expr}
 use Rattle.ha_model.specs.declared.template.Expr.TheOpen.{Expr-F}
 use Rattle.ha_model.specs.declared.template.Expr.TheFolds.{fold-Expr}
@@ -26,7 +30,7 @@ use Rattle.ha_model.specs.declared.config.ActionKind.TheOpen.{ActionKind-F}
 use Rattle.ha_model.specs.declared.config.ActionKind.TheFolds.{fold-Action}
 use Rattle.ha_model.specs.declared.config.Automation.{Automation}
 use Rattle.ha_model.specs.declared.config.Config.{Config}
-use Rattle.ha_model.specs.Words.{Text}
+use Rattle.ha_model.specs.Words.{Text, comes_before}
 use Rattle.ha_model.specs.Numbers.{is_in_range}
 use Rattle.ha_model.specs.Commands.{all_distinct, is_sound_value, are_sound_pairs}
 
@@ -43,10 +47,27 @@ all_true bs = all_short (λ b. b) bs
 abbrev pub if_there : {X : Type 0} → (X → Bool) → Option X → Bool
 if_there test o = option_map_or test o true
 
+-- ---- plain values
+
+abbrev pub short_step : Value-F Bool → Bool
+short_step Value-F.Null = true
+short_step (Value-F.Flag b) = true
+short_step (Value-F.Number n) = true
+short_step (Value-F.Text t) = true
+short_step (Value-F.Items bs) = all_true bs
+short_step (Value-F.Pairs ps) = all_short (λ p. p.1) ps
+
+-- each list and map in a value is so short, at any depth
+abbrev pub has_short_lists : Value → Bool
+has_short_lists = fold-Value Bool short_step
+
+abbrev pub is_plain_value : Value → Bool
+is_plain_value v = is_sound_value v && has_short_lists v
+
 -- ---- templates and forms
 
 abbrev pub sound_expr_step : Expr-F Bool → Bool
-sound_expr_step (Expr-F.Plain v) = is_sound_value v
+sound_expr_step (Expr-F.Plain v) = is_plain_value v
 sound_expr_step (Expr-F.Name name) = true
 sound_expr_step (Expr-F.List items) = all_true items
 sound_expr_step (Expr-F.Field base name) = base
@@ -72,7 +93,7 @@ abbrev pub is_sound_template : Template → Bool
 is_sound_template = fold-Template Bool Bool sound_piece_step (λ t. all_true t.pieces)
 
 abbrev pub sound_form_step : Form-F Bool → Bool
-sound_form_step (Form-F.Plain v) = is_sound_value v
+sound_form_step (Form-F.Plain v) = is_plain_value v
 sound_form_step (Form-F.Text t) = is_sound_template t
 sound_form_step (Form-F.Items bs) = all_true bs
 sound_form_step (Form-F.Pairs ps) = all_distinct (map (λ p. p.0) ps) && all_short (λ p. p.1) ps
@@ -108,7 +129,7 @@ is_sound_unit (unit.Unit.Each n) = nat_le 1 n
 abbrev pub is_sound_rule : TriggerRule → Bool
 is_sound_rule (TriggerRule.State entities attribute from to) = is_short entities && is_sound_match from && is_sound_match to
 is_sound_rule (TriggerRule.Numeric entities attribute above below) = is_short entities && if_there is_in_range above && if_there is_in_range below
-is_sound_rule (TriggerRule.Event kinds pairs) = is_short kinds && is_short pairs && are_sound_pairs pairs
+is_sound_rule (TriggerRule.Event kinds pairs) = is_short kinds && are_sound_pairs pairs && all_short (λ p. has_short_lists p.1) pairs
 is_sound_rule (TriggerRule.Time seconds) = all_short is_second_of_day seconds
 is_sound_rule (TriggerRule.Pattern hours minutes seconds) = is_sound_unit hours && is_sound_unit minutes && is_sound_unit seconds
 is_sound_rule (TriggerRule.Template t) = is_sound_template t
@@ -181,6 +202,23 @@ abbrev pub is_sound_automation : Automation → Bool
 is_sound_automation a =
     is_name a.name && nat_le 1 a.max && nat_le a.max 1_000
     && are_sound_triggers a.triggers && are_sound_conditions a.tests && are_sound_actions a.actions
+
+-- ---- the stored switches
+
+-- the names are in byte order, each once
+abbrev pub are_in_name_order : List (Text × Bool) → Bool
+are_in_name_order [] = true
+are_in_name_order (p ∷ []) = true
+are_in_name_order (p ∷ q ∷ ps) = comes_before p.0 q.0 && are_in_name_order (q ∷ ps)
+
+-- what a store gives, where there is one: names in UTF-8, in byte order, each once
+abbrev pub is_sound_store : Option (List (Text × Bool)) → Bool
+is_sound_store stored = if_there (λ ps. are_in_name_order ps && list_all (λ p. is_utf8 p.0) ps) stored
+
+abbrev pub IsSoundStore : Option (List (Text × Bool)) → Type 0
+IsSoundStore stored = IsTrue (is_sound_store stored)
+
+-- ---- the whole
 
 -- the names of the automations are distinct object ids, and there are at most 1,024 of them
 abbrev pub is_sound_config : Config → Bool

@@ -6,8 +6,8 @@ mod copies;
 mod data;
 mod faults;
 mod journal;
-pub mod laws;
 mod names;
+mod parts;
 mod steps;
 mod template;
 mod texts;
@@ -26,6 +26,7 @@ pub use journal::{
     same_data, same_id, same_text,
 };
 pub use names::run_name;
+pub use parts::{attribute_text, first_pair, true_in};
 pub use steps::{Change, Firing, Progress, StepOut};
 pub use template::{Expr, Op, Piece, Template};
 pub use texts::characters;

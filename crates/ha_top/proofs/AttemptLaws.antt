@@ -24,7 +24,7 @@ use Rattle.ha_model.specs.Journal.{Journal, HasEntry, now}
 use Rattle.ha_model.specs.Switches.{is_on, since}
 use Rattle.ha_model.specs.States.{states, reported}
 use Rattle.ha_model.specs.Triggers.{state_moves, state_value, head_pairs, fired_from, variables}
-use Rattle.ha_model.specs.Attempts.{Attempt, fired_for, of_automation, attempts, passes}
+use Rattle.ha_model.specs.Attempts.{Attempt, attempt_for, fired_for, attempts, passes}
 use Rattle.ha_model.specs.Records.{passing, or_else}
 use Rattle.ha_model.specs.RecordSteps.{more}
 use Rattle.ha_model.proofs.EqualLemmas.{same-sound}
@@ -130,12 +130,13 @@ module _ (alias to : Text) (entity service target : EntityId) (outside : is_outs
   attempts-are =
       let on : is_on (take (suc p) k) 0 ≡ true = ap (λ l. is_on l 0) (through-last j x) ∙ path-on alias to entity service target k path in
       attempts-unasked j x (first-asks x first)
-      ∙ (λ i. flat_map (of_automation k p) (enumerate_from 0 (path-automations config k path i)))
-      ∙ (λ i. (if on i then cons_option (fired_for k p 0 (Some entity) trigger) [] ++ [] else []) ++ [])
-      ∙ (λ i. (cons_option (option_map {T = ℕ} {U = Attempt} (λ q. record { automation = 0; env = (codes "trigger", variables k trigger (Some entity) q) ∷ []; skip = false }) (fires-there i)) [] ++ []) ++ [])
+      ∙ (λ i. flat_map (fired_for k p) (enumerate_from 0 (path-automations config k path i)))
+      ∙ (λ i. (if on i then map (attempt_for 0) (cons_option (firing_for k (since (take (suc p) k) 0) p (0, trigger) (Some entity)) [] ++ []) else []) ++ [])
+      ∙ (λ i. map (attempt_for 0) (cons_option (option_map {T = ℕ} {U = Fired} (λ q. record { trigger = 0; entity = Some entity; variables = variables k trigger (Some entity) q }) (fires-there i)) [] ++ []) ++ [])
       ∙ by moved
     where
-      by : (b : Bool) → ((cons_option (option_map {T = ℕ} {U = Attempt} (λ q. record { automation = 0; env = (codes "trigger", variables k trigger (Some entity) q) ∷ []; skip = false }) (if b then Some p else None)) [] ++ []) ++ []) ≡ (if b then attempt ∷ [] else [])
+      by : (b : Bool) → map (attempt_for 0) (cons_option (option_map {T = ℕ} {U = Fired} (λ q. record { trigger = 0; entity = Some entity; variables = variables k trigger (Some entity) q }) (if b then Some p else None)) [] ++ []) ++ []
+          ≡ (if b then attempt ∷ [] else [])
       by true = refl
       by false = refl
 

@@ -19,7 +19,7 @@ use Rattle.ha_model.specs.States.{reported}
 use Rattle.ha_model.specs.StateStep.{next_object}
 use Rattle.ha_model.specs.Records.{or_else, mode_of}
 use Rattle.ha_model.specs.RecordSteps.{more}
-use Rattle.ha_model.specs.SingleMode.{AllSingle}
+use Rattle.ha_laws.specs.SingleMode.{AllSingle}
 use Rattle.ha_model.proofs.StateLemmas.{reported-report, reported-other}
 use Rattle.ha_model.proofs.SinceLaws.{on-left, since-left}
 use Rattle.ha_top.specs.Words.{Text}

@@ -14,24 +14,25 @@ use Rattle.ha_model.specs.Words.{Pairs, same_entity}
 use Rattle.ha_model.specs.Entries.{IsPlain, Reported, report_in}
 use Rattle.ha_model.specs.Journal.{Journal, automations}
 use Rattle.ha_model.specs.Branches.{branches_of}
-use Rattle.ha_model.specs.Answers.{IsOfOne, OfOne}
+use Rattle.ha_laws.specs.Makers.{IsOfOne, OfOne}
 use Rattle.ha_model.specs.Records.{Records, actions_of, last_place, live_count, new_record, or_else, passing, spots}
 use Rattle.ha_model.specs.RecordSteps.{more}
-use Rattle.ha_model.specs.SingleMode.{admit_started, started}
+use Rattle.ha_laws.specs.SingleMode.{admit_started, started}
 use Rattle.ha_model.specs.Lawful.{IsFair, IsTurn, Running, is_empty, is_line_of, is_quiet, ready, shuts}
 use Rattle.ha_model.specs.Texts.{call_text}
-use Rattle.ha_model.specs.OneCall.{one_call}
-use Rattle.ha_model.specs.OneRun.{AllEnded, IsBegun, SameNumbers}
+use Rattle.ha_laws.specs.OneCall.{one_call}
+use Rattle.ha_laws.specs.OneRun.{AllEnded, IsBegun, SameNumbers}
 use Rattle.ha_model.proofs.AppendLemmas.{append-nil}
-use Rattle.ha_model.proofs.CallGrowth.{calls-same, numbers-append, numbers-same}
-use Rattle.ha_model.proofs.CallScript.{one-branch, one-call-ran}
+use Rattle.ha_laws.proofs.CallGrowth.{calls-same, numbers-append, numbers-same}
+use Rattle.ha_laws.proofs.CallScript.{one-branch, one-call-ran}
 use Rattle.ha_model.proofs.LawfulLaws.{none-some}
-use Rattle.ha_model.proofs.OneStep.{begun-ready, ended-later, ended-live, ended-quiet, no-places, quiet-rested}
-use Rattle.ha_model.proofs.PlainLine.{calls-more as count-more, line-kept, no-calls}
+use Rattle.ha_laws.proofs.OneStep.{begun-ready, ended-later, ended-live, ended-quiet, no-places, quiet-rested}
+use Rattle.ha_model.proofs.LastEntry.{calls-more as count-more, no-calls}
+use Rattle.ha_laws.proofs.PlainLine.{line-kept}
 use Rattle.ha_model.proofs.RecordLaws.{length-more}
 use Rattle.ha_model.proofs.StepLaws.{spots-more}
 use Rattle.ha_model.proofs.SinceLaws.{get-last, get-more}
-use Rattle.ha_model.proofs.TextLemmas.{calls-more}
+use Rattle.ha_laws.proofs.TextLemmas.{calls-more}
 use Rattle.ha_top.specs.FirstConfig.{automation_with, call_of, config_of_ids, literal}
 use Rattle.ha_top.specs.FirstPath.{AreFirst, IsFirstCmd, IsFirstEntry, IsFirstPath, Shown, last_seen, seen_in}
 use Rattle.ha_top.specs.Attempt.{attempts_with, begun_env, env_of_turn, turns_to}

@@ -18,21 +18,22 @@ use Rattle.ha_model.specs.Journal.{Journal, automations}
 use Rattle.ha_model.specs.Switches.{name_of}
 use Rattle.ha_model.specs.Records.{Records, calls_of, or_else, ran_on, script_end, spots}
 use Rattle.ha_model.specs.RecordSteps.{more}
-use Rattle.ha_model.specs.SingleMode.{next_end, next_item, with_step}
+use Rattle.ha_laws.specs.SingleMode.{with_step}
+use Rattle.ha_model.specs.NextPlace.{next_end, next_item}
 use Rattle.ha_model.specs.Lawful.{Running, is_quiet, pick, ready, record_of}
 use Rattle.ha_model.specs.Texts.{call_line, call_text, call_text_of}
 use Rattle.ha_model.specs.Waits.{next_spot}
-use Rattle.ha_model.specs.OneCall.{call_made}
-use Rattle.ha_model.specs.OneRun.{AllEnded, IsBegun}
-use Rattle.ha_model.proofs.CallGrowth.{calls-same, numbers-set}
-use Rattle.ha_model.proofs.CallScript.{one-call-ran}
-use Rattle.ha_model.proofs.OneAnswer.{some-same}
-use Rattle.ha_model.proofs.OneStep.{ended-append, ended-later, ended-quiet, line-busy}
+use Rattle.ha_laws.specs.OneCall.{call_made}
+use Rattle.ha_laws.specs.OneRun.{AllEnded, IsBegun}
+use Rattle.ha_laws.proofs.CallGrowth.{calls-same, numbers-set}
+use Rattle.ha_laws.proofs.CallScript.{one-call-ran}
+use Rattle.ha_model.proofs.LawfulLaws.{some-same}
+use Rattle.ha_laws.proofs.OneStep.{ended-append, ended-later, ended-quiet, line-busy}
 use Rattle.ha_model.proofs.RecordLaws.{length-more}
 use Rattle.ha_model.proofs.SinceLaws.{get-last}
 use Rattle.ha_model.proofs.StepLaws.{serial-at}
-use Rattle.ha_model.proofs.StepRecords.{step-kept}
-use Rattle.ha_model.proofs.TextLemmas.{calls-more}
+use Rattle.ha_laws.proofs.StepRecords.{step-kept}
+use Rattle.ha_laws.proofs.TextLemmas.{calls-more}
 use Rattle.ha_top.specs.FirstConfig.{automation_with}
 use Rattle.ha_top.specs.FirstPath.{IsFirstPath}
 use Rattle.ha_top.specs.Kept.{AreOfFirst, IsRuleOf, Kept, ended_at}

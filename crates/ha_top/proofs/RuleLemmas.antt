@@ -12,10 +12,10 @@ use Rattle.ha_model.specs.declared.config.Automation.{Automation}
 use Rattle.ha_model.specs.declared.config.Trigger.{Trigger}
 use Rattle.ha_model.specs.declared.config.Action.{Action}
 use Rattle.ha_value.proofs.PrintLemmas.{id_is_read}
-use Rattle.ha_model.specs.OneCall.{IsCallable}
+use Rattle.ha_laws.specs.OneCall.{IsCallable}
 use Rattle.ha_model.proofs.EqualLemmas.{and_left, and_right}
 use Rattle.ha_model.proofs.LawfulLaws.{none-some}
-use Rattle.ha_model.proofs.OneAnswer.{some-same}
+use Rattle.ha_model.proofs.LawfulLaws.{some-same}
 use Rattle.ha_top.specs.Words.{Text}
 use Rattle.ha_top.specs.FirstForm.{Parts, is_alias, is_outside, is_short, is_state, outside_id, parts_of}
 use Rattle.ha_top.specs.FirstConfig.{automation_with, call_of, trigger_of, config_of, config_of_ids, config_of_parts, most_bytes, with_entity_id, with_service_id}

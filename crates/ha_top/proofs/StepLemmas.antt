@@ -14,7 +14,7 @@ use Rattle.ha_model.specs.declared.journal.Item.TheVariants.{Call}
 use Rattle.ha_model.specs.Lawful.{is_line_of}
 use Rattle.ha_model.specs.RecordSteps.{more}
 use Rattle.ha_model.specs.Texts.{call_text, error_text, error_text_of}
-use Rattle.ha_model.proofs.TextLemmas.{errors-more}
+use Rattle.ha_laws.proofs.TextLemmas.{errors-more}
 use Rattle.ha_value.specs.declared.value.EntityId.{EntityId}
 use Rattle.ha_top.specs.Words.{Text}
 use Rattle.ha_io.specs.Whole.{IsFrontTaken}

@@ -12,9 +12,9 @@ use Rattle.ha_model.specs.Entries.{report_in}
 use Rattle.ha_model.specs.Journal.{Journal}
 use Rattle.ha_model.specs.Records.{Records}
 use Rattle.ha_model.specs.Lawful.{Running}
-use Rattle.ha_model.specs.Answers.{OfOne}
-use Rattle.ha_model.specs.OneCall.{IsCallable}
-use Rattle.ha_model.specs.OneRun.{AllEnded, IsBegun}
+use Rattle.ha_laws.specs.Makers.{OfOne}
+use Rattle.ha_laws.specs.OneCall.{IsCallable}
+use Rattle.ha_laws.specs.OneRun.{AllEnded, IsBegun}
 use Rattle.ha_top.specs.Words.{Text}
 use Rattle.ha_top.specs.FirstForm.{is_alias, is_outside, is_state}
 use Rattle.ha_top.specs.FirstConfig.{config_of, config_of_ids}

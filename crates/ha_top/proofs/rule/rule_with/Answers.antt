@@ -1,7 +1,7 @@
 use Rattle.std.proofs.Common.{◌∙◌, ap}
 use Rattle.ha_value.specs.Ids.{entity_text, read_entity}
 use Rattle.ha_value.proofs.PrintLemmas.{id_is_read}
-use Rattle.ha_model.proofs.OneAnswer.{some-same}
+use Rattle.ha_model.proofs.LawfulLaws.{some-same}
 use Rattle.ha_top.proofs.rule.rule_with.Goals as goal
 
 pub id_of-requires : goal.id_of-requires

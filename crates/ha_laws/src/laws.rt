@@ -1,0 +1,224 @@
+//! Laws of the definitions alone. Each is a function that does nothing; its contract is the law.
+//!
+//! `more j x` is the journal `j` with one more entry. The functions that keep a value for a
+//! journal, entry by entry, rest on the laws about it.
+ghost use Rattle.std.specs.Prelude.{◌≡◌, ℕ, List, [], ◌∷◌, ◌++◌, ◌||◌, Bool, true, false, None, Some, length, max, codes, if◌then◌else◌};
+ghost use Rattle.ha_value.specs.Ids.{entity_text};
+ghost use Rattle.ha_value.specs.declared.value.EntityId.{EntityId};
+ghost use Rattle.ha_model.specs.declared.journal.Cmd as cmd;
+ghost use Rattle.ha_model.specs.declared.journal.Cmd.{Cmd};
+ghost use Rattle.ha_model.specs.declared.journal.Entry.{Entry};
+ghost use Rattle.ha_model.specs.declared.journal.Entry.TheVariants.{Line, Step};
+ghost use Rattle.ha_model.specs.declared.journal.Item.{Item};
+ghost use Rattle.ha_model.specs.declared.journal.Record.{Record};
+ghost use Rattle.ha_model.specs.Words.{Text, Pairs, EachAfter, same_entity};
+ghost use Rattle.ha_model.specs.Entries.{report_in, gone_in, is_restart, IsBoot};
+ghost use Rattle.ha_model.specs.Journal.{Journal, HasEntry, automations, brings, now as now_lem};
+ghost use Rattle.ha_model.specs.Switches.{is_on, on_after};
+ghost use Rattle.ha_model.specs.States.{reported};
+ghost use Rattle.ha_model.specs.StateStep.{next_object};
+ghost use Rattle.ha_model.specs.Scripts.{Branch, Status, whole};
+ghost use Rattle.ha_model.specs.Records.{Records, actions_of, records_of, passing, ran_on, spots};
+ghost use Rattle.ha_model.specs.RecordSteps.{more, records_after};
+ghost use Rattle.ha_model.specs.RunSteps.{runs_after};
+ghost use Rattle.ha_model.specs.Branches.{branches_of};
+ghost use Rattle.ha_laws.specs.Makers.{makers, cmds_of, OfOne};
+ghost use Rattle.ha_laws.specs.Told.{ByTheRules, AreNear};
+ghost use Rattle.ha_model.specs.Commands.{ArePutFrom, lines_of, placed_line};
+ghost use Rattle.ha_model.specs.Texts.{as_line, call_text, call_text_of, error_text, error_text_of, store_text, trace_text, trace_line};
+ghost use Rattle.ha_laws.specs.WorkedHall as hall;
+ghost use Rattle.ha_laws.specs.WorkedModes as modes;
+ghost use Rattle.ha_laws.specs.WorkedScripts as scripts;
+ghost use Rattle.ha_laws.specs.WorkedHolds as holds;
+ghost use Rattle.ha_model.specs.Waits.{next_spot};
+ghost use Rattle.ha_laws.specs.OneCall.{IsCallable, call_made, one_call};
+ghost use Rattle.ha_laws.specs.OneRun.{AllEnded, IsBegun, SameNumbers};
+ghost use Rattle.ha_model.specs.declared.config.Mode.{Mode};
+ghost use Rattle.ha_model.specs.declared.journal.EndCause.{EndCause};
+ghost use Rattle.ha_model.specs.Lawful.{Right, Lawful, Running, IsRightEntry, IsTurn, IsBusy, ready, is_quiet, is_rested, is_line_of, may_step};
+
+/// For a given first entry, given lines of each source and a given list of the makers of the
+/// entries, at most one journal with its records is lawful; and so it is where the lines are put
+/// from given commands that were read.
+pub fn one_answer()
+    ensures put { (boot : Entry) (xs ys : Journal) (rs rs' : Records) → Lawful (boot ∷ xs) rs → Lawful (boot ∷ ys) rs'
+        → makers xs ≡ makers ys → ((q : ℕ) → cmds_of q xs ≡ cmds_of q ys) → (xs ≡ ys) × (rs ≡ rs') }
+{}
+
+/// With one source alone, at most one journal with that first entry and those lines is lawful and
+/// quiet; and so it is with lines that are put from given commands.
+pub fn one_source()
+    ensures put { (boot : Entry) (xs ys : Journal) (rs rs' : Records) → Lawful (boot ∷ xs) rs → Lawful (boot ∷ ys) rs'
+        → OfOne xs → OfOne ys → is_quiet rs (boot ∷ xs) ≡ true → is_quiet rs' (boot ∷ ys) ≡ true
+        → ((q : ℕ) → cmds_of q xs ≡ cmds_of q ys) → (xs ≡ ys) × (rs ≡ rs') }
+    ensures read { (boot : Entry) (xs ys : Journal) (rs rs' : Records) → Lawful (boot ∷ xs) rs → Lawful (boot ∷ ys) rs'
+        → OfOne xs → OfOne ys → is_quiet rs (boot ∷ xs) ≡ true → is_quiet rs' (boot ∷ ys) ≡ true
+        → (read : ℕ → List Cmd) → ((q : ℕ) → ArePutFrom q (boot ∷ xs) (read q)) → ((q : ℕ) → ArePutFrom q (boot ∷ ys) (read q)) → (xs ≡ ys) × (rs ≡ rs') }
+{}
+
+/// Now after one more entry.
+pub fn now_of_one_more()
+    ensures { (j : Journal) (x : Entry) → now_lem (more j x) ≡ max (now_lem j) (brings x) }
+{}
+
+/// The state of a reported entity after one more entry: a Report of it, a Gone of it, a Restart,
+/// or any other.
+pub fn states_of_one_more()
+    ensures report { (j : Journal) (e entity : EntityId) (k n : ℕ) (text : Text) (attributes : Pairs)
+        → reported (more j (Line k n (Cmd.Report entity text attributes))) e
+        ≡ (if same_entity entity e
+        then Some (next_object (reported j e) text attributes (now_lem (more j (Line k n (Cmd.Report entity text attributes)))))
+        else reported j e) }
+    ensures gone { (j : Journal) (e entity : EntityId) (k n : ℕ)
+        → reported (more j (Line k n (Cmd.Gone entity))) e ≡ (if same_entity entity e then None else reported j e) }
+    ensures restart { (j : Journal) (e : EntityId) (k n : ℕ) → reported (more j (Line k n Cmd.Restart)) e ≡ None }
+    ensures other { (j : Journal) (e : EntityId) (x : Entry) → report_in x ≡ None → gone_in x ≡ None → is_restart x ≡ false
+        → reported (more j x) e ≡ reported j e }
+{}
+
+/// A switch after one more entry.
+pub fn switches_of_one_more()
+    ensures { (j : Journal) (x : Entry) (a : ℕ) → HasEntry j → is_on (more j x) a ≡ on_after (automations j) a (is_on j a) x }
+{}
+
+/// The records after one more entry: first the ends that it gives, then its attempts in turn,
+/// then the begins. `table` says the same of a table that is changed call by call.
+pub fn records_of_one_more()
+    ensures records { (j : Journal) (x : Entry) → records_of (more j x) ≡ records_after j (records_of j) x }
+    ensures table { (j : Journal) (x : Entry) → HasEntry j → records_of (more j x) ≡ runs_after (more j x) (records_of j) (passing (more j x)) }
+{}
+
+/// Who may step at a place is told by the entries before it.
+pub fn ready_of_the_past()
+    ensures { (j : Journal) (ys : List Entry) → HasEntry j → ready (records_of j) j ≡ ready (records_of (j ++ ys)) j }
+{}
+
+/// A source is rested after an entry where the journal is quiet then, or where it was rested
+/// before and the entry is no line of it.
+pub fn rested_of_one_more()
+    ensures { (rs : Records) (k : ℕ) (j : Journal) (x : Entry)
+        → is_rested rs k (more j x) ≡ ((if is_line_of k x then false else is_rested rs k j) || is_quiet rs (more j x)) }
+{}
+
+/// A right journal stays right with one more right entry; a lawful one without closing steps
+/// stays so with a line whose turn it is and with a step of a worker that is not rested; and a
+/// lawful one stays lawful with a step of worker 0.
+pub fn one_more_is_lawful()
+    ensures right { (j : Journal) (rs : Records) (x : Entry) → Right j rs → (IsBoot x → ⊥) → IsRightEntry rs j x
+        → Right (more j x) (records_after j rs x) }
+    ensures running { (j : Journal) (rs : Records) (x : Entry) → Running j rs → (IsBoot x → ⊥) → IsRightEntry rs j x → IsTurn rs j x
+        → IsBusy rs j x → Running (more j x) (records_after j rs x) }
+    ensures closing { (j : Journal) (rs : Records) (serial : ℕ) (branch : Branch) (item : Item) → Lawful j rs
+        → IsRightEntry rs j (Step 0 serial branch item) → IsTurn rs j (Step 0 serial branch item)
+        → Lawful (more j (Step 0 serial branch item)) (records_after j rs (Step 0 serial branch item)) }
+{}
+
+/// Where a journal is right with one more entry, whose turn it is and whose worker is busy, it is
+/// lawful with the new records, if it was lawful without closing steps; and the same of a step of
+/// worker 0, be it a closing one.
+pub fn right_and_due_is_lawful()
+    ensures running { (j : Journal) (rs rs' : Records) (x : Entry) → Running j rs → Right (more j x) rs' → IsTurn rs j x → IsBusy rs j x → Running (more j x) rs' }
+    ensures closing { (j : Journal) (rs rs' : Records) (serial : ℕ) (branch : Branch) (item : Item) → Lawful j rs → Right (more j (Step 0 serial branch item)) rs'
+        → IsTurn rs j (Step 0 serial branch item) → Lawful (more j (Step 0 serial branch item)) rs' }
+{}
+
+/// The records are exactly those of the rules: the attempts that are admitted by the number of
+/// earlier records of their automation that have not ended have one, and each begins and ends as
+/// the rules say. On a right journal they are so, and no other list is, whose steps are right.
+/// `near` says that in mode queued it is the same to ask whether an earlier record has not ended
+/// and whether the one just before has not.
+pub fn records_by_the_rules()
+    ensures rules { (j : Journal) (rs : Records) → Right j rs → ByTheRules j rs }
+    ensures only { (j : Journal) (rs : Records) → ByTheRules j rs → EachAfter (IsRightEntry rs) [] j → rs ≡ records_of j }
+    ensures near { (j : Journal) (rs : Records) → Right j rs → AreNear j [] rs }
+{}
+
+/// The calls, the errors and the trace of a journal with one more entry, and the lines of a
+/// source.
+pub fn texts_of_one_more()
+    ensures calls { (j : Journal) (x : Entry) (rs : Records) → call_text (more j x) rs ≡ call_text j rs ++ call_text_of rs j x }
+    ensures errors { (j : Journal) (x : Entry) → error_text (more j x) ≡ error_text j ++ error_text_of x }
+    ensures trace { (j : Journal) (x : Entry) → HasEntry j → trace_text (more j x) false ≡ trace_text j false ++ trace_line (automations j) x }
+    ensures lines { (k : ℕ) (j : Journal) (x : Entry) → lines_of k (more j x) ≡ lines_of k j ++ placed_line k j x }
+{}
+
+/// Where all runs have ended, the journal is quiet; where the last one alone is live and has made no step, its own branch
+/// is ready and nothing else. Each source is rested where the journal is quiet, and none is behind its own line where it is not.
+pub fn one_run_at_a_time()
+    ensures ended { (j : Journal) (rs : Records) → AllEnded (length j) rs → is_quiet rs j ≡ true }
+    ensures begun { (k : ℕ) (j : Journal) (rs : Records) (b : IsBegun k j rs) → branches_of (actions_of (automations j) b.run.automation) ≡ [] ∷ []
+        → may_step rs j b.run [] ≡ true → ready rs j ≡ (b.run.serial, []) ∷ [] }
+    ensures rested { (rs : Records) (k : ℕ) (j : Journal) → HasEntry j → is_quiet rs j ≡ true → is_rested rs k j ≡ true }
+    ensures busy { (rs : Records) (k number : ℕ) (cmd : Cmd) (j before : Journal) → j ≡ more before (Line k number cmd) → is_quiet rs j ≡ false
+        → is_rested rs k j ≡ false }
+{}
+
+/// The calls' text of a right journal is the same by records that have grown: it tells of a run only its automation and its
+/// number.
+pub fn calls_of_grown_records()
+    ensures { (j : Journal) (rs rs' : Records) → Right j rs → SameNumbers rs rs' → call_text j rs ≡ call_text j rs' }
+{}
+
+/// A script that is one call of literal texts, of a service and for a target outside `automation`, has the outer branch
+/// alone. At its first place it makes that call, and is done.
+pub fn one_call_is_made()
+    ensures branch { (service target : Text) → branches_of (one_call service target) ≡ [] ∷ [] }
+    ensures call { (j : Journal) (r : Record) (service target : EntityId) → IsCallable service → IsCallable target
+        → actions_of (automations j) r.automation ≡ one_call (entity_text service) (entity_text target) → spots j r.serial ≡ []
+        → ran_on j r (spots j r.serial ++ (next_spot j [] ∷ [])) ≡ Some (call_made service target) }
+{}
+
+/// The hall light's journal is lawful and quiet, with these records, calls and store.
+pub fn hall_light_goes_out()
+    ensures lawful { Lawful hall.journal hall.records }
+    ensures quiet { is_quiet hall.records hall.journal ≡ true }
+    ensures calls { call_text hall.journal hall.records
+        ≡ as_line (codes "{\"run\":\"hall_light\",\"number\":1,\"call\":1,\"service\":\"light.turn_on\",\"target\":[\"light.hall\"],\"data\":{\"brightness\":128}}")
+        ++ as_line (codes "{\"run\":\"hall_light\",\"number\":1,\"call\":2,\"service\":\"light.turn_off\",\"target\":[\"light.hall\"],\"data\":{}}") }
+    ensures store { store_text hall.journal ≡ codes "{\"switches\":{\"hall_light\":true},\"version\":1}" }
+{}
+
+/// A door that opens twice, before its first run has made a step: in mode restart the new run
+/// replaces the old one, in mode single there is none, and in mode queued it waits. Where the
+/// first one then ends, the queued one begins, and a switch ends it.
+pub fn a_door_opens_twice()
+    ensures restart { records_of (modes.twice Mode.Restart)
+        ≡ modes.run 1 2 Mode.Restart (Some 2) (Some (4, EndCause.Replaced)) 0 ∷ modes.run 2 4 Mode.Restart (Some 4) None 0 ∷ [] }
+    ensures single { records_of (modes.twice Mode.Single) ≡ modes.run 1 2 Mode.Single (Some 2) None 0 ∷ [] }
+    ensures queued { records_of (modes.twice Mode.Queued) ≡ modes.run 1 2 Mode.Queued (Some 2) None 0 ∷ modes.run 2 4 Mode.Queued None None 0 ∷ [] }
+    ensures queued_then { records_of modes.then_done
+        ≡ modes.run 1 2 Mode.Queued (Some 2) (Some (5, EndCause.Done)) 1 ∷ modes.run 2 4 Mode.Queued (Some 5) (Some (6, EndCause.SwitchedOff)) 0 ∷ [] }
+{}
+
+/// In mode queued with `max: 1` a second opening is refused while the first run is live, and one
+/// after its end begins at once.
+pub fn a_queue_takes_one()
+    ensures { records_of holds.queue_of_one ≡ holds.queue_run 1 2 (Some (5, EndCause.Done)) 1 ∷ holds.queue_run 2 7 None 0 ∷ [] }
+{}
+
+/// Triggers with a `for` of five seconds, and a Gone between: a number stays in its bounds, a
+/// template of the state becomes false and true again, and an attribute that was already absent
+/// stays so.
+pub fn holds_over_a_gone()
+    ensures number { (holds.attempted holds.number_held 3 ≡ []) × (holds.attempted holds.number_held 4 ≡ 0 ∷ []) }
+    ensures template { (holds.attempted holds.template_held 5 ≡ []) × (holds.attempted holds.template_held 6 ≡ 0 ∷ []) }
+    ensures attribute { (holds.attempted holds.attribute_held 5 ≡ []) × (holds.attempted holds.attribute_held 6 ≡ 0 ∷ []) }
+{}
+
+/// Scripts on their places: each list of a parallel block has the variables for itself, and
+/// behind the block they are as before it; a name that a turn sets is the one that was there
+/// before the loop; and a false condition ends its block alone.
+pub fn scopes_of_scripts()
+    ensures apart { whole scripts.apart [] (scripts.at 1 [] ∷ scripts.at 2 [] ∷ scripts.at 3 (0 ∷ []) ∷ scripts.at 4 (1 ∷ []) ∷ scripts.at 5 (0 ∷ []) ∷ scripts.at 6 [] ∷ [])
+        ≡ Some (record {
+          items = Item.Nothing ∷ Item.Nothing ∷ Item.Nothing ∷ scripts.notify (codes "notify.b") 1 ∷ scripts.notify (codes "notify.a") 2 ∷ scripts.notify (codes "notify.c") 1 ∷ [];
+          status = Status.Done;
+        }) }
+    ensures raised { whole scripts.raised [] (scripts.at 1 [] ∷ scripts.at 2 [] ∷ scripts.at 3 [] ∷ scripts.at 4 [] ∷ scripts.at 5 [] ∷ [])
+        ≡ Some (record {
+          items = Item.Nothing ∷ Item.Nothing ∷ Item.Nothing ∷ Item.Nothing ∷ scripts.notify (codes "notify.x") 5 ∷ [];
+          status = Status.Done;
+        }) }
+    ensures false_condition { whole scripts.false_inside ((codes "n", scripts.number 4) ∷ []) (scripts.at 1 [] ∷ scripts.at 2 [] ∷ scripts.at 3 [] ∷ [])
+        ≡ Some (record { items = Item.Nothing ∷ Item.Nothing ∷ scripts.notify (codes "notify.x") 4 ∷ []; status = Status.Done }) }
+{}

@@ -1,5 +1,0 @@
-use Rattle.ha_model.proofs.OneAnswer as answer
-use Rattle.ha_model.proofs.laws.one_answer.Goals as goal
-
-pub returns : goal.returns
-returns c = answer.one_answer

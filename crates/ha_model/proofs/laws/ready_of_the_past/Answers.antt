@@ -1,5 +1,0 @@
-use Rattle.ha_model.proofs.PrefixLaws.{ready-prefix}
-use Rattle.ha_model.proofs.laws.ready_of_the_past.Goals as goal
-
-pub returns : goal.returns
-returns c = ready-prefix
