@@ -22,8 +22,3 @@ pub use command::read_cmd;
 pub use fault::{Code, FlowFault};
 pub use print::print_value;
 pub use read::read_value;
-
-#[cfg(test)]
-mod line_tests;
-#[cfg(test)]
-mod tests;

@@ -80,24 +80,3 @@ pub fn print_moment(alloc: Global, at: Moment) -> Result<Vec<u8>, ClockFault>
         Err(_) => Err(ClockFault::Memory),
     }
 }
-
-#[cfg(test)]
-mod tests {
-    use super::*;
-    use crate::read_moment;
-    use std::test::Fail;
-
-    #[test]
-    fn prints(rt: HostRuntime) -> Result<(), Fail> {
-        for (text, want) in [
-            ("1970-01-01T00:00:00Z", "1970-01-01T00:00:00.000Z"),
-            ("2024-02-29T12:34:56.7Z", "2024-02-29T12:34:56.700Z"),
-            ("2999-12-31T23:59:59.999Z", "2999-12-31T23:59:59.999Z"),
-        ] {
-            let at = read_moment(text.as_bytes()).ok_or("a moment")?;
-            let printed = print_moment(rt.alloc(), at).ok().ok_or("memory")?;
-            assert!(rt; printed.as_slice() == want.as_bytes());
-        }
-        Ok(())
-    }
-}

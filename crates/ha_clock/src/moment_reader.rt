@@ -130,30 +130,3 @@ pub fn read_moment(text: &[u8]) -> Option<Moment>
     let second = second_of(pair(text, 11), pair(text, 14), pair(text, 17));
     joined_moment(day, second, fraction_of(text))
 }
-
-#[cfg(test)]
-mod tests {
-    use super::*;
-
-    fn millis(text: &str) -> Option<u64> {
-        read_moment(text.as_bytes()).map(|at| at.millis())
-    }
-
-    #[test]
-    fn moments(rt: HostRuntime) {
-        for (text, want) in [
-            ("1970-01-01T00:00:00Z", Some(0)),
-            ("2024-03-31T00:59:59.5Z", Some(1_711_846_799_500)),
-            ("2024-02-29T00:00:00.25Z", Some(1_709_164_800_250)),
-            ("2999-12-31T23:59:59.999Z", Some(32_503_679_999_999)),
-            ("2023-02-29T00:00:00Z", None),
-            ("2024-03-31T00:59:60Z", None),
-            ("2024-03-31T00:59:59", None),
-            ("2024-03-31T00:59:59.Z", None),
-            ("2024-03-31T00:59:59.1234Z", None),
-            ("3000-01-01T00:00:00Z", None),
-        ] {
-            assert_eq!(rt; millis(text), want, "{text}");
-        }
-    }
-}

@@ -33,6 +33,3 @@ pub use place::{Opening, Place};
 pub use sink::Sink;
 pub use source::Source;
 pub use whole::{Unread, Unwritten, read_whole, write_whole};
-
-#[cfg(test)]
-mod tests;

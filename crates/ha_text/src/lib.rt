@@ -7,6 +7,3 @@ mod slugs;
 
 pub use lines::LineCut;
 pub use slugs::slug;
-
-#[cfg(test)]
-mod tests;

@@ -21,6 +21,3 @@ pub use outcome::Outcome;
 pub use status::Status;
 pub use top::{hearth, run_live};
 pub use words::{RunWords, WordsFault};
-
-#[cfg(test)]
-mod tests;

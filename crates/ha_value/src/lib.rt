@@ -21,6 +21,3 @@ pub use sqlite_items::Boxed;
 pub use truth::says_yes_text;
 pub use value::{EntityId, Num, Value, copy_pairs, copy_values, same_pairs, same_values};
 pub use word::{Word, WordFault};
-
-#[cfg(test)]
-mod tests;

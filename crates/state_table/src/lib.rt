@@ -7,6 +7,3 @@ mod names;
 mod table;
 
 pub use table::StateTable;
-
-#[cfg(test)]
-mod tests;

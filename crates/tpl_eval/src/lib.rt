@@ -17,10 +17,3 @@ mod within;
 
 pub use rendering::render;
 pub use states::function;
-
-#[cfg(test)]
-mod deep_tests;
-#[cfg(test)]
-mod tests;
-#[cfg(test)]
-mod text_tests;

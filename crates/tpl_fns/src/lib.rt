@@ -12,6 +12,3 @@ pub use filters::filter;
 pub use functions::{chosen, function_of_values};
 pub use outcome::{copied, given};
 pub use texts::{add, joined, printed, without_breaks, word};
-
-#[cfg(test)]
-mod tests;

@@ -18,6 +18,3 @@ mod token;
 
 pub use fault::ParseFault;
 pub use read::parse;
-
-#[cfg(test)]
-mod tests;

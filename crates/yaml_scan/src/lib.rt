@@ -17,6 +17,3 @@ pub use text::{
     is_blank_line, is_directive, is_mark, least, line_fault, lines, scan, without_start,
 };
 pub use words::{blanks, breaks, colon_at, is_blank, nothing_left, sees, trimmed};
-
-#[cfg(test)]
-mod tests;

@@ -22,6 +22,3 @@ pub use piece::{Piece, What};
 pub use pieces::Pieces;
 pub use starts::Start;
 pub use tree::read_tree;
-
-#[cfg(test)]
-mod tests;

@@ -1,8 +1,9 @@
-use crate::{Node, NodeKind, read_tree};
+//! The trees of YAML texts, and their nodes as texts and entity ids.
 use std::alloc::{AllocError, Global};
 use std::process::Abort;
 use std::test::Fail;
 use yaml_scan::{Code, YamlFault};
+use yaml_tree::{Node, NodeKind, read_tree};
 
 /// The line and the code's number of a text that is refused.
 fn refusal(alloc: Global, rt: &impl Abort, text: &[u8]) -> Option<(u32, u8)> {

@@ -1,5 +1,5 @@
-use super::*;
-use std::test::*;
+//! Faults of values: their places and their codes.
+use flow_line::{FlowFault, read_value};
 
 /// The place and number of the fault, and 0 where the text is a value.
 fn fault(rt: &HostRuntime, text: &[u8]) -> (u32, u8) {

@@ -1,5 +1,6 @@
-use crate::{Outcome, Status, hearth};
+//! The program over words and files in memory.
 use ha_io::{MemFile, MemKeeper, MemPlace, MemSink, OpenGate, have_distinct_names};
+use ha_top::{Outcome, Status, hearth};
 use std::alloc::{AllocError, Global};
 use std::process::Abort;
 use std::test::Fail;

@@ -1,7 +1,7 @@
-use super::*;
-use ha_value::Word;
+//! Slugs, and the lines of a stream that comes in pieces.
+use ha_text::{LineCut, slug};
 use std::alloc::{AllocError, Global};
-use std::test::*;
+use std::test::Fail;
 
 fn slug_is(rt: &HostRuntime, text: &[u8], wanted: &[u8]) -> bool {
     match slug(rt.alloc(), text) {

@@ -1,5 +1,6 @@
-use crate::StateTable;
+//! States and switches, changed one after the other.
 use ha_model::{Change, EntityId, Many, Moment, Num, Value, Word};
+use state_table::StateTable;
 use std::alloc::{AllocError, Global};
 use std::test::Fail;
 

@@ -1,5 +1,6 @@
-use crate::{Code, YamlFault, scan};
+//! The lines of a YAML text.
 use std::test::Fail;
+use yaml_scan::{Code, YamlFault, scan};
 
 #[test]
 fn lines_with_their_indents(rt: HostRuntime) -> Result<(), Fail> {

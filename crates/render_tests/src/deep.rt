@@ -1,10 +1,10 @@
 //! The longest chains that a template of 16,384 bytes can hold.
-use crate::render;
 use ha_model::{Many, Plain};
 use state_table::StateTable;
 use std::alloc::{AllocError, Global};
 use std::test::Fail;
 use std::thread::{Threads, join};
+use tpl_eval::render;
 use tpl_parse::parse;
 
 /// A text, a part so many times, another text, and as often what closes the part.

@@ -1,4 +1,5 @@
-use crate::{
+//! The forms of the outside, in memory and over the system.
+use ha_io::{
     DirPlace, FileKeeper, FileSink, Gate, Keeper, MemFile, MemKeeper, MemPlace, MemSink, MemSource,
     OpenGate, Place, Sink, Source, have_distinct_names,
 };

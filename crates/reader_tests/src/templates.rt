@@ -1,8 +1,8 @@
 //! Texts and their trees, written out by hand, and the places of faults.
-use super::*;
 use ha_model::{Boxed, Expr, Many, Num, Op, Piece, Plain, Template, Value, Word};
 use std::alloc::{AllocError, Global};
-use std::test::*;
+use std::test::Fail;
+use tpl_parse::{ParseFault, parse};
 
 fn name(alloc: Global, name: &str) -> Result<Boxed<Expr>, AllocError> {
     Boxed::new(alloc, Expr::Name(Word::from_str(alloc, name)?))

@@ -1,7 +1,8 @@
-use crate::{filter, function_of_values};
+//! Filters, and functions of values.
 use ha_model::{Many, Num, Plain, TplFault, Value, Word};
 use std::alloc::{AllocError, Global};
 use std::test::Fail;
+use tpl_fns::{filter, function_of_values};
 
 fn text(alloc: Global, text: &str) -> Result<Value, AllocError> {
     Ok(Value::Text(Word::from_str(alloc, text)?))

@@ -1,11 +1,11 @@
 //! Templates from their text to the rendered text.
 ghost use Rattle.std.specs.Prelude.{◌<◌, ◌^◌, length};
 
-use crate::render;
 use ha_model::{Many, TplFault, Value};
 use state_table::StateTable;
 use std::alloc::Global;
 use std::test::Fail;
+use tpl_eval::render;
 use tpl_parse::parse;
 
 /// Whether the text is a template that renders as this text.
@@ -40,12 +40,14 @@ fn faults(alloc: Global, text: &[u8]) -> bool
 fn arithmetic_is_rendered(rt: HostRuntime) -> Result<(), Fail> {
     let alloc = rt.alloc();
     assert!(rt; gives(alloc, b"{{ -7 // 2 }}", b"-4"));
+    assert!(rt; gives(alloc, b"{{ 7 // -2 }}", b"-4"));
     assert!(rt; gives(alloc, b"{{ -7 % 3 }}", b"2"));
     assert!(rt; gives(alloc, b"{{ 7 / 2 }}", b"3.5"));
     assert!(rt; gives(alloc, b"{{ 10 / 3 }}", b"3.333333"));
     assert!(rt; gives(alloc, b"{{ 6 / 2 }}", b"3.0"));
     assert!(rt; faults(alloc, b"{{ 1000000000000 + 1 }}"));
     assert!(rt; faults(alloc, b"{{ 1 // 0 }}"));
+    assert!(rt; faults(alloc, b"{{ 7 / 0 }}"));
     Ok(())
 }
 

@@ -1,6 +1,5 @@
-//! Worked values, and each public call once with ample memory.
-
-use crate::{
+//! Worked numbers, texts, ids and lists, and each public call once with ample memory.
+use ha_value::{
     Boxed, EntityFault, EntityId, Many, Num, NumFault, Plain, Value, Word, WordFault, says_yes_text,
 };
 use std::cmp::Ordering;

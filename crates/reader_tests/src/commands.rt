@@ -1,7 +1,7 @@
 //! Commands and printed values. What is wanted stands in the formats' own words.
-use super::*;
+use flow_line::{print_value, read_cmd, read_value};
 use ha_model::Cmd;
-use std::test::*;
+use std::test::Fail;
 
 /// The code of a refused line, and 0 where it is a command.
 fn refusal(rt: &HostRuntime, line: &[u8]) -> Result<u8, Fail> {
