@@ -1,4 +1,5 @@
 -- The journal of a hall light that goes out after two minutes.
+use Rattle.ha_laws.proofs.AsciiTexts.{on-utf8, off-utf8}
 use Rattle.std.proofs.Common.{◌≡◌, [], ◌∷◌, true, refl, arith, inl}
 use Rattle.std.specs.Prelude.{Some, None}
 use Rattle.ha_model.specs.declared.journal.Item.{Item}
@@ -24,9 +25,9 @@ it_is_right = record {
   entries = (
     tt,
     (
-      ((refl, λ h. cc), omega arith, (refl, omega arith)),
+      ((refl, λ h. cc), off-utf8, omega arith, (refl, refl, omega arith)),
       (
-        ((refl, λ h. cc), omega arith, (refl, omega arith)),
+        ((refl, λ h. cc), on-utf8, omega arith, (refl, refl, omega arith)),
         (
           (the_record, refl, refl, record { runs = refl; item_is = simp rolls }),
           (

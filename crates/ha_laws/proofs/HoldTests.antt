@@ -30,10 +30,10 @@ unfolding read_number to_whole read_entity says_yes_text
 template-fires = simp (rolls, out-roll-Value, outs-Text, outs-Number, outs-Flag)
 
 pub attribute-too-soon : attempted attribute_held 5 ≡ []
-attribute-too-soon = simp rolls
+attribute-too-soon = simp (rolls, out-roll-Value)
 
 pub attribute-fires : attempted attribute_held 6 ≡ 0 ∷ []
-attribute-fires = simp rolls
+attribute-fires = simp (rolls, out-roll-Value)
 
 pub one-at-a-time : records_of queue_of_one ≡ queue_run 1 2 (Some (5, EndCause.Done)) 1 ∷ queue_run 2 7 None 0 ∷ []
 unfolding read_entity

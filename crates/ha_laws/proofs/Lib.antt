@@ -23,3 +23,4 @@ pub mod RightMore
 pub mod HoldTests
 pub mod OrderLaws
 pub mod IdleLines
+pub mod AsciiTexts

@@ -19,7 +19,7 @@ use Rattle.ha_model.specs.NextPlace.{next_item}
 use Rattle.ha_model.specs.Lawful.{is_running, IsRightEntry, ready, pick, is_line_of, is_empty, is_quiet, is_rested, is_by_worker_0, IsTurn, IsDue, Lawful}
 use Rattle.ha_model.proofs.AppendLemmas.{append-nil, SameRun, SameUpTo, ready-same}
 use Rattle.ha_model.proofs.RecordGrowth.{HasEntry, true-false}
-use Rattle.ha_model.proofs.LawfulLaws.{none-some, rested-same}
+use Rattle.ha_model.proofs.LawfulLaws.{none-some, some-same, rested-same}
 use Rattle.ha_model.proofs.StepLaws.{ran-step}
 use Rattle.ha_laws.proofs.PrefixLaws.{records-prefix, has-more}
 

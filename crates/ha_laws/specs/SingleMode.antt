@@ -10,6 +10,7 @@ use Rattle.ha_model.specs.Words.{last_of}
 use Rattle.ha_model.specs.Scripts.{Branch}
 use Rattle.ha_model.specs.Waits.{next_spot}
 use Rattle.ha_model.specs.declared.journal.Item.{Item}
+use Rattle.ha_model.specs.NextPlace.{next_end}
 use Rattle.ha_model.specs.declared.journal.EndCause.{EndCause}
 
 -- all automations are of mode single

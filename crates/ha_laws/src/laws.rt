@@ -45,6 +45,9 @@ ghost use Rattle.ha_model.specs.Lawful.{Right, Lawful, Running, IsRightEntry, Is
 pub fn one_answer()
     ensures put { (boot : Entry) (xs ys : Journal) (rs rs' : Records) → Lawful (boot ∷ xs) rs → Lawful (boot ∷ ys) rs'
         → makers xs ≡ makers ys → ((q : ℕ) → cmds_of q xs ≡ cmds_of q ys) → (xs ≡ ys) × (rs ≡ rs') }
+    ensures read { (boot : Entry) (xs ys : Journal) (rs rs' : Records) → Lawful (boot ∷ xs) rs → Lawful (boot ∷ ys) rs'
+        → makers xs ≡ makers ys → (read : ℕ → List Cmd) → ((q : ℕ) → ArePutFrom q (boot ∷ xs) (read q)) → ((q : ℕ) → ArePutFrom q (boot ∷ ys) (read q))
+        → (xs ≡ ys) × (rs ≡ rs') }
 {}
 
 /// With one source alone, at most one journal with that first entry and those lines is lawful and
