@@ -1,5 +1,8 @@
 //! How a run of the program ended.
 
+ghost use Rattle.std.specs.Prelude.{◌≡◌};
+ghost use Rattle.ha_top.specs.StatusLine.{status_number};
+
 use ha_value::Word;
 
 /// How a run of the program ended. `number` is the status that the process ends with.
@@ -25,7 +28,10 @@ pub enum Status {
 
 impl Status {
     /// The number that the process ends with.
-    pub fn number(&self) -> u8 {
+    #[tactic(auto, unfolding(crate::specs::StatusLine::status_number))]
+    pub fn number(&self) -> u8
+        ensures { result ≡ status_number self.now }
+    {
         match self {
             Status::Ok => 0,
             Status::Usage => 1,
