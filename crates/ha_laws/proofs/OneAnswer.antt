@@ -23,7 +23,6 @@ use Rattle.ha_model.proofs.LawfulLaws.{none-some, some-same, rested-same}
 use Rattle.ha_model.proofs.StepLaws.{ran-step}
 use Rattle.ha_laws.proofs.PrefixLaws.{records-prefix, has-more}
 
-
 abbrev tail_of : {X : Type 0} → List X → List X
 tail_of [] = []
 tail_of (x ∷ xs) = xs

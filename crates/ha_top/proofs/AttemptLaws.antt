@@ -23,7 +23,7 @@ use Rattle.ha_model.specs.Scripts.{Branch}
 use Rattle.ha_model.specs.Journal.{Journal, HasEntry, now}
 use Rattle.ha_model.specs.Switches.{is_on, since}
 use Rattle.ha_model.specs.States.{states, reported}
-use Rattle.ha_model.specs.Triggers.{state_moves, state_value, head_pairs, fired_from, variables}
+use Rattle.ha_model.specs.Triggers.{Fired, state_moves, state_value, head_pairs, fired_from, variables, firing_for}
 use Rattle.ha_model.specs.Attempts.{Attempt, attempt_for, fired_for, attempts, passes}
 use Rattle.ha_model.specs.Records.{passing, or_else}
 use Rattle.ha_model.specs.RecordSteps.{more}
