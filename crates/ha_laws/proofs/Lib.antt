@@ -21,3 +21,5 @@ pub mod PlainLine
 pub mod ReadLines
 pub mod RightMore
 pub mod HoldTests
+pub mod OrderLaws
+pub mod IdleLines

@@ -36,9 +36,9 @@ abbrev pub SortedFrom : ℕ → Records → Type 0
 SortedFrom m [] = Unit {0}
 SortedFrom m (r ∷ rs) = (m ≤ r.place) × SortedFrom r.place rs
 
-record SortedTo (n : ℕ) (rs : Records) : Type 0 where
-  sorted : SortedFrom 0 rs
-  within : AllBelow n rs
+pub record SortedTo (n : ℕ) (rs : Records) : Type 0 where
+  pub sorted : SortedFrom 0 rs
+  pub within : AllBelow n rs
 
 sorted-snoc : (m n : ℕ) (rs : Records) (r : Record) → m ≤ n → SortedFrom m rs → AllBelow (suc n) rs → r.place ≡ n → SortedFrom m (rs ++ (r ∷ []))
 sorted-snoc m n [] r le h b e = (omega (arith, e), tt)
@@ -60,7 +60,7 @@ sorted-admitted k p e rs (x ∷ xs) h = sorted-admitted k p e (if lets_in_after 
     by true = record { sorted = sorted-snoc 0 p rs (new_record k rs x) (omega arith) h.sorted h.within e; within = within-snoc (suc p) rs (new_record k rs x) h.within (omega (arith, e)) }
     by false = h
 
-sorted-bare : (j : Journal) (n : ℕ) → n ≤ length j → SortedTo n (bare_below j n)
+pub sorted-bare : (j : Journal) (n : ℕ) → n ≤ length j → SortedTo n (bare_below j n)
 sorted-bare j zero le = record { sorted = tt; within = tt }
 sorted-bare j (suc p) le =
     let before = sorted-bare j p (omega arith) in

@@ -7,3 +7,5 @@ pub mod WorkedHall
 pub mod WorkedModes
 pub mod WorkedScripts
 pub mod WorkedHolds
+pub mod Order
+pub mod IdleLines

@@ -31,6 +31,8 @@ ghost use Rattle.ha_laws.specs.WorkedModes as modes;
 ghost use Rattle.ha_laws.specs.WorkedScripts as scripts;
 ghost use Rattle.ha_laws.specs.WorkedHolds as holds;
 ghost use Rattle.ha_model.specs.Waits.{next_spot};
+ghost use Rattle.ha_laws.specs.IdleLines.{IsIdle, NothingChanges};
+ghost use Rattle.ha_laws.specs.Order.{InOrder};
 ghost use Rattle.ha_laws.specs.OneCall.{IsCallable, call_made, one_call};
 ghost use Rattle.ha_laws.specs.OneRun.{AllEnded, IsBegun, SameNumbers};
 ghost use Rattle.ha_model.specs.declared.config.Mode.{Mode};
@@ -131,6 +133,18 @@ pub fn records_by_the_rules()
     ensures rules { (j : Journal) (rs : Records) → Right j rs → ByTheRules j rs }
     ensures only { (j : Journal) (rs : Records) → ByTheRules j rs → EachAfter (IsRightEntry rs) [] j → rs ≡ records_of j }
     ensures near { (j : Journal) (rs : Records) → Right j rs → AreNear j [] rs }
+{}
+
+/// A line that was refused, or that says that its source failed or gave too much, changes no
+/// state, no present moment, no switch and no run, and asks for none.
+pub fn idle_lines_change_nothing()
+    ensures { (j : Journal) (source number : ℕ) (cmd : Cmd) → HasEntry j → IsIdle cmd → NothingChanges j (more j (Line source number cmd)) }
+{}
+
+/// On a right journal the runs of an automation of mode queued end in their order: behind a live
+/// one none has ended.
+pub fn queued_runs_end_in_order()
+    ensures { (j : Journal) (rs : Records) → Right j rs → InOrder (automations j) rs }
 {}
 
 /// The calls, the errors and the trace of a journal with one more entry, and the lines of a
