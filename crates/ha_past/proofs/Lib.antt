@@ -1,0 +1,5 @@
+pub mod ListLemmas
+pub mod PastLemmas
+pub mod FiringLemmas
+pub mod HoldLaws
+pub mod EntryLaws
