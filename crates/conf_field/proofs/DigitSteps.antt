@@ -35,9 +35,9 @@ unfolding number_from
 capped most n [] = ap Some (omega arith)
 capped most n (b ∷ text) =
     on_digit (is_ascii_digit b) most (number_from (n * 10 + (b - 48)) text) (number_from (min most n * 10 + (b - 48)) text)
-      (capped most (n * 10 + (b - 48)) text
-      ∙ ap (λ k. counted_from most k text) (let e : min most (n * 10 + (b - 48)) ≡ min most (min most n * 10 + (b - 48)) = omega arith in e)
-      ∙ sym (capped most (min most n * 10 + (b - 48)) text))
+    (capped most (n * 10 + (b - 48)) text
+    ∙ ap (λ k. counted_from most k text) (let e : min most (n * 10 + (b - 48)) ≡ min most (min most n * 10 + (b - 48)) = omega arith in e)
+    ∙ sym (capped most (min most n * 10 + (b - 48)) text))
 
 digit-step : (most : ℕ) (text : List ℕ) (n i : ℕ) → i < length text → is_ascii_digit (get_or text i 0) ≡ true
     → counted_from most n (drop i text) ≡ counted_from most (n * 10 + (get_or text i 0 - 48)) (drop (i + 1) text)

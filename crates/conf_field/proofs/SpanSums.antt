@@ -26,11 +26,23 @@ module _ (d h m s ms : ℕ) where
 
   stays_over : last_span < sum → last_span < capped_sum
   stays_over lt =
-      elim (bigger d) [ inr e ↦ omega arith | inl d-is ↦
-      elim (bigger h) [ inr e ↦ omega arith | inl h-is ↦
-      elim (bigger m) [ inr e ↦ omega arith | inl m-is ↦
-      elim (bigger s) [ inr e ↦ omega arith | inl s-is ↦
-      elim (bigger ms) [ inr e ↦ omega arith | inl ms-is ↦ omega (arith, d-is, h-is, m-is, s-is, ms-is, lt) ] ] ] ] ]
+      elim (bigger d) [
+        | inr e ↦ omega arith
+        | inl d-is ↦
+            elim (bigger h) [
+              | inr e ↦ omega arith
+              | inl h-is ↦
+                  elim (bigger m) [
+                    | inr e ↦ omega arith
+                    | inl m-is ↦
+                        elim (bigger s) [
+                          | inr e ↦ omega arith
+                          | inl s-is ↦
+                              elim (bigger ms) [ inr e ↦ omega arith | inl ms-is ↦ omega (arith, d-is, h-is, m-is, s-is, ms-is, lt) ]
+                        ]
+                  ]
+            ]
+      ]
 
   stays_same : sum ≤ last_span → capped_sum ≡ sum
   stays_same le =
@@ -43,8 +55,9 @@ module _ (d h m s ms : ℕ) where
 
   same_test : nat_lt last_span capped_sum ≡ nat_lt last_span sum
   same_test = elim (cases_lt last_span sum) [
-      inl lt ↦ lt-ltb last_span capped_sum (stays_over lt) ∙ sym (lt-ltb last_span sum lt)
-    | inr le ↦ ap (nat_lt last_span) (stays_same le) ]
+    | inl lt ↦ lt-ltb last_span capped_sum (stays_over lt) ∙ sym (lt-ltb last_span sum lt)
+    | inr le ↦ ap (nat_lt last_span) (stays_same le)
+  ]
 
 -- ---- readings
 
@@ -87,13 +100,13 @@ sum_known d h m s ms =
     agree_behind (λ y. sum_of (a, (b, y))) (λ y. all) m (both s ms) (λ c m-is.
     agree_behind (λ y. sum_of (a, (b, (c, y)))) (λ y. all) s ms (λ e s-is.
     agree (λ y. sum_of (a, (b, (c, (e, y))))) (λ y. all) ms (λ f ms-is.
-      λ k. total (or_zero (sym d-is k)) (or_zero (sym h-is k)) (or_zero (sym m-is k)) (or_zero (sym s-is k)) (or_zero (sym ms-is k)))))))
+    λ k. total (or_zero (sym d-is k)) (or_zero (sym h-is k)) (or_zero (sym m-is k)) (or_zero (sym s-is k)) (or_zero (sym ms-is k)))))))
 
 -- one limit, by whether it is passed
 limited : {A B : Type 0} (over : Bool) (line n k : ℕ) (f : A → ℕ) (g : A → B) (r : Read A)
     → (over ≡ false → k ≡ n) → made f r ≡ made (λ x. n) r
     → made (λ x. f x.1) (both (unless (if over then Some (fault line code.Time) else None)) r)
-      ≡ made (λ x. x.0) (both (if over then bad line code.Time else Ok k) (made g r))
+    ≡ made (λ x. x.0) (both (if over then bad line code.Time else Ok k) (made g r))
 limited true line n k f g (Ok x) e h = refl
 limited true line n k f g (Err x) e h = refl
 limited false line n k f g (Ok x) e h = h ∙ ap Ok (sym (e refl))

@@ -119,7 +119,10 @@ pub fn keep<A: Drop>(
 }
 
 /// One alone, where it is there.
-pub fn alone<A: Drop>(alloc: Global, item: Result<Option<A>, YamlFault>) -> Result<Many<A>, YamlFault>
+pub fn alone<A: Drop>(
+    alloc: Global,
+    item: Result<Option<A>, YamlFault>,
+) -> Result<Many<A>, YamlFault>
     ensures { (m : readings.Read (Option A)) → Gives m item → Gives (readings.alone m) result }
 {
     match item {

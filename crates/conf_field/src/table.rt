@@ -129,7 +129,11 @@ pub fn keys(common: &[Row], own: &[Row], pairs: &[Pair]) -> Result<(), YamlFault
 pub(crate) fn place(pair: &Pair) -> u32
     ensures { result ≡ fields.place pair.now }
 {
-    if pair.2.is_null() { pair.1 } else { pair.2.line }
+    if pair.2.is_null() {
+        pair.1
+    } else {
+        pair.2.line
+    }
 }
 
 /// A field's value.
@@ -168,7 +172,11 @@ pub fn needed<K: Kind>(
 }
 
 /// A field that may be there.
-pub fn optional<K: Kind>(alloc: Global, pairs: &[Pair], row: Row) -> Result<Option<K::Made>, YamlFault>
+pub fn optional<K: Kind>(
+    alloc: Global,
+    pairs: &[Pair],
+    row: Row,
+) -> Result<Option<K::Made>, YamlFault>
     ensures { Gives (fields.optional K.meaning (fields.field row pairs.now)) result }
 {
     match field(pairs, row) {

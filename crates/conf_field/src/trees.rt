@@ -55,7 +55,11 @@ fn made_map<B: Build>(pairs: Result<Many<(Word, B::Made)>, YamlFault>) -> Result
 }
 
 /// A value with its key.
-fn with_key<A: Drop>(alloc: Global, key: &Word, value: Result<A, YamlFault>) -> Result<(Word, A), YamlFault>
+fn with_key<A: Drop>(
+    alloc: Global,
+    key: &Word,
+    value: Result<A, YamlFault>,
+) -> Result<(Word, A), YamlFault>
     ensures { (m : readings.Read A) → Gives m value → Gives (readings.made (λ v. (key.now, v)) m) result }
 {
     match value {
@@ -93,7 +97,10 @@ pub fn items_of<B: Build>(items: &[Node], alloc: Global) -> Result<Many<B::Made>
 
 #[cycle(tree)]
 #[tactic(auto, unfolding(crate::specs::Readings::each_behind))]
-pub fn fields_of<B: Build>(pairs: &[Pair], alloc: Global) -> Result<Many<(Word, B::Made)>, YamlFault>
+pub fn fields_of<B: Build>(
+    pairs: &[Pair],
+    alloc: Global,
+) -> Result<Many<(Word, B::Made)>, YamlFault>
     ensures { Gives (trees.fields_of (trees.tree B.leaf B.listed B.mapped) pairs.now) result }
 {
     let mut found = Ok(Many::make(alloc));
@@ -105,7 +112,11 @@ pub fn fields_of<B: Build>(pairs: &[Pair], alloc: Global) -> Result<Many<(Word, 
 }
 
 /// A map of values of any shape, or null for none.
-pub fn data_of<B: Build>(alloc: Global, line: u32, node: &Node) -> Result<Many<(Word, B::Made)>, YamlFault>
+pub fn data_of<B: Build>(
+    alloc: Global,
+    line: u32,
+    node: &Node,
+) -> Result<Many<(Word, B::Made)>, YamlFault>
     ensures { Gives (trees.data_of (trees.tree B.leaf B.listed B.mapped) line node.now) result }
 {
     match &node.kind {

@@ -219,9 +219,10 @@ order-prefix all live (r ∷ rs) new h = (h.0, order-prefix all (λ a. is_live a
 order-before : (all : List Automation) (a q : ℕ) → mode_of all a ≡ Mode.Restart → (live' live : ℕ → Bool) (rs : Records) → ((b : ℕ) → mode_of all b ≡ Mode.Queued → live' b ≡ live b)
     → InOrderBehind all live' (replace_all a q rs) → InOrderBehind all live rs
 order-before all a q restart live' live [] same h = tt
-order-before all a q restart live' live (r ∷ rs) same h =
-    (λ queued alive. sym (replaced-queued all q a restart r queued) ∙ h.0 queued (same r.automation queued ∙ alive),
-    order-before all a q restart (λ b. is_live b (ends_for q (if nat_eq r.automation a then Some EndCause.Replaced else None) r) || live' b) (λ b. is_live b r || live b) rs (λ b queued. more b queued (nat_eq r.automation b) refl) h.1)
+order-before all a q restart live' live (r ∷ rs) same h = (
+  λ queued alive. sym (replaced-queued all q a restart r queued) ∙ h.0 queued (same r.automation queued ∙ alive),
+  order-before all a q restart (λ b. is_live b (ends_for q (if nat_eq r.automation a then Some EndCause.Replaced else None) r) || live' b) (λ b. is_live b r || live b) rs (λ b queued. more b queued (nat_eq r.automation b) refl) h.1,
+)
   where
     more : (b : ℕ) → mode_of all b ≡ Mode.Queued → (c : Bool) → nat_eq r.automation b ≡ c
         → ((c && is_none (or_else r.end (option_map {T = EndCause} (λ c. (q, c)) (if nat_eq r.automation a then Some EndCause.Replaced else None)))) || live' b) ≡ ((c && is_none r.end) || live b)

@@ -186,12 +186,16 @@ step-counted j w s branch item (r ∷ rs) made h = by (step-counted j w s branch
     back false e = search (rules, e)
 
     by : AllCounted (more j (Step w s branch item)) (called_on s rs) → (b : Bool) → nat_eq r.serial s ≡ b → AllCounted (more j (Step w s branch item)) ((if b then record r { calls = suc r.calls } else r) ∷ called_on s rs)
-    by ih true e =
-        (let one : suc (calls_of j r.serial) ≡ calls_of j r.serial + 1 = omega arith in
-        ap suc h.0 ∙ one ∙ (λ i. calls_of j r.serial + cond (sym (back true e) i && sym made i) 1 0) ∙ sym (calls-more j (Step w s branch item) r.serial), ih)
-    by ih false e =
-        (let one : calls_of j r.serial ≡ calls_of j r.serial + 0 = omega arith in
-        h.0 ∙ one ∙ (λ i. calls_of j r.serial + cond (sym (back false e) i && is_call item) 1 0) ∙ sym (calls-more j (Step w s branch item) r.serial), ih)
+    by ih true e = (
+      let one : suc (calls_of j r.serial) ≡ calls_of j r.serial + 1 = omega arith in
+          ap suc h.0 ∙ one ∙ (λ i. calls_of j r.serial + cond (sym (back true e) i && sym made i) 1 0) ∙ sym (calls-more j (Step w s branch item) r.serial),
+      ih,
+    )
+    by ih false e = (
+      let one : calls_of j r.serial ≡ calls_of j r.serial + 0 = omega arith in
+          h.0 ∙ one ∙ (λ i. calls_of j r.serial + cond (sym (back false e) i && is_call item) 1 0) ∙ sym (calls-more j (Step w s branch item) r.serial),
+      ih,
+    )
 
 -- ---- the stops
 

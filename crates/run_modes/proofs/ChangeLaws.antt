@@ -73,8 +73,8 @@ module _ (place : ℕ) (cause : EndCause) where
   -- a record with a serial of its own is the same
   stays : (serial : ℕ) (next : Option ℕ) (r : Record) → nat_eq r.serial serial ≡ false → option_map_or (nat_eq r.serial) next false ≡ false → r ≡ after_end serial place cause next r
   stays serial next r e f = sym (
-    ap (λ b. if b then record r { end = Some (place, cause) } else (if option_map_or (nat_eq r.serial) next false then begins_at place r else r)) e
-    ∙ ap (λ b. if b then begins_at place r else r) f)
+      ap (λ b. if b then record r { end = Some (place, cause) } else (if option_map_or (nat_eq r.serial) next false then begins_at place r else r)) e
+      ∙ ap (λ b. if b then begins_at place r else r) f)
 
   all-stay : (serial n : ℕ) (next : Option ℕ) (rs : Records) (i : ℕ) → serial ≤ n → IsWithin n next → AreNumbered n rs → slice_get rs i ≡ option_map (after_end serial place cause next) (slice_get rs i)
   all-stay serial n next [] i le within h = refl
@@ -105,8 +105,8 @@ module _ (place : ℕ) (cause : EndCause) where
           → slice_get (if live then begins_at place r ∷ rs else r ∷ begin_first a place rs) i
           ≡ option_map (after_end serial place cause (if live then (if unbegun then Some r.serial else None) else waiting_first a rs)) (slice_get (r ∷ rs) i)
       by true true e zero later = ap (λ x. Some x) (sym (
-        ap (λ b. if b then record r { end = Some (place, cause) } else (if nat_eq r.serial r.serial then begins_at place r else r)) other
-        ∙ ap (λ b. if b then begins_at place r else r) itself))
+          ap (λ b. if b then record r { end = Some (place, cause) } else (if nat_eq r.serial r.serial then begins_at place r else r)) other
+          ∙ ap (λ b. if b then begins_at place r else r) itself))
       by true true e (suc i) later = all-stay serial (suc n) (Some r.serial) rs i (omega arith) (omega (arith, h.0)) h.1
       by true false e zero later = ap (λ x. Some x) (begun r.begin r refl e ∙ stays serial None r other refl)
       by true false e (suc i) later = all-stay serial (suc n) None rs i (omega arith) tt h.1

@@ -127,8 +127,8 @@ module _ (p : ℕ) (cause : EndCause) where
     omega (arith, h.1),
     omega (arith, h.2),
     λ q is.
-    let one = h.3 q is in
-    ((λ k. if e k then ends y ∷ begin_first y.automation p ys else y ∷ ended_at s p cause ys) ∙ ap (λ t. y ∷ t) one.0, (λ k. if e k then waiting_first y.automation ys else begun_by s ys) ∙ one.1),
+        let one = h.3 q is in
+        ((λ k. if e k then ends y ∷ begin_first y.automation p ys else y ∷ ended_at s p cause ys) ∙ ap (λ t. y ∷ t) one.0, (λ k. if e k then waiting_first y.automation ys else begun_by s ys) ∙ one.1),
   )
 
   run-ended : (a n i : ℕ) (rs : Records) (r : Record) → AreNumbered n rs → slice_get rs i ≡ Some r → r.automation ≡ a → r.end ≡ None → Ended a n r.serial i rs r (first_of (behind r.serial (live_of a rs)))

@@ -79,7 +79,6 @@ module _ (a : ℕ) (undo : Bool) (p : ℕ) (cause : EndCause) where
           some f = cc
       by ih false f = ap (λ t. y ∷ t) (ih f)
 
-
   pub first-within : (s : ℕ) (ss : List ℕ) (rs : Records) → AreNumbered 0 rs → live_of a rs ≡ s ∷ ss → (1 ≤ s) × (s - 1 < length rs)
   first-within s ss rs numbered e = (let first = first-ends 0 s ss rs numbered e in (omega (arith, first.serial), omega (arith, first.serial, first.within)))
 
@@ -95,8 +94,7 @@ first-ended a undo p cause s ss rs rs' numbered e written =
     let first = first-ends a undo p cause 0 s ss rs numbered e in
     let here : first.at ≡ s - 1 = omega (arith, first.serial) in
     let one = record-at first.at rs first.within in
-    let is : rs' ≡ set rs first.at (end_one undo p cause one.0) = written one.0 (subst (λ i. one.0 ≡ get_or rs i one.0) here one.1) ∙ (λ i. set rs (sym here i) (end_one undo p cause one.0)) in
-    (
+    let is : rs' ≡ set rs first.at (end_one undo p cause one.0) = written one.0 (subst (λ i. one.0 ≡ get_or rs i one.0) here one.1) ∙ (λ i. set rs (sym here i) (end_one undo p cause one.0)) in (
       ap (ended_live a undo p cause) is ∙ first.same one.0 one.1,
       sym (first.live one.0 one.1) ∙ ap (live_of a) (sym is),
       subst (AreNumbered 0) (sym is) (first.numbered one.0 one.1),

@@ -25,19 +25,19 @@ returns c =
     let Whole : Read ℕ → Type 0 = λ r. Gives r c.first.result in
     let weighed = total (or_zero (at_cap d)) (or_zero (at_cap h)) (or_zero (at_cap m)) (or_zero (at_cap s)) (or_zero (at_cap ms)) in
     let sum : c.total-sum.result ≡ weighed =
-        c.total-sum.ensures
-        ∙ (λ k. total ((c.weight.ensures.value ∙ ap or_zero c.part-days.ensures.value) k) ((c.weight-2.ensures.value ∙ ap or_zero c.part-hours.ensures.value) k)
-            ((c.weight-3.ensures.value ∙ ap or_zero c.part-minutes.ensures.value) k) ((c.weight-4.ensures.value ∙ ap or_zero c.part-seconds.ensures.value) k)
-            ((c.weight-5.ensures.value ∙ ap or_zero c.part-milliseconds.ensures.value) k)) in
+    c.total-sum.ensures
+    ∙ (λ k. total ((c.weight.ensures.value ∙ ap or_zero c.part-days.ensures.value) k) ((c.weight-2.ensures.value ∙ ap or_zero c.part-hours.ensures.value) k)
+    ((c.weight-3.ensures.value ∙ ap or_zero c.part-minutes.ensures.value) k) ((c.weight-4.ensures.value ∙ ap or_zero c.part-seconds.ensures.value) k)
+    ((c.weight-5.ensures.value ∙ ap or_zero c.part-milliseconds.ensures.value) k)) in
     let last = both (at_cap s) (at_cap ms) in
     let from-minutes = both (at_cap m) last in
     let from-hours = both (at_cap h) from-minutes in
     let rest = both (at_cap d) from-hours in
     subst Whole (sym (parts_capped line d h m s ms))
-      (c.first.ensures (both (bounded line weighed) rest)
-        (c.both-3.ensures (bounded line weighed) rest (subst Sum sum c.bounded.ensures)
-          (c.both-rest.ensures (at_cap d) from-hours (subst Told-days c.part-days.ensures.value c.told-3.ensures)
-            (c.both-2.ensures (at_cap h) from-minutes (subst Told-hours c.part-hours.ensures.value c.told-4.ensures)
-              (c.both.ensures (at_cap m) last (subst Told-minutes c.part-minutes.ensures.value c.told-5.ensures)
-                (c.both-last.ensures (at_cap s) (at_cap ms) (subst Told-seconds c.part-seconds.ensures.value c.told.ensures)
-                  (subst Told-milliseconds c.part-milliseconds.ensures.value c.told-2.ensures)))))))
+    (c.first.ensures (both (bounded line weighed) rest)
+    (c.both-3.ensures (bounded line weighed) rest (subst Sum sum c.bounded.ensures)
+    (c.both-rest.ensures (at_cap d) from-hours (subst Told-days c.part-days.ensures.value c.told-3.ensures)
+    (c.both-2.ensures (at_cap h) from-minutes (subst Told-hours c.part-hours.ensures.value c.told-4.ensures)
+    (c.both.ensures (at_cap m) last (subst Told-minutes c.part-minutes.ensures.value c.told-5.ensures)
+    (c.both-last.ensures (at_cap s) (at_cap ms) (subst Told-seconds c.part-seconds.ensures.value c.told.ensures)
+    (subst Told-milliseconds c.part-milliseconds.ensures.value c.told-2.ensures)))))))

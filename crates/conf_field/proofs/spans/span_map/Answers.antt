@@ -14,5 +14,5 @@ returns c =
     let some = unless (none_there c.args.line pairs) in
     let all = all_parts c.args.line pairs in
     c.third.ensures (both known (both some all))
-      (c.both-2.ensures known (both some all) c.keys-known.ensures
-        (c.both.ensures some all (subst P c.none_there.ensures c.unless-some.ensures) c.parts.ensures))
+    (c.both-2.ensures known (both some all) c.keys-known.ensures
+    (c.both.ensures some all (subst P c.none_there.ensures c.unless-some.ensures) c.parts.ensures))

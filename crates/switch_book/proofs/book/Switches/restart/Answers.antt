@@ -8,7 +8,7 @@ use Rattle.switch_book.proofs.book.Switches.restart.Goals as goal
 pub returns-clause-stands : goal.returns-clause-stands
 returns-clause-stands c =
     rw (← c.self.view_is) (
-      restarted-stands c.self.inside.switches.items c.restart_all.new.switches.items c.args.config.now
-      (λ a. c.restart_all.ensures.flags a ∙ ap (λ all. option_map (λ before. unwrap_or (initial_of all a) before) (slice_get (flags c.self.inside.switches.items) a)) c.as_slice.ensures)
-      c.restart_all.ensures.names
+    restarted-stands c.self.inside.switches.items c.restart_all.new.switches.items c.args.config.now
+    (λ a. c.restart_all.ensures.flags a ∙ ap (λ all. option_map (λ before. unwrap_or (initial_of all a) before) (slice_get (flags c.self.inside.switches.items) a)) c.as_slice.ensures)
+    c.restart_all.ensures.names
     )
