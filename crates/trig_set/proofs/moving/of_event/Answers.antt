@@ -1,0 +1,21 @@
+use Rattle.std.proofs.Common.{◌∙◌, ap, sym}
+use Rattle.std.specs.Prelude.{◌&&◌}
+use Rattle.std.specs.List.{list_all}
+use Rattle.std.specs.Option.{option_copied}
+use Rattle.ha_model.specs.Triggers.{pair_holds}
+use Rattle.ha_model.specs.Words.{one_of}
+use Rattle.trig_set.proofs.OnLemmas.{ok-then}
+use Rattle.trig_set.proofs.MovedLemmas.{event-told}
+use Rattle.trig_set.proofs.moving.of_event.Goals as goal
+
+pub returns : goal.returns
+returns c =
+    ok-then _ _ c.of_named.result
+    (λ v e b a j.
+    e
+    ∙ event-told b a j c.args.entry.now c.args.trigger.now c.in-Event.kinds c.in-Event.pairs c.in-Event.is _ _ _
+    (sym (ap option_copied c.in-Some.is) ∙ c.kind_in.ensures)
+    (sym (ap option_copied c.in-Some-data_in.is) ∙ c.data_in.ensures)
+    (c.is_named-named.ensures
+    ∙ (λ i. one_of c.in-Some.kind.now (c.as_slice.ensures i) && list_all (pair_holds (c.as_slice-3.ensures i)) (c.as_slice-2.ensures i))))
+    c.of_named.ensures

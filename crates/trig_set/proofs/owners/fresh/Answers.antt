@@ -1,0 +1,24 @@
+use Rattle.std.proofs.Common.{◌≡◌, ◌∙◌, ◌++◌, [], ap, sym, subst, map, true}
+use Rattle.ha_model.specs.Sound.{is_short, is_sound_trigger}
+use Rattle.std.specs.List.{list_all}
+use Rattle.trig_set.specs.Blank.{are_blank}
+use Rattle.trig_set.specs.Kept.{AreTimed, place_of, places_of}
+use Rattle.trig_set.proofs.NoteLemmas.{places-alike}
+use Rattle.trig_set.proofs.BlankLemmas.{both, sound-well, blank-kept, blank-timed}
+use Rattle.trig_set.specs.Stands.{OwnerStands}
+use Rattle.trig_set.proofs.owners.fresh.Goals as goal
+
+pub returns-clause-stands : goal.returns-clause-stands
+returns-clause-stands c j le =
+    let ts = c.args.triggers.now in
+    let spots = c.add_triggers.new.spots in
+    let blank : are_blank spots.items ≡ true = c.in_ok-add_triggers.ensures.blank (ap are_blank c.new-spots.ensures.items) in
+    subst (λ l. OwnerStands j (record { owner = c.args.owner; since = c.args.since; triggers = l; spots = spots; timers = c.make.result })) (sym c.in_ok-copy.ensures)
+    (record {
+      well = sound-well ts (both (is_short ts) (list_all is_sound_trigger ts) c.requires).1;
+      spots = record {
+        kept = blank-kept j ts c.args.since le spots.items blank;
+        places = c.in_ok-add_triggers.ensures.places ∙ (λ i. map place_of (c.new-spots.ensures.items i) ++ places_of [] (c.as_slice.ensures i)) ∙ places-alike [] j ts;
+        timed = subst (λ l. AreTimed l spots.items) (sym c.make.ensures) (blank-timed spots.items blank);
+      };
+    })

@@ -1,0 +1,9 @@
+pub mod Next
+pub mod Kept
+pub mod Table
+pub mod Scenes
+pub mod Stands
+pub mod Blank
+pub mod Equality
+pub mod Shifts
+pub mod Order

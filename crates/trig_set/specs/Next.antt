@@ -1,0 +1,45 @@
+-- What the next entry of a journal has to be told with.
+use Rattle.std.specs.Prelude.{◌≡◌, ℕ, ◌≤◌, Bool, true, false, nat_lt, List, Option, IsSome, MatchOption, find, length, option_map}
+use Rattle.std.specs.Option.{option_map_or}
+use Rattle.std.specs.List.{list_any}
+use Rattle.ha_past.specs.Firings.{Owner}
+use Rattle.ha_value.specs.declared.value.EntityId.{EntityId}
+use Rattle.ha_clock.specs.Zone as clock
+use Rattle.ha_clock.specs.Local.{last_moment}
+use Rattle.ha_model.specs.declared.journal.Entry.{Entry}
+use Rattle.ha_model.specs.declared.journal.StateObject.{StateObject}
+use Rattle.ha_model.specs.Words.{same_entity}
+use Rattle.ha_model.specs.Entries.{report_in}
+use Rattle.ha_model.specs.Journal.{Journal, IsJournal, zone_of, now}
+use Rattle.ha_model.specs.States.{Sight, states}
+use Rattle.ha_model.specs.RecordSteps.{more}
+use Rattle.ha_model.specs.Triggers.{sight}
+
+abbrev pub Listed : Type 0
+Listed = List (EntityId × Option StateObject)
+
+-- the state that the list has of an entity, if it names the entity
+abbrev pub state_listed : Listed → EntityId → Option (Option StateObject)
+state_listed before e = option_map (λ p. p.1) (find (λ p. same_entity p.0 e) before)
+
+-- the entry is a Report of the entity
+abbrev pub reports : EntityId → Entry → Bool
+reports e x = option_map_or (λ r. same_entity r.entity e) (report_in x) false
+
+-- the list has states before the entry, among them that of each entity that the entry reports or whose state it changes
+abbrev pub AreListed : Journal → Entry → Listed → Type 0
+AreListed j x before = (e : EntityId) → MatchOption (state_listed before e) ((states (more j x) e ≡ states j e) × (reports e x ≡ false)) (λ old. old ≡ states j e)
+
+-- an owner has triggers attached since before the entry
+abbrev pub has_earlier : ℕ → List Owner → Bool
+has_earlier place owners = list_any (λ o. nat_lt o.since place) owners
+
+-- the entry goes on with the journal at that place; it is told with the states before it that it changes (where somebody asks: at a Boot, and at a Restart
+-- at which all owners are attached anew, nobody does), and with what is seen after it
+pub record IsNext (j : Journal) (place : ℕ) (x : Entry) (before : Listed) (seen : Sight) (owners : List Owner) : Type 0 where
+  pub at : place ≡ length j
+  pub journal : IsJournal (more j x)
+  pub zone : IsSome (clock.zone_of (zone_of (more j x)))
+  pub in_time : now (more j x) ≤ last_moment
+  pub listed : has_earlier place owners ≡ true → AreListed j x before
+  pub sees : seen ≡ sight (more j x) (length (more j x))

@@ -1,0 +1,45 @@
+-- Which journals a set of triggers stands for.
+use Rattle.std.specs.Prelude.{◌≡◌, ℕ, List, [], Option, MatchOption, length, map, slice_get}
+use Rattle.std.specs.Option.{option_map_or}
+use Rattle.ha_value.specs.declared.value.EntityId.{EntityId}
+use Rattle.ha_model.specs.declared.journal.Entry.{Entry}
+use Rattle.ha_model.specs.declared.steps.Firing.{Firing}
+use Rattle.ha_model.specs.Words.{Text}
+use Rattle.ha_model.specs.Journal.{Journal, HasEntry, zone_of, now}
+use Rattle.ha_model.specs.RecordSteps.{more}
+use Rattle.ha_model.specs.Triggers.{latest_number}
+use Rattle.trig_set.specs.declared.owners.Attached.{Attached}
+use Rattle.trig_set.specs.declared.set.TrigSet.{TrigSet}
+use Rattle.ha_past.specs.Firings.{Owner, firings_of}
+use Rattle.trig_set.specs.Kept.{AreWell, SpotsStand}
+use Rattle.trig_set.specs.Table.{number_at}
+
+abbrev pub owner_of : Attached → Owner
+owner_of a = record { owner = a.owner; triggers = a.triggers; since = a.since }
+
+-- who has triggers attached
+abbrev pub attached : TrigSet → List Owner
+attached s = map owner_of s.owners.items
+
+-- what is kept for an owner stands for a journal
+pub record OwnerStands (j : Journal) (a : Attached) : Type 0 where
+  pub well : AreWell a.triggers
+  pub spots : SpotsStand j a.triggers a.since a.spots.items a.timers
+
+-- what holds of the owner at a place, and of all
+abbrev pub AtOwner : List Attached → ℕ → (Attached → Type 0) → Type 0
+AtOwner owners n P = MatchOption (slice_get owners n) (Unit {0}) P
+
+abbrev pub AllOwners : List Attached → (Attached → Type 0) → Type 0
+AllOwners owners P = (n : ℕ) → AtOwner owners n P
+
+-- what the owner at a place fires with
+abbrev pub firings_at : Journal → Entry → List Attached → ℕ → List Firing
+firings_at j x owners n = option_map_or (λ a. firings_of (more j x) (length j) (owner_of a)) (slice_get owners n) []
+
+-- the set stands for a journal: for each owner its pending holds with their timers and the truth of its templates; the latest numbers, Now and the zone
+pub record StandsFor (s : TrigSet) (j : Journal) : Type 0 where
+  pub owners : AllOwners s.owners.items (OwnerStands j)
+  pub at : s.now ≡ now j
+  pub zone : HasEntry j → MatchOption s.zone ⊥ (λ z. z ≡ zone_of j)
+  pub numbers : (e : EntityId) (name : Option Text) → number_at s.numbers e name ≡ latest_number e name j

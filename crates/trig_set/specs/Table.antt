@@ -1,0 +1,32 @@
+-- The latest numbers of entities and their attributes.
+use Rattle.std.specs.Prelude.{◌≡◌, Option, None, Some, String, [], is_some, option_and_then, if◌then◌else◌}
+use Rattle.std.specs.BTreeSet.{BTreeSet, contains_text}
+use Rattle.std.specs.BTreeMap.{BTreeMap, get_by_text}
+use Rattle.ha_value.specs.declared.value.EntityId.{EntityId}
+use Rattle.ha_value.specs.declared.value.Num.{Num}
+use Rattle.ha_model.specs.Conditions.{number_watched}
+use Rattle.ha_model.specs.Records.{or_else}
+use Rattle.ha_model.specs.Words.{Text, Pairs, same, first_pair}
+use Rattle.trig_set.specs.declared.numbers.Latest.{Latest}
+use Rattle.trig_set.specs.declared.numbers.Numbers.{Numbers}
+
+abbrev pub number_of : Option Text → Latest → Option Num
+number_of None l = l.own
+number_of (Some name) l = get_by_text l.attributes name
+
+-- the same, of the entity of a domain with this object id
+abbrev pub numbers_in : {Y : Type 0} → BTreeMap (String Y) Latest → Text → Option Text → Option Num
+numbers_in domain q name = option_and_then (number_of name) (get_by_text domain q)
+
+-- the number of the entity, or of its attribute
+abbrev pub number_at : Numbers → EntityId → Option Text → Option Num
+number_at t e name = option_and_then (number_of name) (option_and_then (λ domain. get_by_text domain e.object) (get_by_text t.domains e.domain))
+
+-- with the names of these pairs, and the numbers that they give over those before
+pub record SoFar {Y Z : Type 0} (seen : BTreeSet (String Z)) (numbers : BTreeMap (String Y) Num) (before : Text → Option Num) (ps : Pairs) : Type 0 where
+  pub names : (q : Text) → contains_text seen q ≡ is_some (first_pair q ps)
+  pub given : (q : Text) → get_by_text numbers q ≡ or_else (number_watched (Some q) [] ps) (before q)
+
+-- the new map has this value at the name, and is as the old one at the others
+abbrev pub ChangesName : {X Y : Type 0} → BTreeMap (String Y) X → BTreeMap (String Y) X → Text → Option X → Type 0
+ChangesName old new name value = (q : Text) → get_by_text new q ≡ (if same name q then value else get_by_text old q)

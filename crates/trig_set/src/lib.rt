@@ -1,0 +1,20 @@
+//! Triggers that are attached, and what fires at each entry.
+#![tactic(auto)]
+
+mod attached;
+mod attributes;
+mod blank;
+mod equal;
+mod event;
+pub mod laws;
+mod moved;
+mod moving;
+mod numbers;
+mod owners;
+mod scene;
+mod set;
+mod shifts;
+mod spot;
+mod values;
+
+pub use set::TrigSet;

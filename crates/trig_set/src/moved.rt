@@ -1,0 +1,144 @@
+//! Whether what a trigger watches stays.
+ghost use Rattle.std.specs.Prelude.{◌≡◌, ℕ, length, nat_lt, suc, true, false, Some};
+ghost use Rattle.std.specs.Option.{option_copied, option_map_or};
+ghost use Rattle.ha_model.specs.Entries.{opens_segment};
+ghost use Rattle.ha_model.specs.Equal.{same_flag};
+ghost use Rattle.ha_model.specs.Numbers.{in_bounds as in_bounds_lem};
+ghost use Rattle.ha_model.specs.Triggers.{latest_number, report_number};
+ghost use Rattle.trig_state.specs.States.{is_state};
+ghost use Rattle.ha_model.specs.Journal.{Journal};
+ghost use Rattle.ha_model.specs.RecordSteps.{more};
+ghost use Rattle.ha_model.specs.Sound.{may_hold};
+ghost use Rattle.ha_model.specs.Triggers.{sight};
+ghost use Rattle.trig_set.specs.Kept.{is_true};
+ghost use Rattle.ha_past.specs.Looks.{watches};
+ghost use Rattle.trig_set.specs.Scenes.{Shows, shift_of as shift_of_lem};
+
+use crate::equal::equal_flag;
+use crate::scene::{Scene, Shift};
+use ha_model::{Cmd, EntityId, Entry, Num, TriggerRule, Word, same_id};
+use trig_numeric::{in_bounds, number_in};
+use trig_state::state_stays;
+
+/// What the entry changes of an entity, if it is listed.
+pub fn shift_of<'a>(shifts: &'a [Shift], entity: &EntityId) -> Option<&'a Shift>
+    ensures { option_copied result ≡ shift_of_lem shifts.now entity.now }
+{
+    shifts.iter().find(|shift| same_id(&shift.entity, entity))
+}
+
+/// Whether what a state trigger watches of an entity stays.
+fn state_stays_in(scene: &Scene<'_>, rule: &TriggerRule, entity: &EntityId) -> bool
+    requires { is_state rule.now ≡ true }
+    ensures { (j : Journal) (since : ℕ) → Shows scene.now j since → nat_lt since (length j) ≡ true
+        → result ≡ watches (sight j (length j)) (sight (more j scene.now.entry.now) (suc (length j))) j (more j scene.now.entry.now) rule.now (Some entity.now) }
+{
+    match shift_of(scene.shifts, entity) {
+        Some(shift) => state_stays(rule, shift.old.as_ref(), shift.new.as_ref()),
+        None => true,
+    }
+}
+
+/// The number that the entry reports of an entity, if it does.
+pub fn reported_number(entry: &Entry, entity: &EntityId, attribute: Option<&Word>) -> Option<Num>
+    ensures { result ≡ report_number entity.now (option_copied attribute.entry) entry.now }
+{
+    match entry {
+        Entry::Line {
+            cmd: Cmd::Report {
+                entity: reported,
+                text,
+                attributes,
+            },
+            ..
+        } if same_id(reported, entity) => number_in(attribute, text, attributes.as_slice()),
+        _ => None,
+    }
+}
+
+/// The latest number after the entry.
+fn latest_after(scene: &Scene<'_>, entity: &EntityId, attribute: Option<&Word>) -> Option<Num>
+    ensures { (j : Journal) (since : ℕ) → Shows scene.now j since
+        → result ≡ latest_number entity.now (option_copied attribute.entry) (more j scene.now.entry.now) }
+{
+    if opens(scene.entry) {
+        return None;
+    }
+    match reported_number(scene.entry, entity, attribute) {
+        Some(number) => Some(number),
+        None => scene.numbers.latest(entity, attribute),
+    }
+}
+
+/// Whether a number is in the bounds; none is not.
+pub fn is_within(above: Option<Num>, below: Option<Num>, number: Option<Num>) -> bool
+    ensures { result ≡ option_map_or (in_bounds_lem above below) number false }
+{
+    match number {
+        Some(number) => in_bounds(above, below, &number),
+        None => false,
+    }
+}
+
+/// Whether the latest number is in the bounds after the entry exactly where it was before it.
+fn numeric_stays_in(
+    scene: &Scene<'_>,
+    entity: &EntityId,
+    attribute: Option<&Word>,
+    above: Option<Num>,
+    below: Option<Num>,
+) -> bool
+    ensures { (j : Journal) (since : ℕ) → Shows scene.now j since
+        → result ≡ same_flag (option_map_or (in_bounds_lem above below) (latest_number entity.now (option_copied attribute.entry) j) false)
+        (option_map_or (in_bounds_lem above below) (latest_number entity.now (option_copied attribute.entry) (more j scene.now.entry.now)) false) }
+{
+    let latest = scene.numbers.latest(entity, attribute);
+    let next = latest_after(scene, entity, attribute);
+    let was = is_within(above, below, latest);
+    let is = is_within(above, below, next);
+    equal_flag(was, is)
+}
+
+/// Whether the entry is a Boot or a Restart.
+pub fn opens(entry: &Entry) -> bool
+    ensures { result ≡ opens_segment entry.now }
+{
+    matches!(
+        entry,
+        Entry::Boot { .. }
+            | Entry::Line {
+                cmd: Cmd::Restart,
+                ..
+            }
+    )
+}
+
+/// Whether what the `for` of a trigger watches stays as it was; `is` and `was` say whether the trigger's template is true after the entry and was before.
+pub fn stays(
+    scene: &Scene<'_>,
+    rule: &TriggerRule,
+    entity: Option<&EntityId>,
+    is: bool,
+    was: bool,
+) -> bool
+    ensures { (j : Journal) (since : ℕ) → Shows scene.now j since → nat_lt since (length j) ≡ true
+        → is ≡ is_true (sight (more j scene.now.entry.now) (length (more j scene.now.entry.now))) rule.now
+        → was ≡ is_true (sight j (length j)) rule.now
+        → may_hold rule.now ≡ true
+        → result ≡ watches (sight j (length j)) (sight (more j scene.now.entry.now) (suc (length j))) j (more j scene.now.entry.now) rule.now (option_copied entity.entry) }
+{
+    match (rule, entity) {
+        (TriggerRule::State { .. }, Some(entity)) => state_stays_in(scene, rule, entity),
+        (
+            TriggerRule::Numeric {
+                attribute,
+                above,
+                below,
+                ..
+            },
+            Some(entity),
+        ) => numeric_stays_in(scene, entity, attribute.as_ref(), *above, *below),
+        (TriggerRule::Template(_), None) => equal_flag(was, is),
+        _ => false,
+    }
+}

@@ -1,0 +1,141 @@
+//! The latest number of each reported entity and attribute since the last Restart.
+ghost use Rattle.std.specs.Prelude.{◌≡◌, Option, None, IfOk, OnOk, string_bytes, if◌then◌else◌};
+ghost use Rattle.std.specs.Option.{option_copied};
+ghost use Rattle.ha_value.specs.declared.value.EntityId.{EntityId as Entity};
+ghost use Rattle.ha_model.specs.Words.{Text, same, same_entity};
+ghost use Rattle.ha_model.specs.Conditions.{number_watched};
+ghost use Rattle.ha_model.specs.Entries.{opens_segment};
+ghost use Rattle.ha_model.specs.Triggers.{report_number};
+ghost use Rattle.ha_past.specs.Looks.{or_else};
+ghost use Rattle.trig_set.specs.Table.{number_at, number_of, numbers_in};
+
+use crate::attributes::put_attributes;
+use crate::moved::opens;
+use ha_model::{Cmd, EntityId, Entry, Many, Num, Value, Word};
+use std::alloc::{AllocError, Global};
+use std::collections::BTreeMap;
+
+/// The latest numbers of one entity.
+#[derive(Drop)]
+pub struct Latest {
+    /// Of its state text.
+    pub own: Option<Num>,
+    /// Of its attributes, by name.
+    pub attributes: BTreeMap<String, Num>,
+}
+
+/// The latest numbers, by domain, object id and attribute.
+#[derive(Drop)]
+pub struct Numbers {
+    pub domains: BTreeMap<String, BTreeMap<String, Latest>>,
+}
+
+impl Numbers {
+    /// The latest number of an entity, or of its attribute.
+    pub fn latest(&self, entity: &EntityId, attribute: Option<&Word>) -> Option<Num>
+        ensures { result ≡ number_at self.now entity.now (option_copied attribute.entry) }
+    {
+        let latest = self
+            .domains
+            .get(entity.domain.as_str())?
+            .get(entity.object.as_str())?;
+        match attribute {
+            None => latest.own,
+            Some(name) => latest.attributes.get(name.as_str()).copied(),
+        }
+    }
+
+    /// The numbers that a report gives; a Boot and a Restart forget all.
+    pub fn note(&mut self, alloc: Global, entry: &Entry) -> Result<(), AllocError>
+        ensures { OnOk result ((e : Entity) (name : Option Text) → number_at self.new e name ≡ (if opens_segment entry.now then None else or_else (report_number e name entry.now) (number_at self.old e name))) }
+    {
+        if opens(entry) {
+            self.domains.clear();
+            return Ok(());
+        }
+        match entry {
+            Entry::Line {
+                cmd: Cmd::Report {
+                    entity,
+                    text,
+                    attributes,
+                },
+                ..
+            } => self.report(alloc, entity, text, attributes),
+            _ => Ok(()),
+        }
+    }
+
+    /// The numbers of a report; where it gives none, the latest one stays.
+    fn report(
+        &mut self,
+        alloc: Global,
+        entity: &EntityId,
+        text: &Word,
+        attributes: &Many<(Word, Value)>,
+    ) -> Result<(), AllocError>
+        ensures { OnOk result ((e : Entity) (name : Option Text)
+            → number_at self.new e name ≡ or_else (if same_entity entity.now e then number_watched name text.now attributes.now else None) (number_at self.old e name)) }
+    {
+        match self.domains.get_mut(entity.domain.as_str()) {
+            Some(domain) => put_in(alloc, domain, &entity.object, text, attributes),
+            None => {
+                let key = key_of(alloc, &entity.domain)?;
+                let mut domain = BTreeMap::new(alloc);
+                put_in(alloc, &mut domain, &entity.object, text, attributes)?;
+                self.domains.insert(key, domain)?;
+                Ok(())
+            }
+        }
+    }
+}
+
+/// The text as a key.
+pub fn key_of(alloc: Global, word: &Word) -> Result<String, AllocError>
+    ensures { IfOk result (λ key. string_bytes key ≡ word.now) }
+{
+    String::from_str(alloc, word.as_str())
+}
+
+/// The same, of the entity of a domain with this object id.
+fn put_in(
+    alloc: Global,
+    domain: &mut BTreeMap<String, Latest>,
+    object: &Word,
+    text: &Word,
+    attributes: &Many<(Word, Value)>,
+) -> Result<(), AllocError>
+    ensures { OnOk result ((q : Text) (name : Option Text)
+        → numbers_in domain.new q name ≡ or_else (if same object.now q then number_watched name text.now attributes.now else None) (numbers_in domain.old q name)) }
+{
+    match domain.get_mut(object.as_str()) {
+        Some(latest) => put_numbers(alloc, latest, text, attributes),
+        None => {
+            let key = key_of(alloc, object)?;
+            let fresh = BTreeMap::new(alloc);
+            let mut latest = Latest {
+                own: None,
+                attributes: fresh,
+            };
+            put_numbers(alloc, &mut latest, text, attributes)?;
+            domain.insert(key, latest)?;
+            Ok(())
+        }
+    }
+}
+
+/// The same, of one entity.
+fn put_numbers(
+    alloc: Global,
+    latest: &mut Latest,
+    text: &Word,
+    attributes: &Many<(Word, Value)>,
+) -> Result<(), AllocError>
+    ensures { OnOk result ((name : Option Text)
+        → number_of name latest.new ≡ or_else (number_watched name text.now attributes.now) (number_of name latest.old)) }
+{
+    if let Some(number) = Num::read(text.bytes()) {
+        latest.own = Some(number);
+    }
+    put_attributes(alloc, &mut latest.attributes, attributes.as_slice())
+}

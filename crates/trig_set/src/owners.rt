@@ -1,0 +1,173 @@
+//! The owners, in the order of their numbers.
+ghost use Rattle.std.specs.Prelude.{◌≡◌, ◌≤◌, ◌<◌, ◌++◌, ℕ, IfOk, IsTrue, OnOk, OnErr, insert, length, map, flat_map, false, nat_eq, slice_get};
+ghost use Rattle.ha_clock.specs.Local.{last_moment};
+ghost use Rattle.ha_model.specs.Journal.{Journal};
+ghost use Rattle.ha_model.specs.Words.{up_to};
+ghost use Rattle.ha_model.specs.RecordSteps.{more};
+ghost use Rattle.ha_model.specs.Sound.{are_sound_triggers};
+ghost use Rattle.ha_model.specs.Triggers.{sight};
+ghost use Rattle.ha_past.specs.Firings.{Owner, firings, firings_of, placed, without_owner};
+ghost use Rattle.trig_set.specs.Stands.{AllOwners, AtOwner, OwnerStands, firings_at, owner_of};
+ghost use Rattle.trig_set.specs.Scenes.{Shows};
+
+use crate::attached::note_spots;
+use crate::blank::add_triggers;
+use crate::scene::Scene;
+use crate::spot::Spot;
+use ha_model::{Answers, Firing, Many, Plain, Trigger};
+use std::alloc::{AllocError, Global};
+use timer_queue::TimerQueue;
+
+/// The triggers of an owner, with what is kept for each of them and each of its entities.
+#[derive(Drop)]
+pub struct Attached {
+    pub owner: u64,
+    /// They fire at entries after this one.
+    pub since: u64,
+    pub triggers: Many<Trigger>,
+    pub spots: Vec<Spot>,
+    /// The dues of the pending holds, each under the place of its spot.
+    pub timers: TimerQueue,
+}
+
+/// What the entry makes of an owner; what fires is appended.
+fn note_one<A: Answers>(
+    alloc: Global,
+    scene: &Scene<'_>,
+    answers: &A,
+    attached: &mut Attached,
+    fired: &mut Many<Firing>,
+) -> Result<(), AllocError>
+    requires { scene.now.to ≤ last_moment }
+    ensures stands { OnOk result ((j : Journal) → Shows scene.now j attached.old.since → A.sight answers.now ≡ sight (more j scene.now.entry.now) (length (more j scene.now.entry.now))
+        → OwnerStands j attached.old → OwnerStands (more j scene.now.entry.now) attached.new) }
+    ensures fired { OnOk result ((j : Journal) → Shows scene.now j attached.old.since → A.sight answers.now ≡ sight (more j scene.now.entry.now) (length (more j scene.now.entry.now))
+        → OwnerStands j attached.old → fired.new ≡ fired.old ++ firings_of (more j scene.now.entry.now) (length j) (owner_of attached.old)) }
+    ensures same { OnOk result (owner_of attached.new ≡ owner_of attached.old) }
+{
+    note_spots(
+        alloc,
+        scene,
+        answers,
+        attached.owner,
+        attached.since,
+        &attached.triggers,
+        attached.spots.as_mut_slice(),
+        &mut attached.timers,
+        fired,
+    )
+}
+
+/// The same, of the owner at a place of the list.
+fn note_at<A: Answers>(
+    alloc: Global,
+    scene: &Scene<'_>,
+    answers: &A,
+    place: usize,
+    owners: &mut [Attached],
+    fired: &mut Many<Firing>,
+) -> Result<(), AllocError>
+    requires in_time { scene.now.to ≤ last_moment }
+    requires within { place < length owners.old }
+    ensures stands { OnOk result ((j : Journal) → AtOwner owners.old place (λ a. Shows scene.now j a.since) → A.sight answers.now ≡ sight (more j scene.now.entry.now) (length (more j scene.now.entry.now))
+        → AtOwner owners.old place (OwnerStands j) → AtOwner owners.new place (OwnerStands (more j scene.now.entry.now))) }
+    ensures fired { OnOk result ((j : Journal) → AtOwner owners.old place (λ a. Shows scene.now j a.since) → A.sight answers.now ≡ sight (more j scene.now.entry.now) (length (more j scene.now.entry.now))
+        → AtOwner owners.old place (OwnerStands j) → fired.new ≡ fired.old ++ firings_at j scene.now.entry.now owners.old place) }
+    ensures elsewhere { OnOk result ((n : ℕ) → nat_eq place n ≡ false → slice_get owners.new n ≡ slice_get owners.old n) }
+    ensures owners { OnOk result (map owner_of owners.new ≡ map owner_of owners.old) }
+{
+    note_one(alloc, scene, answers, &mut owners[place], fired)
+}
+
+/// The same, of all owners.
+fn note_all<A: Answers>(
+    alloc: Global,
+    scene: &Scene<'_>,
+    answers: &A,
+    owners: &mut [Attached],
+    fired: &mut Many<Firing>,
+) -> Result<(), AllocError>
+    requires { scene.now.to ≤ last_moment }
+    ensures stands { OnOk result ((j : Journal) → AllOwners owners.old (λ a. Shows scene.now j a.since) → A.sight answers.now ≡ sight (more j scene.now.entry.now) (length (more j scene.now.entry.now))
+        → AllOwners owners.old (OwnerStands j) → AllOwners owners.new (OwnerStands (more j scene.now.entry.now))) }
+    ensures fired { OnOk result ((j : Journal) → AllOwners owners.old (λ a. Shows scene.now j a.since) → A.sight answers.now ≡ sight (more j scene.now.entry.now) (length (more j scene.now.entry.now))
+        → AllOwners owners.old (OwnerStands j) → fired.new ≡ fired.old ++ flat_map (firings_at j scene.now.entry.now owners.old) (up_to (length owners.old))) }
+    ensures owners { OnOk result (map owner_of owners.new ≡ map owner_of owners.old) }
+{
+    for place in 0..owners.len() {
+        note_at(alloc, scene, answers, place, owners, fired)?;
+    }
+    Ok(())
+}
+
+/// The same, of the owners where they are kept.
+pub fn note_owners<A: Answers>(
+    alloc: Global,
+    scene: &Scene<'_>,
+    answers: &A,
+    owners: &mut Vec<Attached>,
+    fired: &mut Many<Firing>,
+) -> Result<(), AllocError>
+    requires { scene.now.to ≤ last_moment }
+    ensures stands { OnOk result ((j : Journal) → AllOwners owners.old.items (λ a. Shows scene.now j a.since) → A.sight answers.now ≡ sight (more j scene.now.entry.now) (length (more j scene.now.entry.now))
+        → AllOwners owners.old.items (OwnerStands j) → AllOwners owners.new.items (OwnerStands (more j scene.now.entry.now))) }
+    ensures fired { OnOk result ((j : Journal) → AllOwners owners.old.items (λ a. Shows scene.now j a.since) → A.sight answers.now ≡ sight (more j scene.now.entry.now) (length (more j scene.now.entry.now))
+        → AllOwners owners.old.items (OwnerStands j) → fired.new ≡ fired.old ++ firings (more j scene.now.entry.now) (length j) (map owner_of owners.old.items)) }
+    ensures owners { OnOk result (map owner_of owners.new.items ≡ map owner_of owners.old.items) }
+{
+    note_all(alloc, scene, answers, owners.as_mut_slice(), fired)
+}
+
+/// What is kept for triggers that are attached: nothing is pending.
+pub fn fresh(
+    alloc: Global,
+    owner: u64,
+    triggers: &Many<Trigger>,
+    since: u64,
+) -> Result<Attached, AllocError>
+    requires { IsTrue (are_sound_triggers triggers.now) }
+    ensures owner { IfOk result (λ a. owner_of a ≡ record { owner = owner; triggers = triggers.now; since = since }) }
+    ensures stands { IfOk result (λ a. (j : Journal) → length j ≤ since → OwnerStands j a) }
+{
+    let mut spots = Vec::new(alloc);
+    add_triggers(alloc, triggers.as_slice(), &mut spots)?;
+    Ok(Attached {
+        owner,
+        since,
+        triggers: triggers.copy(alloc)?,
+        spots,
+        timers: TimerQueue::make(alloc),
+    })
+}
+
+/// Where an owner stands.
+fn place_for(owners: &[Attached], owner: u64) -> usize
+    ensures within { result ≤ length owners.now }
+    ensures place { (o : Owner) → o.owner ≡ owner → insert (map owner_of owners.now) result o ≡ placed o (map owner_of owners.now) }
+{
+    for place in 0..owners.len() {
+        if owner < owners[place].owner {
+            return place;
+        }
+    }
+    owners.len()
+}
+
+/// Puts an owner in at its place. After an error the owners are as before.
+pub fn put_in(owners: &mut Vec<Attached>, attached: Attached) -> Result<(), AllocError>
+    ensures ok { OnOk result (map owner_of owners.new.items ≡ placed (owner_of attached) (map owner_of owners.old.items)) }
+    ensures stands { OnOk result ((j : Journal) → AllOwners owners.old.items (OwnerStands j) → OwnerStands j attached → AllOwners owners.new.items (OwnerStands j)) }
+    ensures err { OnErr result (owners.new.items ≡ owners.old.items) }
+{
+    let place = place_for(owners.as_slice(), attached.owner);
+    owners.insert(place, attached)?;
+    Ok(())
+}
+
+/// Takes an owner out, if it is there.
+pub fn take_out(owners: &mut Vec<Attached>, owner: u64)
+    ensures rest { map owner_of owners.new.items ≡ without_owner owner (map owner_of owners.old.items) }
+    ensures stands { (j : Journal) → AllOwners owners.old.items (OwnerStands j) → AllOwners owners.new.items (OwnerStands j) }
+{
+    owners.retain(|attached| attached.owner != owner);
+}

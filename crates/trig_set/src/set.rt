@@ -1,0 +1,128 @@
+//! The set of attached triggers.
+ghost use Rattle.std.specs.Prelude.{◌≡◌, ◌≤◌, ◌<◌, [], ◌∷◌, IsNone, IsTrue, IfOk, OnOk, OnErr, Some, IsSome, MatchOption, length};
+ghost use Rattle.ha_clock.specs.Local.{last_moment};
+ghost use Rattle.ha_clock.specs.Zone.{zone_of};
+ghost use Rattle.ha_model.specs.Entries.{boot_of};
+ghost use Rattle.ha_model.specs.Journal.{Journal};
+ghost use Rattle.ha_model.specs.Sound.{are_sound_triggers};
+ghost use Rattle.ha_model.specs.RecordSteps.{more};
+ghost use Rattle.ha_past.specs.Firings.{Owner, owner_named, placed, without_owner, firings};
+ghost use Rattle.trig_set.specs.Next.{IsNext};
+ghost use Rattle.trig_set.specs.Stands.{attached, StandsFor};
+
+use crate::numbers::Numbers;
+use crate::owners::{Attached, fresh, note_owners, put_in, take_out};
+use crate::scene::Scene;
+use crate::shifts::shifts_of;
+use ha_clock::{ClockFault, Zone};
+use ha_model::{Answers, EntityId, Entry, Firing, Many, Moment, StateObject, Trigger};
+use std::alloc::{AllocError, Global};
+use std::collections::BTreeMap;
+
+/// Triggers that are attached under owners, with what has to be known of the journal so far to tell what fires at its next entry.
+#[derive(Drop)]
+pub struct TrigSet {
+    /// In the order of their numbers.
+    owners: Vec<Attached>,
+    /// Now.
+    now: Moment,
+    /// The Boot's, once it was noted.
+    zone: Option<Zone>,
+    numbers: Numbers,
+}
+
+impl TrigSet {
+    /// No triggers; it stands for the empty journal.
+    pub fn make(alloc: Global) -> TrigSet
+        ensures empty { attached result ≡ [] }
+        ensures stands { StandsFor result [] }
+    {
+        TrigSet {
+            owners: Vec::new(alloc),
+            now: Moment::at(0),
+            zone: None,
+            numbers: Numbers {
+                domains: BTreeMap::new(alloc),
+            },
+        }
+    }
+
+    /// Attaches triggers under an owner. They fire at entries after `place`, a start trigger at that place too; the place is that of the
+    /// next entry that is noted, or a later one. After an error the set is as before.
+    pub fn attach(
+        &mut self,
+        alloc: Global,
+        owner: u64,
+        triggers: &Many<Trigger>,
+        place: u64,
+    ) -> Result<(), AllocError>
+        requires fresh { IsNone (owner_named owner (attached self.old)) }
+        requires sound { IsTrue (are_sound_triggers triggers.now) }
+        ensures ok { OnOk result (attached self.new ≡ placed (record { owner = owner; triggers = triggers.now; since = place }) (attached self.old)) }
+        ensures stands { OnOk result ((j : Journal) → StandsFor self.old j → length j ≤ place → StandsFor self.new j) }
+        ensures err { OnErr result ((attached self.new ≡ attached self.old) × ((j : Journal) → StandsFor self.old j → StandsFor self.new j)) }
+    {
+        let attached = fresh(alloc, owner, triggers, place)?;
+        put_in(&mut self.owners, attached)
+    }
+
+    /// Detaches the triggers of an owner, with their holds; of an owner that has none, nothing changes.
+    pub fn detach(&mut self, owner: u64)
+        ensures rest { attached self.new ≡ without_owner owner (attached self.old) }
+        ensures stands { (j : Journal) → StandsFor self.old j → StandsFor self.new j }
+    {
+        take_out(&mut self.owners, owner);
+    }
+
+    /// The zone of a Boot is read.
+    fn open(&mut self, alloc: Global, entry: &Entry) -> Result<(), AllocError>
+        ensures rest { self.new ≡ record self.old { zone = self.new.zone } }
+        ensures boot { OnOk result (MatchOption (boot_of entry.now) (self.new.zone ≡ self.old.zone) (λ b. IsSome (zone_of b.zone) → self.new.zone ≡ Some b.zone)) }
+    {
+        if let Entry::Boot { zone, .. } = entry {
+            self.zone = match Zone::read(alloc, zone.bytes()) {
+                Ok(zone) => Some(zone),
+                Err(ClockFault::Text) => None,
+                Err(ClockFault::Memory) => return Err(AllocError),
+            };
+        }
+        Ok(())
+    }
+
+    /// Notes the next entry: what fires at it, in the order of the owners' numbers, and there of triggers and entities. `before` has states
+    /// before the entry, among them that of each entity whose state the entry changes; `answers` holds what is seen after it. After an error
+    /// the set may only be dropped.
+    pub fn note<A: Answers>(
+        &mut self,
+        alloc: Global,
+        place: u64,
+        entry: &Entry,
+        before: &Many<(EntityId, Option<StateObject>)>,
+        answers: &A,
+    ) -> Result<Many<Firing>, AllocError>
+        requires in_time { (A.sight answers.now).now ≤ last_moment }
+        ensures kept { OnOk result (attached self.new ≡ attached self.old) }
+        ensures fired { IfOk result (λ fired. (j : Journal) → StandsFor self.old j → IsNext j place entry.now before.now (A.sight answers.now) (attached self.old)
+            → fired ≡ firings (more j entry.now) place (attached self.old)) }
+        ensures stands { OnOk result ((j : Journal) → StandsFor self.old j → IsNext j place entry.now before.now (A.sight answers.now) (attached self.old)
+            → StandsFor self.new (more j entry.now)) }
+    {
+        self.open(alloc, entry)?;
+        let shifts = shifts_of(alloc, entry, before, answers)?;
+        let to = answers.now();
+        let mut fired = Many::make(alloc);
+        let scene = Scene {
+            place,
+            entry,
+            shifts: shifts.as_slice(),
+            zone: self.zone.as_ref(),
+            numbers: &self.numbers,
+            from: self.now,
+            to,
+        };
+        note_owners(alloc, &scene, answers, &mut self.owners, &mut fired)?;
+        self.numbers.note(alloc, entry)?;
+        self.now = to;
+        Ok(fired)
+    }
+}

@@ -1,0 +1,177 @@
+//! What an entry changes of each entity.
+ghost use Rattle.std.specs.Prelude.{◌≡◌, ◌∷◌, ◌++◌, [], ℕ, None, Some, Bool, IfOk, OnOk, length, option_map, option_and_then, if◌then◌else◌};
+ghost use Rattle.std.specs.Option.{option_copied};
+ghost use Rattle.ha_model.specs.Calls.{automation_at};
+ghost use Rattle.ha_model.specs.Entries.{report_in as report_in_lem};
+ghost use Rattle.ha_model.specs.Journal.{Journal, IsJournal};
+ghost use Rattle.ha_model.specs.RecordSteps.{more};
+ghost use Rattle.ha_model.specs.Sights.{switch_seen};
+ghost use Rattle.ha_model.specs.Triggers.{sight};
+ghost use Rattle.ha_model.specs.Words.{Text, Pairs, same_entity};
+ghost use Rattle.trig_set.specs.Next.{AreListed, Listed};
+ghost use Rattle.trig_set.specs.Scenes.{AreShifts, face};
+ghost use Rattle.trig_set.specs.Shifts.{AreMade, IsMade, face_of_switch, is_automation, next_face, removes};
+
+use crate::scene::Shift;
+use ha_model::{
+    Answers, Cmd, EntityId, Entry, Many, Moment, Plain, StateObject, Value, Word, same_id,
+};
+use std::alloc::{AllocError, Global};
+
+/// Whether the entity is of the domain of automations.
+fn is_automation(entity: &EntityId) -> bool
+    ensures { result ≡ is_automation entity.now }
+{
+    entity.domain.bytes() == b"automation".as_slice()
+}
+
+/// Whether the automation of that name is on, if there is one.
+fn switch_of<A: Answers>(entity: &EntityId, answers: &A) -> Option<bool>
+    ensures { result ≡ option_and_then (switch_seen (A.sight answers.now)) (automation_at (A.sight answers.now).automations entity.now) }
+{
+    match answers.automation(entity) {
+        Some(automation) => Some(answers.is_on(automation)),
+        None => None,
+    }
+}
+
+/// A state with this text and these attributes.
+fn state(
+    alloc: Global,
+    text: &Word,
+    attributes: &Many<(Word, Value)>,
+    now: Moment,
+) -> Result<StateObject, AllocError>
+    ensures { IfOk result (λ s. face (Some s) ≡ Some (text.now, attributes.now)) }
+{
+    Ok(StateObject {
+        text: text.copy(alloc)?,
+        attributes: attributes.copy(alloc)?,
+        changed: now,
+        updated: now,
+    })
+}
+
+/// The state of a switch.
+fn switch_state(
+    alloc: Global,
+    switch: Option<bool>,
+    now: Moment,
+) -> Result<Option<StateObject>, AllocError>
+    ensures { IfOk result (λ s. face s ≡ option_map face_of_switch switch) }
+{
+    let Some(on) = switch else {
+        return Ok(None);
+    };
+    let text = Word::from_str(alloc, if on { "on" } else { "off" })?;
+    Ok(Some(state(alloc, &text, &Many::make(alloc), now)?))
+}
+
+/// What the entry reports of the entity, if it does.
+fn report_in<'a>(entry: &'a Entry, entity: &EntityId) -> Option<(&'a Word, &'a Many<(Word, Value)>)>
+    ensures { option_map {U = Text × Pairs} (λ r. (r.0.now, r.1.now)) result ≡ option_and_then (λ r. if same_entity r.entity entity.now then Some (r.text, r.attributes) else None) (report_in_lem entry.now) }
+{
+    match entry {
+        Entry::Line {
+            cmd: Cmd::Report {
+                entity: reported,
+                text,
+                attributes,
+            },
+            ..
+        } if same_id(reported, entity) => Some((text, attributes)),
+        _ => None,
+    }
+}
+
+/// Whether the entity is gone with the entry.
+fn removes(entry: &Entry, entity: &EntityId) -> bool
+    ensures { result ≡ removes entry.now entity.now }
+{
+    match entry {
+        Entry::Line {
+            cmd: Cmd::Gone { entity: gone },
+            ..
+        } => same_id(gone, entity),
+        Entry::Line {
+            cmd: Cmd::Restart,
+            ..
+        } => true,
+        _ => false,
+    }
+}
+
+/// The state after the entry of an entity that is no automation.
+fn next_state(
+    alloc: Global,
+    entry: &Entry,
+    entity: &EntityId,
+    old: &Option<StateObject>,
+    now: Moment,
+) -> Result<Option<StateObject>, AllocError>
+    ensures { IfOk result (λ s. face s ≡ next_face entry.now entity.now (face old.now)) }
+{
+    if let Some((text, attributes)) = report_in(entry, entity) {
+        return Ok(Some(state(alloc, text, attributes, now)?));
+    }
+    if removes(entry, entity) {
+        return Ok(None);
+    }
+    old.copy(alloc)
+}
+
+/// What the entry changes of an entity that had this state before it.
+fn shift<A: Answers>(
+    alloc: Global,
+    entry: &Entry,
+    listed: &(EntityId, Option<StateObject>),
+    answers: &A,
+) -> Result<Shift, AllocError>
+    ensures { IfOk result (λ c. IsMade entry.now (A.sight answers.now) listed.now c) }
+{
+    let (entity, old) = listed;
+    let now = answers.now();
+    let new = if is_automation(entity) {
+        switch_state(alloc, switch_of(entity, answers), now)?
+    } else {
+        next_state(alloc, entry, entity, old, now)?
+    };
+    Ok(Shift {
+        entity: entity.copy(alloc)?,
+        old: old.copy(alloc)?,
+        new,
+    })
+}
+
+/// One more change.
+fn push_shift<A: Answers>(
+    alloc: Global,
+    entry: &Entry,
+    listed: &(EntityId, Option<StateObject>),
+    answers: &A,
+    shifts: &mut Many<Shift>,
+) -> Result<(), AllocError>
+    ensures { OnOk result ((front : Listed) → AreMade entry.now (A.sight answers.now) front shifts.old → AreMade entry.now (A.sight answers.now) (front ++ listed.now ∷ []) shifts.new) }
+{
+    shifts.push(shift(alloc, entry, listed, answers)?)?;
+    Ok(())
+}
+
+/// The states of the listed entities before and after the entry. After it, an automation has what its switch says; an entity that is reported has
+/// what the report says; one that is removed, or any at a Restart, is gone; and any other has the state before.
+pub fn shifts_of<A: Answers>(
+    alloc: Global,
+    entry: &Entry,
+    before: &Many<(EntityId, Option<StateObject>)>,
+    answers: &A,
+) -> Result<Many<Shift>, AllocError>
+    ensures { IfOk result (λ shifts. (j : Journal) → A.sight answers.now ≡ sight (more j entry.now) (length (more j entry.now))
+        → AreListed j entry.now before.now → AreShifts shifts j entry.now) }
+{
+    let mut shifts = Many::make(alloc);
+    let listed = before.as_slice();
+    for place in 0..listed.len() {
+        push_shift(alloc, entry, &listed[place], answers, &mut shifts)?;
+    }
+    Ok(shifts)
+}
