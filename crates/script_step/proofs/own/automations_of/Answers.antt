@@ -1,0 +1,16 @@
+use Rattle.std.proofs.Common.{◌∙◌, sym, ap, subst, length, List, ℕ}
+use Rattle.script_step.specs.Own.{with_number}
+use Rattle.script_step.proofs.OwnLemmas.{Below, below-with, automation-below, named-more}
+use Rattle.script_step.proofs.own.automations_of.Goals as goal
+
+pub loop-i-preserved : goal.loop-i-preserved
+loop-i-preserved g c =
+    let all = (g.A.Answers.sight c.args.answers.now).automations in
+    let t = c.index-targets-i.result in
+    let made = c.in_ok-add_once.ensures ∙ (λ k. with_number (c.automation.ensures k) c.loop-i.found) in
+    record {
+      found =
+          made ∙ ap (with_number _) c.loop-i.invariant.found
+          ∙ sym (named-more all c.args.targets.now c.loop-i.i t c.loop-i-test.true c.index-targets-i.is);
+      known = subst (λ (l : List ℕ). Below (length all) l) (sym made) (below-with (length all) c.loop-i.found _ c.loop-i.invariant.known (λ a h. automation-below all t a h));
+    }

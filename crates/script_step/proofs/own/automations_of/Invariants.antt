@@ -1,0 +1,10 @@
+use Rattle.std.proofs.Common.{◌≡◌, length, take}
+use Rattle.ha_model.specs.Calls.{automations_of}
+use Rattle.script_step.proofs.OwnLemmas.{Below}
+use Rattle.script_step.proofs.own.automations_of.Given as goal
+
+abbrev pub invariant-loop-i : goal.invariant-loop-i
+invariant-loop-i g l = record {
+  found : l.found ≡ automations_of (g.A.Answers.sight l.answers).automations (take l.i l.targets);
+  known : Below (length (g.A.Answers.sight l.answers).automations) l.found;
+}

@@ -1,0 +1,14 @@
+pub mod Cuts
+pub mod Blocks
+pub mod Parts
+pub mod Continuation
+pub mod Fields
+pub mod Own
+pub mod Turns
+pub mod Step
+pub mod Sides
+pub mod Frames
+pub mod Ready
+pub mod Gates
+pub mod Told
+pub mod Few

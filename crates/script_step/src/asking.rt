@@ -1,0 +1,108 @@
+//! What a step's wait asks for.
+ghost use Rattle.std.specs.Prelude.{◌≡◌, ◌≤◌, [], None, IfOk, option_map};
+ghost use Rattle.std.specs.Option.{option_copied, option_map_or};
+ghost use Rattle.ha_clock.specs.Local.{last_moment};
+ghost use Rattle.ha_model.specs.Scripts.{flat};
+ghost use Rattle.script_step.specs.Continuation.{ask_in, asks, last_action, test_in, triggers_in};
+ghost use Rattle.script_step.specs.Parts.{kind_of};
+ghost use Rattle.script_step.specs.Frames.{asked_by};
+
+use crate::parts::{before, list_in};
+use crate::step::side_list;
+use crate::strand::{Stage, Strand};
+use crate::thread::Thread;
+use ha_model::{Action, ActionKind, Branch, Many, Moment, Plain, Span, Template, Trigger, WaitAsk};
+use std::alloc::{AllocError, Global};
+
+/// The template of a wait.
+fn test_of(alloc: Global, action: Option<&Action>) -> Result<Option<Template>, AllocError>
+    ensures { IfOk result (λ test. test ≡ option_map_or (λ x. test_in (kind_of x)) (option_copied action.entry) None) }
+{
+    match action {
+        Some(action) => match &action.kind {
+            ActionKind::WaitUntil { test, .. } => Ok(Some(test.copy(alloc)?)),
+            _ => Ok(None),
+        },
+        None => Ok(None),
+    }
+}
+
+/// The triggers of a wait.
+fn triggers_of(alloc: Global, action: Option<&Action>) -> Result<Many<Trigger>, AllocError>
+    ensures { IfOk result (λ triggers. triggers ≡ option_map_or (λ x. triggers_in (kind_of x)) (option_copied action.entry) []) }
+{
+    match action {
+        Some(action) => match &action.kind {
+            ActionKind::WaitFor { triggers, .. } => triggers.copy(alloc),
+            _ => Ok(Many::make(alloc)),
+        },
+        None => Ok(Many::make(alloc)),
+    }
+}
+
+/// What a thread's last action, a wait, asks for.
+fn ask_of(
+    alloc: Global,
+    thread: &Thread,
+    list: &[Action],
+    timeout: Option<Span>,
+    serial: u64,
+    branch: &Branch,
+    now: Moment,
+) -> Result<WaitAsk, AllocError>
+    requires { now ≤ last_moment }
+    ensures { IfOk result (λ made. made ≡ asked_by serial branch.now now (ask_in (last_action list.now thread.now) timeout (flat thread.now.scopes))) }
+{
+    let action = before(list_in(list, thread.outer.as_slice()), thread.here.at);
+    Ok(WaitAsk {
+        serial,
+        branch: branch.copy(alloc)?,
+        test: test_of(alloc, action)?,
+        triggers: triggers_of(alloc, action)?,
+        due: match timeout {
+            Some(span) => Some(now.plus(span)),
+            None => None,
+        },
+        env: thread.scopes.flat().copy(alloc)?,
+    })
+}
+
+/// What the pending wait of a branch asks for, if there is one.
+pub fn asked(
+    alloc: Global,
+    strand: &Strand,
+    list: &[Action],
+    path: &[u32],
+    serial: u64,
+    branch: &Branch,
+    now: Moment,
+) -> Result<Option<WaitAsk>, AllocError>
+    requires { now ≤ last_moment }
+    ensures { IfOk result (λ made. made ≡ option_map (asked_by serial branch.now now) (asks strand.now list.now path.now)) }
+{
+    match &strand.stage {
+        Stage::Wait(timeout) => {
+            if path.is_empty() {
+                Ok(Some(ask_of(alloc, &strand.thread, list, *timeout, serial, branch, now)?))
+            } else {
+                Ok(None)
+            }
+        }
+        Stage::Sides(strands) => match path.split_first() {
+            Some((first, rest)) => match strands.get(*first as usize) {
+                Some(side) => asked(
+                    alloc,
+                    side,
+                    side_list(&strand.thread, list, *first as usize),
+                    rest,
+                    serial,
+                    branch,
+                    now,
+                ),
+                None => Ok(None),
+            },
+            None => Ok(None),
+        },
+        _ => Ok(None),
+    }
+}

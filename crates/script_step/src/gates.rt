@@ -1,0 +1,53 @@
+//! Whether a branch of a strand may step, and the due of its delay.
+ghost use Rattle.std.specs.Prelude.{◌≡◌, Option, is_some};
+ghost use Rattle.ha_model.specs.declared.journal.WaitEnd.{WaitEnd};
+ghost use Rattle.script_step.specs.Continuation.{may_step};
+ghost use Rattle.script_step.specs.Gates.{dues};
+
+use crate::step::side_list;
+use crate::strand::{Stage, Strand};
+use ha_model::{Action, Moment};
+
+/// Whether a branch of a strand may step, where its wait ended or did not.
+pub fn may_step(strand: &Strand, list: &[Action], path: &[u32], now: Moment, over: bool) -> bool
+    ensures { (end : Option WaitEnd) → is_some end ≡ over → result ≡ may_step strand.now list.now path.now now end }
+{
+    match &strand.stage {
+        Stage::Ready => path.is_empty() && strand.thread.has_next(list),
+        Stage::Delay(due) => path.is_empty() && *due <= now,
+        Stage::Wait(_) => path.is_empty() && over,
+        Stage::Sides(strands) => match path.split_first() {
+            Some((first, rest)) => match strands.get(*first as usize) {
+                Some(side) => may_step(
+                    side,
+                    side_list(&strand.thread, list, *first as usize),
+                    rest,
+                    now,
+                    over,
+                ),
+                None => false,
+            },
+            None => false,
+        },
+        Stage::Ended(_) => false,
+    }
+}
+
+/// The due of the delay of a branch of a strand.
+pub fn due_at(strand: &Strand, path: &[u32]) -> Option<Moment>
+    ensures { result ≡ dues strand.now path.now }
+{
+    match &strand.stage {
+        Stage::Delay(due) => { if path.is_empty() { Some(*due) } else { None } }
+        Stage::Sides(strands) => match path.split_first() {
+            Some((first, rest)) => match strands.get(*first as usize) {
+                Some(side) => due_at(side, rest),
+                None => None,
+            },
+            None => None,
+        },
+        Stage::Ready => None,
+        Stage::Wait(_) => None,
+        Stage::Ended(_) => None,
+    }
+}

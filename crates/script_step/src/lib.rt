@@ -1,0 +1,28 @@
+//! A run's script, step by step: its open blocks, loops, waits and parallel branches.
+#![tactic(auto)]
+
+mod act;
+mod asking;
+mod blocks;
+mod choices;
+mod fault;
+mod fields;
+mod forms;
+mod frames;
+mod gates;
+pub mod laws;
+mod listing;
+mod loops;
+mod next;
+mod own;
+mod parts;
+mod scopes;
+mod sides;
+mod spans;
+mod step;
+mod strand;
+mod targets;
+mod thread;
+mod turns;
+
+pub use frames::Frames;
