@@ -1,4 +1,4 @@
-//! Printing values, into one buffer.
+//! Printing values, and the parts of lines that they have, into one buffer.
 
 ghost use Rattle.std.specs.Prelude.{◌≡◌, ◌++◌, ◌<◌, encode_utf8, flat_map, IfOk, OnOk};
 ghost use Rattle.std.specs.Char.{digit_char};
@@ -22,7 +22,7 @@ fn hex_digit(digit: u8) -> u8
 }
 
 /// Appends an ASCII character of a string.
-fn push_ascii(text: &mut Word, byte: u8) -> Result<(), AllocError>
+pub fn push_ascii(text: &mut Word, byte: u8) -> Result<(), AllocError>
     requires { byte < 128 }
     ensures { OnOk result (text.new ≡ text.old ++ escaped_byte byte) }
 {
@@ -54,7 +54,7 @@ fn push_char(text: &mut Word, c: char) -> Result<(), AllocError>
 }
 
 /// Appends the characters of a string.
-fn push_chars(text: &mut Word, shown: &str) -> Result<(), AllocError>
+pub fn push_chars(text: &mut Word, shown: &str) -> Result<(), AllocError>
     ensures { OnOk result (text.new ≡ text.old ++ flat_map escaped_byte shown.now) }
 {
     for c in shown.chars() {
@@ -63,8 +63,8 @@ fn push_chars(text: &mut Word, shown: &str) -> Result<(), AllocError>
     Ok(())
 }
 
-/// Appends a string.
-fn push_quoted(text: &mut Word, shown: &str) -> Result<(), AllocError>
+/// Appends a string, with its quotes.
+pub fn push_quoted(text: &mut Word, shown: &str) -> Result<(), AllocError>
     ensures { OnOk result (text.new ≡ text.old ++ quoted shown.now) }
 {
     text.push_byte(b'"')?;
@@ -73,7 +73,7 @@ fn push_quoted(text: &mut Word, shown: &str) -> Result<(), AllocError>
 }
 
 /// Appends the comma before the item at a place, where one stands before it.
-fn push_comma(text: &mut Word, place: usize) -> Result<(), AllocError>
+pub fn push_comma(text: &mut Word, place: usize) -> Result<(), AllocError>
     ensures { OnOk result (text.new ≡ text.old ++ comma_at place) }
 {
     if place == 0 {
@@ -116,7 +116,7 @@ fn push_items(alloc: Global, text: &mut Word, items: &[Value]) -> Result<(), All
 
 /// Appends a map.
 #[cycle(print)]
-fn push_pairs(alloc: Global, text: &mut Word, pairs: &[(Word, Value)]) -> Result<(), AllocError>
+pub fn push_pairs(alloc: Global, text: &mut Word, pairs: &[(Word, Value)]) -> Result<(), AllocError>
     ensures { OnOk result (text.new ≡ text.old ++ print_pairs pairs.now) }
 {
     text.push_byte(b'{')?;

@@ -3,9 +3,3 @@ pub mod PastLemmas
 pub mod FiringLemmas
 pub mod HoldLaws
 pub mod EntryLaws
-pub mod ReadyLemmas
-pub mod AgreeLemmas
-pub mod RunPast
-pub mod RestedFlags
-pub mod Picked
-pub mod WaitLaws

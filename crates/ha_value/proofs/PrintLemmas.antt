@@ -217,10 +217,21 @@ unfolding raw
 small_in_range (Num.Whole z) h = grind (arith, nat_tests)
 small_in_range (Num.Fixed z) h = grind (arith, nat_tests)
 
+-- what is read of a printed number, in range or not
+pub whole-read : (z : ℤ) → unsigned_abs z < 2 ^ 64 → read_number (print_number (Num.Whole z)) ≡ kept_in_range (Num.Whole z)
+unfolding read_number print_number
+whole-read z b = ap (option_and_then kept_in_range) (print_whole_is_read z b)
+
+pub fixed-read : (z : ℤ) → unsigned_abs z < 2 ^ 64 → read_number (print_number (Num.Fixed z)) ≡ kept_in_range (Num.Fixed z)
+unfolding read_number
+fixed-read z b = ap (option_and_then kept_in_range) (print_fixed_is_read z b)
+
+pub ruleset prints = (whole-read, fixed-read)
+
 print_kept : (n : Num) → unsigned_abs (raw n) < 2 ^ 64 → read_number (print_number n) ≡ kept_in_range n
-unfolding raw read_number print_number
-print_kept (Num.Whole z) b = ap (option_and_then kept_in_range) (print_whole_is_read z b)
-print_kept (Num.Fixed z) b = ap (option_and_then kept_in_range) (print_fixed_is_read z b)
+unfolding raw
+print_kept (Num.Whole z) b = whole-read z b
+print_kept (Num.Fixed z) b = fixed-read z b
 
 pub print_is_read : (n : Num) → is_in_range n ≡ true → read_number (print_number n) ≡ Some n
 print_is_read n h = print_kept n (small_in_range n h) ∙ rw h refl

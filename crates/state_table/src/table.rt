@@ -54,7 +54,8 @@ impl StateTable {
         }
     }
 
-    fn find(&self, domain: &str, object: &str) -> Option<&StateObject>
+    /// The state of the entity with this domain and object id.
+    pub fn find(&self, domain: &str, object: &str) -> Option<&StateObject>
         ensures { option_copied result ≡ at self.now (record { domain = domain.now; object = object.now }) }
     {
         match self.domains.get(domain) {

@@ -1,0 +1,10 @@
+pub mod Capped
+pub mod Fields
+pub mod Holds
+pub mod Keys
+pub mod Kinds
+pub mod Parts
+pub mod Readings
+pub mod Spans
+pub mod Trees
+pub mod Values

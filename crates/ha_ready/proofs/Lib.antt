@@ -1,0 +1,6 @@
+pub mod ReadyLemmas
+pub mod AgreeLemmas
+pub mod RunPast
+pub mod RestedFlags
+pub mod Picked
+pub mod WaitLaws

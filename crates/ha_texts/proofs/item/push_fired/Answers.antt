@@ -1,0 +1,9 @@
+use Rattle.std.proofs.Common.{[], ◌∷◌, codes}
+use Rattle.ha_model.specs.ValueText.{map_text, print_pairs, quoted}
+use Rattle.ha_texts.proofs.LineLemmas.{one_pair, two_pairs}
+use Rattle.ha_texts.proofs.item.push_fired.Goals as goal
+
+pub returns : goal.returns
+returns c = one_pair (codes "fired") (map_text ((codes "event", quoted c.args.kind.now) ∷ (codes "data", print_pairs c.args.pairs.now) ∷ [])) _ _ _ _ c.in_ok-push_str.ensures.ok
+    (two_pairs (codes "event") (codes "data") (quoted c.args.kind.now) (print_pairs c.args.pairs.now) _ _ _ _ _ _ c.in_ok-push_str-2.ensures.ok (rw c.as_str.ensures.value at c.in_ok-push_quoted.ensures) c.in_ok-push_str-3.ensures.ok c.in_ok-push_pairs.ensures c.in_ok-push_byte.ensures.ok)
+    c.in_ok-push_byte-2.ensures.ok

@@ -1,0 +1,86 @@
+//! The line of a call.
+ghost use Rattle.std.specs.Prelude.{◌≡◌, ◌++◌, true, Some, IfOk, OnOk, map, option_map};
+ghost use Rattle.ha_model.specs.CommandText.{call_pairs};
+ghost use Rattle.ha_model.specs.Entries.{call_in, is_call};
+ghost use Rattle.ha_model.specs.Texts.{call_line as call_line_lem};
+ghost use Rattle.ha_model.specs.ValueText.{comma_joined, pair_text};
+
+use crate::parts::{push_ids, push_number};
+use flow_line::{push_pairs, push_quoted};
+use ha_model::Item;
+use ha_value::{EntityId, Value, Word};
+use std::alloc::{AllocError, Global};
+
+/// Appends the service, the targets and the data of a call, as they stand in a map.
+pub(crate) fn push_call(
+    alloc: Global,
+    text: &mut Word,
+    service: &Word,
+    target: &[EntityId],
+    fields: &[(Word, Value)],
+) -> Result<(), AllocError>
+    ensures { OnOk result (text.new ≡ text.old ++ comma_joined (map (λ p. pair_text p.0 p.1) (call_pairs service.now target.now fields.now))) }
+{
+    text.push_str("\"service\":")?;
+    push_quoted(text, service.as_str())?;
+    text.push_str(",\"target\":")?;
+    push_ids(text, target)?;
+    text.push_str(",\"data\":")?;
+    push_pairs(alloc, text, fields)?;
+    Ok(())
+}
+
+fn line_of_call(
+    alloc: Global,
+    name: &Word,
+    number: u64,
+    call: u64,
+    service: &Word,
+    target: &[EntityId],
+    fields: &[(Word, Value)],
+) -> Result<Word, AllocError>
+    ensures { IfOk result (λ line. line ≡ call_line_lem name.now number call (record { service = service.now; target = target.now; fields = fields.now })) }
+{
+    let mut line = Word::new(alloc);
+    line.push_str("{\"run\":")?;
+    push_quoted(&mut line, name.as_str())?;
+    line.push_str(",\"number\":")?;
+    push_number(alloc, &mut line, number)?;
+    line.push_str(",\"call\":")?;
+    push_number(alloc, &mut line, call)?;
+    line.push_byte(b',')?;
+    push_call(alloc, &mut line, service, target, fields)?;
+    line.push_str("}\n")?;
+    Ok(line)
+}
+
+/// The line of a call: the automation's name, the number of the run among the runs of that automation, and the number of
+/// the call within the run.
+pub fn call_line(
+    alloc: Global,
+    name: &Word,
+    number: u64,
+    call: u64,
+    item: &Item,
+) -> Result<Word, AllocError>
+    requires { is_call item.now ≡ true }
+    ensures { IfOk result (λ line. option_map (call_line_lem name.now number call) (call_in item.now) ≡ Some line) }
+{
+    let Item::Call {
+        service,
+        target,
+        fields,
+    } = item
+    else {
+        unreachable!()
+    };
+    line_of_call(
+        alloc,
+        name,
+        number,
+        call,
+        service,
+        target.as_slice(),
+        fields.as_slice(),
+    )
+}

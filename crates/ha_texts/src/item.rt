@@ -1,0 +1,173 @@
+//! Items in the trace.
+ghost use Rattle.std.specs.Prelude.{◌≡◌, ◌++◌, map, OnOk};
+ghost use Rattle.ha_model.specs.CommandText.{item_text, switched_text};
+ghost use Rattle.ha_model.specs.Switches.{name_of};
+ghost use Rattle.ha_model.specs.ValueText.{list_text, quoted};
+ghost use Rattle.ha_model.specs.declared.journal.Item.TheVariants.{Call, Failed, Fired, Switched, Triggered};
+
+use crate::call::push_call;
+use crate::names::{push_failure_code, push_flag, push_name};
+use flow_line::{push_comma, push_pairs, push_quoted};
+use ha_model::{Automation, Item};
+use ha_value::{EntityId, Value, Word};
+use std::alloc::{AllocError, Global};
+
+fn push_called(
+    alloc: Global,
+    text: &mut Word,
+    all: &[Automation],
+    service: &Word,
+    target: &[EntityId],
+    fields: &[(Word, Value)],
+) -> Result<(), AllocError>
+    ensures { OnOk result (text.new ≡ text.old ++ item_text all.now (Call service.now target.now fields.now)) }
+{
+    text.push_str("{\"call\":")?;
+    text.push_byte(b'{')?;
+    push_call(alloc, text, service, target, fields)?;
+    text.push_byte(b'}')?;
+    text.push_byte(b'}')?;
+    Ok(())
+}
+
+fn push_fired(
+    alloc: Global,
+    text: &mut Word,
+    all: &[Automation],
+    kind: &Word,
+    pairs: &[(Word, Value)],
+) -> Result<(), AllocError>
+    ensures { OnOk result (text.new ≡ text.old ++ item_text all.now (Fired kind.now pairs.now)) }
+{
+    text.push_str("{\"fired\":")?;
+    text.push_str("{\"event\":")?;
+    push_quoted(text, kind.as_str())?;
+    text.push_str(",\"data\":")?;
+    push_pairs(alloc, text, pairs)?;
+    text.push_byte(b'}')?;
+    text.push_byte(b'}')?;
+    Ok(())
+}
+
+/// Appends an automation that was switched.
+fn push_turn(
+    text: &mut Word,
+    all: &[Automation],
+    target: (u32, bool, bool),
+) -> Result<(), AllocError>
+    ensures { OnOk result (text.new ≡ text.old ++ switched_text all.now target) }
+{
+    text.push_str("{\"automation\":")?;
+    push_name(text, all, target.0)?;
+    text.push_str(",\"on\":")?;
+    push_flag(text, target.1)?;
+    text.push_str(",\"stop\":")?;
+    push_flag(text, target.2)?;
+    text.push_byte(b'}')?;
+    Ok(())
+}
+
+fn push_turns(
+    text: &mut Word,
+    all: &[Automation],
+    targets: &[(u32, bool, bool)],
+) -> Result<(), AllocError>
+    ensures { OnOk result (text.new ≡ text.old ++ list_text (map (switched_text all.now) targets.now)) }
+{
+    text.push_byte(b'[')?;
+    for i in 0..targets.len() {
+        push_comma(text, i)?;
+        let target = &targets[i];
+        push_turn(text, all, *target)?;
+    }
+    text.push_byte(b']')
+}
+
+fn push_switched(
+    text: &mut Word,
+    all: &[Automation],
+    targets: &[(u32, bool, bool)],
+) -> Result<(), AllocError>
+    ensures { OnOk result (text.new ≡ text.old ++ item_text all.now (Switched targets.now)) }
+{
+    text.push_str("{\"switched\":")?;
+    push_turns(text, all, targets)?;
+    text.push_byte(b'}')?;
+    Ok(())
+}
+
+fn push_asked(text: &mut Word, all: &[Automation], asked: &[u32]) -> Result<(), AllocError>
+    ensures { OnOk result (text.new ≡ text.old ++ list_text (map (λ a. quoted (name_of all.now a)) asked.now)) }
+{
+    text.push_byte(b'[')?;
+    for i in 0..asked.len() {
+        push_comma(text, i)?;
+        let at = &asked[i];
+        push_name(text, all, *at)?;
+    }
+    text.push_byte(b']')
+}
+
+fn push_triggered(
+    text: &mut Word,
+    all: &[Automation],
+    asked: &[u32],
+    skip: bool,
+) -> Result<(), AllocError>
+    ensures { OnOk result (text.new ≡ text.old ++ item_text all.now (Triggered asked.now skip)) }
+{
+    text.push_str("{\"triggered\":")?;
+    text.push_str("{\"automations\":")?;
+    push_asked(text, all, asked)?;
+    text.push_str(",\"skip_condition\":")?;
+    push_flag(text, skip)?;
+    text.push_byte(b'}')?;
+    text.push_byte(b'}')?;
+    Ok(())
+}
+
+fn push_failed(
+    alloc: Global,
+    text: &mut Word,
+    all: &[Automation],
+    code: u8,
+) -> Result<(), AllocError>
+    ensures { OnOk result (text.new ≡ text.old ++ item_text all.now (Failed code)) }
+{
+    text.push_str("{\"failed\":")?;
+    push_failure_code(alloc, text, code)?;
+    text.push_byte(b'}')?;
+    Ok(())
+}
+
+/// Appends an item.
+pub(crate) fn push_item(
+    alloc: Global,
+    text: &mut Word,
+    all: &[Automation],
+    item: &Item,
+) -> Result<(), AllocError>
+    ensures { OnOk result (text.new ≡ text.old ++ item_text all.now item.now) }
+{
+    match item {
+        Item::Nothing => text.push_str("{\"nothing\":true}"),
+        Item::Call {
+            service,
+            target,
+            fields,
+        } => push_called(
+            alloc,
+            text,
+            all,
+            service,
+            target.as_slice(),
+            fields.as_slice(),
+        ),
+        Item::Fired { kind, pairs } => push_fired(alloc, text, all, kind, pairs.as_slice()),
+        Item::Switched(targets) => push_switched(text, all, targets.as_slice()),
+        Item::Triggered { automations, skip } => {
+            push_triggered(text, all, automations.as_slice(), *skip)
+        }
+        Item::Failed(code) => push_failed(alloc, text, all, *code),
+    }
+}

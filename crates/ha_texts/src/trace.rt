@@ -1,0 +1,139 @@
+//! The line of an entry in the trace.
+ghost use Rattle.std.specs.Prelude.{◌≡◌, ◌≤◌, ◌∷◌, [], ◌++◌, IfOk, OnOk, codes, decimal, map};
+ghost use Rattle.ha_clock.specs.Local.{last_moment};
+ghost use Rattle.ha_clock.specs.Print.{moment_text};
+ghost use Rattle.ha_model.specs.CommandText.{cmd_text, item_text, one_key};
+ghost use Rattle.ha_model.specs.Texts.{stored_text, trace_line as trace_line_lem};
+ghost use Rattle.ha_model.specs.ValueText.{list_text, map_text, quoted};
+ghost use Rattle.ha_texts.specs.Lines.{entry_text, AreDated, IsDated};
+
+use crate::command::push_cmd;
+use crate::item::push_item;
+use crate::names::{push_moment, push_numbers, push_switches};
+use crate::parts::push_number;
+use flow_line::push_quoted;
+use ha_clock::Moment;
+use ha_model::{Automation, Cmd, Config, Entry, Item};
+use ha_value::{Many, Word};
+use std::alloc::{AllocError, Global};
+
+/// Appends the switches that were stored.
+fn push_stored(text: &mut Word, stored: &Option<Many<(Word, bool)>>) -> Result<(), AllocError>
+    ensures { OnOk result (text.new ≡ text.old ++ stored_text stored.now) }
+{
+    match stored {
+        None => text.push_str("null"),
+        Some(switches) => push_switches(text, switches.as_slice()),
+    }
+}
+
+fn push_boot(
+    alloc: Global,
+    text: &mut Word,
+    config: &Word,
+    stored: &Option<Many<(Word, bool)>>,
+    start: Moment,
+    zone: &Word,
+) -> Result<(), AllocError>
+    requires { start ≤ last_moment }
+    ensures { OnOk result (text.new ≡ text.old ++ one_key (codes "boot") (map_text ((codes "config", quoted config.now) ∷ (codes "stored", stored_text stored.now) ∷ (codes "start", quoted (moment_text start)) ∷ (codes "zone", quoted zone.now) ∷ []))) }
+{
+    text.push_str("{\"boot\":")?;
+    text.push_str("{\"config\":")?;
+    push_quoted(text, config.as_str())?;
+    text.push_str(",\"stored\":")?;
+    push_stored(text, stored)?;
+    text.push_str(",\"start\":")?;
+    push_moment(alloc, text, start)?;
+    text.push_str(",\"zone\":")?;
+    push_quoted(text, zone.as_str())?;
+    text.push_byte(b'}')?;
+    text.push_byte(b'}')?;
+    Ok(())
+}
+
+fn push_line(
+    alloc: Global,
+    text: &mut Word,
+    source: u32,
+    number: u64,
+    cmd: &Cmd,
+) -> Result<(), AllocError>
+    requires { IsDated cmd.now }
+    ensures { OnOk result (text.new ≡ text.old ++ map_text ((codes "source", decimal source) ∷ (codes "number", decimal number) ∷ (codes "cmd", cmd_text cmd.now) ∷ [])) }
+{
+    text.push_str("{\"source\":")?;
+    push_number(alloc, text, u64::from(source))?;
+    text.push_str(",\"number\":")?;
+    push_number(alloc, text, number)?;
+    text.push_str(",\"cmd\":")?;
+    push_cmd(alloc, text, cmd)?;
+    text.push_byte(b'}')?;
+    Ok(())
+}
+
+fn push_step(
+    alloc: Global,
+    text: &mut Word,
+    all: &[Automation],
+    worker: u32,
+    serial: u64,
+    branch: &[u32],
+    item: &Item,
+) -> Result<(), AllocError>
+    ensures { OnOk result (text.new ≡ text.old ++ map_text ((codes "worker", decimal worker) ∷ (codes "run", decimal serial) ∷ (codes "branch", list_text (map decimal branch.now)) ∷ (codes "item", item_text all.now item.now) ∷ [])) }
+{
+    text.push_str("{\"worker\":")?;
+    push_number(alloc, text, u64::from(worker))?;
+    text.push_str(",\"run\":")?;
+    push_number(alloc, text, serial)?;
+    text.push_str(",\"branch\":")?;
+    push_numbers(alloc, text, branch)?;
+    text.push_str(",\"item\":")?;
+    push_item(alloc, text, all, item)?;
+    text.push_byte(b'}')?;
+    Ok(())
+}
+
+/// Appends an entry.
+fn push_entry(
+    alloc: Global,
+    text: &mut Word,
+    entry: &Entry,
+    all: &[Automation],
+) -> Result<(), AllocError>
+    requires { AreDated entry.now }
+    ensures { OnOk result (text.new ≡ text.old ++ entry_text all.now entry.now) }
+{
+    match entry {
+        Entry::Boot {
+            text: config,
+            stored,
+            start,
+            zone,
+            ..
+        } => push_boot(alloc, text, config, stored, *start, zone),
+        Entry::Line {
+            source,
+            number,
+            cmd,
+        } => push_line(alloc, text, *source, *number, cmd),
+        Entry::Step {
+            worker,
+            serial,
+            branch,
+            item,
+        } => push_step(alloc, text, all, *worker, *serial, branch.as_slice(), item),
+    }
+}
+
+/// The line of an entry in the trace.
+pub fn trace_line(alloc: Global, entry: &Entry, config: &Config) -> Result<Word, AllocError>
+    requires { AreDated entry.now }
+    ensures { IfOk result (λ line. line ≡ trace_line_lem config.now.automations entry.now) }
+{
+    let mut line = Word::new(alloc);
+    push_entry(alloc, &mut line, entry, config.automations.as_slice())?;
+    line.push_byte(b'\n')?;
+    Ok(line)
+}

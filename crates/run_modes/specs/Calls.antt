@@ -1,0 +1,54 @@
+-- The calls that one entry asks for, and which journals a table stands for.
+use Rattle.std.specs.Prelude.{◌≡◌, ℕ, Bool, nat_eq, List, length, fold, Option, Some, None, option_and_then, if◌then◌else◌}
+use Rattle.std.specs.List.{list_any}
+use Rattle.std.specs.Option.{option_map_or}
+use Rattle.ha_model.specs.declared.journal.EndCause.{EndCause}
+use Rattle.ha_model.specs.declared.journal.Entry.{Entry}
+use Rattle.ha_model.specs.Entries.{Stepped, step_of, is_restart, is_call}
+use Rattle.ha_model.specs.Journal.{Journal, automations}
+use Rattle.ha_model.specs.Attempts.{Attempt}
+use Rattle.ha_model.specs.Records.{Records, last_place, mode_of, max_of, stops, records_of}
+use Rattle.ha_model.specs.NextPlace.{next_end}
+use Rattle.ha_model.specs.Lawful.{record_of}
+use Rattle.run_modes.specs.Table.{RunTable, attempted, ended_at, stopped, called_on}
+
+-- a table stands for a journal: its records are those of the journal
+abbrev pub StandsFor : RunTable → Journal → Type 0
+StandsFor t j = t.list ≡ records_of j
+
+-- ---- the calls for the entry at place p, in order: the call and the end of its own run, the stops, the attempts
+
+abbrev pub call_counted : Bool → ℕ → Records → Records
+call_counted made serial rs = if made then called_on serial rs else rs
+
+abbrev pub own_ended : ℕ → ℕ → Option EndCause → Records → Records
+own_ended p serial None rs = rs
+own_ended p serial (Some cause) rs = ended_at serial p cause rs
+
+-- how the step of a run ends its script, if it does
+abbrev pub step_end : Journal → Records → Stepped → Option EndCause
+step_end j rs s = option_and_then (λ r. next_end j r s.branch) (record_of rs s.serial)
+
+abbrev pub step_done : Journal → Records → Stepped → Records
+step_done j rs s = own_ended (length j) s.serial (step_end j rs s) (call_counted (is_call s.item) s.serial rs)
+
+abbrev pub steps_done : Journal → Records → Entry → Records
+steps_done j rs x = option_map_or (step_done j rs) (step_of x) rs
+
+-- the stops: of all at a Restart, else of these automations in turn
+abbrev pub stop_turned : ℕ → Records → ℕ → Records
+stop_turned p rs a = stopped (Some a) p EndCause.SwitchedOff rs
+
+abbrev pub stops_done : ℕ → Entry → List ℕ → Records → Records
+stops_done p x turned rs = if is_restart x then stopped None p EndCause.Restarted rs else fold (stop_turned p) rs turned
+
+-- these are the automations that the entry turns off so that their runs end
+abbrev pub AreTurned : Journal → Entry → List ℕ → Type 0
+AreTurned j x turned = (a : ℕ) → stops (automations j) a x ≡ list_any (λ b. nat_eq b a) turned
+
+-- an attempt of the last entry, with its order there
+abbrev pub tried : Journal → Records → ℕ × Attempt → Records
+tried k rs x = attempted x.1.automation (mode_of (automations k) x.1.automation) (max_of (automations k) x.1.automation) (last_place k) x.0 x.1.env rs
+
+abbrev pub all_tried : Journal → Records → List (ℕ × Attempt) → Records
+all_tried k rs xs = fold (tried k) rs xs

@@ -1,0 +1,4 @@
+pub mod BookLemmas
+pub mod SwitchLaws
+pub mod StoredLaws
+pub mod StandLemmas

@@ -1,0 +1,31 @@
+-- Rules of times, and what is asked of them where the clock is always as far ahead of UTC.
+use Rattle.std.specs.Prelude.{◌≡◌, ℕ, ◌+◌, ◌-◌, ◌%◌, ◌<◌, ◌≤◌, Bool, true, false, ◌||◌, codes}
+use Rattle.std.specs.Str.{bytes_eq}
+use Rattle.ha_clock.specs.Zone.{is_offset}
+use Rattle.ha_model.specs.declared.config.TriggerRule.{TriggerRule}
+use Rattle.ha_model.specs.Words.{Text}
+use Rattle.ha_model.specs.Triggers.{second_fits}
+
+-- the rule is one of times or a pattern
+abbrev pub has_times : TriggerRule → Bool
+has_times (TriggerRule.Time seconds) = true
+has_times (TriggerRule.Pattern hours minutes seconds) = true
+has_times (TriggerRule.State entities attribute from to) = false
+has_times (TriggerRule.Numeric entities attribute above below) = false
+has_times (TriggerRule.Event kinds pairs) = false
+has_times (TriggerRule.Template t) = false
+has_times TriggerRule.Start = false
+
+-- ---- by arithmetic on the second of the day
+
+-- the zone of the text is UTC or an offset: its clock is always as far ahead
+abbrev pub is_steady : Text → Bool
+is_steady zone = bytes_eq zone (codes "UTC") || is_offset zone
+
+-- one of the seconds of the day from `first` on, before `end`, fits the rule
+abbrev pub HasTime : TriggerRule → ℕ → ℕ → Type 0
+HasTime rule first end = (s : ℕ) × ((first ≤ s) × (s < end) × (second_fits rule s ≡ true))
+
+-- one of the `count` seconds that end with the second of the day `last` is one, perhaps of days before
+abbrev pub HasTimeBack : TriggerRule → ℕ → ℕ → Type 0
+HasTimeBack rule last count = (k : ℕ) × ((k < count) × (second_fits rule ((last + 86_400 - k % 86_400) % 86_400) ≡ true))

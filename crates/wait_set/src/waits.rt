@@ -1,0 +1,296 @@
+//! The set of pending and ended waits.
+ghost use Rattle.std.specs.Prelude.{◌≡◌, ◌≤◌, ◌<◌, suc, take, drop, filter, not, vec_capacity, [], ◌∷◌, ◌++◌, IfOk, OnOk, OnErr, IsOk, IsTrue, None, Some, true, false, length, nat_eq, is_none, is_some, ◌||◌, slice_get, ◌&&◌, List, ℕ};
+ghost use Rattle.std.specs.List.{list_any};
+ghost use Rattle.std.specs.Option.{option_copied};
+ghost use Rattle.ha_model.specs.declared.journal.Entry.{Entry};
+ghost use Rattle.ha_model.specs.Journal.{HasEntry, Journal};
+ghost use Rattle.ha_model.specs.RecordSteps.{more};
+ghost use Rattle.ha_model.specs.Scripts.{Branch as Path};
+ghost use Rattle.wait_set.specs.declared.asked.Asked.{Asked as Wait};
+ghost use Rattle.wait_set.specs.Asked.{added, end_of, is_of, noted, owners_ended, owners_of, wait_of, without_run};
+ghost use Rattle.wait_set.specs.Stands.{IsNext, StandsFor};
+ghost use Rattle.wait_set.specs.Timers.{AreTimed, timer_added};
+ghost use Rattle.timer_queue.specs.Timers.{due_of, removed};
+
+use crate::asked::{Asked, is_of, note_one};
+use ha_model::{Answers, Branch, Ended, Firing, Many, Moment, WaitAsk, WaitEnd};
+use std::alloc::{AllocError, Global};
+use std::marker::Model;
+use timer_queue::TimerQueue;
+
+/// The waits of all runs, in the order in which they were asked for, with the dues of those that
+/// have not ended; and who owns those that ended at the entry noted last.
+#[derive(Drop)]
+pub struct Waits {
+    asks: Vec<Asked>,
+    fresh: Vec<u64>,
+    timers: TimerQueue,
+}
+
+impl Model for Waits {
+    ghost use Rattle.std.specs.Coded.{codes};
+    ghost use Rattle.ha_value.specs.contracts.value.Value as value;
+    ghost use Rattle.ha_model.specs.contracts.template.Expr as expr;
+    ghost use Rattle.ha_model.specs.contracts.template.Piece as piece;
+    ghost use Rattle.ha_model.specs.contracts.template.Template as template;
+    ghost use Rattle.wait_set.specs.Asked.{WaitTable};
+
+    ghost Value = { WaitTable };
+
+    ghost coded = { Prim.hlevel (codes, value.the_row.coded, expr.the_row.coded, piece.the_row.coded, template.the_row.coded) };
+
+    ghost use Rattle.wait_set.specs.Timers.{AreTimed};
+
+    ghost view = { λ w. record { asks = w.asks.items; fresh = w.fresh.items } };
+
+    ghost invariant = { λ w. AreTimed w.asks.items w.timers };
+}
+
+impl Waits {
+    /// No waits.
+    pub fn make(alloc: Global) -> Waits
+        ensures asks { result.asks ≡ [] }
+        ensures fresh { result.fresh ≡ [] }
+        ensures stands { (j : Journal) → StandsFor result.asks j }
+    {
+        Waits {
+            asks: Vec::new(alloc),
+            fresh: Vec::new(alloc),
+            timers: TimerQueue::make(alloc),
+        }
+    }
+
+    /// A wait, asked for by the step at `place`; its triggers are attached under `owner`. An ended
+    /// wait of its run and branch gives way to it. After an error all is as before.
+    pub fn add(&mut self, ask: WaitAsk, owner: u64, place: u64) -> Result<(), AllocError>
+        requires owner { list_any (λ a. nat_eq a.owner owner) self.old.asks ≡ false }
+        requires pending { list_any (λ a. is_of ask.serial ask.branch a && is_none a.end) self.old.asks ≡ false }
+        ensures ok { OnOk result (self.new.asks ≡ added (record { owner = owner; place = place; ask = ask; end = None }) self.old.asks) }
+        ensures fresh { self.new.fresh ≡ self.old.fresh }
+        ensures err { OnErr result (self.new.asks ≡ self.old.asks) }
+        ensures stands { OnOk result ((j : Journal) → HasEntry j → StandsFor self.old.asks j → place ≡ length j → StandsFor self.new.asks j) }
+    {
+        add_one(
+            &mut self.asks,
+            &mut self.timers,
+            Asked {
+                owner,
+                place,
+                ask,
+                end: None,
+            },
+        )?;
+        Ok(())
+    }
+
+    /// Notes the next entry, where `answers` holds what is seen after it, and `fired` what fires
+    /// at it, of other owners too. After an error the set may only be dropped.
+    pub fn note<A: Answers>(
+        &mut self,
+        alloc: Global,
+        place: u64,
+        fired: &Many<Firing>,
+        answers: &A,
+    ) -> Result<(), AllocError>
+        ensures ok { OnOk result (self.new.asks ≡ noted place (A.sight answers.now) fired.now self.old.asks) }
+        ensures fresh { OnOk result (self.new.fresh ≡ owners_ended place (A.sight answers.now) fired.now self.old.asks) }
+        ensures told { OnOk result ((serial : ℕ) (branch : Path) (a : Wait) → wait_of serial branch self.old.asks ≡ Some a
+            → is_some (end_of self.new.asks serial branch) ≡ (is_some (end_of self.old.asks serial branch) || list_any (nat_eq a.owner) self.new.fresh)) }
+        ensures stands { OnOk result ((j : Journal) (x : Entry) → StandsFor self.old.asks j → IsNext j place x (A.sight answers.now) fired.now self.old.asks → StandsFor self.new.asks (more j x)) }
+    {
+        self.fresh.clear();
+        note_all(
+            alloc,
+            &mut self.asks,
+            &mut self.fresh,
+            &mut self.timers,
+            place,
+            fired,
+            answers,
+        )?;
+        Ok(())
+    }
+
+    /// The owners of the waits that ended at the entry noted last, in the order in which they were
+    /// asked for.
+    pub fn ended_now(&self) -> &[u64]
+        ensures { result.now ≡ self.now.fresh }
+    {
+        self.fresh.as_slice()
+    }
+
+    /// The owner of one of the waits of a run, in the order in which they were asked for.
+    pub fn owner_of(&self, serial: u64, at: usize) -> Option<u64>
+        ensures { result ≡ slice_get (owners_of serial self.now.asks) at }
+    {
+        owner_at(self.asks.as_slice(), serial, at)
+    }
+
+    /// The waits of the run with this serial go. Takes no memory.
+    pub fn drop_run(&mut self, serial: u64)
+        ensures rest { self.new.asks ≡ without_run serial self.old.asks }
+        ensures fresh { self.new.fresh ≡ self.old.fresh }
+        ensures stands { (j : Journal) → StandsFor self.old.asks j → StandsFor self.new.asks j }
+    {
+        drop_all(&mut self.asks, &mut self.timers, serial);
+    }
+}
+
+impl Ended for Waits {
+    ghost ends = { λ w serial branch. end_of w.asks serial branch };
+
+    fn ended(&self, serial: u64, branch: &Branch) -> Option<&WaitEnd> {
+        match find_ask(self.asks.as_slice(), serial, branch) {
+            Some(asked) => asked.end.as_ref(),
+            None => None,
+        }
+    }
+}
+
+/// Takes a wait in, and its due, where the ended ones of its run and branch go.
+fn add_one(asks: &mut Vec<Asked>, timers: &mut TimerQueue, asked: Asked) -> Result<(), AllocError>
+    requires timed { AreTimed asks.old.items timers.old }
+    requires owner { list_any (λ a. nat_eq a.owner asked.owner) asks.old.items ≡ false }
+    requires pending { list_any (λ a. is_of asked.ask.serial asked.ask.branch a && is_none a.end) asks.old.items ≡ false }
+    requires fresh { asked.end ≡ None }
+    ensures ok { OnOk result (asks.new.items ≡ added asked asks.old.items) }
+    ensures err { OnErr result (asks.new.items ≡ asks.old.items) }
+    ensures timed { AreTimed asks.new.items timers.new }
+{
+    make_place(asks, timers, &asked)?;
+    asks.push_reserved(asked);
+    Ok(())
+}
+
+/// Makes place for a wait: its timer is set, and the waits of its run and branch go.
+fn make_place(
+    asks: &mut Vec<Asked>,
+    timers: &mut TimerQueue,
+    asked: &Asked,
+) -> Result<(), AllocError>
+    requires { due_of asked.now.owner timers.old ≡ None }
+    ensures asks { OnOk result (asks.new.items ≡ filter (λ b. not (is_of asked.now.ask.serial asked.now.ask.branch b)) asks.old.items) }
+    ensures timers { OnOk result (timers.new ≡ timer_added asked.now.ask.due asked.now.owner timers.old) }
+    ensures room { OnOk result (length asks.new.items < vec_capacity asks.new) }
+    ensures err { OnErr result ((asks.new.items ≡ asks.old.items) × (timers.new ≡ timers.old)) }
+{
+    asks.reserve(1)?;
+    set_timer(timers, asked.ask.due, asked.owner)?;
+    drop_ended(asks, asked);
+    Ok(())
+}
+
+/// A timer for the owner, where there is a due.
+fn set_timer(timers: &mut TimerQueue, due: Option<Moment>, owner: u64) -> Result<(), AllocError>
+    requires { due_of owner timers.old ≡ None }
+    ensures ok { OnOk result (timers.new ≡ timer_added due owner timers.old) }
+    ensures err { OnErr result (timers.new ≡ timers.old) }
+{
+    let Some(due) = due else {
+        return Ok(());
+    };
+    match timers.insert(due, owner) {
+        Ok(_) => Ok(()),
+        Err(_) => Err(AllocError),
+    }
+}
+
+/// Takes the waits of a wait's run and branch out.
+fn drop_ended(asks: &mut Vec<Asked>, asked: &Asked)
+    ensures rest { asks.new.items ≡ filter (λ b. not (is_of asked.now.ask.serial asked.now.ask.branch b)) asks.old.items }
+    ensures len { length asks.new.items ≤ length asks.old.items }
+    ensures capacity { vec_capacity asks.new ≡ vec_capacity asks.old }
+{
+    let mut at = 0;
+    while at < asks.len() {
+        if is_of(&asks[at], asked.ask.serial, &asked.ask.branch) {
+            cut(asks, at);
+        } else {
+            at += 1;
+        }
+    }
+}
+
+/// Notes an entry with each wait in turn.
+fn note_all<A: Answers>(
+    alloc: Global,
+    asks: &mut Vec<Asked>,
+    fresh: &mut Vec<u64>,
+    timers: &mut TimerQueue,
+    place: u64,
+    fired: &Many<Firing>,
+    answers: &A,
+) -> Result<(), AllocError>
+    requires { AreTimed asks.old.items timers.old }
+    ensures ok { OnOk result (asks.new.items ≡ noted place (A.sight answers.now) fired.now asks.old.items) }
+    ensures fresh { OnOk result (fresh.new.items ≡ fresh.old.items ++ owners_ended place (A.sight answers.now) fired.now asks.old.items) }
+    ensures timed { AreTimed asks.new.items timers.new }
+{
+    for at in 0..asks.len() {
+        let asked = &mut asks[at];
+        let owner = asked.owner;
+        if note_one(alloc, asked, place, fired, answers)? {
+            mark(timers, fresh, owner)?;
+        }
+    }
+    Ok(())
+}
+
+/// The wait of this owner has ended: its timer goes.
+fn mark(timers: &mut TimerQueue, fresh: &mut Vec<u64>, owner: u64) -> Result<(), AllocError>
+    ensures timers { timers.new ≡ removed owner timers.old }
+    ensures fresh { OnOk result (fresh.new.items ≡ fresh.old.items ++ (owner ∷ [])) }
+{
+    timers.remove(owner);
+    fresh.push(owner)?;
+    Ok(())
+}
+
+/// Takes the waits of a run out, with their timers.
+fn drop_all(asks: &mut Vec<Asked>, timers: &mut TimerQueue, serial: u64)
+    requires { AreTimed asks.old.items timers.old }
+    ensures rest { asks.new.items ≡ without_run serial asks.old.items }
+    ensures timed { AreTimed asks.new.items timers.new }
+{
+    let mut at = 0;
+    while at < asks.len() {
+        if asks[at].ask.serial == serial {
+            timers.remove(asks[at].owner);
+            cut(asks, at);
+        } else {
+            at += 1;
+        }
+    }
+}
+
+/// Takes one wait out.
+fn cut(asks: &mut Vec<Asked>, at: usize)
+    requires { at < length asks.old.items }
+    ensures items { asks.new.items ≡ take at asks.old.items ++ drop (suc at) asks.old.items }
+    ensures capacity { vec_capacity asks.new ≡ vec_capacity asks.old }
+{
+    asks.remove(at);
+}
+
+/// The wait of a run in a branch.
+fn find_ask<'a>(asks: &'a [Asked], serial: u64, branch: &Branch) -> Option<&'a Asked>
+    ensures { option_copied result ≡ wait_of serial branch.now asks.now }
+{
+    asks.iter().find(|asked| is_of(asked, serial, branch))
+}
+
+/// The owner of one of the waits of a run.
+fn owner_at(asks: &[Asked], serial: u64, at: usize) -> Option<u64>
+    ensures { result ≡ slice_get (owners_of serial asks.now) at }
+{
+    let mut left = at;
+    for asked in asks {
+        if asked.ask.serial == serial {
+            if left == 0 {
+                return Some(asked.owner);
+            }
+            left -= 1;
+        }
+    }
+    None
+}
