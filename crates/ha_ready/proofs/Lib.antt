@@ -4,3 +4,4 @@ pub mod RunPast
 pub mod RestedFlags
 pub mod Picked
 pub mod WaitLaws
+pub mod OneMove

@@ -1,11 +1,12 @@
 //! Laws on the runs and sources of a journal with one more entry. Each is a function that does nothing; its contract is the law.
-ghost use Rattle.std.specs.Prelude.{◌≡◌, ◌<◌, ◌≤◌, ℕ, suc, Bool, true, false, ◌||◌, List, None, Some, length, if◌then◌else◌};
+ghost use Rattle.std.specs.Prelude.{◌≡◌, ◌<◌, ◌≤◌, ℕ, suc, Bool, true, false, ◌||◌, List, Option, None, Some, length, if◌then◌else◌};
+ghost use Rattle.ha_value.specs.declared.value.EntityId.{EntityId};
 ghost use Rattle.ha_model.specs.declared.journal.EndCause.{EndCause};
 ghost use Rattle.ha_model.specs.declared.journal.Entry.{Entry};
 ghost use Rattle.ha_model.specs.declared.journal.Record.{Record};
 ghost use Rattle.ha_model.specs.declared.config.Trigger.{Trigger};
 ghost use Rattle.ha_model.specs.Journal.{HasEntry, Journal};
-ghost use Rattle.ha_model.specs.Triggers.{firings};
+ghost use Rattle.ha_model.specs.Triggers.{fires, firings};
 ghost use Rattle.ha_model.specs.Scripts.{Ask, Branch};
 ghost use Rattle.ha_model.specs.Waits.{completes, end_at, is_over, wait_end};
 ghost use Rattle.ha_model.specs.Records.{Records, or_else};
@@ -58,4 +59,9 @@ pub fn waits_of_one_more()
     ensures firings { (j : Journal) (x : Entry) → HasEntry j → (ts : List Trigger) (since q : ℕ) → q < length j → firings (more j x) ts since q ≡ firings j ts since q }
     ensures end { (j : Journal) (x : Entry) → HasEntry j → (ask : Ask) (p : ℕ) → p ≤ length j → wait_end (more j x) ask p
         ≡ or_else (wait_end j ask p) (if completes (more j x) ask p (length j) || is_over (more j x) ask p (length j) then Some (end_at (more j x) ask p (length j)) else None) }
+{}
+
+/// At most one entry is the one that a firing of a trigger counts from: with `for` the one at which it moved, and else that of its place.
+pub fn a_firing_counts_from_one_entry()
+    ensures { (j : Journal) (t : Trigger) (e : Option EntityId) (since p i k : ℕ) → i ≤ p → k ≤ p → fires j t e since p i ≡ true → fires j t e since p k ≡ true → i ≡ k }
 {}
