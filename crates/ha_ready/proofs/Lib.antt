@@ -5,3 +5,4 @@ pub mod RestedFlags
 pub mod Picked
 pub mod WaitLaws
 pub mod OneMove
+pub mod ListedBranches

@@ -1,17 +1,19 @@
 //! Laws on the runs and sources of a journal with one more entry. Each is a function that does nothing; its contract is the law.
-ghost use Rattle.std.specs.Prelude.{◌≡◌, ◌<◌, ◌≤◌, ℕ, suc, Bool, true, false, ◌||◌, List, Option, None, Some, length, if◌then◌else◌};
+ghost use Rattle.std.specs.Prelude.{◌≡◌, ◌<◌, ◌≤◌, ℕ, suc, Bool, true, false, ◌||◌, List, Option, None, Some, length, bytes_eq, if◌then◌else◌};
+ghost use Rattle.std.specs.List.{list_any};
 ghost use Rattle.ha_value.specs.declared.value.EntityId.{EntityId};
 ghost use Rattle.ha_model.specs.declared.journal.EndCause.{EndCause};
 ghost use Rattle.ha_model.specs.declared.journal.Entry.{Entry};
 ghost use Rattle.ha_model.specs.declared.journal.Record.{Record};
 ghost use Rattle.ha_model.specs.declared.config.Trigger.{Trigger};
-ghost use Rattle.ha_model.specs.Journal.{HasEntry, Journal};
+ghost use Rattle.ha_model.specs.Journal.{HasEntry, Journal, automations};
 ghost use Rattle.ha_model.specs.Triggers.{fires, firings};
 ghost use Rattle.ha_model.specs.Scripts.{Ask, Branch};
+ghost use Rattle.ha_model.specs.Branches.{branches_of};
 ghost use Rattle.ha_model.specs.Waits.{completes, end_at, is_over, wait_end};
-ghost use Rattle.ha_model.specs.Records.{Records, or_else};
+ghost use Rattle.ha_model.specs.Records.{Records, actions_of, or_else};
 ghost use Rattle.ha_model.specs.RecordSteps.{more, records_after};
-ghost use Rattle.ha_model.specs.Lawful.{Right, is_quiet, is_running, pick, ready};
+ghost use Rattle.ha_model.specs.Lawful.{Right, is_quiet, is_running, may_step, pick, ready};
 ghost use Rattle.ha_ready.specs.ReadyPairs.{branches_at, changed_at, pairs_from, with_run};
 ghost use Rattle.ha_ready.specs.Agree.{AgreesBut, but};
 ghost use Rattle.ha_ready.specs.RunPast.{AllPast, IsPast};
@@ -64,4 +66,9 @@ pub fn waits_of_one_more()
 /// At most one entry is the one that a firing of a trigger counts from: with `for` the one at which it moved, and else that of its place.
 pub fn a_firing_counts_from_one_entry()
     ensures { (j : Journal) (t : Trigger) (e : Option EntityId) (since p i k : ℕ) → i ≤ p → k ≤ p → fires j t e since p i ≡ true → fires j t e since p k ≡ true → i ≡ k }
+{}
+
+/// Where one more place of a branch is allowed, the branch is among those that the run's script has.
+pub fn allowed_branches_are_listed()
+    ensures { (rs : Records) (j : Journal) (r : Record) (b : Branch) → may_step rs j r b ≡ true → list_any (bytes_eq b) (branches_of (actions_of (automations j) r.automation)) ≡ true }
 {}
