@@ -19,7 +19,7 @@ use tpl_eval::render;
 
 /// Whether the condition holds for the view and the variables of a run. Of `and`, `or` and `not` only those inside are tested that decide, in
 /// their order.
-#[cycle(test)]
+#[cycle(condition)]
 pub fn test(
     alloc: Global,
     condition: &Condition,
@@ -69,7 +69,7 @@ pub fn test(
 }
 
 /// Whether all hold.
-#[cycle(test)]
+#[cycle(condition)]
 fn all_hold(alloc: Global, inside: &[Condition], view: &View, env: &Env) -> Result<bool, AllocError>
     ensures { IfOk result (λ b. b ≡ list_all (λ c. conditions.holds (seen view.now) c env.now) inside.now) }
 {
@@ -82,7 +82,7 @@ fn all_hold(alloc: Global, inside: &[Condition], view: &View, env: &Env) -> Resu
 }
 
 /// Whether one holds.
-#[cycle(test)]
+#[cycle(condition)]
 fn one_holds(
     alloc: Global,
     inside: &[Condition],

@@ -18,7 +18,7 @@ use Rattle.tpl_parse.specs.declared.expression.Part.{Part}
 use Rattle.tpl_parse.specs.Token.{Reads, spaces, stands, next_is, past, behind, want, text_of, none_of}
 use Rattle.tpl_parse.specs.Names.{filter_row, filter_named}
 use Rattle.tpl_parse.specs.Literal.{name, word, skip_word, filter_or, filter_name}
-use Rattle.tpl_parse.specs.Reading.{Inner, operators, comparisons, operator, operator_of, behind_operator, part_of, ending, pair, enclosed, arguments, at_place, part_turns, reached, atom, signed, filter_arguments, filter_turns, filtered, after_operator, operand_turns, chain, product, joined, sum, tested, tested_printed, tested_last, test, any_operator, comparator, with_right, compared, comparison, negation, conjunction, disjunction, chosen, with_else, expression, inside, opened}
+use Rattle.tpl_parse.specs.Reading.{Inner, operators, comparisons, operator, operator_of, behind_operator, part_of, ending, pair, enclosed, arguments, at_place, part_turns, reached, atom, signed, filter_arguments, filter_turns, filtered, after_operator, operand_turns, chain, product, joined, sum, tested, tested_printed, tested_last, none_test, any_operator, comparator, with_right, compared, comparison, negation, conjunction, disjunction, chosen, with_else, expression, inside, opened}
 use Rattle.tpl_parse.specs.Grammar.{Takes, takes, IsWord, Joins, or, and, plus, minus, join, times, over, floor, modulo, Compares, equal, unequal, less, at_most, greater, at_least, within, IsNoneToken, plain_none, printed_none, IsTest, is_none, is_defined, is_not_none, is_not_defined, of_filter, Phrase, an_expression, a_negation, a_comparison, with_filters, with_sign, with_parts, operands, more_operands, more_filters, more_parts, operand_of, Is, chosen as chosen_is_in, chosen_if, chosen_else, chain as chain_is, no_operand, one_operand, negated, compared as compared_is, alone, compare, outside, tested as tested_is, filtered as filtered_is, no_filter, bare_filter, one_filter, negative, unsigned, asked, no_part, one_key, one_place}
 use Rattle.tpl_parse.proofs.Tokens.{spaces_twice}
 use Rattle.tpl_parse.proofs.Next.{Fault, Alike, took}
@@ -231,8 +231,8 @@ tested_found turned t u alike h left e = elim (chosen_of (next_is Token.None t) 
   ]
 ]
 
-test_found : (t : List ℕ) (h : Bool) (left : List ℕ) → test t ≡ Ok (h, left) → IsTest h t left
-unfolding test
+test_found : (t : List ℕ) (h : Bool) (left : List ℕ) → none_test t ≡ Ok (h, left) → IsTest h t left
+unfolding none_test
 test_found t h left e = elim (chosen_is (next_is Token.Not t)) [
   | inl k ↦
       let i = took Token.Not t t refl k in
@@ -295,11 +295,11 @@ module _ {d : ℕ} {o : Option Inner} (depth : Depth d o) where
   comparison_found : PartSound a_comparison d (comparison o)
   unfolding comparison
   comparison_found t u alike x left h =
-      let b = bind_ok (sum o t) (λ left. cond (next_is Token.Is left.1) (made (λ holds. ending (Expr.IsNone left.0.expr holds) Last.Tested) (test (behind Token.Is left.1))) (compared o left.0 (spaces left.1))) (x, left) h in
+      let b = bind_ok (sum o t) (λ left. cond (next_is Token.Is left.1) (made (λ holds. ending (Expr.IsNone left.0.expr holds) Last.Tested) (none_test (behind Token.Is left.1))) (compared o left.0 (spaces left.1))) (x, left) h in
       let s = sum_found depth t u alike b.0.0 b.0.1 b.1 in
-      elim (chosen_of (next_is Token.Is b.0.1) (made (λ holds. ending (Expr.IsNone b.0.0.expr holds) Last.Tested) (test (behind Token.Is b.0.1))) (compared o b.0.0 (spaces b.0.1)) (Ok (x, left)) b.2) [
+      elim (chosen_of (next_is Token.Is b.0.1) (made (λ holds. ending (Expr.IsNone b.0.0.expr holds) Last.Tested) (none_test (behind Token.Is b.0.1))) (compared o b.0.0 (spaces b.0.1)) (Ok (x, left)) b.2) [
         | inl k ↦
-            let m = made_ok {F = Fault} (λ holds. ending (Expr.IsNone b.0.0.expr holds) Last.Tested) (test (behind Token.Is b.0.1)) x left k.1 in
+            let m = made_ok {F = Fault} (λ holds. ending (Expr.IsNone b.0.0.expr holds) Last.Tested) (none_test (behind Token.Is b.0.1)) x left k.1 in
             let v = test_found (behind Token.Is b.0.1) m.0 left m.1 in
             record { rest = left; is = subst (λ (y : Expr). Is a_comparison d u y left) (ap (λ (p : Part). p.expr) m.2) (tested_is s.is (took Token.Is s.rest b.0.1 s.alike k.0) v); alike = refl }
         | inr k ↦ compared_found b.0.0 u s.rest s.is (spaces b.0.1) (s.alike ∙ sym (spaces_twice b.0.1)) x left k.1

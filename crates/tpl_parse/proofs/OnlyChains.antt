@@ -7,7 +7,7 @@ use Rattle.ha_model.specs.declared.template.Expr
 use Rattle.tpl_parse.specs.declared.token.Token.{Token}
 use Rattle.tpl_parse.specs.declared.expression.Last.{Last}
 use Rattle.tpl_parse.specs.Token.{spaces, stands, next_is, past, want, text_of}
-use Rattle.tpl_parse.specs.Reading.{comparisons, operator, operator_of, behind_operator, opened, expression, negation, comparison, comparator, any_operator, disjunction, sum, test, tested, part_of, ending, chosen}
+use Rattle.tpl_parse.specs.Reading.{comparisons, operator, operator_of, behind_operator, opened, expression, negation, comparison, comparator, any_operator, disjunction, sum, none_test, tested, part_of, ending, chosen}
 use Rattle.tpl_parse.specs.Grammar.{Takes, takes, Compares, equal, unequal, less as less_than, at_most, greater, at_least, within, IsNoneToken, plain_none, printed_none, IsTest, is_none, is_defined, is_not_none, is_not_defined}
 use Rattle.tpl_parse.proofs.Tokens.{spaces_twice}
 use Rattle.tpl_parse.proofs.Apart.{Quiet, apart, not_at}
@@ -176,12 +176,12 @@ tested_defined turned t {u} alike i =
     let m = taken {t = spaces (spaces t)} (spaces_twice (spaces t) ∙ spaces_twice t ∙ alike) i in
     rw (not_at Token.Defined Token.None (spaces t) refl k.next, not_at Token.Defined Token.PrintedNone (spaces (spaces t)) refl l.next, m.rest_is, m.next) refl
 
-not_turned : {t : List ℕ} (token : Token) {rest : List ℕ} (r : Bool) → Takes token t rest → apart token Token.Not ≡ true → tested false (spaces t) ≡ Ok (r, rest) → test t ≡ Ok (r, rest)
-unfolding test
+not_turned : {t : List ℕ} (token : Token) {rest : List ℕ} (r : Bool) → Takes token t rest → apart token Token.Not ≡ true → tested false (spaces t) ≡ Ok (r, rest) → none_test t ≡ Ok (r, rest)
+unfolding none_test
 not_turned {t} token r (takes h) d e = rw (not_at token Token.Not (spaces t) d h) e
 
-pub test_read : {holds : Bool} {t rest : List ℕ} → IsTest holds t rest → test t ≡ Ok (holds, rest)
-unfolding test
+pub test_read : {holds : Bool} {t rest : List ℕ} → IsTest holds t rest → none_test t ≡ Ok (holds, rest)
+unfolding none_test
 test_read {t = t} (is_none plain_none i) = not_turned Token.None true i refl (tested_none false (spaces t) plain_none (spaces_twice t) i)
 test_read {t = t} (is_none printed_none i) = not_turned Token.PrintedNone true i refl (tested_none false (spaces t) printed_none (spaces_twice t) i)
 test_read {t = t} (is_defined i) = not_turned Token.Defined false i refl (tested_defined false (spaces t) (spaces_twice t) i)

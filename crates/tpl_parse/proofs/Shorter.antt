@@ -23,7 +23,7 @@ use Rattle.tpl_parse.specs.declared.expression.Part.{Part}
 use Rattle.tpl_parse.specs.Token.{Reads, text_of, is_space, spaces, reach, next_is, past, behind, in_name, is_reserved, want}
 use Rattle.tpl_parse.specs.Names.{any_from, filter_named, filter_row, filters_reach, function_named, function_row, takes_behind}
 use Rattle.tpl_parse.specs.Literal.{before, before_range_end, begins_places, behind_number, byte_in, character, escape_at, filter_name, filter_or, further, in_range, is_in, name, number, plain_or, second, sequence, skip_digits, skip_word, starts_name, string, string_character, string_turns, unreserved, word}
-use Rattle.tpl_parse.specs.Reading.{Inner, Start, numeric, quoted, bracket, group, letter, nothing, after_item, after_operator, arguments, at_place, atom, atom_by, behind_operator, by_word, call_or_name, chain, chosen, comparator, compared, comparison, comparisons, conjunction, constant, disjunction, enclosed, ending, expression, filter_arguments, filter_turns, filtered, in_group, inside, item_turns, items_in, joined, negation, not_called, opened, operand, operand_turns, operator, operators, pair, part_of, part_turns, product, reached, signed, start_of, sum, test, tested, with_else, with_right, word_atom}
+use Rattle.tpl_parse.specs.Reading.{Inner, Start, numeric, quoted, bracket, group, letter, nothing, after_item, after_operator, arguments, at_place, atom, atom_by, behind_operator, by_word, call_or_name, chain, chosen, comparator, compared, comparison, comparisons, conjunction, constant, disjunction, enclosed, ending, expression, filter_arguments, filter_turns, filtered, in_group, inside, item_turns, items_in, joined, negation, not_called, opened, operand, operand_turns, operator, operators, pair, part_of, part_turns, product, reached, signed, start_of, sum, none_test, tested, with_else, with_right, word_atom}
 
 abbrev pub Read : Type 0 → Type 0
 Read A = Answer ℕ (Bad (Unit {0})) A
@@ -402,8 +402,8 @@ tested_keeps turned t =
       ])
     ]
 
-test_keeps : Keeps test
-unfolding test
+test_keeps : Keeps none_test
+unfolding none_test
 test_keeps t = later (tested (next_is Token.Not t)) (tested_keeps (next_is Token.Not t)) (behind Token.Not t) (length t) (length-behind Token.Not t)
 
 length-behind_operator : (found : Option (Token × Op)) (t : List ℕ) → length (behind_operator found t) ≤ length t
@@ -433,7 +433,7 @@ comparison_keeps inner h t =
       | inl x ↦ rw x.1 (elim (chosen_is (next_is Token.Is x.0.1)) [
         | inl b ↦
             let less : length (past Token.Is x.0.1) ≤ length t = omega (arith, length-past Token.Is x.0.1) in
-            rw b (made_within (length t) (λ holds. ending (Expr.IsNone x.0.0.expr holds) Last.Tested) (test (past Token.Is x.0.1)) (later test test_keeps (past Token.Is x.0.1) (length t) less))
+            rw b (made_within (length t) (λ holds. ending (Expr.IsNone x.0.0.expr holds) Last.Tested) (none_test (past Token.Is x.0.1)) (later none_test test_keeps (past Token.Is x.0.1) (length t) less))
         | inr b ↦ rw b (later (compared inner x.0.0) (compared_keeps inner h x.0.0) (spaces x.0.1) (length t) (omega (arith, length-spaces x.0.1)))
       ])
       | inr f ↦ rw f.1 f.2

@@ -259,8 +259,8 @@ abbrev pub tested : Bool → Reads Bool
 tested turned rest = if next_is Token.None rest then Ok (not turned, behind Token.None rest) else tested_printed turned (spaces rest)
 
 -- behind `is`: whether what is none passes the test
-unfoldable pub test : Reads Bool
-test rest = tested (next_is Token.Not rest) (behind Token.Not rest)
+unfoldable pub none_test : Reads Bool
+none_test rest = tested (next_is Token.Not rest) (behind Token.Not rest)
 
 abbrev pub any_operator : List (Token × Op) → Reads (Option Op)
 any_operator rows rest = Ok (operator_of (operator rows rest), behind_operator (operator rows rest) rest)
@@ -283,7 +283,7 @@ compared inner left rest = do
 unfoldable pub comparison : Option Inner → Reads Part
 comparison inner rest = do
   left ← sum inner rest
-  if next_is Token.Is left.1 then made (λ holds. ending (Expr.IsNone left.0.expr holds) Last.Tested) (test (behind Token.Is left.1)) else compared inner left.0 (spaces left.1)
+  if next_is Token.Is left.1 then made (λ holds. ending (Expr.IsNone left.0.expr holds) Last.Tested) (none_test (behind Token.Is left.1)) else compared inner left.0 (spaces left.1)
 
 -- ---- `not`, `and`, `or`
 

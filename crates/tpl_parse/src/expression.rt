@@ -8,7 +8,7 @@ ghost use Rattle.tpl_parse.specs.declared.token.Token.{Token};
 ghost use Rattle.reading.specs.declared.fault.Stop.{Stop};
 ghost use Rattle.std.specs.List.{find};
 ghost use Rattle.tpl_parse.specs.Token.{reach, stands, text_of, want};
-ghost use Rattle.tpl_parse.specs.Reading.{behind_operator, chain, comparator, comparison, comparisons, ending, expression, negation, open_reach, opened, operand, operator, operator_of, operators, part_of, test, test_tokens, tested, tokens_behind, with_else};
+ghost use Rattle.tpl_parse.specs.Reading.{behind_operator, chain, comparator, comparison, comparisons, ending, expression, negation, open_reach, opened, operand, operator, operator_of, operators, part_of, none_test, test_tokens, tested, tokens_behind, with_else};
 
 use crate::parser::{Parser, Stopped};
 use crate::token::{Token, reach, stands};
@@ -345,9 +345,9 @@ impl<'a> Parser<'a> {
     }
 
     /// Behind `is`: whether what is none passes the test.
-    #[tactic(auto, unfolding(crate::specs::Reading::test))]
+    #[tactic(auto, unfolding(crate::specs::Reading::none_test))]
     fn test(&mut self) -> Result<bool, Stopped>
-        ensures { Gives (test self.old) result self.new }
+        ensures { Gives (none_test self.old) result self.new }
     {
         if self.take(Token::Not) {
             self.tested(true)

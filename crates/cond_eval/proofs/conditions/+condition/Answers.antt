@@ -2,7 +2,7 @@ use Rattle.std.proofs.Common.{◌∙◌, ap, sym}
 use Rattle.std.specs.Prelude.{not}
 use Rattle.cond_eval.specs.Seen.{seen}
 use Rattle.cond_eval.proofs.CaseLemmas.{holds-and, holds-numeric, holds-not, holds-or, holds-state, holds-trigger}
-use Rattle.cond_eval.proofs.conditions.+test.Goals as goal
+use Rattle.cond_eval.proofs.conditions.+condition.Goals as goal
 
 pub test-returns-in-And : goal.test-returns-in-And
 test-returns-in-And t c = rw (holds-and (seen c.args.view.now) c.args.env.now c.args.condition.now c.in-And.inside c.as_slice.result.now c.in-And.is c.as_slice.ensures) c.all_hold.ensures
