@@ -1,0 +1,5 @@
+pub mod ReadyPairs
+pub mod Agree
+pub mod RunPast
+pub mod RestedFlags
+pub mod Picked
