@@ -1,5 +1,5 @@
 -- No line is read as that its source was lost or is too long.
-use Rattle.std.proofs.Common.{◌≡◌, Bool, true, false, Option, Some, None, refl, List, ℕ}
+use Rattle.std.proofs.Common.{◌≡◌, Bool, true, false, Option, Some, None, refl, ℕ}
 use Rattle.std.specs.Prelude.{Ok, Err, codes}
 use Rattle.ha_value.specs.Ids.{read_entity}
 use Rattle.ha_value.specs.declared.value.Value.TheViews.{out-Value}

@@ -1,5 +1,5 @@
 -- What a line leaves, and lists of lines one behind the other.
-use Rattle.std.proofs.Common.{◌≡◌, ◌⊎◌, inl, inr, ◌+◌, ◌<◌, ◌≤◌, ◌∙◌, ℕ, List, [], ◌∷◌, ◌++◌, length, Bool, true, false, Option, Some, None, ap, arith, refl, sym, subst, count_by, append_assoc, length-append, lit<, map}
+use Rattle.std.proofs.Common.{◌≡◌, ◌⊎◌, inl, inr, ◌+◌, ◌<◌, ◌≤◌, ◌∙◌, ℕ, List, [], ◌∷◌, ◌++◌, length, true, false, Some, None, ap, arith, refl, sym, subst, count_by, append_assoc, length-append, lit<, map}
 use Rattle.std.specs.Prelude.{◌||◌}
 use Rattle.std.specs.List.{list_any}
 use Rattle.std.proofs.lemmas.List.{append-nil}
@@ -9,7 +9,6 @@ use Rattle.ha_model.specs.declared.journal.Entry.TheVariants.{Line}
 use Rattle.ha_model.specs.Commands.{put_as}
 use Rattle.ha_model.specs.Entries.{shuts_source}
 use Rattle.ha_model.specs.Lawful.{Right, Running, is_line_of, is_quiet, is_rested, shuts}
-use Rattle.ha_model.specs.Records.{Records}
 use Rattle.ha_model.specs.RecordSteps.{more}
 use Rattle.ha_laws.proofs.RightMore.{right-runs}
 use Rattle.bus_turn.specs.declared.fault.BusFault.{BusFault}
@@ -60,7 +59,7 @@ lined number c a b takes right (inl p) =
     let x : Entry = Line 0 number (put_as a.journal c) in
     let e : b.journal ≡ more a.journal x = p.journal ∙ ap (more a.journal) p.is_it in
     let ran : Running b.journal b.records = subst (λ z. Running z b.records) (sym e)
-        (right-runs a.journal a.records b.records x takes.running (subst (λ z. Right z b.records) e right) (lit< tt, takes.rested, takes.next, takes.unshut) tt) in
+    (right-runs a.journal a.records b.records x takes.running (subst (λ z. Right z b.records) e right) (lit< tt, takes.rested, takes.next, takes.unshut) tt) in
     let all : PutAll (c ∷ []) a b = record { on = λ base done o. record { running = ran; kept = kept_line base a b done number c e (puts-grow (IsLineOf number c a) a b (inl p)) o.kept } } in
     record {
       running = ran;
@@ -154,7 +153,7 @@ pub some_taken : (old cut cut' line sliced : Text) (lines : List Text) (a b c : 
     → PutAll (map cmd_of lines) a b → PutSome (cmd_of sliced ∷ []) b c → PutSome (map cmd_of (whole_lines old)) a c
 some_taken old cut cut' line sliced lines a b c p t e all some =
     let q : PutSome (map cmd_of lines ++ ((cmd_of sliced ∷ []) ++ map cmd_of (whole_lines cut'))) a c =
-        some_then (map cmd_of lines) ((cmd_of sliced ∷ []) ++ map cmd_of (whole_lines cut')) a b c all (some_more (cmd_of sliced ∷ []) (map cmd_of (whole_lines cut')) b c some) in
+    some_then (map cmd_of lines) ((cmd_of sliced ∷ []) ++ map cmd_of (whole_lines cut')) a b c all (some_more (cmd_of sliced ∷ []) (map cmd_of (whole_lines cut')) b c some) in
     subst (λ z. PutSome z a c)
     (sym (whole_cmds old cut lines p ∙ ap (λ (z : List Text). map cmd_of lines ++ map cmd_of z) (t.whole ∙ ap (λ (z : Text). z ∷ whole_lines cut') (sym e)))) q
 

@@ -1,30 +1,24 @@
 -- What the bus's puts make of a journal without closing steps, and of one with them.
-use Rattle.std.proofs.Common.{◌≡◌, ◌⊎◌, inl, inr, ◌+◌, ◌<◌, ◌∙◌, ℕ, List, [], ◌∷◌, ◌++◌, length, Bool, true, false, Option, Some, None, ap, arith, refl, sym, subst, count_by, length-append}
-use Rattle.std.specs.Prelude.{◌||◌}
+use Rattle.std.proofs.Common.{◌≡◌, inl, inr, ◌+◌, ◌∙◌, List, [], ◌∷◌, length, Bool, true, false, Option, Some, None, ap, refl, sym, subst, count_by, length-append}
 use Rattle.std.specs.List.{list_any}
 use Rattle.std.proofs.lemmas.Bool.{false≢true}
-use Rattle.std.proofs.lemmas.List.{append-nil}
 use Rattle.ha_model.specs.declared.journal.Cmd.{Cmd}
 use Rattle.ha_model.specs.declared.journal.Entry.{Entry}
-use Rattle.ha_model.specs.declared.journal.Entry.TheVariants.{Line, Step}
-use Rattle.ha_model.specs.declared.journal.Item.{Item}
-use Rattle.ha_model.specs.Commands.{put_as}
-use Rattle.ha_model.specs.Entries.{shuts_source}
+use Rattle.ha_model.specs.declared.journal.Entry.TheVariants.{Step}
 use Rattle.ha_model.specs.Journal.{Journal}
-use Rattle.ha_model.specs.Lawful.{Lawful, Right, Running, is_line_of, is_quiet, is_rested, pick, ready, shuts}
+use Rattle.ha_model.specs.Lawful.{Lawful, Right, Running, is_line_of, is_quiet, is_rested, ready, shuts}
 use Rattle.ha_model.specs.Records.{Records}
 use Rattle.ha_model.specs.RecordSteps.{more}
 use Rattle.ha_model.proofs.LawfulLaws.{has-entry}
 use Rattle.ha_laws.proofs.OneStep.{quiet-rested}
 use Rattle.ha_laws.proofs.RightMore.{right-closes, right-runs}
 use Rattle.bus_turn.specs.declared.fault.BusFault.{BusFault}
-use Rattle.bus_turn.specs.Buses.{Adds, IsRefusal, IsStep, Puts, Refuses}
+use Rattle.bus_turn.specs.Buses.{Adds, IsRefusal, IsStep, Puts}
 use Rattle.bus_turn.specs.Shown.{BusView}
-use Rattle.bus_turn.proofs.GrowthLemmas.{out-grows}
 use Rattle.bus_turn.proofs.PutLemmas.{puts-full, puts-grow}
-use Rattle.ha_worker.specs.Kept.{Closed, Closing, Kept, On, Owes, PutAll, PutSome, Stepped, Takes}
-use Rattle.ha_worker.proofs.EntryLemmas.{line_number, line_shuts, picked_some, step_number, step_shuts}
-use Rattle.ha_worker.proofs.KeptLemmas.{kept_line, kept_same, kept_step}
+use Rattle.ha_worker.specs.Kept.{Closed, Owes, Stepped}
+use Rattle.ha_worker.proofs.EntryLemmas.{picked_some, step_number, step_shuts}
+use Rattle.ha_worker.proofs.KeptLemmas.{kept_same, kept_step}
 
 -- a source that is not rested has runs that can go on
 pub unrested_busy : (rs : Records) (j : Journal) → Right j rs → is_rested rs 0 j ≡ false → is_quiet rs j ≡ false

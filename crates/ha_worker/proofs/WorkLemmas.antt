@@ -1,5 +1,5 @@
 -- What the work of a worker leaves.
-use Rattle.std.proofs.Common.{◌≡◌, ◌∙◌, ◌+◌, ℕ, List, [], ◌∷◌, ◌++◌, length, map, true, None, ap, arith, refl, sym, subst, append_assoc}
+use Rattle.std.proofs.Common.{◌≡◌, ◌∙◌, List, [], ◌∷◌, ◌++◌, map, true, None, ap, arith, refl, sym, subst}
 use Rattle.std.proofs.lemmas.List.{append-nil}
 use Rattle.ha_io.proofs.ToldLemmas.{Gives-nothing}
 use Rattle.std.proofs.Math.Nat.{le_refl}
@@ -8,7 +8,7 @@ use Rattle.ha_model.specs.declared.journal.Entry.{Entry}
 use Rattle.ha_model.specs.Journal.{Journal}
 use Rattle.ha_model.specs.Lawful.{Lawful, Right, is_line_of, is_quiet, is_rested, shuts}
 use Rattle.ha_model.specs.Words.{Text}
-use Rattle.std.specs.Prelude.{count_by, false}
+use Rattle.std.specs.Prelude.{count_by}
 use Rattle.std.specs.List.{list_any}
 use Rattle.flow_line.specs.Command.{cmd_of}
 use Rattle.bus_turn.specs.Buses.{IsBus}
@@ -16,14 +16,14 @@ use Rattle.bus_turn.specs.Shown.{BusView}
 use Rattle.ha_worker.specs.declared.end.WorkerEnd.{WorkerEnd}
 use Rattle.ha_worker.specs.declared.ending.Ending.{Ending}
 use Rattle.ha_worker.specs.declared.lines.Halt.{Halt}
-use Rattle.ha_worker.specs.Courses.{Course, HasGiven, SourceState, cmds_by, most_bytes}
+use Rattle.ha_worker.specs.Courses.{Course, SourceState}
 use Rattle.ha_worker.specs.Ends.{ended_by, halted_by}
 use Rattle.ha_worker.specs.Halts.{HaltsBy}
 use Rattle.ha_worker.specs.Kept.{Closed, Closing, On, Owes, PutAll, PutSome, Takes}
 use Rattle.ha_worker.specs.Taken.{Fed, FedSome, course_of, rest_by}
 use Rattle.ha_worker.specs.Worked.{EndsAs, Worked}
 use Rattle.ha_worker.proofs.CourseLemmas.{whole_empty}
-use Rattle.ha_worker.proofs.EntryLemmas.{boot_number, boot_open, boot_rested, boot_runs}
+use Rattle.ha_worker.proofs.EntryLemmas.{boot_number, boot_open, boot_rested}
 use Rattle.ha_worker.proofs.FeedLemmas.{fed_cmds}
 use Rattle.ha_worker.proofs.KeptLemmas.{on_boot}
 use Rattle.ha_worker.proofs.LineLemmas.{all_then, some_then}

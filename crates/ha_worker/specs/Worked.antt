@@ -1,5 +1,5 @@
 -- What a worker's work leaves: the journal from the boot on, by what became of the source.
-use Rattle.std.specs.Prelude.{◌≡◌, ◌⊎◌, true, List, [], ◌++◌, Option, Some, None}
+use Rattle.std.specs.Prelude.{◌≡◌, true, List, [], ◌++◌, None}
 use Rattle.ha_model.specs.declared.journal.Cmd.{Cmd}
 use Rattle.ha_model.specs.Lawful.{is_quiet}
 use Rattle.ha_model.specs.Words.{Text}

@@ -1,5 +1,5 @@
 use Rattle.std.proofs.Common.{[], ◌∷◌, ◌++◌, arith, refl}
-use Rattle.ha_worker.proofs.LineLemmas.{few_lines, put_more, put_nothing, some_held, some_taken, took_last, took_more}
+use Rattle.ha_worker.proofs.LineLemmas.{few_lines, put_more, put_nothing, some_held, some_taken, took_more}
 use Rattle.ha_worker.proofs.lines.put_lines.Goals as goal
 
 pub lines-init : goal.lines-init

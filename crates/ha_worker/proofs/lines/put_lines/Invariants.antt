@@ -1,4 +1,4 @@
-use Rattle.std.proofs.Common.{◌≡◌, List, length, map}
+use Rattle.std.proofs.Common.{List, length, map}
 use Rattle.ha_model.specs.Words.{Text}
 use Rattle.ha_text.specs.Lines.{whole_lines}
 use Rattle.flow_line.specs.Command.{cmd_of}

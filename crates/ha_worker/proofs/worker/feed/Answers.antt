@@ -1,4 +1,4 @@
-use Rattle.std.proofs.Common.{◌≡◌, ◌∙◌, Err, ap, arith, sym}
+use Rattle.std.proofs.Common.{◌∙◌, Err, ap, arith}
 use Rattle.ha_worker.specs.declared.pieces.NoPiece.{NoPiece}
 use Rattle.ha_worker.proofs.FeedLemmas.{read_end, read_failed, read_lost, read_on, read_past, read_some, start_reading}
 use Rattle.ha_worker.proofs.worker.feed.Goals as goal

@@ -15,20 +15,20 @@ returns-in-Err g c =
 
 pub returns-in-Err-finish : goal.returns-in-Err-finish
 returns-in-Err-finish g c =
-    rw c.halted.ensures (worked_cut c.in-Err-finish.halt _ c.args.bus.now c.feed.new.bus c.finish.new.bus c.feed.new.cut _ _
-    (on_boot c.args.bus.now c.requires.boot.0 c.requires.boot.1 c.first.ensures.stands.right) c.in-Ok.ensures.ok c.in-Err-finish.ensures.some c.in-Err-finish.ensures.halt)
+    rw c.halted-in-Err-finish.ensures (worked_cut c.in-Err-finish.halt _ c.args.bus.now c.feed.new.bus c.finish.new.bus c.feed.new.cut _ _
+    (on_boot c.args.bus.now c.requires.boot.0 c.requires.boot.1 c.first.ensures.stands.right) c.in-Ok-feed.ensures.ok c.in-Err-finish.ensures.some c.in-Err-finish.ensures.halt)
 
 pub close-requires-clause-lawful : goal.close-requires-clause-lawful
 close-requires-clause-lawful g c κs within =
-    finished _ c.args.bus.now c.feed.new.bus c.finish.new.bus c.feed.new.cut _ _ (on_boot c.args.bus.now c.requires.boot.0 c.requires.boot.1 c.first.ensures.stands.right) c.in-Ok.ensures.ok c.in-Ok-finish.ensures.ok
+    finished _ c.args.bus.now c.feed.new.bus c.finish.new.bus c.feed.new.cut _ _ (on_boot c.args.bus.now c.requires.boot.0 c.requires.boot.1 c.first.ensures.stands.right) c.in-Ok-feed.ensures.ok c.in-Ok-finish.ensures.ok
 
 pub returns-then-is_some : goal.returns-then-is_some
 returns-then-is_some g c =
     worked_stopped _ c.args.bus.now c.feed.new.bus c.finish.new.bus c.close.new.bus c.feed.new.cut _ _ (on_boot c.args.bus.now c.requires.boot.0 c.requires.boot.1 c.first.ensures.stands.right)
-    c.in-Ok.ensures.ok c.in-Ok-finish.ensures.ok c.close.ensures.steps (search rules) c.close.ensures.owes
+    c.in-Ok-feed.ensures.ok c.in-Ok-finish.ensures.ok c.close.ensures.steps (search rules) c.close.ensures.owes
 
 pub returns : goal.returns
 returns g c =
     let free : c.close.new.bus.first ≡ None = search rules in
     rw c.ended.ensures (worked_through _ c.args.bus.now c.feed.new.bus c.finish.new.bus c.close.new.bus c.feed.new.cut _ _ (on_boot c.args.bus.now c.requires.boot.0 c.requires.boot.1 c.first.ensures.stands.right)
-    c.in-Ok.ensures.ok c.in-Ok-finish.ensures.ok c.close.ensures.steps free (c.close.ensures.quiet free))
+    c.in-Ok-feed.ensures.ok c.in-Ok-finish.ensures.ok c.close.ensures.steps free (c.close.ensures.quiet free))
