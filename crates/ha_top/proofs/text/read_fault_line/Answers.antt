@@ -1,7 +1,0 @@
-use Rattle.std.proofs.Common.{append_assoc}
-use Rattle.ha_top.specs.StatusLine.{status_line}
-use Rattle.ha_top.proofs.text.read_fault_line.Goals as goal
-
-pub returns-in-Some : goal.returns-in-Some
-unfolding status_line
-returns-in-Some c = rw c.in-Some.is (simp append_assoc c.format.ensures.ok)
