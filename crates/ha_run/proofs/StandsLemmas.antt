@@ -15,6 +15,7 @@ use Rattle.ha_model.specs.Journal.{Journal}
 use Rattle.ha_model.specs.Lawful.{Lawful, Right, is_quiet}
 use Rattle.ha_model.specs.Records.{Records}
 use Rattle.ha_model.specs.RecordSteps.{more}
+use Rattle.ha_model.specs.Sights.{changes_switch}
 use Rattle.ha_model.specs.Texts.{store_text}
 use Rattle.ha_model.specs.Words.{Text}
 use Rattle.ha_laws.specs.Makers.{IsOfOne, OfOne}
@@ -33,6 +34,7 @@ use Rattle.ha_worker.proofs.CourseLemmas.{whole_empty}
 use Rattle.ha_worker.proofs.EntryLemmas.{boot_alone, boot_puts, boot_runs}
 use Rattle.flow_line.specs.Command.{cmd_of}
 use Rattle.ha_run.specs.Core.{CoreRan, DidWork, IsCutFrom, IsPartWritten, IsStill, status_by, view_of}
+use Rattle.ha_run.specs.Opened.{IsOpened}
 use Rattle.ha_run.specs.Served.{AreServed, Each, Feed, IsEnded, IsFirst, IsOf, IsReadOf, IsServed, IsThrough, OwesLine}
 use Rattle.ha_run.specs.Stands.{Ran, RanFull, RanSome, RanThrough, Scene, StandsAt}
 
@@ -120,13 +122,14 @@ boot_store : (rs : Records) (boot : Entry) (fault : BusFault) (old new : Outside
 boot_store rs boot fault old new (inl w) = inl (ap (λ (k : KeeperState). k.kept) w.3)
 boot_store rs boot fault old new (inr (inl w)) = inl (ap (λ (k : KeeperState). k.kept) w.3)
 boot_store rs boot fault old new (inr (inr (inl w))) = inl (ap (λ (k : KeeperState). k.kept) w.3)
-boot_store rs boot fault old new (inr (inr (inr w))) = saved _ (store_text (boot ∷ [])) old.keep new.keep fault w.3
+boot_store rs boot fault old new (inr (inr (inr w))) = saved (changes_switch (more [] boot)) (store_text (boot ∷ [])) old.keep new.keep fault w.3
 
 -- what a cut has that is not written, at any fault but a full journal
 abbrev pub Store : Outside → BusView → Type 0
 Store old b = (c : IsCut b) → c.before ≡ [] → (b.out.keep.kept ≡ old.keep.kept) ⊎ HoldsStore b.journal b.out.keep
 
 part_written : (old : Outside) (b : BusView) → Store old b → IsCut b → IsPartWritten old (view_of b.journal b.records b.out)
+unfolding seen_cut
 part_written old b store c = inr (record { cut = seen_cut b c; store = λ h. store c h })
 
 -- ---- the statuses
@@ -187,12 +190,6 @@ module _ (Begins : List Entry → Type 0) (files : Option Files) (name : Text) (
     ended WorkerEnd.Memory is h = inr (inl (written (subst (Stands last) is bus.stands).1), some)
 
 -- ---- the run
-
--- what is asked of the source that was opened
-pub record IsOpened (files : Option Files) (name : Text) (s : SourceState) : Type 0 where
-  pub holds : HasFile files name s.left
-  pub named : IfSome s.name (λ told. told ≡ name)
-  pub new : s.faults ≡ 0
 
 served : (files : Option Files) (name : Text) (j : List Entry) (end : WorkerEnd) (base b : BusView) (s s' : SourceState) → (w : Worked end base b s s') → b.journal ≡ j → IsOpened files name s
     → AreServed files j 0 (name ∷ []) (s' ∷ []) (record { course = w.course; unput = w.unput } ∷ [])

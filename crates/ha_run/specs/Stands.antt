@@ -71,4 +71,4 @@ module _ (Begins : List Entry → Type 0) (s : Scene) (AllWritten SomeWritten No
   StandsAt Status.JournalFull = AllWritten × RanFull Begins s
   StandsAt (Status.SourceTooLong k) = AllWritten × ((feeds : List Feed) × RanThrough Begins s feeds × IsFirst Course.Exceeds k feeds)
   StandsAt (Status.StoreRefused code) = NoneWritten × RanNothing s
-  StandsAt Status.Memory = (NoneWritten × RanNothing s) ⊎ (SomeWritten × RanSome Begins s)
+  StandsAt Status.Memory = (NoneWritten × (RanNothing s ⊎ NotRead s)) ⊎ (SomeWritten × RanSome Begins s)

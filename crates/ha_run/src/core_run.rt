@@ -16,11 +16,10 @@ use std::alloc::Global;
 
 /// What a run of a core leaves, before its status line.
 #[derive(Drop)]
-pub struct CoreRun<S: Source, K: Sink, Q: Keeper> {
+pub struct CoreRun<K: Sink, Q: Keeper> {
     pub status: Status,
     pub journal: Many<Entry>,
     pub records: Many<Record>,
-    pub source: S,
     pub out: K,
     pub err: K,
     pub trace: Option<K>,
@@ -66,11 +65,11 @@ fn status_by(first: Option<BusFault>, end: WorkerEnd) -> Status
 pub fn run_core<C: Core, K: Sink, Q: Keeper, S: Source>(
     alloc: Global,
     core: C,
-    source: S,
+    source: &mut S,
     out: K,
     err: K,
     keep: Q,
-) -> CoreRun<S, K, Q>
+) -> CoreRun<K, Q>
     requires usable { C.is_spent core ≡ false }
     requires boot { (boot : Entry) × (C.entries core ≡ boot ∷ []) × AreDated boot }
     requires no_calls { IfSome (K.written out) (λ t. t ≡ []) }
@@ -80,12 +79,11 @@ pub fn run_core<C: Core, K: Sink, Q: Keeper, S: Source>(
         let q = keeper_of Q.kept Q.faults in
         CoreRan (C.entries core) (C.runs core) (outside_of s q out err None keep)
         result.status result.journal result.records (outside_of s q result.out result.err result.trace result.keep)
-        (source_state (S.faults source) (S.left source) (S.name source)) (source_state (S.faults result.source) (S.left result.source) (S.name result.source)) }
+        (source_state (S.faults source.old) (S.left source.old) (S.name source.old)) (source_state (S.faults source.new) (S.left source.new) (S.name source.new)) }
 {
-    let mut source = source;
     let mut bus = Bus::start(alloc, core, out, err, None, keep);
     let _ = bus.first();
-    let end = worked(alloc, &mut bus, &mut source);
+    let end = worked(alloc, &mut bus, source);
     let status = status_by(bus.first(), end);
     let (core, out, err, trace, keep) = bus.into_parts();
     let (journal, records) = core.into_parts();
@@ -93,7 +91,6 @@ pub fn run_core<C: Core, K: Sink, Q: Keeper, S: Source>(
         status,
         journal,
         records,
-        source,
         out,
         err,
         trace,
