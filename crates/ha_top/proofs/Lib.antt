@@ -1,0 +1,3 @@
+pub mod ToldLemmas
+pub mod EarlyLemmas
+pub mod RunLemmas

@@ -1,0 +1,9 @@
+use Rattle.ha_top.proofs.ToldLemmas.{told_answers}
+use Rattle.ha_top.proofs.RunLemmas as run
+use Rattle.ha_top.proofs.EarlyLemmas as early
+use Rattle.ha_top.proofs.top.run_live.Goals as goal
+
+pub returns : goal.returns
+returns g c =
+    told_answers c.args.words.now _ _ c.told-status.result _ c.run_files-status.ensures c.told-status.ensures.status c.told-status.ensures.line c.told-status.ensures.counts.faults_stay
+    c.told-status.ensures.counts.zeros_stay c.told-status.ensures.same_name

@@ -1,0 +1,79 @@
+-- What a run answers for. Whoever wants to trust the program reads this page, what stands at each status (`ha_run`'s `Stands` and `Served`), what
+-- was written (`Written`), and the meaning that they cite.
+use Rattle.std.specs.Prelude.{ℕ, ◌≡◌, ◌⊎◌, ◌∷◌, List, map, Option, Some, None, Ok, Err, IfSome, IsSome, IsSomeAnd}
+use Rattle.ha_model.specs.declared.config.Config.{Config}
+use Rattle.ha_model.specs.declared.journal.Entry.{Entry}
+use Rattle.ha_model.specs.declared.journal.Entry.TheVariants.{Boot}
+use Rattle.ha_model.specs.Words.{Text}
+use Rattle.store_text.specs.Store.{Switches, switches_in}
+use Rattle.ha_status.specs.declared.status.Status.{Status}
+use Rattle.ha_status.specs.Causes.{KeepCause, OneRose, OpenCause, ReadCause, WriteCause}
+use Rattle.ha_status.specs.Files.{Files, HoldsText, IsTextFault}
+use Rattle.ha_words.specs.declared.plan.RunWords.{RunWords}
+use Rattle.ha_run.specs.Stands.{Scene, StandsAt}
+use Rattle.ha_top.specs.ReadConfig.{RefusedCause, config_in}
+use Rattle.ha_top.specs.Views.{After, Before}
+use Rattle.ha_top.specs.Written.{AllWritten, AreTheSame, NoneWritten, SomeWritten}
+
+-- ---- the boot
+
+-- the switches of what the keeper holds: none where it holds nothing, else those of its text
+abbrev pub AreStored : Option Text → Option Switches → Type 0
+AreStored None stored = stored ≡ None
+AreStored (Some text) stored = (switches : Switches) × (switches_in text ≡ Ok switches) × (stored ≡ Some switches)
+
+-- the journal begins with the Boot of the bytes that the place holds under the configuration's name, the configuration of these bytes, the switches
+-- that the keeper held, the start and the zone
+pub record IsBooted (words : RunWords) (b : Before) (journal : List Entry) : Type 0 where
+  pub text : Text
+  pub config : Config
+  pub stored : Option Switches
+  pub later : List Entry
+  pub text_is : HoldsText b.place.files words.config text
+  pub config_is : config_in text ≡ Some config
+  pub stored_is : IfSome b.keep.kept (λ kept. AreStored kept stored)
+  pub boots : journal ≡ Boot text config stored words.start words.zone ∷ later
+
+abbrev pub scene : RunWords → Before → After → Scene
+scene words b a = record { files = b.place.files; names = words.sources; journal = a.journal; records = a.records; sources = a.sources }
+
+-- ---- what the bytes alone decide, in the order of the answers
+
+-- The answers of the store. They come after those of the configuration and before all others.
+abbrev pub IsStoreFault : Status → Type 0
+IsStoreFault Status.KeepFault = Unit {0}
+IsStoreFault (Status.StoreRefused code) = Unit {0}
+IsStoreFault Status.Memory = Unit {0}
+IsStoreFault _ = ⊥
+
+-- a store is refused with the code of its text
+abbrev pub StoreCause : Option Text → Status → Type 0
+StoreCause kept (Status.StoreRefused code) = IsSomeAnd kept (λ text. switches_in text ≡ Err code)
+StoreCause kept status = Unit {0}
+
+-- the file has a configuration
+abbrev pub IsTaken : Option Text → Type 0
+IsTaken file = IsSomeAnd file (λ text. IsSome (config_in text))
+
+-- the keeper holds nothing, or a store's text
+abbrev pub IsStore : Option Text → Type 0
+IsStore kept = (stored : Option Switches) × AreStored kept stored
+
+-- ---- all of it
+
+pub record Answered (words : RunWords) (b : Before) (a : After) : Type 0 where
+  -- the journal, the lines of each source, the calls, the errors and the store, by the status
+  pub stands : StandsAt (IsBooted words b) (scene words b a) (AllWritten b a) (SomeWritten b a) (NoneWritten b a) a.status
+  pub same : AreTheSame b a
+
+  -- A configuration is refused with the line and code of its text, and where none is taken, one of its answers comes first. A store likewise.
+  pub refused : RefusedCause b.place.files words.config a.status
+  pub config_first : IfSome b.place.files (λ f. (IsTaken (f words.config) → ⊥) → IsTextFault words.config a.status)
+  pub store_refused : IfSome b.keep.kept (λ kept. StoreCause kept a.status)
+  pub store_next : IfSome b.keep.kept (λ kept. (IsStore kept → ⊥) → IsTextFault words.config a.status ⊎ IsStoreFault a.status)
+
+  -- each fault of the outside has its cause in a count that rose
+  pub unopened : OpenCause (words.config ∷ words.sources) b.place.faults a.place.faults a.place.last a.status
+  pub unread : ReadCause words.config words.sources (map (λ s. s.faults) a.sources) (map (λ s. s.name) a.sources) a.status
+  pub unwritten : WriteCause (OneRose b.out.faults a.out.faults b.err.faults a.err.faults) (OneRose b.out.zeros a.out.zeros b.err.zeros a.err.zeros) a.status
+  pub unkept : KeepCause b.keep.faults a.keep.faults a.status

@@ -1,0 +1,8 @@
+pub mod ReadConfig
+pub mod Views
+pub mod Written
+pub mod Answered
+pub mod Opening
+pub mod Lived
+pub mod Booted
+pub mod Unready

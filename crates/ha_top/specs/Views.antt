@@ -1,0 +1,58 @@
+-- What a run is handed, and what it leaves, as far as it is told.
+use Rattle.std.specs.Prelude.{ℕ, List, Option}
+use Rattle.ha_io.specs.declared.place.Opening.{Opening}
+use Rattle.ha_model.specs.declared.journal.Entry.{Entry}
+use Rattle.ha_model.specs.Records.{Records}
+use Rattle.ha_model.specs.Words.{Text}
+use Rattle.ha_status.specs.Files.{Files}
+use Rattle.ha_status.specs.declared.status.Status.{Status}
+use Rattle.bus_turn.specs.States.{KeeperState, SinkState}
+use Rattle.ha_worker.specs.Courses.{SourceState, source_state}
+
+-- the bytes of a place's files, where they are told, how often it has failed, and the name of its last failure, where that is told
+pub record PlaceState : Type 0 where
+  pub files : Option Files
+  pub faults : ℕ
+  pub last : Option (Option (Text × Opening))
+
+-- what a run is handed
+pub record Before : Type 0 where
+  pub place : PlaceState
+  pub out : SinkState
+  pub err : SinkState
+  pub keep : KeeperState
+
+-- what it leaves
+pub record After : Type 0 where
+  pub status : Status
+  pub journal : List Entry
+  pub records : Records
+  pub sources : List SourceState
+  pub place : PlaceState
+  pub out : SinkState
+  pub err : SinkState
+  pub trace : Option SinkState
+  pub keep : KeeperState
+
+abbrev pub place_state : Option Files → ℕ → Option (Option (Text × Opening)) → PlaceState
+place_state files faults last = record { files = files; faults = faults; last = last }
+
+abbrev pub before_run : PlaceState → SinkState → SinkState → KeeperState → Before
+before_run place out err keep = record { place = place; out = out; err = err; keep = keep }
+
+abbrev pub after_run : Status → List Entry → Records → List SourceState → PlaceState → SinkState → SinkState → Option SinkState → KeeperState → After
+after_run status journal records sources place out err trace keep = record {
+  status = status;
+  journal = journal;
+  records = records;
+  sources = sources;
+  place = place;
+  out = out;
+  err = err;
+  trace = trace;
+  keep = keep;
+}
+
+-- what is seen of a source, by the members of its trait
+abbrev pub source_of : {S : Type 0} → (S → ℕ) → (S → Option Text) → (S → Option Text) → S → SourceState
+source_of faults left name s = source_state (faults s) (left s) (name s)

@@ -1,0 +1,47 @@
+-- What a run wrote: what its journal gives, and then the status line.
+use Rattle.std.specs.Prelude.{◌≡◌, Option, None}
+use Rattle.ha_model.specs.Words.{Text}
+use Rattle.ha_status.specs.Causes.{OneRose}
+use Rattle.ha_status.specs.Written.{TookLine}
+use Rattle.bus_turn.specs.Buses.{IsWritten}
+use Rattle.bus_turn.specs.Growth.{KeeperGrows, SinkGrows}
+use Rattle.bus_turn.specs.Shown.{BusView}
+use Rattle.bus_turn.specs.States.{Outside, outside}
+use Rattle.ha_run.specs.Core.{IsPartWritten, view_of}
+use Rattle.ha_top.specs.Views.{After, Before}
+
+-- the journal with its records, and what the sinks took and the keeper holds before the status line, of which the error sink took this
+abbrev pub seen : After → Option Text → BusView
+seen a errors = view_of a.journal a.records (outside a.out (record a.err { took = errors }) a.trace a.keep)
+
+abbrev pub handed : Before → Outside
+handed b = outside b.out b.err None b.keep
+
+-- behind these errors the error sink took the status line: whole, unless that sink faulted, or memory ran out
+abbrev pub LineBehind : Before → After → Option Text → Type 0
+LineBehind b a errors = TookLine (OneRose b.err.faults a.err.faults b.err.zeros a.err.zeros) a.status errors a.err.took
+
+-- the sinks took exactly the calls and the errors of the journal, and the keeper holds the text of its switches
+pub record AllWritten (b : Before) (a : After) : Type 0 where
+  pub errors : Option Text
+  pub texts : IsWritten (seen a errors)
+  pub line : LineBehind b a errors
+
+-- they took that, but for a part of what the last entry gives at most; at the boot alone the keeper may hold what it held before
+pub record SomeWritten (b : Before) (a : After) : Type 0 where
+  pub errors : Option Text
+  pub texts : IsPartWritten (handed b) (seen a errors)
+  pub line : LineBehind b a errors
+
+-- the status line alone was written, and the keeper holds what it held
+pub record NoneWritten (b : Before) (a : After) : Type 0 where
+  pub no_call : a.out.took ≡ b.out.took
+  pub no_trace : a.trace ≡ None
+  pub no_store : a.keep.kept ≡ b.keep.kept
+  pub line : LineBehind b a b.err.took
+
+-- the sinks and the keeper are those that were handed in: what they tell is told as before, they have their names, and no count fell
+pub record AreTheSame (b : Before) (a : After) : Type 0 where
+  pub out : SinkGrows b.out a.out
+  pub err : SinkGrows b.err a.err
+  pub keep : KeeperGrows b.keep a.keep

@@ -1,0 +1,171 @@
+//! A run before its status line: the configuration, the store, the source, the boot, and then the lines.
+ghost use Rattle.std.specs.Prelude.{◌≡◌, ◌≤◌, ◌∷◌, [], None, IfSome, IsSome, length, map, option_map};
+ghost use Rattle.ha_clock.specs.Local.{last_moment};
+ghost use Rattle.ha_clock.specs.Zone.{zone_of};
+ghost use Rattle.ha_model.specs.declared.journal.Entry.TheVariants.{Boot};
+ghost use Rattle.ha_model.specs.Sound.{IsSoundConfig};
+ghost use Rattle.bus_turn.specs.States.{keeper_of, outside_of, sink_of};
+ghost use Rattle.ha_top.specs.Booted.{RanOrNot};
+ghost use Rattle.ha_top.specs.Lived.{Lived};
+ghost use Rattle.ha_top.specs.Unready.{GivesBack};
+ghost use Rattle.ha_top.specs.Views.{after_run, before_run, place_state, source_of};
+
+use crate::outcome::Outcome;
+use crate::prepare::{load_store, open_source};
+use crate::stand_engine::Boots;
+use crate::stand_in::{Configured, read_config_at};
+use ha_io::{Keeper, Place, Source};
+use ha_model::Config;
+use ha_run::{CoreRun, run_core};
+use ha_status::{Status, Unready};
+use ha_value::{Many, Word};
+use ha_words::RunWords;
+use std::alloc::{AllocError, AllocFailed, Global};
+
+/// Nothing was booted.
+fn unbooted<P: Place, Q: Keeper>(
+    alloc: Global,
+    status: Status,
+    sources: Many<P::Source>,
+    out: P::Sink,
+    err: P::Sink,
+    keep: Q,
+) -> Outcome<P, Q>
+    ensures status { result.status ≡ status }
+    ensures journal { result.journal ≡ [] }
+    ensures records { result.records ≡ [] }
+    ensures sources { result.sources ≡ sources }
+    ensures out { result.out ≡ out }
+    ensures err { result.err ≡ err }
+    ensures trace { result.trace ≡ None }
+    ensures keep { result.keep ≡ keep }
+{
+    Outcome {
+        status,
+        journal: Many::make(alloc),
+        records: Many::make(alloc),
+        sources,
+        out,
+        err,
+        trace: None,
+        keep,
+    }
+}
+
+/// The status and the sources where the configuration was not read: its source is handed back where reading it failed.
+fn given_back<S: Source>(alloc: Global, end: Unready<S>) -> (Status, Many<S>)
+    ensures { GivesBack end.status end.source result.0 result.1 }
+{
+    let Unready { status, source } = end;
+    let mut sources = Many::make(alloc);
+    if let Status::ReadFault { .. } = &status {
+        if let Some(source) = source {
+            if sources.push(source).is_err() {
+                return (Status::Memory, sources);
+            }
+        }
+    }
+    (status, sources)
+}
+
+/// Boots the core, and runs it on the source.
+fn run_booted<E: Boots, P: Place, Q: Keeper>(
+    alloc: Global,
+    words: &RunWords,
+    text: Word,
+    config: Config,
+    stored: Option<Many<(Word, bool)>>,
+    source: P::Source,
+    out: P::Sink,
+    err: P::Sink,
+    keep: Q,
+) -> Outcome<P, Q>
+    requires config { IsSoundConfig config }
+    requires in_time { words.now.start ≤ last_moment }
+    requires zoned { IsSome (zone_of words.now.zone) }
+    requires no_calls { IfSome (P.Sink.written out) (λ t. t ≡ []) }
+    requires no_errors { IfSome (P.Sink.written err) (λ t. t ≡ []) }
+    ensures {
+        let s = sink_of P.Sink.written P.Sink.faults P.Sink.zeros P.Sink.name in
+        let q = keeper_of Q.kept Q.faults in
+        RanOrNot (Boot text config stored words.now.start words.now.zone) (outside_of s q out err None keep) (source_of P.Source.faults P.Source.left P.Source.name source)
+        result.status result.journal result.records (map (source_of P.Source.faults P.Source.left P.Source.name) result.sources) (outside_of s q result.out result.err result.trace result.keep) }
+{
+    let mut sources = Vec::new(alloc);
+    if sources.push(source).is_err() {
+        return unbooted(alloc, Status::Memory, Many::make(alloc), out, err, keep);
+    }
+    let Ok(zone) = Word::read(alloc, words.zone.text()) else {
+        return unbooted(alloc, Status::Memory, Many::from_vec(sources), out, err, keep);
+    };
+    let Ok(core) = E::boot(alloc, text, config, stored, words.start, zone) else {
+        return unbooted(alloc, Status::Memory, Many::from_vec(sources), out, err, keep);
+    };
+    let CoreRun {
+        status,
+        journal,
+        records,
+        out,
+        err,
+        trace,
+        keep,
+    } = run_core(alloc, core, &mut sources[0], out, err, keep);
+    Outcome {
+        status,
+        journal,
+        records,
+        sources: Many::from_vec(sources),
+        out,
+        err,
+        trace,
+        keep,
+    }
+}
+
+/// Reads the configuration, the store and the source, boots, and runs, before the status line.
+pub(crate) fn run_files<E: Boots, P: Place, Q: Keeper>(
+    alloc: Global,
+    words: &RunWords,
+    place: &mut P,
+    out: P::Sink,
+    err: P::Sink,
+    keep: Q,
+) -> Outcome<P, Q>
+    requires one { length words.now.sources ≡ 1 }
+    requires in_time { words.now.start ≤ last_moment }
+    requires zoned { IsSome (zone_of words.now.zone) }
+    requires no_calls { IfSome (P.Sink.written out) (λ t. t ≡ []) }
+    requires no_errors { IfSome (P.Sink.written err) (λ t. t ≡ []) }
+    requires out_new { (P.Sink.faults out ≡ 0) × (P.Sink.zeros out ≡ 0) }
+    requires err_new { (P.Sink.faults err ≡ 0) × (P.Sink.zeros err ≡ 0) }
+    requires keep_new { Q.faults keep ≡ 0 }
+    ensures {
+        let s = sink_of P.Sink.written P.Sink.faults P.Sink.zeros P.Sink.name in
+        let q = keeper_of Q.kept Q.faults in
+        Lived words.now (before_run (place_state (P.holds place.old) (P.faults place.old) (P.last place.old)) (s out) (s err) (q keep)) (after_run result.status result.journal result.records (map (source_of P.Source.faults P.Source.left P.Source.name) result.sources) (place_state (P.holds place.new) (P.faults place.new) (P.last place.new)) (s result.out) (s result.err) (option_map s result.trace) (q result.keep)) }
+{
+    let mut keep = keep;
+    let (text, config) = match read_config_at(alloc, place, words.config.as_str()) {
+        Ok(made) => {
+            let Configured {
+                text,
+                config,
+                source: _,
+            } = made;
+            (text, config)
+        }
+        Err(end) => {
+            let (status, sources) = given_back(alloc, end);
+            return unbooted(alloc, status, sources, out, err, keep);
+        }
+    };
+    let stored = match load_store(alloc, &mut keep) {
+        Ok(stored) => stored,
+        Err(status) => return unbooted(alloc, status, Many::make(alloc), out, err, keep),
+    };
+    let source = match open_source(alloc, place, &words.sources.as_slice()[0]) {
+        Ok(source) => source,
+        Err(status) => return unbooted(alloc, status, Many::make(alloc), out, err, keep),
+    };
+    run_booted::<E, P, Q>(alloc, words, text, config, stored, source, out, err, keep)
+}

@@ -1,0 +1,29 @@
+//! STAND-IN, never landed: the engine.
+ghost use Rattle.std.specs.Prelude.{◌≡◌, ◌≤◌, ◌∷◌, [], false, IfOk, IsSome};
+ghost use Rattle.ha_clock.specs.Local.{last_moment};
+ghost use Rattle.ha_clock.specs.Zone.{zone_of};
+ghost use Rattle.ha_model.specs.declared.journal.Entry.TheVariants.{Boot};
+ghost use Rattle.ha_model.specs.Sound.{IsSoundConfig};
+
+use ha_clock::Moment;
+use ha_model::{Config, Core};
+use ha_value::{Many, Word};
+use std::alloc::{AllocError, Global};
+
+/// A core that can be booted. The engine is the one.
+pub trait Boots: Core {
+    /// The core after its first entry, the boot.
+    fn boot(
+        alloc: Global,
+        text: Word,
+        config: Config,
+        stored: Option<Many<(Word, bool)>>,
+        start: Moment,
+        zone: Word,
+    ) -> Result<Self, AllocError>
+        requires config { IsSoundConfig config }
+        requires zone { IsSome (zone_of zone) }
+        requires start { start ≤ last_moment }
+        ensures entries { IfOk result (λ core. Self.entries core ≡ Boot text config stored start zone ∷ []) }
+        ensures spent { IfOk result (λ core. Self.is_spent core ≡ false) };
+}
