@@ -1,0 +1,9 @@
+pub mod CallLemmas
+pub mod WriteLemmas
+pub mod SinkLemmas
+pub mod StoreLemmas
+pub mod NumberLemmas
+pub mod LastLemmas
+pub mod GrowthLemmas
+pub mod BusLemmas
+pub mod PutLemmas

@@ -1,0 +1,7 @@
+pub mod States
+pub mod Writes
+pub mod Growth
+pub mod Lines
+pub mod Dated
+pub mod Shown
+pub mod Buses

@@ -1,0 +1,19 @@
+-- The line of a step that calls, by the record as it is after it.
+use Rattle.std.specs.Prelude.{[], Option, option_and_then, option_map}
+use Rattle.std.specs.Option.{option_map_or}
+use Rattle.ha_model.specs.declared.config.Automation.{Automation}
+use Rattle.ha_model.specs.declared.journal.Entry.{Entry}
+use Rattle.ha_model.specs.Entries.{call_in, step_of}
+use Rattle.ha_model.specs.Lawful.{record_of}
+use Rattle.ha_model.specs.Records.{Records}
+use Rattle.ha_model.specs.Switches.{name_of}
+use Rattle.ha_model.specs.Texts.{call_line}
+use Rattle.ha_model.specs.Words.{Text}
+use Rattle.std.specs.Prelude.{List}
+
+-- the text of a line, where there is one
+abbrev pub text_in : Option Text → Text
+text_in line = option_map_or (λ t. t) line []
+
+abbrev pub called_line : List Automation → Records → Entry → Option Text
+called_line all records x = option_and_then (λ s. option_and_then (λ r. option_map (call_line (name_of all r.automation) r.number r.calls) (call_in s.item)) (record_of records s.serial)) (step_of x)

@@ -1,0 +1,276 @@
+//! What is written of one entry.
+ghost use Rattle.std.specs.Prelude.{◌≡◌, IfOk, IfErr, OnOk, option_map, true, false, None, Some, if◌then◌else◌};
+ghost use Rattle.std.specs.Option.{option_copied};
+ghost use Rattle.ha_model.specs.declared.journal.Entry.{Entry};
+ghost use Rattle.ha_model.specs.Entries.{call_in};
+ghost use Rattle.ha_model.specs.Journal.{Journal};
+ghost use Rattle.ha_model.specs.RecordSteps.{more};
+ghost use Rattle.ha_model.specs.Sights.{changes_switch};
+ghost use Rattle.ha_model.specs.Lawful.{record_of as record_of_lem};
+ghost use Rattle.ha_model.specs.Switches.{name_of};
+ghost use Rattle.ha_model.specs.Texts.{call_line as call_line_lem, call_text_of, error_text_of, store_text, trace_line as trace_line_lem};
+ghost use Rattle.ha_model.specs.Words.{Text};
+ghost use Rattle.bus_turn.specs.States.{keeper_of, outside_of, sink_of};
+ghost use Rattle.bus_turn.specs.Shown.{texts_of};
+ghost use Rattle.ha_texts.specs.Lines.{AreDated};
+ghost use Rattle.bus_turn.specs.Dated.{IsLastDated};
+ghost use Rattle.bus_turn.specs.Lines.{called_line, text_in};
+ghost use Rattle.bus_turn.specs.Writes.{Saves, Shows, Writes, WritesIn, fault_of, refusal};
+
+use crate::fault::BusFault;
+use ha_io::{IoFault, Keeper, Sink, Unwritten, write_whole};
+use ha_model::{Automation, Config, Core, CoreFault, Entry, Item, Record, Word};
+use ha_texts::{call_line, err_line, trace_line};
+use std::alloc::{AllocError, Global};
+
+/// Writes a text to its end.
+fn write_text<K: Sink>(sink: &mut K, text: &[u8]) -> Result<(), BusFault>
+    ensures { let s = sink_of K.written K.faults K.zeros K.name in Writes text.now (s sink.old) (fault_of result) (s sink.new) }
+{
+    match write_whole(sink, text) {
+        Ok(()) => Ok(()),
+        Err(Unwritten::Failed) => Err(BusFault::Write { zero: false }),
+        Err(Unwritten::Zero) => Err(BusFault::Write { zero: true }),
+        Err(Unwritten::Memory) => Err(BusFault::Memory),
+    }
+}
+
+/// Writes a line, where there is one.
+fn write_line<K: Sink>(
+    sink: &mut K,
+    line: Result<Option<Word>, AllocError>,
+) -> Result<(), BusFault>
+    ensures {
+        let s = sink_of K.written K.faults K.zeros K.name in
+        (text : Text) → IfOk line (λ one. text_in one ≡ text)
+            → Writes text (s sink.old) (fault_of result) (s sink.new) }
+{
+    match line {
+        Ok(Some(line)) => write_text(sink, line.bytes()),
+        Ok(None) => Ok(()),
+        Err(_) => Err(BusFault::Memory),
+    }
+}
+
+/// The record with that serial.
+fn record_of(records: &[Record], serial: u64) -> Option<&Record>
+    ensures { option_copied result ≡ record_of_lem records.now serial }
+{
+    records.get(serial.saturating_sub(1) as usize)
+}
+
+/// The line of a call that a run made last, by what it did.
+fn line_of_call(
+    alloc: Global,
+    automations: &[Automation],
+    run: &Record,
+    item: &Item,
+) -> Result<Option<Word>, AllocError>
+    ensures {
+        IfOk result (λ line. line ≡ option_map (call_line_lem (name_of automations.now run.now.automation) run.now.number run.now.calls) (call_in item.now)) }
+{
+    if !matches!(item, Item::Call { .. }) {
+        return Ok(None);
+    }
+    match automations.get(run.automation as usize) {
+        Some(automation) => Ok(Some(call_line(
+            alloc,
+            &automation.name,
+            run.number,
+            run.calls,
+            item,
+        )?)),
+        None => {
+            let nameless = Word::new(alloc);
+            Ok(Some(call_line(
+                alloc,
+                &nameless,
+                run.number,
+                run.calls,
+                item,
+            )?))
+        }
+    }
+}
+
+/// The line of an entry that calls.
+fn line_of_step(
+    alloc: Global,
+    automations: &[Automation],
+    records: &[Record],
+    entry: &Entry,
+) -> Result<Option<Word>, AllocError>
+    ensures { IfOk result (λ line. line ≡ called_line automations.now records.now entry.now) }
+{
+    match entry {
+        Entry::Step { serial, item, .. } => match record_of(records, *serial) {
+            Some(run) => line_of_call(alloc, automations, run, item),
+            None => Ok(None),
+        },
+        Entry::Boot { .. } | Entry::Line { .. } => Ok(None),
+    }
+}
+
+/// Writes the call line of the last entry, if it has one.
+fn write_call<C: Core, K: Sink>(
+    alloc: Global,
+    core: &C,
+    entry: &Entry,
+    sink: &mut K,
+) -> Result<(), BusFault>
+    ensures {
+        let s = sink_of K.written K.faults K.zeros K.name in
+        (before : Journal)
+            → C.entries core.now ≡ more before entry.now
+            → Writes (call_text_of (C.runs core.now) before entry.now) (s sink.old) (fault_of result) (s sink.new) }
+{
+    let automations = core.config().automations.as_slice();
+    let line = line_of_step(alloc, automations, core.records(), entry);
+    write_line(sink, line)
+}
+
+/// Writes the error line of an entry, if it has one.
+fn write_error<K: Sink>(alloc: Global, entry: &Entry, sink: &mut K) -> Result<(), BusFault>
+    ensures {
+        let s = sink_of K.written K.faults K.zeros K.name in
+        Writes (error_text_of entry.now) (s sink.old) (fault_of result) (s sink.new) }
+{
+    write_line(sink, err_line(alloc, entry))
+}
+
+/// The line of an entry in the trace, which each has.
+fn line_of_trace(
+    alloc: Global,
+    entry: &Entry,
+    config: &Config,
+) -> Result<Option<Word>, AllocError>
+    requires { AreDated entry.now }
+    ensures { IfOk result (λ line. text_in line ≡ trace_line_lem config.now.automations entry.now) }
+{
+    Ok(Some(trace_line(alloc, entry, config)?))
+}
+
+/// Writes the line of an entry to the trace, where there is one.
+fn write_trace<K: Sink>(
+    alloc: Global,
+    entry: &Entry,
+    config: &Config,
+    trace: &mut Option<K>,
+) -> Result<(), BusFault>
+    requires { AreDated entry.now }
+    ensures {
+        let s = sink_of K.written K.faults K.zeros K.name in
+        WritesIn (trace_line_lem config.now.automations entry.now) (option_map s trace.old) (fault_of result) (option_map s trace.new) }
+{
+    match trace {
+        Some(sink) => write_line(sink, line_of_trace(alloc, entry, config)),
+        None => Ok(()),
+    }
+}
+
+/// Saves a text.
+fn save_text<Q: Keeper>(text: &[u8], keep: &mut Q) -> Result<(), BusFault>
+    ensures { let q = keeper_of Q.kept Q.faults in Saves (Some text.now) (q keep.old) (fault_of result) (q keep.new) }
+{
+    match keep.save(text) {
+        Ok(()) => Ok(()),
+        Err(IoFault::Failed) => Err(BusFault::Keep),
+        Err(IoFault::Memory) => Err(BusFault::Memory),
+    }
+}
+
+/// Saves the switches, where the last entry is the boot or changed one.
+fn save<C: Core, Q: Keeper>(alloc: Global, core: &C, keep: &mut Q) -> Result<(), BusFault>
+    requires { C.is_spent core.now ≡ false }
+    ensures {
+        let q = keeper_of Q.kept Q.faults in
+        let text = if changes_switch (C.entries core.now) then Some (store_text (C.entries core.now)) else None in
+        Saves text (q keep.old) (fault_of result) (q keep.new) }
+{
+    if !core.last_changed_switch() {
+        return Ok(());
+    }
+    match core.store_text(alloc) {
+        Ok(text) => save_text(text.bytes(), keep),
+        Err(_) => Err(BusFault::Memory),
+    }
+}
+
+/// Writes what the last entry gives, and saves the switches where it changed one: first the call, then the error, the trace and the
+/// store. After a fault nothing further is written.
+fn show<C: Core, K: Sink, Q: Keeper>(
+    alloc: Global,
+    core: &C,
+    entry: &Entry,
+    calls: &mut K,
+    errors: &mut K,
+    trace: &mut Option<K>,
+    keep: &mut Q,
+) -> Result<(), BusFault>
+    requires usable { C.is_spent core.now ≡ false }
+    requires dated { AreDated entry.now }
+    ensures {
+        let s = sink_of K.written K.faults K.zeros K.name in
+        let q = keeper_of Q.kept Q.faults in
+        (before : Journal)
+            → C.entries core.now ≡ more before entry.now
+            → Shows (texts_of (C.runs core.now) before entry.now)
+                (outside_of s q calls.old errors.old trace.old keep.old)
+                (fault_of result)
+                (outside_of s q calls.new errors.new trace.new keep.new) }
+{
+    match write_call(alloc, core, entry, calls) {
+        Ok(()) => {}
+        Err(fault) => return Err(fault),
+    }
+    match write_error(alloc, entry, errors) {
+        Ok(()) => {}
+        Err(fault) => return Err(fault),
+    }
+    match write_trace(alloc, entry, core.config(), trace) {
+        Ok(()) => {}
+        Err(fault) => return Err(fault),
+    }
+    save(alloc, core, keep)
+}
+
+/// What becomes of the outside after a put, and the fault that is to be kept: after a put that was refused nothing is written.
+pub(crate) fn write_put<C: Core, K: Sink, Q: Keeper>(
+    alloc: Global,
+    put: Result<(), CoreFault>,
+    core: &C,
+    calls: &mut K,
+    errors: &mut K,
+    trace: &mut Option<K>,
+    keep: &mut Q,
+) -> Option<BusFault>
+    requires usable { OnOk put (C.is_spent core.now ≡ false) }
+    requires dated { OnOk put (IsLastDated (C.entries core.now)) }
+    ensures ok {
+        let s = sink_of K.written K.faults K.zeros K.name in
+        let q = keeper_of Q.kept Q.faults in
+        OnOk put ((before : Journal) (x : Entry)
+            → C.entries core.now ≡ more before x
+            → Shows (texts_of (C.runs core.now) before x)
+                (outside_of s q calls.old errors.old trace.old keep.old)
+                result
+                (outside_of s q calls.new errors.new trace.new keep.new)) }
+    ensures err {
+        let s = sink_of K.written K.faults K.zeros K.name in
+        let q = keeper_of Q.kept Q.faults in
+        IfErr put (λ fault. (result ≡ Some (refusal fault))
+            × (outside_of s q calls.new errors.new trace.new keep.new ≡ outside_of s q calls.old errors.old trace.old keep.old)) }
+{
+    match put {
+        Ok(()) => {}
+        Err(CoreFault::Full) => return Some(BusFault::Full),
+        Err(CoreFault::Memory) => return Some(BusFault::Memory),
+    }
+    let Some(entry) = core.journal().last() else {
+        return None;
+    };
+    match show(alloc, core, entry, calls, errors, trace, keep) {
+        Ok(()) => None,
+        Err(fault) => Some(fault),
+    }
+}
