@@ -147,3 +147,12 @@ puts-keep Is old after has held (inl adds) =
     by (inl h) = inl h
     by (inr h) = inr (subst (λ j. HoldsStore j after.out.keep) (sym adds.journal) h)
 puts-keep Is old after has held (inr refuses) = inl (subst (λ o. HoldsStore old.journal o.keep) (sym refuses.out) held)
+
+-- a bus that keeps want of memory, of which nothing was written
+pub ran-out : (b : BusView) → IsBus b → b.first ≡ None → IsBus (bus_view b.journal b.records b.is_spent b.out (Some BusFault.Memory))
+ran-out b bus is_open =
+    let stood : Stands b None = subst (Stands b) is_open bus.stands in
+    let last = has-last b.journal (has-entry b.journal bus.right.journal) in
+    let spent : BusView = bus_view b.journal b.records b.is_spent b.out (Some BusFault.Memory) in
+    let written : IsWritten spent = record { calls = stood.1.calls; errors = stood.1.errors; trace = stood.1.trace; keep = stood.1.keep } in
+    record { right = bus.right; room = bus.room; stands = uncut spent last.0 last.1 last.2 written }

@@ -197,7 +197,7 @@ impl<C: Core, K: Sink, Q: Keeper> Bus<C, K, Q> {
 
     /// Keeps as the first fault that memory ran out, before a line could be put.
     pub fn run_out(&mut self)
-        requires open { self.old.first ≡ None }
+        requires { self.old.first ≡ None }
         ensures { self.new ≡ record self.old { first = Some BusFault.Memory } }
     {
         self.first = Some(BusFault::Memory);

@@ -18,8 +18,8 @@ invariant_of-self g c =
     let core = c.put_line-put.new.self in
     let put = c.put_line-put.ensures in
     (after-put (λ x. x ≡ Line c.args.source c.args.number (put_as (g.C.Core.entries c.self.inside.core) c.args.cmd)) old c.self.invariant (ap (λ b. b.first) c.self.view_is ∙ c.requires.open)
-    (g.C.Core.entries core) (g.C.Core.runs core) (g.C.Core.is_spent core) c.write_put.result (outside (s c.write_put.new.calls) (s c.write_put.new.errors) (option_map s c.write_put.new.trace) (q c.write_put.new.keep))
-    c.put_line-put.result (on_ok_weaker c.put_line-put.result (λ e. (Line c.args.source c.args.number (put_as (g.C.Core.entries c.self.inside.core) c.args.cmd), refl, e)) c.put_line-put.ensures.put) put.room put.right put.stays put.full (fresh-of c.put_line-put.result (g.C.Core.is_spent core) put.spent) c.write_put.ensures.ok c.write_put.ensures.err).0
+    (g.C.Core.entries core) (g.C.Core.runs core) (g.C.Core.is_spent core) c.write_put-self-inside.result (outside (s c.write_put-self-inside.new.calls) (s c.write_put-self-inside.new.errors) (option_map s c.write_put-self-inside.new.trace) (q c.write_put-self-inside.new.keep))
+    c.put_line-put.result (on_ok_weaker c.put_line-put.result (λ e. (Line c.args.source c.args.number (put_as (g.C.Core.entries c.self.inside.core) c.args.cmd), refl, e)) c.put_line-put.ensures.put) put.room put.right put.stays put.full (fresh-of c.put_line-put.result (g.C.Core.is_spent core) put.spent) c.write_put-self-inside.ensures.ok c.write_put-self-inside.ensures.err).0
 
 pub returns : goal.returns
 returns g c =
@@ -29,5 +29,5 @@ returns g c =
     let core = c.put_line-put.new.self in
     let put = c.put_line-put.ensures in
     rw (← c.self.view_is) ((after-put (λ x. x ≡ Line c.args.source c.args.number (put_as (g.C.Core.entries c.self.inside.core) c.args.cmd)) old c.self.invariant (ap (λ b. b.first) c.self.view_is ∙ c.requires.open)
-    (g.C.Core.entries core) (g.C.Core.runs core) (g.C.Core.is_spent core) c.write_put.result (outside (s c.write_put.new.calls) (s c.write_put.new.errors) (option_map s c.write_put.new.trace) (q c.write_put.new.keep))
-    c.put_line-put.result (on_ok_weaker c.put_line-put.result (λ e. (Line c.args.source c.args.number (put_as (g.C.Core.entries c.self.inside.core) c.args.cmd), refl, e)) c.put_line-put.ensures.put) put.room put.right put.stays put.full (fresh-of c.put_line-put.result (g.C.Core.is_spent core) put.spent) c.write_put.ensures.ok c.write_put.ensures.err).1)
+    (g.C.Core.entries core) (g.C.Core.runs core) (g.C.Core.is_spent core) c.write_put-self-inside.result (outside (s c.write_put-self-inside.new.calls) (s c.write_put-self-inside.new.errors) (option_map s c.write_put-self-inside.new.trace) (q c.write_put-self-inside.new.keep))
+    c.put_line-put.result (on_ok_weaker c.put_line-put.result (λ e. (Line c.args.source c.args.number (put_as (g.C.Core.entries c.self.inside.core) c.args.cmd), refl, e)) c.put_line-put.ensures.put) put.room put.right put.stays put.full (fresh-of c.put_line-put.result (g.C.Core.is_spent core) put.spent) c.write_put-self-inside.ensures.ok c.write_put-self-inside.ensures.err).1)

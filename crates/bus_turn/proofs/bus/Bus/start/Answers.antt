@@ -17,4 +17,7 @@ invariant_of-result g c =
     (c.write_put-first.ensures.ok [] c.requires.boot.0 c.requires.boot.1)
 
 pub write_put-first-requires-clause-dated : goal.write_put-first-requires-clause-dated
-write_put-first-requires-clause-dated g c = boot-dated (g.C.Core.entries c.args.core) c.requires.boot.0 c.requires.boot.1 c.requires.boot.2
+write_put-first-requires-clause-dated g c = λ _ _. boot-dated (g.C.Core.entries c.args.core) c.requires.boot.0 c.requires.boot.1 c.requires.boot.2
+
+pub returns-clause-shows : goal.returns-clause-shows
+returns-clause-shows g c = c.write_put-first.ensures.ok []

@@ -18,8 +18,8 @@ invariant_of-self g c =
     let core = c.put_step-put.new.self in
     let put = c.put_step-put.ensures in
     (after-put (IsStep c.args.worker old) old c.self.invariant (ap (λ b. b.first) c.self.view_is ∙ c.requires.open)
-    (g.C.Core.entries core) (g.C.Core.runs core) (g.C.Core.is_spent core) c.write_put.result (outside (s c.write_put.new.calls) (s c.write_put.new.errors) (option_map s c.write_put.new.trace) (q c.write_put.new.keep))
-    c.put_step-put.result (on_ok_weaker c.put_step-put.result (λ e. (Step c.args.worker e.0 e.1 e.2, record { serial = e.0; branch = e.1; item = e.2; picked = e.3; is = refl }, e.4)) c.put_step-put.ensures.put) put.room put.right put.stays put.full (fresh-of c.put_step-put.result (g.C.Core.is_spent core) put.spent) c.write_put.ensures.ok c.write_put.ensures.err).0
+    (g.C.Core.entries core) (g.C.Core.runs core) (g.C.Core.is_spent core) c.write_put-self-inside.result (outside (s c.write_put-self-inside.new.calls) (s c.write_put-self-inside.new.errors) (option_map s c.write_put-self-inside.new.trace) (q c.write_put-self-inside.new.keep))
+    c.put_step-put.result (on_ok_weaker c.put_step-put.result (λ e. (Step c.args.worker e.0 e.1 e.2, record { serial = e.0; branch = e.1; item = e.2; picked = e.3; is = refl }, e.4)) c.put_step-put.ensures.put) put.room put.right put.stays put.full (fresh-of c.put_step-put.result (g.C.Core.is_spent core) put.spent) c.write_put-self-inside.ensures.ok c.write_put-self-inside.ensures.err).0
 
 pub returns : goal.returns
 returns g c =
@@ -29,5 +29,5 @@ returns g c =
     let core = c.put_step-put.new.self in
     let put = c.put_step-put.ensures in
     rw (← c.self.view_is) ((after-put (IsStep c.args.worker old) old c.self.invariant (ap (λ b. b.first) c.self.view_is ∙ c.requires.open)
-    (g.C.Core.entries core) (g.C.Core.runs core) (g.C.Core.is_spent core) c.write_put.result (outside (s c.write_put.new.calls) (s c.write_put.new.errors) (option_map s c.write_put.new.trace) (q c.write_put.new.keep))
-    c.put_step-put.result (on_ok_weaker c.put_step-put.result (λ e. (Step c.args.worker e.0 e.1 e.2, record { serial = e.0; branch = e.1; item = e.2; picked = e.3; is = refl }, e.4)) c.put_step-put.ensures.put) put.room put.right put.stays put.full (fresh-of c.put_step-put.result (g.C.Core.is_spent core) put.spent) c.write_put.ensures.ok c.write_put.ensures.err).1)
+    (g.C.Core.entries core) (g.C.Core.runs core) (g.C.Core.is_spent core) c.write_put-self-inside.result (outside (s c.write_put-self-inside.new.calls) (s c.write_put-self-inside.new.errors) (option_map s c.write_put-self-inside.new.trace) (q c.write_put-self-inside.new.keep))
+    c.put_step-put.result (on_ok_weaker c.put_step-put.result (λ e. (Step c.args.worker e.0 e.1 e.2, record { serial = e.0; branch = e.1; item = e.2; picked = e.3; is = refl }, e.4)) c.put_step-put.ensures.put) put.room put.right put.stays put.full (fresh-of c.put_step-put.result (g.C.Core.is_spent core) put.spent) c.write_put-self-inside.ensures.ok c.write_put-self-inside.ensures.err).1)
