@@ -1,27 +1,22 @@
 -- A bus stays one with each put.
-use Rattle.std.proofs.Common.{◌≡◌, ◌∙◌, ◌⊎◌, inl, inr, ap, refl, sym, subst, ℕ, ◌<◌, List, [], ◌∷◌, ◌++◌, length, Bool, true, false}
-use Rattle.std.specs.Prelude.{Option, Some, None, Result, Ok, Err, OnOk, IfErr, IfSome, IsSomeAnd, if◌then◌else◌}
+use Rattle.std.proofs.Common.{◌≡◌, ◌∙◌, ◌⊎◌, inl, inr, refl, sym, subst, [], ◌∷◌, ◌++◌, Bool, true, false}
+use Rattle.std.specs.Prelude.{Option, Some, None, IfSome, if◌then◌else◌}
 use Rattle.ha_io.specs.Told.{told_as}
-use Rattle.ha_model.specs.declared.config.Automation.{Automation}
-use Rattle.ha_model.specs.declared.faults.CoreFault.{CoreFault}
 use Rattle.ha_model.specs.declared.journal.Entry.{Entry}
 use Rattle.ha_model.specs.Words.{Text}
 use Rattle.ha_model.specs.Journal.{HasEntry, Journal, automations}
-use Rattle.ha_model.specs.Lawful.{Right}
 use Rattle.ha_model.specs.RecordSteps.{more}
 use Rattle.ha_model.specs.Records.{Records}
 use Rattle.ha_model.specs.Sights.{changes_switch}
-use Rattle.ha_model.specs.Texts.{call_text, call_text_of, error_text, error_text_of, store_text, trace_line, trace_text}
+use Rattle.ha_model.specs.Texts.{call_text, error_text, store_text, trace_line, trace_text}
 use Rattle.ha_model.proofs.AppendLemmas.{append-nil}
-use Rattle.ha_model.proofs.LawfulLaws.{has-entry}
 use Rattle.ha_model.proofs.RecordGrowth.{automations-more}
-use Rattle.ha_laws.proofs.CallGrowth.{calls-same}
 use Rattle.ha_laws.proofs.TextLemmas.{calls-more, errors-more, trace-more}
 use Rattle.bus_turn.specs.declared.fault.BusFault.{BusFault}
-use Rattle.bus_turn.specs.States.{SinkState, KeeperState, Outside}
-use Rattle.bus_turn.specs.Writes.{EntryTexts, MaySave, Saved, Saves, Shows, Writes, WritesIn, refusal}
+use Rattle.bus_turn.specs.States.{KeeperState, Outside}
+use Rattle.bus_turn.specs.Writes.{EntryTexts, Saves, Shows, Writes, WritesIn}
 use Rattle.bus_turn.specs.Shown.{BusView, bus_view, texts_of}
-use Rattle.bus_turn.specs.Buses.{HasTaken, HasTakenFront, HoldsStore, IsBus, IsCut, IsRefusal, IsWritten, Puts, Stands}
+use Rattle.bus_turn.specs.Buses.{HasTaken, HasTakenFront, HoldsStore, IsCut, IsWritten, Stands}
 use Rattle.bus_turn.proofs.GrowthLemmas.{full-cause, keep-cause, shows-rise, write-cause}
 use Rattle.bus_turn.proofs.SinkLemmas.{stays-front, stays-in-front, took-in-more, took-more, writes-front, writes-in-front}
 use Rattle.bus_turn.proofs.StoreLemmas.{store-stays}
@@ -138,20 +133,40 @@ module _ (before : Journal) (x : Entry) (rs : Records) where
 
         cut : (first : Option BusFault) (fault : BusFault) → Shows texts out (Some fault) out' → IsCut (shown first)
         cut first fault (inl w) = record {
-          before = before; last = x; is = refl;
-          calls = calls-front (Some fault) w.0; errors = errors-stay w.1; trace = trace-stays w.2; keep = kept-stays held.keep w.3;
+          before = before;
+          last = x;
+          is = refl;
+          calls = calls-front (Some fault) w.0;
+          errors = errors-stay w.1;
+          trace = trace-stays w.2;
+          keep = kept-stays held.keep w.3;
         }
         cut first fault (inr (inl w)) = record {
-          before = before; last = x; is = refl;
-          calls = calls-front None w.0; errors = errors-front (Some fault) w.1; trace = trace-stays w.2; keep = kept-stays held.keep w.3;
+          before = before;
+          last = x;
+          is = refl;
+          calls = calls-front None w.0;
+          errors = errors-front (Some fault) w.1;
+          trace = trace-stays w.2;
+          keep = kept-stays held.keep w.3;
         }
         cut first fault (inr (inr (inl w))) = record {
-          before = before; last = x; is = refl;
-          calls = calls-front None w.0; errors = errors-front None w.1; trace = trace-front (Some fault) w.2; keep = kept-stays held.keep w.3;
+          before = before;
+          last = x;
+          is = refl;
+          calls = calls-front None w.0;
+          errors = errors-front None w.1;
+          trace = trace-front (Some fault) w.2;
+          keep = kept-stays held.keep w.3;
         }
         cut first fault (inr (inr (inr w))) = record {
-          before = before; last = x; is = refl;
-          calls = calls-front None w.0; errors = errors-front None w.1; trace = trace-front None w.2; keep = saved-part held.keep (changes_switch now) fault w.3;
+          before = before;
+          last = x;
+          is = refl;
+          calls = calls-front None w.0;
+          errors = errors-front None w.1;
+          trace = trace-front None w.2;
+          keep = saved-part held.keep (changes_switch now) fault w.3;
         }
 
         pub stands-more : (first : Option BusFault) → spent ≡ false → Shows texts out first out' → Stands (shown first) first

@@ -1,6 +1,6 @@
 -- The line of a step that calls, by the record after it.
 use Rattle.std.proofs.lemmas.Bool.{eq-eqb}
-use Rattle.std.proofs.Common.{◌≡◌, ◌∙◌, ap, refl, sym, subst, ℕ, zero, suc, ◌+◌, List, [], ◌∷◌, ◌++◌, Bool, true, false, append_assoc, arith}
+use Rattle.std.proofs.Common.{◌≡◌, ◌∙◌, ap, refl, sym, subst, ℕ, zero, suc, ◌+◌, List, [], ◌∷◌, ◌++◌, true, append_assoc, arith}
 use Rattle.std.specs.Prelude.{Option, Some, None, ◌&&◌, cond, nat_eq, slice_get, is_some, option_and_then, option_map}
 use Rattle.std.specs.Option.{option_map_or}
 use Rattle.ha_model.specs.declared.config.Automation.{Automation}
@@ -13,7 +13,7 @@ use Rattle.ha_model.specs.Entries.{Called, Stepped, call_in}
 use Rattle.ha_model.specs.Journal.{HasEntry, Journal, automations}
 use Rattle.ha_model.specs.Lawful.{IsRightEntry, Right, record_of}
 use Rattle.ha_model.specs.RecordSteps.{more}
-use Rattle.ha_model.specs.Records.{Records, calls_of, ended, is_call_of, with_begins}
+use Rattle.ha_model.specs.Records.{Records, calls_of, ended, with_begins}
 use Rattle.ha_model.specs.Switches.{name_of}
 use Rattle.ha_model.specs.Texts.{call_line, call_of_step, call_text_of}
 use Rattle.ha_model.proofs.AppendLemmas.{append-nil}

@@ -1,7 +1,7 @@
 -- What lies outside grows with each put, and each fault of it has its cause in the counts.
-use Rattle.std.proofs.Common.{◌≡◌, ◌∙◌, ◌⊎◌, inl, inr, ap, refl, sym, subst, ℕ, ◌<◌, ◌≤◌, ◌++◌, Bool, true, false, arith}
+use Rattle.std.proofs.Common.{◌≡◌, ◌∙◌, ◌⊎◌, inl, inr, ap, refl, sym, subst, ℕ, ◌<◌, ◌++◌, Bool, true, false, arith}
 use Rattle.std.proofs.Math.Nat.{le_refl}
-use Rattle.std.specs.Prelude.{Option, Some, None, is_some, IsSomeAnd}
+use Rattle.std.specs.Prelude.{[], Option, Some, None, is_some, IfSome, IsSomeAnd}
 use Rattle.std.specs.Option.{option_map}
 use Rattle.ha_io.specs.Counts.{Rose}
 use Rattle.ha_io.specs.Told.{Takes, told_as}
@@ -9,9 +9,10 @@ use Rattle.ha_io.proofs.CountLemmas.{Rose-within}
 use Rattle.ha_model.specs.Words.{Text}
 use Rattle.bus_turn.specs.declared.fault.BusFault.{BusFault}
 use Rattle.bus_turn.specs.States.{SinkState, KeeperState, Outside}
-use Rattle.bus_turn.specs.Writes.{EntryTexts, KeeperCause, MaySave, Saves, Shows, SinkCause, Took, TookFront, Writes, WritesIn}
+use Rattle.bus_turn.specs.Writes.{EntryTexts, KeeperCause, Saves, Shows, SinkCause, Took, TookFront, Writes, WritesIn}
 use Rattle.bus_turn.specs.Growth.{HasRisen, KeeperGrows, OutGrows, SinkGrows, TraceCause, TraceGrows}
-use Rattle.bus_turn.specs.Buses.{HasCause, KeeperFailed, SinkFailed}
+use Rattle.ha_model.proofs.AppendLemmas.{append-nil}
+use Rattle.bus_turn.specs.Buses.{HasCause, HasTaken, HasTakenFront, IsBetween, SinkFailed}
 
 -- ---- a fault's cause: what rose is above 0
 
@@ -221,3 +222,25 @@ risen-within fault a b c d g (inl h) k = inl (sink-within fault a.calls b.calls 
 risen-within fault a b c d g (inr (inl h)) k = inr (inl (sink-within fault a.errors b.errors c.errors d.errors g.errors h k.errors))
 risen-within fault a b c d g (inr (inr (inl h))) k = inr (inr (inl (trace-within fault a.trace b.trace c.trace d.trace g.trace h k.trace)))
 risen-within fault a b c d g (inr (inr (inr h))) k = inr (inr (inr (keep-within fault a.keep b.keep c.keep d.keep g.keep h k.keep)))
+
+-- ---- what a sink that had taken nothing takes
+
+whole-told : (text : Text) (b a : Option Text) → IfSome b (λ t. t ≡ []) → is_some a ≡ is_some b → IfSome a (λ t. t ≡ text) → Takes b text a
+whole-told text None None was told h = refl
+whole-told text None (Some u) was told h = absurd (cc)
+whole-told text (Some w) None was told h = absurd (cc)
+whole-told text (Some w) (Some u) was told h = ap (λ (t : Text). Some t) (h ∙ ap (λ t. t ++ text) (sym was))
+
+pub takes-whole : (text : Text) (before after : SinkState) → HasTaken [] before → SinkGrows before after → HasTaken text after → Takes before.took text after.took
+takes-whole text before after was grows h = whole-told text before.took after.took was grows.told h
+
+part-told : (done whole : Text) (b a : Option Text) → IfSome b (λ t. t ≡ []) → is_some a ≡ is_some b → IfSome a (λ t. IsBetween done t whole)
+    → (front : Text) × (rest : Text) × (whole ≡ front ++ rest) × Takes b front a
+part-told done whole None None was told h = (whole, [], sym (append-nil whole), refl)
+part-told done whole None (Some u) was told h = absurd (cc)
+part-told done whole (Some w) None was told h = absurd (cc)
+part-told done whole (Some w) (Some u) was told h = (u, h.missing, h.ends, ap (λ (t : Text). Some t) (ap (λ t. t ++ u) (sym was)))
+
+pub takes-part : (done whole : Text) (before after : SinkState) → HasTaken [] before → SinkGrows before after → HasTakenFront done whole after
+    → (front : Text) × (rest : Text) × (whole ≡ front ++ rest) × Takes before.took front after.took
+takes-part done whole before after was grows h = part-told done whole before.took after.took was grows.told h

@@ -1,5 +1,5 @@
 -- The last entry of a journal.
-use Rattle.std.proofs.Common.{◌≡◌, ◌∙◌, ap, refl, sym, subst, ℕ, suc, ◌-◌, List, [], ◌∷◌, ◌++◌, length, arith, length-append}
+use Rattle.std.proofs.Common.{◌≡◌, ◌∙◌, ap, refl, sym, subst, ℕ, ◌-◌, List, [], ◌∷◌, length, arith, length-append}
 use Rattle.std.specs.Prelude.{Option, Some, None, Result, Ok, Err, IfSome, OnOk, option_map, slice_get}
 use Rattle.ha_model.specs.declared.journal.Cmd.{Cmd}
 use Rattle.ha_model.specs.declared.journal.Entry.{Entry}

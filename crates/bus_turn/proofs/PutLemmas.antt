@@ -1,5 +1,5 @@
 -- What a put makes of a bus.
-use Rattle.std.proofs.Common.{◌≡◌, ◌∙◌, ◌⊎◌, inl, inr, ap, refl, sym, subst, ℕ, ◌<◌, ◌≤◌, List, [], ◌∷◌, ◌++◌, length, Bool, true, false, arith, length-append}
+use Rattle.std.proofs.Common.{◌≡◌, ◌∙◌, ◌⊎◌, inl, inr, ap, refl, sym, subst, ◌<◌, ◌≤◌, [], ◌∷◌, length, Bool, true, false, arith, length-append}
 use Rattle.std.specs.Prelude.{◌↔◌, Option, Some, None, Result, Ok, Err, OnOk, OnErr, IfErr, IfSome}
 use Rattle.ha_model.specs.declared.faults.CoreFault.{CoreFault}
 use Rattle.ha_model.specs.declared.journal.Entry.{Entry}

@@ -1,5 +1,5 @@
 -- What a sink has taken after a write, by what it had taken before.
-use Rattle.std.proofs.Common.{◌≡◌, ◌∙◌, ap, refl, sym, subst, ℕ, ◌≤◌, List, [], ◌++◌, length, take, drop, append_assoc}
+use Rattle.std.proofs.Common.{◌≡◌, ◌∙◌, ap, sym, subst, ℕ, [], ◌++◌, take, drop, append_assoc}
 use Rattle.std.proofs.lemmas.List.{take-append-drop}
 use Rattle.std.specs.Prelude.{Option, Some, None, IfSome}
 use Rattle.ha_io.specs.Told.{Takes}
@@ -8,7 +8,7 @@ use Rattle.ha_model.specs.Words.{Text}
 use Rattle.ha_model.proofs.AppendLemmas.{append-nil}
 use Rattle.bus_turn.specs.declared.fault.BusFault.{BusFault}
 use Rattle.bus_turn.specs.States.{SinkState}
-use Rattle.bus_turn.specs.Writes.{Took, TookFront, TookIn, Writes, WritesIn}
+use Rattle.bus_turn.specs.Writes.{Took, TookIn, Writes, WritesIn}
 use Rattle.bus_turn.specs.Buses.{HasTaken, HasTakenFront, IsBetween}
 
 module _ (t u : Text) where

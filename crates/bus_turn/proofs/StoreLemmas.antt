@@ -1,6 +1,6 @@
 -- The store's text stays where the last entry changed no switch.
-use Rattle.std.proofs.Common.{◌≡◌, ◌∙◌, ap, refl, sym, subst, ℕ, suc, ◌+◌, ◌-◌, List, [], ◌∷◌, ◌++◌, length, take, map, Bool, true, false, arith, length-append}
-use Rattle.std.specs.Prelude.{Option, Some, None, not, nat_eq, ◌||◌, IfSome}
+use Rattle.std.proofs.Common.{◌≡◌, ◌∙◌, ap, refl, sym, ℕ, ◌+◌, ◌-◌, List, [], ◌∷◌, ◌++◌, length, take, map, Bool, true, false, arith, length-append}
+use Rattle.std.specs.Prelude.{not, nat_eq}
 use Rattle.std.specs.List.{enumerate_from, list_any}
 use Rattle.std.proofs.lemmas.Bool.{or_parts}
 use Rattle.ha_model.specs.declared.config.Automation.{Automation}
@@ -10,7 +10,6 @@ use Rattle.ha_model.specs.Words.{Text, numbers_from, up_to}
 use Rattle.ha_model.specs.Journal.{HasEntry, Journal, automations}
 use Rattle.ha_model.specs.RecordSteps.{more}
 use Rattle.ha_model.specs.Sights.{changes_switch}
-use Rattle.ha_model.specs.States.{switches_of}
 use Rattle.ha_model.specs.Switches.{is_on}
 use Rattle.ha_model.specs.Texts.{store_of, store_text}
 use Rattle.ha_model.proofs.RecordGrowth.{automations-more}
@@ -45,6 +44,6 @@ store-stays j x h stays =
     let k : Journal = more j x in
     let parts = or_parts (nat_eq (length k) 1) (list_any (λ a. not (same_flag (is_on (take (length k - 1) k) a) (is_on k a))) (up_to (length (automations k)))) stays in
     sym (
-      (λ i. store_of (map {B = Text × Bool} (λ (p : ℕ × Automation). (p.1.name, is_on (sym (before-last j x) i) p.0)) (enumerate_from 0 (automations-more j x h i))))
-      ∙ ap store_of (alike (is_on (take (length k - 1) k)) (is_on k) 0 (automations k) parts.1)
+    (λ i. store_of (map {B = Text × Bool} (λ (p : ℕ × Automation). (p.1.name, is_on (sym (before-last j x) i) p.0)) (enumerate_from 0 (automations-more j x h i))))
+    ∙ ap store_of (alike (is_on (take (length k - 1) k)) (is_on k) 0 (automations k) parts.1)
     )

@@ -1,5 +1,5 @@
 -- What a bus shows: the journal with its records, what lies outside, and the first fault.
-use Rattle.std.specs.Prelude.{Bool, ◌++◌, Option, Some, None, if◌then◌else◌}
+use Rattle.std.specs.Prelude.{Bool, Option, Some, None, if◌then◌else◌}
 use Rattle.ha_model.specs.declared.journal.Entry.{Entry}
 use Rattle.ha_model.specs.Journal.{Journal, automations}
 use Rattle.ha_model.specs.RecordSteps.{more}

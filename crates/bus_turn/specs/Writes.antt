@@ -1,5 +1,5 @@
 -- What is written of one entry, and what a fault leaves.
-use Rattle.std.specs.Prelude.{◌≡◌, ◌≤◌, ◌⊎◌, ℕ, true, false, List, Option, None, Some, Result, Ok, Err}
+use Rattle.std.specs.Prelude.{◌≡◌, ◌≤◌, ◌⊎◌, true, false, Option, None, Some, Result, Ok, Err}
 use Rattle.ha_io.specs.Counts.{Rose}
 use Rattle.ha_io.specs.Told.{Takes, told_as}
 use Rattle.ha_io.specs.Whole.{IsFrontTaken}

@@ -70,8 +70,7 @@ impl<C: Core, K: Sink, Q: Keeper> Bus<C, K, Q> {
         requires no_trace { IfSome trace (λ k. IfSome (K.written k) (λ t. t ≡ [])) }
         ensures journal { result.journal ≡ C.entries core }
         ensures records { result.records ≡ C.runs core }
-        ensures shows {
-            let s = sink_of K.written K.faults K.zeros K.name in
+        ensures shows { let s = sink_of K.written K.faults K.zeros K.name in
             let q = keeper_of Q.kept Q.faults in
             (boot : Entry) → C.entries core ≡ boot ∷ []
             → Shows (texts_of (C.runs core) [] boot) (outside_of s q calls errors trace keep) result.first result.out }
@@ -113,8 +112,7 @@ impl<C: Core, K: Sink, Q: Keeper> Bus<C, K, Q> {
     pub fn into_parts(self) -> (C, K, K, Option<K>, Q)
         ensures journal { C.entries result.0 ≡ self.journal }
         ensures records { C.runs result.0 ≡ self.records }
-        ensures out {
-            let s = sink_of K.written K.faults K.zeros K.name in
+        ensures out { let s = sink_of K.written K.faults K.zeros K.name in
             let q = keeper_of Q.kept Q.faults in
             outside_of s q result.1 result.2 result.3 result.4 ≡ self.out }
     {

@@ -36,14 +36,10 @@ fn write_text<K: Sink>(sink: &mut K, text: &[u8]) -> Result<(), BusFault>
 }
 
 /// Writes a line, where there is one.
-fn write_line<K: Sink>(
-    sink: &mut K,
-    line: Result<Option<Word>, AllocError>,
-) -> Result<(), BusFault>
-    ensures {
-        let s = sink_of K.written K.faults K.zeros K.name in
+fn write_line<K: Sink>(sink: &mut K, line: Result<Option<Word>, AllocError>) -> Result<(), BusFault>
+    ensures { let s = sink_of K.written K.faults K.zeros K.name in
         (text : Text) → IfOk line (λ one. text_in one ≡ text)
-            → Writes text (s sink.old) (fault_of result) (s sink.new) }
+        → Writes text (s sink.old) (fault_of result) (s sink.new) }
 {
     match line {
         Ok(Some(line)) => write_text(sink, line.bytes()),
@@ -66,8 +62,7 @@ fn line_of_call(
     run: &Record,
     item: &Item,
 ) -> Result<Option<Word>, AllocError>
-    ensures {
-        IfOk result (λ line. line ≡ option_map (call_line_lem (name_of automations.now run.now.automation) run.now.number run.now.calls) (call_in item.now)) }
+    ensures { IfOk result (λ line. line ≡ option_map (call_line_lem (name_of automations.now run.now.automation) run.now.number run.now.calls) (call_in item.now)) }
 {
     if !matches!(item, Item::Call { .. }) {
         return Ok(None);
@@ -82,13 +77,7 @@ fn line_of_call(
         )?)),
         None => {
             let nameless = Word::new(alloc);
-            Ok(Some(call_line(
-                alloc,
-                &nameless,
-                run.number,
-                run.calls,
-                item,
-            )?))
+            Ok(Some(call_line(alloc, &nameless, run.number, run.calls, item)?))
         }
     }
 }
@@ -118,11 +107,10 @@ fn write_call<C: Core, K: Sink>(
     entry: &Entry,
     sink: &mut K,
 ) -> Result<(), BusFault>
-    ensures {
-        let s = sink_of K.written K.faults K.zeros K.name in
+    ensures { let s = sink_of K.written K.faults K.zeros K.name in
         (before : Journal)
-            → C.entries core.now ≡ more before entry.now
-            → Writes (call_text_of (C.runs core.now) before entry.now) (s sink.old) (fault_of result) (s sink.new) }
+        → C.entries core.now ≡ more before entry.now
+        → Writes (call_text_of (C.runs core.now) before entry.now) (s sink.old) (fault_of result) (s sink.new) }
 {
     let automations = core.config().automations.as_slice();
     let line = line_of_step(alloc, automations, core.records(), entry);
@@ -131,19 +119,14 @@ fn write_call<C: Core, K: Sink>(
 
 /// Writes the error line of an entry, if it has one.
 fn write_error<K: Sink>(alloc: Global, entry: &Entry, sink: &mut K) -> Result<(), BusFault>
-    ensures {
-        let s = sink_of K.written K.faults K.zeros K.name in
+    ensures { let s = sink_of K.written K.faults K.zeros K.name in
         Writes (error_text_of entry.now) (s sink.old) (fault_of result) (s sink.new) }
 {
     write_line(sink, err_line(alloc, entry))
 }
 
 /// The line of an entry in the trace, which each has.
-fn line_of_trace(
-    alloc: Global,
-    entry: &Entry,
-    config: &Config,
-) -> Result<Option<Word>, AllocError>
+fn line_of_trace(alloc: Global, entry: &Entry, config: &Config) -> Result<Option<Word>, AllocError>
     requires { AreDated entry.now }
     ensures { IfOk result (λ line. text_in line ≡ trace_line_lem config.now.automations entry.now) }
 {
@@ -158,8 +141,7 @@ fn write_trace<K: Sink>(
     trace: &mut Option<K>,
 ) -> Result<(), BusFault>
     requires { AreDated entry.now }
-    ensures {
-        let s = sink_of K.written K.faults K.zeros K.name in
+    ensures { let s = sink_of K.written K.faults K.zeros K.name in
         WritesIn (trace_line_lem config.now.automations entry.now) (option_map s trace.old) (fault_of result) (option_map s trace.new) }
 {
     match trace {
@@ -182,8 +164,7 @@ fn save_text<Q: Keeper>(text: &[u8], keep: &mut Q) -> Result<(), BusFault>
 /// Saves the switches, where the last entry is the boot or changed one.
 fn save<C: Core, Q: Keeper>(alloc: Global, core: &C, keep: &mut Q) -> Result<(), BusFault>
     requires { C.is_spent core.now ≡ false }
-    ensures {
-        let q = keeper_of Q.kept Q.faults in
+    ensures { let q = keeper_of Q.kept Q.faults in
         let text = if changes_switch (C.entries core.now) then Some (store_text (C.entries core.now)) else None in
         Saves text (q keep.old) (fault_of result) (q keep.new) }
 {
@@ -209,15 +190,14 @@ fn show<C: Core, K: Sink, Q: Keeper>(
 ) -> Result<(), BusFault>
     requires usable { C.is_spent core.now ≡ false }
     requires dated { AreDated entry.now }
-    ensures {
-        let s = sink_of K.written K.faults K.zeros K.name in
+    ensures { let s = sink_of K.written K.faults K.zeros K.name in
         let q = keeper_of Q.kept Q.faults in
         (before : Journal)
-            → C.entries core.now ≡ more before entry.now
-            → Shows (texts_of (C.runs core.now) before entry.now)
-                (outside_of s q calls.old errors.old trace.old keep.old)
-                (fault_of result)
-                (outside_of s q calls.new errors.new trace.new keep.new) }
+        → C.entries core.now ≡ more before entry.now
+        → Shows (texts_of (C.runs core.now) before entry.now)
+        (outside_of s q calls.old errors.old trace.old keep.old)
+        (fault_of result)
+        (outside_of s q calls.new errors.new trace.new keep.new) }
 {
     match write_call(alloc, core, entry, calls) {
         Ok(()) => {}
@@ -246,20 +226,18 @@ pub(crate) fn write_put<C: Core, K: Sink, Q: Keeper>(
 ) -> Option<BusFault>
     requires usable { OnOk put (C.is_spent core.now ≡ false) }
     requires dated { OnOk put (IsLastDated (C.entries core.now)) }
-    ensures ok {
-        let s = sink_of K.written K.faults K.zeros K.name in
+    ensures ok { let s = sink_of K.written K.faults K.zeros K.name in
         let q = keeper_of Q.kept Q.faults in
         OnOk put ((before : Journal) (x : Entry)
-            → C.entries core.now ≡ more before x
-            → Shows (texts_of (C.runs core.now) before x)
-                (outside_of s q calls.old errors.old trace.old keep.old)
-                result
-                (outside_of s q calls.new errors.new trace.new keep.new)) }
-    ensures err {
-        let s = sink_of K.written K.faults K.zeros K.name in
+        → C.entries core.now ≡ more before x
+        → Shows (texts_of (C.runs core.now) before x)
+        (outside_of s q calls.old errors.old trace.old keep.old)
+        result
+        (outside_of s q calls.new errors.new trace.new keep.new)) }
+    ensures err { let s = sink_of K.written K.faults K.zeros K.name in
         let q = keeper_of Q.kept Q.faults in
         IfErr put (λ fault. (result ≡ Some (refusal fault))
-            × (outside_of s q calls.new errors.new trace.new keep.new ≡ outside_of s q calls.old errors.old trace.old keep.old)) }
+        × (outside_of s q calls.new errors.new trace.new keep.new ≡ outside_of s q calls.old errors.old trace.old keep.old)) }
 {
     match put {
         Ok(()) => {}

@@ -1,33 +1,39 @@
-use Rattle.std.proofs.Common.{◌≡◌, ◌∙◌, ap, refl, sym, subst}
+use Rattle.std.proofs.Common.{◌≡◌, ◌∙◌, ap, refl}
 use Rattle.std.proofs.lemmas.Result.{on_ok_weaker}
-use Rattle.std.specs.Prelude.{option_map}
+use Rattle.ha_model.specs.declared.journal.Entry.{Entry}
 use Rattle.ha_model.specs.declared.journal.Entry.TheVariants.{Line}
-use Rattle.ha_model.specs.Commands.{IsFair, put_as}
-use Rattle.bus_turn.specs.States.{KeeperState, SinkState, keeper_state, outside, sink_state}
+use Rattle.ha_model.specs.Commands.{put_as}
+use Rattle.bus_turn.specs.States.{keeper_of, outside_of, sink_of}
 use Rattle.bus_turn.specs.Shown.{BusView, bus_view}
-use Rattle.bus_turn.specs.Buses.{IsStep}
-use Rattle.bus_turn.proofs.LastLemmas.{line-dated}
 use Rattle.bus_turn.proofs.PutLemmas.{after-put, fresh-of}
 use Rattle.bus_turn.proofs.bus.Bus.line.Goals as goal
 
 pub invariant_of-self : goal.invariant_of-self
 invariant_of-self g c =
-    let s : g.row.K.Denot → SinkState = λ k. sink_state (g.K.Sink.written k) (g.K.Sink.faults k) (g.K.Sink.zeros k) (g.K.Sink.name k) in
-    let q : g.row.Q.Denot → KeeperState = λ k. keeper_state (g.Q.Keeper.kept k) (g.Q.Keeper.faults k) in
-    let old : BusView = bus_view (g.C.Core.entries c.self.inside.core) (g.C.Core.runs c.self.inside.core) (g.C.Core.is_spent c.self.inside.core) (outside (s c.self.inside.calls) (s c.self.inside.errors) (option_map s c.self.inside.trace) (q c.self.inside.keep)) c.self.inside.first in
-    let core = c.put_line-put.new.self in
-    let put = c.put_line-put.ensures in
-    (after-put (λ x. x ≡ Line c.args.source c.args.number (put_as (g.C.Core.entries c.self.inside.core) c.args.cmd)) old c.self.invariant (ap (λ b. b.first) c.self.view_is ∙ c.requires.open)
-    (g.C.Core.entries core) (g.C.Core.runs core) (g.C.Core.is_spent core) c.write_put-self-inside.result (outside (s c.write_put-self-inside.new.calls) (s c.write_put-self-inside.new.errors) (option_map s c.write_put-self-inside.new.trace) (q c.write_put-self-inside.new.keep))
-    c.put_line-put.result (on_ok_weaker c.put_line-put.result (λ e. (Line c.args.source c.args.number (put_as (g.C.Core.entries c.self.inside.core) c.args.cmd), refl, e)) c.put_line-put.ensures.put) put.room put.right put.stays put.full (fresh-of c.put_line-put.result (g.C.Core.is_spent core) put.spent) c.write_put-self-inside.ensures.ok c.write_put-self-inside.ensures.err).0
+    let s = sink_of g.K.Sink.written g.K.Sink.faults g.K.Sink.zeros g.K.Sink.name in
+    let q = keeper_of g.Q.Keeper.kept g.Q.Keeper.faults in
+    let b = c.self.inside in
+    let old : BusView = bus_view (g.C.Core.entries b.core) (g.C.Core.runs b.core) (g.C.Core.is_spent b.core) (outside_of s q b.calls b.errors b.trace b.keep) b.first in
+    let put = c.put_line-put in
+    let core = put.new.self in
+    let out = c.write_put-self-inside in
+    let x : Entry = Line c.args.source c.args.number (put_as (g.C.Core.entries b.core) c.args.cmd) in
+    (after-put (λ y. y ≡ x) old c.self.invariant (ap (λ (v : BusView). v.first) c.self.view_is ∙ c.requires.open)
+    (g.C.Core.entries core) (g.C.Core.runs core) (g.C.Core.is_spent core) out.result (outside_of s q out.new.calls out.new.errors out.new.trace out.new.keep)
+    put.result (on_ok_weaker put.result (λ e. (x, refl, e)) put.ensures.put) put.ensures.room put.ensures.right put.ensures.stays put.ensures.full
+    (fresh-of put.result (g.C.Core.is_spent core) put.ensures.spent) out.ensures.ok out.ensures.err).0
 
 pub returns : goal.returns
 returns g c =
-    let s : g.row.K.Denot → SinkState = λ k. sink_state (g.K.Sink.written k) (g.K.Sink.faults k) (g.K.Sink.zeros k) (g.K.Sink.name k) in
-    let q : g.row.Q.Denot → KeeperState = λ k. keeper_state (g.Q.Keeper.kept k) (g.Q.Keeper.faults k) in
-    let old : BusView = bus_view (g.C.Core.entries c.self.inside.core) (g.C.Core.runs c.self.inside.core) (g.C.Core.is_spent c.self.inside.core) (outside (s c.self.inside.calls) (s c.self.inside.errors) (option_map s c.self.inside.trace) (q c.self.inside.keep)) c.self.inside.first in
-    let core = c.put_line-put.new.self in
-    let put = c.put_line-put.ensures in
-    rw (← c.self.view_is) ((after-put (λ x. x ≡ Line c.args.source c.args.number (put_as (g.C.Core.entries c.self.inside.core) c.args.cmd)) old c.self.invariant (ap (λ b. b.first) c.self.view_is ∙ c.requires.open)
-    (g.C.Core.entries core) (g.C.Core.runs core) (g.C.Core.is_spent core) c.write_put-self-inside.result (outside (s c.write_put-self-inside.new.calls) (s c.write_put-self-inside.new.errors) (option_map s c.write_put-self-inside.new.trace) (q c.write_put-self-inside.new.keep))
-    c.put_line-put.result (on_ok_weaker c.put_line-put.result (λ e. (Line c.args.source c.args.number (put_as (g.C.Core.entries c.self.inside.core) c.args.cmd), refl, e)) c.put_line-put.ensures.put) put.room put.right put.stays put.full (fresh-of c.put_line-put.result (g.C.Core.is_spent core) put.spent) c.write_put-self-inside.ensures.ok c.write_put-self-inside.ensures.err).1)
+    let s = sink_of g.K.Sink.written g.K.Sink.faults g.K.Sink.zeros g.K.Sink.name in
+    let q = keeper_of g.Q.Keeper.kept g.Q.Keeper.faults in
+    let b = c.self.inside in
+    let old : BusView = bus_view (g.C.Core.entries b.core) (g.C.Core.runs b.core) (g.C.Core.is_spent b.core) (outside_of s q b.calls b.errors b.trace b.keep) b.first in
+    let put = c.put_line-put in
+    let core = put.new.self in
+    let out = c.write_put-self-inside in
+    let x : Entry = Line c.args.source c.args.number (put_as (g.C.Core.entries b.core) c.args.cmd) in
+    rw (← c.self.view_is) ((after-put (λ y. y ≡ x) old c.self.invariant (ap (λ (v : BusView). v.first) c.self.view_is ∙ c.requires.open)
+    (g.C.Core.entries core) (g.C.Core.runs core) (g.C.Core.is_spent core) out.result (outside_of s q out.new.calls out.new.errors out.new.trace out.new.keep)
+    put.result (on_ok_weaker put.result (λ e. (x, refl, e)) put.ensures.put) put.ensures.room put.ensures.right put.ensures.stays put.ensures.full
+    (fresh-of put.result (g.C.Core.is_spent core) put.ensures.spent) out.ensures.ok out.ensures.err).1)

@@ -1,20 +1,20 @@
 use Rattle.std.proofs.Common.{[]}
-use Rattle.std.specs.Prelude.{option_map}
 use Rattle.bus_turn.specs.Buses.{HasTaken}
-use Rattle.bus_turn.specs.States.{KeeperState, SinkState, keeper_state, outside, sink_state}
+use Rattle.bus_turn.specs.States.{keeper_of, outside_of, sink_of}
 use Rattle.bus_turn.proofs.LastLemmas.{boot-dated, mapped}
 use Rattle.bus_turn.proofs.PutLemmas.{started}
 use Rattle.bus_turn.proofs.bus.Bus.start.Goals as goal
 
 pub invariant_of-result : goal.invariant_of-result
 invariant_of-result g c =
-    let s : g.row.K.Denot → SinkState = λ k. sink_state (g.K.Sink.written k) (g.K.Sink.faults k) (g.K.Sink.zeros k) (g.K.Sink.name k) in
-    let q : g.row.Q.Denot → KeeperState = λ k. keeper_state (g.Q.Keeper.kept k) (g.Q.Keeper.faults k) in
-    started (g.C.Core.entries c.args.core) (g.C.Core.runs c.args.core) (g.C.Core.is_spent c.args.core) c.write_put-first.result
-    (outside (s c.args.calls) (s c.args.errors) (option_map s c.args.trace) (q c.args.keep))
-    (outside (s c.write_put-first.new.calls) (s c.write_put-first.new.errors) (option_map s c.write_put-first.new.trace) (q c.write_put-first.new.keep))
-    c.requires.boot.0 c.journal.ensures.right c.requires.boot.1 c.requires.usable c.requires.no_calls c.requires.no_errors (mapped s (HasTaken []) c.args.trace c.requires.no_trace)
-    (c.write_put-first.ensures.ok [] c.requires.boot.0 c.requires.boot.1)
+    let s = sink_of g.K.Sink.written g.K.Sink.faults g.K.Sink.zeros g.K.Sink.name in
+    let q = keeper_of g.Q.Keeper.kept g.Q.Keeper.faults in
+    let a = c.args in
+    let out = c.write_put-first in
+    started (g.C.Core.entries a.core) (g.C.Core.runs a.core) (g.C.Core.is_spent a.core) out.result
+    (outside_of s q a.calls a.errors a.trace a.keep) (outside_of s q out.new.calls out.new.errors out.new.trace out.new.keep)
+    c.requires.boot.0 c.journal.ensures.right c.requires.boot.1 c.requires.usable c.requires.no_calls c.requires.no_errors (mapped s (HasTaken []) a.trace c.requires.no_trace)
+    (out.ensures.ok [] c.requires.boot.0 c.requires.boot.1)
 
 pub write_put-first-requires-clause-dated : goal.write_put-first-requires-clause-dated
 write_put-first-requires-clause-dated g c = λ _ _. boot-dated (g.C.Core.entries c.args.core) c.requires.boot.0 c.requires.boot.1 c.requires.boot.2
