@@ -103,7 +103,7 @@ behind_one test n (Ok xs) (Err g) p q = tt
 behind_one test n (Err f) (Ok x) p q = tt
 behind_one test n (Err f) (Err g) p q = tt
 
-grown : {A : Type 0} (test : A → Bool) (n m : ℕ) (r : Read (List A)) → n ≤ m → Holds (AllOf test n) r → Holds (AllOf test m) r
+pub grown : {A : Type 0} (test : A → Bool) (n m : ℕ) (r : Read (List A)) → n ≤ m → Holds (AllOf test n) r → Holds (AllOf test m) r
 grown test n m r le h = weaker (AllOf test n) (AllOf test m) r (λ xs k. (k.0, omega (arith, k.1))) h
 
 pub each_of : {X A : Type 0} (test : A → Bool) (read : X → Read A) (n : ℕ) (before : Read (List A)) (xs : List X)

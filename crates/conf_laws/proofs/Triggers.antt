@@ -49,7 +49,7 @@ span_over_0 : (o : Option ℕ) → IsOver0 (some_span o)
 span_over_0 None = refl
 span_over_0 (Some n) = over_0 n (n == 0) refl
 
-known_hold : (ps : List Pair) → Known (Option ℕ)
+abbrev known_hold : (ps : List Pair) → Known (Option ℕ)
 known_hold ps = known IsOver0 (hold ps) (made_of Anything IsOver0 some_span (get key.For ps span) (λ o k. span_over_0 o) (anything (get key.For ps span)))
 
 abbrev IsSoundRule : Rule → Type 0
@@ -83,7 +83,7 @@ side_sound a b ps s =
             (known (IfThere (Passes is_sound_match)) (optional none_of_texts (field b ps)) (of_optional (Passes is_sound_match) none_of_texts others_sound (field b ps) (field_sound b ps s)))))
     (Passes is_sound_match) made_side (λ x h. match_sound x.1.0 x.1.1 h.1.0 h.1.1)
 
-known_side : (a b : Row) (ps : List Pair) → AreSoundPairs ps → Known Match
+abbrev known_side : (a b : Row) (ps : List Pair) → AreSoundPairs ps → Known Match
 known_side a b ps s = known (Passes is_sound_match) (side a b ps) (side_sound a b ps s)
 
 -- ---- units
