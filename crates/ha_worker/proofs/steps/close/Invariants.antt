@@ -1,0 +1,12 @@
+use Rattle.std.proofs.Common.{◌≡◌, ◌-◌, None, length}
+use Rattle.ha_worker.specs.Kept.{Closed}
+use Rattle.ha_worker.proofs.steps.close.Given as goal
+
+abbrev pub invariant-steps : goal.invariant-steps
+invariant-steps g l = record {
+  free : l.bus.first ≡ None;
+  steps : Closed l.initial.bus l.bus;
+}
+
+abbrev pub decreases-steps : goal.decreases-steps
+decreases-steps g l = 1_048_576 - length l.bus.journal

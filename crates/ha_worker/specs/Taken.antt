@@ -1,0 +1,58 @@
+-- The lines that are taken of the bytes that a cut holds, and what is read of a source meanwhile.
+use Rattle.std.specs.Prelude.{ℕ, ◌≡◌, List, [], ◌∷◌, ◌++◌, map}
+use Rattle.std.specs.Io.KnownBytes.{IsAtEnd}
+use Rattle.ha_io.specs.Counts.{Rose}
+use Rattle.ha_io.specs.Told.{Gives}
+use Rattle.ha_model.specs.declared.journal.Cmd.{Cmd}
+use Rattle.ha_model.specs.Words.{Text}
+use Rattle.ha_text.specs.Lines.{lines_of, whole_lines}
+use Rattle.flow_line.specs.Command.{cmd_of}
+use Rattle.bus_turn.specs.Shown.{BusView}
+use Rattle.ha_worker.specs.Courses.{Course, HasGiven, SourceState}
+use Rattle.ha_worker.specs.Kept.{PutAll, PutSome}
+use Rattle.ha_worker.specs.declared.ending.Ending.{Ending}
+
+-- these lines were taken, whatever follows
+abbrev pub Took : Text → List Text → Text → Type 0
+Took old lines new = (more : Text) → lines_of (old ++ more) ≡ lines ++ lines_of (new ++ more)
+
+-- all whole lines were taken, and put
+pub record TookAll (old new : Text) (before after : BusView) : Type 0 where
+  pub lines : List Text
+  pub took : Took old lines new
+  pub none : whole_lines new ≡ []
+  pub put : PutAll (map cmd_of lines) before after
+
+abbrev pub course_of : Ending → Course
+course_of Ending.Ends = Course.Ends
+course_of Ending.Fails = Course.Fails
+course_of Ending.Exceeds = Course.Exceeds
+
+-- the source was read so far, and its whole lines were put; the cut holds a begun line alone
+pub record Fed (course : Course) (old new : BusView) (cut : Text) (before after : SourceState) : Type 0 where
+  pub bytes : Text
+  pub lines : List Text
+  pub given : HasGiven course bytes before after
+  pub took : Took bytes lines cut
+  pub none : whole_lines cut ≡ []
+  pub put : PutAll (map cmd_of lines) old new
+
+-- it was read so far, and some of its whole lines were put
+pub record FedSome (old new : BusView) (before after : SourceState) : Type 0 where
+  pub bytes : Text
+  pub given : HasGiven Course.Goes bytes before after
+  pub some : PutSome (map cmd_of (whole_lines bytes)) old new
+
+-- what is put behind the whole lines, where a begun line is held
+abbrev pub rest_by : Course → Text → List Cmd
+rest_by Course.Goes cut = []
+rest_by Course.Ends cut = map cmd_of (lines_of cut)
+rest_by Course.Fails cut = Cmd.Lost ∷ []
+rest_by Course.Exceeds cut = Cmd.TooLong ∷ []
+
+-- a source that has given as many bytes as it may: it ends there, the read failed, or one byte more came
+abbrev pub AtBound : Course → SourceState → SourceState → Type 0
+AtBound Course.Goes before after = ⊥
+AtBound Course.Ends before after = Gives before.left [] after.left × IsAtEnd after.left
+AtBound Course.Fails before after = (after.left ≡ before.left) × Rose before.faults after.faults
+AtBound Course.Exceeds before after = (next : ℕ) × Gives before.left (next ∷ []) after.left
