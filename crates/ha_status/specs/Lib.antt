@@ -1,0 +1,4 @@
+pub mod StatusLine
+pub mod Causes
+pub mod Written
+pub mod Files

@@ -1,0 +1,30 @@
+use Rattle.std.proofs.Common.{ap, refl, sym, true, map, string_bytes, ◌≡◌, ◌∙◌}
+use Rattle.std.proofs.lemmas.Result.{IfErr-weaker, IfOk-weaker}
+use Rattle.clap.specs.Words.{App, Text, app_of, is_simple, is_simple_and_free, matches_of}
+use Rattle.clap.proofs.OnLiterals.{clap_on_literals}
+use Rattle.ha_words.specs.Grammar.{one_word_app, takes_words}
+use Rattle.ha_words.proofs.commands.word_matches.Goals as goal
+
+is_plain : (name : Text) → is_simple_and_free (one_word_app name) ≡ true
+unfolding clap_on_literals one_word_app
+is_plain name = refl
+
+is_exact : (name : Text) → is_simple (one_word_app name) ≡ true
+unfolding clap_on_literals one_word_app
+is_exact name = refl
+
+pub matches_in-requires-clause-exact : goal.matches_in-requires-clause-exact
+matches_in-requires-clause-exact c = ap is_simple c.in-Ok.ensures ∙ is_exact c.args.name.now
+
+pub matches_in-requires-clause-free : goal.matches_in-requires-clause-free
+matches_in-requires-clause-free c = ap is_simple_and_free c.in-Ok.ensures ∙ is_plain c.args.name.now
+
+pub returns : goal.returns
+returns c =
+    let words = map string_bytes c.args.words.now in
+    let same : app_of c.in-Ok.command ≡ one_word_app c.args.name.now = c.in-Ok.ensures in
+    record {
+      takes = IfOk-weaker c.matches_in.result _ _ (λ m h. ap (λ (a : App). takes_words a words) (sym same) ∙ h) c.matches_in.ensures.takes;
+      rows = IfOk-weaker c.matches_in.result _ _ (λ m h. h ∙ ap (λ (a : App). matches_of a words) same) c.matches_in.ensures.rows;
+      usage = IfErr-weaker c.matches_in.result _ _ (λ e h u. ap (λ (a : App). takes_words a words) (sym same) ∙ h u) c.matches_in.ensures.usage;
+    }
