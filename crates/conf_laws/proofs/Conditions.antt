@@ -67,24 +67,24 @@ module _ (line : ℕ) (ps : List Pair) (s : AreSoundPairs ps) where
   state_sound =
       finish
       (with (known (Passes is_short) (need key.EntityId line ps entities) (of_need (Passes is_short) entities short_entities key.EntityId line ps s))
-          (with (known (Passes is_short) (need key.State line ps texts) (of_need (Passes is_short) texts short_texts key.State line ps s))
-              (with (unknown (get key.Attribute ps text)) (unknown (get key.For ps span)))))
+      (with (known (Passes is_short) (need key.State line ps texts) (of_need (Passes is_short) texts short_texts key.State line ps s))
+      (with (unknown (get key.Attribute ps text)) (unknown (get key.For ps span)))))
       Sound made_state
       (λ x h. ap is_sound_condition (sym (conditions.rolls-State x.0 x.1.1.0 x.1.0 x.1.1.1)) ∙ sound_at (Condition-F.State x.0 x.1.1.0 x.1.0 x.1.1.1)
-          ∙ pair (is_short x.0) (is_short x.1.0) h.0 h.1.0)
+      ∙ pair (is_short x.0) (is_short x.1.0) h.0 h.1.0)
 
   numeric_sound : Holds Sound (numeric_rule line ps)
   numeric_sound =
       finish
       (with (unknown (unless (one_of line (row key.Above ∷ row key.Below ∷ []) ps)))
-          (with (known (Passes is_short) (need key.EntityId line ps entities) (of_need (Passes is_short) entities short_entities key.EntityId line ps s))
-              (with (unknown (get key.Attribute ps text))
-                  (with (known (IfThere (Passes is_in_range)) (get key.Above ps number) (of_get (Passes is_in_range) number ranged_number key.Above ps s))
-                      (known (IfThere (Passes is_in_range)) (get key.Below ps number) (of_get (Passes is_in_range) number ranged_number key.Below ps s))))))
+      (with (known (Passes is_short) (need key.EntityId line ps entities) (of_need (Passes is_short) entities short_entities key.EntityId line ps s))
+      (with (unknown (get key.Attribute ps text))
+      (with (known (IfThere (Passes is_in_range)) (get key.Above ps number) (of_get (Passes is_in_range) number ranged_number key.Above ps s))
+      (known (IfThere (Passes is_in_range)) (get key.Below ps number) (of_get (Passes is_in_range) number ranged_number key.Below ps s))))))
       Sound made_numeric
       (λ x h. ap is_sound_condition (sym (conditions.rolls-Numeric x.1.0 x.1.1.0 x.1.1.1.0 x.1.1.1.1)) ∙ sound_at (Condition-F.Numeric x.1.0 x.1.1.0 x.1.1.1.0 x.1.1.1.1)
-          ∙ pair (is_short x.1.0 && if_there is_in_range x.1.1.1.0) (if_there is_in_range x.1.1.1.1)
-              (pair (is_short x.1.0) (if_there is_in_range x.1.1.1.0) h.1.0 (there is_in_range x.1.1.1.0 h.1.1.1.0)) (there is_in_range x.1.1.1.1 h.1.1.1.1))
+      ∙ pair (is_short x.1.0 && if_there is_in_range x.1.1.1.0) (if_there is_in_range x.1.1.1.1)
+      (pair (is_short x.1.0) (if_there is_in_range x.1.1.1.0) h.1.0 (there is_in_range x.1.1.1.0 h.1.1.1.0)) (there is_in_range x.1.1.1.1 h.1.1.1.1))
 
   -- any number of a list passes this
   any_day : Reads (Passes (λ (d : ℕ). true)) weekday
@@ -98,14 +98,14 @@ module _ (line : ℕ) (ps : List Pair) (s : AreSoundPairs ps) where
   time_sound =
       finish
       (with (unknown (unless (one_of line (row key.After ∷ row key.Before ∷ row key.Weekday ∷ []) ps)))
-          (with (known (IfThere (Passes is_second_of_day)) (get key.After ps time) (of_get (Passes is_second_of_day) time time_in_day key.After ps s))
-              (with (known (IfThere (Passes is_second_of_day)) (get key.Before ps time) (of_get (Passes is_second_of_day) time time_in_day key.Before ps s))
-                  (known (IfThere (AllOf (λ (d : ℕ). true) most)) (get key.Weekday ps (several weekday))
-                      (of_get (AllOf (λ (d : ℕ). true) most) (several weekday) (one_or_more (λ (d : ℕ). true) weekday any_day) key.Weekday ps s)))))
+      (with (known (IfThere (Passes is_second_of_day)) (get key.After ps time) (of_get (Passes is_second_of_day) time time_in_day key.After ps s))
+      (with (known (IfThere (Passes is_second_of_day)) (get key.Before ps time) (of_get (Passes is_second_of_day) time time_in_day key.Before ps s))
+      (known (IfThere (AllOf (λ (d : ℕ). true) most)) (get key.Weekday ps (several weekday))
+      (of_get (AllOf (λ (d : ℕ). true) most) (several weekday) (one_or_more (λ (d : ℕ). true) weekday any_day) key.Weekday ps s)))))
       Sound made_time
       (λ x h. ap is_sound_condition (sym (conditions.rolls-Time x.1.0 x.1.1.0 x.1.1.1)) ∙ sound_at (Condition-F.Time x.1.0 x.1.1.0 x.1.1.1)
-          ∙ pair (if_there is_second_of_day x.1.0 && if_there is_second_of_day x.1.1.0) (if_there is_short x.1.1.1)
-              (pair (if_there is_second_of_day x.1.0) (if_there is_second_of_day x.1.1.0) (there is_second_of_day x.1.0 h.1.0) (there is_second_of_day x.1.1.0 h.1.1.0)) (short_days x.1.1.1 h.1.1.1))
+      ∙ pair (if_there is_second_of_day x.1.0 && if_there is_second_of_day x.1.1.0) (if_there is_short x.1.1.1)
+      (pair (if_there is_second_of_day x.1.0) (if_there is_second_of_day x.1.1.0) (there is_second_of_day x.1.0 h.1.0) (there is_second_of_day x.1.1.0 h.1.1.0)) (short_days x.1.1.1 h.1.1.1))
 
   template_sound : Holds Sound (template_rule line ps)
   template_sound =

@@ -49,9 +49,10 @@ abbrev AllDistinct : List Pair → Type 0
 AllDistinct ps = (all_distinct (map (λ (p : Pair). p.0) ps) ≡ true) × (list_all (λ (p : Pair). has_distinct_keys p.2) ps ≡ true)
 
 in_front : (p : Pair) (ps : List Pair) → has_key ps p.0 ≡ false → Distinct p.2 → AllDistinct ps → AllDistinct (p ∷ ps)
-in_front p ps new here rest =
-    (pair (not (list_any (same p.0) (map (λ (q : Pair). q.0) ps))) (all_distinct (map (λ (q : Pair). q.0) ps)) (ap not (among p.0 ps ∙ new)) rest.0,
-     pair (has_distinct_keys p.2) (list_all (λ (q : Pair). has_distinct_keys q.2) ps) here rest.1)
+in_front p ps new here rest = (
+  pair (not (list_any (same p.0) (map (λ (q : Pair). q.0) ps))) (all_distinct (map (λ (q : Pair). q.0) ps)) (ap not (among p.0 ps ∙ new)) rest.0,
+  pair (has_distinct_keys p.2) (list_all (λ (q : Pair). has_distinct_keys q.2) ps) here rest.1,
+)
 
 or_parts : (a b : Bool) → (a || b) ≡ false → (a ≡ false) × (b ≡ false)
 or_parts true b h = absurd cc

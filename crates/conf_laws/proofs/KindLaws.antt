@@ -42,7 +42,7 @@ texts_count found [] = omega arith
 texts_count found (n ∷ ns) =
     then_holds (AtMost (length found + length (n ∷ ns))) (text_of n) (λ t. texts_from (found ++ t ∷ []) ns)
     (λ t. weaker (AtMost (length (found ++ t ∷ []) + length ns)) (AtMost (length found + length (n ∷ ns))) (texts_from (found ++ t ∷ []) ns)
-        (λ ts k. omega (arith, k, length-append found (t ∷ []))) (texts_count (found ++ t ∷ []) ns))
+    (λ ts k. omega (arith, k, length-append found (t ∷ []))) (texts_count (found ++ t ∷ []) ns))
 
 few_texts : (n : Node) → IsSoundTree n → Holds (AtMost most) (texts_of n)
 few_texts n s = by (shape_of n) (sound_inside n s)
@@ -76,7 +76,7 @@ split_count line found part [] =
 split_count line found part (b ∷ rest) =
     either_way (AtMost (length found + 1 + length (b ∷ rest))) (b == 44) (then_ids (part_id line found part) (λ ids. split_from line ids [] rest)) (split_from line found (part ++ b ∷ []) rest)
     (then_ids_hold (AtMost (length found + 1 + length (b ∷ rest))) (AtMost (length found + 1)) (part_id line found part) (λ ids. split_from line ids [] rest) (one_id line found (read_entity (trimmed (without_blanks part))))
-        (λ ids k. weaker (AtMost (length ids + 1 + length rest)) (AtMost (length found + 1 + length (b ∷ rest))) (split_from line ids [] rest) (λ all l. omega (arith, k, l)) (split_count line ids [] rest)))
+    (λ ids k. weaker (AtMost (length ids + 1 + length rest)) (AtMost (length found + 1 + length (b ∷ rest))) (split_from line ids [] rest) (λ all l. omega (arith, k, l)) (split_count line ids [] rest)))
     (weaker (AtMost (length found + 1 + length rest)) (AtMost (length found + 1 + length (b ∷ rest))) (split_from line found (part ++ b ∷ []) rest) (λ all l. omega (arith, l)) (split_count line found (part ++ b ∷ []) rest))
 
 text_size : (n : Node) → Holds (λ (t : List ℕ). 1 + length t ≤ size n) (text_of n)
@@ -151,6 +151,7 @@ second_in_day t n e = by (one_or_two (before_first 58 t)) (after_first 58 t) e
     last : (h m : Option ℕ) (o : Option (List ℕ)) → elim o [ None ↦ second_of h m (Some 0) | Some s ↦ second_of h m (two s) ] ≡ Some n → is_second_of_day n ≡ true
     last h m None k = day_second h m (Some 0) n k
     last h m (Some s) k = day_second h m (two s) n k
+
     by : (h : Option ℕ) (o : Option (List ℕ)) → behind_hours h o ≡ Some n → is_second_of_day n ≡ true
     by h None k = cc
     by h (Some rest) k = last h (two (before_first 58 rest)) (after_first 58 rest) k

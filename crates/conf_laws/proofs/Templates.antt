@@ -63,9 +63,9 @@ of_choice arms fallback all few h =
     let mapped = map judged arms in
     ap is_sound_piece (sym (pieces.rolls-Choice arms fallback)) ∙ piece_at (Piece-F.Choice arms fallback)
     ∙ pair (all_short (λ (a : Expr × Bool). is_sound_expr a.0 && a.1) mapped) (is_sound_template fallback)
-        (all_passed (λ (a : Expr × Bool). is_sound_expr a.0 && a.1) mapped
-            (list_all-map (λ (a : Expr × Bool). is_sound_expr a.0 && a.1) judged arms ∙ all)
-            (omega (arith, few, length-map arms judged))) h
+    (all_passed (λ (a : Expr × Bool). is_sound_expr a.0 && a.1) mapped
+    (list_all-map (λ (a : Expr × Bool). is_sound_expr a.0 && a.1) judged arms ∙ all)
+    (omega (arith, few, length-map arms judged))) h
 
 of_pieces : (ps : List Piece) → list_all is_sound_piece ps ≡ true → length ps < 4_294_967_296 → is_sound_template (template_of ps) ≡ true
 of_pieces ps all few = fold_out-Template Bool Bool sound_piece_step (λ t. all_true t.pieces) (template_of ps) ∙ all_mapped is_sound_piece ps all few
@@ -136,7 +136,7 @@ module _ (few : ℕ) (is_few : few + 1 < 4_294_967_296) where
       let n = pieces_sound inner (omega (arith, le, word_size i, last_within l)) tt in
       let arm = arm_sound e body (last_sound l (omega (arith, le, word_size i))) (body_sound body b c n (omega (arith, le, word_size i, last_within l))) in
       let m = pieces_sound more (omega (arith, le, word_size i, last_within l, n.left))
-          (one_more is_sound_arm arms (e, template_of body) g.0 arm, omega (arith, g.1, length-append arms ((e, template_of body) ∷ []), word_size i, last_within l, n.left)) in
+      (one_more is_sound_arm arms (e, template_of body) g.0 arm, omega (arith, g.1, length-append arms ((e, template_of body) ∷ []), word_size i, last_within l, n.left)) in
       record { sound = m.sound; count = omega (arith, m.count, word_size i, last_within l, n.left); left = omega (arith, m.left, word_size i, last_within l, n.left) }
   pieces_sound (otherwise {arms = arms} {a = a} {b = b} {c = c} {d = d} {body = body} {ps = ps} i k inner j l more) le g =
       let n = pieces_sound inner (omega (arith, le, word_size i, end_within k, spaces_within a)) tt in
@@ -176,6 +176,7 @@ sound_template_text line t = by (read_template t) refl
     at_length : (b : Bool) (x : Template) → nat_lt 16_384 (length t) ≡ b → read_template t ≡ Some x → Holds (Passes is_sound_template) (cond b (bad line code.Limit) (Ok x))
     at_length true x e h = tt
     at_length false x e h = read_sound t x (ltb-false 16_384 (length t) e) h
+
     by : (o : Option Template) → read_template t ≡ o → Holds (Passes is_sound_template) (template_text line t o)
     by (Some x) h = at_length (nat_lt 16_384 (length t)) x refl h
     by None h = tt

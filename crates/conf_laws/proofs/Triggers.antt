@@ -79,8 +79,8 @@ side_sound : (a b : Row) (ps : List Pair) → AreSoundPairs ps → Holds (Passes
 side_sound a b ps s =
     finish
     (with (unknown (unless (excluded a b ps)))
-        (with (known (IfThere (Passes is_sound_match)) (optional texts_or_any (field a ps)) (of_optional (Passes is_sound_match) texts_or_any any_sound (field a ps) (field_sound a ps s)))
-            (known (IfThere (Passes is_sound_match)) (optional none_of_texts (field b ps)) (of_optional (Passes is_sound_match) none_of_texts others_sound (field b ps) (field_sound b ps s)))))
+    (with (known (IfThere (Passes is_sound_match)) (optional texts_or_any (field a ps)) (of_optional (Passes is_sound_match) texts_or_any any_sound (field a ps) (field_sound a ps s)))
+    (known (IfThere (Passes is_sound_match)) (optional none_of_texts (field b ps)) (of_optional (Passes is_sound_match) none_of_texts others_sound (field b ps) (field_sound b ps s)))))
     (Passes is_sound_match) made_side (λ x h. match_sound x.1.0 x.1.1 h.1.0 h.1.1)
 
 abbrev known_side : (a b : Row) (ps : List Pair) → AreSoundPairs ps → Known Match
@@ -156,8 +156,8 @@ module _ (line : ℕ) (ps : List Pair) (s : AreSoundPairs ps) where
   state_sound =
       finish
       (with (known (Passes is_short) (need key.EntityId line ps entities) (of_need (Passes is_short) entities short_entities key.EntityId line ps s))
-          (with (unknown (get key.Attribute ps text))
-              (with (known_side (row key.From) (row key.NotFrom) ps s) (with (known_side (row key.To) (row key.NotTo) ps s) (known_hold ps)))))
+      (with (unknown (get key.Attribute ps text))
+      (with (known_side (row key.From) (row key.NotFrom) ps s) (with (known_side (row key.To) (row key.NotTo) ps s) (known_hold ps)))))
       IsSoundRule made_state
       (λ x h. (pair (is_short x.0 && is_sound_match x.1.1.0) (is_sound_match x.1.1.1.0) (pair (is_short x.0) (is_sound_match x.1.1.0) h.0 h.1.1.0) h.1.1.1.0, held true x.1.1.1.1 refl h.1.1.1.1))
 
@@ -165,13 +165,16 @@ module _ (line : ℕ) (ps : List Pair) (s : AreSoundPairs ps) where
   numeric_sound =
       finish
       (with (unknown (unless (one_of line (row key.Above ∷ row key.Below ∷ []) ps)))
-          (with (known (Passes is_short) (need key.EntityId line ps entities) (of_need (Passes is_short) entities short_entities key.EntityId line ps s))
-              (with (unknown (get key.Attribute ps text))
-                  (with (known (IfThere (Passes is_in_range)) (get key.Above ps number) (of_get (Passes is_in_range) number ranged_number key.Above ps s))
-                      (with (known (IfThere (Passes is_in_range)) (get key.Below ps number) (of_get (Passes is_in_range) number ranged_number key.Below ps s)) (known_hold ps))))))
+      (with (known (Passes is_short) (need key.EntityId line ps entities) (of_need (Passes is_short) entities short_entities key.EntityId line ps s))
+      (with (unknown (get key.Attribute ps text))
+      (with (known (IfThere (Passes is_in_range)) (get key.Above ps number) (of_get (Passes is_in_range) number ranged_number key.Above ps s))
+      (with (known (IfThere (Passes is_in_range)) (get key.Below ps number) (of_get (Passes is_in_range) number ranged_number key.Below ps s)) (known_hold ps))))))
       IsSoundRule made_numeric
-      (λ x h. (pair (is_short x.1.0 && if_there is_in_range x.1.1.1.0) (if_there is_in_range x.1.1.1.1.0)
-          (pair (is_short x.1.0) (if_there is_in_range x.1.1.1.0) h.1.0 (there is_in_range x.1.1.1.0 h.1.1.1.0)) (there is_in_range x.1.1.1.1.0 h.1.1.1.1.0), held true x.1.1.1.1.1 refl h.1.1.1.1.1))
+      (λ x h. (
+        pair (is_short x.1.0 && if_there is_in_range x.1.1.1.0) (if_there is_in_range x.1.1.1.1.0)
+            (pair (is_short x.1.0) (if_there is_in_range x.1.1.1.0) h.1.0 (there is_in_range x.1.1.1.0 h.1.1.1.0)) (there is_in_range x.1.1.1.1.0 h.1.1.1.1.0),
+        held true x.1.1.1.1.1 refl h.1.1.1.1.1,
+      ))
 
   event_parts : (kinds : List (List ℕ)) (o : Option (List (List ℕ × Value))) → is_short kinds ≡ true → IfThere (Passes is_plain_data) o → is_sound_rule (TriggerRule.Event kinds (unwrap_or o [])) ≡ true
   event_parts kinds None h k = pair (is_short kinds && true) true (pair (is_short kinds) true h refl) refl
@@ -183,7 +186,7 @@ module _ (line : ℕ) (ps : List Pair) (s : AreSoundPairs ps) where
   event_sound =
       finish
       (with (known (Passes is_short) (need key.EventType line ps texts) (of_need (Passes is_short) texts short_texts key.EventType line ps s))
-          (known (IfThere (Passes is_plain_data)) (get key.EventData ps data_without_templates) (of_get (Passes is_plain_data) data_without_templates data_plain key.EventData ps s)))
+      (known (IfThere (Passes is_plain_data)) (get key.EventData ps data_without_templates) (of_get (Passes is_plain_data) data_without_templates data_plain key.EventData ps s)))
       IsSoundRule made_event (λ x h. (event_parts x.0 x.1 h.0 h.1, refl))
 
   time_sound : Holds IsSoundRule (time_rule line ps)
@@ -203,9 +206,9 @@ module _ (line : ℕ) (ps : List Pair) (s : AreSoundPairs ps) where
   pattern_sound =
       finish
       (with (unknown (unless (one_of line (row key.Hours ∷ row key.Minutes ∷ row key.Seconds ∷ []) ps)))
-          (with (known (IfThere (Passes is_sound_unit)) (get key.Hours ps (unit_under 24)) (of_get (Passes is_sound_unit) (unit_under 24) (unit_reads 24) key.Hours ps s))
-              (with (known (IfThere (Passes is_sound_unit)) (get key.Minutes ps (unit_under 60)) (of_get (Passes is_sound_unit) (unit_under 60) (unit_reads 60) key.Minutes ps s))
-                  (known (IfThere (Passes is_sound_unit)) (get key.Seconds ps (unit_under 60)) (of_get (Passes is_sound_unit) (unit_under 60) (unit_reads 60) key.Seconds ps s)))))
+      (with (known (IfThere (Passes is_sound_unit)) (get key.Hours ps (unit_under 24)) (of_get (Passes is_sound_unit) (unit_under 24) (unit_reads 24) key.Hours ps s))
+      (with (known (IfThere (Passes is_sound_unit)) (get key.Minutes ps (unit_under 60)) (of_get (Passes is_sound_unit) (unit_under 60) (unit_reads 60) key.Minutes ps s))
+      (known (IfThere (Passes is_sound_unit)) (get key.Seconds ps (unit_under 60)) (of_get (Passes is_sound_unit) (unit_under 60) (unit_reads 60) key.Seconds ps s)))))
       IsSoundRule made_pattern (λ x h. (pattern_parts x.1.0 x.1.1.0 x.1.1.1 h.1.0 h.1.1.0 h.1.1.1, refl))
 
   template_rule_sound : Holds IsSoundRule (template_rule line ps)

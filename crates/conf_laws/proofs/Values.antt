@@ -77,5 +77,5 @@ pairs_plain ps h =
     let shorts = map (λ (p : List ℕ × Value). (p.0, has_short_lists p.1)) ps in
     ap is_plain_value (sym (values.rolls-Pairs ps)) ∙ plain_at (Value-F.Pairs ps)
     ∙ pair (all_distinct (map (λ q. q.0) sounds) && list_all (λ q. q.1) sounds) (all_short (λ q. q.1) shorts)
-        (pair (all_distinct (map (λ q. q.0) sounds)) (list_all (λ q. q.1) sounds) (ap all_distinct (keys_kept is_sound_value ps) ∙ h.0) (tests_kept is_sound_value ps two.0))
-        (all_passed (λ q. q.1) shorts (tests_kept has_short_lists ps two.1) (few_mapped (λ (p : List ℕ × Value). (p.0, has_short_lists p.1)) ps h.2))
+    (pair (all_distinct (map (λ q. q.0) sounds)) (list_all (λ q. q.1) sounds) (ap all_distinct (keys_kept is_sound_value ps) ∙ h.0) (tests_kept is_sound_value ps two.0))
+    (all_passed (λ q. q.1) shorts (tests_kept has_short_lists ps two.1) (few_mapped (λ (p : List ℕ × Value). (p.0, has_short_lists p.1)) ps h.2))
