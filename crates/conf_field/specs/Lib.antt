@@ -5,6 +5,7 @@ pub mod Keys
 pub mod Kinds
 pub mod Parts
 pub mod Readings
+pub mod Sizes
 pub mod Spans
 pub mod Trees
 pub mod Values

@@ -1,6 +1,6 @@
 //! Tables of keys, and the fields of maps by them.
 
-ghost use Rattle.std.specs.Prelude.{◌≡◌, ◌||◌, ◌++◌, ℕ, None, Some, [], is_some, option_map};
+ghost use Rattle.std.specs.Prelude.{◌≡◌, ◌||◌, ◌++◌, ℕ, None, Some, [], ◌<◌, IfSome, is_some, length, option_and_then, option_map, slice_get};
 ghost use Rattle.std.specs.List.{find, list_any};
 ghost use Rattle.std.specs.Option.{option_copied};
 ghost use Rattle.yaml_scan.specs.Answers.{Gives};
@@ -51,6 +51,20 @@ pub fn field(pairs: &[Pair], row: Row) -> Option<&Pair>
     ensures { option_copied result ≡ fields.field row pairs.now }
 {
     pairs.iter().find(|pair| row.names(pair.0.bytes()))
+}
+
+/// The place of the first key of the row in the map.
+pub fn field_at(pairs: &[Pair], row: Row) -> Option<usize>
+    ensures value { fields.field row pairs.now ≡ option_and_then (λ i. slice_get pairs.now i) result }
+    ensures within { IfSome result (λ i. i < length pairs.now) }
+{
+    'pairs: for i in 0..pairs.len() {
+        let pair = &pairs[i];
+        if row.names(pair.0.bytes()) {
+            return Some(i);
+        }
+    }
+    None
 }
 
 /// The row of one of the two tables that has the key.
@@ -126,7 +140,7 @@ pub fn keys(common: &[Row], own: &[Row], pairs: &[Pair]) -> Result<(), YamlFault
 }
 
 /// Where a fault of a value stands: at its own line, but of null at its key's.
-pub(crate) fn place(pair: &Pair) -> u32
+pub fn place(pair: &Pair) -> u32
     ensures { result ≡ fields.place pair.now }
 {
     if pair.2.is_null() {

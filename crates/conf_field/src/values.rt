@@ -1,6 +1,6 @@
 //! Values as they are written, without templates.
 
-ghost use Rattle.std.specs.Prelude.{◌≡◌, ◌<◌, ℕ, List, Result, Ok};
+ghost use Rattle.std.specs.Prelude.{◌≡◌, ◌<◌, ◌&&◌, ℕ, List, Result, Ok};
 ghost use Rattle.std.specs.List.{list_all};
 ghost use Rattle.std.specs.Char.{is_ascii_digit};
 ghost use Rattle.yaml_tree.specs.Readers.{is_letter, is_null_word};
@@ -39,7 +39,8 @@ fn opens(first: u8, second: u8) -> bool
     first == b'{' && (second == b'{' || (second == b'%' || second == b'#'))
 }
 
-fn are_digits(text: &[u8]) -> bool
+/// Whether the text is one digit or more.
+pub fn are_digits(text: &[u8]) -> bool
     ensures { result ≡ values.are_digits text.now }
 {
     match text {
@@ -177,7 +178,13 @@ impl Kind for Data {
     }
 }
 
-/// Nothing, `~`, or `null` in any case of its letters.
+/// Whether a scalar is null: a plain one that is nothing, `~`, or `null` in any case of its letters.
+pub fn is_null_scalar(text: &[u8], plain: bool) -> bool
+    ensures { result ≡ (plain && is_null_word text.now) }
+{
+    plain && is_null_word(text)
+}
+
 fn is_null_word(text: &[u8]) -> bool
     ensures { result ≡ is_null_word text.now }
 {

@@ -1,5 +1,5 @@
 -- What the sinks took.
-use Rattle.std.proofs.Common.{◌≡◌, ◌⊎◌, inl, inr, [], Option, refl, sym, ◌∙◌, take, drop}
+use Rattle.std.proofs.Common.{◌≡◌, ◌⊎◌, inl, inr, [], Option, refl, sym, ◌∙◌, append-nil, take, drop}
 use Rattle.std.proofs.lemmas.List.{take-append-drop}
 use Rattle.ha_io.specs.Told.{Takes}
 use Rattle.ha_io.specs.Whole.{IsFrontTaken}
@@ -21,6 +21,17 @@ none_written s sink = record { rest = []; took = record { front = []; text_is = 
 -- nothing was written, where the command did not end as wanted
 pub nothing_written : (s : Status) (text : Text) (sink : Option Text) → (s ≡ Status.Ok → ⊥) → IsWritten s text sink sink
 nothing_written s text sink other = record { rest = text; took = record { front = []; text_is = refl; took = Takes-nothing sink }; all = λ h. absurd (other h) }
+
+-- a front of it was written, where the command did not end as wanted; and all of it
+pub front_written : (s : Status) (text piece : Text) (a b : Option Text) → (s ≡ Status.Ok → ⊥) → piece ≡ text → IsFrontTaken a piece b → IsWritten s text a b
+front_written s text piece a b other e t = record {
+  rest = drop t.0 piece;
+  took = record { front = take t.0 piece; text_is = sym e ∙ sym (take-append-drop t.0 piece); took = t.1.1 };
+  all = λ h. absurd (other h);
+}
+
+pub all_written : (s : Status) (text piece : Text) (a b : Option Text) → piece ≡ text → Takes a piece b → IsWritten s text a b
+all_written s text piece a b e t = record { rest = []; took = record { front = piece; text_is = sym e ∙ sym (append-nil piece); took = t }; all = λ h. refl }
 
 -- the status that was told, or want of memory
 pub told_written : (s r : Status) (text : Text) (a b : Option Text) → (r ≡ s) ⊎ (r ≡ Status.Memory) → IsWritten s text a b → IsWritten r text a b

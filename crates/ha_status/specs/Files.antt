@@ -1,5 +1,5 @@
 -- The file of a configuration, and the answers of a command that did not get its text.
-use Rattle.std.specs.Prelude.{ℕ, ◌≡◌, ◌<◌, List, [], ◌∷◌, length, Option, None, Some, IfSome}
+use Rattle.std.specs.Prelude.{ℕ, ◌≡◌, ◌<◌, List, [], ◌∷◌, length, Option, None, Some, IfSome, IsSome}
 use Rattle.ha_status.specs.declared.status.Status.{Status}
 use Rattle.ha_status.specs.StatusLine.{Text}
 
@@ -28,6 +28,11 @@ IsTextFault name _ = ⊥
 abbrev pub LongCause : Option Files → Text → Status → Type 0
 LongCause files name (Status.ConfigRefused line code) = (line ≡ 1) × (code ≡ 12) × ((text : Text) × HoldsText files name text × (most_config_bytes < length text))
 LongCause files name _ = Unit {0}
+
+-- a file that was opened and not read is there, where files are told
+abbrev pub ThereCause : Option Files → Text → Status → Type 0
+ThereCause files name (Status.ReadFault source) = IfSome files (λ f. IsSome (f name))
+ThereCause files name _ = Unit {0}
 
 -- the sources that are handed back have just this name, where it is told
 abbrev pub IsAlone : Text → List (Option Text) → Type 0

@@ -3,7 +3,7 @@ ghost use Rattle.std.specs.Prelude.{◌≡◌, ◌≤◌, ◌∷◌, [], ◌⊎�
 ghost use Rattle.std.specs.Io.KnownBytes.{IsAtEnd};
 ghost use Rattle.ha_io.specs.Told.{HasFile};
 ghost use Rattle.ha_status.specs.Causes.{OpenCause, ReadCause};
-ghost use Rattle.ha_status.specs.Files.{HoldsText, IsAlone, IsHandedBack, IsTextFault, LongCause, most_config_bytes};
+ghost use Rattle.ha_status.specs.Files.{HoldsText, IsAlone, IsHandedBack, IsTextFault, LongCause, ThereCause, most_config_bytes};
 
 use crate::status::Status;
 use ha_io::{IoFault, Place, Source, Unread, read_whole};
@@ -45,6 +45,7 @@ pub fn read_config_file<P: Place>(
     ensures unopened { IfErr result (λ end. OpenCause (name.now ∷ []) (P.faults place.old) (P.faults place.new) (P.last place.new) end.status) }
     ensures unread { IfErr result (λ end. ReadCause name.now [] (map P.Source.faults (option_to_list end.source)) (map P.Source.name (option_to_list end.source)) end.status) }
     ensures long { IfErr result (λ end. LongCause (P.holds place.old) name.now end.status) }
+    ensures there { IfErr result (λ end. ThereCause (P.holds place.old) name.now end.status) }
     ensures handed_back { IfErr result (λ end. IsHandedBack name.now (map P.Source.name (option_to_list end.source)) end.status) }
 
     ensures never_falls { P.faults place.old ≤ P.faults place.new }

@@ -1,5 +1,5 @@
 -- What the words of the program ask for, or that they ask for nothing that it does.
-use Rattle.std.specs.Prelude.{ℕ, ◌≤◌, List, [], ◌∷◌, Option, Some, None, IsSome, is_some, option_map, option_and_then, unwrap_or, codes, if◌then◌else◌}
+use Rattle.std.specs.Prelude.{ℕ, ◌≤◌, List, [], ◌∷◌, Option, Some, None, IsSome, IsUtf8, is_some, option_map, option_and_then, unwrap_or, codes, if◌then◌else◌}
 use Rattle.std.specs.Str.{bytes_eq}
 use Rattle.clap.specs.Words.{Text, first_of, matches_of}
 use Rattle.ha_clock.specs.Local.{last_moment}
@@ -47,11 +47,13 @@ unfoldable pub plan_of : List Text → Option Plan
 plan_of [] = None
 plan_of (name ∷ words) = plan_by name words
 
--- what every plan of `run` has: so many sources as it takes, a start that is no later than the last moment, and a zone
+-- what every plan of `run` has: so many sources as it takes, a start that is no later than the last moment, and a zone, whose
+-- text is UTF-8
 pub record IsRunnable (words : RunWords) : Type 0 where
   pub few : HasFew words.sources
   pub in_time : words.start ≤ last_moment
   pub zoned : IsSome (zone_of words.zone)
+  pub zone_is_text : IsUtf8 words.zone
 
 abbrev pub IsSound : Plan → Type 0
 IsSound (Run words) = IsRunnable words

@@ -1,5 +1,5 @@
 //! The plan of the words.
-ghost use Rattle.std.specs.Prelude.{◌≡◌, ◌≤◌, IfErr, IfOk, IsSome, None, Some, codes, map, string_bytes, unwrap_or};
+ghost use Rattle.std.specs.Prelude.{◌≡◌, ◌≤◌, IfErr, IfOk, IsSome, IsUtf8, None, Some, codes, map, string_bytes, unwrap_or};
 ghost use Rattle.ha_clock.specs.Zone.{zone_of};
 ghost use Rattle.ha_words.specs.Texts.{HasFew, texts_of};
 ghost use Rattle.ha_words.specs.PlanOf.{IsRunnable, IsSound, one_word, plan_by, plan_of, run_of, run_read};
@@ -31,6 +31,7 @@ fn read_texts(alloc: Global, words: &[String]) -> Result<RunTexts, WordsFault>
 /// The zone, which is UTC where none is given.
 fn read_zone(alloc: Global, text: &Option<Word>) -> Result<Zone, WordsFault>
     ensures zone { IfOk result (λ z. (z ≡ unwrap_or text.now (codes "UTC")) × IsSome (zone_of (unwrap_or text.now (codes "UTC")))) }
+    ensures utf8 { IfOk result (λ z. IsUtf8 z) }
     ensures usage { IfErr result (λ e. e ≡ WordsFault.Usage → zone_of (unwrap_or text.now (codes "UTC")) ≡ None) }
 {
     let read = match text {

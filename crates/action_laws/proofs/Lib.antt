@@ -1,0 +1,5 @@
+pub mod Readings
+pub mod SoundActions
+pub mod SoundCalls
+pub mod SoundForms
+pub mod SoundKinds

@@ -1,0 +1,4 @@
+//! Laws of the actions that are read.
+#![tactic(auto)]
+
+pub mod laws;

@@ -1,0 +1,4 @@
+pub mod Automations
+pub mod Config
+pub mod Names
+pub mod Sizes

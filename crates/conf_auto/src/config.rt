@@ -1,0 +1,161 @@
+//! The configuration of a text.
+
+ghost use Rattle.std.specs.Prelude.{◌≡◌, ◌<◌, ◌^◌, ◌∷◌, [], ℕ, List, Result, None, Some, Ok, IfOk, IsTrue, length};
+ghost use Rattle.ha_model.specs.Sound.{IsSoundConfig};
+ghost use Rattle.conf_field.specs.Sizes.{has_distinct_keys};
+ghost use Rattle.ha_model.specs.declared.config.Automation.{Automation as One};
+ghost use Rattle.yaml_scan.specs.Answers.{Gives};
+ghost use Rattle.yaml_scan.specs.declared.fault.Fault.{Fault as Place};
+ghost use Rattle.yaml_tree.specs.declared.node.Node.{Node as Root};
+ghost use Rattle.yaml_tree.specs.Tree.{tree};
+ghost use Rattle.conf_field.specs.Readings.{Read, made};
+ghost use Rattle.conf_auto.specs.Config as config;
+
+use crate::automations::automation;
+use crate::names::joined;
+use crate::size::is_small;
+use conf_field::rows::AUTOMATION;
+use conf_field::{Kind, Pair, bad, both, keys, needed, unless};
+use ha_model::{Automation, Config};
+use ha_value::Many;
+use std::alloc::Global;
+use yaml_scan::{Code, Fault, YamlFault};
+use yaml_tree::{Node, NodeKind, read_tree};
+
+/// The most bytes that a configuration has.
+const MOST_BYTES: usize = 1_048_576;
+
+fn at_most(most: usize, items: &[Node]) -> Option<Fault>
+    ensures { result ≡ config.at_most most items.now }
+{
+    match items.get(most) {
+        Some(item) => Some(Fault {
+            line: item.line,
+            code: Code::Limit,
+        }),
+        None => None,
+    }
+}
+
+#[tactic(auto, unfolding(crate::specs::Config::automations_from))]
+fn automations_from(alloc: Global, items: &[Node]) -> Result<Many<Automation>, YamlFault>
+    ensures { Gives (config.automations_from (Ok []) items.now) result }
+{
+    let mut found = Ok(Many::make(alloc));
+    'items: for i in 0..items.len() {
+        let item = &items[i];
+        found = joined(alloc, found, automation(alloc, item));
+    }
+    found
+}
+
+fn behind_limit(
+    parts: Result<((), Many<Automation>), YamlFault>,
+) -> Result<Many<Automation>, YamlFault>
+    ensures { (m : Read (Prim.Unit {0} × List One)) → Gives m parts → Gives (made (λ x. x.1) m) result }
+{
+    match parts {
+        Ok((_, all)) => Ok(all),
+        Err(fault) => Err(fault),
+    }
+}
+
+/// A list of automations.
+fn listed(alloc: Global, items: &[Node]) -> Result<Many<Automation>, YamlFault>
+    ensures { Gives (config.listed items.now) result }
+{
+    behind_limit(both(
+        unless(at_most(1_024, items)),
+        automations_from(alloc, items),
+    ))
+}
+
+/// One automation alone.
+#[tactic(auto, unfolding(crate::specs::Config::automations_from))]
+fn alone(alloc: Global, node: &Node) -> Result<Many<Automation>, YamlFault>
+    ensures { Gives (config.listed (node.now ∷ [])) result }
+{
+    joined(alloc, Ok(Many::make(alloc)), automation(alloc, node))
+}
+
+/// The value of the key of automations.
+struct Automations;
+
+impl Kind for Automations {
+    type Made = Many<Automation>;
+
+    ghost meaning = { config.automations };
+
+    fn read(alloc: Global, line: u32, node: &Node) -> Result<Many<Automation>, YamlFault> {
+        match &node.kind {
+            NodeKind::Scalar { .. } => {
+                if node.is_null() {
+                    return Ok(Many::make(alloc));
+                }
+                bad(line, Code::Kind)
+            }
+            NodeKind::List(items) => listed(alloc, items.as_slice()),
+            NodeKind::Map(_) => alone(alloc, node),
+        }
+    }
+}
+
+/// The map of a file has one key.
+fn root_map(alloc: Global, line: u32, pairs: &[Pair]) -> Result<Many<Automation>, YamlFault>
+    ensures { Gives (config.root_map line pairs.now) result }
+{
+    let known = keys(&[], &[AUTOMATION], pairs);
+    behind_limit(both(known, needed::<Automations>(alloc, line, pairs, AUTOMATION)))
+}
+
+fn of_root(alloc: Global, root: &Node) -> Result<Many<Automation>, YamlFault>
+    ensures { Gives (config.of_node root.now) result }
+{
+    match &root.kind {
+        NodeKind::Scalar { .. } => {
+            if root.is_null() {
+                return Ok(Many::make(alloc));
+            }
+            bad(root.line, Code::Kind)
+        }
+        NodeKind::List(items) => listed(alloc, items.as_slice()),
+        NodeKind::Map(pairs) => root_map(alloc, root.line, pairs.as_slice()),
+    }
+}
+
+fn config_with(all: Result<Many<Automation>, YamlFault>) -> Result<Config, YamlFault>
+    ensures { (m : Read (List One)) → Gives m all → Gives (made config.config_with m) result }
+{
+    match all {
+        Ok(automations) => Ok(Config { automations }),
+        Err(fault) => Err(fault),
+    }
+}
+
+/// The configuration of a tree, which is sound. A tree that is larger than any of a text of a configuration has no place in memory.
+fn of_tree(alloc: Global, root: &Node) -> Result<Config, YamlFault>
+    requires { IsTrue (has_distinct_keys root.now) }
+    ensures exact { Gives (config.of_root (Ok root.now)) result }
+    ensures sound { IfOk result IsSoundConfig }
+{
+    if is_small(root) {
+        return config_with(of_root(alloc, root));
+    }
+    Err(YamlFault::Memory)
+}
+
+/// The configuration of a text, or its fault: the one at the least line, and on that line of the least code. Faults of the
+/// text's structure come before those of its keys, and its length, over 1,048,576 bytes, before every other.
+pub fn read_config(alloc: Global, text: &[u8]) -> Result<Config, YamlFault>
+    ensures exact { Gives (config.config_of text.now) result }
+    // What the engine relies on: distinct names, numbers in range, distinct keys, short lists.
+    ensures sound { IfOk result IsSoundConfig }
+{
+    if text.len() > MOST_BYTES {
+        return bad(1, Code::Limit);
+    }
+    match read_tree(alloc, text) {
+        Ok(root) => of_tree(alloc, &root),
+        Err(fault) => Err(fault),
+    }
+}

@@ -1,0 +1,9 @@
+//! The reader of a whole configuration.
+#![tactic(auto)]
+
+mod automations;
+mod config;
+mod names;
+mod size;
+
+pub use config::read_config;

@@ -1,0 +1,11 @@
+pub mod Conditions
+pub mod Data
+pub mod Distinct
+pub mod Down
+pub mod Exprs
+pub mod Joined
+pub mod KindLaws
+pub mod Parts
+pub mod Templates
+pub mod Triggers
+pub mod Values

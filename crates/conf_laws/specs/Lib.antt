@@ -1,0 +1,1 @@
+-- No definitions: the laws are over those of the crates below.
