@@ -74,8 +74,7 @@ pub fn run_core<C: Core, K: Sink, Q: Keeper, S: Source>(
     requires boot { (boot : Entry) × (C.entries core ≡ boot ∷ []) × AreDated boot }
     requires no_calls { IfSome (K.written out) (λ t. t ≡ []) }
     requires no_errors { IfSome (K.written err) (λ t. t ≡ []) }
-    ensures {
-        let s = sink_of K.written K.faults K.zeros K.name in
+    ensures { let s = sink_of K.written K.faults K.zeros K.name in
         let q = keeper_of Q.kept Q.faults in
         CoreRan (C.entries core) (C.runs core) (outside_of s q out err None keep)
         result.status result.journal result.records (outside_of s q result.out result.err result.trace result.keep)

@@ -1,24 +1,25 @@
 -- What a run answers for that ended before the boot.
 use Rattle.std.proofs.Common.{◌≡◌, ◌⊎◌, inl, inr, ◌∙◌, ◌≤◌, ◌<◌, ℕ, zero, suc, List, [], ◌∷◌, length, map, Option, Some, None, ap, refl, sym, subst, arith, slice_index_or}
 use Rattle.std.proofs.Math.Nat.{le_refl}
-use Rattle.std.specs.Prelude.{Contains, IfSome, IsSome, IsSomeAnd, is_some, option_to_list}
+use Rattle.std.specs.Prelude.{Contains, IfSome, IsOk, Ok, is_some, option_to_list}
 use Rattle.ha_io.specs.declared.place.Opening.{Opening}
 use Rattle.ha_model.specs.declared.config.Config.{Config}
 use Rattle.ha_model.specs.Words.{Text}
 use Rattle.store_text.specs.Store.{Switches}
 use Rattle.ha_status.specs.declared.status.Status.{Status}
-use Rattle.ha_status.specs.Causes.{IsUnopened, KeepCause, OneRose, OpenCause, ReadCause, WriteCause}
+use Rattle.ha_status.specs.Causes.{KeepCause, OneRose, OpenCause, ReadCause, WriteCause}
 use Rattle.ha_status.specs.Files.{Files, HoldsText, IsTextFault}
 use Rattle.ha_words.specs.declared.plan.RunWords.{RunWords}
 use Rattle.bus_turn.specs.Buses.{IsWritten}
-use Rattle.bus_turn.specs.Growth.{KeeperGrows, SinkGrows}
-use Rattle.bus_turn.specs.States.{KeeperState, SinkState}
+use Rattle.bus_turn.specs.Growth.{SinkGrows}
+use Rattle.bus_turn.specs.States.{SinkState}
 use Rattle.ha_worker.specs.Courses.{SourceState}
 use Rattle.ha_run.specs.Core.{IsPartWritten}
 use Rattle.ha_run.specs.Served.{AreOpened}
 use Rattle.ha_run.specs.Stands.{RanNothing, StandsAt}
 use Rattle.ha_top.specs.Opening.{IsOpenFault}
-use Rattle.ha_top.specs.ReadConfig.{RefusedCause, config_in}
+use Rattle.conf_auto.specs.Config.{config_of}
+use Rattle.ha_check.specs.Configured.{RefusedCause}
 use Rattle.ha_top.specs.Views.{After, Before}
 use Rattle.ha_top.specs.Written.{AreTheSame, handed, seen}
 use Rattle.ha_top.specs.Answered.{AreStored, IsBooted, IsStore, IsStoreFault, IsTaken, StoreCause, scene}
@@ -48,10 +49,10 @@ same_of b a e = record {
 }
 
 -- a file whose configuration was taken
-pub taken_of : (f : Files) (name text : Text) (config : Config) → f name ≡ Some text → config_in text ≡ Some config → IsTaken (f name)
-taken_of f name text config held read = subst IsTaken (sym held) (subst IsSome (sym read) refl)
+pub taken_of : (f : Files) (name text : Text) (config : Config) → f name ≡ Some text → config_of text ≡ Ok config → IsTaken (f name)
+taken_of f name text config held read = subst IsTaken (sym held) (subst IsOk (sym read) refl)
 
-pub config_taken : (files : Option Files) (name text : Text) (config : Config) (P : Type 0) → HoldsText files name text → config_in text ≡ Some config
+pub config_taken : (files : Option Files) (name text : Text) (config : Config) (P : Type 0) → HoldsText files name text → config_of text ≡ Ok config
     → IfSome files (λ f. (IsTaken (f name) → ⊥) → P)
 config_taken None name text config P held read = tt
 config_taken (Some f) name text config P held read = λ never. absurd (never (taken_of f name text config held read))
@@ -151,8 +152,7 @@ module _ (words : RunWords) (b : Before) (a : After) (e : IsEarly b a) where
     same = same_of b a e;
     refused = refused;
     config_first = if_all b.place.files (λ f. (IsTaken (f words.config) → ⊥) → IsTextFault words.config a.status) (λ f never. fault);
-    store_refused = if_all b.keep.kept (λ kept. StoreCause kept a.status)
-        (λ kept. text_cases (λ s. StoreCause kept s) words.config a.status fault (λ other is. tt) tt (λ l c. tt) tt);
+    store_refused = text_cases (λ s. StoreCause b.keep.kept s) words.config a.status fault (λ other is. tt) tt (λ l c. tt) tt;
     store_next = if_all b.keep.kept (λ kept. (IsStore kept → ⊥) → IsTextFault words.config a.status ⊎ IsStoreFault a.status) (λ kept never. inl fault);
     unopened = text_cases (λ s. OpenCause (words.config ∷ []) b.place.faults a.place.faults a.place.last s → OpenCause (words.config ∷ words.sources) b.place.faults a.place.faults a.place.last s)
         words.config a.status fault (λ other is h. (contains_more words.sources words.config other h.0, h.1)) (λ h. tt) (λ l c h. tt) (λ h. tt) unopened;
@@ -164,8 +164,8 @@ module _ (words : RunWords) (b : Before) (a : After) (e : IsEarly b a) where
   }
 
   -- the store was not loaded, or is refused
-  pub lived_store : (text : Text) (config : Config) → HoldsText b.place.files words.config text → config_in text ≡ Some config → IsStoreFault a.status
-      → IfSome b.keep.kept (λ kept. StoreCause kept a.status) → KeepCause b.keep.faults a.keep.faults a.status → a.sources ≡ [] → Lived words b a
+  pub lived_store : (text : Text) (config : Config) → HoldsText b.place.files words.config text → config_of text ≡ Ok config → IsStoreFault a.status
+      → StoreCause b.keep.kept a.status → KeepCause b.keep.faults a.keep.faults a.status → a.sources ≡ [] → Lived words b a
   lived_store text config held read fault refused unkept none = record {
     stands = store_cases Stood a.status fault (inl (e.untouched, nothing none)) (λ c. (e.untouched, nothing none)) (inl (e.untouched, inl (nothing none)));
     same = same_of b a e;
@@ -180,7 +180,7 @@ module _ (words : RunWords) (b : Before) (a : After) (e : IsEarly b a) where
   }
 
   -- the source was not opened, or memory ran out before the boot
-  pub lived_open : (text : Text) (config : Config) (stored : Option Switches) (name : Text) → HoldsText b.place.files words.config text → config_in text ≡ Some config
+  pub lived_open : (text : Text) (config : Config) (stored : Option Switches) (name : Text) → HoldsText b.place.files words.config text → config_of text ≡ Ok config
       → IfSome b.keep.kept (λ kept. AreStored kept stored) → words.sources ≡ name ∷ [] → IsOpenFault name a.status
       → OpenCause (name ∷ []) b.place.faults a.place.faults a.place.last a.status → AreOpened words.sources a.sources → Lived words b a
   lived_open text config stored name held read kept one fault unopened opened = record {
@@ -188,7 +188,7 @@ module _ (words : RunWords) (b : Before) (a : After) (e : IsEarly b a) where
     same = same_of b a e;
     refused = open_cases (λ s. RefusedCause b.place.files words.config s) name a.status fault (λ other is. tt) tt;
     config_first = config_taken b.place.files words.config text config (IsTextFault words.config a.status) held read;
-    store_refused = if_all b.keep.kept (λ k. StoreCause k a.status) (λ k. open_cases (λ s. StoreCause k s) name a.status fault (λ other is. tt) tt);
+    store_refused = open_cases (λ s. StoreCause b.keep.kept s) name a.status fault (λ other is. tt) tt;
     store_next = store_taken b.keep.kept stored (IsTextFault words.config a.status ⊎ IsStoreFault a.status) kept;
     unopened = open_cases (λ s. OpenCause (name ∷ []) b.place.faults a.place.faults a.place.last s → OpenCause (words.config ∷ words.sources) b.place.faults a.place.faults a.place.last s) name a.status fault
         (λ other is h. (subst (λ z. Contains (words.config ∷ words.sources) z) (sym is) (contains_next words.config name words.sources one), h.1)) (λ h. tt) unopened;

@@ -1,3 +1,4 @@
 pub mod ToldLemmas
 pub mod EarlyLemmas
 pub mod RunLemmas
+pub mod StoreLemmas

@@ -1,14 +1,13 @@
 -- What a run answers for that was booted.
-use Rattle.std.proofs.Common.{◌≡◌, ◌⊎◌, inl, inr, ◌∙◌, ◌≤◌, ◌<◌, ℕ, Bool, List, [], ◌∷◌, length, map, Option, Some, None, ap, refl, sym, subst, arith}
-use Rattle.std.specs.Prelude.{IfSome, IsSomeAnd, is_some}
-use Rattle.ha_io.specs.Counts.{Rose}
+use Rattle.std.proofs.Common.{◌≡◌, ◌⊎◌, inl, inr, ◌∙◌, ◌≤◌, ◌<◌, ℕ, Bool, List, [], ◌∷◌, map, Option, Some, None, ap, refl, sym, subst, arith}
+use Rattle.std.specs.Prelude.{IfSome, IsSomeAnd, Ok, is_some}
 use Rattle.ha_model.specs.declared.config.Config.{Config}
 use Rattle.ha_model.specs.declared.journal.Entry.{Entry}
 use Rattle.ha_model.specs.declared.journal.Entry.TheVariants.{Boot}
 use Rattle.ha_model.specs.Words.{Text}
 use Rattle.store_text.specs.Store.{Switches}
 use Rattle.ha_status.specs.declared.status.Status.{Status}
-use Rattle.ha_status.specs.Causes.{IsUnread, KeepCause, OneRose, OpenCause, ReadCause, WriteCause}
+use Rattle.ha_status.specs.Causes.{KeepCause, OneRose, OpenCause, ReadCause, WriteCause}
 use Rattle.ha_status.specs.Files.{Files, HoldsText, IsTextFault}
 use Rattle.ha_words.specs.declared.plan.RunWords.{RunWords}
 use Rattle.bus_turn.specs.declared.fault.BusFault.{BusFault}
@@ -16,25 +15,22 @@ use Rattle.bus_turn.specs.Buses.{HasCause, HoldsStore, IsWritten, SinkFailed}
 use Rattle.bus_turn.specs.Growth.{OutGrows, TraceGrows}
 use Rattle.bus_turn.specs.States.{KeeperState, Outside, SinkState, outside}
 use Rattle.ha_worker.specs.Courses.{Course, SourceState}
-use Rattle.ha_run.specs.Core.{CoreRan, IsCutFrom, IsPartWritten, view_of}
+use Rattle.ha_run.specs.Core.{IsPartWritten, view_of}
 use Rattle.ha_run.specs.Opened.{IsOpened}
 use Rattle.ha_run.specs.Served.{AreOpened, AreServed, Feed, IsFirst}
 use Rattle.ha_run.specs.Stands.{Scene, StandsAt}
 use Rattle.ha_run.proofs.EndLemmas.{core_grows, core_status, write_rose}
 use Rattle.ha_run.proofs.StandsLemmas.{core_stands}
 use Rattle.ha_run.proofs.TellLemmas.{stands_in}
-use Rattle.ha_top.specs.ReadConfig.{RefusedCause, config_in}
+use Rattle.conf_auto.specs.Config.{config_of}
+use Rattle.ha_check.specs.Configured.{RefusedCause}
 use Rattle.ha_top.specs.Views.{After, Before}
-use Rattle.ha_top.specs.Written.{AreTheSame, handed, seen}
-use Rattle.ha_top.specs.Answered.{AreStored, IsBooted, IsStore, IsStoreFault, IsTaken, StoreCause, scene}
+use Rattle.ha_top.specs.Written.{handed, seen}
+use Rattle.ha_top.specs.Answered.{AreStored, IsBooted, IsStoreFault, StoreCause}
 use Rattle.ha_top.specs.Booted.{HasRun, RanOrNot}
 use Rattle.ha_top.specs.Opening.{IsOpenFault}
 use Rattle.ha_top.specs.Lived.{Lived, Untouched}
 use Rattle.ha_top.proofs.EarlyLemmas.{config_taken, lived_open, store_taken}
-
-if_all : {X : Type 0} (o : Option X) (P : X → Type 0) → ((x : X) → P x) → IfSome o P
-if_all None P h = tt
-if_all (Some x) P h = h x
 
 no_trace : (o : Option SinkState) → TraceGrows None o → o ≡ None
 no_trace None h = refl
@@ -63,7 +59,7 @@ pub record IsNew (b : Before) : Type 0 where
   pub keep_faults : b.keep.faults ≡ 0
 
 module _ (words : RunWords) (b : Before) (a : After) (keep : KeeperState) (text : Text) (config : Config) (stored : Option Switches) (name : Text) (s : SourceState) (new : IsNew b)
-    (held : HoldsText b.place.files words.config text) (read : config_in text ≡ Some config) (kept : IfSome b.keep.kept (λ k. AreStored k stored)) (one : words.sources ≡ name ∷ [])
+    (held : HoldsText b.place.files words.config text) (read : config_of text ≡ Ok config) (kept : IfSome b.keep.kept (λ k. AreStored k stored)) (one : words.sources ≡ name ∷ [])
     (opened : IsOpened b.place.files name s) (same_kept : keep.kept ≡ b.keep.kept) (stay : b.keep.faults ≤ keep.faults)
     (r : HasRun (Boot text config stored words.start words.zone) (outside b.out b.err None keep) s a.status a.journal a.records a.sources (outside a.out a.err a.trace a.keep)) where
   abbrev old : Outside
@@ -132,7 +128,7 @@ module _ (words : RunWords) (b : Before) (a : After) (keep : KeeperState) (text 
     };
     refused = free (λ z. RefusedCause b.place.files words.config z) (λ z. tt) tt tt tt tt tt tt;
     config_first = config_taken b.place.files words.config text config (IsTextFault words.config a.status) held read;
-    store_refused = if_all b.keep.kept (λ k. StoreCause k a.status) (λ k. free (λ z. StoreCause k z) (λ z. tt) tt tt tt tt tt tt);
+    store_refused = free (λ z. StoreCause b.keep.kept z) (λ z. tt) tt tt tt tt tt tt;
     store_next = store_taken b.keep.kept stored (IsTextFault words.config a.status ⊎ IsStoreFault a.status) kept;
     unopened = free (λ z. OpenCause (words.config ∷ words.sources) b.place.faults a.place.faults a.place.last z) (λ z. tt) tt tt tt tt tt tt;
     unread = subst (λ names. ReadCause words.config names (Counts a.sources) (Names a.sources) a.status) (sym one)
@@ -148,7 +144,7 @@ module _ (words : RunWords) (b : Before) (a : After) (keep : KeeperState) (text 
 
 -- a run that was booted, or for which memory did not suffice
 pub ran_lived : (words : RunWords) (b : Before) (a : After) (keep : KeeperState) (text : Text) (config : Config) (stored : Option Switches) (name : Text) (s : SourceState) → IsNew b
-    → HoldsText b.place.files words.config text → config_in text ≡ Some config → IfSome b.keep.kept (λ k. AreStored k stored) → words.sources ≡ name ∷ []
+    → HoldsText b.place.files words.config text → config_of text ≡ Ok config → IfSome b.keep.kept (λ k. AreStored k stored) → words.sources ≡ name ∷ []
     → IsOpened b.place.files name s → keep.kept ≡ b.keep.kept → b.keep.faults ≤ keep.faults
     → RanOrNot (Boot text config stored words.start words.zone) (outside b.out b.err None keep) s a.status a.journal a.records a.sources (outside a.out a.err a.trace a.keep) → Lived words b a
 ran_lived words b a keep text config stored name s new held read kept one opened same_kept stay (inr r) = lived_run words b a keep text config stored name s new held read kept one opened same_kept stay r

@@ -1,9 +1,8 @@
 -- What a run answers for behind its status line.
-use Rattle.std.proofs.Common.{◌≡◌, ◌⊎◌, inl, inr, ◌∙◌, ◌≤◌, ℕ, List, ◌∷◌, ◌++◌, map, Option, Some, None, ap, refl, sym, subst, arith}
+use Rattle.std.proofs.Common.{◌≡◌, ◌⊎◌, inl, inr, ◌∙◌, ◌≤◌, ℕ, ◌∷◌, ◌++◌, map, Option, Some, None, ap, refl, sym, subst, arith}
 use Rattle.std.proofs.Math.Nat.{le_refl}
 use Rattle.std.specs.Prelude.{IfSome, is_some}
 use Rattle.std.specs.Option.{option_map}
-use Rattle.ha_io.specs.Counts.{Rose}
 use Rattle.ha_io.proofs.CountLemmas.{Rose-within}
 use Rattle.ha_model.specs.Words.{Text}
 use Rattle.ha_status.specs.declared.status.Status.{Status}
@@ -13,16 +12,15 @@ use Rattle.ha_status.specs.Written.{TookLine}
 use Rattle.ha_status.proofs.CauseLemmas.{told_status, wider_write}
 use Rattle.ha_status.proofs.WrittenLemmas.{line_by_wider}
 use Rattle.ha_words.specs.declared.plan.RunWords.{RunWords}
-use Rattle.bus_turn.specs.Buses.{IsCut, IsWritten}
-use Rattle.bus_turn.specs.Growth.{SinkGrows}
+use Rattle.bus_turn.specs.Buses.{IsWritten}
 use Rattle.bus_turn.specs.States.{SinkState}
 use Rattle.ha_worker.specs.Courses.{SourceState}
-use Rattle.ha_run.specs.Core.{IsCutFrom, IsPartWritten}
+use Rattle.ha_run.specs.Core.{IsPartWritten}
 use Rattle.ha_run.specs.Stands.{StandsAt}
 use Rattle.ha_run.proofs.TellLemmas.{stands_in, stands_memory}
-use Rattle.ha_top.specs.ReadConfig.{RefusedCause}
+use Rattle.ha_check.specs.Configured.{RefusedCause}
 use Rattle.ha_top.specs.Views.{After, Before}
-use Rattle.ha_top.specs.Written.{AllWritten, AreTheSame, LineBehind, NoneWritten, SomeWritten, handed, seen}
+use Rattle.ha_top.specs.Written.{AllWritten, LineBehind, NoneWritten, SomeWritten, handed, seen}
 use Rattle.ha_top.specs.Answered.{Answered, IsBooted, IsStore, IsStoreFault, IsTaken, StoreCause, scene}
 use Rattle.ha_top.specs.Lived.{Lived, Untouched}
 
@@ -109,7 +107,7 @@ module _ (words : RunWords) (b : Before) (a : After) (r : Status) (err : SinkSta
     refused = told_status (λ s. RefusedCause b.place.files words.config s) a.status r is l.refused tt;
     config_first = told_status (λ s. IfSome b.place.files (λ f. (IsTaken (f words.config) → ⊥) → IsTextFault words.config s)) a.status r is l.config_first
         (if_all b.place.files (λ f. (IsTaken (f words.config) → ⊥) → IsTextFault words.config Status.Memory) (λ f never. tt));
-    store_refused = told_status (λ s. IfSome b.keep.kept (λ kept. StoreCause kept s)) a.status r is l.store_refused (if_all b.keep.kept (λ kept. StoreCause kept Status.Memory) (λ kept. tt));
+    store_refused = told_status (λ s. StoreCause b.keep.kept s) a.status r is l.store_refused tt;
     store_next = told_status (λ s. IfSome b.keep.kept (λ kept. (IsStore kept → ⊥) → IsTextFault words.config s ⊎ IsStoreFault s)) a.status r is l.store_next
         (if_all b.keep.kept (λ kept. (IsStore kept → ⊥) → IsTextFault words.config Status.Memory ⊎ IsStoreFault Status.Memory) (λ kept never. inl tt));
     unopened = told_status (λ s. OpenCause (words.config ∷ words.sources) b.place.faults a.place.faults a.place.last s) a.status r is l.unopened tt;

@@ -1,6 +1,6 @@
 -- What a run answers for. Whoever wants to trust the program reads this page, what stands at each status (`ha_run`'s `Stands` and `Served`), what
 -- was written (`Written`), and the meaning that they cite.
-use Rattle.std.specs.Prelude.{ℕ, ◌≡◌, ◌⊎◌, ◌∷◌, List, map, Option, Some, None, Ok, Err, IfSome, IsSome, IsSomeAnd}
+use Rattle.std.specs.Prelude.{◌≡◌, ◌⊎◌, ◌∷◌, List, map, Option, Some, None, Ok, Err, IfSome, IsOk, IsSomeAnd}
 use Rattle.ha_model.specs.declared.config.Config.{Config}
 use Rattle.ha_model.specs.declared.journal.Entry.{Entry}
 use Rattle.ha_model.specs.declared.journal.Entry.TheVariants.{Boot}
@@ -8,10 +8,11 @@ use Rattle.ha_model.specs.Words.{Text}
 use Rattle.store_text.specs.Store.{Switches, switches_in}
 use Rattle.ha_status.specs.declared.status.Status.{Status}
 use Rattle.ha_status.specs.Causes.{KeepCause, OneRose, OpenCause, ReadCause, WriteCause}
-use Rattle.ha_status.specs.Files.{Files, HoldsText, IsTextFault}
+use Rattle.ha_status.specs.Files.{HoldsText, IsTextFault}
 use Rattle.ha_words.specs.declared.plan.RunWords.{RunWords}
 use Rattle.ha_run.specs.Stands.{Scene, StandsAt}
-use Rattle.ha_top.specs.ReadConfig.{RefusedCause, config_in}
+use Rattle.conf_auto.specs.Config.{config_of}
+use Rattle.ha_check.specs.Configured.{RefusedCause}
 use Rattle.ha_top.specs.Views.{After, Before}
 use Rattle.ha_top.specs.Written.{AllWritten, AreTheSame, NoneWritten, SomeWritten}
 
@@ -30,7 +31,7 @@ pub record IsBooted (words : RunWords) (b : Before) (journal : List Entry) : Typ
   pub stored : Option Switches
   pub later : List Entry
   pub text_is : HoldsText b.place.files words.config text
-  pub config_is : config_in text ≡ Some config
+  pub config_is : config_of text ≡ Ok config
   pub stored_is : IfSome b.keep.kept (λ kept. AreStored kept stored)
   pub boots : journal ≡ Boot text config stored words.start words.zone ∷ later
 
@@ -46,14 +47,14 @@ IsStoreFault (Status.StoreRefused code) = Unit {0}
 IsStoreFault Status.Memory = Unit {0}
 IsStoreFault _ = ⊥
 
--- a store is refused with the code of its text
-abbrev pub StoreCause : Option Text → Status → Type 0
-StoreCause kept (Status.StoreRefused code) = IsSomeAnd kept (λ text. switches_in text ≡ Err code)
-StoreCause kept status = Unit {0}
+-- a store is refused with the code of a text, which is what the keeper holds, where it tells
+abbrev pub StoreCause : Option (Option Text) → Status → Type 0
+StoreCause told (Status.StoreRefused code) = (text : Text) × IfSome told (λ kept. kept ≡ Some text) × (switches_in text ≡ Err code)
+StoreCause told status = Unit {0}
 
 -- the file has a configuration
 abbrev pub IsTaken : Option Text → Type 0
-IsTaken file = IsSomeAnd file (λ text. IsSome (config_in text))
+IsTaken file = IsSomeAnd file (λ text. IsOk (config_of text))
 
 -- the keeper holds nothing, or a store's text
 abbrev pub IsStore : Option Text → Type 0
@@ -65,13 +66,11 @@ pub record Answered (words : RunWords) (b : Before) (a : After) : Type 0 where
   -- the journal, the lines of each source, the calls, the errors and the store, by the status
   pub stands : StandsAt (IsBooted words b) (scene words b a) (AllWritten b a) (SomeWritten b a) (NoneWritten b a) a.status
   pub same : AreTheSame b a
-
   -- A configuration is refused with the line and code of its text, and where none is taken, one of its answers comes first. A store likewise.
   pub refused : RefusedCause b.place.files words.config a.status
   pub config_first : IfSome b.place.files (λ f. (IsTaken (f words.config) → ⊥) → IsTextFault words.config a.status)
-  pub store_refused : IfSome b.keep.kept (λ kept. StoreCause kept a.status)
+  pub store_refused : StoreCause b.keep.kept a.status
   pub store_next : IfSome b.keep.kept (λ kept. (IsStore kept → ⊥) → IsTextFault words.config a.status ⊎ IsStoreFault a.status)
-
   -- each fault of the outside has its cause in a count that rose
   pub unopened : OpenCause (words.config ∷ words.sources) b.place.faults a.place.faults a.place.last a.status
   pub unread : ReadCause words.config words.sources (map (λ s. s.faults) a.sources) (map (λ s. s.name) a.sources) a.status

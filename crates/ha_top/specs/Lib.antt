@@ -1,4 +1,3 @@
-pub mod ReadConfig
 pub mod Views
 pub mod Written
 pub mod Answered

@@ -1,13 +1,12 @@
 -- What a run answers for before its status line. (A stage of the code, no part of what it promises.)
-use Rattle.std.specs.Prelude.{◌≡◌, ◌⊎◌, ◌∷◌, List, map, Option, None, IfSome}
+use Rattle.std.specs.Prelude.{◌≡◌, ◌⊎◌, ◌∷◌, map, None, IfSome}
 use Rattle.bus_turn.specs.Buses.{IsWritten}
-use Rattle.ha_status.specs.declared.status.Status.{Status}
 use Rattle.ha_status.specs.Causes.{KeepCause, OneRose, OpenCause, ReadCause, WriteCause}
 use Rattle.ha_status.specs.Files.{IsTextFault}
 use Rattle.ha_words.specs.declared.plan.RunWords.{RunWords}
 use Rattle.ha_run.specs.Core.{IsPartWritten}
 use Rattle.ha_run.specs.Stands.{StandsAt}
-use Rattle.ha_top.specs.ReadConfig.{RefusedCause}
+use Rattle.ha_check.specs.Configured.{RefusedCause}
 use Rattle.ha_top.specs.Views.{After, Before}
 use Rattle.ha_top.specs.Written.{AreTheSame, handed, seen}
 use Rattle.ha_top.specs.Answered.{IsBooted, IsStore, IsStoreFault, IsTaken, StoreCause, scene}
@@ -24,7 +23,7 @@ pub record Lived (words : RunWords) (b : Before) (a : After) : Type 0 where
   pub same : AreTheSame b a
   pub refused : RefusedCause b.place.files words.config a.status
   pub config_first : IfSome b.place.files (λ f. (IsTaken (f words.config) → ⊥) → IsTextFault words.config a.status)
-  pub store_refused : IfSome b.keep.kept (λ kept. StoreCause kept a.status)
+  pub store_refused : StoreCause b.keep.kept a.status
   pub store_next : IfSome b.keep.kept (λ kept. (IsStore kept → ⊥) → IsTextFault words.config a.status ⊎ IsStoreFault a.status)
   pub unopened : OpenCause (words.config ∷ words.sources) b.place.faults a.place.faults a.place.last a.status
   pub unread : ReadCause words.config words.sources (map (λ s. s.faults) a.sources) (map (λ s. s.name) a.sources) a.status

@@ -1,5 +1,5 @@
 //! A run before its status line: the configuration, the store, the source, the boot, and then the lines.
-ghost use Rattle.std.specs.Prelude.{◌≡◌, ◌≤◌, ◌∷◌, [], None, IfSome, IsSome, length, map, option_map};
+ghost use Rattle.std.specs.Prelude.{◌≡◌, ◌≤◌, ◌∷◌, [], None, IfSome, IsSome, IsUtf8, length, map, option_map};
 ghost use Rattle.ha_clock.specs.Local.{last_moment};
 ghost use Rattle.ha_clock.specs.Zone.{zone_of};
 ghost use Rattle.ha_model.specs.declared.journal.Entry.TheVariants.{Boot};
@@ -10,10 +10,10 @@ ghost use Rattle.ha_top.specs.Lived.{Lived};
 ghost use Rattle.ha_top.specs.Unready.{GivesBack};
 ghost use Rattle.ha_top.specs.Views.{after_run, before_run, place_state, source_of};
 
+use crate::boots::Boots;
 use crate::outcome::Outcome;
 use crate::prepare::{load_store, open_source};
-use crate::stand_engine::Boots;
-use crate::stand_in::{Configured, read_config_at};
+use ha_check::{Configured, read_config_at};
 use ha_io::{Keeper, Place, Source};
 use ha_model::Config;
 use ha_run::{CoreRun, run_core};
@@ -83,10 +83,10 @@ fn run_booted<E: Boots, P: Place, Q: Keeper>(
     requires config { IsSoundConfig config }
     requires in_time { words.now.start ≤ last_moment }
     requires zoned { IsSome (zone_of words.now.zone) }
+    requires zone_is_text { IsUtf8 words.now.zone }
     requires no_calls { IfSome (P.Sink.written out) (λ t. t ≡ []) }
     requires no_errors { IfSome (P.Sink.written err) (λ t. t ≡ []) }
-    ensures {
-        let s = sink_of P.Sink.written P.Sink.faults P.Sink.zeros P.Sink.name in
+    ensures { let s = sink_of P.Sink.written P.Sink.faults P.Sink.zeros P.Sink.name in
         let q = keeper_of Q.kept Q.faults in
         RanOrNot (Boot text config stored words.now.start words.now.zone) (outside_of s q out err None keep) (source_of P.Source.faults P.Source.left P.Source.name source)
         result.status result.journal result.records (map (source_of P.Source.faults P.Source.left P.Source.name) result.sources) (outside_of s q result.out result.err result.trace result.keep) }
@@ -95,11 +95,25 @@ fn run_booted<E: Boots, P: Place, Q: Keeper>(
     if sources.push(source).is_err() {
         return unbooted(alloc, Status::Memory, Many::make(alloc), out, err, keep);
     }
-    let Ok(zone) = Word::read(alloc, words.zone.text()) else {
-        return unbooted(alloc, Status::Memory, Many::from_vec(sources), out, err, keep);
+    let Ok(zone) = Word::from_bytes(alloc, words.zone.text()) else {
+        return unbooted(
+            alloc,
+            Status::Memory,
+            Many::from_vec(sources),
+            out,
+            err,
+            keep,
+        );
     };
     let Ok(core) = E::boot(alloc, text, config, stored, words.start, zone) else {
-        return unbooted(alloc, Status::Memory, Many::from_vec(sources), out, err, keep);
+        return unbooted(
+            alloc,
+            Status::Memory,
+            Many::from_vec(sources),
+            out,
+            err,
+            keep,
+        );
     };
     let CoreRun {
         status,
@@ -134,13 +148,13 @@ pub(crate) fn run_files<E: Boots, P: Place, Q: Keeper>(
     requires one { length words.now.sources ≡ 1 }
     requires in_time { words.now.start ≤ last_moment }
     requires zoned { IsSome (zone_of words.now.zone) }
+    requires zone_is_text { IsUtf8 words.now.zone }
     requires no_calls { IfSome (P.Sink.written out) (λ t. t ≡ []) }
     requires no_errors { IfSome (P.Sink.written err) (λ t. t ≡ []) }
     requires out_new { (P.Sink.faults out ≡ 0) × (P.Sink.zeros out ≡ 0) }
     requires err_new { (P.Sink.faults err ≡ 0) × (P.Sink.zeros err ≡ 0) }
     requires keep_new { Q.faults keep ≡ 0 }
-    ensures {
-        let s = sink_of P.Sink.written P.Sink.faults P.Sink.zeros P.Sink.name in
+    ensures { let s = sink_of P.Sink.written P.Sink.faults P.Sink.zeros P.Sink.name in
         let q = keeper_of Q.kept Q.faults in
         Lived words.now (before_run (place_state (P.holds place.old) (P.faults place.old) (P.last place.old)) (s out) (s err) (q keep)) (after_run result.status result.journal result.records (map (source_of P.Source.faults P.Source.left P.Source.name) result.sources) (place_state (P.holds place.new) (P.faults place.new) (P.last place.new)) (s result.out) (s result.err) (option_map s result.trace) (q result.keep)) }
 {

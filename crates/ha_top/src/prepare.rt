@@ -5,7 +5,7 @@ ghost use Rattle.ha_status.specs.Causes.{KeepCause, OpenCause};
 ghost use Rattle.ha_worker.specs.Courses.{source_state};
 ghost use Rattle.ha_run.specs.Opened.{IsOpened};
 ghost use Rattle.ha_top.specs.Answered.{AreStored, IsStoreFault, StoreCause};
-ghost use Rattle.ha_top.specs.Opening.{IsOpenFault};
+ghost use Rattle.ha_top.specs.Opening.{IsOpenFault, IsSwitchesFault};
 
 use ha_io::{IoFault, Keeper, Place};
 use ha_status::Status;
@@ -18,7 +18,7 @@ fn read_switches(alloc: Global, text: &[u8]) -> Result<Option<Many<(Word, bool)>
     ensures ok { IfOk result (λ stored. AreStored (Some text.now) stored) }
     ensures sound { IfOk result IsSoundStore }
     ensures fault { IfErr result IsStoreFault }
-    ensures refused { IfErr result (StoreCause (Some text.now)) }
+    ensures refused { IfErr result (IsSwitchesFault text.now) }
     ensures not_kept { IfErr result (λ status. status ≡ Status.KeepFault → ⊥) }
 {
     match read_store(alloc, text) {
@@ -36,7 +36,7 @@ pub(crate) fn load_store<Q: Keeper>(
     ensures ok { IfOk result (λ stored. IfSome (Q.kept keep.old) (λ kept. AreStored kept stored)) }
     ensures sound { IfOk result IsSoundStore }
     ensures fault { IfErr result IsStoreFault }
-    ensures refused { IfErr result (λ status. IfSome (Q.kept keep.old) (λ kept. StoreCause kept status)) }
+    ensures refused { IfErr result (StoreCause (Q.kept keep.old)) }
     ensures cause { IfErr result (KeepCause (Q.faults keep.old) (Q.faults keep.new)) }
     ensures keeps { Q.kept keep.new ≡ Q.kept keep.old }
     ensures never_falls { Q.faults keep.old ≤ Q.faults keep.new }

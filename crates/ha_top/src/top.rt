@@ -1,14 +1,14 @@
 //! The program as a function over its words and the outside.
-ghost use Rattle.std.specs.Prelude.{◌≡◌, ◌≤◌, ◌∷◌, [], IfSome, IsSome, length, map, option_map};
+ghost use Rattle.std.specs.Prelude.{◌≡◌, ◌≤◌, ◌∷◌, [], IfSome, IsSome, IsUtf8, length, map, option_map};
 ghost use Rattle.ha_clock.specs.Local.{last_moment};
 ghost use Rattle.ha_clock.specs.Zone.{zone_of};
 ghost use Rattle.bus_turn.specs.States.{keeper_of, sink_of};
 ghost use Rattle.ha_top.specs.Answered.{Answered};
 ghost use Rattle.ha_top.specs.Views.{after_run, before_run, place_state, source_of};
 
+use crate::boots::Boots;
 use crate::files::run_files;
 use crate::outcome::Outcome;
-use crate::stand_engine::Boots;
 use ha_io::{Gate, Keeper, Place};
 use ha_status::told;
 use ha_words::RunWords;
@@ -29,13 +29,13 @@ pub fn run_live<R, E: Boots, P: Place, Q: Keeper, G: Gate>(
     requires one { length words.now.sources ≡ 1 }
     requires in_time { words.now.start ≤ last_moment }
     requires zoned { IsSome (zone_of words.now.zone) }
+    requires zone_is_text { IsUtf8 words.now.zone }
     requires no_calls { IfSome (P.Sink.written out) (λ t. t ≡ []) }
     requires no_errors { IfSome (P.Sink.written err) (λ t. t ≡ []) }
     requires out_new { (P.Sink.faults out ≡ 0) × (P.Sink.zeros out ≡ 0) }
     requires err_new { (P.Sink.faults err ≡ 0) × (P.Sink.zeros err ≡ 0) }
     requires keep_new { Q.faults keep ≡ 0 }
-    ensures {
-        let s = sink_of P.Sink.written P.Sink.faults P.Sink.zeros P.Sink.name in
+    ensures { let s = sink_of P.Sink.written P.Sink.faults P.Sink.zeros P.Sink.name in
         let q = keeper_of Q.kept Q.faults in
         Answered words.now (before_run (place_state (P.holds place.old) (P.faults place.old) (P.last place.old)) (s out) (s err) (q keep)) (after_run result.status result.journal result.records (map (source_of P.Source.faults P.Source.left P.Source.name) result.sources) (place_state (P.holds place.new) (P.faults place.new) (P.last place.new)) (s result.out) (s result.err) (option_map s result.trace) (q result.keep)) }
 {

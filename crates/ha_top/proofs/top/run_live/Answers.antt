@@ -1,6 +1,4 @@
 use Rattle.ha_top.proofs.ToldLemmas.{told_answers}
-use Rattle.ha_top.proofs.RunLemmas as run
-use Rattle.ha_top.proofs.EarlyLemmas as early
 use Rattle.ha_top.proofs.top.run_live.Goals as goal
 
 pub returns : goal.returns

@@ -1,4 +1,4 @@
-//! STAND-IN, never landed: the engine.
+//! What is asked of the core that is run.
 ghost use Rattle.std.specs.Prelude.{◌≡◌, ◌≤◌, ◌∷◌, [], false, IfOk, IsSome};
 ghost use Rattle.ha_clock.specs.Local.{last_moment};
 ghost use Rattle.ha_clock.specs.Zone.{zone_of};
@@ -10,9 +10,10 @@ use ha_model::{Config, Core};
 use ha_value::{Many, Word};
 use std::alloc::{AllocError, Global};
 
-/// A core that can be booted. The engine is the one.
+/// A core that can be booted. A run is proved over each such core; the engine is the one that the program hands in.
 pub trait Boots: Core {
-    /// The core after its first entry, the boot.
+    /// The core after its first entry, the boot, of a configuration with its text, the stored switches, the start and the zone's text. The error
+    /// is want of memory alone.
     fn boot(
         alloc: Global,
         text: Word,
