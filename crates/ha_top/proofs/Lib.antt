@@ -2,3 +2,4 @@ pub mod ToldLemmas
 pub mod EarlyLemmas
 pub mod RunLemmas
 pub mod StoreLemmas
+pub mod ProgramLemmas

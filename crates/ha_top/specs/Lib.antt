@@ -5,3 +5,4 @@ pub mod Opening
 pub mod Lived
 pub mod Booted
 pub mod Unready
+pub mod Program

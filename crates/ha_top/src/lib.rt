@@ -5,8 +5,10 @@ mod boots;
 mod files;
 mod outcome;
 mod prepare;
+mod program;
 mod top;
 
 pub use boots::Boots;
 pub use outcome::Outcome;
+pub use program::hearth;
 pub use top::run_live;

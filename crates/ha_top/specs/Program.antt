@@ -1,0 +1,47 @@
+-- What the program answers for, by its words.
+use Rattle.std.specs.Prelude.{◌≡◌, ◌⊎◌, ◌∷◌, List, [], map, Option, Some, None, IfSome, IsSome}
+use Rattle.ha_model.specs.Words.{Text}
+use Rattle.ha_status.specs.declared.status.Status.{Status}
+use Rattle.ha_status.specs.Causes.{OpenCause, ReadCause, WriteCause}
+use Rattle.ha_status.specs.Files.{IsHandedBack}
+use Rattle.ha_words.specs.declared.plan.Plan.{Plan}
+use Rattle.ha_words.specs.declared.plan.Plan.TheVariants.{Run, Check}
+use Rattle.ha_check.specs.Checked.{IsAnswerOf, IsCheckStatus, IsOutput}
+use Rattle.ha_io.specs.Counts.{Rose}
+use Rattle.ha_top.specs.Views.{After, Before}
+use Rattle.ha_top.specs.Written.{AreTheSame, LineBehind, NoneWritten}
+use Rattle.ha_top.specs.Answered.{Answered}
+
+-- no journal
+pub record HasNoJournal (b : Before) (a : After) : Type 0 where
+  pub no_entry : a.journal ≡ []
+  pub no_record : a.records ≡ []
+  pub no_trace : a.trace ≡ None
+  pub no_store : a.keep.kept ≡ b.keep.kept
+
+-- the words are none of the program's: nothing was asked of the place, and nothing but the status line was written
+pub record Unplanned (b : Before) (a : After) : Type 0 where
+  pub status_is : (a.status ≡ Status.Usage) ⊎ (a.status ≡ Status.Memory)
+  pub nothing : HasNoJournal b a
+  pub written : NoneWritten b a
+  pub no_source : a.sources ≡ []
+  pub same_place : a.place ≡ b.place
+
+-- `check` of the file of this name
+pub record Checked (name : Text) (b : Before) (a : After) : Type 0 where
+  pub answer : IsCheckStatus name a.status
+  pub of_file : IfSome b.place.files (λ f. IsAnswerOf (f name) a.status)
+  pub output : IsOutput b.place.files name a.status b.out.took a.out.took
+  pub line : LineBehind b a b.err.took
+  pub nothing : HasNoJournal b a
+  pub handed_back : IsHandedBack name (map (λ s. s.name) a.sources) a.status
+  pub at_end : IsSome b.place.files → a.status ≡ Status.Ok → map (λ s. s.left) a.sources ≡ Some [] ∷ []
+  pub unopened : OpenCause (name ∷ []) b.place.faults a.place.faults a.place.last a.status
+  pub unread : ReadCause name [] (map (λ s. s.faults) a.sources) (map (λ s. s.name) a.sources) a.status
+  pub unwritten : WriteCause (Rose b.out.faults a.out.faults) (Rose b.out.zeros a.out.zeros) a.status
+
+-- what the program answers for, by the plan of its words
+abbrev pub AnsweredBy : Option Plan → Before → After → Type 0
+AnsweredBy None b a = Unplanned b a
+AnsweredBy (Some (Run words)) b a = Answered words b a
+AnsweredBy (Some (Check name)) b a = Checked name b a
