@@ -1,7 +1,7 @@
 -- What a run answers for that ended before the boot.
-use Rattle.std.proofs.Common.{◌≡◌, ◌⊎◌, inl, inr, ◌∙◌, ◌≤◌, ◌<◌, ℕ, zero, suc, List, [], ◌∷◌, length, map, Option, Some, None, ap, refl, sym, subst, arith, slice_index_or}
+use Rattle.std.proofs.Common.{◌≡◌, ◌⊎◌, inl, ◌≤◌, ℕ, List, [], ◌∷◌, length, map, Option, Some, None, ap, refl, sym, subst, arith, slice_index_or}
 use Rattle.std.proofs.Math.Nat.{le_refl}
-use Rattle.std.specs.Prelude.{Contains, IfSome, IsOk, Ok, is_some, option_to_list}
+use Rattle.std.specs.Prelude.{Contains, IfSome, IsOk, Ok, is_some}
 use Rattle.ha_io.specs.declared.place.Opening.{Opening}
 use Rattle.ha_model.specs.declared.config.Config.{Config}
 use Rattle.ha_model.specs.Words.{Text}
@@ -13,7 +13,6 @@ use Rattle.ha_words.specs.declared.plan.RunWords.{RunWords}
 use Rattle.bus_turn.specs.Buses.{IsWritten}
 use Rattle.bus_turn.specs.Growth.{SinkGrows}
 use Rattle.bus_turn.specs.States.{SinkState}
-use Rattle.ha_worker.specs.Courses.{SourceState}
 use Rattle.ha_run.specs.Core.{IsPartWritten}
 use Rattle.ha_run.specs.Served.{AreOpened}
 use Rattle.ha_run.specs.Stands.{RanNothing, StandsAt}
@@ -24,7 +23,6 @@ use Rattle.ha_top.specs.Views.{After, Before}
 use Rattle.ha_top.specs.Written.{AreTheSame, handed, seen}
 use Rattle.ha_top.specs.Answered.{AreStored, IsBooted, IsStore, IsStoreFault, IsTaken, StoreCause, scene}
 use Rattle.ha_top.specs.Lived.{Lived, Untouched}
-use Rattle.ha_top.specs.Unready.{GivesBack, SourcesAt}
 use Rattle.ha_status.proofs.CauseLemmas.{unopened_within}
 
 if_all : {X : Type 0} (o : Option X) (P : X → Type 0) → ((x : X) → P x) → IfSome o P
@@ -61,45 +59,10 @@ pub store_taken : (kept : Option (Option Text)) (stored : Option Switches) (P : 
 store_taken None stored P h = tt
 store_taken (Some k) stored P h = λ never. absurd (never (stored, h))
 
-contains_more : (xs : List Text) (x name : Text) → Contains (x ∷ []) name → Contains (x ∷ xs) name
-contains_more xs x name h = (0, omega arith, by h.0 h.1 h.2)
-  where
-    by : (k : ℕ) → k < 1 → slice_index_or (x ∷ []) k name ≡ name → x ≡ name
-    by zero low e = e
-    by (suc k) low e = absurd (omega (arith, low))
-
 pub contains_next : (config name : Text) (sources : List Text) → sources ≡ name ∷ [] → Contains (config ∷ sources) name
 contains_next config name sources e = subst (λ z. Contains (config ∷ z) name) (sym e) (1, omega arith, refl)
 
--- ---- the answers of each stage
-
-pub text_cases : (P : Status → Type 0) (name : Text) (s : Status) → IsTextFault name s → ((other : Text) → other ≡ name → P (Status.OpenFault other)) → P (Status.ReadFault None)
-    → ((l c : ℕ) → P (Status.ConfigRefused l c)) → P Status.Memory → P s
-text_cases P name (Status.OpenFault other) h unopened unread refused memory = unopened other h
-text_cases P name (Status.ReadFault None) h unopened unread refused memory = unread
-text_cases P name (Status.ReadFault (Some k)) h unopened unread refused memory = absurd h
-text_cases P name (Status.ConfigRefused l c) h unopened unread refused memory = refused l c
-text_cases P name Status.Memory h unopened unread refused memory = memory
-text_cases P name Status.Ok h unopened unread refused memory = absurd h
-text_cases P name Status.Usage h unopened unread refused memory = absurd h
-text_cases P name (Status.WriteFault z) h unopened unread refused memory = absurd h
-text_cases P name Status.KeepFault h unopened unread refused memory = absurd h
-text_cases P name Status.JournalFull h unopened unread refused memory = absurd h
-text_cases P name (Status.SourceTooLong k) h unopened unread refused memory = absurd h
-text_cases P name (Status.StoreRefused c) h unopened unread refused memory = absurd h
-
-pub store_cases : (P : Status → Type 0) (s : Status) → IsStoreFault s → P Status.KeepFault → ((c : ℕ) → P (Status.StoreRefused c)) → P Status.Memory → P s
-store_cases P Status.KeepFault h kept refused memory = kept
-store_cases P (Status.StoreRefused c) h kept refused memory = refused c
-store_cases P Status.Memory h kept refused memory = memory
-store_cases P (Status.OpenFault other) h kept refused memory = absurd h
-store_cases P (Status.ReadFault k) h kept refused memory = absurd h
-store_cases P (Status.ConfigRefused l c) h kept refused memory = absurd h
-store_cases P Status.Ok h kept refused memory = absurd h
-store_cases P Status.Usage h kept refused memory = absurd h
-store_cases P (Status.WriteFault z) h kept refused memory = absurd h
-store_cases P Status.JournalFull h kept refused memory = absurd h
-store_cases P (Status.SourceTooLong k) h kept refused memory = absurd h
+-- ---- the source was not opened
 
 pub open_cases : (P : Status → Type 0) (name : Text) (s : Status) → IsOpenFault name s → ((other : Text) → other ≡ name → P (Status.OpenFault other)) → P Status.Memory → P s
 open_cases P name (Status.OpenFault other) h unopened memory = unopened other h
@@ -114,18 +77,6 @@ open_cases P name (Status.WriteFault z) h unopened memory = absurd h
 open_cases P name Status.JournalFull h unopened memory = absurd h
 open_cases P name (Status.SourceTooLong k) h unopened memory = absurd h
 
--- the sources at an early status: none, but at a configuration that was not read
-abbrev pub SourcesBefore : Status → List SourceState → Type 0
-SourcesBefore (Status.ReadFault source) sources = Unit {0}
-SourcesBefore status sources = sources ≡ []
-
-counted : (sources : List SourceState) → length (map (λ (s : SourceState). s.faults) sources) ≡ length sources
-counted [] = refl
-counted (s ∷ sources) = grind (arith, counted sources)
-
-one_left : (sources : List SourceState) → length (map (λ (s : SourceState). s.faults) sources) ≡ 1 → length sources ≡ 1
-one_left sources e = sym (counted sources) ∙ e
-
 module _ (words : RunWords) (b : Before) (a : After) (e : IsEarly b a) where
   abbrev Stood : Status → Type 0
   Stood = StandsAt (IsBooted words b) (scene words b a) (IsWritten (seen a a.err.took)) (IsPartWritten (handed b) (seen a a.err.took)) (Untouched b a)
@@ -135,49 +86,6 @@ module _ (words : RunWords) (b : Before) (a : After) (e : IsEarly b a) where
 
   abbrev Names : List (Option Text)
   Names = map (λ s. s.name) a.sources
-
-  nothing : a.sources ≡ [] → RanNothing (scene words b a)
-  nothing none = record { no_entry = e.no_entry; no_record = e.no_record; opened = subst (AreOpened words.sources) (sym none) tt }
-
-  -- the configuration was not read
-  pub lived_text : IsTextFault words.config a.status → RefusedCause b.place.files words.config a.status
-      → OpenCause (words.config ∷ []) b.place.faults a.place.faults a.place.last a.status → ReadCause words.config [] Counts Names a.status → SourcesBefore a.status a.sources → Lived words b a
-  lived_text fault refused unopened unread sources = record {
-    stands = text_cases (λ s. ReadCause words.config [] Counts Names s → SourcesBefore s a.sources → Stood s) words.config a.status fault
-        (λ other is r none. (e.untouched, nothing none))
-        (λ r none. (e.untouched, record { no_entry = e.no_entry; no_record = e.no_record; one = one_left a.sources r.0 }))
-        (λ l c r none. (e.untouched, nothing none))
-        (λ r none. inl (e.untouched, inl (nothing none)))
-        unread sources;
-    same = same_of b a e;
-    refused = refused;
-    config_first = if_all b.place.files (λ f. (IsTaken (f words.config) → ⊥) → IsTextFault words.config a.status) (λ f never. fault);
-    store_refused = text_cases (λ s. StoreCause b.keep.kept s) words.config a.status fault (λ other is. tt) tt (λ l c. tt) tt;
-    store_next = if_all b.keep.kept (λ kept. (IsStore kept → ⊥) → IsTextFault words.config a.status ⊎ IsStoreFault a.status) (λ kept never. inl fault);
-    unopened = text_cases (λ s. OpenCause (words.config ∷ []) b.place.faults a.place.faults a.place.last s → OpenCause (words.config ∷ words.sources) b.place.faults a.place.faults a.place.last s)
-        words.config a.status fault (λ other is h. (contains_more words.sources words.config other h.0, h.1)) (λ h. tt) (λ l c h. tt) (λ h. tt) unopened;
-    unread = text_cases (λ s. ReadCause words.config [] Counts Names s → ReadCause words.config words.sources Counts Names s) words.config a.status fault
-        (λ other is h. tt) (λ h. h) (λ l c h. tt) (λ h. tt) unread;
-    unwritten = text_cases (λ s. WriteCause (OneRose b.out.faults a.out.faults b.err.faults a.err.faults) (OneRose b.out.zeros a.out.zeros b.err.zeros a.err.zeros) s) words.config a.status fault
-        (λ other is. tt) tt (λ l c. tt) tt;
-    unkept = text_cases (λ s. KeepCause b.keep.faults a.keep.faults s) words.config a.status fault (λ other is. tt) tt (λ l c. tt) tt;
-  }
-
-  -- the store was not loaded, or is refused
-  pub lived_store : (text : Text) (config : Config) → HoldsText b.place.files words.config text → config_of text ≡ Ok config → IsStoreFault a.status
-      → StoreCause b.keep.kept a.status → KeepCause b.keep.faults a.keep.faults a.status → a.sources ≡ [] → Lived words b a
-  lived_store text config held read fault refused unkept none = record {
-    stands = store_cases Stood a.status fault (inl (e.untouched, nothing none)) (λ c. (e.untouched, nothing none)) (inl (e.untouched, inl (nothing none)));
-    same = same_of b a e;
-    refused = store_cases (λ s. RefusedCause b.place.files words.config s) a.status fault tt (λ c. tt) tt;
-    config_first = config_taken b.place.files words.config text config (IsTextFault words.config a.status) held read;
-    store_refused = refused;
-    store_next = if_all b.keep.kept (λ kept. (IsStore kept → ⊥) → IsTextFault words.config a.status ⊎ IsStoreFault a.status) (λ kept never. inr fault);
-    unopened = store_cases (λ s. OpenCause (words.config ∷ words.sources) b.place.faults a.place.faults a.place.last s) a.status fault tt (λ c. tt) tt;
-    unread = store_cases (λ s. ReadCause words.config words.sources Counts Names s) a.status fault tt (λ c. tt) tt;
-    unwritten = store_cases (λ s. WriteCause (OneRose b.out.faults a.out.faults b.err.faults a.err.faults) (OneRose b.out.zeros a.out.zeros b.err.zeros a.err.zeros) s) a.status fault tt (λ c. tt) tt;
-    unkept = unkept;
-  }
 
   -- the source was not opened, or memory ran out before the boot
   pub lived_open : (text : Text) (config : Config) (stored : Option Switches) (name : Text) → HoldsText b.place.files words.config text → config_of text ≡ Ok config
@@ -200,58 +108,12 @@ module _ (words : RunWords) (b : Before) (a : After) (e : IsEarly b a) where
       there : RanNothing (scene words b a)
       there = record { no_entry = e.no_entry; no_record = e.no_record; opened = opened }
 
--- ---- by what the stages handed back
-
-counts_of : {S : Type 0} (f : S → SourceState) (given : Option S) → map (λ (s : SourceState). s.faults) (map f (option_to_list given)) ≡ map (λ x. (f x).faults) (option_to_list given)
-counts_of f None = refl
-counts_of f (Some x) = refl
-
-names_of : {S : Type 0} (f : S → SourceState) (given : Option S) → map (λ (s : SourceState). s.name) (map f (option_to_list given)) ≡ map (λ x. (f x).name) (option_to_list given)
-names_of f None = refl
-names_of f (Some x) = refl
-
-pub text_back : {S : Type 0} (f : S → SourceState) (words : RunWords) (b : Before) (a : After) → IsEarly b a → (status : Status) (given : Option S) (told : Status) (sources : List S)
-    → GivesBack status given told sources → a.status ≡ told → a.sources ≡ map f sources → IsTextFault words.config status → RefusedCause b.place.files words.config status
-    → OpenCause (words.config ∷ []) b.place.faults a.place.faults a.place.last status
-    → ReadCause words.config [] (map (λ x. (f x).faults) (option_to_list given)) (map (λ x. (f x).name) (option_to_list given)) status → Lived words b a
-text_back {S} f words b a e status given told sources (inr m) is_status is_sources fault refused unopened unread =
-    let s : a.status ≡ Status.Memory = is_status ∙ m.0 in
-    lived_text words b a e (subst (IsTextFault words.config) (sym s) tt) (subst (λ z. RefusedCause b.place.files words.config z) (sym s) tt)
-    (subst (λ z. OpenCause (words.config ∷ []) b.place.faults a.place.faults a.place.last z) (sym s) tt)
-    (subst (λ z. ReadCause words.config [] (map (λ (x : SourceState). x.faults) a.sources) (map (λ (x : SourceState). x.name) a.sources) z) (sym s) tt)
-    (subst (λ z. SourcesBefore z a.sources) (sym s) (is_sources ∙ ap (map f) m.1))
-text_back {S} f words b a e status given told sources (inl k) is_status is_sources fault refused unopened unread =
-    let s : a.status ≡ status = is_status ∙ k.0 in
-    lived_text words b a e (subst (IsTextFault words.config) (sym s) fault) (subst (λ z. RefusedCause b.place.files words.config z) (sym s) refused)
-    (subst (λ z. OpenCause (words.config ∷ []) b.place.faults a.place.faults a.place.last z) (sym s) unopened)
-    (subst (λ z. ReadCause words.config [] (map (λ (x : SourceState). x.faults) a.sources) (map (λ (x : SourceState). x.name) a.sources) z) (sym s)
-    (text_cases (λ z. ReadCause words.config [] (map (λ x. (f x).faults) (option_to_list given)) (map (λ x. (f x).name) (option_to_list given)) z → SourcesAt z given sources
-    → ReadCause words.config [] (map (λ (x : SourceState). x.faults) a.sources) (map (λ (x : SourceState). x.name) a.sources) z) words.config status fault
-    (λ other is r h. tt)
-    (λ r h. subst (λ z. ReadCause words.config [] (map (λ (x : SourceState). x.faults) z) (map (λ (x : SourceState). x.name) z) (Status.ReadFault None)) (sym (is_sources ∙ ap (map f) h))
-    (subst (λ z. ReadCause words.config [] z (map (λ (x : SourceState). x.name) (map f (option_to_list given))) (Status.ReadFault None)) (sym (counts_of f given))
-    (subst (λ z. ReadCause words.config [] (map (λ x. (f x).faults) (option_to_list given)) z (Status.ReadFault None)) (sym (names_of f given)) r)))
-    (λ l c r h. tt) (λ r h. tt) unread k.1))
-    (subst (λ z. SourcesBefore z a.sources) (sym s)
-    (text_cases (λ z. SourcesAt z given sources → SourcesBefore z a.sources) words.config status fault
-    (λ other is h. is_sources ∙ ap (map f) h) (λ h. tt) (λ l c h. is_sources ∙ ap (map f) h) (λ h. is_sources ∙ ap (map f) h) k.1))
-
 -- a failure to open in a later part of the call
 pub open_within : (name : Text) (first before after : ℕ) (last : Option (Option (Text × Opening))) (s : Status) → IsOpenFault name s → first ≤ before → OpenCause (name ∷ []) before after last s
     → OpenCause (name ∷ []) first after last s
 open_within name first before after last s fault low h =
     open_cases (λ z. OpenCause (name ∷ []) before after last z → OpenCause (name ∷ []) first after last z) name s fault
     (λ other is u. (u.0, unopened_within other first before after last low u.1)) (λ u. tt) h
-
--- the same, where the name was lent
-pub text_named : {S : Type 0} (f : S → SourceState) (words : RunWords) (b : Before) (a : After) (name : Text) → name ≡ words.config → IsEarly b a → (status : Status) (given : Option S) (told : Status) (sources : List S)
-    → GivesBack status given told sources → a.status ≡ told → a.sources ≡ map f sources → IsTextFault name status → RefusedCause b.place.files name status
-    → OpenCause (name ∷ []) b.place.faults a.place.faults a.place.last status
-    → ReadCause name [] (map (λ x. (f x).faults) (option_to_list given)) (map (λ x. (f x).name) (option_to_list given)) status → Lived words b a
-text_named f words b a name is e status given told sources gives is_status is_sources fault refused unopened unread =
-    text_back f words b a e status given told sources gives is_status is_sources (subst (λ z. IsTextFault z status) is fault) (subst (λ z. RefusedCause b.place.files z status) is refused)
-    (subst (λ (z : Text). OpenCause (z ∷ []) b.place.faults a.place.faults a.place.last status) is unopened)
-    (subst (λ z. ReadCause z [] (map (λ x. (f x).faults) (option_to_list given)) (map (λ x. (f x).name) (option_to_list given)) status) is unread)
 
 pub early_from : (b : Before) (a : After) → a.out ≡ b.out → a.err ≡ b.err → a.trace ≡ None → a.keep.kept ≡ b.keep.kept → b.keep.faults ≤ a.keep.faults → a.journal ≡ [] → a.records ≡ [] → IsEarly b a
 early_from b a out err trace kept faults journal records = record {

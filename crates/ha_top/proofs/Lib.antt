@@ -2,4 +2,3 @@ pub mod ToldLemmas
 pub mod EarlyLemmas
 pub mod RunLemmas
 pub mod StoreLemmas
-pub mod ProgramLemmas

@@ -1,5 +1,5 @@
 -- What the program answers for, by its words.
-use Rattle.std.specs.Prelude.{◌≡◌, ◌⊎◌, ◌∷◌, List, [], map, Option, Some, None, IfSome, IsSome}
+use Rattle.std.specs.Prelude.{◌≡◌, ◌⊎◌, ◌∷◌, [], map, Option, Some, None, IfSome, IsSome}
 use Rattle.ha_model.specs.Words.{Text}
 use Rattle.ha_status.specs.declared.status.Status.{Status}
 use Rattle.ha_status.specs.Causes.{OpenCause, ReadCause, WriteCause}
@@ -9,7 +9,7 @@ use Rattle.ha_words.specs.declared.plan.Plan.TheVariants.{Run, Check}
 use Rattle.ha_check.specs.Checked.{IsAnswerOf, IsCheckStatus, IsOutput}
 use Rattle.ha_io.specs.Counts.{Rose}
 use Rattle.ha_top.specs.Views.{After, Before}
-use Rattle.ha_top.specs.Written.{AreTheSame, LineBehind, NoneWritten}
+use Rattle.ha_top.specs.Written.{LineBehind, NoneWritten}
 use Rattle.ha_top.specs.Answered.{Answered}
 
 -- no journal

@@ -71,8 +71,7 @@ fn check<P: Place, Q: Keeper>(
     err: P::Sink,
     keep: Q,
 ) -> Outcome<P, Q>
-    ensures {
-        let s = sink_of P.Sink.written P.Sink.faults P.Sink.zeros P.Sink.name in
+    ensures { let s = sink_of P.Sink.written P.Sink.faults P.Sink.zeros P.Sink.name in
         let q = keeper_of Q.kept Q.faults in
         Checked name.now (before_run (place_state (P.holds place.old) (P.faults place.old) (P.last place.old)) (s out) (s err) (q keep)) (after_run result.status result.journal result.records (map (source_of P.Source.faults P.Source.left P.Source.name) result.sources) (place_state (P.holds place.new) (P.faults place.new) (P.last place.new)) (s result.out) (s result.err) (option_map s result.trace) (q result.keep)) }
 {
@@ -110,13 +109,14 @@ pub fn hearth<R, E: Boots, P: Place, Q: Keeper, G: Gate>(
     requires out_new { (P.Sink.faults out ≡ 0) × (P.Sink.zeros out ≡ 0) }
     requires err_new { (P.Sink.faults err ≡ 0) × (P.Sink.zeros err ≡ 0) }
     requires keep_new { Q.faults keep ≡ 0 }
-    ensures {
-        let s = sink_of P.Sink.written P.Sink.faults P.Sink.zeros P.Sink.name in
+    ensures { let s = sink_of P.Sink.written P.Sink.faults P.Sink.zeros P.Sink.name in
         let q = keeper_of Q.kept Q.faults in
         AnsweredBy (plan_of (map string_bytes words.now)) (before_run (place_state (P.holds place.old) (P.faults place.old) (P.last place.old)) (s out) (s err) (q keep)) (after_run result.status result.journal result.records (map (source_of P.Source.faults P.Source.left P.Source.name) result.sources) (place_state (P.holds place.new) (P.faults place.new) (P.last place.new)) (s result.out) (s result.err) (option_map s result.trace) (q result.keep)) }
 {
     match read_words(alloc, words) {
-        Ok(Plan::Run(words)) => run_live::<R, E, P, Q, G>(rt, alloc, &words, place, out, err, keep, gate),
+        Ok(Plan::Run(words)) => run_live::<R, E, P, Q, G>(
+            rt, alloc, &words, place, out, err, keep, gate,
+        ),
         Ok(Plan::Check(name)) => check(alloc, &name, place, out, err, keep),
         Err(WordsFault::Usage) => ended(alloc, Status::Usage, out, err, keep),
         Err(WordsFault::Memory) => ended(alloc, Status::Memory, out, err, keep),
