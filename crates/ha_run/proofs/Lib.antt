@@ -1,0 +1,3 @@
+pub mod StandsLemmas
+pub mod EndLemmas
+pub mod TellLemmas

@@ -1,0 +1,4 @@
+pub mod Served
+pub mod Stands
+pub mod Core
+pub mod Opened

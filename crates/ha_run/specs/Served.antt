@@ -1,0 +1,82 @@
+-- What becomes of the sources of a run, and of their lines.
+use Rattle.std.specs.Prelude.{ℕ, zero, suc, ◌≡◌, ◌≢◌, ◌<◌, ◌≤◌, ◌⊎◌, List, [], ◌∷◌, ◌++◌, length, Option, IfSome, IsSomeAnd}
+use Rattle.ha_model.specs.declared.journal.Cmd.{Cmd}
+use Rattle.ha_model.specs.declared.journal.Entry.{Entry}
+use Rattle.ha_model.specs.declared.journal.Entry.TheVariants.{Boot, Line, Step}
+use Rattle.ha_model.specs.Commands.{ArePutFrom}
+use Rattle.ha_model.specs.Words.{Text}
+use Rattle.ha_status.specs.Files.{Files}
+use Rattle.ha_worker.specs.Courses.{Course, SourceState, cmds_by, most_bytes}
+
+-- the fact holds of each member, and of one of them
+abbrev pub Each : {X : Type 0} → (X → Type 0) → List X → Type 0
+Each P [] = Unit {0}
+Each P (x ∷ xs) = P x × Each P xs
+
+abbrev pub OneOf : {X : Type 0} → (X → Type 0) → List X → Type 0
+OneOf P [] = ⊥
+OneOf P (x ∷ xs) = P x ⊎ OneOf P xs
+
+-- what became of one source, and those of its commands that were not put
+pub record Feed : Type 0 where
+  pub course : Course
+  pub unput : List Cmd
+
+-- the bytes that were read of a file: all of it at its end, its first bytes while it goes on and after a failure, and as many as it may give where it has more
+abbrev pub IsReadOf : Course → Text → Text → Type 0
+IsReadOf Course.Goes bytes file = (rest : Text) × (file ≡ bytes ++ rest)
+IsReadOf Course.Ends bytes file = file ≡ bytes
+IsReadOf Course.Fails bytes file = (rest : Text) × (file ≡ bytes ++ rest)
+IsReadOf Course.Exceeds bytes file = (length bytes ≡ most_bytes) × ((next : ℕ) × (rest : Text) × (file ≡ bytes ++ next ∷ rest))
+
+-- Of source k, which has this name, these bytes were read, within its bound; its lines in the journal are put from all their commands, in order,
+-- each once, but for the last ones, which are not put. At its end nothing is left in it; where a read failed, its count tells.
+pub record IsServed (files : Option Files) (journal : List Entry) (k : ℕ) (name : Text) (source : SourceState) (feed : Feed) : Type 0 where
+  pub bytes : Text
+  pub put : List Cmd
+  pub named : IfSome source.name (λ told. told ≡ name)
+  pub read : IfSome files (λ f. IsSomeAnd (f name) (IsReadOf feed.course bytes))
+  pub within : length bytes ≤ most_bytes
+  pub cmds_are : cmds_by feed.course bytes ≡ put ++ feed.unput
+  pub puts : ArePutFrom k journal put
+  pub failed : feed.course ≡ Course.Fails → 0 < source.faults
+  pub left : feed.course ≡ Course.Ends → IfSome source.left (λ left. left ≡ [])
+
+-- so of each source, by its name, from source k on
+abbrev pub AreServed : Option Files → List Entry → ℕ → List Text → List SourceState → List Feed → Type 0
+AreServed files journal k [] [] [] = Unit {0}
+AreServed files journal k (name ∷ names) (source ∷ sources) (feed ∷ feeds) =
+    IsServed files journal k name source feed × AreServed files journal (suc k) names sources feeds
+AreServed files journal k names sources feeds = ⊥
+
+-- each entry is of one of the first n sources, or of its worker
+abbrev pub IsOf : ℕ → Entry → Type 0
+IsOf n (Boot text config stored start zone) = Unit {0}
+IsOf n (Line k number cmd) = k < n
+IsOf n (Step k serial branch item) = k < n
+
+-- ---- how the sources ended
+
+-- all its commands are put, and it is through
+pub record IsThrough (feed : Feed) : Type 0 where
+  pub all : feed.unput ≡ []
+  pub over : feed.course ≢ Course.Goes
+
+abbrev pub IsEnded : Feed → Type 0
+IsEnded feed = feed.course ≡ Course.Ends
+
+-- the first source that did not come to its end is source k, and this became of it
+abbrev pub IsFirst : Course → ℕ → List Feed → Type 0
+IsFirst course k [] = ⊥
+IsFirst course zero (feed ∷ feeds) = feed.course ≡ course
+IsFirst course (suc k) (feed ∷ feeds) = IsEnded feed × IsFirst course k feeds
+
+-- a command of one of them is not put
+abbrev pub OwesLine : List Feed → Type 0
+OwesLine feeds = OneOf (λ (feed : Feed). 0 < length feed.unput) feeds
+
+-- the sources that were opened are those of the first names, in order
+abbrev pub AreOpened : List Text → List SourceState → Type 0
+AreOpened names [] = Unit {0}
+AreOpened [] (source ∷ sources) = ⊥
+AreOpened (name ∷ names) (source ∷ sources) = IfSome source.name (λ told. told ≡ name) × AreOpened names sources

@@ -1,0 +1,74 @@
+-- What stands at each status of a run.
+use Rattle.std.specs.Prelude.{ℕ, ◌≡◌, ◌⊎◌, true, false, List, [], length, Option, Some, None}
+use Rattle.ha_model.specs.declared.journal.Entry.{Entry}
+use Rattle.ha_model.specs.Lawful.{Lawful, is_quiet}
+use Rattle.ha_model.specs.Records.{Records}
+use Rattle.ha_model.specs.Words.{Text}
+use Rattle.ha_status.specs.declared.status.Status.{Status}
+use Rattle.ha_status.specs.Files.{Files}
+use Rattle.ha_worker.specs.Courses.{Course, SourceState}
+use Rattle.ha_run.specs.Served.{AreOpened, AreServed, Each, Feed, IsEnded, IsFirst, IsOf, IsThrough, OwesLine}
+
+-- what a run leaves of its journal and its sources; the names are those of its words, and the files those of its place, where they are told
+pub record Scene : Type 0 where
+  pub files : Option Files
+  pub names : List Text
+  pub journal : List Entry
+  pub records : Records
+  pub sources : List SourceState
+
+-- the journal begins as it must
+module _ (Begins : List Entry → Type 0) where
+  -- The journal is lawful with its records, and each entry is of a source that was named. The lines of each source are put from the commands of
+  -- the bytes that were read of it.
+  pub record Ran (s : Scene) (feeds : List Feed) : Type 0 where
+    pub begins : Begins s.journal
+    pub lawful : Lawful s.journal s.records
+    pub named : Each (IsOf (length s.names)) s.journal
+    pub served : AreServed s.files s.journal 0 s.names s.sources feeds
+
+  -- all sources are through, and no run can go on
+  pub record RanThrough (s : Scene) (feeds : List Feed) : Type 0 where
+    pub ran : Ran s feeds
+    pub through : Each IsThrough feeds
+    pub quiet : is_quiet s.records s.journal ≡ true
+
+  -- the journal is full, and another entry was due: a line, that a source was lost or is too long, or a step
+  pub record RanFull (s : Scene) : Type 0 where
+    pub feeds : List Feed
+    pub ran : Ran s feeds
+    pub full : length s.journal ≡ 1_048_576
+    pub due : (is_quiet s.records s.journal ≡ false) ⊎ OwesLine feeds
+
+  -- the run was cut: all is as far as it came
+  pub record RanSome (s : Scene) : Type 0 where
+    pub feeds : List Feed
+    pub ran : Ran s feeds
+
+-- nothing was booted; the sources that were opened are the first ones
+pub record RanNothing (s : Scene) : Type 0 where
+  pub no_entry : s.journal ≡ []
+  pub no_record : s.records ≡ []
+  pub opened : AreOpened s.names s.sources
+
+-- nothing was booted, and the source of the configuration alone is there
+pub record NotRead (s : Scene) : Type 0 where
+  pub no_entry : s.journal ≡ []
+  pub no_record : s.records ≡ []
+  pub one : length s.sources ≡ 1
+
+-- What stands at each status, where all that is due was written of the journal, all but a part of what its last entry gives, or nothing.
+module _ (Begins : List Entry → Type 0) (s : Scene) (AllWritten SomeWritten NoneWritten : Type 0) where
+  abbrev pub StandsAt : Status → Type 0
+  StandsAt Status.Ok = AllWritten × ((feeds : List Feed) × RanThrough Begins s feeds × Each IsEnded feeds)
+  StandsAt Status.Usage = ⊥
+  StandsAt (Status.ConfigRefused line code) = NoneWritten × RanNothing s
+  StandsAt (Status.OpenFault name) = NoneWritten × RanNothing s
+  StandsAt (Status.ReadFault None) = NoneWritten × NotRead s
+  StandsAt (Status.ReadFault (Some k)) = AllWritten × ((feeds : List Feed) × RanThrough Begins s feeds × IsFirst Course.Fails k feeds)
+  StandsAt (Status.WriteFault zero) = SomeWritten × RanSome Begins s
+  StandsAt Status.KeepFault = (NoneWritten × RanNothing s) ⊎ (SomeWritten × RanSome Begins s)
+  StandsAt Status.JournalFull = AllWritten × RanFull Begins s
+  StandsAt (Status.SourceTooLong k) = AllWritten × ((feeds : List Feed) × RanThrough Begins s feeds × IsFirst Course.Exceeds k feeds)
+  StandsAt (Status.StoreRefused code) = NoneWritten × RanNothing s
+  StandsAt Status.Memory = (NoneWritten × (RanNothing s ⊎ NotRead s)) ⊎ (SomeWritten × RanSome Begins s)
