@@ -3,3 +3,4 @@ pub mod SoundActions
 pub mod SoundCalls
 pub mod SoundForms
 pub mod SoundKinds
+pub mod SoundParts

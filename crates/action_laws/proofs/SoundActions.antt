@@ -1,21 +1,15 @@
 -- Actions that are read of a sound tree are sound.
-use Rattle.std.proofs.Common.{◌≡◌, ◌∙◌, ◌<◌, ◌+◌, ap, refl, sym, subst, ℕ, Bool, true, false, List, [], ◌∷◌, ◌++◌, map, length, Option, Some, None, Ok, arith, length-append}
-use Rattle.std.specs.Prelude.{◌&&◌, if◌then◌else◌, option_map, unwrap_or}
+use Rattle.std.proofs.Common.{◌≡◌, ◌∙◌, ◌<◌, refl, sym, subst, ℕ, Bool, true, List, [], ◌∷◌, ◌++◌, map, length, Option, Some, None, Ok, arith}
+use Rattle.std.specs.Prelude.{◌&&◌, option_map, unwrap_or}
 use Rattle.std.specs.List.{find}
 use Rattle.std.proofs.lemmas.List.{length-map}
 use Rattle.ha_model.specs.declared.config.Action.{Action}
-use Rattle.ha_model.specs.declared.config.ActionKind.{ActionKind}
 use Rattle.ha_model.specs.declared.config.ActionKind.TheVariants as does
-use Rattle.ha_model.specs.declared.config.Condition.{Condition}
 use Rattle.ha_model.specs.declared.config.Condition.TheVariants as tests
-use Rattle.ha_model.specs.declared.config.Condition.TheOpen.{Condition-F}
-use Rattle.ha_model.specs.declared.config.Condition.TheFolds.{fold-roll-Condition}
 use Rattle.ha_model.specs.declared.config.Form.{Form}
 use Rattle.ha_model.specs.declared.config.RepeatKind.{RepeatKind}
-use Rattle.ha_model.specs.declared.config.SpanForm.{SpanForm}
-use Rattle.ha_model.specs.declared.config.Trigger.{Trigger}
 use Rattle.ha_model.specs.declared.template.Template.{Template}
-use Rattle.ha_model.specs.Sound.{all_short, are_sound_actions, are_sound_conditions, are_sound_fields, are_sound_triggers, if_there, is_sound_action, is_sound_condition, is_sound_form, is_sound_repeat, is_sound_span, is_sound_template, sound_condition_step}
+use Rattle.ha_model.specs.Sound.{all_short, are_sound_actions, are_sound_conditions, is_sound_action, is_sound_form, is_sound_repeat}
 use Rattle.ha_model.specs.Words.{Text}
 use Rattle.yaml_scan.specs.declared.fault.Code.TheVariants as code
 use Rattle.yaml_tree.specs.declared.node.Node.{Node}
@@ -34,12 +28,12 @@ use Rattle.conf_cond.specs.Conditions.{condition_map}
 use Rattle.conf_script.specs.declared.name.ActionName.{ActionName}
 use Rattle.conf_script.specs.declared.name.RepeatName.{RepeatName}
 use Rattle.conf_script.specs.Actions as a
-use Rattle.conf_script.specs.Actions.{Chosen, Inside, Means, Turns, means_step}
+use Rattle.conf_script.specs.Actions.{Chosen, Inside, Means, means_step}
 use Rattle.conf_script.specs.Calls.{or_none, service, target, targets}
 use Rattle.conf_script.specs.Forms.{digits, fields, span_form}
 use Rattle.conf_laws.proofs.Down.{AreSoundPairs, EachInside, IsSoundPair, IsSoundShape, down, found_each, most, sound_inside}
-use Rattle.conf_laws.proofs.Joined.{all_passed, both_lists, pair}
-use Rattle.conf_laws.proofs.Parts.{AllOf, Anything, Passes, Reads, Two, all_items, alone_of, anything, either_way, field_sound, joined, kept_items, made_of, of_get, of_need, of_wanted, there, weaker}
+use Rattle.conf_laws.proofs.Joined.{pair}
+use Rattle.conf_laws.proofs.Parts.{Anything, Passes, Reads, Two, all_items, alone_of, anything, either_way, field_sound, joined, kept_items, made_of, of_get, of_need, of_wanted}
 use Rattle.conf_laws.proofs.Conditions.{condition_map_sound, conditions_sound}
 use Rattle.conf_laws.proofs.Templates.{sound_template}
 use Rattle.conf_laws.proofs.Triggers.{triggers_sound}
@@ -48,122 +42,8 @@ use Rattle.action_laws.proofs.SoundCalls as calls
 use Rattle.action_laws.proofs.SoundCalls.{FewTargets}
 use Rattle.action_laws.proofs.SoundForms as forms
 use Rattle.action_laws.proofs.SoundKinds as kinds
-use Rattle.action_laws.proofs.SoundKinds.{are_sound_turns, is_sound_option, sound_kind}
-
-abbrev SoundTemplate : Template → Type 0
-SoundTemplate = Passes is_sound_template
-
-abbrev SoundSpan : SpanForm → Type 0
-SoundSpan = Passes is_sound_span
-
-abbrev SoundFields : List (Text × Form) → Type 0
-SoundFields = Passes are_sound_fields
-
-abbrev SoundTests : List Condition → Type 0
-SoundTests = Passes are_sound_conditions
-
-abbrev SoundTriggers : List Trigger → Type 0
-SoundTriggers = Passes are_sound_triggers
-
-abbrev SoundCondition : Condition → Type 0
-SoundCondition = Passes is_sound_condition
-
-abbrev SoundAction : Action → Type 0
-SoundAction = Passes is_sound_action
-
-abbrev SoundActions : List Action → Type 0
-SoundActions = Passes are_sound_actions
-
-abbrev SoundKind : ActionKind → Type 0
-SoundKind = Passes sound_kind
-
-abbrev SoundOption : Chosen → Type 0
-SoundOption = Passes is_sound_option
-
-abbrev SoundTurns : Turns → Type 0
-SoundTurns = Passes are_sound_turns
-
-abbrev SoundRepeat : RepeatKind → Type 0
-SoundRepeat = Passes is_sound_repeat
-
--- a list of few members that are all sound
-abbrev Short : {X : Type 0} → (X → Bool) → List X → Type 0
-Short test = Passes (all_short test)
-
-few_short : {X : Type 0} (test : X → Bool) (m : ℕ) (r : Read (List X)) → m < most → Holds (AllOf test m) r → Holds (Short test) r
-few_short test m r few h = weaker (AllOf test m) (Short test) r (λ xs k. all_passed test xs k.0 (omega (arith, k.1, few))) h
-
-lone_short : {X : Type 0} (test : X → Bool) (x : X) → test x ≡ true → all_short test (x ∷ []) ≡ true
-lone_short test x h = all_passed test (x ∷ []) (pair (test x) true h refl) (omega arith)
-
--- Each role of a node gives what is sound.
-pub record AllSound (m : Means) : Type 0 where
-  pub one : Holds (IfThere SoundAction) m.one
-  pub all : Holds SoundActions m.all
-  pub branch : Holds (IfThere SoundActions) m.branch
-  pub branches : Holds (Short are_sound_actions) m.branches
-  pub chosen : Holds SoundOption m.chosen
-  pub choices : (line : ℕ) → Holds (Short is_sound_option) (m.choices line)
-  pub turns : (line : ℕ) → Holds SoundTurns (m.turns line)
-
--- ---- fields in which actions stand
-
-abbrev FieldSound : Option (ℕ × Means) → Type 0
-FieldSound o = IfThere (λ x. AllSound x.1) o
-
-abbrev RoleSound : {A : Type 0} → (A → Type 0) → (ℕ → Means → Read A) → Type 0
-RoleSound P read = (line : ℕ) (m : Means) → AllSound m → Holds P (read line m)
-
-need_role : {A : Type 0} (P : A → Type 0) (read : ℕ → Means → Read A) → RoleSound P read → (line : ℕ) (o : Option (ℕ × Means)) → FieldSound o → Holds P (a.need_in read line o)
-need_role P read role line None h = tt
-need_role P read role line (Some x) h = role x.0 x.1 h
-
-may_actions : (o : Option (ℕ × Means)) → FieldSound o → Holds SoundActions (a.may_in a.all_of o)
-may_actions None h = refl
-may_actions (Some x) h = h.all
-
-all_role : RoleSound SoundActions a.all_of
-all_role line m h = h.all
-
--- ---- parts that are put together
-
-joined_sound : (xs ys : List Template) → FewTargets xs → FewTargets ys → all_short is_sound_template (xs ++ ys) ≡ true
-joined_sound xs ys h k = all_passed is_sound_template (xs ++ ys) (both_lists is_sound_template xs ys h.0 k.0) (omega (arith, h.1, k.1, length-append xs ys))
-
-fields_or_none : (o : Option (List (Text × Form))) → IfThere SoundFields o → SoundFields (or_none o)
-fields_or_none (Some ps) h = h
-fields_or_none None h = refl
-
-call_made : (service' : Template) (first second : Option (List Template)) (given : Option (List (Text × Form)))
-    → SoundTemplate service' → IfThere FewTargets first → IfThere FewTargets second → IfThere SoundFields given
-    → SoundKind (does.Call service' (or_none first ++ or_none second) (or_none given))
-call_made service' first second given s f g d =
-    let both' = or_none first ++ or_none second in
-    kinds.call_sound service' both' (or_none given)
-    ∙ pair (is_sound_template service' && all_short is_sound_template both') (are_sound_fields (or_none given))
-    (pair (is_sound_template service') (all_short is_sound_template both') s
-    (joined_sound (or_none first) (or_none second) (calls.few_or_none first f) (calls.few_or_none second g)))
-    (fields_or_none given d)
-
-wait_made : (test : Template) (timeout : Option SpanForm) (goes_on : Bool) → SoundTemplate test → IfThere SoundSpan timeout → SoundKind (does.WaitUntil test timeout goes_on)
-wait_made test timeout goes_on h k =
-    kinds.wait_sound test timeout goes_on ∙ pair (is_sound_template test) (if_there is_sound_span timeout) h (there is_sound_span timeout k)
-
-wait_for_made : (triggers : List Trigger) (timeout : Option SpanForm) (goes_on : Bool) → SoundTriggers triggers → IfThere SoundSpan timeout
-    → SoundKind (does.WaitFor triggers timeout goes_on)
-wait_for_made triggers timeout goes_on h k =
-    kinds.wait_for_sound triggers timeout goes_on ∙ pair (are_sound_triggers triggers) (if_there is_sound_span timeout) h (there is_sound_span timeout k)
-
-enabled_sound : (b : Bool) (k : ActionKind) → SoundKind k → IfThere SoundAction (if b then Some (a.does_of k) else None)
-enabled_sound true k h = kinds.by_kind k ∙ h
-enabled_sound false k h = tt
-
-tested_sound : (o : Option Condition) → IfThere SoundCondition o → IfThere SoundAction (a.tested o)
-tested_sound (Some c) h = kinds.by_kind (does.Test c) ∙ kinds.test_sound c ∙ h
-tested_sound None h = tt
-
-template_condition : (t : Template) → is_sound_condition (tests.Template t) ≡ is_sound_template t
-template_condition t = ap is_sound_condition (sym (tests.rolls-Template t)) ∙ fold-roll-Condition Bool sound_condition_step (Condition-F.Template t)
+use Rattle.action_laws.proofs.SoundKinds.{is_sound_option}
+use Rattle.action_laws.proofs.SoundParts.{SoundTemplate, SoundSpan, SoundFields, SoundTests, SoundTriggers, SoundCondition, SoundAction, SoundActions, SoundKind, SoundOption, SoundTurns, SoundRepeat, Short, few_short, lone_short, AllSound, FieldSound, need_role, may_actions, all_role, fields_or_none, call_made, wait_made, wait_for_made, enabled_sound, tested_sound, template_condition}
 
 -- ---- what is known of the kinds of values
 

@@ -2,6 +2,7 @@
 #![tactic(auto)]
 
 mod boots;
+mod engine;
 mod files;
 mod outcome;
 mod prepare;

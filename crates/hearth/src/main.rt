@@ -1,10 +1,14 @@
-//! The program `hearth`: its words, the system's files and standard streams, and the status that the run ends with.
+//! The program `hearth`: its words, the system's files and standard streams, the file of its store, and the status that the run ends with.
 #![tactic(auto)]
 
-use ha_io::{DirPlace, FileSink, MemKeeper, OpenGate};
+use ha_engine::Engine;
+use ha_io::{DirPlace, FileKeeper, FileSink, OpenGate};
 use ha_top::hearth;
 use std::process::ExitCode;
 use std::{env, io};
+
+/// The file that keeps the switches, in the folder that the program runs in.
+const STORE: &str = "hearth_store.json";
 
 fn main(rt: HostRuntime) -> io::Result<ExitCode> {
     let alloc = rt.alloc();
@@ -12,8 +16,8 @@ fn main(rt: HostRuntime) -> io::Result<ExitCode> {
     let mut place = DirPlace::make(rt.clone()?, rt.stdin());
     let out = FileSink::output(rt.stdout());
     let err = FileSink::errors(rt.stderr());
-    let keep = MemKeeper::make(alloc, None, Vec::new(alloc));
-    let outcome = hearth(
+    let keep = FileKeeper::make(alloc, rt.clone()?, STORE)?;
+    let outcome = hearth::<_, Engine, _, _, _>(
         &rt,
         alloc,
         words.as_slice(),

@@ -1,0 +1,94 @@
+-- What is left when all goes.
+use Rattle.std.proofs.Common.{◌≡◌, ℕ, zero, suc, ◌+◌, ◌<◌, ◌≤◌, List, [], ◌∷◌, ◌++◌, length, drop, drop-cons, get_or, set, replicate, Bool, true, false, refl, sym, ap, subst, ◌∙◌, rules, arith}
+use Rattle.std.proofs.lemmas.List.{length-replicate, set_at}
+use Rattle.std.specs.Prelude.{Option, Some, None, not, nat_eq, if◌then◌else◌}
+use Rattle.timer_queue.specs.Timers.{Timer}
+use Rattle.ha_model.specs.declared.journal.Record.{Record}
+use Rattle.ha_model.specs.Journal.{Journal}
+use Rattle.ha_model.specs.Records.{Records}
+use Rattle.ha_model.specs.Scripts.{Branch}
+use Rattle.ha_past.specs.Firings.{Owner, without_owner}
+use Rattle.ha_ready.specs.ReadyPairs.{pairs_from}
+use Rattle.script_step.specs.declared.frames.Frames.{Frames}
+use Rattle.wait_set.specs.declared.asked.Asked.{Asked}
+use Rattle.wait_set.specs.Asked.{WaitTable as Waits}
+use Rattle.engine_parts.specs.Kept.{RunsKept, SlotBut, everyone, left_branches}
+use Rattle.engine_parts.specs.Owners.{AreAscending, AreBelow}
+use Rattle.engine_parts.specs.Runs.{AreHeld, SlotsWith}
+use Rattle.engine_parts.proofs.DetachLemmas.{ascend-lower, ascend-without}
+
+-- ---- slots
+
+abbrev empty : Option Frames
+empty = None
+
+nones-more : (i : ℕ) (os : List (Option Frames)) → replicate i empty ++ (None ∷ os) ≡ replicate (i + 1) empty ++ os
+nones-more zero os = refl
+nones-more (suc i) os = ap (λ l. None ∷ l) (nones-more i os) ∙ (let e : suc (i + 1) ≡ suc i + 1 = omega arith in ap (λ n. replicate n empty ++ os) e)
+
+-- LAW: one slot more is emptied
+pub slot-none : (i : ℕ) (xs : List (Option Frames)) → i < length xs → set (replicate i empty ++ drop i xs) i empty ≡ replicate (i + 1) empty ++ drop (i + 1) xs
+slot-none i xs lt =
+    (let e : suc i ≡ i + 1 = omega arith in
+    let cut : drop i xs ≡ get_or xs i empty ∷ drop (i + 1) xs = drop-cons xs i empty lt ∙ ap (λ m. get_or xs i empty ∷ drop m xs) e in
+    ap (λ l. set (replicate i empty ++ l) i empty) cut
+    ∙ set_at (replicate i empty) (get_or xs i empty) (drop (i + 1) xs) empty i (length-replicate i empty) ∙ nones-more i (drop (i + 1) xs))
+
+drop-all : {X : Type 0} (i : ℕ) (xs : List X) → length xs ≤ i → drop i xs ≡ []
+drop-all zero [] le = refl
+drop-all zero (x ∷ xs) le = absurd (omega (arith, le))
+drop-all (suc i) [] le = refl
+drop-all (suc i) (x ∷ xs) le = drop-all i xs (omega (arith, le))
+
+append-none : {X : Type 0} (xs : List X) → xs ++ [] ≡ xs
+append-none [] = refl
+append-none (x ∷ xs) = ap (λ l. x ∷ l) (append-none xs)
+
+-- LAW: all are emptied
+pub slots-none : (i : ℕ) (xs : List (Option Frames)) → i ≤ length xs → length xs ≤ i → replicate i empty ++ drop i xs ≡ replicate (length xs) empty
+slots-none i xs lo hi =
+    (let e : i ≡ length xs = omega (arith, lo, hi) in
+    ap (λ l. replicate i empty ++ l) (drop-all i xs hi) ∙ append-none (replicate i empty) ∙ ap (λ n. replicate n empty) e)
+
+-- ---- owners
+
+-- LAW: without the owner of a number, the others come later
+pub ascend-next : (n : ℕ) (os : List Owner) → AreAscending n os → AreAscending (n + 1) (without_owner n os)
+ascend-next n [] h = tt
+ascend-next n (o ∷ os) h = by (nat_eq o.owner n) refl (ascend-without n (suc o.owner) os h.1)
+  where
+    at : (a b : ℕ) → nat_eq a b ≡ true → a ≡ b
+    at a b e = search (rules, e)
+
+    above : (a b : ℕ) → b ≤ a → nat_eq a b ≡ false → b + 1 ≤ a
+    above a b le e = search (rules, le, e)
+
+    by : (b : Bool) → nat_eq o.owner n ≡ b → AreAscending (suc o.owner) (without_owner n os) → AreAscending (n + 1) (if not b then o ∷ without_owner n os else without_owner n os)
+    by true e rest = ascend-lower (n + 1) (suc o.owner) (without_owner n os) (omega (arith, at o.owner n e)) rest
+    by false e rest = (above o.owner n h.0 e, rest)
+
+-- LAW: at last there is none
+pub none-left : (n m : ℕ) (os : List Owner) → m ≤ n → AreAscending n os → AreBelow m os → os ≡ []
+none-left n m [] le up below = refl
+none-left n m (o ∷ os) le up below = absurd (omega (arith, le, up.0, below.0))
+
+-- ---- runs
+
+slots-gone : (P : Record → Option Frames → Type 0) (k : Journal) (delays : List Timer) (w : Waits) (rs : Records) (os : List (Option Frames)) → SlotsWith P rs os → SlotsWith (SlotBut everyone k delays w) rs (replicate (length os) None)
+slots-gone P k delays w [] [] h = tt
+slots-gone P k delays w [] (o ∷ os) h = absurd h
+slots-gone P k delays w (r ∷ rs) [] h = absurd h
+slots-gone P k delays w (r ∷ rs) (o ∷ os) h = (refl, slots-gone P k delays w rs os h.1)
+
+pairs-gone : (n m : ℕ) (k : Journal) (rs : Records) → pairs_from n m (left_branches everyone rs k) ≡ []
+pairs-gone n zero k rs = refl
+pairs-gone n (suc m) k rs = pairs-gone (suc n) m k rs
+
+-- LAW: everybody went
+pub all-gone : (P : Record → Option Frames → Type 0) (k : Journal) (rs : Records) (delays : List Timer) (w : Waits) (old os : List (Option Frames)) (pairs : List (ℕ × Branch)) → SlotsWith P rs old
+    → os ≡ replicate (length old) None → pairs ≡ [] → w.asks ≡ [] → RunsKept everyone k rs delays w os pairs
+all-gone P k rs delays w old os pairs h slots none asks = record {
+  slots = subst (λ (l : List (Option Frames)). SlotsWith (SlotBut everyone k delays w) rs l) (sym slots) (slots-gone P k delays w rs old h);
+  pairs_are = none ∙ sym (pairs-gone 0 (length rs) k rs);
+  held = subst (λ (l : List Asked). AreHeld k os l) (sym asks) tt;
+}

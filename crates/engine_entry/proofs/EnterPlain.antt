@@ -1,0 +1,204 @@
+-- What is known once a line that changes no switch has made its own changes.
+use Rattle.std.proofs.Common.{◌≡◌, ℕ, suc, ◌+◌, ◌<◌, ◌≤◌, ◌≢◌, List, [], ◌∷◌, length, Bool, true, false, refl, sym, ap, subst, ◌∙◌, rules, arith}
+use Rattle.std.specs.Prelude.{Option, Some, None, IsTrue, IsSome, max, codes, not, ◌&&◌, ◌||◌, MatchOption, unwrap_or}
+use Rattle.std.specs.Option.{option_map_or}
+use Rattle.ha_value.specs.declared.value.EntityId.{EntityId}
+use Rattle.ha_clock.specs.Zone as clock
+use Rattle.ha_clock.specs.Local.{last_moment}
+use Rattle.ha_model.specs.declared.journal.Cmd.{Cmd}
+use Rattle.ha_model.specs.declared.journal.Entry.{Entry}
+use Rattle.ha_model.specs.declared.journal.Entry.TheVariants.{Line}
+use Rattle.ha_model.specs.Entries.{Turning, turning, report_in, gone_in, moment_in, is_restart}
+use Rattle.ha_model.specs.Entries.{IsPlain}
+use Rattle.ha_model.specs.Equal.{same_flag}
+use Rattle.ha_model.specs.Words.{same, same_entity}
+use Rattle.ha_model.specs.Commands.{IsFair}
+use Rattle.ha_model.specs.Journal.{Journal, HasEntry, IsJournal, IsBoot, automations, zone_of, now, brings}
+use Rattle.ha_model.specs.Switches.{is_on, opens_segment}
+use Rattle.ha_model.specs.States.{states, automation_named}
+use Rattle.ha_model.specs.Records.{Records}
+use Rattle.ha_model.specs.RecordSteps.{more}
+use Rattle.ha_model.proofs.LawfulLaws.{has-entry, right-more}
+use Rattle.ha_model.proofs.EqualLemmas.{same-sound}
+use Rattle.ha_model.proofs.SinceLaws.{on-left}
+use Rattle.ha_model.proofs.StateLemmas.{now-snoc}
+use Rattle.ha_model.proofs.RecordLaws.{length-more}
+use Rattle.state_table.specs.Anew.{is_automation, sets_anew, turns}
+use Rattle.state_table.specs.Table.{at, StandsFor}
+use Rattle.state_table.specs.declared.table.StateTable.{StateTable}
+use Rattle.state_table.proofs.StateLaws.{states-other}
+use Rattle.switch_book.specs.Book as switches
+use Rattle.trig_set.specs.Next.{AreListed, Listed}
+use Rattle.engine_parts.specs.declared.parts.Parts.{Parts}
+use Rattle.ha_model.specs.Sights.{changes_switch}
+use Rattle.engine_parts.specs.Kept.{AreSound, Owned}
+use Rattle.engine_parts.specs.Stages.{Pushed, Entered, IsOther, Untold}
+use Rattle.engine_entry.proofs.EnterLemmas.{plain-leaves, plain-goes-on, zone-more, sound-more, switches-left, changed-left, owned-left}
+use Rattle.engine_parts.proofs.KeyLemmas.{keys_more}
+
+-- LAW: an entity that a fair line reports is no automation
+pub no-automation : (e : EntityId) → e.domain ≢ codes "automation" → is_automation e ≡ false
+no-automation e h = false-of (is_automation e) (λ is. h (same-sound e.domain (codes "automation") is))
+  where
+    false-of : (b : Bool) → (b ≡ true → ⊥) → b ≡ false
+    false-of true g = absurd (g refl)
+    false-of false g = refl
+
+module _ (k : Journal) (rs : Records) (p : Parts) (h : Pushed k rs p) (plain : IsPlain h.cmd) where
+  some : HasEntry h.j
+  some = has-entry h.j h.right.journal
+
+  -- LAW: with the new states and Now, all but the triggers and the waits stands for the journal with the line
+  pub plain-entered : (table : StateTable) (now' : ℕ) (before : Listed) → StandsFor table (more h.j (Line h.source h.number h.cmd)) → now' ≡ now (more h.j (Line h.source h.number h.cmd)) → now' ≤ last_moment
+      → AreListed h.j (Line h.source h.number h.cmd) before → Entered k (record p { at = now'; states = table; changed = false }) before
+  plain-entered table now' before stands is early listed =
+      let y : Entry = Line h.source h.number h.cmd in
+      let longer : more h.j y ≡ k = sym h.journal_is in
+      let leaves = plain-leaves h.source h.number h.cmd plain in
+      let goes_on = plain-goes-on h.source h.number h.cmd plain in
+      let old = h.kept.going in
+      record {
+        sees = record {
+          looks = record {
+            now_is = is ∙ ap now longer;
+            in_time = early;
+            zone_is = old.sees.looks.zone_is ∙ sym (zone-more h.j y some) ∙ ap zone_of longer;
+            zone_read = subst (λ t. IsSome (clock.zone_of t)) (sym (zone-more h.j y some) ∙ ap zone_of longer) old.sees.looks.zone_read;
+            states_stand = subst (StandsFor table) longer stands;
+          };
+          switches_stand = subst (switches.StandsFor p.switches) longer (switches-left h.j y some leaves goes_on p.switches old.sees.switches_stand);
+          changed_is = sym (changed-left h.j y some leaves goes_on) ∙ ap (λ (i : Journal). changes_switch i) longer;
+          sound = subst AreSound longer (sound-more h.j y some old.sees.sound);
+        };
+        untold = record {
+          j = h.j;
+          x = y;
+          journal_is = h.journal_is;
+          journal = subst IsJournal longer (right-more h.j rs y h.right (λ boot. boot) h.fair).journal;
+          some = some;
+          triggers_stand = old.triggers_stand;
+          waits_stand = old.waits_stand;
+          owned = subst (λ (i : Journal). Owned i p.triggers p.waits) longer (owned-left h.j y some leaves goes_on p.triggers p.waits old.owned);
+          listed = λ earlier. listed;
+        };
+        keys_early = keys_more (length h.j) (length k) p.delays (omega (arith, length-more h.j y, ap length h.journal_is)) old.keys_early;
+      }
+
+  -- an automation's switch is not set anew
+  not-anew : (e : EntityId) → sets_anew h.j (Line h.source h.number h.cmd) e ≡ false
+  not-anew e = by (is_automation e) (automation_named (automations (more h.j (Line h.source h.number h.cmd))) e.object)
+    where
+      flag-self : (b : Bool) → not (same_flag b b) ≡ false
+      flag-self true = refl
+      flag-self false = refl
+
+      one : (a : ℕ) → turns h.j (Line h.source h.number h.cmd) a ≡ false
+      one a =
+          (λ i. plain-goes-on h.source h.number h.cmd plain i || not (same_flag (is_on h.j a) (on-left h.j (Line h.source h.number h.cmd) a some (plain-leaves h.source h.number h.cmd plain) i)))
+          ∙ flag-self (is_on h.j a)
+
+      by : (b : Bool) (o : Option ℕ) → (b && option_map_or (turns h.j (Line h.source h.number h.cmd)) o false) ≡ false
+      by false o = refl
+      by true None = refl
+      by true (Some a) = one a
+
+  module _ (none : report_in (Line h.source h.number h.cmd) ≡ None) (kept : gone_in (Line h.source h.number h.cmd) ≡ None) where
+    same-states : (e : EntityId) → states (more h.j (Line h.source h.number h.cmd)) e ≡ states h.j e
+    same-states e = states-other h.j e (Line h.source h.number h.cmd) none kept (no-restart h.cmd plain) (not-anew e)
+      where
+        no-restart : (cmd : Cmd) → IsPlain cmd → is_restart (Line h.source h.number cmd) ≡ false
+        no-restart (Cmd.Report entity text attributes) g = refl
+        no-restart (Cmd.Gone entity) g = refl
+        no-restart (Cmd.Event kind pairs) g = refl
+        no-restart (Cmd.Moment at) g = refl
+        no-restart (Cmd.Switch name on stop) g = absurd g
+        no-restart (Cmd.Trigger name skip) g = refl
+        no-restart Cmd.Restart g = absurd g
+        no-restart (Cmd.Refused code) g = refl
+        no-restart Cmd.Lost g = refl
+        no-restart Cmd.TooLong g = refl
+
+    -- LAW: a line that reports nothing leaves the states, and nothing has to be listed
+    pub states-left : StandsFor p.states (more h.j (Line h.source h.number h.cmd))
+    states-left e = h.kept.going.sees.looks.states_stand e ∙ sym (same-states e)
+
+    pub nothing-listed : AreListed h.j (Line h.source h.number h.cmd) []
+    nothing-listed e = (same-states e, ap (λ r. option_map_or (λ q. same_entity q.entity e) r false) none)
+
+pub now-before : (k : Journal) (rs : Records) (p : Parts) (h : Pushed k rs p) → moment_in (Line h.source h.number h.cmd) ≡ None → p.at ≡ now (more h.j (Line h.source h.number h.cmd))
+now-before k rs p h none =
+    let y : Entry = Line h.source h.number h.cmd in
+    let zero' : brings y ≡ 0 = ap (λ o. unwrap_or o 0) none in
+    h.kept.going.sees.looks.now_is ∙ (let least : now h.j ≡ max (now h.j) 0 = omega arith in least) ∙ ap (max (now h.j)) (sym zero') ∙ sym (now-snoc h.j y)
+
+-- LAW: all but the triggers and the waits stands for the journal with a line that is this command
+pub entered-as : (k : Journal) (rs : Records) (p : Parts) (h : Pushed k rs p) (cmd : Cmd) → h.cmd ≡ cmd → IsPlain cmd → (table : StateTable) (now' : ℕ) (before : Listed)
+    → StandsFor table (more h.j (Line h.source h.number cmd)) → now' ≡ now (more h.j (Line h.source h.number cmd)) → now' ≤ last_moment → AreListed h.j (Line h.source h.number cmd) before
+    → Entered k (record p { at = now'; states = table; changed = false }) before
+entered-as k rs p h cmd e plain table now' before stands is early listed =
+    plain-entered k rs p h (subst IsPlain (sym e) plain) table now' before (subst (λ (c : Cmd). StandsFor table (more h.j (Line h.source h.number c))) (sym e) stands)
+    (is ∙ ap (λ (c : Cmd). now (more h.j (Line h.source h.number c))) (sym e)) early (subst (λ (c : Cmd). AreListed h.j (Line h.source h.number c) before) (sym e) listed)
+
+-- Now of a line that brings no moment
+pub now-as : (k : Journal) (rs : Records) (p : Parts) (h : Pushed k rs p) (cmd : Cmd) → h.cmd ≡ cmd → moment_in (Line h.source h.number cmd) ≡ None → p.at ≡ now (more h.j (Line h.source h.number cmd))
+now-as k rs p h cmd e none =
+    now-before k rs p h (ap (λ (c : Cmd). moment_in (Line h.source h.number c)) e ∙ none) ∙ ap (λ (c : Cmd). now (more h.j (Line h.source h.number c))) e
+
+pub fair-as : (k : Journal) (rs : Records) (p : Parts) (h : Pushed k rs p) (cmd : Cmd) → h.cmd ≡ cmd → IsFair h.j cmd
+fair-as k rs p h cmd e = subst (IsFair h.j) e h.fair
+
+-- LAW: a moment that is not over yet is Now
+pub moment-now : (k : Journal) (rs : Records) (p : Parts) (h : Pushed k rs p) (at now' : ℕ) → h.cmd ≡ Cmd.Moment at → now' ≡ max p.at at → (now' ≡ now (more h.j (Line h.source h.number (Cmd.Moment at)))) × (now' ≤ last_moment)
+moment-now k rs p h at now' e is =
+    let old = h.kept.going.sees.looks in
+    (is ∙ ap (λ n. max n at) old.now_is ∙ sym (now-snoc h.j (Line h.source h.number (Cmd.Moment at))), omega (arith, is, old.in_time, fair-as k rs p h (Cmd.Moment at) e))
+
+-- ---- commands that change neither states nor Now nor switches
+
+pub other-plain : (cmd : Cmd) → IsOther cmd → IsPlain cmd
+other-plain (Cmd.Report entity text attributes) h = absurd h
+other-plain (Cmd.Gone entity) h = absurd h
+other-plain (Cmd.Event kind pairs) h = tt
+other-plain (Cmd.Moment at) h = absurd h
+other-plain (Cmd.Switch name on stop) h = absurd h
+other-plain (Cmd.Trigger name skip) h = tt
+other-plain Cmd.Restart h = absurd h
+other-plain (Cmd.Refused code) h = tt
+other-plain Cmd.Lost h = tt
+other-plain Cmd.TooLong h = tt
+
+pub other-reports : (source number : ℕ) (cmd : Cmd) → IsOther cmd → report_in (Line source number cmd) ≡ None
+other-reports source number (Cmd.Report entity text attributes) h = absurd h
+other-reports source number (Cmd.Gone entity) h = absurd h
+other-reports source number (Cmd.Event kind pairs) h = refl
+other-reports source number (Cmd.Moment at) h = absurd h
+other-reports source number (Cmd.Switch name on stop) h = absurd h
+other-reports source number (Cmd.Trigger name skip) h = refl
+other-reports source number Cmd.Restart h = absurd h
+other-reports source number (Cmd.Refused code) h = refl
+other-reports source number Cmd.Lost h = refl
+other-reports source number Cmd.TooLong h = refl
+
+pub other-keeps : (source number : ℕ) (cmd : Cmd) → IsOther cmd → gone_in (Line source number cmd) ≡ None
+other-keeps source number (Cmd.Report entity text attributes) h = absurd h
+other-keeps source number (Cmd.Gone entity) h = absurd h
+other-keeps source number (Cmd.Event kind pairs) h = refl
+other-keeps source number (Cmd.Moment at) h = absurd h
+other-keeps source number (Cmd.Switch name on stop) h = absurd h
+other-keeps source number (Cmd.Trigger name skip) h = refl
+other-keeps source number Cmd.Restart h = absurd h
+other-keeps source number (Cmd.Refused code) h = refl
+other-keeps source number Cmd.Lost h = refl
+other-keeps source number Cmd.TooLong h = refl
+
+pub other-waits : (source number : ℕ) (cmd : Cmd) → IsOther cmd → moment_in (Line source number cmd) ≡ None
+other-waits source number (Cmd.Report entity text attributes) h = absurd h
+other-waits source number (Cmd.Gone entity) h = absurd h
+other-waits source number (Cmd.Event kind pairs) h = refl
+other-waits source number (Cmd.Moment at) h = absurd h
+other-waits source number (Cmd.Switch name on stop) h = absurd h
+other-waits source number (Cmd.Trigger name skip) h = refl
+other-waits source number Cmd.Restart h = absurd h
+other-waits source number (Cmd.Refused code) h = refl
+other-waits source number Cmd.Lost h = refl
+other-waits source number Cmd.TooLong h = refl

@@ -1,0 +1,134 @@
+-- The last target of each automation that a step switches.
+use Rattle.std.proofs.Common.{◌≡◌, ℕ, ◌<◌, List, [], ◌∷◌, ◌++◌, length, Bool, true, false, refl, sym, ap, subst, ◌∙◌, rules, arith}
+use Rattle.std.specs.Prelude.{Option, Some, None, not, nat_eq, nat_lt, unwrap_or, ◌&&◌, ◌||◌, if◌then◌else◌}
+use Rattle.std.specs.List.{list_any}
+use Rattle.ha_model.specs.declared.journal.Entry.{Entry}
+use Rattle.ha_model.specs.declared.journal.Entry.TheVariants.{Step}
+use Rattle.ha_model.specs.declared.journal.Item.{Item}
+use Rattle.ha_model.specs.Journal.{Journal, HasEntry, automations}
+use Rattle.ha_model.specs.RecordSteps.{more}
+use Rattle.ha_model.specs.Scripts.{Branch}
+use Rattle.ha_model.specs.Switches.{is_on, switched}
+use Rattle.ha_model.proofs.SwitchLemmas.{on-more}
+use Rattle.engine_entry.specs.Lasts.{AreLasts, EachLast, is_new, kept_with}
+use Rattle.engine_entry.specs.Turned.{AreOnce, AreSet, IsTurn, Target, is_target}
+
+eq-of : (a b : ℕ) → nat_eq a b ≡ true → a ≡ b
+eq-of a b e = search (rules, e)
+
+eq-self : (a : ℕ) → nat_eq a a ≡ true
+eq-self a = search rules
+
+less-of : (a b : ℕ) → a < b → nat_lt a b ≡ true
+less-of a b e = search (rules, e)
+
+below-of : (a b : ℕ) → nat_lt a b ≡ true → a < b
+below-of a b e = search (rules, e)
+
+both : (a b : Bool) → (a && b) ≡ true → (a ≡ true) × (b ≡ true)
+both true b h = (refl, h)
+both false b h = absurd (let bad : ◌≡◌ {A = Bool} false true = h in cc)
+
+not-true : (b : Bool) → not b ≡ true → b ≡ false
+not-true true h = absurd (let bad : ◌≡◌ {A = Bool} false true = h in cc)
+not-true false h = refl
+
+or-left : (a b : Bool) → (a || b) ≡ false → a ≡ false
+or-left true b h = absurd (let bad : ◌≡◌ {A = Bool} true false = h in cc)
+or-left false b h = refl
+
+or-right : (a b : Bool) → (a || b) ≡ false → b ≡ false
+or-right true b h = absurd (let bad : ◌≡◌ {A = Bool} true false = h in cc)
+or-right false b h = h
+
+or-false : (a b : Bool) → a ≡ false → b ≡ false → (a || b) ≡ false
+or-false a b p q = (λ i. p i || q i)
+
+-- the value that an earlier target leaves
+switched-some : (a : ℕ) (t : Target) (ts : List Target) (b : Bool) → switched a ts ≡ Some b → switched a (t ∷ ts) ≡ Some b
+switched-some a t ts b h = by (switched a ts) h refl
+  where
+    by : (o : Option Bool) → o ≡ Some b → switched a ts ≡ o → switched a (t ∷ ts) ≡ Some b
+    by None e f = absurd (let bad : ◌≡◌ {A = Option Bool} None (Some b) = e in cc)
+    by (Some v) e f = rw f e
+
+switched-none : (a : ℕ) (t : Target) (ts : List Target) → switched a ts ≡ None → switched a (t ∷ ts) ≡ (if nat_eq t.0 a then Some t.1 else None)
+switched-none a t ts h = rw h refl
+
+each-later : (n : ℕ) (t : Target) (ts kept : List Target) → EachLast n ts kept → EachLast n (t ∷ ts) kept
+each-later n t ts [] h = tt
+each-later n t ts (u ∷ us) h = (h.0, switched-some u.0 t ts u.1 h.1, each-later n t ts us h.2)
+
+each-snoc : (n : ℕ) (ts kept : List Target) (t : Target) → EachLast n ts kept → t.0 < n → switched t.0 ts ≡ Some t.1 → EachLast n ts (kept ++ (t ∷ []))
+each-snoc n ts [] t h lt e = (lt, e, tt)
+each-snoc n ts (u ∷ us) t h lt e = (h.0, h.1, each-snoc n ts us t h.2 lt e)
+
+target-snoc : (kept : List Target) (t : Target) (a : ℕ) → is_target (kept ++ (t ∷ [])) a ≡ (is_target kept a || nat_eq t.0 a)
+target-snoc [] t a = by (nat_eq t.0 a)
+  where
+    by : (b : Bool) → (b || false) ≡ b
+    by true = refl
+    by false = refl
+target-snoc (u ∷ us) t a = ap (λ b. nat_eq u.0 a || b) (target-snoc us t a) ∙ by (nat_eq u.0 a)
+  where
+    by : (b : Bool) → (b || (is_target us a || nat_eq t.0 a)) ≡ ((b || is_target us a) || nat_eq t.0 a)
+    by true = refl
+    by false = refl
+
+turned-eq : (a b : ℕ) → nat_eq a b ≡ false → nat_eq b a ≡ false
+turned-eq a b e = search (rules, e)
+
+once-snoc : (kept : List Target) (t : Target) → AreOnce kept → is_target kept t.0 ≡ false → AreOnce (kept ++ (t ∷ []))
+once-snoc [] t h off = (refl, tt)
+once-snoc (u ∷ us) t h off = (
+  target-snoc us t u.0 ∙ or-false (is_target us u.0) (nat_eq t.0 u.0) h.0 (turned-eq u.0 t.0 (or-left (nat_eq u.0 t.0) (is_target us t.0) off)),
+  once-snoc us t h.1 (or-right (nat_eq u.0 t.0) (is_target us t.0) off),
+)
+
+-- LAW: with one target more in front
+pub lasts-next : (n : ℕ) (t : Target) (ts kept kept' : List Target) → kept' ≡ kept_with n kept t → AreLasts n ts kept → AreLasts n (t ∷ ts) kept'
+lasts-next n t ts kept kept' is h = subst (AreLasts n (t ∷ ts)) (sym is) (by (is_new n kept t) refl)
+  where
+    by : (b : Bool) → is_new n kept t ≡ b → AreLasts n (t ∷ ts) (if b then kept ++ (t ∷ []) else kept)
+    by true e =
+        (let parts = both (nat_lt t.0 n) (not (is_target kept t.0)) e in
+        let lt : t.0 < n = below-of t.0 n parts.0 in
+        let off : is_target kept t.0 ≡ false = not-true (is_target kept t.0) parts.1 in
+        record {
+          once = once-snoc kept t h.once off;
+          last = each-snoc n (t ∷ ts) kept t (each-later n t ts kept h.last) lt (switched-none t.0 t ts (h.all t.0 lt off) ∙ (λ i. if eq-self t.0 i then Some t.1 else None));
+          all = λ a low none.
+              (let parts' = sym (target-snoc kept t a) ∙ none in
+              switched-none a t ts (h.all a low (or-left (is_target kept a) (nat_eq t.0 a) parts')) ∙ (λ i. if or-right (is_target kept a) (nat_eq t.0 a) parts' i then Some t.1 else None));
+        })
+    by false e = record {
+      once = h.once;
+      last = each-later n t ts kept h.last;
+      all = λ a low none. switched-none a t ts (h.all a low none) ∙ one a low none (nat_eq t.0 a) refl;
+    }
+      where
+        one : (a : ℕ) → a < n → is_target kept a ≡ false → (c : Bool) → nat_eq t.0 a ≡ c → (if c then Some t.1 else None) ≡ None
+        one a low none true at =
+            (let here : t.0 ≡ a = eq-of t.0 a at in
+            let new : is_new n kept t ≡ true = (λ i. less-of t.0 n (omega (arith, here, low)) i && not ((ap (is_target kept) here ∙ none) i)) in
+            absurd (let bad : ◌≡◌ {A = Bool} true false = sym new ∙ e in cc))
+        one a low none false at = refl
+
+pub lasts-none : (n : ℕ) → AreLasts n [] []
+lasts-none n = record { once = tt; last = tt; all = λ a low none. refl }
+
+-- LAW: the last targets are what the step turns
+pub switched-turn : (j : Journal) (worker serial : ℕ) (branch : Branch) (targets kept : List Target) → HasEntry j → AreLasts (length (automations j)) targets kept → IsTurn j (Step worker serial branch (Item.Switched targets)) kept
+switched-turn j worker serial branch targets kept some h = record {
+  only = record { some = some; report = refl; gone = refl; restart = refl; opens = refl; moment = refl };
+  once = h.once;
+  set = set kept h.last;
+  others = λ a low none. on a ∙ (λ i. unwrap_or (h.all a low none i) (is_on j a));
+}
+  where
+    on : (a : ℕ) → is_on (more j (Step worker serial branch (Item.Switched targets))) a ≡ unwrap_or (switched a targets) (is_on j a)
+    on a = on-more j (Step worker serial branch (Item.Switched targets)) a some
+
+    set : (ks : List Target) → EachLast (length (automations j)) targets ks → AreSet (is_on (more j (Step worker serial branch (Item.Switched targets)))) (length (automations j)) ks
+    set [] h = tt
+    set (u ∷ us) h = (h.0, on u.0 ∙ (λ i. unwrap_or (h.1 i) (is_on j u.0)), set us h.2)

@@ -1,0 +1,27 @@
+use Rattle.std.proofs.Common.{◌≡◌, ◌-◌, suc, List, length, sym, ap, subst, ◌∙◌, arith}
+use Rattle.std.specs.Prelude.{Option}
+use Rattle.ha_model.specs.declared.journal.Entry.TheVariants.{Step}
+use Rattle.ha_model.specs.Records.{last_place}
+use Rattle.ha_model.proofs.RecordLaws.{length-more}
+use Rattle.script_step.specs.declared.frames.Frames.{Frames}
+use Rattle.wait_set.specs.Timers.{timer_added}
+use Rattle.engine_parts.specs.Kept.{KeysBelow}
+use Rattle.engine_parts.specs.Runs.{Waking}
+use Rattle.engine_entry.specs.Stepping.{asks_with}
+use Rattle.engine_entry.proofs.StepWoken.{step-woken-as}
+use Rattle.engine_entry.proofs.step_wake.wake_after.Goals as goal
+
+pub returns-clause-going : goal.returns-clause-going
+returns-clause-going c rs w0 w1 delays0 progress wait due h asks queue keys noted =
+    let k = c.args.journal.now in
+    let p = c.args.parts.now in
+    let size : length k ≡ suc (length h.j) = ap length h.journal_is ∙ length-more h.j (Step h.worker h.serial h.branch h.out.item) in
+    let last : last_place k ≡ length h.j = omega (arith, size) in
+    step-woken-as rs w0 w1 delays0 p c.wake_step.new.delays c.wake_step.new.triggers c.wake_step.new.ready progress wait due (last_place k) k h (sym last)
+    (asks ∙ ap (λ n. asks_with n wait w0.asks) last) (queue ∙ ap (λ n. timer_added due n delays0) last) (subst (λ n. KeysBelow n delays0) last keys) noted (
+      c.in_ok-wake_step.ensures.stands,
+      c.in_ok-wake_step.ensures.owned,
+      c.in_ok-wake_step.ensures.queue,
+      c.in_ok-wake_step.ensures.early,
+      λ rs' waking. c.in_ok-wake_step.ensures.pairs rs' (subst (λ (os : List (Option Frames)). Waking rs' k p.waits os p.at) (sym c.as_slice.ensures.value) waking),
+    )

@@ -1,0 +1,5 @@
+pub mod Stepping
+pub mod Turned
+pub mod Between
+pub mod Opened
+pub mod Lasts

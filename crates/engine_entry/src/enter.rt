@@ -1,0 +1,71 @@
+//! What a line itself changes: the state of an entity, or Now. The answer lists the states that it changes, as they were.
+ghost use Rattle.std.specs.Prelude.{◌≡◌, false, max, IfOk, OnOk};
+ghost use Rattle.ha_model.specs.declared.journal.Cmd as cmd;
+ghost use Rattle.ha_model.specs.Journal.{Journal};
+ghost use Rattle.ha_model.specs.Records.{Records};
+ghost use Rattle.engine_parts.specs.Stages.{Entered, IsOther, Pushed};
+
+use engine_parts::parts::Parts;
+use engine_parts::see::{see_gone, see_report};
+use ha_model::{EntityId, Many, Moment, StateObject, Value, Word};
+use std::alloc::{AllocError, Global};
+
+/// A report.
+pub fn enter_report(
+    parts: &mut Parts,
+    alloc: Global,
+    entity: &EntityId,
+    text: &Word,
+    attributes: &Many<(Word, Value)>,
+) -> Result<Many<(EntityId, Option<StateObject>)>, AllocError>
+    ensures entered { IfOk result (λ before. (k : Journal) (rs : Records) → (h : Pushed k rs parts.old) → h.cmd ≡ cmd.Cmd.Report entity.now text.now attributes.now → Entered k parts.new before) }
+    ensures rest { OnOk result (parts.new ≡ record parts.old { states = parts.new.states; changed = false }) }
+{
+    let before = see_report(&mut parts.states, alloc, entity, text, attributes, parts.at)?;
+    parts.changed = false;
+    Ok(before)
+}
+
+/// An entity goes.
+pub fn enter_gone(
+    parts: &mut Parts,
+    alloc: Global,
+    entity: &EntityId,
+) -> Result<Many<(EntityId, Option<StateObject>)>, AllocError>
+    ensures entered { IfOk result (λ before. (k : Journal) (rs : Records) → (h : Pushed k rs parts.old) → h.cmd ≡ cmd.Cmd.Gone entity.now → Entered k parts.new before) }
+    ensures rest { OnOk result (parts.new ≡ record parts.old { states = parts.new.states; changed = false }) }
+{
+    let before = see_gone(&mut parts.states, alloc, entity)?;
+    parts.changed = false;
+    Ok(before)
+}
+
+/// The later of two moments.
+fn later(a: Moment, b: Moment) -> Moment
+    ensures { result ≡ max a b }
+{
+    if a < b { b } else { a }
+}
+
+/// It is this moment, or later already.
+pub fn enter_moment(
+    parts: &mut Parts,
+    alloc: Global,
+    at: Moment,
+) -> Many<(EntityId, Option<StateObject>)>
+    ensures entered { (k : Journal) (rs : Records) → (h : Pushed k rs parts.old) → h.cmd ≡ cmd.Cmd.Moment at → Entered k parts.new result }
+    ensures rest { parts.new ≡ record parts.old { at = parts.new.at; changed = false } }
+{
+    parts.at = later(parts.at, at);
+    parts.changed = false;
+    Many::make(alloc)
+}
+
+/// Anything else that changes neither switches nor states: an event, an automation that is asked for, a line that was refused.
+pub fn enter_other(parts: &mut Parts, alloc: Global) -> Many<(EntityId, Option<StateObject>)>
+    ensures entered { (k : Journal) (rs : Records) → (h : Pushed k rs parts.old) → IsOther h.cmd → Entered k parts.new result }
+    ensures rest { parts.new ≡ record parts.old { changed = false } }
+{
+    parts.changed = false;
+    Many::make(alloc)
+}

@@ -1,0 +1,83 @@
+//! The step itself: the frames of a run are taken out of their slot, step on what the journal shows, and are put back.
+ghost use Rattle.std.specs.Prelude.{◌≡◌, ◌-◌, ◌<◌, IfOk, None, Some, length, set, slice_get, true};
+ghost use Rattle.ha_model.specs.Journal.{IsJournal};
+ghost use Rattle.ha_model.specs.Triggers.{sight};
+ghost use Rattle.script_step.specs.Frames.{may};
+ghost use Rattle.engine_parts.specs.Kept.{AreSound, Looks};
+ghost use Rattle.engine_entry.specs.Stepping.{IsRunStep, MaySlot, SlotStep};
+
+use cond_eval::View;
+use engine_parts::last::configuration;
+use ha_clock::Zone;
+use ha_model::{Branch, Entry, Moment, StepOut, WaitEnd};
+use script_step::Frames;
+use state_table::StateTable;
+use std::alloc::{AllocError, Global};
+
+/// One step of a run, on what the journal shows. After an error the frames are spent.
+fn step_frames<'a>(
+    run: &mut Frames,
+    alloc: Global,
+    journal: &'a [Entry],
+    states: &'a StateTable,
+    zone: &'a Zone,
+    at: Moment,
+    branch: &Branch,
+    wait: Option<WaitEnd>,
+) -> Result<StepOut, AllocError>
+    requires journal { IsJournal journal.now }
+    requires looks { Looks journal.now states.now zone.now at }
+    requires sound { AreSound journal.now }
+    requires may { may run.old branch.now at wait ≡ true }
+    ensures { IfOk result (λ out. IsRunStep (sight journal.entry.now (length journal.entry.now)) branch.now wait run.old run.new out) }
+{
+    let view = View::make(states, configuration(journal), zone, at);
+    let out = run.step(alloc, branch, wait, &view)?;
+    Ok(out)
+}
+
+/// The frames are taken out of the slot of a run.
+fn take_frames(frames: &mut Vec<Option<Frames>>, serial: u64) -> Option<Frames>
+    requires { serial - 1 < length frames.old.items }
+    ensures taken { slice_get frames.old.items (serial - 1) ≡ Some result }
+    ensures rest { frames.new.items ≡ set frames.old.items (serial - 1) None }
+{
+    let at = serial.saturating_sub(1) as usize;
+    std::mem::replace(&mut frames[at], None)
+}
+
+/// Frames are put into the slot of a run.
+fn put_frames(frames: &mut Vec<Option<Frames>>, serial: u64, run: Frames)
+    requires { serial - 1 < length frames.old.items }
+    ensures { frames.new.items ≡ set frames.old.items (serial - 1) (Some run) }
+{
+    let at = serial.saturating_sub(1) as usize;
+    frames[at] = Some(run);
+}
+
+/// The step of a run in its slot, and the due of the delay in which its branch then is, if it is in one. After an error the slot is empty.
+pub fn step_slot(
+    frames: &mut Vec<Option<Frames>>,
+    alloc: Global,
+    journal: &[Entry],
+    states: &StateTable,
+    zone: &Zone,
+    at: Moment,
+    serial: u64,
+    branch: &Branch,
+    wait: Option<WaitEnd>,
+) -> Result<(StepOut, Option<Moment>), AllocError>
+    requires journal { IsJournal journal.now }
+    requires looks { Looks journal.now states.now zone.now at }
+    requires sound { AreSound journal.now }
+    requires slot { MaySlot serial branch.now at wait frames.old.items }
+    ensures { IfOk result (λ x. SlotStep (sight journal.now (length journal.now)) serial branch.now wait frames.old.items frames.new.items x.0 x.1) }
+{
+    let Some(mut run) = take_frames(frames, serial) else {
+        unreachable!()
+    };
+    let out = step_frames(&mut run, alloc, journal, states, zone, at, branch, wait)?;
+    let due = run.due(branch);
+    put_frames(frames, serial, run);
+    Ok((out, due))
+}

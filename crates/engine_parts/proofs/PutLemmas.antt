@@ -1,0 +1,108 @@
+-- The pairs of one run are put in at their place.
+use Rattle.std.proofs.Common.{◌≡◌, ℕ, zero, suc, ◌+◌, ◌<◌, ◌≤◌, List, [], ◌∷◌, ◌++◌, length, take, drop, Bool, true, false, refl, sym, ap, ◌∙◌, rules, arith, append_assoc}
+use Rattle.std.specs.Prelude.{nat_eq, nat_lt, if◌then◌else◌}
+use Rattle.ha_model.specs.Scripts.{Branch}
+use Rattle.ha_ready.specs.ReadyPairs.{changed_at, pairs_of, pairs_from}
+use Rattle.ha_ready.proofs.ReadyLemmas.{pairs-same}
+use Rattle.engine_parts.specs.Lower.{lower}
+
+below : (a b : ℕ) → a < b → nat_lt a b ≡ true
+below a b lt = search (rules, lt)
+
+not-below : (a b : ℕ) → b ≤ a → nat_lt a b ≡ false
+not-below a b le = search (rules, le)
+
+-- behind run s none is lower
+none-lower : (s n m : ℕ) (by : ℕ → List Branch) → s ≤ n → lower s (pairs_from n m by) ≡ 0
+none-lower s n zero by le = refl
+none-lower s n (suc m) by le = one (by (suc n)) (none-lower s (suc n) m by (omega (arith, le)))
+  where
+    one : (bs : List Branch) → lower s (pairs_from (suc n) m by) ≡ 0 → lower s (pairs_of (suc n) bs ++ pairs_from (suc n) m by) ≡ 0
+    one [] rec = rec
+    one (b ∷ bs) rec = (λ i. if not-below (suc n) s (omega (arith, le)) i then suc (lower s (pairs_of (suc n) bs ++ pairs_from (suc n) m by)) else 0)
+
+pub lower-fits : (s : ℕ) (xs : List (ℕ × Branch)) → lower s xs ≤ length xs
+lower-fits s [] = omega arith
+lower-fits s (x ∷ xs) = by (nat_lt x.0 s) (lower-fits s xs)
+  where
+    by : (b : Bool) → lower s xs ≤ length xs → (if b then suc (lower s xs) else 0) ≤ suc (length xs)
+    by true h = omega (arith, h)
+    by false h = omega arith
+
+-- an earlier run stands before the place
+pass-lower : (s q : ℕ) (bs : List Branch) (rest mine : List (ℕ × Branch)) → q < s
+    → take (lower s (pairs_of q bs ++ rest)) (pairs_of q bs ++ rest) ++ (mine ++ drop (lower s (pairs_of q bs ++ rest)) (pairs_of q bs ++ rest))
+    ≡ pairs_of q bs ++ (take (lower s rest) rest ++ (mine ++ drop (lower s rest) rest))
+pass-lower s q [] rest mine lt = refl
+pass-lower s q (b ∷ bs) rest mine lt =
+    (let n : ℕ = lower s (pairs_of q bs ++ rest) in
+    (λ i. take (if below q s lt i then suc n else 0) ((q, b) ∷ (pairs_of q bs ++ rest)) ++ (mine ++ drop (if below q s lt i then suc n else 0) ((q, b) ∷ (pairs_of q bs ++ rest))))
+    ∙ ap (λ l. (q, b) ∷ l) (pass-lower s q bs rest mine lt))
+
+-- LAW: put in behind those of earlier runs, they stand at their place
+pub put-at : (s n m : ℕ) (bs : List Branch) (by : ℕ → List Branch) → n < s → s ≤ n + m
+    → take (lower s (pairs_from n m (changed_at s [] by))) (pairs_from n m (changed_at s [] by)) ++ (pairs_of s bs ++ drop (lower s (pairs_from n m (changed_at s [] by))) (pairs_from n m (changed_at s [] by)))
+    ≡ pairs_from n m (changed_at s bs by)
+put-at s n zero bs by lt le = absurd (omega (arith, lt, le))
+put-at s n (suc m) bs by lt le = one (nat_eq (suc n) s) refl (λ lt' le'. put-at s (suc n) m bs by lt' le')
+  where
+    eq-of : (a b : ℕ) → nat_eq a b ≡ true → a ≡ b
+    eq-of a b e = search (rules, e)
+
+    ne-of : (a b : ℕ) → nat_eq a b ≡ false → a ≡ b → ⊥
+    ne-of a b e = search (rules, e)
+
+    apart : (a b : ℕ) → a < b → nat_eq b a ≡ false
+    apart a b lt = search (rules, lt)
+
+    rest : List Branch → List (ℕ × Branch)
+    rest bs = pairs_from (suc n) m (changed_at s bs by)
+
+    same-rest : suc n ≡ s → rest [] ≡ rest bs
+    same-rest e = pairs-same (suc n) m (changed_at s [] by) (changed_at s bs by) (λ q low high. (λ i. if apart s q (omega (arith, e, low)) i then [] else by q) ∙ sym (λ i. if apart s q (omega (arith, e, low)) i then bs else by q))
+
+    one : (c : Bool) → nat_eq (suc n) s ≡ c → (suc n < s → s ≤ suc n + m → take (lower s (rest [])) (rest []) ++ (pairs_of s bs ++ drop (lower s (rest [])) (rest [])) ≡ rest bs)
+        → take (lower s (pairs_of (suc n) (if c then [] else by (suc n)) ++ rest [])) (pairs_of (suc n) (if c then [] else by (suc n)) ++ rest []) ++ (pairs_of s bs ++ drop (lower s (pairs_of (suc n) (if c then [] else by (suc n)) ++ rest [])) (pairs_of (suc n) (if c then [] else by (suc n)) ++ rest []))
+        ≡ pairs_of (suc n) (if c then bs else by (suc n)) ++ rest bs
+    one true e rec =
+        (λ i. take (none-lower s (suc n) m (changed_at s [] by) (omega (arith, eq-of (suc n) s e)) i) (rest []) ++ (pairs_of s bs ++ drop (none-lower s (suc n) m (changed_at s [] by) (omega (arith, eq-of (suc n) s e)) i) (rest [])))
+        ∙ (λ i. pairs_of (sym (eq-of (suc n) s e) i) bs ++ same-rest (eq-of (suc n) s e) i)
+    one false e rec =
+        pass-lower s (suc n) (by (suc n)) (rest []) (pairs_of s bs) (omega (arith, lt, ne-of (suc n) s e))
+        ∙ ap (λ l. pairs_of (suc n) (by (suc n)) ++ l) (rec (omega (arith, lt, ne-of (suc n) s e)) (omega (arith, le)))
+
+-- ---- one pair more at a place
+
+pub take-front : {X : Type 0} (n : ℕ) (xs ys : List X) → n ≤ length xs → take n (take n xs ++ ys) ≡ take n xs
+take-front zero xs ys le = front-none (take zero xs ++ ys) xs
+  where
+    front-none : {X : Type 0} (zs xs : List X) → take zero zs ≡ take zero xs
+    front-none [] [] = refl
+    front-none [] (x ∷ xs) = refl
+    front-none (z ∷ zs) [] = refl
+    front-none (z ∷ zs) (x ∷ xs) = refl
+take-front (suc n) [] ys le = absurd (omega (arith, le))
+take-front (suc n) (x ∷ xs) ys le = ap (λ l. x ∷ l) (take-front n xs ys (omega (arith, le)))
+
+pub drop-front : {X : Type 0} (n : ℕ) (xs ys : List X) → n ≤ length xs → drop n (take n xs ++ ys) ≡ ys
+drop-front zero [] ys le = none ys
+  where
+    none : {X : Type 0} (zs : List X) → drop zero zs ≡ zs
+    none [] = refl
+    none (z ∷ zs) = refl
+drop-front zero (x ∷ xs) ys le = none ys
+  where
+    none : {X : Type 0} (zs : List X) → drop zero zs ≡ zs
+    none [] = refl
+    none (z ∷ zs) = refl
+drop-front (suc n) [] ys le = absurd (omega (arith, le))
+drop-front (suc n) (x ∷ xs) ys le = drop-front n xs ys (omega (arith, le))
+
+pub front-fits : {X : Type 0} (n : ℕ) (xs ys : List X) → n ≤ length xs → n ≤ length (take n xs ++ ys)
+front-fits zero xs ys le = omega arith
+front-fits (suc n) [] ys le = absurd (omega (arith, le))
+front-fits (suc n) (x ∷ xs) ys le = omega (arith, front-fits n xs ys (omega (arith, le)))
+
+-- LAW: a pair that is put in at the place stands in front of those that were
+pub put-next : {X : Type 0} (n : ℕ) (xs ms : List X) (x : X) → n ≤ length xs → take n (take n xs ++ ms) ++ (x ∷ drop n (take n xs ++ ms)) ≡ take n xs ++ (x ∷ ms)
+put-next n xs ms x le = (λ i. take-front n xs ms le i ++ (x ∷ drop-front n xs ms le i))

@@ -1,0 +1,45 @@
+use Rattle.std.proofs.Common.{◌≡◌, ℕ, ◌-◌, List, length, true, sym, ap, subst, ◌∙◌}
+use Rattle.ha_model.specs.declared.journal.Entry.{Entry}
+use Rattle.ha_model.specs.Journal.{Journal}
+use Rattle.ha_model.specs.RecordSteps.{more}
+use Rattle.cond_eval.specs.Seen.{IsViewOf, seen}
+use Rattle.trig_set.specs.Next.{IsNext}
+use Rattle.ha_past.specs.Firings.{firings}
+use Rattle.trig_set.specs.Stands as triggers
+use Rattle.wait_set.specs.Stands as waits
+use Rattle.engine_parts.proofs.NoteEntry.{untold-next, untold-told, told-by}
+use Rattle.engine_parts.proofs.ViewLemmas.{view-of, few-automations}
+use Rattle.engine_parts.proofs.attend.note_last.Goals as goal
+
+pub note-requires : goal.note-requires
+note-requires c = record { in_time = c.make-view.result.timely }
+
+pub returns-clause-told : goal.returns-clause-told
+returns-clause-told c =
+    let k = c.args.journal.now in
+    let h = c.requires.untold in
+    let t = c.args.triggers.now in
+    let w = c.args.waits.now in
+    let same : c.last_entry.result.now ≡ h.x = c.last_entry.ensures h.j h.x h.journal_is in
+    let sees = c.make-view.ensures k (view-of k c.args.states.now c.configuration.result.now c.args.zone.now c.args.at c.requires.looks c.requires.sound c.configuration.ensures) in
+    let next = subst (λ (y : Entry). IsNext h.j (length k - 1) y c.args.before.now (seen c.make-view.result) (triggers.attached t)) (sym same)
+    (untold-next k t w c.args.before.now h c.args.states.now c.args.zone.now c.args.at (seen c.make-view.result) c.requires.looks sees) in
+    let told = subst (λ (y : Entry). waits.AreFired (more h.j y) (length k - 1) (firings (more h.j y) (length k - 1) (triggers.attached t)) w.asks) (sym same) (untold-told k t w c.args.before.now h) in
+    told-by k t w c.args.before.now h c.note.new.triggers c.note.new.waits c.in_ok-fired.ensures.attached
+    (subst (λ (y : Entry). triggers.StandsFor c.note.new.triggers (more h.j y)) same (c.in_ok-fired.ensures.triggers h.j h.triggers_stand next))
+    (subst (λ (y : Entry). waits.StandsFor c.note.new.waits.asks (more h.j y)) same (c.in_ok-fired.ensures.waits h.j h.some h.triggers_stand h.waits_stand next told))
+    c.in_ok-fired.ensures.asks c.in_ok-fired.ensures.grow c.in_ok-fired.ensures.owned c.in_ok-fired.ensures.told c.in_ok-fired.ensures.apart c.in_ok-fired.ensures.others c.in_ok-fired.ensures.held
+
+pub returns-clause-fired : goal.returns-clause-fired
+returns-clause-fired c =
+    let k = c.args.journal.now in
+    let h = c.requires.untold in
+    let t = c.args.triggers.now in
+    let w = c.args.waits.now in
+    let same : c.last_entry.result.now ≡ h.x = c.last_entry.ensures h.j h.x h.journal_is in
+    let sees = c.make-view.ensures k (view-of k c.args.states.now c.configuration.result.now c.args.zone.now c.args.at c.requires.looks c.requires.sound c.configuration.ensures) in
+    let next = subst (λ (y : Entry). IsNext h.j (length k - 1) y c.args.before.now (seen c.make-view.result) (triggers.attached t)) (sym same)
+    (untold-next k t w c.args.before.now h c.args.states.now c.args.zone.now c.args.at (seen c.make-view.result) c.requires.looks sees) in
+    c.in_ok-fired.ensures.fired h.j h.triggers_stand next
+    ∙ ap (λ (y : Entry). firings (more h.j y) (length k - 1) (triggers.attached t)) same
+    ∙ ap (λ (i : Journal). firings i (length k - 1) (triggers.attached t)) (sym h.journal_is)

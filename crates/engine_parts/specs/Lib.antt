@@ -1,0 +1,14 @@
+pub mod Waiting
+pub mod Fronts
+pub mod Lower
+pub mod OneMore
+pub mod Touched
+pub mod Places
+pub mod Owners
+pub mod Stepped
+pub mod Changes
+pub mod Runs
+pub mod Pending
+pub mod Kept
+pub mod Records
+pub mod Stages

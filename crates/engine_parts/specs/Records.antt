@@ -1,0 +1,44 @@
+-- The table of records while the records of an entry are told.
+use Rattle.std.specs.Prelude.{◌≡◌, ℕ, ◌+◌, ◌<◌, ◌≤◌, vec_len, vec_capacity, Bool, true, false, ◌||◌, nat_eq, List, [], ◌∷◌, length}
+use Rattle.ha_model.specs.declared.config.Action.{Action}
+use Rattle.ha_model.specs.declared.journal.Record.{Record}
+use Rattle.ha_model.specs.Journal.{Journal}
+use Rattle.ha_model.specs.Scripts.{Branch}
+use Rattle.ha_model.specs.Records.{Records}
+use Rattle.run_modes.specs.Fits.{AreNumbered}
+use Rattle.engine_parts.specs.declared.parts.Parts.{Parts}
+use Rattle.engine_parts.specs.Changes.{SameRun}
+use Rattle.engine_parts.specs.Kept.{Gone}
+use Rattle.ha_ready.specs.RunPast.{AllPast, SameScript}
+use Rattle.engine_parts.specs.Runs.{HasEnd}
+use Rattle.ha_ready.specs.Agree.{step_at}
+
+-- they are numbered, tell of the places of the journal alone, and nobody behind them made a step
+pub record IsTable (k : Journal) (rs : Records) : Type 0 where
+  pub numbered : AreNumbered 0 rs
+  pub past : AllPast (length k) rs
+  pub unstepped : (s p : ℕ) → length rs < s → step_at k s p ≡ false
+
+-- the runs that went, and this one
+abbrev pub also : Gone → ℕ → Gone
+also gone s q = gone q || nat_eq q s
+
+-- a run that went has ended, and another is the same
+abbrev pub EndsIf : Bool → Record → Record → Type 0
+EndsIf true r r' = SameScript r r' × HasEnd r'.end
+EndsIf false r r' = SameRun r r'
+
+abbrev pub AreEnded : Gone → Records → Records → Type 0
+AreEnded gone [] [] = Unit {0}
+AreEnded gone [] (r' ∷ rs') = ⊥
+AreEnded gone (r ∷ rs) [] = ⊥
+AreEnded gone (r ∷ rs) (r' ∷ rs') = EndsIf (gone r.serial) r r' × AreEnded gone rs rs'
+
+-- there is room for the frames and a pair of so many runs more
+abbrev pub HasRoom : ℕ → Parts → Type 0
+HasRoom n p = (vec_len p.frames + n ≤ vec_capacity p.frames) × (vec_len p.ready.pairs + n ≤ vec_capacity p.ready.pairs)
+
+-- the branches of a run that just begins
+abbrev pub first_branches : List Action → List Branch
+first_branches [] = []
+first_branches (a ∷ rest) = [] ∷ []

@@ -1,0 +1,139 @@
+-- The stages of the work on a line that was pushed.
+use Rattle.std.specs.Prelude.{◌≡◌, ℕ, ◌<◌, true, length, List, Option}
+use Rattle.timer_queue.specs.Timers.{Timer}
+use Rattle.script_step.specs.declared.frames.Frames.{Frames}
+use Rattle.ha_model.specs.Scripts.{Branch}
+use Rattle.wait_set.specs.Asked.{WaitTable as Waits}
+use Rattle.trig_set.specs.declared.set.TrigSet.{TrigSet}
+use Rattle.ha_model.specs.declared.journal.Cmd.{Cmd}
+use Rattle.ha_model.specs.declared.journal.Entry.{Entry}
+use Rattle.ha_model.specs.declared.journal.Entry.TheVariants.{Line}
+use Rattle.ha_model.specs.Entries.{IsPlain}
+use Rattle.ha_model.specs.Commands.{IsFair}
+use Rattle.ha_model.specs.Journal.{Journal, IsJournal, HasEntry}
+use Rattle.ha_model.specs.Records.{Records, passing}
+use Rattle.ha_model.specs.RecordSteps.{more, records_after}
+use Rattle.run_modes.specs.Calls.{all_tried}
+use Rattle.ha_model.specs.Lawful.{Right}
+use Rattle.trig_set.specs.Next.{Listed, AreListed, has_earlier}
+use Rattle.trig_set.specs.Stands as triggers
+use Rattle.wait_set.specs.Stands as waits
+use Rattle.engine_parts.specs.declared.parts.Parts.{Parts}
+use Rattle.engine_parts.specs.Waiting.{AsksKept, EndsGrow}
+use Rattle.engine_parts.specs.Pending.{AreOthers, AreWaits}
+use Rattle.engine_parts.specs.Runs.{AreHeld}
+use Rattle.engine_parts.specs.Kept.{Sees, Owned, KeysBelow, RunsKept, Going, Kept, nobody}
+use Rattle.ha_ready.specs.RestedFlags.{IsKnown, RestedKept, source_of}
+use Rattle.engine_parts.specs.Records.{IsTable}
+
+-- a line was pushed, which nothing knows of yet
+pub record Pushed (k : Journal) (rs : Records) (p : Parts) : Type 0 where
+  pub j : Journal
+  pub source : ℕ
+  pub number : ℕ
+  pub cmd : Cmd
+  pub journal_is : k ≡ more j (Line source number cmd)
+  pub known : source < 16
+  pub fair : IsFair j cmd
+  pub right : Right j rs
+  pub kept : Kept j rs p
+
+-- the last entry is a line
+pub record IsLine (k : Journal) : Type 0 where
+  pub j : Journal
+  pub source : ℕ
+  pub number : ℕ
+  pub cmd : Cmd
+  pub journal_is : k ≡ more j (Line source number cmd)
+
+-- the command of the line that was pushed is this
+pub record PushedAs (cmd : Cmd) (k : Journal) (rs : Records) (p : Parts) : Type 0 where
+  pub pushed : Pushed k rs p
+  pub cmd_is : pushed.cmd ≡ cmd
+
+-- commands that change neither states nor Now nor switches
+abbrev pub IsOther : Cmd → Type 0
+IsOther (Cmd.Report entity text attributes) = ⊥
+IsOther (Cmd.Gone entity) = ⊥
+IsOther (Cmd.Event kind pairs) = Unit {0}
+IsOther (Cmd.Moment at) = ⊥
+IsOther (Cmd.Switch name on stop) = ⊥
+IsOther (Cmd.Trigger name skip) = Unit {0}
+IsOther Cmd.Restart = ⊥
+IsOther (Cmd.Refused code) = Unit {0}
+IsOther Cmd.Lost = Unit {0}
+IsOther Cmd.TooLong = Unit {0}
+
+-- the states, the switches and the triggers of the automations are those behind the entry; the triggers and the waits are still to be told of it,
+-- with the states before it that it changes
+pub record Untold (k : Journal) (t : TrigSet) (w : Waits) (before : Listed) : Type 0 where
+  pub j : Journal
+  pub x : Entry
+  pub journal_is : k ≡ more j x
+  pub journal : IsJournal k
+  pub some : HasEntry j
+  pub triggers_stand : triggers.StandsFor t j
+  pub waits_stand : waits.StandsFor w.asks j
+  pub owned : Owned k t w
+  pub listed : has_earlier (length j) (triggers.attached t) ≡ true → AreListed j x before
+
+pub record Entered (k : Journal) (p : Parts) (before : Listed) : Type 0 where
+  pub sees : Sees k p
+  pub untold : Untold k p.triggers p.waits before
+  pub keys_early : KeysBelow (length k) p.delays
+
+-- the triggers and the waits were told of it; these were the waits before
+pub record Told (k : Journal) (w : Waits) (t : TrigSet) (w' : Waits) : Type 0 where
+  pub triggers_stand : triggers.StandsFor t k
+  pub waits_stand : waits.StandsFor w'.asks k
+  pub owned : Owned k t w'
+  pub asks : (serial : ℕ) → AsksKept w w' serial
+  pub grow : (serial : ℕ) → EndsGrow w w' serial
+  pub fresh : AreWaits w'.fresh
+  pub others : AreOthers w'.fresh w'.asks
+  pub held : (i : Journal) (os : List (Option Frames)) → AreHeld i os w.asks → AreHeld i os w'.asks
+
+pub record Noted (k : Journal) (w : Waits) (p : Parts) : Type 0 where
+  pub sees : Sees k p
+  pub told : Told k w p.triggers p.waits
+  pub keys_early : KeysBelow (length k) p.delays
+
+-- the runs before a line
+pub record RunsBefore (k : Journal) (rs : Records) (w : Waits) (delays : List Timer) (os : List (Option Frames)) (pairs : List (ℕ × Branch)) : Type 0 where
+  pub j : Journal
+  pub source : ℕ
+  pub number : ℕ
+  pub cmd : Cmd
+  pub journal_is : k ≡ more j (Line source number cmd)
+  pub right : Right j rs
+  pub waits_stand : waits.StandsFor w.asks j
+  pub runs_kept : RunsKept nobody j rs delays w os pairs
+
+-- all parts were told of a line; its stops and attempts, and the flags of the sources, are still to come
+pub record LineTold (k : Journal) (rs : Records) (p : Parts) : Type 0 where
+  pub j : Journal
+  pub source : ℕ
+  pub number : ℕ
+  pub cmd : Cmd
+  pub journal_is : k ≡ more j (Line source number cmd)
+  pub known : source < 16
+  pub fair : IsFair j cmd
+  pub plain : IsPlain cmd
+  pub right : Right j rs
+  pub going : Going nobody k rs p
+  pub rested_is : RestedKept j rs p.rested.items
+
+-- the calls of the last entry's step and its stops were made, and the parts stand for these records; its attempts, and the flags of the sources, are still to come
+pub record Stopped (k : Journal) (rs : Records) (p : Parts) : Type 0 where
+  pub j : Journal
+  pub x : Entry
+  -- the records before the entry
+  pub before : Records
+  pub journal_is : k ≡ more j x
+  pub known : IsKnown (source_of x)
+  pub right : Right j before
+  pub right_behind : Right k (records_after j before x)
+  pub table : IsTable k rs
+  pub records : all_tried k rs (passing k) ≡ records_after j before x
+  pub going : Going nobody k rs p
+  pub rested_is : RestedKept j before p.rested.items

@@ -1,0 +1,45 @@
+-- The waits of a set, by run and branch, and what a set tells of a journal.
+use Rattle.std.specs.Prelude.{◌≡◌, ℕ, suc, ◌||◌, nat_eq, List, take, is_some, Option, Some, option_map}
+use Rattle.std.specs.List.{list_any}
+use Rattle.ha_model.specs.declared.journal.WaitAsk.{WaitAsk}
+use Rattle.ha_model.specs.declared.journal.WaitEnd.{WaitEnd}
+use Rattle.ha_model.specs.Journal.{Journal, now}
+use Rattle.ha_model.specs.Scripts.{Ask, Branch}
+use Rattle.ha_model.specs.Waits.{wait_end}
+use Rattle.script_step.specs.Told.{IsAsk}
+use Rattle.wait_set.specs.declared.asked.Asked as wait
+use Rattle.wait_set.specs.Asked.{WaitTable, wait_of, end_of}
+
+-- an ask that was taken in: its owner, the place where its wait began, and what it asks
+pub record Asked : Type 0 where
+  pub owner : ℕ
+  pub place : ℕ
+  pub ask : WaitAsk
+
+abbrev pub asked : wait.Asked → Asked
+asked a = record { owner = a.owner; place = a.place; ask = a.ask }
+
+-- the ask of a run in a branch
+abbrev pub asked_at : WaitTable → ℕ → Branch → Option Asked
+asked_at w serial branch = option_map {T = wait.Asked} {U = Asked} asked (wait_of serial branch w.asks)
+
+-- how its wait ended, if it has
+abbrev pub ends : WaitTable → ℕ → Branch → Option WaitEnd
+ends w serial branch = end_of w.asks serial branch
+
+-- the owners of the waits that ended at the entry noted last
+abbrev pub fresh : WaitTable → List ℕ
+fresh w = w.fresh
+
+-- the set tells how the waits of the journal ended
+abbrev pub TellsEnds : WaitTable → Journal → Type 0
+TellsEnds w j = (serial : ℕ) (branch : Branch) (a : Asked) (ask : Ask) → asked_at w serial branch ≡ Some a → IsAsk (now (take (suc a.place) j)) ask a.ask
+    → ends w serial branch ≡ wait_end j ask a.place
+
+-- the asks of a run are the same
+abbrev pub AsksKept : WaitTable → WaitTable → ℕ → Type 0
+AsksKept w w' s = (b : Branch) → asked_at w' s b ≡ asked_at w s b
+
+-- whose waits ended at the entry
+abbrev pub EndsGrow : WaitTable → WaitTable → ℕ → Type 0
+EndsGrow w w' s = (b : Branch) (a : Asked) → asked_at w s b ≡ Some a → is_some (ends w' s b) ≡ (is_some (ends w s b) || list_any (nat_eq a.owner) (fresh w'))

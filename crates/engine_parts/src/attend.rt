@@ -1,0 +1,114 @@
+//! An entry whose own changes were made: the triggers and the waits are told of it, and the runs that it wakes are listed anew.
+ghost use Rattle.std.specs.Prelude.{◌≡◌, ◌-◌, ℕ, List, IfOk, OnOk, length};
+ghost use Rattle.ha_model.specs.Attempts.{fired as fired_lem};
+ghost use Rattle.ha_model.specs.Records.{Records};
+ghost use Rattle.ha_past.specs.Firings.{firings};
+ghost use Rattle.trig_set.specs.Stands.{attached};
+ghost use Rattle.wait_set.specs.Asked.{WaitTable};
+ghost use Rattle.engine_parts.specs.Kept.{AreSound, Going, Looks, nobody};
+ghost use Rattle.engine_parts.specs.Owners.{attempts_by};
+ghost use Rattle.engine_parts.specs.Stages.{Entered, Noted, RunsBefore, Told, Untold};
+
+use crate::last::{configuration, last_entry};
+use crate::note::note;
+use crate::parts::Parts;
+use crate::wake::wake;
+use cond_eval::View;
+use ha_clock::Zone;
+use ha_model::{EntityId, Entry, Firing, Many, Moment, StateObject};
+use state_table::StateTable;
+use std::alloc::{AllocError, Global};
+use trig_set::TrigSet;
+use wait_set::Waits;
+
+/// The triggers and the waits note the last entry, where these are the states, the zone and Now after it.
+fn note_last<'a>(
+    triggers: &mut TrigSet,
+    waits: &mut Waits,
+    alloc: Global,
+    journal: &'a [Entry],
+    before: &Many<(EntityId, Option<StateObject>)>,
+    states: &'a StateTable,
+    zone: &'a Zone,
+    at: Moment,
+) -> Result<Many<Firing>, AllocError>
+    requires looks { Looks journal.now states.now zone.now at }
+    requires sound { AreSound journal.now }
+    requires untold { Untold journal.now triggers.old waits.old before.now }
+    ensures told { OnOk result (Told journal.entry.now waits.old triggers.new waits.new) }
+    ensures fired { IfOk result (λ fired. fired ≡ firings journal.entry.now (length journal.entry.now - 1) (attached triggers.old)) }
+{
+    let view = View::make(states, configuration(journal), zone, at);
+    let fired = note(
+        triggers,
+        waits,
+        alloc,
+        journal.len() as u64 - 1,
+        last_entry(journal),
+        before,
+        &view,
+    )?;
+    Ok(fired)
+}
+
+/// The triggers and the waits note the entry.
+pub fn note_entry(
+    parts: &mut Parts,
+    alloc: Global,
+    journal: &[Entry],
+    before: &Many<(EntityId, Option<StateObject>)>,
+) -> Result<Many<Firing>, AllocError>
+    requires { Entered journal.now parts.old before.now }
+    ensures noted { OnOk result (Noted journal.now parts.old.waits parts.new) }
+    ensures fired { IfOk result (λ fired. fired ≡ firings journal.now (length journal.now - 1) (attached parts.old.triggers)) }
+    ensures rest { OnOk result (parts.new ≡ record parts.old { triggers = parts.new.triggers; waits = parts.new.waits }) }
+{
+    let fired = note_last(
+        &mut parts.triggers,
+        &mut parts.waits,
+        alloc,
+        journal,
+        before,
+        &parts.states,
+        &parts.zone,
+        parts.at,
+    )?;
+    Ok(fired)
+}
+
+/// The runs that a line wakes are listed anew.
+fn wake_line(parts: &mut Parts, alloc: Global, journal: &[Entry]) -> Result<(), AllocError>
+    ensures going { OnOk result ((rs : Records) (w : WaitTable) → Noted journal.now w parts.old
+        → RunsBefore journal.now rs w parts.old.delays parts.old.frames.items parts.old.ready.pairs.items → Going nobody journal.now rs parts.new) }
+    ensures rest { parts.new.rested ≡ parts.old.rested }
+{
+    wake(
+        &mut parts.delays,
+        &mut parts.triggers,
+        &mut parts.ready,
+        parts.frames.as_slice(),
+        journal,
+        alloc,
+        parts.at,
+        &parts.waits,
+    )?;
+    Ok(())
+}
+
+/// All of it for a line; the answer has what fired.
+pub fn attend(
+    parts: &mut Parts,
+    alloc: Global,
+    journal: &[Entry],
+    before: &Many<(EntityId, Option<StateObject>)>,
+) -> Result<Many<Firing>, AllocError>
+    requires { Entered journal.now parts.old before.now }
+    ensures fired { IfOk result (λ fired. attempts_by fired ≡ fired_lem journal.now (length journal.now - 1)) }
+    ensures going { OnOk result ((rs : Records) → RunsBefore journal.now rs parts.old.waits parts.old.delays parts.old.frames.items parts.old.ready.pairs.items
+        → Going nobody journal.now rs parts.new) }
+    ensures rested { OnOk result (parts.new.rested ≡ parts.old.rested) }
+{
+    let fired = note_entry(parts, alloc, journal, before)?;
+    wake_line(parts, alloc, journal)?;
+    Ok(fired)
+}

@@ -1,0 +1,56 @@
+//! A run that ends leaves nothing behind: its triggers, its waits, its frames and its pairs go.
+ghost use Rattle.std.specs.Prelude.{◌≡◌, ◌-◌, ◌<◌, ◌≤◌, ◌∷◌, [], ℕ, None, Some, length, set, slice_get, vec_len, vec_capacity};
+ghost use Rattle.ha_model.specs.Journal.{Journal};
+ghost use Rattle.ha_model.specs.Records.{Records};
+ghost use Rattle.run_modes.specs.Fits.{AreNumbered};
+ghost use Rattle.trig_set.specs.Stands.{StandsFor};
+ghost use Rattle.wait_set.specs.Asked.{owners_of, without_run};
+ghost use Rattle.engine_parts.specs.Kept.{Going, Gone, Owned};
+ghost use Rattle.engine_parts.specs.Pending.{AreOthers};
+ghost use Rattle.engine_parts.specs.Records.{HasRoom, also};
+
+use crate::parts::Parts;
+use crate::ready::drop_pairs;
+use crate::wake::detach;
+use script_step::Frames;
+use trig_set::TrigSet;
+use wait_set::Waits;
+
+/// The triggers of all waits of a run are detached.
+fn detach_run(triggers: &mut TrigSet, waits: &Waits, serial: u64)
+    ensures stands { (j : Journal) → StandsFor triggers.old j → StandsFor triggers.new j }
+    ensures owned { (j : Journal) → ((i o : ℕ) → slice_get (owners_of serial waits.now.asks) i ≡ Some o → (1024 ≤ o) × AreOthers (o ∷ []) (without_run serial waits.now.asks))
+        → Owned j triggers.old (record { asks = without_run serial waits.now.asks; fresh = waits.now.fresh })
+        → Owned j triggers.new (record { asks = without_run serial waits.now.asks; fresh = waits.now.fresh }) }
+{
+    'asks: for at in 0..usize::MAX {
+        match waits.owner_of(serial, at) {
+            Some(owner) => detach(triggers, owner),
+            None => return,
+        }
+    }
+}
+
+/// The slot of a run is emptied.
+fn clear_slot(frames: &mut Vec<Option<Frames>>, serial: u64)
+    ensures slot { serial - 1 < length frames.old.items → frames.new.items ≡ set frames.old.items (serial - 1) None }
+    ensures len { vec_len frames.new ≡ vec_len frames.old }
+    ensures capacity { vec_capacity frames.new ≡ vec_capacity frames.old }
+{
+    let at = serial.saturating_sub(1) as usize;
+    if at < frames.len() {
+        frames[at] = None;
+    }
+}
+
+/// A run goes; it has still to be ended.
+pub fn forget(parts: &mut Parts, serial: u64)
+    ensures going { (gone : Gone) (k : Journal) (rs : Records) → AreNumbered 0 rs → 0 < serial → serial ≤ length rs → Going gone k rs parts.old → Going (also gone serial) k rs parts.new }
+    ensures rested { parts.new.rested ≡ parts.old.rested }
+    ensures room { (n : ℕ) → HasRoom n parts.old → HasRoom n parts.new }
+{
+    detach_run(&mut parts.triggers, &parts.waits, serial);
+    parts.waits.drop_run(serial);
+    clear_slot(&mut parts.frames, serial);
+    drop_pairs(&mut parts.ready, serial);
+}

@@ -1,0 +1,33 @@
+//! The first and the last entry of a journal.
+ghost use Rattle.std.specs.Prelude.{◌≡◌, ◌-◌, ◌<◌, length, take};
+ghost use Rattle.ha_model.specs.declared.journal.Entry.{Entry as Item};
+ghost use Rattle.ha_model.specs.Journal.{Journal, IsJournal, automations};
+ghost use Rattle.ha_model.specs.RecordSteps.{more};
+
+use ha_model::{Config, Entry};
+
+/// The configuration of the boot.
+pub fn configuration(journal: &[Entry]) -> &Config
+    requires { IsJournal journal.now }
+    ensures { result.now.automations ≡ automations journal.now }
+{
+    match journal.first() {
+        Some(Entry::Boot { config, .. }) => config,
+        _ => unreachable!(),
+    }
+}
+
+/// The last entry.
+pub fn last_entry(journal: &[Entry]) -> &Entry
+    requires { 0 < length journal.now }
+    ensures { (j : Journal) (x : Item) → journal.now ≡ more j x → result.now ≡ x }
+{
+    &journal[journal.len() - 1]
+}
+
+/// Drops the last entry.
+pub fn drop_last(journal: &mut Vec<Entry>)
+    ensures { journal.new.items ≡ take (length journal.old.items - 1) journal.old.items }
+{
+    let _last = journal.pop();
+}

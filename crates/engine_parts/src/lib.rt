@@ -1,0 +1,14 @@
+//! What an engine keeps beside the records, and how an entry is told to it: who is ready, who waits, and who wakes.
+#![tactic(auto)]
+
+pub mod attempts;
+pub mod attend;
+pub mod forget;
+pub mod last;
+pub mod laws;
+pub mod note;
+pub mod parts;
+pub mod ready;
+pub mod rested;
+pub mod see;
+pub mod wake;

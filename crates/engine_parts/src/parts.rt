@@ -1,0 +1,29 @@
+//! What stands for the journal beside the records.
+use crate::ready::Ready;
+use ha_clock::{Moment, Zone};
+use script_step::Frames;
+use state_table::StateTable;
+use switch_book::Switches;
+use timer_queue::TimerQueue;
+use trig_set::TrigSet;
+use wait_set::Waits;
+
+/// The parts of an engine.
+#[derive(Drop)]
+pub struct Parts {
+    pub at: Moment,
+    pub zone: Zone,
+    pub states: StateTable,
+    pub switches: Switches,
+    pub triggers: TrigSet,
+    pub waits: Waits,
+    /// Of each run, by its serial less 1; none once it has ended.
+    pub frames: Vec<Option<Frames>>,
+    /// The dues of the delays that are not over, under the places of their steps.
+    pub delays: TimerQueue,
+    pub ready: Ready,
+    /// Of sources 0 to 15.
+    pub rested: Vec<bool>,
+    /// Whether the last entry is the boot or changed a switch.
+    pub changed: bool,
+}

@@ -1,0 +1,101 @@
+//! The ready pairs of run and branch, in order, kept from entry to entry.
+ghost use Rattle.std.specs.Prelude.{◌≡◌, ◌++◌, ◌∷◌, ◌<◌, ◌≤◌, ℕ, suc, List, not, nat_eq, nat_lt, OnOk, length, take, drop, filter, vec_len, vec_capacity};
+ghost use Rattle.ha_model.specs.Scripts.{Branch as Path};
+ghost use Rattle.ha_ready.specs.ReadyPairs.{pairs_from, pairs_of, with_run};
+ghost use Rattle.engine_parts.specs.Lower.{lower};
+
+use ha_model::{Branch, Many};
+use std::alloc::AllocError;
+
+/// The pairs, by serial and then by branch.
+#[derive(Drop)]
+pub struct Ready {
+    pub pairs: Vec<(u64, Branch)>,
+}
+
+/// One pair is taken out.
+fn cut(ready: &mut Ready, at: usize)
+    requires { at < length ready.old.pairs.items }
+    ensures items { ready.new.pairs.items ≡ take at ready.old.pairs.items ++ drop (suc at) ready.old.pairs.items }
+    ensures capacity { vec_capacity ready.new.pairs ≡ vec_capacity ready.old.pairs }
+{
+    ready.pairs.remove(at);
+}
+
+/// Whether a pair is of this run.
+fn is_of(pair: &(u64, Branch), serial: u64) -> bool
+    ensures { result ≡ nat_eq pair.now.0 serial }
+{
+    pair.0 == serial
+}
+
+/// The pairs of a run are taken out.
+pub fn drop_pairs(ready: &mut Ready, serial: u64)
+    ensures rest { ready.new.pairs.items ≡ filter (λ x. not (nat_eq x.0 serial)) ready.old.pairs.items }
+    ensures len { vec_len ready.new.pairs ≤ vec_len ready.old.pairs }
+    ensures capacity { vec_capacity ready.new.pairs ≡ vec_capacity ready.old.pairs }
+{
+    let mut at = 0;
+    'pairs: while at < ready.pairs.len() {
+        if is_of(&ready.pairs[at], serial) {
+            cut(ready, at);
+        } else {
+            at += 1;
+        }
+    }
+}
+
+/// Whether a pair is of an earlier run.
+fn is_before(pair: &(u64, Branch), serial: u64) -> bool
+    ensures { result ≡ nat_lt pair.now.0 serial }
+{
+    pair.0 < serial
+}
+
+/// How many pairs stand at the front that are of earlier runs.
+pub fn lower(pairs: &[(u64, Branch)], serial: u64) -> usize
+    ensures { result ≡ lower serial pairs.now }
+{
+    'front: for at in 0..pairs.len() {
+        if !is_before(&pairs[at], serial) {
+            return at;
+        }
+    }
+    pairs.len()
+}
+
+/// A pair is put in at a place.
+fn put_pair(ready: &mut Ready, at: usize, serial: u64, branch: Branch) -> Result<(), AllocError>
+    requires { at ≤ length ready.old.pairs.items }
+    ensures { OnOk result (ready.new.pairs.items ≡ take at ready.old.pairs.items ++ (serial, branch) ∷ drop at ready.old.pairs.items) }
+{
+    ready.pairs.insert(at, (serial, branch))?;
+    Ok(())
+}
+
+/// The branches of a run are put in at a place.
+fn put_pairs(
+    ready: &mut Ready,
+    at: usize,
+    serial: u64,
+    branches: Many<Branch>,
+) -> Result<(), AllocError>
+    requires { at ≤ length ready.old.pairs.items }
+    ensures { OnOk result (ready.new.pairs.items ≡ take at ready.old.pairs.items ++ (pairs_of serial branches ++ drop at ready.old.pairs.items)) }
+{
+    let mut branches = branches;
+    'branches: while let Some(branch) = branches.pop() {
+        put_pair(ready, at, serial, branch)?;
+    }
+    Ok(())
+}
+
+/// The branches of a run that may step are now these.
+pub fn set_run(ready: &mut Ready, serial: u64, branches: Many<Branch>) -> Result<(), AllocError>
+    ensures { OnOk result ((m : ℕ) (by : ℕ → List Path) → ready.old.pairs.items ≡ pairs_from 0 m by → 0 < serial → serial ≤ m → ready.new.pairs.items ≡ with_run serial branches ready.old.pairs.items) }
+{
+    drop_pairs(ready, serial);
+    let at = lower(ready.pairs.as_slice(), serial);
+    put_pairs(ready, at, serial, branches)?;
+    Ok(())
+}

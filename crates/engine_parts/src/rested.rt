@@ -1,0 +1,31 @@
+//! The flags that say who is rested.
+ghost use Rattle.std.specs.Prelude.{◌≡◌, ◌≤◌, length, vec_len};
+ghost use Rattle.ha_ready.specs.RestedFlags.{flag_after, flags_from};
+
+fn flag_after(source: Option<u32>, quiet: bool, of: u32, flag: bool) -> bool
+    ensures { result ≡ flag_after source quiet of flag }
+{
+    let own = match source {
+        Some(line) => line == of,
+        None => false,
+    };
+    (!own && flag) || quiet
+}
+
+/// After an entry that is a line of this source, or of none.
+fn note_rested(flags: &mut [bool], source: Option<u32>, quiet: bool)
+    requires { length flags.old ≤ 16 }
+    ensures { flags.new ≡ flags_from source quiet 0 flags.old }
+{
+    'sources: for i in 0..flags.len() {
+        flags[i] = flag_after(source, quiet, i as u32, flags[i]);
+    }
+}
+
+/// The same, of flags that are kept in a list.
+pub fn note_flags(flags: &mut Vec<bool>, source: Option<u32>, quiet: bool)
+    requires { vec_len flags.old ≤ 16 }
+    ensures { flags.new.items ≡ flags_from source quiet 0 flags.old.items }
+{
+    note_rested(flags.as_mut_slice(), source, quiet);
+}

@@ -1,0 +1,90 @@
+//! The states that an entry changes, and what is noted of them before.
+ghost use Rattle.std.specs.Prelude.{◌≡◌, ◌∷◌, [], ℕ, None, Some, false, IfOk, OnOk};
+ghost use Rattle.std.specs.Option.{option_copied};
+ghost use Rattle.ha_model.specs.declared.journal.Cmd as cmd;
+ghost use Rattle.ha_model.specs.declared.journal.Entry.TheVariants.{Line};
+ghost use Rattle.ha_model.specs.Journal.{Journal, now as now_of};
+ghost use Rattle.ha_model.specs.RecordSteps.{more};
+ghost use Rattle.state_table.specs.Anew.{is_automation};
+ghost use Rattle.state_table.specs.Table.{at, StandsFor};
+ghost use Rattle.trig_set.specs.Next.{AreListed, Listed};
+
+use ha_model::{EntityId, Many, Moment, Plain, StateObject, Value, Word};
+use state_table::StateTable;
+use std::alloc::{AllocError, Global};
+
+/// A copy of a state, if there is one.
+pub fn copied(alloc: Global, state: Option<&StateObject>) -> Result<Option<StateObject>, AllocError>
+    ensures { IfOk result (λ made. made ≡ option_copied state.entry) }
+{
+    match state {
+        Some(object) => match object.copy(alloc) {
+            Ok(made) => Ok(Some(made)),
+            Err(error) => Err(error),
+        },
+        None => Ok(None),
+    }
+}
+
+/// The entity with this state.
+fn one(
+    alloc: Global,
+    entity: &EntityId,
+    state: Option<StateObject>,
+) -> Result<Many<(EntityId, Option<StateObject>)>, AllocError>
+    ensures { IfOk result (λ before. before ≡ (entity.now, state) ∷ []) }
+{
+    let mut list = Many::make(alloc);
+    list.push((entity.copy(alloc)?, state))?;
+    Ok(list)
+}
+
+/// The entity with its state in the table.
+fn listed(
+    alloc: Global,
+    states: &StateTable,
+    entity: &EntityId,
+) -> Result<Many<(EntityId, Option<StateObject>)>, AllocError>
+    ensures { IfOk result (λ before. before ≡ (entity.now, at states.now entity.now) ∷ []) }
+{
+    match copied(alloc, states.get(entity)) {
+        Ok(state) => one(alloc, entity, state),
+        Err(error) => Err(error),
+    }
+}
+
+/// A report: the table changes, and what it had of the entity is handed out.
+pub fn see_report(
+    states: &mut StateTable,
+    alloc: Global,
+    entity: &EntityId,
+    text: &Word,
+    attributes: &Many<(Word, Value)>,
+    now: Moment,
+) -> Result<Many<(EntityId, Option<StateObject>)>, AllocError>
+    ensures stands { OnOk result ((j : Journal) (k n : ℕ) → StandsFor states.old j → is_automation entity.now ≡ false
+        → now ≡ now_of (more j (Line k n (cmd.Cmd.Report entity.now text.now attributes.now)))
+        → StandsFor states.new (more j (Line k n (cmd.Cmd.Report entity.now text.now attributes.now)))) }
+    ensures listed { IfOk result (λ before. (j : Journal) (k n : ℕ) → StandsFor states.old j → is_automation entity.now ≡ false
+        → AreListed j (Line k n (cmd.Cmd.Report entity.now text.now attributes.now)) before) }
+{
+    let before = listed(alloc, states, entity)?;
+    match states.report(alloc, entity, text, attributes, now) {
+        Ok(_) => Ok(before),
+        Err(error) => Err(error),
+    }
+}
+
+/// An entity goes: it leaves the table, and what it had is handed out.
+pub fn see_gone(
+    states: &mut StateTable,
+    alloc: Global,
+    entity: &EntityId,
+) -> Result<Many<(EntityId, Option<StateObject>)>, AllocError>
+    ensures stands { OnOk result ((j : Journal) (k n : ℕ) → StandsFor states.old j → is_automation entity.now ≡ false → StandsFor states.new (more j (Line k n (cmd.Cmd.Gone entity.now)))) }
+    ensures listed { IfOk result (λ before. (j : Journal) (k n : ℕ) → StandsFor states.old j → is_automation entity.now ≡ false → AreListed j (Line k n (cmd.Cmd.Gone entity.now)) before) }
+{
+    let before = listed(alloc, states, entity)?;
+    states.gone(entity);
+    Ok(before)
+}

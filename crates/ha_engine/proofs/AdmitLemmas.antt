@@ -1,0 +1,251 @@
+-- An attempt that its mode admits has a run, and the runs are kept.
+use Rattle.std.proofs.Common.{◌≡◌, ℕ, zero, suc, ◌+◌, ◌-◌, ◌<◌, ◌≤◌, ◌⊎◌, inl, inr, List, [], ◌∷◌, ◌++◌, length, Bool, true, false, refl, sym, ap, subst, ◌∙◌, rules, arith}
+use Rattle.std.specs.Prelude.{Option, Some, None, nat_eq, nat_lt, ◌&&◌, if◌then◌else◌}
+use Rattle.std.specs.Option.{option_map_or}
+use Rattle.timer_queue.specs.Timers.{Timer}
+use Rattle.ha_model.specs.declared.config.Action.{Action}
+use Rattle.ha_model.specs.declared.config.Mode.{Mode}
+use Rattle.ha_model.specs.declared.journal.Record.{Record}
+use Rattle.ha_model.specs.Words.{Pairs}
+use Rattle.ha_model.specs.Journal.{Journal, automations}
+use Rattle.ha_model.specs.Scripts.{Branch}
+use Rattle.ha_model.specs.Records.{Records, actions_of, is_restart_mode, lets_in, live_count}
+use Rattle.ha_model.specs.RunSteps.{joined, replace_all}
+use Rattle.ha_model.specs.Lawful.{is_running}
+use Rattle.run_modes.specs.Fits.{AreNumbered}
+use Rattle.run_modes.specs.Table.{admission, attempted, begin_now, live_of, new_run, told}
+use Rattle.script_step.specs.Frames.{began_by, begins}
+use Rattle.script_step.specs.Gates.{first_fronts}
+use Rattle.script_step.specs.declared.frames.Frames.{Frames}
+use Rattle.wait_set.specs.Asked.{WaitTable as Waits}
+use Rattle.ha_model.specs.Attempts.{Attempt}
+use Rattle.ha_model.specs.Records.{last_place}
+use Rattle.run_modes.specs.Calls.{tried}
+use Rattle.run_modes.specs.declared.admission.Admission.{Admission}
+use Rattle.run_modes.specs.Lanes.{first_of}
+use Rattle.run_modes.proofs.TableLemmas.{live-length}
+use Rattle.ha_engine.specs.declared.admit.Prepared.{Prepared}
+use Rattle.ha_engine.specs.Admits.{ArePrepared, IsPrepared, branches_if, from_end, gone_by, has_action, left_by, pairs_by, IsNumbered, OneSlot, SlotsBy}
+use Rattle.engine_parts.specs.Fronts.{Stands, fronts}
+use Rattle.engine_parts.specs.Kept.{Gone, RunsKept, nobody}
+use Rattle.ha_ready.specs.RunPast.{AllPast, BeginBefore, IsPast}
+use Rattle.ha_ready.specs.ReadyPairs.{ready_branches, pairs_of}
+use Rattle.engine_parts.specs.Records.{AreEnded, IsTable, first_branches}
+use Rattle.engine_parts.proofs.FreshLemmas.{run-added, fresh-live, fresh-branches}
+use Rattle.engine_parts.proofs.GoneLemmas.{gone-ended}
+use Rattle.ha_engine.proofs.LiveLemmas.{replaced-ended, replaced-numbered, replaced-length, replaced-past, same-ended}
+use Rattle.ha_ready.proofs.RunPast.{queued-rests, resting}
+
+left-length : (restart : Bool) (a place : ℕ) (rs : Records) → length (left_by restart a place rs) ≡ length rs
+left-length true a place rs = replaced-length a place rs
+left-length false a place rs = refl
+
+-- LAW: those that are replaced went
+pub left-ended : (mode : Mode) (a place : ℕ) (rs : Records) → AreNumbered 0 rs → AreEnded (gone_by mode a rs) rs (left_by (is_restart_mode mode) a place rs)
+left-ended Mode.Restart a place rs num = replaced-ended a place 0 rs num
+left-ended Mode.Single a place rs num = same-ended rs
+left-ended Mode.Queued a place rs num = same-ended rs
+left-ended Mode.Parallel a place rs num = same-ended rs
+
+pub left-table : (restart : Bool) (a place : ℕ) (k : Journal) (rs : Records) → place < length k → IsTable k rs → IsTable k (left_by restart a place rs)
+left-table true a place k rs lt table = record {
+  numbered = replaced-numbered a place 0 rs table.numbered;
+  past = replaced-past a place (length k) rs lt table.past;
+  unstepped = λ s p behind. table.unstepped s p (subst (λ n. n < s) (replaced-length a place rs) behind);
+}
+left-table false a place k rs lt table = table
+
+numbered-snoc : (n : ℕ) (rs : Records) (r : Record) → AreNumbered n rs → r.serial ≡ suc (n + length rs) → AreNumbered n (rs ++ (r ∷ []))
+numbered-snoc n [] r num is = (omega (arith, is), tt)
+numbered-snoc n (y ∷ rs) r num is = (num.0, numbered-snoc (suc n) rs r num.1 (omega (arith, is)))
+
+past-snoc : (n : ℕ) (rs : Records) (r : Record) → AllPast n rs → IsPast n r → AllPast n (rs ++ (r ∷ []))
+past-snoc n [] r h one = (one, tt)
+past-snoc n (y ∷ rs) r h one = (h.0, past-snoc n rs r h.1 one)
+
+length-snoc : (rs : Records) (r : Record) → length (rs ++ (r ∷ [])) ≡ suc (length rs)
+length-snoc [] r = refl
+length-snoc (y ∷ rs) r = ap suc (length-snoc rs r)
+
+module _ (k : Journal) (rs : Records) (table : IsTable k rs) (a : ℕ) (mode : Mode) (place order : ℕ) (env : Pairs) (here : place < length k) where
+  abbrev new : Record
+  new = new_run rs a mode place order env
+
+  abbrev left : Records
+  left = left_by (is_restart_mode mode) a place rs
+
+  is-less : (x y : ℕ) → x < y → nat_lt x y ≡ true
+  is-less x y lt = search (rules, lt)
+
+  new-past : IsPast (length k) new
+  new-past = record { place = here; begin = by (begin_now mode (live_count a rs) place) refl; end = tt }
+    where
+      at-place : (m : Mode) (n b : ℕ) → begin_now m n place ≡ Some b → b ≡ place
+      at-place Mode.Single n b e = cc
+      at-place Mode.Restart n b e = cc
+      at-place Mode.Queued n b e = one (nat_eq n 0) e
+        where
+          one : (c : Bool) → (if c then Some place else None) ≡ Some b → b ≡ place
+          one true is = cc
+          one false is = absurd (let bad : ◌≡◌ {A = Option ℕ} None (Some b) = is in cc)
+      at-place Mode.Parallel n b e = cc
+
+      by : (o : Option ℕ) → begin_now mode (live_count a rs) place ≡ o → BeginBefore (length k) o
+      by None e = tt
+      by (Some b) e = (let same : b ≡ place = at-place mode (live_count a rs) b e in omega (arith, same, here))
+
+  -- LAW: with the new record it is a table again
+  pub joined-table : IsTable k (left ++ (new ∷ []))
+  joined-table =
+      let mid = left-table (is_restart_mode mode) a place k rs here table in
+      record {
+        numbered = numbered-snoc 0 left new mid.numbered (let size = left-length (is_restart_mode mode) a place rs in omega (arith, size));
+        past = past-snoc (length k) left new mid.past new-past;
+        unstepped = λ s p behind. mid.unstepped s p (omega (arith, behind, length-snoc left new));
+      }
+
+  module _ (f : Frames) (serial : f.serial ≡ suc (length rs)) (stands : Stands f (actions_of (automations k) a) env []) (first : fronts f [] ≡ first_fronts (actions_of (automations k) a)) where
+    mid : IsTable k left
+    mid = left-table (is_restart_mode mode) a place k rs here table
+
+    own : new.serial ≡ suc (length left)
+    own = ap suc (sym (left-length (is_restart_mode mode) a place rs))
+
+    -- LAW: the new run is kept, with its outer branch where it begins, and with none where it waits
+    pub joined-kept : (delays : List Timer) (w : Waits) (os : List (Option Frames)) (pairs : List (ℕ × Branch)) (bs : List Branch) → ready_branches left k new ≡ bs → RunsKept (gone_by mode a rs) k rs delays w os pairs
+        → RunsKept nobody k (left ++ (new ∷ [])) delays w (os ++ (Some f ∷ [])) (pairs ++ pairs_of (suc (length rs)) bs)
+    joined-kept delays w os pairs bs is kept =
+        subst (λ n. RunsKept nobody k (left ++ (new ∷ [])) delays w (os ++ (Some f ∷ [])) (pairs ++ pairs_of (suc n) bs)) (left-length (is_restart_mode mode) a place rs)
+        (run-added k left delays w new f os pairs bs (fresh-live k left mid new f own stands first delays w refl serial) is
+        (gone-ended (gone_by mode a rs) k delays w rs left os pairs mid.past table.numbered (left-ended mode a place rs table.numbered) kept))
+
+    pub begun-branches : begin_now mode (live_count a rs) place ≡ Some place → ready_branches left k new ≡ first_branches (actions_of (automations k) a)
+    begun-branches begun = fresh-branches k left mid new f own stands first left
+        ((λ i. option_map_or (λ b. nat_lt b (length k)) (begun i) false && true) ∙ (λ i. is-less place (length k) here i && true))
+
+    pub waiting-branches : begin_now mode (live_count a rs) place ≡ None → ready_branches left k new ≡ []
+    waiting-branches waits = resting left k new (queued-rests (length k) new waits)
+
+-- ---- what an attempt is told
+
+append-nil : {X : Type 0} (xs : List X) → xs ++ [] ≡ xs
+append-nil [] = refl
+append-nil (x ∷ xs) = ap (λ l. x ∷ l) (append-nil xs)
+
+not-restart : (mode : Mode) (max n a : ℕ) (rs : Records) → lets_in mode max n ≡ false → gone_by mode a rs ≡ nobody
+not-restart Mode.Restart max n a rs e = absurd (let bad : ◌≡◌ {A = Bool} true false = e in cc)
+not-restart Mode.Single max n a rs e = refl
+not-restart Mode.Queued max n a rs e = refl
+not-restart Mode.Parallel max n a rs e = refl
+
+first-is : (actions : List Action) → first_branches actions ≡ branches_if (has_action actions)
+first-is [] = refl
+first-is (a ∷ rest) = refl
+
+-- the slot and the pairs of an admitted attempt: it begins, or waits
+record Begins (mode : Mode) (live place s : ℕ) (f : Frames) (acts : Bool) (said : Admission) : Type 0 where
+  begun : begin_now mode live place ≡ Some place
+  slots : (os os' : List (Option Frames)) → SlotsBy said f os os' → OneSlot s f os os'
+  pairs : pairs_by said acts ≡ pairs_of s (branches_if acts)
+
+record Waits' (mode : Mode) (live place s : ℕ) (f : Frames) (acts : Bool) (said : Admission) : Type 0 where
+  waiting : begin_now mode live place ≡ None
+  slots : (os os' : List (Option Frames)) → SlotsBy said f os os' → OneSlot s f os os'
+  pairs : pairs_by said acts ≡ []
+
+begins-or-waits : (mode : Mode) (live : List ℕ) (place s : ℕ) (f : Frames) (acts : Bool) → Begins mode (length live) place s f acts (told mode s (first_of live)) ⊎ Waits' mode (length live) place s f acts (told mode s (first_of live))
+begins-or-waits Mode.Single live place s f acts = inl (record { begun = refl; slots = λ os os' h. h; pairs = refl })
+begins-or-waits Mode.Parallel live place s f acts = inl (record { begun = refl; slots = λ os os' h. h; pairs = refl })
+begins-or-waits Mode.Restart [] place s f acts = inl (record { begun = refl; slots = λ os os' h. h; pairs = refl })
+begins-or-waits Mode.Restart (o ∷ live) place s f acts = inl (record { begun = refl; slots = λ os os' h. h; pairs = refl })
+begins-or-waits Mode.Queued [] place s f acts = inl (record { begun = refl; slots = λ os os' h. h; pairs = refl })
+begins-or-waits Mode.Queued (o ∷ live) place s f acts = inr (record { waiting = (let off : nat_eq (suc (length live)) 0 ≡ false = search rules in λ i. if off i then Some place else None); slots = λ os os' h. h; pairs = refl })
+
+module _ (k : Journal) (rs : Records) (table : IsTable k rs) (a : ℕ) (mode : Mode) (place order : ℕ) (env : Pairs) (here : place < length k) (f : Frames) (acts : Bool)
+    (stands : Stands f (actions_of (automations k) a) env []) (first : fronts f [] ≡ first_fronts (actions_of (automations k) a)) (act : acts ≡ has_action (actions_of (automations k) a)) where
+  own_stands : (g : Frames) → IsNumbered (suc (length rs)) f g → Stands g (actions_of (automations k) a) env []
+  own_stands g same = record { items = stands.items; stands = same.stands (actions_of (automations k) a) env [] stands.items stands.stands }
+
+  own_first : (g : Frames) → IsNumbered (suc (length rs)) f g → fronts g [] ≡ first_fronts (actions_of (automations k) a)
+  own_first g same = same.fronts (began_by begins []) ∙ first
+
+  -- LAW: behind an attempt that is admitted
+  admitted-kept : (delays : List Timer) (w : Waits) (os os' : List (Option Frames)) (pairs : List (ℕ × Branch)) (said : Admission) → said ≡ told mode (suc (length rs)) (first_of (live_of a rs)) → SlotsBy said f os os'
+      → RunsKept (gone_by mode a rs) k rs delays w os pairs → RunsKept nobody k (joined mode a place rs (new_run rs a mode place order env)) delays w os' (pairs ++ pairs_by said acts)
+  admitted-kept delays w os os' pairs said is slots kept =
+      subst (λ (t : Admission). RunsKept nobody k (joined mode a place rs (new_run rs a mode place order env)) delays w os' (pairs ++ pairs_by t acts)) (sym is)
+      (by (told mode (suc (length rs)) (first_of (live_of a rs))) (begins-or-waits mode (live_of a rs) place (suc (length rs)) f acts) (subst (λ (t : Admission). SlotsBy t f os os') is slots))
+    where
+      count : length (live_of a rs) ≡ live_count a rs
+      count = sym (live-length a rs)
+
+      by : (t : Admission) → Begins mode (length (live_of a rs)) place (suc (length rs)) f acts t ⊎ Waits' mode (length (live_of a rs)) place (suc (length rs)) f acts t → SlotsBy t f os os'
+          → RunsKept nobody k (joined mode a place rs (new_run rs a mode place order env)) delays w os' (pairs ++ pairs_by t acts)
+      by t (inl b) slots =
+          (let begun : begin_now mode (live_count a rs) place ≡ Some place = ap (λ n. begin_now mode n place) (sym count) ∙ b.begun in
+          let bs : List Branch = first_branches (actions_of (automations k) a) in
+          let one : OneSlot (suc (length rs)) f os os' = b.slots os os' slots in
+          let made = joined-kept k rs table a mode place order env here one.0 one.2.serial (own_stands one.0 one.2) (own_first one.0 one.2) delays w os pairs bs
+          (begun-branches k rs table a mode place order env here one.0 one.2.serial (own_stands one.0 one.2) (own_first one.0 one.2) begun) kept in
+          let more : pairs_of (suc (length rs)) bs ≡ pairs_by t acts = ap (pairs_of (suc (length rs))) (first-is (actions_of (automations k) a) ∙ ap branches_if (sym act)) ∙ sym b.pairs in
+          subst (λ (l : List (Option Frames)). RunsKept nobody k (joined mode a place rs (new_run rs a mode place order env)) delays w l (pairs ++ pairs_by t acts)) (sym one.1)
+          (subst (λ (l : List (ℕ × Branch)). RunsKept nobody k (joined mode a place rs (new_run rs a mode place order env)) delays w (os ++ (Some one.0 ∷ [])) (pairs ++ l)) more made))
+      by t (inr b) slots =
+          (let waits : begin_now mode (live_count a rs) place ≡ None = ap (λ n. begin_now mode n place) (sym count) ∙ b.waiting in
+          let one : OneSlot (suc (length rs)) f os os' = b.slots os os' slots in
+          let made = joined-kept k rs table a mode place order env here one.0 one.2.serial (own_stands one.0 one.2) (own_first one.0 one.2) delays w os pairs []
+          (waiting-branches k rs table a mode place order env here one.0 one.2.serial (own_stands one.0 one.2) (own_first one.0 one.2) waits) kept in
+          subst (λ (l : List (Option Frames)). RunsKept nobody k (joined mode a place rs (new_run rs a mode place order env)) delays w l (pairs ++ pairs_by t acts)) (sym one.1)
+          (subst (λ (l : List (ℕ × Branch)). RunsKept nobody k (joined mode a place rs (new_run rs a mode place order env)) delays w (os ++ (Some one.0 ∷ [])) (pairs ++ l)) (sym b.pairs) made))
+
+  -- LAW: behind an attempt all runs are kept
+  pub attempted-runs : (max : ℕ) (said : Admission) → said ≡ admission a mode max rs → (delays : List Timer) (w : Waits) (os os' : List (Option Frames)) (pairs : List (ℕ × Branch)) → SlotsBy said f os os'
+      → RunsKept (gone_by mode a rs) k rs delays w os pairs
+      → IsTable k (attempted a mode max place order env rs) × RunsKept nobody k (attempted a mode max place order env rs) delays w os' (pairs ++ pairs_by said acts)
+  attempted-runs max said answer delays w os os' pairs slots kept = by (lets_in mode max (live_count a rs)) refl answer
+    where
+      by : (b : Bool) → lets_in mode max (live_count a rs) ≡ b → said ≡ (if b then told mode (suc (length rs)) (first_of (live_of a rs)) else Admission.Refused)
+          → IsTable k (if b then joined mode a place rs (new_run rs a mode place order env) else rs)
+          × RunsKept nobody k (if b then joined mode a place rs (new_run rs a mode place order env) else rs) delays w os' (pairs ++ pairs_by said acts)
+      by true e is = (joined-table k rs table a mode place order env here, admitted-kept delays w os os' pairs said is slots kept)
+      by false e is = (
+        table,
+        subst (λ (t : Admission). RunsKept nobody k rs delays w os' (pairs ++ pairs_by t acts)) (sym is)
+            (let same : os' ≡ os = subst (λ (t : Admission). SlotsBy t f os os') is slots in
+            subst (λ (l : List (Option Frames)). RunsKept nobody k rs delays w l (pairs ++ [])) (sym same)
+            (subst (λ (l : List (ℕ × Branch)). RunsKept nobody k rs delays w os l) (sym (append-nil pairs))
+            (subst (λ (g : Gone). RunsKept g k rs delays w os pairs) (not-restart mode max (live_count a rs) a rs e) kept))),
+      )
+
+-- LAW: so it is with one that is prepared
+pub prepared-kept : (k : Journal) (rs : Records) → IsTable k rs → (x : ℕ × Attempt) (p : Prepared) → IsPrepared k x p → (place : ℕ) → place < length k → (said : Admission) → said ≡ admission p.automation p.mode p.max rs
+    → (delays : List Timer) (w : Waits) (os os' : List (Option Frames)) (pairs : List (ℕ × Branch)) → SlotsBy said p.frames os os' → RunsKept (gone_by p.mode p.automation rs) k rs delays w os pairs
+    → IsTable k (attempted p.automation p.mode p.max place p.order p.env rs) × RunsKept nobody k (attempted p.automation p.mode p.max place p.order p.env rs) delays w os' (pairs ++ pairs_by said p.acts)
+prepared-kept k rs table x p is place here said answer delays w os os' pairs slots kept =
+    let script : actions_of (automations k) x.1.automation ≡ actions_of (automations k) p.automation = ap (actions_of (automations k)) (sym is.automation) in
+    attempted-runs k rs table p.automation p.mode place p.order p.env here p.frames p.acts
+    (subst (λ (actions : List Action). Stands p.frames actions p.env []) script (subst (λ (env : Pairs). Stands p.frames (actions_of (automations k) x.1.automation) env []) (sym is.env) is.stands))
+    (is.first ∙ ap first_fronts script) (is.acts ∙ ap has_action script) p.max said answer delays w os os' pairs slots kept
+
+-- LAW: the call is that of the definition
+pub prepared-tried : (k : Journal) (rs : Records) (x : ℕ × Attempt) (p : Prepared) → IsPrepared k x p → (place : ℕ) → place ≡ last_place k → attempted p.automation p.mode p.max place p.order p.env rs ≡ tried k rs x
+prepared-tried k rs x p is place at = (λ i. attempted (is.automation i) (is.mode i) (is.max i) (at i) (is.order i) (is.env i) rs)
+
+-- ---- a stack
+
+pub from-end-snoc : {X : Type 0} (xs : List X) (x : X) → from_end (xs ++ (x ∷ [])) ≡ x ∷ from_end xs
+from-end-snoc [] x = refl
+from-end-snoc (y ∷ xs) x = ap (λ l. l ++ (y ∷ [])) (from-end-snoc xs x)
+
+pub next-prepared : (k : Journal) (ys : List (ℕ × Attempt)) (p : Prepared) (ps : List Prepared) → ArePrepared k ys (p ∷ ps)
+    → (x : ℕ × Attempt) × (zs : List (ℕ × Attempt)) × (ys ≡ x ∷ zs) × IsPrepared k x p × ArePrepared k zs ps
+next-prepared k [] p ps h = absurd h
+next-prepared k (x ∷ zs) p ps h = (x, zs, refl, h.0, h.1)
+
+pub none-prepared : (k : Journal) (ys : List (ℕ × Attempt)) → ArePrepared k ys [] → ys ≡ []
+none-prepared k [] h = refl
+none-prepared k (x ∷ zs) h = absurd h
+
+pub no-items : (xs : List Prepared) → length xs ≡ 0 → xs ≡ []
+no-items [] e = refl
+no-items (x ∷ xs) e = absurd (omega (arith, e))

@@ -1,0 +1,103 @@
+-- A journal of its boot alone.
+use Rattle.std.proofs.Common.{◌≡◌, ℕ, zero, suc, ◌-◌, ◌<◌, ◌≤◌, List, [], ◌∷◌, ◌++◌, length, filter, Bool, true, false, refl, sym, ap, subst, ◌∙◌, rules, arith}
+use Rattle.std.specs.Prelude.{IsSome, Option, Some, None, max, slice_get}
+use Rattle.ha_clock.specs.Zone as clock
+use Rattle.ha_clock.specs.Local.{last_moment}
+use Rattle.ha_model.specs.declared.config.Automation.{Automation}
+use Rattle.ha_model.specs.declared.config.Config.{Config}
+use Rattle.ha_model.specs.declared.journal.Entry.{Entry}
+use Rattle.ha_model.specs.declared.journal.Entry.TheVariants.{Boot}
+use Rattle.ha_model.specs.Journal.{Journal, IsJournal, automations, now, zone_of}
+use Rattle.ha_model.specs.Records.{Records, records_of}
+use Rattle.ha_model.specs.RecordSteps.{more}
+use Rattle.ha_model.specs.Lawful.{Right, is_rested}
+use Rattle.ha_model.specs.Sound.{IsSoundConfig}
+use Rattle.ha_model.specs.States.{Sight}
+use Rattle.ha_model.specs.Triggers.{sight}
+use Rattle.ha_model.specs.Words.{Text}
+use Rattle.store_text.specs.Store.{Switches}
+use Rattle.state_table.specs.Table as states
+use Rattle.state_table.specs.declared.table.StateTable.{StateTable}
+use Rattle.state_table.proofs.StateLaws.{states-other}
+use Rattle.switch_book.specs.Book as switches
+use Rattle.timer_queue.specs.Timers.{Timer}
+use Rattle.trig_set.specs.Next.{IsNext, has_earlier}
+use Rattle.trig_set.specs.Stands as triggers
+use Rattle.trig_set.specs.declared.set.TrigSet.{TrigSet}
+use Rattle.ha_ready.specs.Agree.{step_at}
+use Rattle.ha_ready.specs.RestedFlags.{RestedKept}
+use Rattle.ha_engine.specs.Begun.{Begun, BegunWith, trues}
+use Rattle.engine_parts.specs.Kept.{AreSound, Looks}
+use Rattle.engine_entry.specs.Opened.{AllOpened, Opened, Opening}
+use Rattle.engine_parts.specs.Records.{IsTable}
+use Rattle.engine_entry.proofs.OpenLemmas.{open-begin, opened-late}
+
+more-true : (n : ℕ) → trues n ++ (true ∷ []) ≡ trues (suc n)
+more-true zero = refl
+more-true (suc n) = ap (λ l. true ∷ l) (more-true n)
+
+pub true-next : (n m : ℕ) → m ≡ suc n → trues n ++ (true ∷ []) ≡ trues m
+true-next n m e = more-true n ∙ ap trues (sym e)
+
+get-true : (n k : ℕ) → k < n → slice_get (trues n) k ≡ Some true
+get-true zero k lt = absurd (omega (arith, lt))
+get-true (suc n) zero lt = refl
+get-true (suc n) (suc k) lt = get-true n k (omega (arith, lt))
+
+true-count : (n : ℕ) → length (trues n) ≡ n
+true-count zero = refl
+true-count (suc n) = ap suc (true-count n)
+
+module _ (text : Text) (config : Config) (stored : Option Switches) (start : ℕ) (zone : Text) where
+  abbrev x : Entry
+  x = Boot text config stored start zone
+
+  abbrev k : Journal
+  k = x ∷ []
+
+  pub starts : start ≡ now k
+  starts = omega arith
+
+  -- LAW: of the boot alone the journal is right with its records
+  pub boot-right : Right k (records_of k)
+  boot-right = record { journal = (tt, tt); records_are = refl; entries = (tt, tt) }
+
+  pub boot-table : IsTable k []
+  boot-table = record { numbered = tt; past = tt; unstepped = λ s p behind. none s p }
+    where
+      none : (s p : ℕ) → step_at k s p ≡ false
+      none s zero = refl
+      none s (suc p) = refl
+
+  -- LAW: all sources are rested
+  pub boot-rested : (rs : Records) → RestedKept k rs (trues 16)
+  boot-rested rs = record { count = true-count 16; known = λ s lt. get-true 16 s lt ∙ (λ i. Some true); others = λ s le. refl }
+
+  pub boot-looks : IsSome (clock.zone_of zone) → start ≤ last_moment → (table : StateTable) → states.StandsFor table k → Looks k table zone start
+  boot-looks read in_time table stand = record { now_is = starts; in_time = in_time; zone_is = refl; zone_read = read; states_stand = stand }
+
+  -- LAW: before anything is set
+  abbrev pub boot-opening : IsSoundConfig config → (s : Switches) → switches.StandsFor s k → (table : StateTable) (t : TrigSet) → states.StandsFor table [] → triggers.attached t ≡ [] → triggers.StandsFor t []
+      → (rules : List Automation) → rules ≡ automations k → Opening rules 0 start s table t
+  boot-opening sound s stand table t empty none stands rules are = record {
+    j = [];
+    x = x;
+    opens = refl;
+    all_are = are;
+    sound = sound;
+    place_is = refl;
+    at_is = starts;
+    switches_stand = stand;
+    begun = open-begin [] x refl table t (λ e left. empty e ∙ sym (states-other [] e x refl refl refl left)) none stands;
+  }
+
+  -- LAW: the boot is the next entry of the empty journal
+  pub boot-next : IsSoundConfig config → IsSome (clock.zone_of zone) → start ≤ last_moment → (table : StateTable) (t : TrigSet) → AllOpened [] x table t → (seen : Sight) → seen ≡ sight k (length k) → IsNext [] 0 x [] seen (triggers.attached t)
+  boot-next sound read in_time table t opened seen sees = record {
+    at = refl;
+    journal = (tt, tt);
+    zone = read;
+    in_time = subst (λ n. n ≤ last_moment) starts in_time;
+    listed = λ earlier. absurd (let late = opened-late [] x refl sound table t opened in let bad : ◌≡◌ {A = Bool} true false = sym earlier ∙ late in cc);
+    sees = sees;
+  }

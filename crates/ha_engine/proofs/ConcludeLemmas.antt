@@ -1,0 +1,85 @@
+-- The records of a line that changes no switch, and what is kept behind it.
+use Rattle.std.proofs.Common.{◌≡◌, ℕ, zero, suc, ◌+◌, ◌-◌, ◌<◌, ◌≤◌, List, [], ◌∷◌, length, Bool, true, false, refl, sym, ap, subst, ◌∙◌, rules, arith}
+use Rattle.std.specs.Prelude.{Option, Some, None, nat_eq}
+use Rattle.ha_model.specs.declared.journal.Cmd.{Cmd}
+use Rattle.ha_model.specs.declared.journal.Entry.{Entry}
+use Rattle.ha_model.specs.declared.journal.Entry.TheVariants.{Line}
+use Rattle.ha_model.specs.declared.journal.Record.{Record}
+use Rattle.ha_model.specs.Entries.{Turning, turning}
+use Rattle.ha_model.specs.Entries.{IsPlain}
+use Rattle.ha_model.specs.Commands.{IsFair}
+use Rattle.ha_model.specs.Journal.{Journal, automations}
+use Rattle.ha_model.specs.Records.{Records, passing, records_of, stops, stops_turned}
+use Rattle.ha_model.specs.RecordSteps.{more, records_after}
+use Rattle.ha_model.specs.Lawful.{Right, is_quiet, ready, is_empty, record_of}
+use Rattle.ha_model.proofs.LawfulLaws.{right-more}
+use Rattle.ha_model.proofs.RecordLaws.{length-more, records-more}
+use Rattle.ha_model.proofs.StepLaws.{Numbered, numbered-of}
+use Rattle.run_modes.specs.Calls.{AreTurned, all_tried, stops_done}
+use Rattle.run_modes.specs.Fits.{AreNumbered}
+use Rattle.run_laws.proofs.EntryLaws.{by-calls}
+use Rattle.ha_ready.specs.RunPast.{AllPast, BeginBefore, EndBefore, IsPast}
+use Rattle.ha_model.specs.declared.journal.EndCause.{EndCause}
+use Rattle.engine_parts.specs.Records.{IsTable}
+use Rattle.ha_ready.specs.Agree.{step_at}
+use Rattle.engine_entry.proofs.EnterLemmas.{plain-leaves}
+use Rattle.ha_ready.proofs.RunPast.{all-past}
+use Rattle.engine_parts.proofs.SteppersRun.{line-steps, stepper-runs}
+use Rattle.std.proofs.lemmas.Option.{slice_get_within}
+
+-- LAW: behind a plain line its attempts alone change the records
+pub plain-records : (j : Journal) (rs : Records) (source number : ℕ) (cmd : Cmd) → Right j rs → IsPlain cmd → IsFair j cmd
+    → all_tried (more j (Line source number cmd)) rs (passing (more j (Line source number cmd))) ≡ records_after j rs (Line source number cmd)
+plain-records j rs source number cmd right plain fair =
+    let x : Entry = Line source number cmd in
+    let nobody : AreTurned j x [] = (λ a. ap (stops_turned (automations j) a) (plain-leaves source number cmd plain)) in
+    same-stops cmd plain
+    ∙ by-calls j rs x [] right (λ boot. boot) fair nobody ∙ records-more j x ∙ ap (λ l. records_after j l x) (sym right.records_are)
+  where
+    same-stops : (c : Cmd) → IsPlain c → all_tried (more j (Line source number cmd)) rs (passing (more j (Line source number cmd))) ≡ all_tried (more j (Line source number cmd)) (stops_done (length j) (Line source number c) [] rs) (passing (more j (Line source number cmd)))
+    same-stops (Cmd.Report entity text attributes) h = refl
+    same-stops (Cmd.Gone entity) h = refl
+    same-stops (Cmd.Event kind pairs) h = refl
+    same-stops (Cmd.Moment at) h = refl
+    same-stops (Cmd.Switch name on stop) h = absurd h
+    same-stops (Cmd.Trigger name skip) h = refl
+    same-stops Cmd.Restart h = absurd h
+    same-stops (Cmd.Refused code) h = refl
+    same-stops Cmd.Lost h = refl
+    same-stops Cmd.TooLong h = refl
+
+numbered-as : (n : ℕ) (rs : Records) → Numbered n rs → AreNumbered n rs
+unfolding Numbered
+numbered-as n [] h = tt
+numbered-as n (r ∷ rs) h = (h.0, numbered-as (suc n) rs h.1)
+
+pub past-more : (n m : ℕ) (rs : Records) → n ≤ m → AllPast n rs → AllPast m rs
+past-more n m [] le h = tt
+past-more n m (r ∷ rs) le h = (record { place = omega (arith, h.0.place, le); begin = begins r.begin h.0.begin; end = ends r.end h.0.end }, past-more n m rs le h.1)
+  where
+    begins : (b : Option ℕ) → BeginBefore n b → BeginBefore m b
+    begins None g = tt
+    begins (Some b) g = omega (arith, g, le)
+
+    ends : (e : Option (ℕ × EndCause)) → EndBefore n e → EndBefore m e
+    ends None g = tt
+    ends (Some e) g = omega (arith, g, le)
+
+-- LAW: the records before a line are a table behind it
+pub line-table : (j : Journal) (rs : Records) (source number : ℕ) (cmd : Cmd) → Right j rs → IsTable (more j (Line source number cmd)) rs
+line-table j rs source number cmd right = record {
+  numbered = numbered-as 0 rs (subst (Numbered 0) (sym right.records_are) (numbered-of j));
+  past = past-more (length j) (length (more j (Line source number cmd))) rs (omega (arith, length-more j (Line source number cmd))) (all-past j rs right);
+  unstepped = λ s p behind. none s p behind (step_at (more j (Line source number cmd)) s p) refl;
+}
+  where
+    none : (s p : ℕ) → length rs < s → (b : Bool) → step_at (more j (Line source number cmd)) s p ≡ b → b ≡ false
+    none s p behind false e = refl
+    none s p behind true e =
+        (let run = stepper-runs j rs s p right (line-steps j source number cmd s p e) in
+        let within : s - 1 < length rs = slice_get_within rs (s - 1) run.0 run.1 in
+        absurd (omega (arith, within, behind)))
+
+-- LAW: the journal with the line is right with them
+pub plain-right : (j : Journal) (rs : Records) (source number : ℕ) (cmd : Cmd) → Right j rs → IsFair j cmd → Right (more j (Line source number cmd)) (records_after j rs (Line source number cmd))
+plain-right j rs source number cmd right fair = right-more j rs (Line source number cmd) right (λ boot. boot) fair

@@ -1,0 +1,17 @@
+pub mod NameLemmas
+pub mod LiveLemmas
+pub mod AdmitLemmas
+pub mod PrepareLemmas
+pub mod ConcludeLemmas
+pub mod OutcomeLemmas
+pub mod AskSound
+pub mod StepBegins
+pub mod ApartTaken
+pub mod StepMade
+pub mod BeginGoing
+pub mod StopLemmas
+pub mod SwitchLine
+pub mod BeginLemmas
+pub mod RestartLine
+pub mod TellLemmas
+pub mod AdvanceLemmas

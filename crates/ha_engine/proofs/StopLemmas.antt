@@ -1,0 +1,101 @@
+-- Runs that are stopped: those of an automation, or all.
+use Rattle.std.proofs.Common.{◌≡◌, ℕ, zero, suc, ◌+◌, ◌-◌, ◌<◌, ◌≤◌, List, [], ◌∷◌, ◌++◌, length, Bool, true, false, refl, sym, ap, subst, ◌∙◌, rules, arith}
+use Rattle.std.specs.Prelude.{Option, Some, None, is_none, nat_eq, nat_lt, ◌&&◌, if◌then◌else◌}
+use Rattle.std.specs.List.{list_any}
+use Rattle.std.specs.Option.{option_map_or}
+use Rattle.timer_queue.specs.Timers.{Timer}
+use Rattle.ha_model.specs.declared.journal.EndCause.{EndCause}
+use Rattle.ha_model.specs.declared.journal.Record.{Record}
+use Rattle.ha_model.specs.Journal.{Journal}
+use Rattle.ha_model.specs.Records.{Records}
+use Rattle.run_modes.specs.Fits.{AreNumbered}
+use Rattle.run_modes.specs.Table.{begin_kept, end_one, is_live, is_stopped, live_of, stopped}
+use Rattle.ha_ready.specs.RunPast.{AllPast, BeginBefore, EndBefore, IsPast, SameScript}
+use Rattle.ha_ready.specs.Agree.{step_at}
+use Rattle.engine_parts.specs.declared.parts.Parts.{Parts}
+use Rattle.ha_engine.specs.Admits.{are_in}
+use Rattle.engine_parts.specs.Changes.{SameRun}
+use Rattle.engine_parts.specs.Kept.{Going, Gone, everyone, nobody}
+use Rattle.engine_parts.specs.Records.{AreEnded, EndsIf, IsTable}
+use Rattle.engine_parts.specs.Runs.{HasEnd}
+use Rattle.engine_parts.proofs.GoneLemmas.{gone-ended}
+use Rattle.ha_engine.proofs.LiveLemmas.{AreLive, all-live}
+
+-- ---- one record
+
+-- the record as it is, or stopped
+abbrev one_stopped : Bool → ℕ → EndCause → Record → Record
+one_stopped b place cause r = if b then end_one true place cause r else r
+
+numbered-one : (b : Bool) (place : ℕ) (cause : EndCause) (r : Record) → (one_stopped b place cause r).serial ≡ r.serial
+numbered-one true place cause r = refl
+numbered-one false place cause r = refl
+
+past-one : (b : Bool) (n place : ℕ) (cause : EndCause) (r : Record) → place < n → IsPast n r → IsPast n (one_stopped b place cause r)
+past-one true n place cause r lt h = record { place = h.place; begin = begins (nat_lt r.place place && option_map_or (λ b. nat_eq b place) r.begin false); end = lt }
+  where
+    begins : (c : Bool) → BeginBefore n (if c then None else r.begin)
+    begins true = tt
+    begins false = h.begin
+past-one false n place cause r lt h = h
+
+same-run : (r : Record) → SameRun r r
+same-run r = record { script = record { serial = refl; automation = refl; env = refl }; begin = refl; end = refl }
+
+-- ---- all of them
+
+pub numbered-stopped : (which : Option ℕ) (place : ℕ) (cause : EndCause) (n : ℕ) (rs : Records) → AreNumbered n rs → AreNumbered n (stopped which place cause rs)
+numbered-stopped which place cause n [] h = tt
+numbered-stopped which place cause n (r ∷ rs) h = (numbered-one (is_stopped which r) place cause r ∙ h.0, numbered-stopped which place cause (suc n) rs h.1)
+
+pub length-stopped : (which : Option ℕ) (place : ℕ) (cause : EndCause) (rs : Records) → length (stopped which place cause rs) ≡ length rs
+length-stopped which place cause [] = refl
+length-stopped which place cause (r ∷ rs) = ap suc (length-stopped which place cause rs)
+
+pub past-stopped : (which : Option ℕ) (place : ℕ) (cause : EndCause) (n : ℕ) (rs : Records) → place < n → AllPast n rs → AllPast n (stopped which place cause rs)
+past-stopped which place cause n [] lt h = tt
+past-stopped which place cause n (r ∷ rs) lt h = (past-one (is_stopped which r) n place cause r lt h.0, past-stopped which place cause n rs lt h.1)
+
+-- LAW: they are a table again
+pub stopped-table : (k : Journal) (which : Option ℕ) (place : ℕ) (cause : EndCause) (rs : Records) → place < length k → IsTable k rs → IsTable k (stopped which place cause rs)
+stopped-table k which place cause rs lt table = record {
+  numbered = numbered-stopped which place cause 0 rs table.numbered;
+  past = past-stopped which place cause (length k) rs lt table.past;
+  unstepped = λ s p behind. table.unstepped s p (omega (arith, behind, length-stopped which place cause rs));
+}
+
+ends-one : (b : Bool) (place : ℕ) (cause : EndCause) (r : Record) → EndsIf b r (one_stopped b place cause r)
+ends-one true place cause r = (record { serial = refl; automation = refl; env = refl }, tt)
+ends-one false place cause r = same-run r
+
+stopped-each : (gone : Gone) (a place : ℕ) (cause : EndCause) (rs : Records) → AreLive gone a rs → AreEnded gone rs (stopped (Some a) place cause rs)
+stopped-each gone a place cause [] h = tt
+stopped-each gone a place cause (r ∷ rs) h = (subst (λ b. EndsIf b r (one_stopped (is_live a r) place cause r)) (sym h.0) (ends-one (is_live a r) place cause r), stopped-each gone a place cause rs h.1)
+
+-- LAW: the live runs of an automation end, and the others are the same
+pub stopped-ended : (a place : ℕ) (cause : EndCause) (rs : Records) → AreNumbered 0 rs → AreEnded (are_in (live_of a rs)) rs (stopped (Some a) place cause rs)
+stopped-ended a place cause rs num = stopped-each (are_in (live_of a rs)) a place cause rs (all-live a 0 rs num)
+
+ended-one : (place : ℕ) (cause : EndCause) (r : Record) → EndsIf true r (one_stopped (is_none r.end) place cause r)
+ended-one place cause r = by r.end
+  where
+    by : (e : Option (ℕ × EndCause)) → EndsIf true (record r { end = e }) (one_stopped (is_none e) place cause (record r { end = e }))
+    by None = (record { serial = refl; automation = refl; env = refl }, tt)
+    by (Some e) = (record { serial = refl; automation = refl; env = refl }, tt)
+
+-- LAW: behind a stop of all, everybody has ended
+pub all-ended : (place : ℕ) (cause : EndCause) (rs : Records) → AreEnded everyone rs (stopped None place cause rs)
+all-ended place cause [] = tt
+all-ended place cause (r ∷ rs) = (ended-one place cause r, all-ended place cause rs)
+
+-- ---- the parts
+
+pub going-ended : (gone : Gone) (k : Journal) (rs rs' : Records) (p : Parts) → IsTable k rs' → AreNumbered 0 rs → AreEnded gone rs rs' → Going gone k rs p → Going nobody k rs' p
+going-ended gone k rs rs' p table num ends going = record {
+  sees = going.sees;
+  triggers_stand = going.triggers_stand;
+  waits_stand = going.waits_stand;
+  owned = going.owned;
+  keys_early = going.keys_early;
+  runs_kept = gone-ended gone k p.delays p.waits rs rs' p.frames.items p.ready.pairs.items table.past num ends going.runs_kept;
+}

@@ -1,0 +1,68 @@
+use Rattle.std.proofs.Common.{◌≡◌, ℕ, ◌+◌, ◌-◌, ◌<◌, ◌≤◌, List, [], ◌∷◌, length, filter, true, sym, ap, subst, ◌∙◌, refl, arith}
+use Rattle.std.specs.Prelude.{Option}
+use Rattle.timer_queue.specs.Timers.{Timer}
+use Rattle.ha_model.specs.declared.journal.Entry.{Entry}
+use Rattle.ha_model.specs.declared.journal.Entry.TheVariants.{Boot}
+use Rattle.ha_model.specs.Journal.{Journal}
+use Rattle.script_step.specs.declared.frames.Frames.{Frames}
+use Rattle.switch_book.specs.Book as switches
+use Rattle.trig_set.specs.Stands as triggers
+use Rattle.wait_set.specs.declared.asked.Asked.{Asked}
+use Rattle.wait_set.specs.Timers.{AreApart}
+use Rattle.engine_parts.specs.declared.parts.Parts.{Parts}
+use Rattle.engine_parts.specs.Kept.{AreOwned, Going, KeysBelow, SlotBut, nobody}
+use Rattle.engine_parts.specs.Owners.{AreAscending, AreBelow, is_automation}
+use Rattle.engine_parts.specs.Runs.{AreHeld, SlotsWith, first_wait}
+use Rattle.ha_engine.proofs.BeginLemmas.{boot-looks}
+use Rattle.engine_entry.proofs.OpenLemmas.{opened-ascend, opened-automations, opened-below}
+use Rattle.engine_entry.proofs.TurnedOwners.{owners-whole}
+use Rattle.ha_engine.proofs.boot.first_parts.Goals as goal
+
+pub returns-clause-going : goal.returns-clause-going
+returns-clause-going c =
+    let h = c.in_ok-states.ensures.begun in
+    let opened = c.in_ok-states.ensures.opened in
+    let x : Entry = Boot h.text h.config h.stored c.args.start c.args.zone in
+    let k : Journal = x ∷ [] in
+    let table = c.in_ok-states.states in
+    let t = c.in_ok-states.triggers in
+    let t' = c.note_first.new.triggers in
+    let w = c.make.result in
+    let same : triggers.attached t' ≡ triggers.attached t = c.in_ok-fired.ensures.attached in
+    let p : Parts = record {
+      at = c.args.start;
+      zone = c.args.zone;
+      states = table;
+      switches = c.args.switches;
+      triggers = t';
+      waits = w;
+      frames = c.new.result;
+      delays = c.make-2.result;
+      ready = record { pairs = c.new-2.result };
+      rested = c.in_ok-rested.rested;
+      changed = true;
+    } in
+    let going : Going nobody k [] p = record {
+      sees = record {
+        looks = boot-looks h.text h.config h.stored c.args.start c.args.zone h.zone_read h.in_time table opened.stand;
+        switches_stand = subst (λ (i : Journal). switches.StandsFor c.args.switches i) h.journal_is h.switches_stand;
+        changed_is = refl;
+        sound = h.sound;
+      };
+      triggers_stand = subst (λ (i : Journal). triggers.StandsFor t' i) h.journal_is c.in_ok-fired.ensures.stands;
+      waits_stand = c.make.ensures.stands k;
+      owned = record {
+        automations_attached = ap (filter is_automation) same ∙ opened-automations [] x refl h.sound table t opened ∙ sym (owners-whole k (omega arith));
+        ascend = subst (AreAscending 0) (sym same) (opened-ascend [] x refl h.sound table t opened);
+        early = subst (AreBelow (first_wait + length k)) (sym same) (opened-below [] x refl h.sound table t opened (first_wait + length k) (omega arith));
+        waits_owned = subst (λ (l : List Asked). AreOwned (length k) (triggers.attached t') l) (sym c.make.ensures.asks) tt;
+        apart = subst (λ (l : List Asked). AreApart l) (sym c.make.ensures.asks) tt;
+      };
+      keys_early = subst (λ (l : List Timer). KeysBelow (length k) l) (sym c.make-2.ensures) tt;
+      runs_kept = record {
+        slots = subst (λ (os : List (Option Frames)). SlotsWith (SlotBut nobody k c.make-2.result w) [] os) (sym c.new.ensures.items) tt;
+        pairs_are = c.new-2.ensures.items;
+        held = subst (λ (l : List Asked). AreHeld k c.new.result.items l) (sym c.make.ensures.asks) tt;
+      };
+    } in
+    subst (λ (i : Journal). Going nobody i [] p) (sym h.journal_is) going

@@ -1,0 +1,29 @@
+use Rattle.std.proofs.Common.{◌≡◌, ℕ, suc, ◌-◌, ◌<◌, length, sym, ap, subst, ◌∙◌, arith}
+use Rattle.std.specs.Prelude.{IfOk, Ok, Err, Result, Some, slice_get}
+use Rattle.ha_model.specs.Journal.{Journal}
+use Rattle.ha_model.specs.Records.{last_place}
+use Rattle.ha_model.specs.Triggers.{sight}
+use Rattle.ha_model.proofs.RecordLaws.{length-more}
+use Rattle.ha_model.proofs.SinceLaws.{get-last}
+use Rattle.cond_eval.specs.Seen.{seen}
+use Rattle.ha_engine.proofs.PrepareLemmas.{journal-some, last-split}
+use Rattle.engine_parts.proofs.ViewLemmas.{view-of}
+use Rattle.ha_engine.proofs.prepare.prepare.Goals as goal
+
+if-then : {T E : Type 0} {P Q : T → Type 0} (r : Result T E) → ((x : T) → P x → Q x) → IfOk r P → IfOk r Q
+if-then (Ok x) f h = f x h
+if-then (Err e) f h = h
+
+pub returns : goal.returns
+returns c =
+    let k : Journal = c.args.journal.now in
+    let p = c.args.parts.now in
+    let some : 0 < length k = journal-some k c.requires.journal in
+    let last = last-split k some in
+    let at : last_place k ≡ length last.0 = omega (arith, length-more last.0 last.1, ap length last.2) in
+    let sees : seen c.make-view.result ≡ sight k (suc (last_place k))
+    = c.make-view.ensures k (view-of k p.states c.configuration-config.result.now p.zone p.at c.requires.sees.looks c.requires.sees.sound c.configuration-config.ensures)
+    ∙ (let e : length k ≡ suc (last_place k) = omega (arith, some) in ap (sight k) e) in
+    let entry : slice_get k (last_place k) ≡ Some c.last_entry.result.now
+    = (λ i. slice_get (last.2 i) (at i)) ∙ get-last last.0 last.1 ∙ ap Some (sym (c.last_entry.ensures last.0 last.1 last.2)) in
+    if-then c.prepare_asked.result (λ stack h. h k sees c.configuration-config.ensures entry c.requires.fired) c.prepare_asked.ensures

@@ -1,0 +1,17 @@
+use Rattle.std.proofs.Common.{◌≡◌, suc, ◌≤◌, List, drop, length, map}
+use Rattle.ha_model.specs.Attempts.{by_hand}
+use Rattle.ha_model.specs.Journal.{Journal, automations}
+use Rattle.ha_model.specs.Records.{last_place}
+use Rattle.ha_model.specs.Triggers.{sight}
+use Rattle.ha_engine.specs.Admits.{ArePassing, asked_for}
+use Rattle.ha_engine.proofs.prepare.prepare_chosen.Given as goal
+
+abbrev pub invariant-chosen : goal.invariant-chosen
+invariant-chosen g l = record {
+  fits : l.left ≤ length l.chosen;
+  done : (k : Journal) → g.A.Answers.sight l.answers ≡ sight k (suc (last_place k)) → l.config.automations ≡ automations k
+      → ArePassing k l.left (map (λ a. asked_for a by_hand l.skip) (drop l.left l.chosen)) l.stack.items;
+}
+
+abbrev pub decreases-chosen : goal.decreases-chosen
+decreases-chosen g l = l.left

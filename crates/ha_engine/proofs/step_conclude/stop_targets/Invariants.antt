@@ -1,0 +1,15 @@
+use Rattle.std.proofs.Common.{◌≡◌, ◌<◌, ◌≤◌, ℕ, length, drop}
+use Rattle.ha_model.specs.Journal.{Journal}
+use Rattle.engine_parts.specs.Kept.{Going, nobody}
+use Rattle.engine_parts.specs.Records.{HasRoom, IsTable}
+use Rattle.engine_entry.specs.Stepping.{stops_each}
+use Rattle.ha_engine.proofs.step_conclude.stop_targets.Given as goal
+
+abbrev pub invariant-targets : goal.invariant-targets
+invariant-targets l = record {
+  list : stops_each l.place (drop l.target-index l.targets) l.runs.list ≡ stops_each l.place l.targets l.initial.runs.list;
+  kept : (k : Journal) → l.place < length k → IsTable k l.initial.runs.list → Going nobody k l.initial.runs.list l.initial.parts → IsTable k l.runs.list × Going nobody k l.runs.list l.parts;
+  spare : l.initial.runs.spare ≤ l.runs.spare;
+  room : (n : ℕ) → HasRoom n l.initial.parts → HasRoom n l.parts;
+  rested : l.parts.rested ≡ l.initial.parts.rested;
+}

@@ -1,0 +1,60 @@
+use Rattle.std.proofs.Common.{◌≡◌, ◌-◌, ◌<◌, Bool, length, sym, subst, ap, ◌∙◌}
+use Rattle.std.specs.Prelude.{Some, vec_len, if◌then◌else◌}
+use Rattle.std.specs.Global.{Vec}
+use Rattle.ha_model.specs.declared.journal.EndCause.{EndCause}
+use Rattle.ha_model.specs.Journal.{Journal}
+use Rattle.ha_model.specs.Records.{Records}
+use Rattle.run_modes.specs.Table.{stopped}
+use Rattle.ha_ready.specs.RestedFlags.{RestedKept}
+use Rattle.engine_parts.specs.declared.parts.Parts.{Parts}
+use Rattle.engine_parts.specs.Kept.{Going, nobody}
+use Rattle.engine_parts.specs.Records.{HasRoom, IsTable}
+use Rattle.engine_parts.specs.Stages.{RunsBefore}
+use Rattle.ha_engine.proofs.SwitchLine.{pushed-before, pushed-journal, pushed-named, pushed-sound, pushed-stopped, pushed-table, pushed-turning, pushed-within}
+use Rattle.ha_engine.proofs.switch.follow_switch.Goals as goal
+
+pub number_of-automation-requires-clause-journal : goal.number_of-automation-requires-clause-journal
+number_of-automation-requires-clause-journal c = pushed-journal c.args.name.now c.args.on c.args.stop c.args.journal.now c.args.runs.now.list c.args.parts.now c.requires
+
+pub number_of-automation-requires-clause-sound : goal.number_of-automation-requires-clause-sound
+number_of-automation-requires-clause-sound c = pushed-sound c.args.name.now c.args.on c.args.stop c.args.journal.now c.args.runs.now.list c.args.parts.now c.requires
+
+pub number_of-automation-requires-clause-named : goal.number_of-automation-requires-clause-named
+number_of-automation-requires-clause-named c = pushed-named c.args.name.now c.args.on c.args.stop c.args.journal.now c.args.runs.now.list c.args.parts.now c.requires
+
+pub enter_switches-requires : goal.enter_switches-requires
+enter_switches-requires c =
+    pushed-turning c.args.name.now c.args.on c.args.stop c.args.journal.now c.args.runs.now.list c.args.parts.now c.requires c.number_of-automation.result c.number_of-automation.ensures
+
+pub prepare-requires-clause-journal : goal.prepare-requires-clause-journal
+prepare-requires-clause-journal c = pushed-journal c.args.name.now c.args.on c.args.stop c.args.journal.now c.args.runs.now.list c.args.parts.now c.requires
+
+pub prepare-requires-clause-sees : goal.prepare-requires-clause-sees
+prepare-requires-clause-sees c =
+    let k : Journal = c.args.journal.now in
+    let rs : Records = c.args.runs.now.list in
+    let before : RunsBefore k rs c.enter_switches.new.parts.waits c.enter_switches.new.parts.delays c.enter_switches.new.parts.frames.items c.enter_switches.new.parts.ready.pairs.items
+    = subst (λ (q : Parts). RunsBefore k rs q.waits q.delays q.frames.items q.ready.pairs.items) (sym c.in_ok-before.ensures.rest) (pushed-before c.args.name.now c.args.on c.args.stop k rs c.args.parts.now c.requires) in
+    (c.in_ok-fired.ensures.going rs before).sees
+
+pub settle-requires-clause-stopped : goal.settle-requires-clause-stopped
+settle-requires-clause-stopped c =
+    let k : Journal = c.args.journal.now in
+    let p : Parts = c.args.parts.now in
+    let rs : Records = c.args.runs.now.list in
+    let a = c.number_of-automation.result in
+    let before : RunsBefore k rs c.enter_switches.new.parts.waits c.enter_switches.new.parts.delays c.enter_switches.new.parts.frames.items c.enter_switches.new.parts.ready.pairs.items
+    = subst (λ (q : Parts). RunsBefore k rs q.waits q.delays q.frames.items q.ready.pairs.items) (sym c.in_ok-before.ensures.rest) (pushed-before c.args.name.now c.args.on c.args.stop k rs p c.requires) in
+    let old : c.make_room.new.runs.list ≡ rs = c.make_room.ensures.list in
+    let going : Going nobody k c.make_room.new.runs.list c.make_room.new.parts
+    = subst (λ (l : Records). Going nobody k l c.make_room.new.parts) (sym old) (c.in_ok-make_room.ensures.going k rs (c.in_ok-fired.ensures.going rs before)) in
+    let table : IsTable k c.make_room.new.runs.list = subst (λ (l : Records). IsTable k l) (sym old) (pushed-table c.args.name.now c.args.on c.args.stop k rs p c.requires) in
+    let lt : length k - 1 < length k = pushed-within c.args.name.now c.args.on c.args.stop k rs p c.requires in
+    let kept = c.stop_if.ensures.kept k lt table going in
+    let rested = c.stop_if.ensures.rested ∙ c.in_ok-make_room.ensures.rested ∙ c.in_ok-fired.ensures.rested ∙ ap (λ (q : Parts). q.rested) c.in_ok-before.ensures.rest in
+    pushed-stopped c.args.name.now c.args.on c.args.stop k rs p c.requires a c.number_of-automation.ensures c.stop_if.new.runs.list c.stop_if.new.parts
+    (c.stop_if.ensures.list ∙ (λ i. if c.ends_runs-stops.ensures i then stopped (Some a) (length k - 1) EndCause.SwitchedOff (old i) else old i))
+    kept.0 kept.1 (subst (λ (v : Vec Bool). RestedKept c.requires.pushed.j rs v.items) (sym rested) c.requires.pushed.kept.rested_is)
+
+pub settle-requires-clause-room : goal.settle-requires-clause-room
+settle-requires-clause-room c = c.stop_if.ensures.room (vec_len c.in_ok-stack.stack) (subst (λ n. HasRoom n c.make_room.new.parts) c.len.ensures c.in_ok-make_room.ensures.room)

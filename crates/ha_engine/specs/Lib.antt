@@ -1,0 +1,4 @@
+pub mod Admits
+pub mod Core
+pub mod Engines
+pub mod Begun

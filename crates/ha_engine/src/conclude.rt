@@ -1,0 +1,95 @@
+//! The end of the work on an entry: its attempts, and the flags of the sources.
+ghost use Rattle.std.specs.Prelude.{◌≡◌, ◌≤◌, ℕ, OnOk, OnErr, vec_len};
+ghost use Rattle.ha_model.specs.declared.journal.Entry.{Entry as Item};
+ghost use Rattle.ha_model.specs.Attempts.{fired as fired_lem};
+ghost use Rattle.ha_model.specs.Journal.{Journal};
+ghost use Rattle.ha_model.specs.Records.{Records, last_place, passing};
+ghost use Rattle.ha_model.specs.RecordSteps.{more as longer, records_after};
+ghost use Rattle.ha_model.specs.Lawful.{Right};
+ghost use Rattle.ha_engine.specs.Admits.{ArePrepared, from_end};
+ghost use Rattle.engine_parts.specs.Kept.{Going, Kept, nobody};
+ghost use Rattle.ha_ready.specs.RestedFlags.{RestedKept};
+ghost use Rattle.engine_parts.specs.Owners.{attempts_by};
+ghost use Rattle.engine_parts.specs.Records.{HasRoom};
+ghost use Rattle.ha_ready.specs.RestedFlags.{IsKnown, source_of};
+ghost use Rattle.engine_parts.specs.Stages.{LineTold, Stopped};
+
+use crate::admit::{Prepared, admit_all};
+use crate::prepare::prepare;
+use engine_parts::parts::Parts;
+use engine_parts::rested::note_flags;
+use ha_model::{Entry, Firing, Many};
+use run_modes::Runs;
+use std::alloc::{AllocError, Global};
+
+/// Room for so many runs more, each with its frames and a pair.
+pub(crate) fn make_room(runs: &mut Runs, parts: &mut Parts, more: usize) -> Result<(), AllocError>
+    ensures list { runs.new.list ≡ runs.old.list }
+    ensures going { OnOk result ((k : Journal) (rs : Records) → Going nobody k rs parts.old → Going nobody k rs parts.new) }
+    ensures rested { OnOk result (parts.new.rested ≡ parts.old.rested) }
+    ensures spare { OnOk result (more ≤ runs.new.spare) }
+    ensures room { OnOk result (HasRoom more parts.new) }
+{
+    runs.reserve(more as u64)?;
+    parts.frames.reserve(more)?;
+    parts.ready.pairs.reserve(more)?;
+    Ok(())
+}
+
+/// The source whose line the last entry is.
+fn last_source(journal: &[Entry]) -> Option<u32>
+    ensures { (j : Journal) (x : Item) → journal.now ≡ longer j x → result ≡ source_of x }
+{
+    match journal.last() {
+        Some(Entry::Line { source, .. }) => Some(*source),
+        _ => None,
+    }
+}
+
+/// The flags go on to say who is rested, once the records of the entry were told.
+fn note_source(parts: &mut Parts, journal: &[Entry])
+    requires { vec_len parts.old.rested ≤ 16 }
+    ensures { (j : Journal) (x : Item) (rs : Records) → journal.now ≡ longer j x → Right j rs → IsKnown (source_of x) → RestedKept j rs parts.old.rested.items → Right journal.now (records_after j rs x)
+        → Going nobody journal.now (records_after j rs x) parts.old → Kept journal.now (records_after j rs x) parts.new }
+{
+    let source = last_source(journal);
+    let quiet = parts.ready.pairs.len() == 0;
+    note_flags(&mut parts.rested, source, quiet);
+}
+
+/// The end of the work on an entry, whose own calls and stops were made: its attempts, and the flags. There is room for them.
+pub(crate) fn settle(
+    alloc: Global,
+    journal: &[Entry],
+    runs: &mut Runs,
+    parts: &mut Parts,
+    stack: Vec<Prepared>,
+)
+    requires stopped { Stopped journal.now runs.old.list parts.old }
+    requires prepared { ArePrepared journal.now (passing journal.now) (from_end stack.items) }
+    requires spare { vec_len stack ≤ runs.old.spare }
+    requires room { HasRoom (vec_len stack) parts.old }
+    ensures { Right journal.now runs.new.list × Kept journal.now runs.new.list parts.new }
+{
+    admit_all(runs, parts, alloc, journal.len() as u64 - 1, stack);
+    note_source(parts, journal);
+}
+
+/// The end of the work on a line that stops nobody. After an error the records are as before, and the parts may only be dropped.
+pub(crate) fn conclude(
+    alloc: Global,
+    journal: &[Entry],
+    runs: &mut Runs,
+    parts: &mut Parts,
+    fired: Many<Firing>,
+) -> Result<(), AllocError>
+    requires told { LineTold journal.now runs.old.list parts.old }
+    requires fired { attempts_by fired ≡ fired_lem journal.now (last_place journal.now) }
+    ensures ok { OnOk result (Right journal.now runs.new.list × Kept journal.now runs.new.list parts.new) }
+    ensures err { OnErr result (runs.new.list ≡ runs.old.list) }
+{
+    let stack = prepare(alloc, journal, parts, fired)?;
+    make_room(runs, parts, stack.len())?;
+    settle(alloc, journal, runs, parts, stack);
+    Ok(())
+}

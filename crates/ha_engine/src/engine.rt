@@ -1,0 +1,282 @@
+//! The engine: the journal with its records, and the parts that stand for it.
+ghost use Rattle.std.specs.Prelude.{◌≡◌, ◌↔◌, ◌<◌, ◌-◌, ◌++◌, ◌∷◌, [], ℕ, List, Some, IfOk, IfErr, OnOk, OnErr, Err, true, false, length, take, count_by, is_some, vec_len, vec_capacity};
+ghost use Rattle.std.specs.List.{list_any};
+ghost use Rattle.ha_model.specs.declared.journal.Entry.TheVariants.{Line};
+ghost use Rattle.ha_model.specs.RecordSteps.{more};
+ghost use Rattle.ha_model.specs.Commands.{has_automation, put_as as put_as_lem};
+ghost use Rattle.ha_model.specs.declared.journal.Item as item_lem;
+ghost use Rattle.ha_model.specs.Words.{same};
+ghost use Rattle.ha_model.specs.States.{automation_named};
+ghost use Rattle.ha_model.specs.declared.journal.Entry.{Entry as Item};
+ghost use Rattle.ha_model.specs.Journal.{automations};
+ghost use Rattle.ha_model.specs.Lawful.{Right, IsFair, is_line_of, shuts, is_quiet, is_rested, pick, ready};
+ghost use Rattle.ha_model.specs.Sights.{switch_of, changes_switch};
+ghost use Rattle.ha_model.specs.Texts.{store_text};
+
+use crate::advance::advance;
+use crate::follow::follow_line;
+use engine_parts::last::drop_last;
+use engine_parts::parts::Parts;
+use ha_model::{Automation, Cmd, Config, CoreFault, Entry, Many, Record, Word, same_text};
+use run_modes::Runs;
+use std::alloc::{AllocError, Global};
+use std::marker::Model;
+
+/// The engine.
+#[derive(Drop)]
+pub struct Engine {
+    pub(crate) alloc: Global,
+    pub(crate) journal: Vec<Entry>,
+    pub(crate) runs: Runs,
+    pub(crate) parts: Parts,
+    pub(crate) spent: bool,
+}
+
+impl Model for Engine {
+    ghost use Rattle.ha_engine.specs.Core.{Core};
+    ghost use Rattle.std.specs.Coded.{codes};
+    ghost use Rattle.ha_model.specs.contracts.journal.Record as run;
+    ghost use Rattle.ha_model.specs.contracts.journal.Entry as item;
+
+    ghost Value = { Core };
+
+    ghost coded = { Prim.hlevel (codes, run.the_row.coded, item.the_row.coded) };
+
+    ghost use Rattle.ha_engine.specs.Engines.{core_of, IsKept};
+
+    ghost view = { core_of };
+
+    ghost invariant = { IsKept };
+}
+
+/// How many entries a journal has at most.
+const MOST: usize = 1_048_576;
+
+/// Appends a line; there is room for it.
+fn push_line(journal: &mut Vec<Entry>, source: u32, number: u64, cmd: Cmd)
+    requires { vec_len journal.old < vec_capacity journal.old }
+    ensures { journal.new.items ≡ more journal.old.items (Line source number cmd) }
+{
+    journal.push_reserved(Entry::Line {
+        source,
+        number,
+        cmd,
+    });
+}
+
+/// Whether one of the automations has this name.
+fn any_named(all: &[Automation], name: &Word) -> bool
+    ensures { result ≡ list_any (λ a. same a.name name.now) all.now }
+{
+    all.iter().any(|a| same_text(&a.name, name))
+}
+
+fn is_among(all: &[Automation], name: &Word) -> bool
+    ensures { result ≡ is_some (automation_named all.now name.now) }
+{
+    any_named(all, name)
+}
+
+/// Whether there is an automation of this name.
+fn is_named(journal: &[Entry], name: &Word) -> bool
+    ensures { result ≡ has_automation journal.now name.now }
+{
+    match journal.first() {
+        Some(Entry::Boot { config, .. }) => is_among(config.automations.as_slice(), name),
+        _ => false,
+    }
+}
+
+/// The command that stands in the journal for one that was read: a refusal where it names no automation.
+fn put_as(journal: &[Entry], cmd: Cmd) -> Cmd
+    ensures { result ≡ put_as_lem journal.entry.now cmd }
+{
+    match cmd {
+        Cmd::Switch { name, on, stop } => {
+            if is_named(journal, &name) {
+                Cmd::Switch { name, on, stop }
+            } else {
+                Cmd::Refused(9)
+            }
+        }
+        Cmd::Trigger { name, skip } => {
+            if is_named(journal, &name) {
+                Cmd::Trigger { name, skip }
+            } else {
+                Cmd::Refused(9)
+            }
+        }
+        other => other,
+    }
+}
+
+impl Engine {
+    /// Puts a line of a source.
+    pub(crate) fn append_line(
+        &mut self,
+        source: u32,
+        number: u64,
+        cmd: Cmd,
+    ) -> Result<(), CoreFault>
+        requires usable { self.old.is_spent ≡ false }
+        requires known { source < 16 }
+        requires rested { is_rested self.old.runs source self.old.entries ≡ true }
+        requires next { number ≡ count_by (is_line_of source) self.old.entries }
+        requires unshut { list_any (shuts source) self.old.entries ≡ false }
+        requires fair { IsFair self.old.entries (put_as_lem self.old.entries cmd) }
+        ensures put { OnOk result (self.new.entries ≡ self.old.entries ++ Item.Line source number (put_as_lem self.old.entries cmd) ∷ []) }
+        ensures right { OnOk result (Right self.new.entries self.new.runs) }
+        ensures room { OnOk result (length self.old.entries < 1048576) }
+        ensures full { IfErr result (λ e. e ≡ CoreFault.Full → length self.old.entries ≡ 1048576) }
+        ensures stays { OnErr result ((self.new.entries ≡ self.old.entries) × (self.new.runs ≡ self.old.runs)) }
+        ensures spent { (self.new.is_spent ≡ true) ↔ (result ≡ Err CoreFault.Memory) }
+    {
+        if MOST <= self.journal.len() {
+            return Err(CoreFault::Full);
+        }
+        if self.journal.reserve(1).is_err() {
+            self.spent = true;
+            return Err(CoreFault::Memory);
+        }
+        let cmd = put_as(self.journal.as_slice(), cmd);
+        push_line(&mut self.journal, source, number, cmd);
+        match follow_line(
+            self.alloc,
+            self.journal.as_slice(),
+            &mut self.runs,
+            &mut self.parts,
+        ) {
+            Ok(()) => Ok(()),
+            Err(_) => {
+                drop_last(&mut self.journal);
+                self.spent = true;
+                Err(CoreFault::Memory)
+            }
+        }
+    }
+
+    /// Puts one step of a worker: of the ready pairs that at the place of the worker's number, modulo how many there are.
+    pub(crate) fn append_step(&mut self, worker: u32) -> Result<(), CoreFault>
+        requires usable { self.old.is_spent ≡ false }
+        requires busy { is_quiet self.old.runs self.old.entries ≡ false }
+        ensures put { OnOk result ((serial : ℕ) × (branch : List ℕ) × (item : item_lem.Item) × (pick worker (ready self.old.runs self.old.entries) ≡ Some (serial, branch)) × (self.new.entries ≡ self.old.entries ++ Item.Step worker serial branch item ∷ [])) }
+        ensures right { OnOk result (Right self.new.entries self.new.runs) }
+        ensures room { OnOk result (length self.old.entries < 1048576) }
+        ensures full { IfErr result (λ e. e ≡ CoreFault.Full → length self.old.entries ≡ 1048576) }
+        ensures stays { OnErr result ((self.new.entries ≡ self.old.entries) × (self.new.runs ≡ self.old.runs)) }
+        ensures spent { (self.new.is_spent ≡ true) ↔ (result ≡ Err CoreFault.Memory) }
+    {
+        if MOST <= self.journal.len() {
+            return Err(CoreFault::Full);
+        }
+        if self.journal.reserve(1).is_err() {
+            self.spent = true;
+            return Err(CoreFault::Memory);
+        }
+        match advance(
+            self.alloc,
+            &mut self.journal,
+            &mut self.runs,
+            &mut self.parts,
+            worker,
+        ) {
+            Ok(()) => Ok(()),
+            Err(_) => {
+                self.spent = true;
+                Err(CoreFault::Memory)
+            }
+        }
+    }
+
+    /// Whether no run is ready to step.
+    pub(crate) fn is_quiet(&self) -> bool
+        requires { self.now.is_spent ≡ false }
+        ensures { result ≡ is_quiet self.now.runs self.now.entries }
+    {
+        self.parts.ready.pairs.len() == 0
+    }
+
+    /// Whether the source may put a line.
+    pub(crate) fn is_rested(&self, source: u32) -> bool
+        requires { self.now.is_spent ≡ false }
+        ensures { result ≡ is_rested self.now.runs source self.now.entries }
+    {
+        match self.parts.rested.get(source as usize) {
+            Some(flag) => *flag,
+            None => true,
+        }
+    }
+
+    /// The journal.
+    pub(crate) fn entries(&self) -> &[Entry]
+        ensures value { result.now ≡ self.now.entries }
+        ensures right { Right self.now.entries self.now.runs }
+    {
+        self.journal.as_slice()
+    }
+
+    /// The configuration of the boot.
+    pub(crate) fn configuration(&self) -> &Config
+        ensures { result.now.automations ≡ automations self.now.entries }
+    {
+        match self.journal.first() {
+            Some(Entry::Boot { config, .. }) => config,
+            _ => unreachable!(),
+        }
+    }
+
+    /// The records of its runs.
+    pub(crate) fn runs(&self) -> &[Record]
+        ensures value { result.now ≡ self.now.runs }
+        ensures right { Right self.now.entries self.now.runs }
+    {
+        self.runs.list()
+    }
+
+    /// Whether memory ran out in a put.
+    pub(crate) fn is_spent(&self) -> bool
+        ensures { result ≡ self.now.is_spent }
+    {
+        self.spent
+    }
+
+    /// Whether the automation is on.
+    pub(crate) fn switch(&self, automation: u32) -> Option<bool>
+        requires { self.now.is_spent ≡ false }
+        ensures { result ≡ switch_of self.now.entries automation }
+    {
+        self.parts.switches.is_on(automation)
+    }
+
+    /// The text that keeps the switches.
+    pub(crate) fn switches_text(&self, alloc: Global) -> Result<Word, AllocError>
+        requires { self.now.is_spent ≡ false }
+        ensures { IfOk result (λ text. text ≡ store_text self.now.entries) }
+    {
+        self.parts.switches.store_text(alloc)
+    }
+
+    /// Whether the last entry is the boot or changed a switch.
+    pub(crate) fn has_changed(&self) -> bool
+        requires { self.now.is_spent ≡ false }
+        ensures { result ≡ changes_switch self.now.entries }
+    {
+        self.parts.changed
+    }
+
+    /// The journal and the records.
+    pub(crate) fn taken_apart(self) -> (Many<Entry>, Many<Record>)
+        ensures journal { result.0 ≡ self.entries }
+        ensures records { result.1 ≡ self.runs }
+    {
+        let Engine {
+            alloc: _,
+            journal,
+            runs,
+            parts,
+            spent: _,
+        } = self;
+        drop(parts);
+        (Many::from_vec(journal), runs.into_list())
+    }
+}

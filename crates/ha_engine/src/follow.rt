@@ -1,0 +1,107 @@
+//! What follows from an entry that was pushed: the parts and the records go on to stand for the journal with it.
+ghost use Rattle.std.specs.Prelude.{◌≡◌, ℕ, IfOk, OnOk, OnErr};
+ghost use Rattle.ha_model.specs.declared.journal.Cmd.{Cmd as Said};
+ghost use Rattle.ha_model.specs.declared.journal.Entry.TheVariants.{Line};
+ghost use Rattle.ha_model.specs.RecordSteps.{more};
+ghost use Rattle.ha_model.specs.Entries.{IsPlain};
+ghost use Rattle.ha_model.specs.Journal.{Journal};
+ghost use Rattle.ha_model.specs.Records.{Records};
+ghost use Rattle.ha_model.specs.Lawful.{Right};
+ghost use Rattle.engine_parts.specs.Kept.{Kept};
+ghost use Rattle.engine_parts.specs.Stages.{Entered, IsLine, Pushed, PushedAs, RunsBefore};
+
+use crate::conclude::conclude;
+use crate::restart::follow_restart;
+use crate::switch::follow_switch;
+use engine_entry::enter::{enter_gone, enter_moment, enter_other, enter_report};
+use engine_parts::attend::attend;
+use engine_parts::last::last_entry;
+use engine_parts::parts::Parts;
+use ha_model::{Cmd, EntityId, Entry, Many, StateObject};
+use run_modes::Runs;
+use std::alloc::{AllocError, Global};
+
+/// What a command that changes no switch changes itself.
+fn enter_plain(
+    parts: &mut Parts,
+    alloc: Global,
+    cmd: &Cmd,
+) -> Result<Many<(EntityId, Option<StateObject>)>, AllocError>
+    ensures entered { IfOk result (λ before. (k : Journal) (rs : Records) → (h : Pushed k rs parts.old) → h.cmd ≡ cmd.now → IsPlain cmd.now → Entered k parts.new before) }
+    ensures runs { OnOk result ((k : Journal) (rs : Records) → RunsBefore k rs parts.old.waits parts.old.delays parts.old.frames.items parts.old.ready.pairs.items
+        → RunsBefore k rs parts.new.waits parts.new.delays parts.new.frames.items parts.new.ready.pairs.items) }
+    ensures rested { OnOk result (parts.new.rested ≡ parts.old.rested) }
+{
+    match cmd {
+        Cmd::Report {
+            entity,
+            text,
+            attributes,
+        } => {
+            let before = enter_report(parts, alloc, entity, text, attributes)?;
+            Ok(before)
+        }
+        Cmd::Gone { entity } => {
+            let before = enter_gone(parts, alloc, entity)?;
+            Ok(before)
+        }
+        Cmd::Moment(at) => Ok(enter_moment(parts, alloc, *at)),
+        Cmd::Event { .. } => Ok(enter_other(parts, alloc)),
+        Cmd::Switch { .. } => Ok(enter_other(parts, alloc)),
+        Cmd::Trigger { .. } => Ok(enter_other(parts, alloc)),
+        Cmd::Restart => Ok(enter_other(parts, alloc)),
+        Cmd::Refused(_) => Ok(enter_other(parts, alloc)),
+        Cmd::Lost => Ok(enter_other(parts, alloc)),
+        Cmd::TooLong => Ok(enter_other(parts, alloc)),
+    }
+}
+
+/// A line that changes no switch.
+fn follow_plain(
+    alloc: Global,
+    journal: &[Entry],
+    runs: &mut Runs,
+    parts: &mut Parts,
+    cmd: &Cmd,
+) -> Result<(), AllocError>
+    requires pushed { PushedAs cmd.now journal.now runs.old.list parts.old }
+    requires plain { IsPlain cmd.now }
+    ensures ok { OnOk result (Right journal.now runs.new.list × Kept journal.now runs.new.list parts.new) }
+    ensures err { OnErr result (runs.new.list ≡ runs.old.list) }
+{
+    let before = enter_plain(parts, alloc, cmd)?;
+    let fired = attend(parts, alloc, journal, &before)?;
+    conclude(alloc, journal, runs, parts, fired)
+}
+
+/// The command of the last entry, which is a line.
+fn last_command(journal: &[Entry]) -> &Cmd
+    requires { IsLine journal.now }
+    ensures { (j : Journal) (source number : ℕ) (cmd : Said) → journal.now ≡ more j (Line source number cmd) → result.now ≡ cmd }
+{
+    match last_entry(journal) {
+        Entry::Line { cmd, .. } => cmd,
+        _ => unreachable!(),
+    }
+}
+
+/// A line was pushed. After an error the records are as before, and the parts may only be dropped.
+pub fn follow_line(
+    alloc: Global,
+    journal: &[Entry],
+    runs: &mut Runs,
+    parts: &mut Parts,
+) -> Result<(), AllocError>
+    requires { Pushed journal.now runs.old.list parts.old }
+    ensures ok { OnOk result (Right journal.now runs.new.list × Kept journal.now runs.new.list parts.new) }
+    ensures err { OnErr result (runs.new.list ≡ runs.old.list) }
+{
+    let cmd = last_command(journal);
+    match cmd {
+        Cmd::Switch { name, on, stop } => {
+            follow_switch(alloc, journal, runs, parts, name, *on, *stop)
+        }
+        Cmd::Restart => follow_restart(alloc, journal, runs, parts),
+        _ => follow_plain(alloc, journal, runs, parts, cmd),
+    }
+}

@@ -1,0 +1,23 @@
+//! The engine.
+#![tactic(auto)]
+
+mod admit;
+mod advance;
+mod boot;
+mod conclude;
+mod core_of;
+mod engine;
+mod follow;
+pub mod laws;
+mod prepare;
+mod restart;
+mod step_conclude;
+mod step_end;
+mod step_follow;
+mod stop;
+mod switch;
+
+pub use admit::Prepared;
+pub use engine::Engine;
+pub use engine_parts::parts::Parts;
+pub use engine_parts::ready::Ready;

@@ -1,0 +1,32 @@
+//! What follows from a step that was pushed: the parts and the records go on to stand for the journal with it.
+ghost use Rattle.std.specs.Prelude.{◌≡◌, OnOk, OnErr};
+ghost use Rattle.ha_model.specs.Lawful.{Right};
+ghost use Rattle.engine_parts.specs.Kept.{Kept};
+ghost use Rattle.engine_entry.specs.Stepping.{StepPushed};
+
+use crate::step_conclude::conclude_step;
+use engine_entry::step_enter::enter_step;
+use engine_entry::step_wake::attend_step;
+use engine_parts::parts::Parts;
+use ha_model::{Entry, Moment, Progress, WaitAsk};
+use run_modes::Runs;
+use std::alloc::{AllocError, Global};
+
+/// A step was pushed. After an error the records are as before, and the parts may only be dropped.
+pub(crate) fn follow_step(
+    alloc: Global,
+    journal: &[Entry],
+    runs: &mut Runs,
+    parts: &mut Parts,
+    progress: Progress,
+    wait: Option<WaitAsk>,
+    due: Option<Moment>,
+) -> Result<(), AllocError>
+    requires pushed { StepPushed journal.now runs.old.list parts.old progress wait due }
+    ensures ok { OnOk result (Right journal.now runs.new.list × Kept journal.now runs.new.list parts.new) }
+    ensures err { OnErr result (runs.new.list ≡ runs.old.list) }
+{
+    let before = enter_step(parts, alloc, journal)?;
+    let fired = attend_step(parts, alloc, journal, &before, wait, due)?;
+    conclude_step(alloc, journal, runs, parts, progress, fired)
+}
