@@ -2,6 +2,7 @@
 ghost use Rattle.std.specs.Prelude.{◌≡◌, ◌≤◌, ◌∷◌, [], IfOk, IfErr, IfSome, IsSome, Ok, Some, map, option_to_list};
 ghost use Rattle.ha_status.specs.Causes.{OpenCause, ReadCause};
 ghost use Rattle.ha_status.specs.Files.{IsHandedBack, IsTextFault, ThereCause};
+ghost use Rattle.ha_model.specs.Sound.{IsSoundConfig};
 ghost use Rattle.conf_auto.specs.Config.{config_of};
 ghost use Rattle.ha_check.specs.Configured.{IsConfigOf, IsRefusal, RefusedCause};
 
@@ -33,6 +34,7 @@ struct Parsed {
 fn read_text(alloc: Global, text: &[u8]) -> Result<Parsed, YamlFault>
     ensures text { IfOk result (λ made. made.text ≡ text.now) }
     ensures config { IfOk result (λ made. config_of text.now ≡ Ok made.config) }
+    ensures sound { IfOk result (λ made. IsSoundConfig made.config) }
     ensures refused { IfErr result (λ fault. IsRefusal (config_of text.now) fault) }
 {
     let config = match read_config(alloc, text) {
@@ -52,6 +54,7 @@ pub fn read_config_at<P: Place>(
     name: &str,
 ) -> Result<Configured<P::Source>, Unready<P::Source>>
     ensures config { IfOk result (λ made. IsConfigOf (P.holds place.old) name.now made.text made.config) }
+    ensures sound { IfOk result (λ made. IsSoundConfig made.config) }
     ensures named { IfOk result (λ made. IfSome (P.Source.name made.source) (λ told. told ≡ name.now)) }
     ensures tells_name { IsSome (P.holds place.old) → IfOk result (λ made. P.Source.name made.source ≡ Some name.now) }
     ensures at_end { IsSome (P.holds place.old) → IfOk result (λ made. P.Source.left made.source ≡ Some []) }
