@@ -1,10 +1,13 @@
 //! The program `hearth`: its words, the system's files and standard streams, and the status that the run ends with.
 #![tactic(auto)]
 
-use ha_io::{DirPlace, FileSink, MemKeeper, OpenGate};
+use ha_io::{DirPlace, FileKeeper, FileSink, OpenGate};
 use ha_top::hearth;
 use std::process::ExitCode;
 use std::{env, io};
+
+/// The file of the store, in the folder that the program runs in.
+const STORE: &str = "hearth_store.json";
 
 fn main(rt: HostRuntime) -> io::Result<ExitCode> {
     let alloc = rt.alloc();
@@ -12,7 +15,7 @@ fn main(rt: HostRuntime) -> io::Result<ExitCode> {
     let mut place = DirPlace::make(rt.clone()?, rt.stdin());
     let out = FileSink::output(rt.stdout());
     let err = FileSink::errors(rt.stderr());
-    let keep = MemKeeper::make(alloc, None, Vec::new(alloc));
+    let keep = FileKeeper::make(alloc, rt.clone()?, STORE)?;
     let outcome = hearth(
         &rt,
         alloc,
