@@ -1,7 +1,5 @@
-//! Tests of the whole program over files in memory, and of the outside.
+//! Tests of the outside: the forms in memory and over the system.
 #![tactic(auto)]
 
 #[cfg(test)]
 mod outside;
-#[cfg(test)]
-mod program;
