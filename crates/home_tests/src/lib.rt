@@ -1,0 +1,17 @@
+//! Tests of whole homes: a configuration and the lines of a day go in, and the calls, the error lines and the stored switches come out.
+#![tactic(auto)]
+
+#[cfg(test)]
+mod day;
+#[cfg(test)]
+mod lines;
+#[cfg(test)]
+mod moments;
+#[cfg(test)]
+mod outside;
+#[cfg(test)]
+mod runs;
+#[cfg(test)]
+mod scripts;
+#[cfg(test)]
+mod triggers;
