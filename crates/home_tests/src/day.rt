@@ -1,4 +1,7 @@
 //! A day in a home, and what is said of it.
+ghost use Rattle.std.specs.Prelude.{◌≡◌, [], IfOk, None};
+ghost use Rattle.ha_io.specs.MemSink.{new_sink};
+
 use ha_engine::Engine;
 use ha_io::{MemFile, MemKeeper, MemPlace, MemSink, OpenGate, have_distinct_names};
 use ha_status::Status;
@@ -133,24 +136,24 @@ fn file(alloc: Global, name: &str, bytes: &[u8], fails: &[u64]) -> Result<MemFil
     })
 }
 
-fn sink(alloc: Global, fails: &[u64]) -> Result<MemSink, AllocError> {
-    Ok(MemSink::make(
-        Vec::new(alloc),
-        Vec::from_slice(alloc, fails)?,
-        Vec::new(alloc),
-    ))
+/// A sink that took nothing yet.
+fn sink(alloc: Global, fails: &[u64]) -> Result<MemSink, AllocError>
+    ensures { IfOk result (λ s. s ≡ new_sink None [] fails.now []) }
+{
+    let fails = Vec::from_slice(alloc, fails)?;
+    Ok(MemSink::make(Vec::new(alloc), fails, Vec::new(alloc)))
 }
 
-fn keeper(alloc: Global, outside: &Outside) -> Result<MemKeeper, AllocError> {
+/// A keeper that has not failed yet.
+fn keeper(alloc: Global, outside: &Outside) -> Result<MemKeeper, AllocError>
+    ensures { IfOk result (λ k. k.faults ≡ 0) }
+{
     let stored = match outside.stored {
         Some(text) => Some(Vec::from_slice(alloc, text.as_bytes())?),
         None => None,
     };
-    Ok(MemKeeper::make(
-        alloc,
-        stored,
-        Vec::from_slice(alloc, outside.failing_saves)?,
-    ))
+    let fails = Vec::from_slice(alloc, outside.failing_saves)?;
+    Ok(MemKeeper::make(alloc, stored, fails))
 }
 
 /// Runs these words over the files `home.yaml` and `reports.txt`.
@@ -171,14 +174,17 @@ pub fn run_words(
     for word in words {
         given.push(String::from_str(alloc, word)?)?;
     }
+    let out = sink(alloc, outside.failing_writes)?;
+    let err = sink(alloc, &[])?;
+    let keep = keeper(alloc, outside)?;
     Ok(hearth::<_, Engine, _, _, _>(
         rt,
         alloc,
         given.as_slice(),
         &mut place,
-        sink(alloc, outside.failing_writes)?,
-        sink(alloc, &[])?,
-        keeper(alloc, outside)?,
+        out,
+        err,
+        keep,
         &OpenGate::make(),
     ))
 }
