@@ -20,7 +20,7 @@ above : (a b : ℕ) → Rose a b → 0 < b
 above a b (inl rose) = omega (arith, rose)
 above a b (inr stands) = omega (arith, stands.1)
 
-sink-failed : (zero : Bool) (s s' : SinkState) → SinkCause (BusFault.Write zero) s s' → SinkFailed (BusFault.Write zero) s'
+pub sink-failed : (zero : Bool) (s s' : SinkState) → SinkCause (BusFault.Write zero) s s' → SinkFailed (BusFault.Write zero) s'
 sink-failed false s s' h = above s.faults s'.faults h
 sink-failed true s s' h = above s.zeros s'.zeros h
 

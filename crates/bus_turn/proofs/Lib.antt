@@ -6,4 +6,5 @@ pub mod NumberLemmas
 pub mod LastLemmas
 pub mod GrowthLemmas
 pub mod BusLemmas
+pub mod EndLemmas
 pub mod PutLemmas

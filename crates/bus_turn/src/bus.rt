@@ -9,7 +9,9 @@ ghost use Rattle.bus_turn.specs.States.{keeper_of, outside_of, sink_of};
 ghost use Rattle.bus_turn.specs.Shown.{texts_of};
 ghost use Rattle.bus_turn.specs.Writes.{Shows};
 ghost use Rattle.bus_turn.specs.Buses.{IsBus, IsStep, Puts};
+ghost use Rattle.bus_turn.specs.Ends.{Ends, HasEnded};
 
+use crate::end::{Ended, write_end};
 use crate::fault::BusFault;
 use crate::write::write_put;
 use ha_io::{Keeper, Sink};
@@ -125,6 +127,37 @@ impl<C: Core, K: Sink, Q: Keeper> Bus<C, K, Q> {
             first: _,
         } = self;
         (core, calls, errors, trace, keep)
+    }
+
+    /// Ends a bus on which no run is ready to step: writes the end line to the trace, where there is one, and gives the parts. A fault of that
+    /// write is told beside them.
+    pub fn end(self, alloc: Global) -> Ended<C, K, Q>
+        requires open { self.first ≡ None }
+        requires quiet { is_quiet self.records self.journal ≡ true }
+        ensures journal { C.entries result.core ≡ self.journal }
+        ensures records { C.runs result.core ≡ self.records }
+        ensures writes { let s = sink_of K.written K.faults K.zeros K.name in
+            let q = keeper_of Q.kept Q.faults in
+            Ends self.journal self.out result.first (outside_of s q result.calls result.errors result.trace result.keep) }
+        ensures stands { let s = sink_of K.written K.faults K.zeros K.name in HasEnded self.journal result.first (option_map s result.trace) }
+    {
+        let Bus {
+            core,
+            calls,
+            errors,
+            mut trace,
+            keep,
+            first: _,
+        } = self;
+        let first = write_end(alloc, core.journal().len(), &mut trace).err();
+        Ended {
+            core,
+            calls,
+            errors,
+            trace,
+            keep,
+            first,
+        }
     }
 
     /// The first fault, after which the bus takes no put. What a bus always is stands here for its callers.

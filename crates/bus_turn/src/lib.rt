@@ -2,8 +2,11 @@
 #![tactic(auto)]
 
 mod bus;
+mod end;
 mod fault;
 mod write;
 
 pub use bus::Bus;
+pub use end::Ended;
 pub use fault::BusFault;
+pub use write::{write_call, write_error};

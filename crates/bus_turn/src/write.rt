@@ -24,7 +24,7 @@ use ha_texts::{call_line, err_line, trace_line};
 use std::alloc::{AllocError, Global};
 
 /// Writes a text to its end.
-fn write_text<K: Sink>(sink: &mut K, text: &[u8]) -> Result<(), BusFault>
+pub(crate) fn write_text<K: Sink>(sink: &mut K, text: &[u8]) -> Result<(), BusFault>
     ensures { let s = sink_of K.written K.faults K.zeros K.name in Writes text.now (s sink.old) (fault_of result) (s sink.new) }
 {
     match write_whole(sink, text) {
@@ -101,7 +101,7 @@ fn line_of_step(
 }
 
 /// Writes the call line of the last entry, if it has one.
-fn write_call<C: Core, K: Sink>(
+pub fn write_call<C: Core, K: Sink>(
     alloc: Global,
     core: &C,
     entry: &Entry,
@@ -118,7 +118,7 @@ fn write_call<C: Core, K: Sink>(
 }
 
 /// Writes the error line of an entry, if it has one.
-fn write_error<K: Sink>(alloc: Global, entry: &Entry, sink: &mut K) -> Result<(), BusFault>
+pub fn write_error<K: Sink>(alloc: Global, entry: &Entry, sink: &mut K) -> Result<(), BusFault>
     ensures { let s = sink_of K.written K.faults K.zeros K.name in
         Writes (error_text_of entry.now) (s sink.old) (fault_of result) (s sink.new) }
 {
