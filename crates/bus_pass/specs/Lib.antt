@@ -1,0 +1,6 @@
+pub mod Journal
+pub mod Message
+pub mod Rule
+pub mod Turns
+pub mod Origins
+pub mod Puts

@@ -1,0 +1,12 @@
+//! The turn: a channel of capacity one that holds the bus, or nothing while one pass holds it.
+#![tactic(auto)]
+
+mod hand;
+mod seal;
+mod steps;
+mod turn;
+
+pub use hand::{Given, Hand, Origin, SinkMark, Stood};
+pub use seal::Sealed;
+pub use steps::{Gives, Law, Parts, Takes};
+pub use turn::{Ends, Pass, Turn};

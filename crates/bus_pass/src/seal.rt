@@ -1,0 +1,59 @@
+//! The bus as it lies in the channel.
+ghost use Rattle.std.specs.Prelude.{◌≡◌, Option};
+ghost use Rattle.ha_model.specs.Lawful.{Running};
+ghost use Rattle.bus_pass.specs.Origins.{IsStored};
+
+use bus_turn::Bus;
+use ha_io::{Keeper, Sink};
+use ha_model::{Cmd, Core};
+use std::marker::Model;
+use std::snapshot::Snapshot;
+
+/// A bus as it lies in the channel, with the command that was read for its last entry. Its journal is lawful and has no closing step, and
+/// while the boot stands alone its keeper holds the boot's text.
+#[derive(Drop)]
+pub struct Sealed<C: Core + Drop, K: Sink, Q: Keeper> {
+    bus: Bus<C, K, Q>,
+    read: Snapshot<Option<Cmd>>,
+}
+
+impl<C: Core + Drop, K: Sink, Q: Keeper> Model for Sealed<C, K, Q> {
+    ghost use Rattle.std.specs.Prelude.{Option};
+    ghost use Rattle.std.specs.Coded.{codes};
+    ghost use Rattle.ha_model.specs.contracts.journal.Cmd as cmd;
+    ghost use Rattle.ha_model.specs.contracts.journal.Record as run;
+    ghost use Rattle.ha_model.specs.contracts.journal.Entry as item;
+    ghost use Rattle.ha_model.specs.declared.journal.Cmd.{Cmd};
+    ghost use Rattle.bus_turn.specs.Shown.{BusView};
+    ghost use Rattle.ha_model.specs.Lawful.{Running};
+    ghost use Rattle.bus_pass.specs.Origins.{IsStored};
+
+    ghost Value = { BusView × Option Cmd };
+
+    ghost coded = { Prim.hlevel (codes, run.the_row.coded, item.the_row.coded, cmd.the_row.coded) };
+
+    ghost view = { λ s. (s.bus, s.read.value) };
+
+    ghost invariant = { λ s. Running s.bus.journal s.bus.records × IsStored s.bus };
+}
+
+impl<C: Core + Drop, K: Sink, Q: Keeper> Sealed<C, K, Q> {
+    /// The message of this bus.
+    pub fn close(bus: Bus<C, K, Q>, read: Snapshot<Option<Cmd>>) -> Sealed<C, K, Q>
+        requires running { Running bus.journal bus.records }
+        requires stored { IsStored bus }
+        ensures { result ≡ (bus, read.value) }
+    {
+        Sealed { bus, read }
+    }
+
+    /// The bus of a message.
+    pub fn open(self) -> Bus<C, K, Q>
+        ensures bus { result ≡ self.0 }
+        ensures running { Running result.journal result.records }
+        ensures stored { IsStored result }
+    {
+        let Sealed { bus, read: _ } = self;
+        bus
+    }
+}
