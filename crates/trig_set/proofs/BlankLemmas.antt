@@ -1,6 +1,6 @@
 -- The spots of triggers that were just attached stand for each journal that is not longer than their since.
 use Rattle.std.proofs.Common.{◌≡◌, ℕ, zero, suc, ◌+◌, ◌<◌, ◌≤◌, List, [], ◌∷◌, ◌++◌, length, map, take, get_or, Bool, true, false, refl, sym, ap, ◌∙◌, arith, append_assoc}
-use Rattle.std.specs.Prelude.{Option, Some, None, MatchOption, flat_map, nat_lt, slice_get, is_some, is_none, option_map, option_and_then, ◌&&◌, ◌||◌, if◌then◌else◌}
+use Rattle.std.specs.Prelude.{Option, Some, None, MatchOption, flat_map, nat_lt, not, slice_get, is_some, is_none, option_map, option_and_then, ◌&&◌, ◌||◌, if◌then◌else◌}
 use Rattle.std.specs.List.{enumerate_from, list_all, list_any}
 use Rattle.std.proofs.lemmas.Bool.Decides.{nat_tests}
 use Rattle.std.proofs.lemmas.List.{take_more}
@@ -122,6 +122,19 @@ sound-well ts h n = by (slice_get ts n) (all-at is_sound_trigger ts h n)
     by None w = tt
     by (Some t) w = (let b = both (is_sound_rule t.rule) (if_there (λ d. nat_lt 0 d && may_hold t.rule) t.hold) w in (held t t.hold b.1, b.0))
 
+not-true : (b : Bool) → not b ≡ true → b ≡ false
+not-true true h = cc
+not-true false h = refl
+
+blank-parts : (s : Spot) → is_blank s ≡ true → (is_none s.hold ≡ true) × (is_none s.fired ≡ true) × (not s.was ≡ true)
+blank-parts s h = by (is_none s.hold) (is_none s.fired) (not s.was) h
+  where
+    by : (a b c : Bool) → (a && b && c) ≡ true → (a ≡ true) × (b ≡ true) × (c ≡ true)
+    by true true true e = (refl, refl, refl)
+    by true true false e = cc
+    by true false c e = cc
+    by false b c e = cc
+
 module _ (j : Journal) (ts : List Trigger) (since : ℕ) (le : length j ≤ since) where
   early : nat_lt since (length j) ≡ false
   early = grind (arith, nat_tests, le)
@@ -130,14 +143,15 @@ module _ (j : Journal) (ts : List Trigger) (since : ℕ) (le : length j ≤ sinc
   keeps : (s : Spot) → is_blank s ≡ true → KeepsAt j ts since s
   keeps s h = by (slice_get ts s.trigger)
     where
-      b : (is_none s.hold ≡ true) × (is_none s.fired ≡ true)
-      b = both (is_none s.hold) (is_none s.fired) h
+      b : (is_none s.hold ≡ true) × (is_none s.fired ≡ true) × (not s.was ≡ true)
+      b = blank-parts s h
 
       by : (o : Option Trigger) → MatchOption o ((s.hold ≡ None) × (s.fired ≡ None)) (λ t. Keeps j t since s)
       by None = (none-of s.hold b.0, none-of s.fired b.1)
       by (Some t) = record {
         hold = ap (option_map holding) (none-of s.hold b.0) ∙ sym (standing-fresh j t s.entity since le);
         was = λ lt. (let f = early in let g : false ≡ true = sym f ∙ lt in cc);
+        bare = λ plain. not-true s.was b.2;
         fired = none-of s.fired b.1;
       }
 
@@ -155,7 +169,7 @@ blank-timed spots h = record { distinct = refl; dues = λ n. by (slice_get spots
   where
     by : (o : Option Spot) → MatchOption o (Unit {0}) (λ s. is_blank s ≡ true) → None ≡ option_and_then due_in o
     by None w = refl
-    by (Some s) w = sym (ap (option_map {T = Held} (λ h. h.due)) (none-of s.hold (both (is_none s.hold) (is_none s.fired) w).0))
+    by (Some s) w = sym (ap (option_map {T = Held} (λ h. h.due)) (none-of s.hold (blank-parts s w).0))
 
 -- LAW: one more blank spot
 pub blank-more : (spots : List Spot) (s : Spot) → is_blank s ≡ true → are_blank spots ≡ true → are_blank (spots ++ (s ∷ [])) ≡ true

@@ -10,12 +10,13 @@ use Rattle.ha_model.specs.declared.journal.Entry.{Entry}
 use Rattle.ha_model.specs.Entries.{is_moment}
 use Rattle.ha_model.specs.Journal.{Journal, now}
 use Rattle.ha_model.specs.Sound.{may_hold}
+use Rattle.ha_model.specs.States.{Sight}
 use Rattle.ha_model.specs.Triggers.{sight, moves, starts, variables, fired_from}
 use Rattle.ha_model.specs.RecordSteps.{more}
 use Rattle.ha_model.proofs.RecordLaws.{through-last}
 use Rattle.trig_set.specs.declared.spot.Held.{Held}
 use Rattle.trig_set.specs.declared.spot.Spot.{Spot}
-use Rattle.trig_set.specs.Kept.{Keeps, Moved, Fired, Settles, holding, holds_well, is_true, ripened, ripened_by}
+use Rattle.trig_set.specs.Kept.{Keeps, Moved, Fired, Settles, holding, holds_well, is_template, is_true, ripened, ripened_by}
 use Rattle.ha_past.specs.Holds.{pending}
 use Rattle.ha_past.specs.Looks.{Holding, holding_of, standing, arrived, at_once, moves_with, moves_after, moves_here, stays_watched, ripe_value, unripe, is_ripe, or_else}
 use Rattle.ha_past.proofs.EntryLaws.{fired-any, standing-any, standing-fresh}
@@ -121,9 +122,18 @@ module _ (j : Journal) (x : Entry) (t : Trigger) (since : ℕ) where
   nothing-more None = refl
   nothing-more (Some v) = refl
 
+  bare-false : (seen : Sight) (rule : TriggerRule) → is_template rule ≡ false → is_true seen rule ≡ false
+  bare-false seen (TriggerRule.State entities attribute from to) b = refl
+  bare-false seen (TriggerRule.Numeric entities attribute above below) b = refl
+  bare-false seen (TriggerRule.Event kinds pairs) b = refl
+  bare-false seen (TriggerRule.Time seconds) b = refl
+  bare-false seen (TriggerRule.Pattern hours minutes seconds) b = refl
+  bare-false seen (TriggerRule.Template u) b = cc
+  bare-false seen TriggerRule.Start b = refl
+
   -- LAW: what is left of a spot once what fires was taken out keeps what is pending, and what was taken out is what fires
   pub fired-keeps : (s : Spot) → holds_well t → Fired j x t since s → Keeps (more j x) t since (record s { fired = None })
-  fired-keeps s well f = record { hold = f.hold ∙ sym (standing-any j x t s.entity since well.0); was = (λ lt. f.was); fired = refl }
+  fired-keeps s well f = record { hold = f.hold ∙ sym (standing-any j x t s.entity since well.0); was = (λ lt. f.was); bare = (λ b. f.was ∙ bare-false (sight (more j x) (length (more j x))) t.rule b); fired = refl }
 
   pub fired-is : (s : Spot) → holds_well t → Fired j x t since s → s.fired ≡ option_map (variables (more j x) t s.entity) (fired_from (more j x) t s.entity since (length j))
   fired-is s well f = f.fired ∙ sym (fired-any j x t s.entity since well.0)

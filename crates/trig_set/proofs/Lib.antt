@@ -6,6 +6,10 @@ pub mod RipeLemmas
 pub mod CollectLemmas
 pub mod OwnerLemmas
 pub mod NoteLemmas
+pub mod CalmLemmas
+pub mod ConcernLemmas
+pub mod LeftLemmas
+pub mod FoundLemmas
 pub mod OwnersLemmas
 pub mod SetLemmas
 pub mod PlaceLemmas

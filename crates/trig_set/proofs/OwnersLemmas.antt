@@ -21,6 +21,9 @@ get-beyond [] n le = refl
 get-beyond (x ∷ xs) zero le = absurd (omega (arith, le))
 get-beyond (x ∷ xs) (suc n) le = get-beyond xs n (omega (arith, le))
 
+pub fires-beyond : (j : Journal) (x : Entry) (xs : List Attached) (n : ℕ) → length xs ≤ n → firings_at j x xs n ≡ []
+fires-beyond j x xs n le = ap (λ o. option_map_or (λ a. firings_of (more j x) (length j) (owner_of a)) o []) (get-beyond xs n le)
+
 pub at-beyond : (P : Attached → Type 0) (xs : List Attached) (n : ℕ) → length xs ≤ n → AtOwner xs n P
 at-beyond P xs n le = subst (λ o. MatchOption o (Unit {0}) P) (sym (get-beyond xs n le)) tt
 

@@ -25,6 +25,16 @@ abbrev pub is_true : Sight → TriggerRule → Bool
 is_true seen (TriggerRule.Template t) = says (rendered seen t [])
 is_true seen _ = false
 
+-- only a template is asked at each entry
+abbrev pub is_template : TriggerRule → Bool
+is_template (TriggerRule.State entities attribute from to) = false
+is_template (TriggerRule.Numeric entities attribute above below) = false
+is_template (TriggerRule.Event kinds pairs) = false
+is_template (TriggerRule.Time seconds) = false
+is_template (TriggerRule.Pattern hours minutes seconds) = false
+is_template (TriggerRule.Template t) = true
+is_template TriggerRule.Start = false
+
 abbrev pub holding : Held → Holding
 holding h = record { due = h.due; value = h.value }
 
@@ -32,6 +42,7 @@ holding h = record { due = h.due; value = h.value }
 pub record Keeps (j : Journal) (t : Trigger) (since : ℕ) (s : Spot) : Type 0 where
   pub hold : option_map holding s.hold ≡ standing j t s.entity since
   pub was : nat_lt since (length j) ≡ true → s.was ≡ is_true (sight j (length j)) t.rule
+  pub bare : is_template t.rule ≡ false → s.was ≡ false
   pub fired : s.fired ≡ None
 
 -- what it keeps once the entry has moved it, before the holds that are over fire

@@ -7,3 +7,5 @@ pub mod Blank
 pub mod Equality
 pub mod Shifts
 pub mod Order
+pub mod Known
+pub mod Concerned

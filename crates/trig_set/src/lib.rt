@@ -4,11 +4,13 @@
 mod attached;
 mod attributes;
 mod blank;
+mod concerned;
 mod equal;
 mod event;
 pub mod laws;
 mod moved;
 mod moving;
+mod noted;
 mod numbers;
 mod owners;
 mod scene;

@@ -6,14 +6,19 @@ ghost use Rattle.ha_model.specs.Words.{up_to};
 ghost use Rattle.ha_model.specs.RecordSteps.{more};
 ghost use Rattle.ha_model.specs.Sound.{are_sound_triggers};
 ghost use Rattle.ha_model.specs.Triggers.{sight};
-ghost use Rattle.ha_past.specs.Firings.{Owner, firings, firings_of, placed, without_owner};
+ghost use Rattle.ha_past.specs.Firings.{Owner, firings_of, placed, without_owner};
+ghost use Rattle.event_bus.specs.Subjects.{Subject, knows};
+ghost use Rattle.trig_set.specs.Kept.{All};
+ghost use Rattle.trig_set.specs.Known.{HasSpot};
 ghost use Rattle.trig_set.specs.Stands.{AllOwners, AtOwner, OwnerStands, firings_at, owner_of};
 ghost use Rattle.trig_set.specs.Scenes.{Shows};
 
 use crate::attached::note_spots;
 use crate::blank::add_triggers;
+use crate::concerned::{list, place_of, unlist};
 use crate::scene::Scene;
 use crate::spot::Spot;
+use event_bus::Index;
 use ha_model::{Answers, Firing, Many, Plain, Trigger};
 use std::alloc::{AllocError, Global};
 use timer_queue::TimerQueue;
@@ -59,7 +64,7 @@ fn note_one<A: Answers>(
 }
 
 /// The same, of the owner at a place of the list.
-fn note_at<A: Answers>(
+pub fn note_at<A: Answers>(
     alloc: Global,
     scene: &Scene<'_>,
     answers: &A,
@@ -80,7 +85,7 @@ fn note_at<A: Answers>(
 }
 
 /// The same, of all owners.
-fn note_all<A: Answers>(
+pub fn note_all<A: Answers>(
     alloc: Global,
     scene: &Scene<'_>,
     answers: &A,
@@ -98,24 +103,6 @@ fn note_all<A: Answers>(
         note_at(alloc, scene, answers, place, owners, fired)?;
     }
     Ok(())
-}
-
-/// The same, of the owners where they are kept.
-pub fn note_owners<A: Answers>(
-    alloc: Global,
-    scene: &Scene<'_>,
-    answers: &A,
-    owners: &mut Vec<Attached>,
-    fired: &mut Many<Firing>,
-) -> Result<(), AllocError>
-    requires { scene.now.to ≤ last_moment }
-    ensures stands { OnOk result ((j : Journal) → AllOwners owners.old.items (λ a. Shows scene.now j a.since) → A.sight answers.now ≡ sight (more j scene.now.entry.now) (length (more j scene.now.entry.now))
-        → AllOwners owners.old.items (OwnerStands j) → AllOwners owners.new.items (OwnerStands (more j scene.now.entry.now))) }
-    ensures fired { OnOk result ((j : Journal) → AllOwners owners.old.items (λ a. Shows scene.now j a.since) → A.sight answers.now ≡ sight (more j scene.now.entry.now) (length (more j scene.now.entry.now))
-        → AllOwners owners.old.items (OwnerStands j) → fired.new ≡ fired.old ++ firings (more j scene.now.entry.now) (length j) (map owner_of owners.old.items)) }
-    ensures owners { OnOk result (map owner_of owners.new.items ≡ map owner_of owners.old.items) }
-{
-    note_all(alloc, scene, answers, owners.as_mut_slice(), fired)
 }
 
 /// What is kept for triggers that are attached: nothing is pending.
@@ -162,6 +149,31 @@ pub fn put_in(owners: &mut Vec<Attached>, attached: Attached) -> Result<(), Allo
     let place = place_for(owners.as_slice(), attached.owner);
     owners.insert(place, attached)?;
     Ok(())
+}
+
+/// Lists an owner in an index, for what concerns its triggers. After an error the others are listed as before.
+pub fn list_owner(alloc: Global, index: &mut Index, attached: &Attached) -> Result<(), AllocError>
+    ensures here { OnOk result (All attached.now.spots.items (HasSpot index.new attached.now.owner attached.now.triggers)) }
+    ensures others { (s : Subject) (n : ℕ) → nat_eq attached.now.owner n ≡ false → knows index.new s n ≡ knows index.old s n }
+{
+    list(
+        alloc,
+        index,
+        attached.owner,
+        &attached.triggers,
+        attached.spots.as_slice(),
+    )
+}
+
+/// An owner, if it is there, is listed no more; the others are as before.
+pub fn unlist_owner(index: &mut Index, owners: &[Attached], owner: u64)
+    ensures { (s : Subject) (n : ℕ) → nat_eq owner n ≡ false → knows index.new s n ≡ knows index.old s n }
+{
+    let place = place_of(owners, owner);
+    if place < owners.len() && owners[place].owner == owner {
+        let attached = &owners[place];
+        unlist(index, owner, &attached.triggers, attached.spots.as_slice());
+    }
 }
 
 /// Takes an owner out, if it is there.

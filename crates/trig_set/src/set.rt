@@ -10,10 +10,12 @@ ghost use Rattle.ha_past.specs.Firings.{Owner, owner_named, placed, without_owne
 ghost use Rattle.trig_set.specs.Next.{IsNext};
 ghost use Rattle.trig_set.specs.Stands.{attached, StandsFor};
 
+use crate::noted::note_owners;
 use crate::numbers::Numbers;
-use crate::owners::{Attached, fresh, note_owners, put_in, take_out};
+use crate::owners::{Attached, fresh, list_owner, put_in, take_out, unlist_owner};
 use crate::scene::Scene;
 use crate::shifts::shifts_of;
+use event_bus::Index;
 use ha_clock::{ClockFault, Zone};
 use ha_model::{Answers, EntityId, Entry, Firing, Many, Moment, StateObject, Trigger};
 use std::alloc::{AllocError, Global};
@@ -24,6 +26,8 @@ use std::collections::BTreeMap;
 pub struct TrigSet {
     /// In the order of their numbers.
     owners: Vec<Attached>,
+    /// Which owners each entity and each type of events concerns.
+    index: Index,
     /// Now.
     now: Moment,
     /// The Boot's, once it was noted.
@@ -39,6 +43,7 @@ impl TrigSet {
     {
         TrigSet {
             owners: Vec::new(alloc),
+            index: Index::make(alloc),
             now: Moment::at(0),
             zone: None,
             numbers: Numbers {
@@ -63,6 +68,7 @@ impl TrigSet {
         ensures err { OnErr result ((attached self.new ≡ attached self.old) × ((j : Journal) → StandsFor self.old j → StandsFor self.new j)) }
     {
         let attached = fresh(alloc, owner, triggers, place)?;
+        list_owner(alloc, &mut self.index, &attached)?;
         put_in(&mut self.owners, attached)
     }
 
@@ -71,7 +77,17 @@ impl TrigSet {
         ensures rest { attached self.new ≡ without_owner owner (attached self.old) }
         ensures stands { (j : Journal) → StandsFor self.old j → StandsFor self.new j }
     {
+        unlist_owner(&mut self.index, self.owners.as_slice(), owner);
         take_out(&mut self.owners, owner);
+    }
+
+    /// Detaches all triggers, with their holds.
+    pub fn clear(&mut self)
+        ensures empty { attached self.new ≡ [] }
+        ensures stands { (j : Journal) → StandsFor self.old j → StandsFor self.new j }
+    {
+        self.owners.clear();
+        self.index.clear();
     }
 
     /// The zone of a Boot is read.
@@ -120,7 +136,14 @@ impl TrigSet {
             from: self.now,
             to,
         };
-        note_owners(alloc, &scene, answers, &mut self.owners, &mut fired)?;
+        note_owners(
+            alloc,
+            &scene,
+            answers,
+            &self.index,
+            &mut self.owners,
+            &mut fired,
+        )?;
         self.numbers.note(alloc, entry)?;
         self.now = to;
         Ok(fired)

@@ -1,0 +1,64 @@
+-- Each subject, and names one after the other.
+use Rattle.std.proofs.Common.{◌≡◌, ℕ, ◌+◌, ◌<◌, List, [], ◌∷◌, ◌++◌, length, take, get_or, Bool, true, false, refl, sym, ap, ◌∙◌}
+use Rattle.std.specs.Prelude.{not, ◌&&◌, ◌||◌}
+use Rattle.std.specs.List.{list_any}
+use Rattle.std.proofs.lemmas.List.{take_more}
+use Rattle.ha_value.specs.declared.value.EntityId.{EntityId}
+use Rattle.ha_model.specs.Words.{Text, one_of, same}
+use Rattle.ha_model.proofs.EqualLemmas.{same-refl, same-sound}
+use Rattle.event_bus.specs.Subjects.{Subject}
+
+pub each-subject : (P : Subject → Type 0) → ((e : EntityId) → P (Subject.Entity e)) → ((q : Text) → P (Subject.Event q)) → P Subject.Moments → P Subject.Entries → (s : Subject) → P s
+each-subject P e q m n (Subject.Entity x) = e x
+each-subject P e q m n (Subject.Event x) = q x
+each-subject P e q m n Subject.Moments = m
+each-subject P e q m n Subject.Entries = n
+
+same-turned : (a b : Text) → same a b ≡ same b a
+same-turned a b = by (same a b) (same b a) refl refl
+  where
+    by : (c d : Bool) → same a b ≡ c → same b a ≡ d → same a b ≡ same b a
+    by true d h k = (let e = same-sound a b h in (λ i. same (e i) (sym e i)))
+    by false true h k = (let e = same-sound b a k in (λ i. same (sym e i) (e i)))
+    by false false h k = h ∙ sym k
+
+or-turned : (a b c d : Bool) → a ≡ d → (a || (b || c)) ≡ ((b || (d || false)) || c)
+or-turned true true c true h = refl
+or-turned true false c true h = refl
+or-turned false true c false h = refl
+or-turned false false c false h = refl
+or-turned true b c false h = cc
+or-turned false b c true h = cc
+
+not-turned : (a b c d : Bool) → a ≡ d → (not a && (not b && c)) ≡ (not (b || (d || false)) && c)
+not-turned true true c true h = refl
+not-turned true false c true h = refl
+not-turned false true c false h = refl
+not-turned false false c false h = refl
+not-turned true b c false h = cc
+not-turned false b c true h = cc
+
+any-more : (q : Text) (xs : List Text) (x : Text) → one_of q (xs ++ (x ∷ [])) ≡ (one_of q xs || (same q x || false))
+any-more q [] x = refl
+any-more q (y ∷ ys) x = (λ i. same q y || any-more q ys x i) ∙ by (same q y)
+  where
+    by : (b : Bool) → (b || (one_of q ys || (same q x || false))) ≡ ((b || one_of q ys) || (same q x || false))
+    by true = refl
+    by false = refl
+
+module _ (q : Text) (names : List Text) (at : ℕ) (d : Text) (lt : at < length names) (init mid new : Bool) where
+  -- LAW: one more name was put
+  pub names-more : new ≡ (same (get_or names at d) q || mid) → mid ≡ (one_of q (take at names) || init) → new ≡ (one_of q (take (at + 1) names) || init)
+  names-more e h =
+      e ∙ (λ i. same (get_or names at d) q || h i)
+      ∙ or-turned (same (get_or names at d) q) (one_of q (take at names)) init (same q (get_or names at d)) (same-turned (get_or names at d) q)
+      ∙ (λ i. sym (any-more q (take at names) (get_or names at d)) i || init)
+      ∙ (λ i. one_of q (sym (take_more names at d lt) i) || init)
+
+  -- LAW: one more name was taken
+  pub names-less : new ≡ (not (same (get_or names at d) q) && mid) → mid ≡ (not (one_of q (take at names)) && init) → new ≡ (not (one_of q (take (at + 1) names)) && init)
+  names-less e h =
+      e ∙ (λ i. not (same (get_or names at d) q) && h i)
+      ∙ not-turned (same (get_or names at d) q) (one_of q (take at names)) init (same q (get_or names at d)) (same-turned (get_or names at d) q)
+      ∙ (λ i. not (sym (any-more q (take at names) (get_or names at d)) i) && init)
+      ∙ (λ i. not (one_of q (sym (take_more names at d lt) i)) && init)

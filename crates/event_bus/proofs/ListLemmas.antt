@@ -1,0 +1,82 @@
+-- Maps with text keys, with one name changed.
+use Rattle.std.proofs.Common.{◌≡◌, ℕ, Bool, true, false, refl, sym, ap, subst, ◌∙◌, nat_cmp, Ok, Err}
+use Rattle.std.specs.Prelude.{Option, Some, None, OnOk, Result, String, not, ◌&&◌, ◌||◌, if◌then◌else◌}
+use Rattle.std.specs.Option.{option_map_or}
+use Rattle.std.specs.BTreeSet.{BTreeSet, IsEmpty as IsEmptySet}
+use Rattle.std.specs.BTreeMap.{is_at}
+use Rattle.std.specs.List.{list_any}
+use Rattle.std.specs.HashMap.{HashMap, IsEmpty, UpdatesBy, get_by, get_by_text}
+use Rattle.std.specs.Str.{bytes_eq}
+use Rattle.std.specs.String.{string_bytes, string_eq}
+use Rattle.std.specs.Map.{lookup}
+use Rattle.std.proofs.lemmas.Map.Text.{hash_map_updates_text}
+use Rattle.ha_value.specs.declared.value.EntityId.{EntityId}
+use Rattle.ha_model.specs.Words.{Text, same, same_entity}
+use Rattle.ha_model.proofs.EqualLemmas.{same-sound}
+use Rattle.event_bus.specs.Lists.{has, has_at, has_in, has_for}
+
+module _ {X Y S : Type 0} (m n : HashMap (String Y) X S) where
+  abbrev pub At : Text → Option X → Type 0
+  At bs w = UpdatesBy string_eq (λ k. bytes_eq bs (string_bytes k)) m n w
+
+  abbrev pub ChangesName : Text → Option X → Type 0
+  ChangesName name value = (q : Text) → get_by_text n q ≡ (if same name q then value else get_by_text m q)
+
+  pub changes-name : (bs name : Text) (w : Option X) → bs ≡ name → At bs w → ChangesName name w
+  changes-name bs name w e u = subst (λ t. ChangesName t w) e (hash_map_updates_text bs m n w u)
+
+module _ {X Y S : Type 0} (seen m n : HashMap (String Y) X S) (same_map : seen ≡ m) where
+  pub inserts-name : (key name : Text) (w : Option X) → key ≡ name → At seen n key w → ChangesName m n name w
+  inserts-name key name w e u = subst (λ k. ChangesName k n name w) same_map (changes-name seen n key name w e u)
+
+-- what a value under the changed name passes, in the new map by what it passes in the old one
+module _ {X Y S : Type 0} (passes : X → Bool) (m n : HashMap (String Y) X S) (name : Text) (new : X) (written : ChangesName m n name (Some new)) (before : Option X) (is : before ≡ get_by_text m name) where
+  abbrev passes_at : HashMap (String Y) X S → Text → Bool
+  passes_at k q = option_map_or passes (get_by_text k q) false
+
+  abbrev was : Bool
+  was = option_map_or passes before false
+
+  was-at : (q : Text) → same name q ≡ true → was ≡ passes_at m q
+  was-at q h = ap (λ o. option_map_or passes o false) is ∙ ap (passes_at m) (same-sound name q h)
+
+  -- LAW: where it passes as before, all is as before
+  pub as-before : passes new ≡ was → (q : Text) → passes_at n q ≡ passes_at m q
+  as-before e q = ap (λ o. option_map_or passes o false) (written q) ∙ by (same name q) refl
+    where
+      by : (b : Bool) → same name q ≡ b → option_map_or passes (if b then Some new else get_by_text m q) false ≡ passes_at m q
+      by true h = e ∙ was-at q h
+      by false h = refl
+
+  -- LAW: where it passes now, it does under the name
+  pub passes-too : (also : Bool) → passes new ≡ (also || was) → (q : Text) → passes_at n q ≡ ((same name q && also) || passes_at m q)
+  passes-too also e q = ap (λ o. option_map_or passes o false) (written q) ∙ by (same name q) refl
+    where
+      by : (b : Bool) → same name q ≡ b → option_map_or passes (if b then Some new else get_by_text m q) false ≡ ((b && also) || passes_at m q)
+      by true h = e ∙ ap (λ b. also || b) (was-at q h)
+      by false h = refl
+
+  -- LAW: where it passes no more, it does not under the name
+  pub passes-not : (gone : Bool) → passes new ≡ (not gone && was) → (q : Text) → passes_at n q ≡ (not (same name q && gone) && passes_at m q)
+  passes-not gone e q = ap (λ o. option_map_or passes o false) (written q) ∙ by (same name q) refl
+    where
+      by : (b : Bool) → same name q ≡ b → option_map_or passes (if b then Some new else get_by_text m q) false ≡ (not (b && gone) && passes_at m q)
+      by true h = e ∙ ap (λ b. not gone && b) (was-at q h)
+      by false h = refl
+
+pub and-true : (b : Bool) → (b && true) ≡ b
+and-true true = refl
+and-true false = refl
+
+pub get-empty : {X Y S : Type 0} (m : HashMap (String Y) X S) → IsEmpty m → (q : Text) → get_by_text m q ≡ None
+get-empty m empty q = ap (lookup (λ k. bytes_eq q (string_bytes k))) empty
+
+pub none-at : {Y S : Type 0} (m : HashMap (String Y) (BTreeSet ℕ) S) → IsEmpty m → (q : Text) (n : ℕ) → has_at m q n ≡ false
+none-at m empty q n = ap (λ o. option_map_or (λ set. has set n) o false) (get-empty m empty q)
+
+pub none-in : (set : BTreeSet ℕ) → IsEmptySet set → (n : ℕ) → has set n ≡ false
+none-in set empty n = ap (list_any (is_at (nat_cmp n))) empty
+
+pub on-then : {T E : Type 0} (P Q : Type 0) (r : Result T E) → (P → Q) → OnOk r P → OnOk r Q
+on-then P Q (Ok x) f p = f p
+on-then P Q (Err e) f p = tt

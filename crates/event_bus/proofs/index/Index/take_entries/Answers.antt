@@ -1,0 +1,9 @@
+use Rattle.std.proofs.Common.{refl}
+use Rattle.event_bus.proofs.IndexLemmas.{each-subject}
+use Rattle.event_bus.proofs.index.Index.take_entries.Goals as goal
+
+pub returns-clause-own : goal.returns-clause-own
+returns-clause-own c = each-subject _ (λ e. refl) (λ q. refl) refl c.take.ensures.own
+
+pub returns-clause-others : goal.returns-clause-others
+returns-clause-others c = each-subject _ (λ e n apart. refl) (λ q n apart. refl) (λ n apart. refl) c.take.ensures.others

@@ -1,0 +1,101 @@
+//! Numbers by name, each name with those that stand under it, in order.
+ghost use Rattle.std.specs.Prelude.{◌≡◌, ◌&&◌, ◌||◌, ℕ, IfOk, OnOk, false, nat_eq, not, string_bytes, true};
+ghost use Rattle.ha_value.specs.declared.value.EntityId.{EntityId as Entity};
+ghost use Rattle.ha_model.specs.Words.{Text, same, same_entity};
+ghost use Rattle.event_bus.specs.Lists.{has, has_at, has_for};
+
+use ha_model::{EntityId, Word};
+use indexmap::IndexMap;
+use std::alloc::{AllocError, Global};
+use std::collections::BTreeSet;
+
+/// Numbers by name.
+pub type Lists = IndexMap<String, BTreeSet<u64>>;
+
+/// The same, by domain and object id.
+pub type EntityLists = IndexMap<String, Lists>;
+
+/// The text as a key.
+fn key_of(alloc: Global, word: &Word) -> Result<String, AllocError>
+    ensures { IfOk result (λ key. string_bytes key ≡ word.now) }
+{
+    String::from_str(alloc, word.as_str())
+}
+
+/// Puts a number into a set.
+pub fn put(set: &mut BTreeSet<u64>, number: u64) -> Result<(), AllocError>
+    ensures own { OnOk result (has set.new number ≡ true) }
+    ensures others { (n : ℕ) → nat_eq number n ≡ false → has set.new n ≡ has set.old n }
+{
+    match set.insert(number) {
+        Ok(_) => Ok(()),
+        Err(_) => Err(AllocError),
+    }
+}
+
+/// Takes a number out of a set.
+pub fn take(set: &mut BTreeSet<u64>, number: u64)
+    ensures own { has set.new number ≡ false }
+    ensures others { (n : ℕ) → nat_eq number n ≡ false → has set.new n ≡ has set.old n }
+{
+    set.remove(&number);
+}
+
+/// Puts a number under a name. After an error all is as before.
+pub fn put_at(alloc: Global, lists: &mut Lists, name: &Word, number: u64) -> Result<(), AllocError>
+    ensures own { OnOk result ((q : Text) → has_at lists.new q number ≡ (same name.now q || has_at lists.old q number)) }
+    ensures others { (q : Text) (n : ℕ) → nat_eq number n ≡ false → has_at lists.new q n ≡ has_at lists.old q n }
+{
+    match lists.get_mut(name.as_str()) {
+        Some(set) => put(set, number),
+        None => {
+            let key = key_of(alloc, name)?;
+            let mut set = BTreeSet::new(alloc);
+            put(&mut set, number)?;
+            lists.insert(key, set)?;
+            Ok(())
+        }
+    }
+}
+
+/// Takes a number from under a name.
+pub fn take_at(lists: &mut Lists, name: &Word, number: u64)
+    ensures own { (q : Text) → has_at lists.new q number ≡ (not (same name.now q) && has_at lists.old q number) }
+    ensures others { (q : Text) (n : ℕ) → nat_eq number n ≡ false → has_at lists.new q n ≡ has_at lists.old q n }
+{
+    if let Some(set) = lists.get_mut(name.as_str()) {
+        take(set, number);
+    }
+}
+
+/// Puts a number under an entity. After an error all is as before.
+pub fn put_for(
+    alloc: Global,
+    lists: &mut EntityLists,
+    entity: &EntityId,
+    number: u64,
+) -> Result<(), AllocError>
+    ensures own { OnOk result ((e : Entity) → has_for lists.new e number ≡ (same_entity entity.now e || has_for lists.old e number)) }
+    ensures others { (e : Entity) (n : ℕ) → nat_eq number n ≡ false → has_for lists.new e n ≡ has_for lists.old e n }
+{
+    match lists.get_mut(entity.domain.as_str()) {
+        Some(domain) => put_at(alloc, domain, &entity.object, number),
+        None => {
+            let key = key_of(alloc, &entity.domain)?;
+            let mut domain = IndexMap::new(alloc);
+            put_at(alloc, &mut domain, &entity.object, number)?;
+            lists.insert(key, domain)?;
+            Ok(())
+        }
+    }
+}
+
+/// Takes a number from under an entity.
+pub fn take_for(lists: &mut EntityLists, entity: &EntityId, number: u64)
+    ensures own { (e : Entity) → has_for lists.new e number ≡ (not (same_entity entity.now e) && has_for lists.old e number) }
+    ensures others { (e : Entity) (n : ℕ) → nat_eq number n ≡ false → has_for lists.new e n ≡ has_for lists.old e n }
+{
+    if let Some(domain) = lists.get_mut(entity.domain.as_str()) {
+        take_at(domain, &entity.object, number);
+    }
+}

@@ -1,0 +1,209 @@
+-- What an entry doesn't concern keeps what it keeps, and fires nothing.
+use Rattle.std.proofs.Common.{◌≡◌, ℕ, zero, suc, List, [], ◌∷◌, length, map, Bool, true, false, refl, sym, ap, subst, ◌∙◌}
+use Rattle.std.specs.Prelude.{Option, Some, None, MatchOption, filter_map, is_some, nat_lt, not, option_and_then, option_map, slice_get, ◌&&◌, if◌then◌else◌}
+use Rattle.std.specs.List.{cons_option, list_all}
+use Rattle.std.specs.Option.{option_map_or}
+use Rattle.timer_queue.specs.Timers.{Timer}
+use Rattle.ha_value.specs.declared.value.EntityId.{EntityId}
+use Rattle.ha_value.specs.declared.value.Num.{Num}
+use Rattle.ha_value.specs.declared.value.Value.{Value}
+use Rattle.ha_model.specs.declared.config.Trigger.{Trigger}
+use Rattle.ha_model.specs.declared.config.TriggerRule.{TriggerRule}
+use Rattle.ha_model.specs.declared.journal.Entry.{Entry}
+use Rattle.ha_model.specs.declared.steps.Firing.{Firing}
+use Rattle.ha_model.specs.Conditions.{number_watched}
+use Rattle.ha_model.specs.Entries.{Reported, event_in, is_moment, report_in}
+use Rattle.ha_model.specs.Equal.{same_flag}
+use Rattle.ha_model.specs.Journal.{Journal, HasEntry, now}
+use Rattle.ha_model.specs.Numbers.{in_bounds}
+use Rattle.ha_model.specs.RecordSteps.{more}
+use Rattle.ha_model.specs.Sound.{may_hold}
+use Rattle.ha_model.specs.States.{Sight, states}
+use Rattle.ha_model.specs.Switches.{opens_segment}
+use Rattle.ha_model.specs.Triggers.{latest_number, pair_holds, passed, report_number, sight}
+use Rattle.ha_model.specs.Words.{Text, Pairs, one_of, same_entity}
+use Rattle.ha_model.proofs.EqualLemmas.{same-refl}
+use Rattle.ha_model.proofs.HeldLaws.{latest-more}
+use Rattle.ha_past.specs.Firings.{firings_of}
+use Rattle.ha_past.specs.Looks.{given, looks, moves_with, or_else, stays_watched, watches}
+use Rattle.event_bus.specs.Subjects.{Subject, concerns}
+use Rattle.trig_state.specs.States as rule_of
+use Rattle.trig_set.specs.declared.spot.Spot.{Spot}
+use Rattle.trig_set.specs.Kept.{All, AreTimed, AreWell, Keeps, KeepsAt, Moved, MovedAt, Settles, SpotsStand, cleared, firing_in, holding, holds_well, is_template, is_true, ripened, ripened_if}
+use Rattle.trig_set.specs.Next.{reports}
+use Rattle.trig_set.proofs.KeptLemmas.{step-moved}
+use Rattle.trig_set.proofs.MovedLemmas.{moves-by, moves-not, unlisted-moves, unlisted-number, unlisted-stays}
+use Rattle.trig_set.proofs.NoteLemmas.{spots-give, spots-stand}
+
+pub never : (b : Bool) → b ≡ true → b ≡ false → ⊥
+never b h k = (let bad : ◌≡◌ {A = Bool} true false = sym h ∙ k in cc)
+
+entity-refl : (e : EntityId) → same_entity e e ≡ true
+entity-refl e = (λ i. same-refl e.domain i && same-refl e.object i)
+
+flag-refl : (b : Bool) → same_flag b b ≡ true
+flag-refl true = refl
+flag-refl false = refl
+
+-- the entry gives no number of an entity that it doesn't report
+unreported : (e : EntityId) (name : Option Text) (x : Entry) → reports e x ≡ false → report_number e name x ≡ None
+unreported e name x = by (report_in x)
+  where
+    by : (o : Option Reported) → option_map_or (λ r. same_entity r.entity e) o false ≡ false → option_and_then (λ r. if same_entity r.entity e then number_watched name r.text r.attributes else None) o ≡ None
+    by None h = refl
+    by (Some r) h = (λ i. if h i then number_watched name r.text r.attributes else None)
+
+-- what the entry leaves of a spot as it is: the states of its entity, with no report of it; its events are of other types; and it asks no template
+pub record IsCalm (j : Journal) (x : Entry) (since : ℕ) (rule : TriggerRule) (e : Option EntityId) : Type 0 where
+  pub apart : (f : EntityId) → concerns rule e (Subject.Entity f) ≡ true → nat_lt since (length j) ≡ true → (states (more j x) f ≡ states j f) × (reports f x ≡ false)
+  pub unnamed : MatchOption (option_map (λ v. v.0) (event_in x)) (Unit {0}) (λ q. concerns rule e (Subject.Event q) ≡ false)
+  pub plain : concerns rule e Subject.Entries ≡ false
+
+module _ (j : Journal) (x : Entry) (t : Trigger) (since : ℕ) (h : HasEntry j) (opens : opens_segment x ≡ false) (moment : is_moment x ≡ false) where
+  abbrev before : Sight
+  before = sight j (length j)
+
+  abbrev behind : Sight
+  behind = sight (more j x) (suc (length j))
+
+  abbrev target : Option EntityId → Option Value
+  target e = if looks before behind j t.rule (is_some t.hold) e x then Some (given before behind (Some x) t e) else None
+
+  off : (rule : TriggerRule) (e : Option EntityId) → t.rule ≡ rule → looks before behind j rule (is_some t.hold) e x ≡ false → None ≡ target e
+  off rule e is f =
+      (λ i. if sym f i then Some (given before behind (Some x) t e) else None)
+      ∙ (λ i. if looks before behind j (sym is i) (is_some t.hold) e x then Some (given before behind (Some x) t e) else None)
+
+  event-off : (kinds : List Text) (pairs : Pairs) (o : Option (Text × Pairs)) → MatchOption (option_map (λ v. v.0) o) (Unit {0}) (λ q. one_of q kinds ≡ false)
+      → option_map_or (λ v. one_of v.0 kinds && list_all (pair_holds v.1) pairs) o false ≡ false
+  event-off kinds pairs None u = refl
+  event-off kinds pairs (Some v) u = (λ i. u i && list_all (pair_holds v.1) pairs)
+
+  -- it does not move
+  idle : (rule : TriggerRule) (e : Option EntityId) → t.rule ≡ rule → IsCalm j x since rule e → nat_lt since (length j) ≡ true → None ≡ target e
+  idle (TriggerRule.State entities attribute from to) (Some y) is calm lt = unlisted-moves j x t y entities attribute from to is (calm.apart y (entity-refl y) lt).0
+  idle (TriggerRule.State entities attribute from to) None is calm lt = absurd (never true refl calm.plain)
+  idle (TriggerRule.Numeric entities attribute above below) (Some y) is calm lt = unlisted-number j x t y entities attribute above below is (calm.apart y (entity-refl y) lt).1
+  idle (TriggerRule.Numeric entities attribute above below) None is calm lt = absurd (never true refl calm.plain)
+  idle (TriggerRule.Event kinds pairs) (Some y) is calm lt = off (TriggerRule.Event kinds pairs) (Some y) is refl
+  idle (TriggerRule.Event kinds pairs) None is calm lt = off (TriggerRule.Event kinds pairs) None is (event-off kinds pairs (event_in x) calm.unnamed)
+  idle (TriggerRule.Time seconds) (Some y) is calm lt = off (TriggerRule.Time seconds) (Some y) is refl
+  idle (TriggerRule.Time seconds) None is calm lt = off (TriggerRule.Time seconds) None is (λ i. moment i && passed (TriggerRule.Time seconds) before.zone before.now behind.now)
+  idle (TriggerRule.Pattern hours minutes seconds) (Some y) is calm lt = off (TriggerRule.Pattern hours minutes seconds) (Some y) is refl
+  idle (TriggerRule.Pattern hours minutes seconds) None is calm lt =
+      off (TriggerRule.Pattern hours minutes seconds) None is (λ i. moment i && passed (TriggerRule.Pattern hours minutes seconds) before.zone before.now behind.now)
+  idle (TriggerRule.Template u) e is calm lt = absurd (never true refl calm.plain)
+  idle TriggerRule.Start (Some y) is calm lt = off TriggerRule.Start (Some y) is refl
+  idle TriggerRule.Start None is calm lt = off TriggerRule.Start None is refl
+
+  same-number : (y : EntityId) (name : Option Text) → reports y x ≡ false → latest_number y name (more j x) ≡ latest_number y name j
+  same-number y name r = latest-more j x y name ∙ (λ i. if opens i then None else or_else (unreported y name x r i) (latest_number y name j))
+
+  within-same : (above below : Option Num) (a b : Option Num) → b ≡ a → true ≡ same_flag (option_map_or (in_bounds above below) a false) (option_map_or (in_bounds above below) b false)
+  within-same above below a b e =
+      sym (flag-refl (option_map_or (in_bounds above below) a false)) ∙ (λ i. same_flag (option_map_or (in_bounds above below) a false) (option_map_or (in_bounds above below) (sym e i) false))
+
+  -- what it watches stays
+  steady : (rule : TriggerRule) (e : Option EntityId) → IsCalm j x since rule e → nat_lt since (length j) ≡ true → may_hold rule ≡ true → true ≡ watches before behind j (more j x) rule e
+  steady (TriggerRule.State entities attribute from to) (Some y) calm lt may = unlisted-stays j x (TriggerRule.State entities attribute from to) y refl (calm.apart y (entity-refl y) lt).0
+  steady (TriggerRule.State entities attribute from to) None calm lt may = absurd (never true refl calm.plain)
+  steady (TriggerRule.Numeric entities attribute above below) (Some y) calm lt may =
+      within-same above below (latest_number y attribute j) (latest_number y attribute (more j x)) (same-number y attribute (calm.apart y (entity-refl y) lt).1)
+  steady (TriggerRule.Numeric entities attribute above below) None calm lt may = absurd (never true refl calm.plain)
+  steady (TriggerRule.Event kinds pairs) e calm lt may = absurd (never false may refl)
+  steady (TriggerRule.Time seconds) e calm lt may = absurd (never false may refl)
+  steady (TriggerRule.Pattern hours minutes seconds) e calm lt may = absurd (never false may refl)
+  steady (TriggerRule.Template u) e calm lt may = absurd (never true refl calm.plain)
+  steady TriggerRule.Start e calm lt may = absurd (never false may refl)
+
+  bare-true : (rule : TriggerRule) (e : Option EntityId) (was : Bool) (seen : Sight) → IsCalm j x since rule e → (is_template rule ≡ false → was ≡ false) → was ≡ is_true seen rule
+  bare-true (TriggerRule.State entities attribute from to) e was seen calm bare = bare refl
+  bare-true (TriggerRule.Numeric entities attribute above below) e was seen calm bare = bare refl
+  bare-true (TriggerRule.Event kinds pairs) e was seen calm bare = bare refl
+  bare-true (TriggerRule.Time seconds) e was seen calm bare = bare refl
+  bare-true (TriggerRule.Pattern hours minutes seconds) e was seen calm bare = bare refl
+  bare-true (TriggerRule.Template u) e was seen calm bare = absurd (never true refl calm.plain)
+  bare-true TriggerRule.Start e was seen calm bare = bare refl
+
+  module _ (s : Spot) (well : holds_well t) (keeps : Keeps j t since s) (calm : IsCalm j x since t.rule s.entity) where
+    kept-hold : {X : Type 0} (o : Option X) → o ≡ or_else o None
+    kept-hold None = refl
+    kept-hold (Some v) = refl
+
+    settles : (o : Option ℕ) → Settles o (now (more j x)) true None s s
+    settles None = (λ i. record s { fired = keeps.fired i })
+    settles (Some d) = (kept-hold (option_map holding s.hold), refl)
+
+    no-move : None ≡ moves_with j x t s.entity since
+    no-move = by (nat_lt since (length j)) refl
+      where
+        by : (b : Bool) → nat_lt since (length j) ≡ b → None ≡ moves_with j x t s.entity since
+        by true lt = idle t.rule s.entity refl calm lt ∙ sym (moves-by j x t s.entity since opens lt)
+        by false lt = sym (moves-not j x t s.entity since h opens lt)
+
+    -- LAW: the entry moves the spot to itself
+    pub calm-moved : Moved j x t since s
+    calm-moved =
+        step-moved j x t since (now (more j x)) s.was true None s s (settles t.hold) well (bare-true t.rule s.entity s.was (sight (more j x) (length (more j x))) calm keeps.bare) keeps
+        (λ lt may. steady t.rule s.entity calm lt may) no-move refl
+
+-- ---- all spots of an owner
+
+none-fired : (j : Journal) (triggers : List Trigger) (since : ℕ) (s : Spot) → KeepsAt j triggers since s → s.fired ≡ None
+none-fired j triggers since s = by (slice_get triggers s.trigger)
+  where
+    by : (o : Option Trigger) → MatchOption o ((s.hold ≡ None) × (s.fired ≡ None)) (λ t. Keeps j t since s) → s.fired ≡ None
+    by None k = k.1
+    by (Some t) k = k.fired
+
+cleared-same : (spots : List Spot) → All spots (λ s. s.fired ≡ None) → spots ≡ map cleared spots
+cleared-same [] f = refl
+cleared-same (s ∷ ss) f = (λ i. record s { fired = f 0 i } ∷ cleared-same ss (λ n. f (suc n)) i)
+
+quiet : (owner : ℕ) (spots : List Spot) → All spots (λ s. s.fired ≡ None) → filter_map (firing_in owner) spots ≡ []
+quiet owner [] f = refl
+quiet owner (s ∷ ss) f = (λ i. cons_option (firing_in owner (record s { fired = f 0 i })) (quiet owner ss (λ n. f (suc n)) i))
+
+all-then : (P Q : Spot → Type 0) (spots : List Spot) → ((s : Spot) → P s → Q s) → All spots P → All spots Q
+all-then P Q [] step h n = h n
+all-then P Q (s ∷ ss) step h zero = step s (h zero)
+all-then P Q (s ∷ ss) step h (suc n) = all-then P Q ss step (λ m. h (suc m)) n
+
+-- each spot is calm, with its trigger
+abbrev pub CalmAt : Journal → Entry → List Trigger → ℕ → Spot → Type 0
+CalmAt j x triggers since s = MatchOption (slice_get triggers s.trigger) (Unit {0}) (λ t. IsCalm j x since t.rule s.entity)
+
+module _ (j : Journal) (x : Entry) (triggers : List Trigger) (since : ℕ) (h : HasEntry j) (opens : opens_segment x ≡ false) (moment : is_moment x ≡ false) (well : AreWell triggers) (spots : List Spot) (timers : List Timer)
+    (stand : SpotsStand j triggers since spots timers) (calm : All spots (CalmAt j x triggers since)) where
+  moved-at : (s : Spot) → KeepsAt j triggers since s → CalmAt j x triggers since s → MovedAt j x triggers since s
+  moved-at s = by (slice_get triggers s.trigger) (well s.trigger)
+    where
+      by : (o : Option Trigger) → MatchOption o (Unit {0}) holds_well → MatchOption o ((s.hold ≡ None) × (s.fired ≡ None)) (λ t. Keeps j t since s) → MatchOption o (Unit {0}) (λ t. IsCalm j x since t.rule s.entity)
+          → MatchOption o ((s.hold ≡ None) × (s.fired ≡ None)) (λ t. Moved j x t since s)
+      by None w k c = k
+      by (Some t) w k c = calm-moved j x t since h opens moment s w k c
+
+  all-moved : All spots (MovedAt j x triggers since)
+  all-moved n = by (slice_get spots n) (stand.kept n) (calm n)
+    where
+      by : (o : Option Spot) → MatchOption o (Unit {0}) (KeepsAt j triggers since) → MatchOption o (Unit {0}) (CalmAt j x triggers since) → MatchOption o (Unit {0}) (MovedAt j x triggers since)
+      by None k c = tt
+      by (Some s) k c = moved-at s k c
+
+  all-quiet : All spots (λ s. s.fired ≡ None)
+  all-quiet = all-then (KeepsAt j triggers since) (λ s. s.fired ≡ None) spots (none-fired j triggers since) stand.kept
+
+  same-if : ripened_if x (now (more j x)) spots ≡ spots
+  same-if = (λ i. if moment i then map (ripened (now (more j x))) spots else spots)
+
+  -- LAW: they stand for the journal with the entry
+  pub calm-stand : SpotsStand (more j x) triggers since spots timers
+  calm-stand =
+      spots-stand j x triggers since well (now (more j x)) spots spots timers refl all-moved stand.places (subst (λ l. AreTimed timers l) (sym same-if) stand.timed)
+      (cleared-same spots all-quiet ∙ sym (ap (map cleared) same-if))
+
+  -- LAW: and fire nothing
+  pub calm-quiet : (owner : ℕ) → firings_of (more j x) (length j) (record { owner = owner; triggers = triggers; since = since }) ≡ []
+  calm-quiet owner =
+      sym (spots-give j x triggers since well owner (now (more j x)) spots [] (filter_map (firing_in owner) (ripened_if x (now (more j x)) spots)) refl all-moved stand.places refl)
+      ∙ ap (filter_map (firing_in owner)) same-if ∙ quiet owner spots all-quiet

@@ -1,0 +1,125 @@
+-- An entry doesn't concern whom the index leaves aside.
+use Rattle.std.proofs.Common.{◌≡◌, ℕ, zero, suc, List, [], ◌∷◌, length, map, Bool, true, false, refl, sym, ap, subst, ◌∙◌}
+use Rattle.std.specs.Prelude.{Option, Some, None, MatchOption, nat_lt, option_map, slice_get, if◌then◌else◌}
+use Rattle.std.specs.Option.{option_map_or}
+use Rattle.ha_value.specs.declared.value.EntityId.{EntityId}
+use Rattle.ha_model.specs.declared.config.Trigger.{Trigger}
+use Rattle.ha_model.specs.declared.journal.Entry.{Entry}
+use Rattle.ha_model.specs.Entries.{event_in, is_moment}
+use Rattle.ha_model.specs.Journal.{Journal}
+use Rattle.ha_model.specs.RecordSteps.{more}
+use Rattle.ha_model.specs.States.{states}
+use Rattle.ha_model.specs.Switches.{opens_segment}
+use Rattle.ha_model.specs.Words.{Text, same, same_entity}
+use Rattle.ha_model.proofs.EqualLemmas.{and_left, and_right, same-sound}
+use Rattle.ha_past.specs.Firings.{firings_of}
+use Rattle.event_bus.specs.declared.index.Index.{Index}
+use Rattle.event_bus.specs.Lists.{has_in}
+use Rattle.event_bus.specs.Subjects.{Subject, concerns, knows}
+use Rattle.trig_set.specs.declared.owners.Attached.{Attached}
+use Rattle.trig_set.specs.declared.scene.Scene.{Scene}
+use Rattle.trig_set.specs.declared.scene.Shift.{Shift}
+use Rattle.trig_set.specs.declared.spot.Spot.{Spot}
+use Rattle.trig_set.specs.Concerned.{IsAside}
+use Rattle.trig_set.specs.Kept.{All, place_of, places_of}
+use Rattle.trig_set.specs.Known.{AreKnown, HasAt, HasFor, HasSpot, IsListed}
+use Rattle.trig_set.specs.Next.{reports}
+use Rattle.trig_set.specs.Order.{ascend}
+use Rattle.trig_set.specs.Scenes.{AreShifts, Shows, face, shift_of}
+use Rattle.trig_set.specs.Stands.{AllOwners, AtOwner, OwnerStands, firings_at, owner_of}
+use Rattle.trig_set.proofs.CalmLemmas.{CalmAt, IsCalm, calm-quiet, calm-stand, never}
+use Rattle.trig_set.proofs.MovedLemmas.{has-past}
+use Rattle.trig_set.proofs.NoteLemmas.{places-alike}
+
+pub get-map : {X Y : Type 0} (f : X → Y) (xs : List X) (n : ℕ) → slice_get (map f xs) n ≡ option_map f (slice_get xs n)
+get-map f [] n = refl
+get-map f (x ∷ xs) zero = refl
+get-map f (x ∷ xs) (suc n) = get-map f xs n
+
+not-true : (b k : Bool) → (b ≡ true → k ≡ true) → k ≡ false → b ≡ false
+not-true true k f h = absurd (never k (f refl) h)
+not-true false k f h = refl
+
+-- no entity that the entry changes is one for which the index has the number
+unshifted : (index : Index) (n : ℕ) (e : EntityId) (shifts : List Shift) → ((k : ℕ) → MatchOption (slice_get shifts k) (Unit {0}) (λ c. knows index (Subject.Entity c.entity) n ≡ false))
+    → knows index (Subject.Entity e) n ≡ true → shift_of shifts e ≡ None
+unshifted index n e [] aside h = refl
+unshifted index n e (c ∷ cs) aside h = by (same_entity c.entity e) refl (unshifted index n e cs (λ k. aside (suc k)) h)
+  where
+    by : (b : Bool) → same_entity c.entity e ≡ b → shift_of cs e ≡ None → (if b then Some c else shift_of cs e) ≡ None
+    by true s rest =
+        let d = same-sound c.entity.domain e.domain (and_left _ _ s) in
+        let o = same-sound c.entity.object e.object (and_right (same c.entity.domain e.domain) _ s) in
+        absurd (never (knows index (Subject.Entity e) n) h (sym (λ i. has_in index.entities (d i) (o i) n) ∙ aside 0))
+    by false s rest = rest
+
+has-calm : (j : Journal) (x : Entry) (since : ℕ) (index : Index) (shifts : List Shift) (n : ℕ) (t : Trigger) (e : Option EntityId) → (nat_lt since (length j) ≡ true → AreShifts shifts j x)
+    → IsAside index shifts x n → HasFor index n t e → IsCalm j x since t.rule e
+has-calm j x since index shifts n t e are aside has = record {
+  apart = λ f named lt.
+      subst (λ o. MatchOption o ((states (more j x) f ≡ states j f) × (reports f x ≡ false)) (λ c. (face c.old ≡ face (states j f)) × (face c.new ≡ face (states (more j x) f))))
+      (unshifted index n f shifts aside.entities (has (Subject.Entity f) named)) (are lt f);
+  unnamed = by (option_map (λ v. v.0) (event_in x)) aside.events;
+  plain = not-true (concerns t.rule e Subject.Entries) (knows index Subject.Entries n) (has Subject.Entries) aside.entries;
+}
+  where
+    by : (o : Option Text) → MatchOption o (Unit {0}) (λ q. knows index (Subject.Event q) n ≡ false) → MatchOption o (Unit {0}) (λ q. concerns t.rule e (Subject.Event q) ≡ false)
+    by None k = tt
+    by (Some q) k = not-true (concerns t.rule e (Subject.Event q)) (knows index (Subject.Event q) n) (has (Subject.Event q)) k
+
+module _ (scene : Scene) (index : Index) (j : Journal) (opens : opens_segment scene.entry.now ≡ false) (moment : is_moment scene.entry.now ≡ false) where
+  abbrev x : Entry
+  x = scene.entry.now
+
+  spot-calm : (a : Attached) (s : Spot) → Shows scene j a.since → IsAside index scene.shifts.now x a.owner → HasSpot index a.owner a.triggers s → CalmAt j x a.triggers a.since s
+  spot-calm a s shows aside = by (slice_get a.triggers s.trigger)
+    where
+      by : (o : Option Trigger) → MatchOption o (Unit {0}) (λ t. HasFor index a.owner t s.entity) → MatchOption o (Unit {0}) (λ t. IsCalm j x a.since t.rule s.entity)
+      by None h = tt
+      by (Some t) h = has-calm j x a.since index scene.shifts.now a.owner t s.entity shows.shifts aside h
+
+  all-calm : (a : Attached) → Shows scene j a.since → OwnerStands j a → IsListed index (owner_of a) → IsAside index scene.shifts.now x a.owner → All a.spots.items (CalmAt j x a.triggers a.since)
+  all-calm a shows stand listed aside m = by (slice_get a.spots.items m) refl
+    where
+      by : (o : Option Spot) → slice_get a.spots.items m ≡ o → MatchOption o (Unit {0}) (CalmAt j x a.triggers a.since)
+      by None at = tt
+      by (Some s) at =
+          spot-calm a s shows aside
+          (subst (λ o. MatchOption o (Unit {0}) (HasAt index a.owner a.triggers))
+          (ap (λ l. slice_get l m) (sym (stand.spots.places ∙ places-alike j [] a.triggers)) ∙ get-map place_of a.spots.items m ∙ ap (option_map place_of) at) (listed m))
+
+  -- LAW: an owner that the index leaves aside stands for the journal with the entry, and fires nothing
+  pub owner-calm : (a : Attached) → Shows scene j a.since → OwnerStands j a → IsListed index (owner_of a) → IsAside index scene.shifts.now x a.owner
+      → OwnerStands (more j x) a × (firings_of (more j x) (length j) (owner_of a) ≡ [])
+  owner-calm a shows stand listed aside =
+      let h = has-past j x shows.journal opens in
+      let calm = all-calm a shows stand listed aside in (
+        record { well = stand.well; spots = calm-stand j x a.triggers a.since h opens moment stand.well a.spots.items a.timers stand.spots calm },
+        calm-quiet j x a.triggers a.since h opens moment stand.well a.spots.items a.timers stand.spots calm a.owner,
+      )
+
+  module _ (owners : List Attached) (known : AreKnown index (map owner_of owners)) (shows : AllOwners owners (λ a. Shows scene j a.since)) (stand : AllOwners owners (OwnerStands j)) (n : ℕ)
+      (aside : AtOwner owners n (λ a. ascend (map owner_of owners) ≡ true → IsAside index scene.shifts.now x a.owner)) where
+    both-at : AtOwner owners n (λ a. OwnerStands (more j x) a × (firings_of (more j x) (length j) (owner_of a) ≡ []))
+    both-at = by (slice_get owners n) (shows n) (stand n) (subst (λ o. MatchOption o (Unit {0}) (IsListed index)) (get-map owner_of owners n) (known.listed n)) aside
+      where
+        by : (o : Option Attached) → MatchOption o (Unit {0}) (λ a. Shows scene j a.since) → MatchOption o (Unit {0}) (OwnerStands j) → MatchOption (option_map owner_of o) (Unit {0}) (IsListed index)
+            → MatchOption o (Unit {0}) (λ a. ascend (map owner_of owners) ≡ true → IsAside index scene.shifts.now x a.owner)
+            → MatchOption o (Unit {0}) (λ a. OwnerStands (more j x) a × (firings_of (more j x) (length j) (owner_of a) ≡ []))
+        by None s t l i = tt
+        by (Some a) s t l i = owner-calm a s t l (i known.ascend)
+
+    pub calm-stands : AtOwner owners n (OwnerStands (more j x))
+    calm-stands = by (slice_get owners n) both-at
+      where
+        by : (o : Option Attached) → MatchOption o (Unit {0}) (λ a. OwnerStands (more j x) a × (firings_of (more j x) (length j) (owner_of a) ≡ [])) → MatchOption o (Unit {0}) (OwnerStands (more j x))
+        by None b = tt
+        by (Some a) b = b.0
+
+    pub calm-fires : firings_at j x owners n ≡ []
+    calm-fires = by (slice_get owners n) both-at
+      where
+        by : (o : Option Attached) → MatchOption o (Unit {0}) (λ a. OwnerStands (more j x) a × (firings_of (more j x) (length j) (owner_of a) ≡ []))
+            → option_map_or (λ a. firings_of (more j x) (length j) (owner_of a)) o [] ≡ []
+        by None b = refl
+        by (Some a) b = b.1

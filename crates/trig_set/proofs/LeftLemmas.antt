@@ -1,0 +1,166 @@
+-- Places put into a set, and taken out, the least first.
+use Rattle.std.proofs.Common.{◌≡◌, ℕ, zero, suc, ◌+◌, ◌<◌, ◌≤◌, List, [], ◌∷◌, ◌++◌, length, get_or, Bool, true, false, refl, sym, ap, subst, ◌∙◌, arith, nat_cmp, inl, inr}
+use Rattle.std.specs.Prelude.{IsSome, IsTrue, ◌↔◌, MatchOption, None, Option, Some, flat_map, map, nat_eq, slice_get, ◌||◌, if◌then◌else◌}
+use Rattle.std.specs.List.{list_any}
+use Rattle.std.specs.BTreeMap.{is_at}
+use Rattle.std.specs.BTreeSet.{BTreeSet, IsLowerBound, Updates}
+use Rattle.std.specs.Ordering.{is_gt}
+use Rattle.std.proofs.lemmas.Bool.Decides.{eqb_tells, leb_tells, nat_tests}
+use Rattle.ha_model.specs.Words.{up_to}
+use Rattle.event_bus.specs.Lists.{has}
+use Rattle.trig_set.specs.declared.owners.Attached.{Attached}
+use Rattle.event_bus.specs.declared.index.Index.{Index}
+use Rattle.event_bus.specs.Subjects.{Subject, knows}
+use Rattle.trig_set.specs.declared.scene.Shift.{Shift}
+use Rattle.trig_set.specs.Concerned.{OfOthers}
+use Rattle.trig_set.specs.Order.{ascend}
+use Rattle.trig_set.specs.Stands.{AtOwner, owner_of}
+use Rattle.trig_set.proofs.OwnersLemmas.{flat-up}
+use Rattle.trig_set.proofs.SpotLemmas.{get-at}
+
+is-at-same : (n : ℕ) → is_at (nat_cmp n) n ≡ true
+is-at-same n = grind (arith, nat_tests)
+
+pub is-at-other : (a b : ℕ) → nat_eq a b ≡ false → is_at (nat_cmp a) b ≡ false
+is-at-other a b h = grind (arith, nat_tests, h)
+
+least-le : (a b : ℕ) → is_gt (nat_cmp a b) ≡ false → a ≤ b
+least-le a b h = grind (arith, nat_tests, h)
+
+-- one place was taken out, the least
+module _ (old new : BTreeSet ℕ) (p : ℕ) (updates : Updates nat_cmp old new p false) (least : IsLowerBound nat_cmp old p) where
+  pub left-here : has new p ≡ false
+  left-here = updates.0 p ∙ (λ i. if is-at-same p i then false else has old p)
+
+  pub left-else : (n : ℕ) → nat_eq p n ≡ false → has new n ≡ has old n
+  left-else n apart = updates.0 n ∙ (λ i. if is-at-other p n apart i then false else has old n)
+
+  pub left-before : (n : ℕ) → n < p → has old n ≡ false
+  left-before n lt = by (has old n) refl
+    where
+      by : (b : Bool) → has old n ≡ b → has old n ≡ false
+      by true h = (let le = least-le p n (least n (subst IsTrue (sym h) refl)) in absurd (omega (arith, le, lt)))
+      by false h = h
+
+  pub left-from : (n : ℕ) → has new n ≡ true → p + 1 ≤ n
+  left-from n h = elim (eqb_tells p n) [
+    | inl same ↦ (let bad : ◌≡◌ {A = Bool} true false = sym h ∙ subst (λ m. has new m ≡ false) same.1 left-here in cc)
+    | inr other ↦ (let apart = other.1 in let le = least-le p n (least n (subst IsTrue (sym (sym (left-else n other.0) ∙ h)) refl)) in omega (arith, apart, le))
+  ]
+
+abbrev pub nobody : Option ℕ
+nobody = None
+
+-- LAW: an empty set has none
+pub none-left : (set : BTreeSet ℕ) → (IsSome nobody ↔ (0 < length set.keys)) → (n : ℕ) → has set n ≡ false
+none-left set variant n = by set.keys variant
+  where
+    by : (ks : List ℕ) → (IsSome nobody ↔ (0 < length ks)) → list_any (is_at (nat_cmp n)) ks ≡ false
+    by [] v = refl
+    by (k ∷ ks) v = absurd (let bad : ◌≡◌ {A = Bool} false true = v.1 (omega arith) in cc)
+
+pub append-none : {Y : Type 0} (xs : List Y) → xs ++ [] ≡ xs
+append-none [] = refl
+append-none (x ∷ xs) = (λ i. x ∷ append-none xs i)
+
+-- LAW: where nothing comes from a place on, what comes up to there is all
+pub flat-skip : {Y : Type 0} (f : ℕ → List Y) (a b : ℕ) → a ≤ b → ((n : ℕ) → a ≤ n → n < b → f n ≡ []) → flat_map f (up_to b) ≡ flat_map f (up_to a)
+flat-skip f zero zero le none = refl
+flat-skip f (suc a) zero le none = absurd (omega (arith, le))
+flat-skip f a (suc b) le none = elim (eqb_tells a (suc b)) [
+  | inl same ↦ (λ i. flat_map f (up_to (sym same.1 i)))
+  | inr other ↦ (let apart = other.1 in
+      (let e : suc b ≡ b + 1 = omega arith in λ i. flat_map f (up_to (e i)))
+      ∙ flat-up f b
+      ∙ (λ i. flat_map f (up_to b) ++ none b (omega (arith, le, apart)) (omega arith) i)
+      ∙ append-none (flat_map f (up_to b))
+      ∙ flat-skip f a b (omega (arith, le, apart)) (λ n from lt. none n from (omega (arith, lt))))
+]
+
+-- ---- a place is put in
+
+abbrev pub OfListed : List Attached → BTreeSet ℕ → List ℕ → ℕ → Type 0
+OfListed owners listed left n = AtOwner owners n (λ a. ascend (map owner_of owners) ≡ true → has listed a.owner ≡ list_any (is_at (nat_cmp a.owner)) left)
+
+module _ (old new : BTreeSet ℕ) (p : ℕ) (updates : Updates nat_cmp old new p true) (n : ℕ) (none : has new n ≡ false) where
+  put-apart : nat_eq p n ≡ false
+  put-apart = by (nat_eq p n) refl
+    where
+      by : (b : Bool) → nat_eq p n ≡ b → nat_eq p n ≡ false
+      by true h =
+          let is : is_at (nat_cmp p) n ≡ true = grind (arith, nat_tests, h) in
+          let bad : ◌≡◌ {A = Bool} true false = sym (updates.0 n ∙ (λ i. if is i then true else has old n)) ∙ none in cc
+      by false h = h
+
+  -- LAW: what is not there then was not there
+  pub put-kept : has old n ≡ false
+  put-kept = sym (updates.0 n ∙ (λ i. if is-at-other p n put-apart i then true else has old n)) ∙ none
+
+  apart-never : nat_eq p n ≡ false → p ≡ n → ⊥
+  apart-never h e = (let same : nat_eq p n ≡ true = grind (arith, nat_tests, e) in let bad : ◌≡◌ {A = Bool} true false = sym same ∙ h in cc)
+
+  -- LAW: an owner whose place is not there is not the one whose place was put in
+  pub put-aside : (owners : List Attached) (listed : BTreeSet ℕ) (k : ℕ) (left rest : List ℕ) → left ≡ k ∷ rest
+      → (ascend (map owner_of owners) ≡ true → AtOwner owners n (λ a. a.owner ≡ k → p ≡ n)) → OfListed owners listed left n → OfListed owners listed rest n
+  put-aside owners listed k left rest is found told = by (slice_get owners n) found told
+    where
+      other : (m : ℕ) → (m ≡ k → ⊥) → is_at (nat_cmp m) k ≡ false
+      other m differs = elim (eqb_tells m k) [
+        | inl same ↦ absurd (differs same.1)
+        | inr apart ↦ is-at-other m k apart.0
+      ]
+
+      by : (o : Option Attached) → (ascend (map owner_of owners) ≡ true → MatchOption o (Unit {0}) (λ a. a.owner ≡ k → p ≡ n))
+          → MatchOption o (Unit {0}) (λ a. ascend (map owner_of owners) ≡ true → has listed a.owner ≡ list_any (is_at (nat_cmp a.owner)) left)
+          → MatchOption o (Unit {0}) (λ a. ascend (map owner_of owners) ≡ true → has listed a.owner ≡ list_any (is_at (nat_cmp a.owner)) rest)
+      by None f t = tt
+      by (Some a) f t = λ asc.
+          t asc ∙ (λ i. list_any (is_at (nat_cmp a.owner)) (is i))
+          ∙ (λ i. other a.owner (λ e. apart-never (put-apart) (f asc e)) i || list_any (is_at (nat_cmp a.owner)) rest)
+
+-- LAW: once none is left, none of the listed is at another place
+pub put-end : (owners : List Attached) (listed : BTreeSet ℕ) (left : List ℕ) (n : ℕ) → left ≡ [] → OfListed owners listed left n → AtOwner owners n (λ a. ascend (map owner_of owners) ≡ true → has listed a.owner ≡ false)
+put-end owners listed left n is = by (slice_get owners n)
+  where
+    by : (o : Option Attached) → MatchOption o (Unit {0}) (λ a. ascend (map owner_of owners) ≡ true → has listed a.owner ≡ list_any (is_at (nat_cmp a.owner)) left)
+        → MatchOption o (Unit {0}) (λ a. ascend (map owner_of owners) ≡ true → has listed a.owner ≡ false)
+    by None t = tt
+    by (Some a) t = λ asc. t asc ∙ (λ i. list_any (is_at (nat_cmp a.owner)) (is i))
+
+-- what holds of the others with fewer places holds with more
+pub others-more : (owners : List Attached) (old new : BTreeSet ℕ) (P : ℕ → Type 0) → ((n : ℕ) → has new n ≡ false → has old n ≡ false) → OfOthers owners old P → OfOthers owners new P
+others-more owners old new P kept told n none = told n (kept n none)
+
+pub others-then : (owners : List Attached) (places : BTreeSet ℕ) (P Q : ℕ → Type 0) → ((m : ℕ) → P m → Q m) → OfOthers owners places P → OfOthers owners places Q
+others-then owners places P Q step told n none = by (slice_get owners n) (told n none)
+  where
+    by : (o : Option Attached) → MatchOption o (Unit {0}) (λ a. ascend (map owner_of owners) ≡ true → P a.owner) → MatchOption o (Unit {0}) (λ a. ascend (map owner_of owners) ≡ true → Q a.owner)
+    by None t = tt
+    by (Some a) t = λ asc. step a.owner (t asc)
+
+pub others-two : (owners : List Attached) (places : BTreeSet ℕ) (P Q R : ℕ → Type 0) → ((m : ℕ) → P m → Q m → R m) → OfOthers owners places P → OfOthers owners places Q → OfOthers owners places R
+others-two owners places P Q R step told also n none = by (slice_get owners n) (told n none) (also n none)
+  where
+    by : (o : Option Attached) → MatchOption o (Unit {0}) (λ a. ascend (map owner_of owners) ≡ true → P a.owner) → MatchOption o (Unit {0}) (λ a. ascend (map owner_of owners) ≡ true → Q a.owner)
+        → MatchOption o (Unit {0}) (λ a. ascend (map owner_of owners) ≡ true → R a.owner)
+    by None t u = tt
+    by (Some a) t u = λ asc. step a.owner (t asc) (u asc)
+
+-- ---- changes gone through one after the other
+
+get-beyond : {X : Type 0} (xs : List X) (n : ℕ) → length xs ≤ n → slice_get xs n ≡ None
+get-beyond [] n le = refl
+get-beyond (x ∷ xs) zero le = absurd (omega (arith, le))
+get-beyond (x ∷ xs) (suc n) le = get-beyond xs n (omega (arith, le))
+
+pub shift-beyond : (P : Shift → Type 0) (xs : List Shift) (n : ℕ) → length xs ≤ n → MatchOption (slice_get xs n) (Unit {0}) P
+shift-beyond P xs n le = subst (λ o. MatchOption o (Unit {0}) P) (sym (get-beyond xs n le)) tt
+
+pub shifts-more : (index : Index) (shifts : List Shift) (m place : ℕ) (d : Shift) → place < length shifts
+    → ((k : ℕ) → k < place → MatchOption (slice_get shifts k) (Unit {0}) (λ c. knows index (Subject.Entity c.entity) m ≡ false)) → knows index (Subject.Entity (get_or shifts place d).entity) m ≡ false
+    → (k : ℕ) → k < place + 1 → MatchOption (slice_get shifts k) (Unit {0}) (λ c. knows index (Subject.Entity c.entity) m ≡ false)
+shifts-more index shifts m place d within told here k lt = elim (eqb_tells place k) [
+  | inl same ↦ subst (λ n. MatchOption (slice_get shifts n) (Unit {0}) (λ c. knows index (Subject.Entity c.entity) m ≡ false)) same.1
+      (subst (λ o. MatchOption o (Unit {0}) (λ c. knows index (Subject.Entity c.entity) m ≡ false)) (sym (get-at shifts place d within)) here)
+  | inr other ↦ (let apart = other.1 in told k (omega (arith, lt, apart)))
+]

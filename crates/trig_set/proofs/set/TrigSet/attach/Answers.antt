@@ -1,0 +1,60 @@
+use Rattle.std.proofs.Common.{◌≡◌, ◌∙◌, ◌≤◌, zero, [], ap, arith, refl, sym, subst, length, map}
+use Rattle.std.specs.Prelude.{IsNone}
+use Rattle.ha_past.specs.Firings.{owner_named, placed}
+use Rattle.trig_set.specs.Known.{AreKnown, IsListed}
+use Rattle.trig_set.specs.Stands.{AllOwners, OwnerStands, attached, owner_of}
+use Rattle.trig_set.proofs.FoundLemmas.{known-fresh, known-placed, spots-listed}
+use Rattle.trig_set.proofs.OnLemmas.{err-then, on-any-err, on-two}
+use Rattle.trig_set.proofs.set.TrigSet.attach.Goals as goal
+
+pub returns-in_err-list_owner-clause-err : goal.returns-in_err-list_owner-clause-err
+returns-in_err-list_owner-clause-err c =
+    let number = ap (λ o. o.owner) c.in_ok-attached.ensures.owner in
+    on-any-err _ c.from_residual-in_err-list_owner.result (
+      refl,
+      λ j stands. record {
+        owners = stands.owners;
+        known = known-fresh c.args.self.now.index c.list_owner.new.index c.in_ok-attached.attached.owner (attached c.args.self.now)
+            (subst (λ n. IsNone (owner_named n (attached c.args.self.now))) (sym number) c.requires.fresh) c.list_owner.ensures.others stands.known;
+        at = stands.at;
+        zone = stands.zone;
+        numbers = stands.numbers;
+      },
+    )
+
+pub returns-clause-stands : goal.returns-clause-stands
+returns-clause-stands c =
+    let old = c.args.self.now.index in
+    let new = c.list_owner.new.index in
+    let a = c.in_ok-attached.attached in
+    let number = ap (λ o. o.owner) c.in_ok-attached.ensures.owner in
+    on-two _ _ _ c.put_in.result
+    (λ ok keeps j stands le. record {
+      owners = keeps j stands.owners (c.in_ok-attached.ensures.stands j le);
+      known = subst (AreKnown new) (sym ok)
+          (known-placed old new (owner_of a) (attached c.args.self.now) (subst (λ n. IsNone (owner_named n (attached c.args.self.now))) (sym number) c.requires.fresh) c.list_owner.ensures.others
+          (spots-listed new a ((c.in_ok-attached.ensures.stands [] (omega arith)).spots.places) c.in_ok-list_owner.ensures.here) stands.known);
+      at = stands.at;
+      zone = stands.zone;
+      numbers = stands.numbers;
+    })
+    c.put_in.ensures.ok c.put_in.ensures.stands
+
+pub returns-clause-err : goal.returns-clause-err
+returns-clause-err c =
+    let new = c.list_owner.new.index in
+    let number = ap (λ o. o.owner) c.in_ok-attached.ensures.owner in
+    err-then _ _ c.put_in.result
+    (λ same. (
+      ap (map owner_of) same,
+      λ j stands. record {
+        owners = subst (λ l. AllOwners l (OwnerStands j)) (sym same) stands.owners;
+        known = subst (λ l. AreKnown new (map owner_of l)) (sym same)
+            (known-fresh c.args.self.now.index new c.in_ok-attached.attached.owner (attached c.args.self.now)
+            (subst (λ n. IsNone (owner_named n (attached c.args.self.now))) (sym number) c.requires.fresh) c.list_owner.ensures.others stands.known);
+        at = stands.at;
+        zone = stands.zone;
+        numbers = stands.numbers;
+      },
+    ))
+    c.put_in.ensures.err

@@ -1,0 +1,15 @@
+use Rattle.std.proofs.Common.{sym, subst}
+use Rattle.trig_set.specs.Known.{AreKnown}
+use Rattle.trig_set.specs.Stands.{attached}
+use Rattle.trig_set.proofs.FoundLemmas.{known-without}
+use Rattle.trig_set.proofs.set.TrigSet.detach.Goals as goal
+
+pub returns-clause-stands : goal.returns-clause-stands
+returns-clause-stands c j stands = record {
+  owners = c.take_out.ensures.stands j stands.owners;
+  known = subst (AreKnown c.unlist_owner.new.index) (sym c.take_out.ensures.rest)
+      (known-without c.args.self.now.index c.unlist_owner.new.index c.args.owner (attached c.args.self.now) c.unlist_owner.ensures stands.known);
+  at = stands.at;
+  zone = stands.zone;
+  numbers = stands.numbers;
+}

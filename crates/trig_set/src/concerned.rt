@@ -1,0 +1,169 @@
+//! Whom an entry concerns, told by an index of the owners.
+ghost use Rattle.std.specs.Prelude.{◌≡◌, ◌≤◌, ℕ, OnOk, IfOk, MatchOption, false, length, map, nat_eq, option_map, slice_get, true};
+ghost use Rattle.std.specs.Option.{option_copied, option_map_or};
+ghost use Rattle.event_bus.specs.Lists.{has};
+ghost use Rattle.event_bus.specs.Subjects.{Subject, knows};
+ghost use Rattle.ha_model.specs.Entries.{event_in};
+ghost use Rattle.trig_set.specs.Concerned.{IsAside, OfOthers};
+ghost use Rattle.trig_set.specs.Kept.{All};
+ghost use Rattle.trig_set.specs.Known.{HasSpot};
+ghost use Rattle.trig_set.specs.Order.{ascend};
+ghost use Rattle.trig_set.specs.Stands.{AtOwner, owner_of};
+
+use crate::event::kind_in;
+use crate::owners::Attached;
+use crate::scene::Shift;
+use crate::spot::Spot;
+use event_bus::Index;
+use ha_model::{Entry, Many, Trigger};
+use std::alloc::{AllocError, Global};
+use std::collections::BTreeSet;
+
+/// Lists an owner for one of its triggers and one of its entities.
+fn list_spot(
+    alloc: Global,
+    index: &mut Index,
+    owner: u64,
+    triggers: &Many<Trigger>,
+    spot: &Spot,
+) -> Result<(), AllocError>
+    ensures here { OnOk result (HasSpot index.new owner triggers.now spot.now) }
+    ensures kept { OnOk result ((s : Subject) → knows index.old s owner ≡ true → knows index.new s owner ≡ true) }
+    ensures others { (s : Subject) (n : ℕ) → nat_eq owner n ≡ false → knows index.new s n ≡ knows index.old s n }
+{
+    match triggers.get(spot.trigger as usize) {
+        Some(trigger) => index.put(alloc, &trigger.rule, spot.entity.as_ref(), owner),
+        None => Ok(()),
+    }
+}
+
+/// Lists an owner. After an error the others are listed as before.
+pub fn list(
+    alloc: Global,
+    index: &mut Index,
+    owner: u64,
+    triggers: &Many<Trigger>,
+    spots: &[Spot],
+) -> Result<(), AllocError>
+    ensures here { OnOk result (All spots.now (HasSpot index.new owner triggers.now)) }
+    ensures others { (s : Subject) (n : ℕ) → nat_eq owner n ≡ false → knows index.new s n ≡ knows index.old s n }
+{
+    for place in 0..spots.len() {
+        list_spot(alloc, index, owner, triggers, &spots[place])?;
+    }
+    Ok(())
+}
+
+/// An owner is listed no more for one of its triggers and one of its entities.
+fn unlist_spot(index: &mut Index, owner: u64, triggers: &Many<Trigger>, spot: &Spot)
+    ensures { (s : Subject) (n : ℕ) → nat_eq owner n ≡ false → knows index.new s n ≡ knows index.old s n }
+{
+    if let Some(trigger) = triggers.get(spot.trigger as usize) {
+        index.take(&trigger.rule, spot.entity.as_ref(), owner);
+    }
+}
+
+/// An owner is listed no more; the others are as before.
+pub fn unlist(index: &mut Index, owner: u64, triggers: &Many<Trigger>, spots: &[Spot])
+    ensures { (s : Subject) (n : ℕ) → nat_eq owner n ≡ false → knows index.new s n ≡ knows index.old s n }
+{
+    for place in 0..spots.len() {
+        unlist_spot(index, owner, triggers, &spots[place]);
+    }
+}
+
+/// Where an owner stands, if it is there.
+pub fn place_of(owners: &[Attached], owner: u64) -> usize
+    ensures { ascend (map owner_of owners.now) ≡ true → (n : ℕ) → AtOwner owners.now n (λ a. a.owner ≡ owner → result ≡ n) }
+{
+    let mut low = 0;
+    let mut high = owners.len();
+    'halves: while low < high {
+        let middle = low + (high - low) / 2;
+        if owners[middle].owner < owner {
+            low = middle + 1;
+        } else {
+            high = middle;
+        }
+    }
+    low
+}
+
+/// Puts the places of owners in.
+fn put_places(
+    owners: &[Attached],
+    listed: &BTreeSet<u64>,
+    places: &mut BTreeSet<usize>,
+) -> Result<(), AllocError>
+    ensures kept { OnOk result ((n : ℕ) → has places.new n ≡ false → has places.old n ≡ false) }
+    ensures aside { OnOk result (OfOthers owners.now places.new (λ m. has listed.now m ≡ false)) }
+{
+    'owners: for owner in listed.iter() {
+        places.insert(place_of(owners, *owner))?;
+    }
+    Ok(())
+}
+
+/// The same, where there are some.
+fn put_some(
+    owners: &[Attached],
+    listed: Option<&BTreeSet<u64>>,
+    places: &mut BTreeSet<usize>,
+) -> Result<(), AllocError>
+    ensures kept { OnOk result ((n : ℕ) → has places.new n ≡ false → has places.old n ≡ false) }
+    ensures aside { OnOk result (OfOthers owners.now places.new (λ m. option_map_or (λ set. has set m) (option_copied listed.entry) false ≡ false)) }
+{
+    match listed {
+        Some(listed) => put_places(owners, listed, places),
+        None => Ok(()),
+    }
+}
+
+/// Puts the places of those in whom an event concerns.
+fn put_event(
+    index: &Index,
+    entry: &Entry,
+    owners: &[Attached],
+    places: &mut BTreeSet<usize>,
+) -> Result<(), AllocError>
+    ensures kept { OnOk result ((n : ℕ) → has places.new n ≡ false → has places.old n ≡ false) }
+    ensures aside { OnOk result (OfOthers owners.now places.new (λ m. MatchOption (option_map (λ v. v.0) (event_in entry.now)) (Unit {0}) (λ q. knows index.now (Subject.Event q) m ≡ false))) }
+{
+    match kind_in(entry) {
+        Some(kind) => put_some(owners, index.of_event(kind), places),
+        None => Ok(()),
+    }
+}
+
+/// Puts the places of those in whom a change of one of the entities concerns.
+fn put_entities(
+    index: &Index,
+    shifts: &[Shift],
+    owners: &[Attached],
+    places: &mut BTreeSet<usize>,
+) -> Result<(), AllocError>
+    ensures kept { OnOk result ((n : ℕ) → has places.new n ≡ false → has places.old n ≡ false) }
+    ensures aside { OnOk result (OfOthers owners.now places.new (λ m. (k : ℕ) → MatchOption (slice_get shifts.now k) (Unit {0}) (λ c. knows index.now (Subject.Entity c.entity) m ≡ false))) }
+{
+    for place in 0..shifts.len() {
+        put_some(owners, index.of_entity(&shifts[place].entity), places)?;
+    }
+    Ok(())
+}
+
+/// The places of the owners whom the entry concerns, where no segment opens with it and it is no moment.
+pub fn concerned(
+    alloc: Global,
+    index: &Index,
+    entry: &Entry,
+    shifts: &[Shift],
+    owners: &[Attached],
+) -> Result<BTreeSet<usize>, AllocError>
+    ensures { IfOk result (λ places. OfOthers owners.now places (IsAside index.now shifts.now entry.now)) }
+{
+    let mut places = BTreeSet::new(alloc);
+    put_places(owners, &index.entries, &mut places)?;
+    put_event(index, entry, owners, &mut places)?;
+    put_entities(index, shifts, owners, &mut places)?;
+    Ok(places)
+}
