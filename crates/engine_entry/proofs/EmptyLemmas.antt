@@ -1,7 +1,6 @@
 -- What is left when all goes.
-use Rattle.std.proofs.Common.{◌≡◌, ℕ, zero, suc, ◌+◌, ◌<◌, ◌≤◌, List, [], ◌∷◌, ◌++◌, length, drop, drop-cons, get_or, set, replicate, Bool, true, false, refl, sym, ap, subst, ◌∙◌, rules, arith}
-use Rattle.std.proofs.lemmas.List.{length-replicate, set_at}
-use Rattle.std.specs.Prelude.{Option, Some, None, not, nat_eq, if◌then◌else◌}
+use Rattle.std.proofs.Common.{◌≡◌, ℕ, zero, suc, ◌+◌, ◌≤◌, List, [], ◌∷◌, length, replicate, Bool, true, false, refl, sym, subst, ◌∙◌, rules, arith}
+use Rattle.std.specs.Prelude.{Option, None, not, nat_eq, if◌then◌else◌}
 use Rattle.timer_queue.specs.Timers.{Timer}
 use Rattle.ha_model.specs.declared.journal.Record.{Record}
 use Rattle.ha_model.specs.Journal.{Journal}
@@ -16,39 +15,6 @@ use Rattle.engine_parts.specs.Kept.{RunsKept, SlotBut, everyone, left_branches}
 use Rattle.engine_parts.specs.Owners.{AreAscending, AreBelow}
 use Rattle.engine_parts.specs.Runs.{AreHeld, SlotsWith}
 use Rattle.engine_parts.proofs.DetachLemmas.{ascend-lower, ascend-without}
-
--- ---- slots
-
-abbrev empty : Option Frames
-empty = None
-
-nones-more : (i : ℕ) (os : List (Option Frames)) → replicate i empty ++ (None ∷ os) ≡ replicate (i + 1) empty ++ os
-nones-more zero os = refl
-nones-more (suc i) os = ap (λ l. None ∷ l) (nones-more i os) ∙ (let e : suc (i + 1) ≡ suc i + 1 = omega arith in ap (λ n. replicate n empty ++ os) e)
-
--- LAW: one slot more is emptied
-pub slot-none : (i : ℕ) (xs : List (Option Frames)) → i < length xs → set (replicate i empty ++ drop i xs) i empty ≡ replicate (i + 1) empty ++ drop (i + 1) xs
-slot-none i xs lt =
-    (let e : suc i ≡ i + 1 = omega arith in
-    let cut : drop i xs ≡ get_or xs i empty ∷ drop (i + 1) xs = drop-cons xs i empty lt ∙ ap (λ m. get_or xs i empty ∷ drop m xs) e in
-    ap (λ l. set (replicate i empty ++ l) i empty) cut
-    ∙ set_at (replicate i empty) (get_or xs i empty) (drop (i + 1) xs) empty i (length-replicate i empty) ∙ nones-more i (drop (i + 1) xs))
-
-drop-all : {X : Type 0} (i : ℕ) (xs : List X) → length xs ≤ i → drop i xs ≡ []
-drop-all zero [] le = refl
-drop-all zero (x ∷ xs) le = absurd (omega (arith, le))
-drop-all (suc i) [] le = refl
-drop-all (suc i) (x ∷ xs) le = drop-all i xs (omega (arith, le))
-
-append-none : {X : Type 0} (xs : List X) → xs ++ [] ≡ xs
-append-none [] = refl
-append-none (x ∷ xs) = ap (λ l. x ∷ l) (append-none xs)
-
--- LAW: all are emptied
-pub slots-none : (i : ℕ) (xs : List (Option Frames)) → i ≤ length xs → length xs ≤ i → replicate i empty ++ drop i xs ≡ replicate (length xs) empty
-slots-none i xs lo hi =
-    (let e : i ≡ length xs = omega (arith, lo, hi) in
-    ap (λ l. replicate i empty ++ l) (drop-all i xs hi) ∙ append-none (replicate i empty) ∙ ap (λ n. replicate n empty) e)
 
 -- ---- owners
 

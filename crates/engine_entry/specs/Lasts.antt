@@ -1,5 +1,7 @@
 -- The last target of each automation that a step switches.
 use Rattle.std.specs.Prelude.{◌≡◌, ℕ, ◌<◌, Bool, false, not, ◌&&◌, nat_lt, List, [], ◌∷◌, ◌++◌, Some, None, if◌then◌else◌}
+use Rattle.std.specs.BTreeSet.{BTreeSet, contains}
+use Rattle.std.specs.Ordering.{nat_cmp}
 use Rattle.ha_model.specs.Switches.{switched}
 use Rattle.engine_entry.specs.Turned.{AreOnce, Target, is_target}
 
@@ -20,3 +22,7 @@ is_new n kept t = nat_lt t.0 n && not (is_target kept t.0)
 
 abbrev pub kept_with : ℕ → List Target → Target → List Target
 kept_with n kept t = if is_new n kept t then kept ++ (t ∷ []) else kept
+
+-- the set has the automations of these targets
+abbrev pub AreSeen : BTreeSet ℕ → List Target → Type 0
+AreSeen seen kept = (a : ℕ) → contains nat_cmp seen a ≡ is_target kept a

@@ -10,20 +10,10 @@ ghost use Rattle.trig_set.specs.Stands.{StandsFor, attached};
 ghost use Rattle.engine_parts.specs.Owners.{AreAscending, AreBelow};
 
 use engine_parts::parts::Parts;
-use script_step::Frames;
 use std::alloc::Global;
 use timer_queue::TimerQueue;
 use trig_set::TrigSet;
 use wait_set::Waits;
-
-/// All slots are emptied.
-fn clear_slots(frames: &mut Vec<Option<Frames>>)
-    ensures { frames.new.items ≡ replicate (length frames.old.items) None }
-{
-    'slots: for at in 0..frames.len() {
-        frames[at] = None;
-    }
-}
 
 /// The triggers of all owners below a number are detached.
 fn detach_below(triggers: &mut TrigSet, most: u64)
@@ -49,7 +39,7 @@ pub fn let_go(parts: &mut Parts, alloc: Global, most: u64)
     parts.states.clear();
     detach_below(&mut parts.triggers, most);
     parts.waits = Waits::make(alloc);
-    clear_slots(&mut parts.frames);
+    parts.frames.clear();
     parts.delays = TimerQueue::make(alloc);
     parts.ready.pairs.clear();
 }

@@ -1,13 +1,14 @@
 //! What a step itself changes: the switches of the automations that its item names, with their states and triggers. The answer lists the states
 //! that it changes, as they were.
-ghost use Rattle.std.specs.Prelude.{◌≡◌, [], false, ℕ, Option, IfOk, OnOk, List};
+ghost use Rattle.std.specs.Prelude.{◌≡◌, ◌||◌, [], false, not, nat_eq, ℕ, Option, IfOk, OnOk, List};
+ghost use Rattle.std.specs.BTreeSet.{contains};
+ghost use Rattle.std.specs.Ordering.{nat_cmp};
 ghost use Rattle.ha_model.specs.declared.journal.Entry.TheVariants.{Step};
 ghost use Rattle.ha_model.specs.declared.journal.Item.{Item as Made};
 ghost use Rattle.ha_model.specs.declared.journal.WaitAsk.{WaitAsk as Waited};
 ghost use Rattle.ha_model.specs.Journal.{Journal};
 ghost use Rattle.ha_model.specs.RecordSteps.{more};
-ghost use Rattle.engine_entry.specs.Lasts.{AreLasts, is_new, kept_with};
-ghost use Rattle.engine_entry.specs.Turned.{is_target};
+ghost use Rattle.engine_entry.specs.Lasts.{AreLasts, AreSeen, kept_with};
 ghost use Rattle.engine_entry.specs.Stepping.{IsTaken, StepEntered, StepHere, SwitchedHere};
 
 use crate::turn::enter_switches;
@@ -15,6 +16,7 @@ use engine_parts::last::{configuration, last_entry};
 use engine_parts::parts::Parts;
 use ha_model::{EntityId, Entry, Item, Many, StateObject};
 use std::alloc::{AllocError, Global};
+use std::collections::BTreeSet;
 
 /// The item of the last entry, which is a step.
 fn last_item<'a>(journal: &'a [Entry], parts: &Parts) -> &'a Item
@@ -36,29 +38,40 @@ fn enter_none(parts: &mut Parts, alloc: Global) -> Many<(EntityId, Option<StateO
     Many::make(alloc)
 }
 
-/// Whether one of the targets is this automation.
-fn is_target(targets: &[(u32, bool, bool)], automation: u32) -> bool
-    ensures { result ≡ is_target targets.now automation }
+/// No automation is seen yet.
+fn none_seen(alloc: Global) -> BTreeSet<u32>
+    ensures { AreSeen result [] }
 {
-    targets.iter().any(|t| t.0 == automation)
+    BTreeSet::new(alloc)
 }
 
-/// Whether a target is of one of so many automations, and of none of those that are kept.
-fn is_new(kept: &[(u32, bool, bool)], target: (u32, bool, bool), count: usize) -> bool
-    ensures { result ≡ is_new count kept.now target }
+/// An automation is seen; the answer is whether it was not before.
+fn see(seen: &mut BTreeSet<u32>, automation: u32) -> Result<bool, AllocError>
+    ensures new { IfOk result (λ new. new ≡ not (contains nat_cmp seen.old automation)) }
+    ensures seen { OnOk result ((a : ℕ) → contains nat_cmp seen.new a ≡ (contains nat_cmp seen.old a || nat_eq automation a)) }
 {
-    (target.0 as usize) < count && !is_target(kept, target.0)
+    match seen.insert(automation) {
+        Ok(new) => Ok(new),
+        Err(_) => Err(AllocError),
+    }
 }
 
-/// A target is kept, where it is such a one.
+/// A target is kept, where it is of one of so many automations, and of none that is seen already.
 fn keep(
     kept: &mut Vec<(u32, bool, bool)>,
+    seen: &mut BTreeSet<u32>,
     target: (u32, bool, bool),
     count: usize,
 ) -> Result<(), AllocError>
-    ensures { OnOk result (kept.new.items ≡ kept_with count kept.old.items target) }
+    requires { AreSeen seen.old kept.old.items }
+    ensures kept { OnOk result (kept.new.items ≡ kept_with count kept.old.items target) }
+    ensures seen { OnOk result (AreSeen seen.new kept.new.items) }
 {
-    if is_new(kept.as_slice(), target, count) {
+    if count <= target.0 as usize {
+        return Ok(());
+    }
+    let new = see(seen, target.0)?;
+    if new {
         kept.push(target)?;
         return Ok(());
     }
@@ -74,10 +87,11 @@ fn last_targets(
     ensures { IfOk result (λ kept. AreLasts count targets.now kept.items) }
 {
     let mut kept = Vec::new(alloc);
+    let mut seen = none_seen(alloc);
     let mut left = targets.len();
     'targets: while 0 < left {
         left -= 1;
-        keep(&mut kept, targets[left], count)?;
+        keep(&mut kept, &mut seen, targets[left], count)?;
     }
     Ok(kept)
 }

@@ -4,10 +4,12 @@ ghost use Rattle.ha_model.specs.Journal.{IsJournal};
 ghost use Rattle.ha_model.specs.Triggers.{sight};
 ghost use Rattle.script_step.specs.Frames.{may};
 ghost use Rattle.engine_parts.specs.Kept.{AreSound, Looks};
+ghost use Rattle.engine_parts.specs.Slots.{value_in};
 ghost use Rattle.engine_entry.specs.Stepping.{IsRunStep, MaySlot, SlotStep};
 
 use cond_eval::View;
 use engine_parts::last::configuration;
+use engine_parts::slots::Slots;
 use ha_clock::Zone;
 use ha_model::{Branch, Entry, Moment, StepOut, WaitEnd};
 use script_step::Frames;
@@ -37,27 +39,25 @@ fn step_frames<'a>(
 }
 
 /// The frames are taken out of the slot of a run.
-fn take_frames(frames: &mut Vec<Option<Frames>>, serial: u64) -> Option<Frames>
+fn take_frames(frames: &mut Slots<Frames>, serial: u64) -> Option<Box<Frames>>
     requires { serial - 1 < length frames.old.items }
-    ensures taken { slice_get frames.old.items (serial - 1) ≡ Some result }
+    ensures taken { slice_get frames.old.items (serial - 1) ≡ Some (value_in result) }
     ensures rest { frames.new.items ≡ set frames.old.items (serial - 1) None }
 {
-    let at = serial.saturating_sub(1) as usize;
-    std::mem::replace(&mut frames[at], None)
+    frames.take(serial.saturating_sub(1) as usize)
 }
 
 /// Frames are put into the slot of a run.
-fn put_frames(frames: &mut Vec<Option<Frames>>, serial: u64, run: Frames)
+fn put_frames(frames: &mut Slots<Frames>, serial: u64, run: Box<Frames>)
     requires { serial - 1 < length frames.old.items }
-    ensures { frames.new.items ≡ set frames.old.items (serial - 1) (Some run) }
+    ensures { frames.new.items ≡ set frames.old.items (serial - 1) (Some run.value) }
 {
-    let at = serial.saturating_sub(1) as usize;
-    frames[at] = Some(run);
+    frames.put(serial.saturating_sub(1) as usize, run);
 }
 
 /// The step of a run in its slot, and the due of the delay in which its branch then is, if it is in one. After an error the slot is empty.
 pub fn step_slot(
-    frames: &mut Vec<Option<Frames>>,
+    frames: &mut Slots<Frames>,
     alloc: Global,
     journal: &[Entry],
     states: &StateTable,

@@ -26,3 +26,4 @@ pub mod FreshLemmas
 pub mod CutLemmas
 pub mod ForgetLemmas
 pub mod PutLemmas
+pub mod SlotTables

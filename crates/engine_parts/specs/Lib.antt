@@ -1,6 +1,7 @@
 pub mod Waiting
 pub mod Fronts
 pub mod Lower
+pub mod Slots
 pub mod OneMore
 pub mod Touched
 pub mod Places

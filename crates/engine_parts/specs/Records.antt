@@ -36,7 +36,7 @@ AreEnded gone (r ∷ rs) (r' ∷ rs') = EndsIf (gone r.serial) r r' × AreEnded 
 
 -- there is room for the frames and a pair of so many runs more
 abbrev pub HasRoom : ℕ → Parts → Type 0
-HasRoom n p = (vec_len p.frames + n ≤ vec_capacity p.frames) × (vec_len p.ready.pairs + n ≤ vec_capacity p.ready.pairs)
+HasRoom n p = (n ≤ p.frames.spare) × (vec_len p.ready.pairs + n ≤ vec_capacity p.ready.pairs)
 
 -- the branches of a run that just begins
 abbrev pub first_branches : List Action → List Branch

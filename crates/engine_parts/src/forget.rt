@@ -1,5 +1,5 @@
 //! A run that ends leaves nothing behind: its triggers, its waits, its frames and its pairs go.
-ghost use Rattle.std.specs.Prelude.{◌≡◌, ◌-◌, ◌<◌, ◌≤◌, ◌∷◌, [], ℕ, None, Some, length, set, slice_get, vec_len, vec_capacity};
+ghost use Rattle.std.specs.Prelude.{◌≡◌, ◌-◌, ◌<◌, ◌≤◌, ◌∷◌, [], ℕ, None, Some, length, set, slice_get};
 ghost use Rattle.ha_model.specs.Journal.{Journal};
 ghost use Rattle.ha_model.specs.Records.{Records};
 ghost use Rattle.run_modes.specs.Fits.{AreNumbered};
@@ -11,6 +11,7 @@ ghost use Rattle.engine_parts.specs.Records.{HasRoom, also};
 
 use crate::parts::Parts;
 use crate::ready::drop_pairs;
+use crate::slots::Slots;
 use crate::wake::detach;
 use script_step::Frames;
 use trig_set::TrigSet;
@@ -32,15 +33,11 @@ fn detach_run(triggers: &mut TrigSet, waits: &Waits, serial: u64)
 }
 
 /// The slot of a run is emptied.
-fn clear_slot(frames: &mut Vec<Option<Frames>>, serial: u64)
+fn clear_slot(frames: &mut Slots<Frames>, serial: u64)
     ensures slot { serial - 1 < length frames.old.items → frames.new.items ≡ set frames.old.items (serial - 1) None }
-    ensures len { vec_len frames.new ≡ vec_len frames.old }
-    ensures capacity { vec_capacity frames.new ≡ vec_capacity frames.old }
+    ensures spare { frames.new.spare ≡ frames.old.spare }
 {
-    let at = serial.saturating_sub(1) as usize;
-    if at < frames.len() {
-        frames[at] = None;
-    }
+    frames.drop_at(serial.saturating_sub(1) as usize);
 }
 
 /// A run goes; it has still to be ended.

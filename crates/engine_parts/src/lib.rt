@@ -11,4 +11,5 @@ pub mod parts;
 pub mod ready;
 pub mod rested;
 pub mod see;
+pub mod slots;
 pub mod wake;

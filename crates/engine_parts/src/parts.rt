@@ -1,5 +1,6 @@
 //! What stands for the journal beside the records.
 use crate::ready::Ready;
+use crate::slots::Slots;
 use ha_clock::{Moment, Zone};
 use script_step::Frames;
 use state_table::StateTable;
@@ -18,7 +19,7 @@ pub struct Parts {
     pub triggers: TrigSet,
     pub waits: Waits,
     /// Of each run, by its serial less 1; none once it has ended.
-    pub frames: Vec<Option<Frames>>,
+    pub frames: Slots<Frames>,
     /// The dues of the delays that are not over, under the places of their steps.
     pub delays: TimerQueue,
     pub ready: Ready,

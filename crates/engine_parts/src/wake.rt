@@ -16,6 +16,7 @@ ghost use Rattle.engine_parts.specs.Pending.{AreOthers, AreWaits};
 ghost use Rattle.engine_parts.specs.Kept.{KeysBelow, Owned};
 
 use crate::ready::{Ready, set_run};
+use crate::slots::Slots;
 use ha_model::{Entry, Many, Moment};
 use script_step::Frames;
 use std::alloc::{AllocError, Global};
@@ -34,25 +35,22 @@ fn stepper(journal: &[Entry], place: u64) -> Option<u64>
 }
 
 /// The frames of the run with this serial, if it has not ended.
-fn run_at(frames: &[Option<Frames>], serial: u64) -> Option<&Frames>
-    ensures { option_copied result ≡ option_and_then (λ slot. slot) (slice_get frames.now (serial - 1)) }
+fn run_at(frames: &Slots<Frames>, serial: u64) -> Option<&Frames>
+    ensures { option_copied result ≡ option_and_then (λ slot. slot) (slice_get frames.now.items (serial - 1)) }
 {
-    match frames.get(serial.saturating_sub(1) as usize) {
-        Some(slot) => slot.as_ref(),
-        None => None,
-    }
+    frames.get(serial.saturating_sub(1) as usize)
 }
 
 /// Lists the branches of a run that may step anew.
 fn refresh(
     ready: &mut Ready,
-    frames: &[Option<Frames>],
+    frames: &Slots<Frames>,
     alloc: Global,
     now: Moment,
     waits: &Waits,
     serial: u64,
 ) -> Result<(), AllocError>
-    ensures { OnOk result ((rs : Records) (k : Journal) (p : ℕ) (left : List ℕ) → Waking rs k waits.now frames.now now → step_at k serial p ≡ true
+    ensures { OnOk result ((rs : Records) (k : Journal) (p : ℕ) (left : List ℕ) → Waking rs k waits.now frames.now.items now → step_at k serial p ≡ true
         → AgreesBut (touched k (p ∷ left)) rs k ready.old.pairs.items → AgreesBut (touched k left) rs k ready.new.pairs.items) }
 {
     match run_at(frames, serial) {
@@ -67,14 +65,14 @@ fn refresh(
 /// A delay that is over: the branches of its run are listed anew.
 fn wake_one(
     ready: &mut Ready,
-    frames: &[Option<Frames>],
+    frames: &Slots<Frames>,
     journal: &[Entry],
     alloc: Global,
     now: Moment,
     waits: &Waits,
     place: u64,
 ) -> Result<(), AllocError>
-    ensures { OnOk result ((rs : Records) (left : List ℕ) → Waking rs journal.now waits.now frames.now now
+    ensures { OnOk result ((rs : Records) (left : List ℕ) → Waking rs journal.now waits.now frames.now.items now
         → AgreesBut (touched journal.now (place ∷ left)) rs journal.now ready.old.pairs.items → AgreesBut (touched journal.now left) rs journal.now ready.new.pairs.items) }
 {
     match stepper(journal, place) {
@@ -98,7 +96,7 @@ fn pop(delays: &mut TimerQueue, now: Moment) -> Option<u64>
 fn wake_delays(
     delays: &mut TimerQueue,
     ready: &mut Ready,
-    frames: &[Option<Frames>],
+    frames: &Slots<Frames>,
     journal: &[Entry],
     alloc: Global,
     now: Moment,
@@ -107,7 +105,7 @@ fn wake_delays(
     ensures over { OnOk result (due_places now delays.new ≡ []) }
     ensures queue { OnOk result (QueueKept now delays.old delays.new) }
     ensures early { OnOk result ((n : ℕ) → KeysBelow n delays.old → KeysBelow n delays.new) }
-    ensures agree { OnOk result ((rs : Records) (left : List ℕ) → Waking rs journal.now waits.now frames.now now
+    ensures agree { OnOk result ((rs : Records) (left : List ℕ) → Waking rs journal.now waits.now frames.now.items now
         → AgreesBut (touched journal.now (due_places now delays.old ++ left)) rs journal.now ready.old.pairs.items → AgreesBut (touched journal.now left) rs journal.now ready.new.pairs.items) }
 {
     'due: while let Some(place) = pop(delays, now) {
@@ -137,13 +135,13 @@ fn detach_all(triggers: &mut TrigSet, owners: &[u64])
 /// The branches of the runs whose waits ended at the entry noted last are listed anew.
 fn wake_waits(
     ready: &mut Ready,
-    frames: &[Option<Frames>],
+    frames: &Slots<Frames>,
     journal: &[Entry],
     alloc: Global,
     now: Moment,
     waits: &Waits,
 ) -> Result<(), AllocError>
-    ensures { OnOk result ((rs : Records) (left : List ℕ) → Waking rs journal.now waits.now frames.now now
+    ensures { OnOk result ((rs : Records) (left : List ℕ) → Waking rs journal.now waits.now frames.now.items now
         → AgreesBut (touched journal.now (wait_places (fresh waits.now) ++ left)) rs journal.now ready.old.pairs.items → AgreesBut (touched journal.now left) rs journal.now ready.new.pairs.items) }
 {
     let owners = waits.ended_now();
@@ -167,7 +165,7 @@ pub fn wake(
     delays: &mut TimerQueue,
     triggers: &mut TrigSet,
     ready: &mut Ready,
-    frames: &[Option<Frames>],
+    frames: &Slots<Frames>,
     journal: &[Entry],
     alloc: Global,
     now: Moment,
@@ -178,7 +176,7 @@ pub fn wake(
     ensures over { OnOk result (due_places now delays.new ≡ []) }
     ensures queue { OnOk result (QueueKept now delays.old delays.new) }
     ensures early { OnOk result ((n : ℕ) → KeysBelow n delays.old → KeysBelow n delays.new) }
-    ensures pairs { OnOk result ((rs : Records) → Waking rs journal.now waits.now frames.now now
+    ensures pairs { OnOk result ((rs : Records) → Waking rs journal.now waits.now frames.now.items now
         → AgreesBut (touched journal.now (due_places now delays.old ++ wait_places (fresh waits.now))) rs journal.now ready.old.pairs.items
         → ready.new.pairs.items ≡ pairs_from 0 (length rs) (branches_at rs journal.now)) }
 {
@@ -193,7 +191,7 @@ pub fn wake_step(
     delays: &mut TimerQueue,
     triggers: &mut TrigSet,
     ready: &mut Ready,
-    frames: &[Option<Frames>],
+    frames: &Slots<Frames>,
     journal: &[Entry],
     alloc: Global,
     now: Moment,
@@ -205,7 +203,7 @@ pub fn wake_step(
     ensures over { OnOk result (due_places now delays.new ≡ []) }
     ensures queue { OnOk result (QueueKept now delays.old delays.new) }
     ensures early { OnOk result ((n : ℕ) → KeysBelow n delays.old → KeysBelow n delays.new) }
-    ensures pairs { OnOk result ((rs : Records) → Waking rs journal.now waits.now frames.now now
+    ensures pairs { OnOk result ((rs : Records) → Waking rs journal.now waits.now frames.now.items now
         → AgreesBut (touched journal.now (place ∷ (due_places now delays.old ++ wait_places (fresh waits.now)))) rs journal.now ready.old.pairs.items
         → ready.new.pairs.items ≡ pairs_from 0 (length rs) (branches_at rs journal.now)) }
 {

@@ -219,12 +219,12 @@ module _ (k : Journal) (rs : Records) (table : IsTable k rs) (a : ℕ) (mode : M
 
 -- LAW: so it is with one that is prepared
 pub prepared-kept : (k : Journal) (rs : Records) → IsTable k rs → (x : ℕ × Attempt) (p : Prepared) → IsPrepared k x p → (place : ℕ) → place < length k → (said : Admission) → said ≡ admission p.automation p.mode p.max rs
-    → (delays : List Timer) (w : Waits) (os os' : List (Option Frames)) (pairs : List (ℕ × Branch)) → SlotsBy said p.frames os os' → RunsKept (gone_by p.mode p.automation rs) k rs delays w os pairs
+    → (delays : List Timer) (w : Waits) (os os' : List (Option Frames)) (pairs : List (ℕ × Branch)) → SlotsBy said p.frames.value os os' → RunsKept (gone_by p.mode p.automation rs) k rs delays w os pairs
     → IsTable k (attempted p.automation p.mode p.max place p.order p.env rs) × RunsKept nobody k (attempted p.automation p.mode p.max place p.order p.env rs) delays w os' (pairs ++ pairs_by said p.acts)
 prepared-kept k rs table x p is place here said answer delays w os os' pairs slots kept =
     let script : actions_of (automations k) x.1.automation ≡ actions_of (automations k) p.automation = ap (actions_of (automations k)) (sym is.automation) in
-    attempted-runs k rs table p.automation p.mode place p.order p.env here p.frames p.acts
-    (subst (λ (actions : List Action). Stands p.frames actions p.env []) script (subst (λ (env : Pairs). Stands p.frames (actions_of (automations k) x.1.automation) env []) (sym is.env) is.stands))
+    attempted-runs k rs table p.automation p.mode place p.order p.env here p.frames.value p.acts
+    (subst (λ (actions : List Action). Stands p.frames.value actions p.env []) script (subst (λ (env : Pairs). Stands p.frames.value (actions_of (automations k) x.1.automation) env []) (sym is.env) is.stands))
     (is.first ∙ ap first_fronts script) (is.acts ∙ ap has_action script) p.max said answer delays w os os' pairs slots kept
 
 -- LAW: the call is that of the definition

@@ -2,7 +2,7 @@
 use Rattle.std.proofs.Common.{◌≡◌, ℕ, suc, ◌<◌, List, [], ◌∷◌, length, Bool, true, false, refl, sym, ap, subst, ◌∙◌, rules, arith}
 use Rattle.std.specs.Prelude.{Option, Some, None, IsTrue, ◌&&◌, is_none, option_map}
 use Rattle.std.specs.List.{list_any}
-use Rattle.std.specs.Global.{Vec}
+use Rattle.engine_parts.specs.Slots.{SlotTable}
 use Rattle.ha_model.specs.declared.journal.Entry.TheVariants.{Step}
 use Rattle.ha_model.specs.declared.journal.WaitAsk.{WaitAsk}
 use Rattle.ha_model.specs.declared.journal.WaitEnd.{WaitEnd}
@@ -65,7 +65,7 @@ module _ (j : Journal) (rs : Records) (p : Parts) (h : Stepping j rs p) where
                 ∙ may-step j p.delays p.waits s b told-ends pair.run (own j rs worker s b h.right picks pair) run.0 run.2 rs pair.allowed;
           })
 
-      module _ (frames' : Vec (Option Frames)) (out : StepOut) (due : Option ℕ) (step : SlotStep (sight j (length j)) s b wait p.frames.items frames'.items out due) where
+      module _ (frames' : SlotTable Frames) (out : StepOut) (due : Option ℕ) (step : SlotStep (sight j (length j)) s b wait p.frames.items frames'.items out due) where
         -- what the step asks of the waits has sound triggers
         sound : (ask : WaitAsk) → out.wait ≡ Some ask → IsTrue (are_sound_triggers ask.triggers)
         sound ask e = by (ask_of step.new b) (λ q f. f) (sym e ∙ step.step.wait_is)

@@ -47,8 +47,8 @@ pub record IsPrepared (k : Journal) (x : ℕ × Attempt) (p : Prepared) : Type 0
   pub max : p.max ≡ max_of (automations k) x.1.automation
   pub order : p.order ≡ x.0
   pub env : p.env ≡ x.1.env
-  pub stands : Stands p.frames (actions_of (automations k) x.1.automation) x.1.env []
-  pub first : fronts p.frames [] ≡ first_fronts (actions_of (automations k) x.1.automation)
+  pub stands : Stands p.frames.value (actions_of (automations k) x.1.automation) x.1.env []
+  pub first : fronts p.frames.value [] ≡ first_fronts (actions_of (automations k) x.1.automation)
   pub acts : p.acts ≡ has_action (actions_of (automations k) x.1.automation)
 
 -- the attempt of an automation that is asked for
@@ -62,8 +62,8 @@ pub record IsReady (a n : ℕ) (pairs : Pairs) (way : Mode) (most : ℕ) (action
   pub max : p.max ≡ most
   pub order : p.order ≡ n
   pub env : p.env ≡ pairs
-  pub stands : Stands p.frames actions pairs []
-  pub first : fronts p.frames [] ≡ first_fronts actions
+  pub stands : Stands p.frames.value actions pairs []
+  pub first : fronts p.frames.value [] ≡ first_fronts actions
   pub acts : p.acts ≡ has_action actions
 
 -- an attempt that passes is put behind the others, and one that does not is none

@@ -27,7 +27,7 @@ pub struct Prepared {
     /// Its place among all attempts of the entry.
     pub(crate) order: u64,
     pub(crate) env: Env,
-    pub(crate) frames: Frames,
+    pub(crate) frames: Box<Frames>,
     /// Whether its script has an action.
     pub(crate) acts: bool,
 }
@@ -62,25 +62,25 @@ fn clear_way(runs: &Runs, parts: &mut Parts, mode: Mode, automation: u32)
 }
 
 /// The frames of a new run, and its pair where it may step, are put behind the others.
-fn put_run(parts: &mut Parts, alloc: Global, serial: u64, frames: Frames, first: bool)
+fn put_run(parts: &mut Parts, alloc: Global, serial: u64, frames: Box<Frames>, first: bool)
     requires { HasRoom 1 parts.old }
-    ensures slots { OneSlot serial frames parts.old.frames.items parts.new.frames.items }
+    ensures slots { OneSlot serial frames.value parts.old.frames.items parts.new.frames.items }
     ensures pairs { parts.new.ready.pairs.items ≡ parts.old.ready.pairs.items ++ pairs_of serial (branches_if first) }
     ensures rest { parts.new ≡ record parts.old { frames = parts.new.frames; ready = parts.new.ready } }
     ensures room { (n : ℕ) → HasRoom (suc n) parts.old → HasRoom n parts.new }
 {
     let mut frames = frames;
     frames.set_serial(serial);
-    parts.frames.push_reserved(Some(frames));
+    parts.frames.push(frames);
     if first {
         parts.ready.pairs.push_reserved((serial, Many::make(alloc)));
     }
 }
 
 /// What becomes of the frames of an attempt that is made: `told` says how its mode admits it.
-fn take_in(parts: &mut Parts, alloc: Global, told: Admission, frames: Frames, acts: bool)
+fn take_in(parts: &mut Parts, alloc: Global, told: Admission, frames: Box<Frames>, acts: bool)
     requires { HasRoom 1 parts.old }
-    ensures slots { SlotsBy told frames parts.old.frames.items parts.new.frames.items }
+    ensures slots { SlotsBy told frames.value parts.old.frames.items parts.new.frames.items }
     ensures pairs { parts.new.ready.pairs.items ≡ parts.old.ready.pairs.items ++ pairs_by told acts }
     ensures rest { parts.new ≡ record parts.old { frames = parts.new.frames; ready = parts.new.ready } }
     ensures room { (n : ℕ) → HasRoom (suc n) parts.old → HasRoom n parts.new }

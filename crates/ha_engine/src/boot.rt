@@ -21,6 +21,7 @@ use engine_entry::open::open_all;
 use engine_parts::last::{configuration, last_entry};
 use engine_parts::parts::Parts;
 use engine_parts::ready::Ready;
+use engine_parts::slots::Slots;
 use ha_clock::{ClockFault, Zone};
 use ha_model::{Config, Entry, Firing, Many, Moment, Word};
 use run_modes::Runs;
@@ -152,7 +153,7 @@ fn first_parts(
         switches,
         triggers,
         waits: Waits::make(alloc),
-        frames: Vec::new(alloc),
+        frames: Slots::make(alloc),
         delays: TimerQueue::make(alloc),
         ready: Ready {
             pairs: Vec::new(alloc),

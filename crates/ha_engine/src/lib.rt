@@ -4,6 +4,7 @@
 mod admit;
 mod advance;
 mod boot;
+mod boots;
 mod conclude;
 mod core_of;
 mod engine;

@@ -13,6 +13,8 @@ ghost use Rattle.ha_model.specs.Sound.{IsSoundConfig, are_sound_actions};
 ghost use Rattle.ha_model.specs.States.{automation_named};
 ghost use Rattle.ha_model.specs.Triggers.{sight};
 ghost use Rattle.script_step.specs.Few.{has_few_lists};
+ghost use Rattle.script_step.specs.Gates.{first_fronts};
+ghost use Rattle.engine_parts.specs.Fronts.{Stands, fronts};
 ghost use Rattle.ha_engine.specs.Admits.{ArePrepared, IsReady, IsPut, ArePassing, asked_for, from_end, has_action};
 ghost use Rattle.engine_parts.specs.Kept.{Sees};
 ghost use Rattle.engine_parts.specs.Owners.{attempts_by, is_attempt};
@@ -56,6 +58,26 @@ fn has_action(actions: &Many<Action>) -> bool
     actions.len() > 0
 }
 
+/// The frames of a script at its begin, in a box. Their run has no serial yet.
+fn begin_frames(alloc: Global, actions: &Many<Action>, env: &Env) -> Result<Box<Frames>, AllocError>
+    requires { has_few_lists actions.now ≡ true }
+    ensures stands { IfOk result (λ held. Stands held.value actions.now env.now []) }
+    ensures first { IfOk result (λ held. fronts held.value [] ≡ first_fronts actions.now) }
+{
+    let frames = Frames::start(alloc, 0, actions, env)?;
+    let held = Box::new(alloc, frames)?;
+    Ok(held)
+}
+
+/// The same variables, in no more memory than they need: the record of the run keeps them for good.
+fn fitted(env: Env) -> Env
+    ensures { result ≡ env }
+{
+    let mut pairs = env.into_vec();
+    pairs.shrink_to_fit();
+    Many::from_vec(pairs)
+}
+
 /// An attempt of a script is put behind those that are prepared.
 fn put_script(
     alloc: Global,
@@ -70,8 +92,9 @@ fn put_script(
     requires { has_few_lists actions.now ≡ true }
     ensures { OnOk result ((p : Made) × (stack.new.items ≡ stack.old.items ++ p ∷ []) × IsReady automation order env mode max actions.now p) }
 {
-    let frames = Frames::start(alloc, 0, actions, &env)?;
+    let frames = begin_frames(alloc, actions, &env)?;
     let acts = has_action(actions);
+    let env = fitted(env);
     stack.push(Prepared {
         automation,
         mode,

@@ -1,5 +1,5 @@
 use Rattle.std.proofs.Common.{◌≡◌, ℕ, suc, ◌-◌, ◌<◌, ◌≤◌, List, [], ◌∷◌, drop, get_or, length, Bool, false, refl, sym, ap, subst, ◌∙◌, arith, drop-cons}
-use Rattle.engine_entry.specs.Lasts.{AreLasts}
+use Rattle.engine_entry.specs.Lasts.{AreLasts, AreSeen}
 use Rattle.engine_entry.specs.Turned.{Target}
 use Rattle.engine_entry.proofs.LastLemmas.{lasts-next, lasts-none}
 use Rattle.engine_entry.proofs.step_enter.last_targets.Goals as goal
@@ -13,6 +13,7 @@ targets-init c = record {
   fits = omega arith;
   lasts = subst (λ (l : List Target). AreLasts c.args.count l c.new-kept.result.items) (sym (drop-whole c.args.targets.now))
       (subst (λ (l : List Target). AreLasts c.args.count [] l) (sym c.new-kept.ensures.items) (lasts-none c.args.count));
+  seen = subst (λ (l : List Target). AreSeen c.none_seen-seen.result l) (sym c.new-kept.ensures.items) c.none_seen-seen.ensures;
 }
 
 pub targets-preserved : goal.targets-preserved
@@ -25,5 +26,6 @@ targets-preserved c =
     record {
       fits = omega (arith, c.targets.invariant.fits);
       lasts = subst (λ (l : List Target). AreLasts c.args.count l c.keep.new.kept.items) (sym rest)
-          (lasts-next c.args.count t (drop c.targets.left all) c.targets.kept.items c.keep.new.kept.items c.in_ok-keep.ensures c.targets.invariant.lasts);
+          (lasts-next c.args.count t (drop c.targets.left all) c.targets.kept.items c.keep.new.kept.items c.in_ok-keep.ensures.kept c.targets.invariant.lasts);
+      seen = c.in_ok-keep.ensures.seen;
     }

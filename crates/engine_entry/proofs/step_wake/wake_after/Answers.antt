@@ -1,12 +1,9 @@
-use Rattle.std.proofs.Common.{◌≡◌, ◌-◌, suc, List, length, sym, ap, subst, ◌∙◌, arith}
-use Rattle.std.specs.Prelude.{Option}
+use Rattle.std.proofs.Common.{◌≡◌, ◌-◌, suc, length, sym, ap, subst, ◌∙◌, arith}
 use Rattle.ha_model.specs.declared.journal.Entry.TheVariants.{Step}
 use Rattle.ha_model.specs.Records.{last_place}
 use Rattle.ha_model.proofs.RecordLaws.{length-more}
-use Rattle.script_step.specs.declared.frames.Frames.{Frames}
 use Rattle.wait_set.specs.Timers.{timer_added}
 use Rattle.engine_parts.specs.Kept.{KeysBelow}
-use Rattle.engine_parts.specs.Runs.{Waking}
 use Rattle.engine_entry.specs.Stepping.{asks_with}
 use Rattle.engine_entry.proofs.StepWoken.{step-woken-as}
 use Rattle.engine_entry.proofs.step_wake.wake_after.Goals as goal
@@ -23,5 +20,5 @@ returns-clause-going c rs w0 w1 delays0 progress wait due h asks queue keys note
       c.in_ok-wake_step.ensures.owned,
       c.in_ok-wake_step.ensures.queue,
       c.in_ok-wake_step.ensures.early,
-      λ rs' waking. c.in_ok-wake_step.ensures.pairs rs' (subst (λ (os : List (Option Frames)). Waking rs' k p.waits os p.at) (sym c.as_slice.ensures.value) waking),
+      c.in_ok-wake_step.ensures.pairs,
     )

@@ -1,7 +1,3 @@
-use Rattle.std.proofs.Common.{List, sym, subst}
-use Rattle.std.specs.Prelude.{Option}
-use Rattle.script_step.specs.declared.frames.Frames.{Frames}
-use Rattle.engine_parts.specs.Runs.{Waking}
 use Rattle.engine_parts.proofs.WakeLine.{woken}
 use Rattle.engine_parts.proofs.attend.wake_line.Goals as goal
 
@@ -12,5 +8,5 @@ returns-clause-going c rs w noted before =
       c.in_ok-wake.ensures.owned,
       c.in_ok-wake.ensures.queue,
       c.in_ok-wake.ensures.early,
-      λ rs' waking. c.in_ok-wake.ensures.pairs rs' (subst (λ (os : List (Option Frames)). Waking rs' c.args.journal.now c.args.parts.now.waits os c.args.parts.now.at) (sym c.as_slice.ensures.value) waking),
+      c.in_ok-wake.ensures.pairs,
     )

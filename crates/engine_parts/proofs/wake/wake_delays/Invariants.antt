@@ -10,7 +10,7 @@ abbrev pub invariant-due : goal.invariant-due
 invariant-due l = record {
   queue : QueueKept l.now l.initial.delays l.delays;
   early : (n : ℕ) → KeysBelow n l.initial.delays → KeysBelow n l.delays;
-  agree : (rs : Records) (left : List ℕ) → Waking rs l.journal l.waits l.frames l.now
+  agree : (rs : Records) (left : List ℕ) → Waking rs l.journal l.waits l.frames.items l.now
       → AgreesBut (touched l.journal (due_places l.now l.initial.delays ++ left)) rs l.journal l.initial.ready.pairs.items → AgreesBut (touched l.journal (due_places l.now l.delays ++ left)) rs l.journal l.ready.pairs.items;
 }
 

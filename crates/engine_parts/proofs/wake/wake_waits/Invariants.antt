@@ -6,5 +6,5 @@ use Rattle.engine_parts.specs.Touched.{wait_places}
 use Rattle.engine_parts.proofs.wake.wake_waits.Given as goal
 
 abbrev pub invariant-owners : goal.invariant-owners
-invariant-owners l = (rs : Records) (left : List ℕ) → Waking rs l.journal l.waits l.frames l.now
+invariant-owners l = (rs : Records) (left : List ℕ) → Waking rs l.journal l.waits l.frames.items l.now
     → AgreesBut (touched l.journal (wait_places l.owners ++ left)) rs l.journal l.initial.ready.pairs.items → AgreesBut (touched l.journal (wait_places (drop l.owner-index l.owners) ++ left)) rs l.journal l.ready.pairs.items

@@ -36,9 +36,9 @@ returns-clause-going c =
       switches = c.args.switches;
       triggers = t';
       waits = w;
-      frames = c.new.result;
-      delays = c.make-2.result;
-      ready = record { pairs = c.new-2.result };
+      frames = c.make-2.result;
+      delays = c.make-3.result;
+      ready = record { pairs = c.new.result };
       rested = c.in_ok-rested.rested;
       changed = true;
     } in
@@ -58,11 +58,11 @@ returns-clause-going c =
         waits_owned = subst (λ (l : List Asked). AreOwned (length k) (triggers.attached t') l) (sym c.make.ensures.asks) tt;
         apart = subst (λ (l : List Asked). AreApart l) (sym c.make.ensures.asks) tt;
       };
-      keys_early = subst (λ (l : List Timer). KeysBelow (length k) l) (sym c.make-2.ensures) tt;
+      keys_early = subst (λ (l : List Timer). KeysBelow (length k) l) (sym c.make-3.ensures) tt;
       runs_kept = record {
-        slots = subst (λ (os : List (Option Frames)). SlotsWith (SlotBut nobody k c.make-2.result w) [] os) (sym c.new.ensures.items) tt;
-        pairs_are = c.new-2.ensures.items;
-        held = subst (λ (l : List Asked). AreHeld k c.new.result.items l) (sym c.make.ensures.asks) tt;
+        slots = subst (λ (os : List (Option Frames)). SlotsWith (SlotBut nobody k c.make-3.result w) [] os) (sym c.make-2.ensures) tt;
+        pairs_are = c.new.ensures.items;
+        held = subst (λ (l : List Asked). AreHeld k c.make-2.result.items l) (sym c.make.ensures.asks) tt;
       };
     } in
     subst (λ (i : Journal). Going nobody i [] p) (sym h.journal_is) going

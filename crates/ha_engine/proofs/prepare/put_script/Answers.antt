@@ -1,6 +1,5 @@
-use Rattle.std.proofs.Common.{[], refl}
+use Rattle.std.proofs.Common.{refl}
 use Rattle.ha_engine.specs.declared.admit.Prepared.{Prepared}
-use Rattle.script_step.specs.Frames.{began_by, begins}
 use Rattle.ha_engine.proofs.prepare.put_script.Goals as goal
 
 pub returns : goal.returns
@@ -10,7 +9,7 @@ returns c =
       mode = c.args.mode;
       max = c.args.max;
       order = c.args.order;
-      env = c.args.env;
+      env = c.fitted-env.result;
       frames = c.in_ok-frames.frames;
       acts = c.has_action-acts.result;
     } in (
@@ -21,9 +20,9 @@ returns c =
         mode = refl;
         max = refl;
         order = refl;
-        env = refl;
-        stands = record { items = []; stands = c.in_ok-frames.ensures.stands };
-        first = c.in_ok-frames.ensures.fronts (began_by begins []);
+        env = c.fitted-env.ensures;
+        stands = c.in_ok-frames.ensures.stands;
+        first = c.in_ok-frames.ensures.first;
         acts = c.has_action-acts.ensures;
       },
     )

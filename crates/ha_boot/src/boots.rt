@@ -1,0 +1,31 @@
+//! A core that can be booted.
+ghost use Rattle.std.specs.Prelude.{◌≡◌, ◌≤◌, ◌∷◌, [], false, IfOk, IsSome};
+ghost use Rattle.ha_clock.specs.Local.{last_moment};
+ghost use Rattle.ha_clock.specs.Zone.{zone_of};
+ghost use Rattle.ha_model.specs.declared.journal.Entry.TheVariants.{Boot};
+ghost use Rattle.ha_model.specs.Sound.{IsSoundConfig};
+
+use ha_clock::Moment;
+use ha_model::{Config, Core};
+use ha_value::{Many, Word};
+use std::alloc::{AllocError, Global};
+
+/// A core that can be booted. A run is proved over each such core; the engine is the one that the program hands in. It may move between
+/// threads.
+pub trait Boots: Core + Drop + Send {
+    /// The core after its first entry, the boot, of a configuration with its text, the stored switches, the start and the zone's text. The error
+    /// is want of memory alone.
+    fn boot(
+        alloc: Global,
+        text: Word,
+        config: Config,
+        stored: Option<Many<(Word, bool)>>,
+        start: Moment,
+        zone: Word,
+    ) -> Result<Self, AllocError>
+        requires config { IsSoundConfig config }
+        requires zone { IsSome (zone_of zone) }
+        requires start { start ≤ last_moment }
+        ensures entries { IfOk result (λ core. Self.entries core ≡ Boot text config stored start zone ∷ []) }
+        ensures spent { IfOk result (λ core. Self.is_spent core ≡ false) };
+}
