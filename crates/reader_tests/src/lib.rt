@@ -9,6 +9,8 @@ mod commands;
 #[cfg(test)]
 mod flow;
 #[cfg(test)]
+mod printed;
+#[cfg(test)]
 mod templates;
 #[cfg(test)]
 mod texts;

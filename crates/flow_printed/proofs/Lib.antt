@@ -1,0 +1,9 @@
+pub mod FairLemmas
+pub mod Fronts
+pub mod Maps
+pub mod Found
+pub mod Shown
+pub mod Lines
+pub mod PrintedLines
+pub mod Read
+pub mod Texts

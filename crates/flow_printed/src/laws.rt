@@ -1,0 +1,28 @@
+//! Laws of the definitions. Each is the contract of a function that does nothing.
+
+ghost use Rattle.std.specs.Prelude.{◌≡◌};
+ghost use Rattle.ha_model.specs.Commands.{put_as, IsFair};
+ghost use Rattle.ha_model.specs.Journal.{Journal};
+ghost use Rattle.ha_model.specs.declared.journal.Cmd.{Cmd};
+ghost use Rattle.flow_printed.specs.Printed.{IsFairButForName, IsPrintOf, IsPrintOfLine, IsSized};
+ghost use Rattle.flow_printed.specs.declared.line.PrintedLine.{PrintedLine};
+
+/// A text is the print of one command at most.
+pub fn one_command(text: &[u8])
+    ensures { (c d : Cmd) → IsPrintOf text.now c → IsPrintOf text.now d → c ≡ d }
+{}
+
+/// A text is the print of one line at most, of lines whose numbers have the sizes of their types.
+pub fn one_line(text: &[u8])
+    ensures { (l m : PrintedLine) → IsSized l → IsSized m → IsPrintOfLine text.now l → IsPrintOfLine text.now m → l ≡ m }
+{}
+
+/// A command that is fair somewhere is fair but for whether its automation is there.
+pub fn fair_anywhere()
+    ensures { (j : Journal) (c : Cmd) → IsFair j c → IsFairButForName c }
+{}
+
+/// What is put for a command that is fair but for its automation is fair.
+pub fn fair_once_put()
+    ensures { (j : Journal) (c : Cmd) → IsFairButForName c → IsFair j (put_as j c) }
+{}

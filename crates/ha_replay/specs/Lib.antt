@@ -1,0 +1,4 @@
+pub mod Traces
+pub mod Steps
+pub mod Digits
+pub mod Boots

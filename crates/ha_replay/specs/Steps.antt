@@ -1,0 +1,62 @@
+-- Who may put the next entry, and what a refused put comes to.
+use Rattle.std.specs.Prelude.{ℕ, ◌≡◌, ◌<◌, ◌^◌, ◌⊎◌, Bool, true, false, nat_eq, count_by, ◌∷◌, ◌++◌, Option, None, Some, codes, decimal, if◌then◌else◌}
+use Rattle.std.specs.List.{list_any}
+use Rattle.ha_model.specs.declared.faults.CoreFault.{CoreFault}
+use Rattle.ha_model.specs.declared.journal.Cmd.{Cmd}
+use Rattle.ha_model.specs.declared.journal.Entry.{Entry}
+use Rattle.ha_model.specs.declared.journal.Entry.TheVariants.{Boot, Line, Step}
+use Rattle.ha_model.specs.Words.{Text}
+use Rattle.ha_model.specs.Entries.{shuts_source}
+use Rattle.ha_model.specs.Journal.{Journal}
+use Rattle.ha_model.specs.Commands.{has_automation}
+use Rattle.ha_model.specs.Lawful.{is_line_of, is_quiet, is_rested, shuts}
+use Rattle.flow_printed.specs.declared.line.PrintedLine.{PrintedLine}
+use Rattle.flow_printed.specs.Printed.{IsPrintOfLine}
+use Rattle.ha_replay.specs.declared.fault.TraceFault.{TraceFault}
+use Rattle.ha_replay.specs.Traces.{Reached}
+
+-- the automation that a command names, if it names one, is there
+abbrev pub is_named : Journal → Cmd → Bool
+is_named j (Cmd.Switch name on stop) = has_automation j name
+is_named j (Cmd.Trigger name skip) = has_automation j name
+is_named j (Cmd.Report entity text attributes) = true
+is_named j (Cmd.Gone entity) = true
+is_named j (Cmd.Event kind pairs) = true
+is_named j (Cmd.Moment at) = true
+is_named j Cmd.Restart = true
+is_named j (Cmd.Refused code) = true
+is_named j Cmd.Lost = true
+is_named j Cmd.TooLong = true
+
+-- the number of a source's line, and whether it shuts the source
+abbrev pub line_by : ℕ → Entry → Option (ℕ × Bool)
+line_by source (Boot text config stored start zone) = None
+line_by source (Line k number cmd) = if nat_eq k source then Some (number, shuts_source cmd) else None
+line_by source (Step worker serial branch item) = None
+
+-- the source's line stands next: no step closes so far, the source is rested and open, the number is its next one, and the name is there
+pub record IsNextLine (r : Reached) (line : PrintedLine) : Type 0 where
+  pub is_open : r.closing ≡ false
+  pub known : line.source < 16
+  pub rested : is_rested r.records line.source r.journal ≡ true
+  pub next : line.number ≡ count_by (is_line_of line.source) r.journal
+  pub unshut : list_any (shuts line.source) r.journal ≡ false
+  pub named : is_named r.journal line.cmd ≡ true
+
+-- the text is the print of no other line, whose numbers are in range
+abbrev pub IsOnlyPrint : Text → PrintedLine → Type 0
+IsOnlyPrint text line = (other : PrintedLine) → other.source < 2 ^ 32 → other.number < 2 ^ 64 → IsPrintOfLine text other → line ≡ other
+
+-- the worker may step: one that is rested makes closing steps alone, and those are of worker 0
+pub record IsAllowed (r : Reached) (worker : ℕ) : Type 0 where
+  pub busy : is_quiet r.records r.journal ≡ false
+  pub due : (worker ≡ 0) ⊎ ((r.closing ≡ false) × (is_rested r.records worker r.journal ≡ false))
+
+-- the line begins as that of a step of this worker
+abbrev pub IsOf : Text → ℕ → Type 0
+IsOf line worker = (rest : Text) × (line ≡ codes "{\"worker\":" ++ (decimal worker ++ 44 ∷ rest))
+
+-- the fault of a refused put
+abbrev pub fault_of : CoreFault → TraceFault
+fault_of CoreFault.Full = TraceFault.Full
+fault_of CoreFault.Memory = TraceFault.Memory

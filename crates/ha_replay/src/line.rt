@@ -1,0 +1,195 @@
+//! A line of a trace behind the first, taken by a core.
+//!
+//! A line of a source gives the command that is put. Of a step the line names the worker alone: the core makes the step, and the line is
+//! compared with the one that is printed of it.
+ghost use Rattle.std.specs.Prelude.{◌≡◌, ◌≢◌, ◌<◌, ◌^◌, ◌-◌, ◌++◌, ◌||◌, ◌↔◌, ℕ, codes, false, length, slice_get, IfOk, IfSome, OnErr, OnOk, IsTrue};
+ghost use Rattle.ha_model.specs.Words.{Text};
+ghost use Rattle.ha_model.specs.Journal.{Journal, automations};
+ghost use Rattle.ha_model.specs.RecordSteps.{more};
+ghost use Rattle.ha_model.specs.Texts.{as_line, trace_line as trace_line_lem};
+ghost use Rattle.ha_texts.specs.Lines.{AreDated};
+ghost use Rattle.flow_printed.specs.Printed.{IsFairButForName, IsPrintOfLine};
+ghost use Rattle.ha_replay.specs.Traces.{Answers, IsEnd, IsFrontOf, Stands, most_entries, reached};
+ghost use Rattle.ha_replay.specs.Steps.{IsAllowed, IsNextLine, IsOf, IsOnlyPrint, fault_of};
+ghost use Rattle.ha_model.specs.Lawful.{is_rested};
+
+use crate::fault::TraceFault;
+use crate::last::{is_named, next_number};
+use crate::same::is_same;
+use crate::worker::worker_of;
+use flow_printed::{PrintedLine, read_line};
+use ha_model::{Core, CoreFault, Entry};
+use ha_texts::trace_line;
+use std::alloc::{AllocError, Global};
+
+/// The entries that a journal may have.
+const MOST_ENTRIES: usize = 1_048_576;
+
+/// Whether the line is the end line of the journal, which is quiet.
+fn is_end<C: Core>(alloc: Global, core: &C, line: &[u8]) -> Result<bool, AllocError>
+    requires usable { C.is_spent core.now ≡ false }
+    ensures { IfOk result (λ found. IsTrue found ↔ IsEnd (C.entries core.now) (C.runs core.now) line.now) }
+{
+    if !core.quiet() {
+        return Ok(false);
+    }
+    let count = core.journal().len();
+    let shown = format!(in alloc; "{{\"end\":{count}}}")?;
+    Ok(line == shown.as_bytes())
+}
+
+/// What a refused put comes to.
+fn unput(fault: CoreFault) -> TraceFault
+    ensures { result ≡ fault_of fault }
+{
+    match fault {
+        CoreFault::Memory => TraceFault::Memory,
+        CoreFault::Full => TraceFault::Full,
+    }
+}
+
+/// Whether a source's line stands next: no step closes so far, the source is rested and open, the number is its next one, and the automation
+/// that the command names, if it names one, is there.
+fn is_due<C: Core>(core: &C, line: &PrintedLine, closing: bool) -> bool
+    requires usable { C.is_spent core.now ≡ false }
+    requires stands { Stands (reached (C.entries core.now) (C.runs core.now) closing) }
+    requires size { length (C.entries core.now) < 2 ^ 64 }
+    ensures { IsTrue result ↔ IsNextLine (reached (C.entries core.now) (C.runs core.now) closing) line.now }
+{
+    if closing || line.source >= 16 || !core.rested(line.source) {
+        return false;
+    }
+    match next_number(core.journal(), line.source) {
+        Some(number) => number == line.number && is_named(core, &line.cmd),
+        None => false,
+    }
+}
+
+/// Puts the command of a source's line, where it stands next.
+fn put_source<C: Core>(core: &mut C, line: PrintedLine, closing: bool) -> Result<bool, TraceFault>
+    requires usable { C.is_spent core.old ≡ false }
+    requires stands { Stands (reached (C.entries core.old) (C.runs core.old) closing) }
+    requires size { length (C.entries core.old) < 2 ^ 64 }
+    requires fair { IsFairButForName line.cmd }
+    requires room { length (C.entries core.old) ≢ most_entries }
+    ensures answer { let before = reached (C.entries core.old) (C.runs core.old) closing in
+        let after = reached (C.entries core.new) (C.runs core.new) closing in
+        (text : Text) → IsPrintOfLine text line → IsOnlyPrint text line → (IsEnd (C.entries core.old) (C.runs core.old) text → ⊥) → Answers text before after result }
+    ensures usable { OnOk result (C.is_spent core.new ≡ false) }
+    ensures stays { OnErr result (IsFrontOf (C.entries core.old) (C.entries core.new)) }
+{
+    if !is_due(core, &line, closing) {
+        return Err(TraceFault::Refused);
+    }
+    let PrintedLine {
+        source,
+        number,
+        cmd,
+    } = line;
+    match core.put_line(source, number, cmd) {
+        Ok(()) => Ok(false),
+        Err(fault) => Err(unput(fault)),
+    }
+}
+
+/// Whether the worker may step: one that is rested makes closing steps alone, and those are of worker 0.
+fn may_step<C: Core>(core: &C, worker: u32, closing: bool) -> bool
+    requires usable { C.is_spent core.now ≡ false }
+    ensures { IsTrue result ↔ IsAllowed (reached (C.entries core.now) (C.runs core.now) closing) worker }
+{
+    if core.quiet() {
+        return false;
+    }
+    worker == 0 || (!closing && !core.rested(worker))
+}
+
+/// Whether the journal has a closing step, once the worker has stepped.
+fn closes<C: Core>(core: &C, worker: u32, closing: bool) -> bool
+    requires usable { C.is_spent core.now ≡ false }
+    ensures { result ≡ (closing || is_rested (C.runs core.now) worker (C.entries core.now)) }
+{
+    closing || core.rested(worker)
+}
+
+/// Whether the line is that of the last entry.
+fn is_last<C: Core>(alloc: Global, core: &C, line: &[u8]) -> Result<bool, AllocError>
+    requires dated { IfSome (slice_get (C.entries core.now) (length (C.entries core.now) - 1)) AreDated }
+    ensures { (j : Journal) (x : Entry) → C.entries core.now ≡ more j x
+        → IfOk result (λ same. IsTrue same ↔ (as_line line.now ≡ trace_line_lem (automations (more j x)) x)) }
+{
+    let Some(entry) = core.journal().last() else {
+        return Ok(false);
+    };
+    let shown = trace_line(alloc, entry, core.config())?;
+    Ok(is_same(shown.bytes(), line))
+}
+
+/// Puts a step of the worker, where it may step, and compares the line with the one of that step.
+fn put_worker<C: Core>(
+    alloc: Global,
+    core: &mut C,
+    worker: u32,
+    line: &[u8],
+    closing: &mut bool,
+) -> Result<bool, TraceFault>
+    requires usable { C.is_spent core.old ≡ false }
+    requires stands { Stands (reached (C.entries core.old) (C.runs core.old) closing.old) }
+    requires room { length (C.entries core.old) ≢ most_entries }
+    requires unended { IsEnd (C.entries core.old) (C.runs core.old) line.now → ⊥ }
+    requires begins { (rest : Text) × (line.now ≡ codes "{\"worker\":" ++ rest) }
+    requires whose { (k : ℕ) → k < 16 → IsOf line.now k → k ≡ worker }
+    ensures answer { Answers line.now (reached (C.entries core.old) (C.runs core.old) closing.old) (reached (C.entries core.new) (C.runs core.new) closing.new) result }
+    ensures usable { OnOk result (C.is_spent core.new ≡ false) }
+    ensures stays { OnErr result (IsFrontOf (C.entries core.old) (C.entries core.new)) }
+{
+    if !may_step(core, worker, *closing) {
+        return Err(TraceFault::Refused);
+    }
+    let closed = closes(core, worker, *closing);
+    match core.put_step(worker) {
+        Ok(()) => {}
+        Err(fault) => return Err(unput(fault)),
+    }
+    match is_last(alloc, core, line) {
+        Ok(true) => {
+            *closing = closed;
+            Ok(false)
+        }
+        Ok(false) => Err(TraceFault::Refused),
+        Err(_) => Err(TraceFault::Memory),
+    }
+}
+
+/// Takes a line, without its LF, as the next lawful entry, and gives false, or as the lawful end of the journal, and gives true. Refused
+/// and Full come exactly where it is neither, Full where the journal has 1,048,576 entries. After any fault the core may only be let go:
+/// it may have the step that the line was compared with. `closing` tells whether the journal has a closing step.
+pub fn replay_line<C: Core>(
+    alloc: Global,
+    core: &mut C,
+    line: &[u8],
+    closing: &mut bool,
+) -> Result<bool, TraceFault>
+    requires usable { C.is_spent core.old ≡ false }
+    requires stands { Stands (reached (C.entries core.old) (C.runs core.old) closing.old) }
+    requires short { length line.now < 2 ^ 32 }
+    ensures answer { Answers line.now (reached (C.entries core.old) (C.runs core.old) closing.old) (reached (C.entries core.new) (C.runs core.new) closing.new) result }
+    ensures usable { OnOk result (C.is_spent core.new ≡ false) }
+    ensures stays { OnErr result (IsFrontOf (C.entries core.old) (C.entries core.new)) }
+{
+    match is_end(alloc, core, line) {
+        Ok(true) => return Ok(true),
+        Ok(false) => {}
+        Err(_) => return Err(TraceFault::Memory),
+    }
+    if core.journal().len() == MOST_ENTRIES {
+        return Err(TraceFault::Full);
+    }
+    if let Some(worker) = worker_of(line) {
+        return put_worker(alloc, core, worker, line, closing);
+    }
+    match read_line(alloc, line) {
+        Ok(Some(read)) => put_source(core, read, *closing),
+        Ok(None) => Err(TraceFault::Refused),
+        Err(_) => Err(TraceFault::Memory),
+    }
+}
