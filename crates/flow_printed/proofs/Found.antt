@@ -108,9 +108,9 @@ moment_is text at e =
 record IsCode (text : Text) (code : ℕ) : Type 0 where
   text_is : text ≡ line_code code
   low : 1 ≤ code
-  high : code ≤ 11
+  high : code ≤ 10
 
-one_code : (text word : Text) (n : ℕ) (others : Option ℕ) (code : ℕ) → word ≡ line_code n → 1 ≤ n → n ≤ 11 → (others ≡ Some code → IsCode text code)
+one_code : (text word : Text) (n : ℕ) (others : Option ℕ) (code : ℕ) → word ≡ line_code n → 1 ≤ n → n ≤ 10 → (others ≡ Some code → IsCode text code)
     → cond (same text word) (Some n) others ≡ Some code → IsCode text code
 one_code text word n others code is low high else_is e = elim (chosen (same text word) (Some n) others (Some code) e) [
   | inl c ↦ subst (IsCode text) (some_is n code c.1) (record { text_is = (bytes_eq-Decides text word).0 c.0 ∙ is; low = low; high = high })
@@ -132,8 +132,7 @@ code_is t code e =
     (one_code t (codes "L7") 7 _ code refl (omega arith) (omega arith)
     (one_code t (codes "L8") 8 _ code refl (omega arith) (omega arith)
     (one_code t (codes "L9") 9 _ code refl (omega arith) (omega arith)
-    (one_code t (codes "L10") 10 _ code refl (omega arith) (omega arith)
-    (one_code t (codes "L11") 11 _ code refl (omega arith) (omega arith) (no_code t code))))))))))) e
+    (one_code t (codes "L10") 10 _ code refl (omega arith) (omega arith) (no_code t code)))))))))) e
 
 -- ---- commands
 

@@ -51,7 +51,7 @@ moment_shown at time =
     binds (moment_of (moment_text at)) (λ (m : ℕ). cond (same (moment_text m) (moment_text at)) (Some m) None) at (Some at) (moment_read at time)
     (ap (λ (b : Bool). cond b (Some at) None) (same_text (moment_text at)))
 
-code_read : (code : ℕ) → 1 ≤ code → code ≤ 11 → code_in (line_code code) ≡ Some code
+code_read : (code : ℕ) → 1 ≤ code → code ≤ 10 → code_in (line_code code) ≡ Some code
 unfolding digits
 code_read zero low high = absurd (omega arith)
 code_read (suc zero) low high = refl
@@ -64,8 +64,7 @@ code_read (suc (suc (suc (suc (suc (suc (suc zero))))))) low high = refl
 code_read (suc (suc (suc (suc (suc (suc (suc (suc zero)))))))) low high = refl
 code_read (suc (suc (suc (suc (suc (suc (suc (suc (suc zero))))))))) low high = refl
 code_read (suc (suc (suc (suc (suc (suc (suc (suc (suc (suc zero)))))))))) low high = refl
-code_read (suc (suc (suc (suc (suc (suc (suc (suc (suc (suc (suc zero))))))))))) low high = refl
-code_read (suc (suc (suc (suc (suc (suc (suc (suc (suc (suc (suc (suc n)))))))))))) low high = absurd (omega arith)
+code_read (suc (suc (suc (suc (suc (suc (suc (suc (suc (suc (suc n))))))))))) low high = absurd (omega arith)
 
 -- ---- its pairs are read
 
@@ -116,7 +115,7 @@ trigger_read name skip form =
     (binds (flag_at (codes "skip_condition") (drop 1 ps)) _ skip _ (flag_taken (codes "skip_condition") skip [])
     (binds (automation (read_entity (codes "automation." ++ name))) _ name _ (name_read name form) refl))
 
-refused_read : (code : ℕ) → 1 ≤ code → code ≤ 11 → refused_of (pairs_of (Cmd.Refused code)) ≡ Some (Cmd.Refused code)
+refused_read : (code : ℕ) → 1 ≤ code → code ≤ 10 → refused_of (pairs_of (Cmd.Refused code)) ≡ Some (Cmd.Refused code)
 unfolding refused_of
 refused_read code low high =
     binds (text_at (codes "refused") (pairs_of (Cmd.Refused code))) _ (line_code code) _ (text_taken (codes "refused") (line_code code) [])
@@ -239,7 +238,7 @@ id_utf8 e form =
 name_word : (name : Text) → is_name name ≡ true → IsWord (codes "automation." ++ name)
 name_word name form = joined_utf8 (codes "automation.") name front_word (name_utf8 name form)
 
-code_word : (code : ℕ) → code ≤ 11 → IsWord (line_code code)
+code_word : (code : ℕ) → code ≤ 10 → IsWord (line_code code)
 code_word code high = joined_utf8 (codes "L") (decimal code) letter_word (IsUtf8-from_ascii (decimal code) (IsAscii-decimal code (omega arith)))
 
 one_flag : (key : Text) (b : Bool) → IsWord key → IsLineMap ((key, Value.Flag b) ∷ [])

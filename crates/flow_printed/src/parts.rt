@@ -120,7 +120,6 @@ pub fn code_of(text: &Word) -> Result<u8, Unread>
         b"L8" => Ok(8),
         b"L9" => Ok(9),
         b"L10" => Ok(10),
-        b"L11" => Ok(11),
         _ => Err(Stop::Fault(NoCommand)),
     }
 }

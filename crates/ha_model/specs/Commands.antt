@@ -75,7 +75,7 @@ has_automation j name = is_some (automation_named (automations j) name)
 abbrev pub IsOfAutomation : Journal → Text → Type 0
 IsOfAutomation j name = IsTrue (is_name name) × IsTrue (has_automation j name)
 
--- A command that a source may give. The codes of refused lines are 1 to 10; 11 stands for a command that the engine doesn't take yet.
+-- a command that a source may give; the codes of refused lines are 1 to 10
 abbrev pub IsFair : Journal → Cmd → Type 0
 IsFair j (Cmd.Report entity text attributes) = IsReportable entity × IsTrue (is_utf8 text) × (characters text ≤ 255) × AreFairPairs attributes
 IsFair j (Cmd.Gone entity) = IsReportable entity
@@ -84,7 +84,7 @@ IsFair j (Cmd.Moment at) = at ≤ last_moment
 IsFair j (Cmd.Switch name on stop) = IsOfAutomation j name
 IsFair j (Cmd.Trigger name skip) = IsOfAutomation j name
 IsFair j Cmd.Restart = Unit {0}
-IsFair j (Cmd.Refused code) = (1 ≤ code) × (code ≤ 11)
+IsFair j (Cmd.Refused code) = (1 ≤ code) × (code ≤ 10)
 IsFair j Cmd.Lost = Unit {0}
 IsFair j Cmd.TooLong = Unit {0}
 
