@@ -43,3 +43,4 @@ answer_of (Some f) name Status.KeepFault a r h = absurd a
 answer_of (Some f) name Status.JournalFull a r h = absurd a
 answer_of (Some f) name (Status.SourceTooLong source) a r h = absurd a
 answer_of (Some f) name (Status.StoreRefused code) a r h = absurd a
+answer_of (Some f) name (Status.TraceRefused line) a r h = absurd a

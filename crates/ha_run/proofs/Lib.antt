@@ -1,3 +1,7 @@
-pub mod StandsLemmas
-pub mod EndLemmas
 pub mod TellLemmas
+pub mod ServedLemmas
+pub mod WrittenLemmas
+pub mod TeamLemmas
+pub mod CrewLemmas
+pub mod RoundLemmas
+pub mod FinishLemmas

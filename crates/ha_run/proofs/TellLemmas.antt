@@ -1,40 +1,56 @@
 -- What stands where the status line is written, or memory ran out last.
-use Rattle.std.proofs.Common.{◌≡◌, ◌⊎◌, inl, inr, List, Option, Some, None}
+use Rattle.std.proofs.Common.{inl, inr, List, Some, None}
 use Rattle.ha_model.specs.declared.journal.Entry.{Entry}
 use Rattle.ha_status.specs.declared.status.Status.{Status}
-use Rattle.ha_run.specs.Stands.{RanSome, Scene, StandsAt}
+use Rattle.ha_run.specs.Served.{Feed}
+use Rattle.ha_run.specs.Stands.{Ran, RanFull, RanSome, RanThrough, Scene, StandsAt, Writings}
 
-module _ (Begins : List Entry → Type 0) (s : Scene) (A S N A' S' N' : Type 0) (all : A → A') (some : S → S') (none : N → N') (fewer : A → S') where
+module _ (B B' : List Entry → Type 0) (s : Scene) (begins : B s.journal → B' s.journal) (w w' : Writings) (ended : w.Ended → w'.Ended) (whole : w.Whole → w'.Whole) (part : w.Part → w'.Part) (nothing : w.Nothing → w'.Nothing) where
+  ran_in : (feeds : List Feed) → Ran B s feeds → Ran B' s feeds
+  ran_in feeds r = record { begins = begins r.begins; lawful = r.lawful; named = r.named; served = r.served }
+
+  through_in : (feeds : List Feed) → RanThrough B s feeds → RanThrough B' s feeds
+  through_in feeds r = record { ran = ran_in feeds r.ran; through = r.through; quiet = r.quiet }
+
+  some_in : RanSome B s → RanSome B' s
+  some_in r = record { feeds = r.feeds; ran = ran_in r.feeds r.ran }
+
+  full_in : RanFull B s → RanFull B' s
+  full_in r = record { feeds = r.feeds; ran = ran_in r.feeds r.ran; full = r.full; due = r.due }
+
   -- in other words on what was written
-  pub stands_in : (x : Status) → StandsAt Begins s A S N x → StandsAt Begins s A' S' N' x
-  stands_in Status.Ok h = (all h.0, h.1)
+  pub stands_in : (x : Status) → StandsAt B s w x → StandsAt B' s w' x
+  stands_in Status.Ok h = (ended h.0, (h.1.0, through_in h.1.0 h.1.1, h.1.2))
   stands_in Status.Usage h = h
-  stands_in (Status.ConfigRefused line code) h = (none h.0, h.1)
-  stands_in (Status.OpenFault name) h = (none h.0, h.1)
-  stands_in (Status.ReadFault None) h = (none h.0, h.1)
-  stands_in (Status.ReadFault (Some k)) h = (all h.0, h.1)
-  stands_in (Status.WriteFault zero) h = (some h.0, h.1)
-  stands_in Status.KeepFault (inl h) = inl (none h.0, h.1)
-  stands_in Status.KeepFault (inr h) = inr (some h.0, h.1)
-  stands_in Status.JournalFull h = (all h.0, h.1)
-  stands_in (Status.SourceTooLong k) h = (all h.0, h.1)
-  stands_in (Status.StoreRefused code) h = (none h.0, h.1)
-  stands_in Status.Memory (inl h) = inl (none h.0, h.1)
-  stands_in Status.Memory (inr h) = inr (some h.0, h.1)
+  stands_in (Status.ConfigRefused line code) h = (nothing h.0, h.1)
+  stands_in (Status.OpenFault name) h = (nothing h.0, h.1)
+  stands_in (Status.ReadFault None) h = (nothing h.0, h.1)
+  stands_in (Status.ReadFault (Some k)) h = (ended h.0, (h.1.0, through_in h.1.0 h.1.1, h.1.2))
+  stands_in (Status.WriteFault zero) h = (part h.0, some_in h.1)
+  stands_in Status.KeepFault (inl h) = inl (nothing h.0, h.1)
+  stands_in Status.KeepFault (inr h) = inr (part h.0, some_in h.1)
+  stands_in Status.JournalFull h = (whole h.0, full_in h.1)
+  stands_in (Status.SourceTooLong k) h = (ended h.0, (h.1.0, through_in h.1.0 h.1.1, h.1.2))
+  stands_in (Status.StoreRefused code) h = (nothing h.0, h.1)
+  stands_in Status.Memory (inl h) = inl (nothing h.0, h.1)
+  stands_in Status.Memory (inr h) = inr (part h.0, some_in h.1)
+  stands_in (Status.TraceRefused line) h = h
 
-  -- want of memory came last: the same stands
-  pub stands_memory : (x : Status) → StandsAt Begins s A S N x → StandsAt Begins s A' S' N' Status.Memory
-  stands_memory Status.Ok h = inr (fewer h.0, record { feeds = h.1.0; ran = h.1.1.ran })
+-- want of memory came last: the same stands
+module _ (B : List Entry → Type 0) (s : Scene) (w w' : Writings) (part : w.Part → w'.Part) (nothing : w.Nothing → w'.Nothing) (ended_part : w.Ended → w'.Part) (whole_part : w.Whole → w'.Part) where
+  pub stands_memory : (x : Status) → StandsAt B s w x → StandsAt B s w' Status.Memory
+  stands_memory Status.Ok h = inr (ended_part h.0, record { feeds = h.1.0; ran = h.1.1.ran })
   stands_memory Status.Usage h = absurd h
-  stands_memory (Status.ConfigRefused line code) h = inl (none h.0, inl h.1)
-  stands_memory (Status.OpenFault name) h = inl (none h.0, inl h.1)
-  stands_memory (Status.ReadFault None) h = inl (none h.0, inr h.1)
-  stands_memory (Status.ReadFault (Some k)) h = inr (fewer h.0, record { feeds = h.1.0; ran = h.1.1.ran })
-  stands_memory (Status.WriteFault zero) h = inr (some h.0, h.1)
-  stands_memory Status.KeepFault (inl h) = inl (none h.0, inl h.1)
-  stands_memory Status.KeepFault (inr h) = inr (some h.0, h.1)
-  stands_memory Status.JournalFull h = inr (fewer h.0, record { feeds = h.1.feeds; ran = h.1.ran })
-  stands_memory (Status.SourceTooLong k) h = inr (fewer h.0, record { feeds = h.1.0; ran = h.1.1.ran })
-  stands_memory (Status.StoreRefused code) h = inl (none h.0, inl h.1)
-  stands_memory Status.Memory (inl h) = inl (none h.0, h.1)
-  stands_memory Status.Memory (inr h) = inr (some h.0, h.1)
+  stands_memory (Status.ConfigRefused line code) h = inl (nothing h.0, inl h.1)
+  stands_memory (Status.OpenFault name) h = inl (nothing h.0, inl h.1)
+  stands_memory (Status.ReadFault None) h = inl (nothing h.0, inr h.1)
+  stands_memory (Status.ReadFault (Some k)) h = inr (ended_part h.0, record { feeds = h.1.0; ran = h.1.1.ran })
+  stands_memory (Status.WriteFault zero) h = inr (part h.0, h.1)
+  stands_memory Status.KeepFault (inl h) = inl (nothing h.0, inl h.1)
+  stands_memory Status.KeepFault (inr h) = inr (part h.0, h.1)
+  stands_memory Status.JournalFull h = inr (whole_part h.0, record { feeds = h.1.feeds; ran = h.1.ran })
+  stands_memory (Status.SourceTooLong k) h = inr (ended_part h.0, record { feeds = h.1.0; ran = h.1.1.ran })
+  stands_memory (Status.StoreRefused code) h = inl (nothing h.0, inl h.1)
+  stands_memory Status.Memory (inl h) = inl (nothing h.0, h.1)
+  stands_memory Status.Memory (inr h) = inr (part h.0, h.1)
+  stands_memory (Status.TraceRefused line) h = absurd h

@@ -1,42 +1,18 @@
 -- What a run of a booted core leaves of what lies outside, before the status line.
-use Rattle.std.specs.Prelude.{◌≡◌, ◌⊎◌, false, List, [], ◌∷◌, Option, None, Some}
+use Rattle.std.specs.Prelude.{◌≡◌, ◌⊎◌, true, false, List, [], ◌∷◌, Option, None, Some, IfSome, is_some}
 use Rattle.ha_model.specs.declared.journal.Entry.{Entry}
 use Rattle.ha_model.specs.Records.{Records}
+use Rattle.ha_model.specs.Texts.{call_text, error_text, trace_text}
 use Rattle.ha_status.specs.declared.status.Status.{Status}
+use Rattle.ha_status.specs.Files.{Files}
+use Rattle.ha_model.specs.Words.{Text}
 use Rattle.bus_turn.specs.declared.fault.BusFault.{BusFault}
-use Rattle.bus_turn.specs.Buses.{HoldsStore, IsBus, IsCut, IsWritten}
-use Rattle.bus_turn.specs.Growth.{OutGrows}
-use Rattle.bus_turn.specs.Shown.{BusView, bus_view, texts_of}
-use Rattle.bus_turn.specs.States.{Outside}
-use Rattle.bus_turn.specs.Writes.{Shows}
-use Rattle.ha_worker.specs.declared.end.WorkerEnd.{WorkerEnd}
+use Rattle.bus_turn.specs.Buses.{HasCause, HasTaken, HasTakenFront, HoldsStore, IsCut, IsWritten}
+use Rattle.bus_turn.specs.Shown.{BusView, bus_view}
+use Rattle.bus_turn.specs.States.{Outside, SinkState}
 use Rattle.ha_worker.specs.Courses.{SourceState}
-use Rattle.ha_worker.specs.Worked.{Worked}
-
--- the status of a run, by the first fault of its bus, and else by how its worker ended
-abbrev pub status_by : Option BusFault → WorkerEnd → Status
-status_by (Some (BusFault.Write zero)) end = Status.WriteFault zero
-status_by (Some BusFault.Keep) end = Status.KeepFault
-status_by (Some BusFault.Full) end = Status.JournalFull
-status_by (Some BusFault.Memory) end = Status.Memory
-status_by None WorkerEnd.Ended = Status.Ok
-status_by None WorkerEnd.Lost = Status.ReadFault (Some 0)
-status_by None WorkerEnd.TooLong = Status.SourceTooLong 0
-status_by None WorkerEnd.Stopped = Status.Memory
-status_by None WorkerEnd.Memory = Status.Memory
-
--- the worker went to work, or the bus had stopped before
-pub record IsStill (base b : BusView) (before after : SourceState) : Type 0 where
-  pub fault : (base.first ≡ None) → ⊥
-  pub same : b ≡ base
-  pub same_source : after ≡ before
-
-pub record DidWork (end : WorkerEnd) (base b : BusView) (before after : SourceState) : Type 0 where
-  pub free : base.first ≡ None
-  pub work : Worked end base b before after
-
-abbrev pub MayWork : WorkerEnd → BusView → BusView → SourceState → SourceState → Type 0
-MayWork end base b before after = DidWork end base b before after ⊎ IsStill base b before after
+use Rattle.ha_run.specs.Opened.{AreNew}
+use Rattle.ha_run.specs.Stands.{StandsAt, Writings}
 
 -- ---- what was written
 
@@ -44,26 +20,66 @@ MayWork end base b before after = DidWork end base b before after ⊎ IsStill ba
 abbrev pub view_of : List Entry → Records → Outside → BusView
 view_of journal records out = bus_view journal records false out None
 
+-- all is written, and of the trace this
+pub record IsWrittenWith (OfTrace : SinkState → Type 0) (b : BusView) : Type 0 where
+  pub calls : HasTaken (call_text b.journal b.records) b.out.calls
+  pub errors : HasTaken (error_text b.journal) b.out.errors
+  pub trace : IfSome b.out.trace OfTrace
+  pub keep : HoldsStore b.journal b.out.keep
+
+-- all is written, the trace with its end line
+abbrev pub IsEndWritten : BusView → Type 0
+IsEndWritten b = IsWrittenWith (HasTaken (trace_text b.journal true)) b
+
+-- all is written, but of the trace's end line a front at most
+abbrev pub IsEndCut : BusView → Type 0
+IsEndCut b = IsWrittenWith (HasTakenFront (trace_text b.journal false) (trace_text b.journal true)) b
+
 -- all is written but for a part of what the last entry gives; at the boot alone the keeper may hold what it held before
 pub record IsCutFrom (before : Outside) (b : BusView) : Type 0 where
   pub cut : IsCut b
   pub store : cut.before ≡ [] → (b.out.keep.kept ≡ before.keep.kept) ⊎ HoldsStore b.journal b.out.keep
 
 abbrev pub IsPartWritten : Outside → BusView → Type 0
-IsPartWritten before b = IsWritten b ⊎ IsCutFrom before b
+IsPartWritten before b = IsEndCut b ⊎ IsCutFrom before b
 
--- the bus as it was started on the boot, and as it is in the end
-pub record CoreRan (journal : List Entry) (records : Records) (out : Outside) (status : Status) (journal' : List Entry) (records' : Records) (out' : Outside) (before after : SourceState) : Type 0 where
-  pub base : BusView
-  pub last : BusView
-  pub end : WorkerEnd
-  pub journal_is : base.journal ≡ journal
-  pub records_are : base.records ≡ records
-  pub shown : (boot : Entry) → journal ≡ boot ∷ [] → Shows (texts_of records [] boot) out base.first base.out
-  pub base_bus : IsBus base
-  pub worked : MayWork end base last before after
-  pub last_bus : IsBus last
-  pub left_journal : last.journal ≡ journal'
-  pub left_records : last.records ≡ records'
-  pub left_out : last.out ≡ out'
-  pub status_is : status ≡ status_by last.first end
+abbrev pub writings : Outside → BusView → Writings
+writings before b = record { Ended = IsEndWritten b; Whole = IsWritten b; Part = IsPartWritten before b; Nothing = ⊥ }
+
+-- ---- what stays of what lies outside
+
+-- the sink has its name, and what it took is told as before
+pub record SameSink (before after : SinkState) : Type 0 where
+  pub told : is_some after.took ≡ is_some before.took
+  pub same_name : after.name ≡ before.name
+
+abbrev pub SameTrace : Option SinkState → Option SinkState → Type 0
+SameTrace None None = Unit {0}
+SameTrace (Some before) (Some after) = SameSink before after
+SameTrace _ _ = ⊥
+
+-- these are the sinks and the keeper of before
+pub record SameOutside (before after : Outside) : Type 0 where
+  pub calls : SameSink before.calls after.calls
+  pub errors : SameSink before.errors after.errors
+  pub trace : SameTrace before.trace after.trace
+  pub keep : is_some after.keep.kept ≡ is_some before.keep.kept
+
+-- ---- a run
+
+abbrev pub BeginsWith : Entry → List Entry → Type 0
+BeginsWith boot journal = (later : List Entry) × (journal ≡ boot ∷ later)
+
+-- a write or the keeper failed, as the counts of the outside tell
+abbrev pub OutCause : Status → Outside → Type 0
+OutCause (Status.WriteFault zero) out = HasCause (BusFault.Write zero) out
+OutCause Status.KeepFault out = HasCause BusFault.Keep out
+OutCause status out = Unit {0}
+
+-- A core that was booted so ran on sources that are these before: what stands at its status, whatever the files and the names are for which the
+-- sources were opened.
+pub record CoreRan (boot : Entry) (before : Outside) (opened : List SourceState) (status : Status) (journal : List Entry) (records : Records) (sources : List SourceState) (after : Outside) : Type 0 where
+  pub stands : (files : Option Files) (names : List Text) → AreNew files names opened
+      → StandsAt (BeginsWith boot) (record { files = files; names = names; journal = journal; records = records; sources = sources }) (writings before (view_of journal records after)) status
+  pub same : SameOutside before after
+  pub cause : OutCause status after

@@ -1,4 +1,6 @@
+pub mod Opened
 pub mod Served
 pub mod Stands
 pub mod Core
-pub mod Opened
+pub mod Team
+pub mod Finish

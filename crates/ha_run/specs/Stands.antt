@@ -1,5 +1,5 @@
 -- What stands at each status of a run.
-use Rattle.std.specs.Prelude.{ℕ, ◌≡◌, ◌⊎◌, true, false, List, [], length, Option, Some, None}
+use Rattle.std.specs.Prelude.{◌≡◌, ◌⊎◌, true, false, List, [], length, Option, Some, None}
 use Rattle.ha_model.specs.declared.journal.Entry.{Entry}
 use Rattle.ha_model.specs.Lawful.{Lawful, is_quiet}
 use Rattle.ha_model.specs.Records.{Records}
@@ -57,18 +57,27 @@ pub record NotRead (s : Scene) : Type 0 where
   pub no_record : s.records ≡ []
   pub one : length s.sources ≡ 1
 
--- What stands at each status, where all that is due was written of the journal, all but a part of what its last entry gives, or nothing.
-module _ (Begins : List Entry → Type 0) (s : Scene) (AllWritten SomeWritten NoneWritten : Type 0) where
+-- What was written of a journal: all that is due, with the end of the trace; all but that end; all but a part of what the last entry gives, or
+-- of that end; nothing.
+pub record Writings : Type 1 where
+  pub Ended : Type 0
+  pub Whole : Type 0
+  pub Part : Type 0
+  pub Nothing : Type 0
+
+-- What stands at each status.
+module _ (Begins : List Entry → Type 0) (s : Scene) (w : Writings) where
   abbrev pub StandsAt : Status → Type 0
-  StandsAt Status.Ok = AllWritten × ((feeds : List Feed) × RanThrough Begins s feeds × Each IsEnded feeds)
+  StandsAt Status.Ok = w.Ended × ((feeds : List Feed) × RanThrough Begins s feeds × Each IsEnded feeds)
   StandsAt Status.Usage = ⊥
-  StandsAt (Status.ConfigRefused line code) = NoneWritten × RanNothing s
-  StandsAt (Status.OpenFault name) = NoneWritten × RanNothing s
-  StandsAt (Status.ReadFault None) = NoneWritten × NotRead s
-  StandsAt (Status.ReadFault (Some k)) = AllWritten × ((feeds : List Feed) × RanThrough Begins s feeds × IsFirst Course.Fails k feeds)
-  StandsAt (Status.WriteFault zero) = SomeWritten × RanSome Begins s
-  StandsAt Status.KeepFault = (NoneWritten × RanNothing s) ⊎ (SomeWritten × RanSome Begins s)
-  StandsAt Status.JournalFull = AllWritten × RanFull Begins s
-  StandsAt (Status.SourceTooLong k) = AllWritten × ((feeds : List Feed) × RanThrough Begins s feeds × IsFirst Course.Exceeds k feeds)
-  StandsAt (Status.StoreRefused code) = NoneWritten × RanNothing s
-  StandsAt Status.Memory = (NoneWritten × (RanNothing s ⊎ NotRead s)) ⊎ (SomeWritten × RanSome Begins s)
+  StandsAt (Status.ConfigRefused line code) = w.Nothing × RanNothing s
+  StandsAt (Status.OpenFault name) = w.Nothing × RanNothing s
+  StandsAt (Status.ReadFault None) = w.Nothing × NotRead s
+  StandsAt (Status.ReadFault (Some k)) = w.Ended × ((feeds : List Feed) × RanThrough Begins s feeds × IsFirst Course.Fails k feeds)
+  StandsAt (Status.WriteFault zero) = w.Part × RanSome Begins s
+  StandsAt Status.KeepFault = (w.Nothing × RanNothing s) ⊎ (w.Part × RanSome Begins s)
+  StandsAt Status.JournalFull = w.Whole × RanFull Begins s
+  StandsAt (Status.SourceTooLong k) = w.Ended × ((feeds : List Feed) × RanThrough Begins s feeds × IsFirst Course.Exceeds k feeds)
+  StandsAt (Status.StoreRefused code) = w.Nothing × RanNothing s
+  StandsAt Status.Memory = (w.Nothing × (RanNothing s ⊎ NotRead s)) ⊎ (w.Part × RanSome Begins s)
+  StandsAt (Status.TraceRefused line) = ⊥

@@ -11,13 +11,14 @@ use Rattle.ha_status.specs.Causes.{IsUnopened, IsUnread, KeepCause, NeverFall, O
 -- ---- from each status
 
 pub open_cause : (names : List Text) (f f' : ℕ) (last : Option (Option (Text × Opening))) (s : Status)
-    → ((name : Text) → s ≡ Status.OpenFault name → Contains names name × IsUnopened name f f' last) → OpenCause names f f' last s
+    → ((name : Text) → s ≡ Status.OpenFault name → Contains names name × IsUnopened name Opening.Reading f f' last) → OpenCause names f f' last s
 open_cause names f f' last (Status.OpenFault name) h = h name refl
 open_cause names f f' last (Status.ConfigRefused l k) h = tt
 open_cause names f f' last (Status.ReadFault k) h = tt
 open_cause names f f' last (Status.WriteFault z) h = tt
 open_cause names f f' last (Status.SourceTooLong k) h = tt
 open_cause names f f' last (Status.StoreRefused k) h = tt
+open_cause names f f' last (Status.TraceRefused l) h = tt
 open_cause names f f' last Status.Ok h = tt
 open_cause names f f' last Status.Usage h = tt
 open_cause names f f' last Status.KeepFault h = tt
@@ -32,6 +33,7 @@ read_cause config sources faults names (Status.ConfigRefused l k) h = tt
 read_cause config sources faults names (Status.WriteFault z) h = tt
 read_cause config sources faults names (Status.SourceTooLong k) h = tt
 read_cause config sources faults names (Status.StoreRefused k) h = tt
+read_cause config sources faults names (Status.TraceRefused l) h = tt
 read_cause config sources faults names Status.Ok h = tt
 read_cause config sources faults names Status.Usage h = tt
 read_cause config sources faults names Status.KeepFault h = tt
@@ -45,6 +47,7 @@ write_cause failed none (Status.ConfigRefused l k) h = tt
 write_cause failed none (Status.ReadFault k) h = tt
 write_cause failed none (Status.SourceTooLong k) h = tt
 write_cause failed none (Status.StoreRefused k) h = tt
+write_cause failed none (Status.TraceRefused l) h = tt
 write_cause failed none Status.Ok h = tt
 write_cause failed none Status.Usage h = tt
 write_cause failed none Status.KeepFault h = tt
@@ -59,6 +62,7 @@ keep_cause f f' (Status.ReadFault k) h = tt
 keep_cause f f' (Status.WriteFault z) h = tt
 keep_cause f f' (Status.SourceTooLong k) h = tt
 keep_cause f f' (Status.StoreRefused k) h = tt
+keep_cause f f' (Status.TraceRefused l) h = tt
 keep_cause f f' Status.Ok h = tt
 keep_cause f f' Status.Usage h = tt
 keep_cause f f' Status.JournalFull h = tt
@@ -71,8 +75,9 @@ told_status P s r (inr e) h m = subst P (sym e) m
 
 -- ---- longer calls
 
-pub unopened_within : (name : Text) (first before after : ℕ) (last : Option (Option (Text × Opening))) → first ≤ before → IsUnopened name before after last → IsUnopened name first after last
-unopened_within name first before after last low u = record { rose = Rose-within first before after after low u.rose (omega arith); last_is = u.last_is }
+pub unopened_within : (name : Text) (opening : Opening) (first before after : ℕ) (last : Option (Option (Text × Opening))) → first ≤ before → IsUnopened name opening before after last
+    → IsUnopened name opening first after last
+unopened_within name opening first before after last low u = record { rose = Rose-within first before after after low u.rose (omega arith); last_is = u.last_is }
 
 pub falls_never : (f f' f'' z z' z'' : ℕ) → NeverFall f f' z z' → NeverFall f' f'' z' z'' → NeverFall f f'' z z''
 falls_never f f' f'' z z' z'' a b = record { faults_stay = omega (arith, a.faults_stay, b.faults_stay); zeros_stay = omega (arith, a.zeros_stay, b.zeros_stay) }

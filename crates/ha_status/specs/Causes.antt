@@ -18,14 +18,14 @@ pub record NeverFall (faults faults' zeros zeros' : ℕ) : Type 0 where
 
 -- ---- a file that was not opened
 
--- the place failed in this call, and where it tells its last failure, that was to open this file for reading
-pub record IsUnopened (name : Text) (faults faults' : ℕ) (last : Option (Option (Text × Opening))) : Type 0 where
+-- the place failed in this call, and where it tells its last failure, that was to open this file for this
+pub record IsUnopened (name : Text) (opening : Opening) (faults faults' : ℕ) (last : Option (Option (Text × Opening))) : Type 0 where
   pub rose : Rose faults faults'
-  pub last_is : IfSome last (λ l. l ≡ Some (name, Opening.Reading))
+  pub last_is : IfSome last (λ l. l ≡ Some (name, opening))
 
--- it is one of these files
+-- it is one of these files, which are read
 abbrev pub OpenCause : List Text → ℕ → ℕ → Option (Option (Text × Opening)) → Status → Type 0
-OpenCause names faults faults' last (Status.OpenFault name) = Contains names name × IsUnopened name faults faults' last
+OpenCause names faults faults' last (Status.OpenFault name) = Contains names name × IsUnopened name Opening.Reading faults faults' last
 OpenCause names faults faults' last _ = Unit {0}
 
 -- ---- a source that was not read

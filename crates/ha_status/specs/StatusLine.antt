@@ -25,6 +25,7 @@ status_line Status.JournalFull = ended (codes "hearth: journal full")
 status_line (Status.SourceTooLong source) = ended (codes "hearth: source " ++ decimal source ++ codes " too long")
 status_line (Status.StoreRefused code) = ended (codes "hearth: store refused S" ++ decimal code)
 status_line Status.Memory = ended (codes "hearth: no memory")
+status_line (Status.TraceRefused line) = ended (codes "hearth: trace line " ++ decimal line ++ codes ": T")
 
 -- the number of a status
 unfoldable pub status_number : Status → ℕ
@@ -39,3 +40,4 @@ status_number Status.JournalFull = 7
 status_number (Status.SourceTooLong source) = 8
 status_number (Status.StoreRefused code) = 9
 status_number Status.Memory = 10
+status_number (Status.TraceRefused line) = 11

@@ -41,5 +41,6 @@ pub fn status_line(alloc: Global, status: &Status) -> Result<String, AllocError>
         Status::SourceTooLong { source } => format!(in alloc; "hearth: source {source} too long\n"),
         Status::StoreRefused { code } => format!(in alloc; "hearth: store refused S{code}\n"),
         Status::Memory => String::from_str(alloc, "hearth: no memory\n"),
+        Status::TraceRefused { line } => format!(in alloc; "hearth: trace line {line}: T\n"),
     }
 }

@@ -29,6 +29,8 @@ pub enum Status {
     StoreRefused { code: u8 },
     /// Memory ran out.
     Memory,
+    /// This line of a trace, counted from 1, is not the next one that may stand, or the end is missing there.
+    TraceRefused { line: u32 },
 }
 
 impl Status {
@@ -49,6 +51,7 @@ impl Status {
             Status::SourceTooLong { .. } => 8,
             Status::StoreRefused { .. } => 9,
             Status::Memory => 10,
+            Status::TraceRefused { .. } => 11,
         }
     }
 }

@@ -1,28 +1,27 @@
 -- What a run answers for that ended before the boot.
-use Rattle.std.proofs.Common.{◌≡◌, ◌⊎◌, inl, ◌≤◌, ℕ, List, [], ◌∷◌, length, map, Option, Some, None, ap, refl, sym, subst, arith, slice_index_or}
+use Rattle.std.proofs.Common.{◌≡◌, ◌⊎◌, inl, inr, ◌≤◌, ℕ, zero, suc, List, [], ◌∷◌, map, Option, Some, None, ap, refl, sym, subst, arith}
 use Rattle.std.proofs.Math.Nat.{le_refl}
 use Rattle.std.specs.Prelude.{Contains, IfSome, IsOk, Ok, is_some}
 use Rattle.ha_io.specs.declared.place.Opening.{Opening}
 use Rattle.ha_model.specs.declared.config.Config.{Config}
+use Rattle.ha_model.specs.declared.journal.Entry.{Entry}
 use Rattle.ha_model.specs.Words.{Text}
 use Rattle.store_text.specs.Store.{Switches}
 use Rattle.ha_status.specs.declared.status.Status.{Status}
-use Rattle.ha_status.specs.Causes.{KeepCause, OneRose, OpenCause, ReadCause, WriteCause}
+use Rattle.ha_status.specs.Causes.{KeepCause, OpenCause, ReadCause, WriteCause}
 use Rattle.ha_status.specs.Files.{Files, HoldsText, IsTextFault}
 use Rattle.ha_words.specs.declared.plan.RunWords.{RunWords}
-use Rattle.bus_turn.specs.Buses.{IsWritten}
 use Rattle.bus_turn.specs.Growth.{SinkGrows}
 use Rattle.bus_turn.specs.States.{SinkState}
-use Rattle.ha_run.specs.Core.{IsPartWritten}
 use Rattle.ha_run.specs.Served.{AreOpened}
 use Rattle.ha_run.specs.Stands.{RanNothing, StandsAt}
-use Rattle.ha_top.specs.Opening.{IsOpenFault}
+use Rattle.ha_top.specs.Opening.{IsOpenFault, TraceOpenCause}
 use Rattle.conf_auto.specs.Config.{config_of}
 use Rattle.ha_check.specs.Configured.{RefusedCause}
 use Rattle.ha_top.specs.Views.{After, Before}
-use Rattle.ha_top.specs.Written.{AreTheSame, handed, seen}
-use Rattle.ha_top.specs.Answered.{AreStored, IsBooted, IsStore, IsStoreFault, IsTaken, StoreCause, scene}
-use Rattle.ha_top.specs.Lived.{Lived, Untouched}
+use Rattle.ha_top.specs.Written.{AreTheSame}
+use Rattle.ha_top.specs.Answered.{AreStored, IsBooted, IsStore, IsStoreFault, IsTaken, IsTraceOf, RunOpenCause, StoreCause, WriteFailed, WriteTookNone, scene}
+use Rattle.ha_top.specs.Lived.{Lived, Untouched, unlined}
 use Rattle.ha_status.proofs.CauseLemmas.{unopened_within}
 
 if_all : {X : Type 0} (o : Option X) (P : X → Type 0) → ((x : X) → P x) → IfSome o P
@@ -59,27 +58,65 @@ pub store_taken : (kept : Option (Option Text)) (stored : Option Switches) (P : 
 store_taken None stored P h = tt
 store_taken (Some k) stored P h = λ never. absurd (never (stored, h))
 
-pub contains_next : (config name : Text) (sources : List Text) → sources ≡ name ∷ [] → Contains (config ∷ sources) name
-contains_next config name sources e = subst (λ z. Contains (config ∷ z) name) (sym e) (1, omega arith, refl)
+-- ---- a source or the trace was not opened
 
--- ---- the source was not opened
+pub open_cases : (P : Status → Type 0) (s : Status) → IsOpenFault s → ((name : Text) → P (Status.OpenFault name)) → P Status.Memory → P s
+open_cases P (Status.OpenFault name) h unopened memory = unopened name
+open_cases P Status.Memory h unopened memory = memory
+open_cases P Status.KeepFault h unopened memory = absurd h
+open_cases P (Status.StoreRefused c) h unopened memory = absurd h
+open_cases P (Status.ReadFault k) h unopened memory = absurd h
+open_cases P (Status.ConfigRefused l c) h unopened memory = absurd h
+open_cases P Status.Ok h unopened memory = absurd h
+open_cases P Status.Usage h unopened memory = absurd h
+open_cases P (Status.WriteFault z) h unopened memory = absurd h
+open_cases P Status.JournalFull h unopened memory = absurd h
+open_cases P (Status.SourceTooLong k) h unopened memory = absurd h
+open_cases P (Status.TraceRefused l) h unopened memory = absurd h
 
-pub open_cases : (P : Status → Type 0) (name : Text) (s : Status) → IsOpenFault name s → ((other : Text) → other ≡ name → P (Status.OpenFault other)) → P Status.Memory → P s
-open_cases P name (Status.OpenFault other) h unopened memory = unopened other h
-open_cases P name Status.Memory h unopened memory = memory
-open_cases P name Status.KeepFault h unopened memory = absurd h
-open_cases P name (Status.StoreRefused c) h unopened memory = absurd h
-open_cases P name (Status.ReadFault k) h unopened memory = absurd h
-open_cases P name (Status.ConfigRefused l c) h unopened memory = absurd h
-open_cases P name Status.Ok h unopened memory = absurd h
-open_cases P name Status.Usage h unopened memory = absurd h
-open_cases P name (Status.WriteFault z) h unopened memory = absurd h
-open_cases P name Status.JournalFull h unopened memory = absurd h
-open_cases P name (Status.SourceTooLong k) h unopened memory = absurd h
+pub contains_behind : (first : Text) (names : List Text) (name : Text) → Contains names name → Contains (first ∷ names) name
+contains_behind first names name h = (suc h.0, omega (arith, h.1), h.2)
+
+-- a source of the words, in a longer call
+pub source_cause : (words : RunWords) (first before after : ℕ) (last : Option (Option (Text × Opening))) (s : Status) → IsOpenFault s → first ≤ before
+    → OpenCause words.sources before after last s → RunOpenCause words first after last s
+source_cause words first before after last s fault low =
+    open_cases (λ z. OpenCause words.sources before after last z → RunOpenCause words first after last z) s fault
+    (λ name u. inl (contains_behind words.config words.sources name u.0, unopened_within name Opening.Reading first before after last low u.1)) (λ u. tt)
+
+-- the trace of the words, in a longer call
+pub trace_cause : (words : RunWords) (first before after : ℕ) (last : Option (Option (Text × Opening))) (s : Status) → IsOpenFault s → first ≤ before
+    → TraceOpenCause words.trace before after last s → RunOpenCause words first after last s
+trace_cause words first before after last s fault low =
+    open_cases (λ z. TraceOpenCause words.trace before after last z → RunOpenCause words first after last z) s fault
+    (λ name u. inr (u.0, unopened_within name Opening.Writing first before after last low u.1)) (λ u. tt)
+
+-- the configuration of the words
+pub config_cause : (words : RunWords) (before after : ℕ) (last : Option (Option (Text × Opening))) (s : Status) → OpenCause (words.config ∷ []) before after last s
+    → RunOpenCause words before after last s
+config_cause words before after last (Status.OpenFault name) u = inl (alone words.config words.sources name u.0, u.1)
+  where
+    alone : (x : Text) (xs : List Text) (n : Text) → Contains (x ∷ []) n → Contains (x ∷ xs) n
+    alone x xs n (zero, low, is) = (0, omega arith, is)
+    alone x xs n (suc i, low, is) = absurd (omega (arith, low))
+config_cause words before after last (Status.ConfigRefused l k) u = tt
+config_cause words before after last (Status.ReadFault k) u = tt
+config_cause words before after last (Status.WriteFault z) u = tt
+config_cause words before after last (Status.SourceTooLong k) u = tt
+config_cause words before after last (Status.StoreRefused k) u = tt
+config_cause words before after last (Status.TraceRefused l) u = tt
+config_cause words before after last Status.Ok u = tt
+config_cause words before after last Status.Usage u = tt
+config_cause words before after last Status.KeepFault u = tt
+config_cause words before after last Status.JournalFull u = tt
+config_cause words before after last Status.Memory u = tt
+
+no_trace_yet : (name : Option Text) (journal : List Entry) (trace : Option SinkState) → journal ≡ [] → trace ≡ None → IsTraceOf name journal trace
+no_trace_yet name journal trace none is = subst (λ j. IsTraceOf name j trace) (sym none) is
 
 module _ (words : RunWords) (b : Before) (a : After) (e : IsEarly b a) where
   abbrev Stood : Status → Type 0
-  Stood = StandsAt (IsBooted words b) (scene words b a) (IsWritten (seen a a.err.took)) (IsPartWritten (handed b) (seen a a.err.took)) (Untouched b a)
+  Stood = StandsAt (IsBooted words b) (scene words b a) (unlined b a)
 
   abbrev Counts : List ℕ
   Counts = map (λ s. s.faults) a.sources
@@ -87,33 +124,29 @@ module _ (words : RunWords) (b : Before) (a : After) (e : IsEarly b a) where
   abbrev Names : List (Option Text)
   Names = map (λ s. s.name) a.sources
 
-  -- the source was not opened, or memory ran out before the boot
-  pub lived_open : (text : Text) (config : Config) (stored : Option Switches) (name : Text) → HoldsText b.place.files words.config text → config_of text ≡ Ok config
-      → IfSome b.keep.kept (λ kept. AreStored kept stored) → words.sources ≡ name ∷ [] → IsOpenFault name a.status
-      → OpenCause (name ∷ []) b.place.faults a.place.faults a.place.last a.status → AreOpened words.sources a.sources → Lived words b a
-  lived_open text config stored name held read kept one fault unopened opened = record {
-    stands = open_cases Stood name a.status fault (λ other is. (e.untouched, there)) (inl (e.untouched, inl there));
+  pub untraced : IsTraceOf words.trace a.journal a.trace
+  untraced = no_trace_yet words.trace a.journal a.trace e.no_entry e.untouched.no_trace
+
+  -- a source or the trace was not opened, or memory ran out before the boot
+  pub lived_open : (text : Text) (config : Config) (stored : Option Switches) → HoldsText b.place.files words.config text → config_of text ≡ Ok config
+      → IfSome b.keep.kept (λ kept. AreStored kept stored) → IsOpenFault a.status
+      → RunOpenCause words b.place.faults a.place.faults a.place.last a.status → AreOpened words.sources a.sources → Lived words b a
+  lived_open text config stored held read kept fault unopened opened = record {
+    stands = open_cases Stood a.status fault (λ name. (e.untouched, there)) (inl (e.untouched, inl there));
+    traced = untraced;
     same = same_of b a e;
-    refused = open_cases (λ s. RefusedCause b.place.files words.config s) name a.status fault (λ other is. tt) tt;
+    refused = open_cases (λ s. RefusedCause b.place.files words.config s) a.status fault (λ name. tt) tt;
     config_first = config_taken b.place.files words.config text config (IsTextFault words.config a.status) held read;
-    store_refused = open_cases (λ s. StoreCause b.keep.kept s) name a.status fault (λ other is. tt) tt;
+    store_refused = open_cases (λ s. StoreCause b.keep.kept s) a.status fault (λ name. tt) tt;
     store_next = store_taken b.keep.kept stored (IsTextFault words.config a.status ⊎ IsStoreFault a.status) kept;
-    unopened = open_cases (λ s. OpenCause (name ∷ []) b.place.faults a.place.faults a.place.last s → OpenCause (words.config ∷ words.sources) b.place.faults a.place.faults a.place.last s) name a.status fault
-        (λ other is h. (subst (λ z. Contains (words.config ∷ words.sources) z) (sym is) (contains_next words.config name words.sources one), h.1)) (λ h. tt) unopened;
-    unread = open_cases (λ s. ReadCause words.config words.sources Counts Names s) name a.status fault (λ other is. tt) tt;
-    unwritten = open_cases (λ s. WriteCause (OneRose b.out.faults a.out.faults b.err.faults a.err.faults) (OneRose b.out.zeros a.out.zeros b.err.zeros a.err.zeros) s) name a.status fault (λ other is. tt) tt;
-    unkept = open_cases (λ s. KeepCause b.keep.faults a.keep.faults s) name a.status fault (λ other is. tt) tt;
+    unopened = unopened;
+    unread = open_cases (λ s. ReadCause words.config words.sources Counts Names s) a.status fault (λ name. tt) tt;
+    unwritten = open_cases (λ s. WriteCause (WriteFailed b a) (WriteTookNone b a) s) a.status fault (λ name. tt) tt;
+    unkept = open_cases (λ s. KeepCause b.keep.faults a.keep.faults s) a.status fault (λ name. tt) tt;
   }
     where
       there : RanNothing (scene words b a)
       there = record { no_entry = e.no_entry; no_record = e.no_record; opened = opened }
-
--- a failure to open in a later part of the call
-pub open_within : (name : Text) (first before after : ℕ) (last : Option (Option (Text × Opening))) (s : Status) → IsOpenFault name s → first ≤ before → OpenCause (name ∷ []) before after last s
-    → OpenCause (name ∷ []) first after last s
-open_within name first before after last s fault low h =
-    open_cases (λ z. OpenCause (name ∷ []) before after last z → OpenCause (name ∷ []) first after last z) name s fault
-    (λ other is u. (u.0, unopened_within other first before after last low u.1)) (λ u. tt) h
 
 pub early_from : (b : Before) (a : After) → a.out ≡ b.out → a.err ≡ b.err → a.trace ≡ None → a.keep.kept ≡ b.keep.kept → b.keep.faults ≤ a.keep.faults → a.journal ≡ [] → a.records ≡ [] → IsEarly b a
 early_from b a out err trace kept faults journal records = record {
@@ -122,12 +155,6 @@ early_from b a out err trace kept faults journal records = record {
   no_record = records;
   faults = faults;
 }
-
--- one name stands in the list
-pub one_of : (xs : List Text) (x : Text) → length xs ≡ 1 → x ≡ slice_index_or xs 0 x → xs ≡ x ∷ []
-one_of [] x n is = absurd (omega (arith, n))
-one_of (y ∷ []) x n is = ap (λ (z : Text). z ∷ []) (sym is)
-one_of (y ∷ z ∷ xs) x n is = absurd (omega (arith, n))
 
 pub not_more : {K : Type 0} (faults : K → ℕ) (first : ℕ) (k k' : K) → k' ≡ k → first ≤ faults k → first ≤ faults k'
 not_more faults first k k' e h = subst (λ z. first ≤ faults z) (sym e) h

@@ -1,4 +1,5 @@
-pub mod ToldLemmas
 pub mod EarlyLemmas
+pub mod OpenLemmas
 pub mod RunLemmas
 pub mod StoreLemmas
+pub mod ToldLemmas

@@ -26,3 +26,4 @@ store_refusal told items sliced h e Status.KeepFault f = tt
 store_refusal told items sliced h e Status.JournalFull f = tt
 store_refusal told items sliced h e (Status.SourceTooLong k) f = tt
 store_refusal told items sliced h e Status.Memory f = tt
+store_refusal told items sliced h e (Status.TraceRefused line) f = tt

@@ -1,12 +1,12 @@
 -- What a run answers for behind its status line.
-use Rattle.std.proofs.Common.{◌≡◌, ◌⊎◌, inl, inr, ◌∙◌, ◌≤◌, ℕ, ◌∷◌, ◌++◌, map, Option, Some, None, ap, refl, sym, subst, arith}
+use Rattle.std.proofs.Common.{◌≡◌, ◌⊎◌, inl, inr, ◌∙◌, ◌≤◌, ℕ, ◌++◌, map, Option, Some, None, ap, refl, sym, subst, arith}
 use Rattle.std.proofs.Math.Nat.{le_refl}
 use Rattle.std.specs.Prelude.{IfSome, is_some}
 use Rattle.std.specs.Option.{option_map}
 use Rattle.ha_io.proofs.CountLemmas.{Rose-within}
 use Rattle.ha_model.specs.Words.{Text}
 use Rattle.ha_status.specs.declared.status.Status.{Status}
-use Rattle.ha_status.specs.Causes.{KeepCause, OneRose, OpenCause, ReadCause, WriteCause}
+use Rattle.ha_status.specs.Causes.{KeepCause, OneRose, ReadCause, WriteCause}
 use Rattle.ha_status.specs.Files.{IsTextFault}
 use Rattle.ha_status.specs.Written.{TookLine}
 use Rattle.ha_status.proofs.CauseLemmas.{told_status, wider_write}
@@ -15,14 +15,15 @@ use Rattle.ha_words.specs.declared.plan.RunWords.{RunWords}
 use Rattle.bus_turn.specs.Buses.{IsWritten}
 use Rattle.bus_turn.specs.States.{SinkState}
 use Rattle.ha_worker.specs.Courses.{SourceState}
-use Rattle.ha_run.specs.Core.{IsPartWritten}
+use Rattle.ha_run.specs.Core.{IsEndWritten, IsPartWritten}
 use Rattle.ha_run.specs.Stands.{StandsAt}
 use Rattle.ha_run.proofs.TellLemmas.{stands_in, stands_memory}
+use Rattle.ha_run.proofs.WrittenLemmas.{end_cut_of_end, end_cut_of_whole}
 use Rattle.ha_check.specs.Configured.{RefusedCause}
 use Rattle.ha_top.specs.Views.{After, Before}
-use Rattle.ha_top.specs.Written.{AllWritten, LineBehind, NoneWritten, SomeWritten, handed, seen}
-use Rattle.ha_top.specs.Answered.{Answered, IsBooted, IsStore, IsStoreFault, IsTaken, StoreCause, scene}
-use Rattle.ha_top.specs.Lived.{Lived, Untouched}
+use Rattle.ha_top.specs.Written.{AllWritten, EndWritten, LineBehind, NoneWritten, SomeWritten, handed, seen, written}
+use Rattle.ha_top.specs.Answered.{Answered, IsBooted, IsStore, IsStoreFault, IsTaken, RunOpenCause, StoreCause, WriteFailed, WriteTookNone, scene}
+use Rattle.ha_top.specs.Lived.{Lived, Untouched, unlined}
 
 if_all : {X : Type 0} (o : Option X) (P : X → Type 0) → ((x : X) → P x) → IfSome o P
 if_all None P h = tt
@@ -47,21 +48,24 @@ module _ (words : RunWords) (b : Before) (a : After) (r : Status) (err : SinkSta
   texts : IsWritten (seen a a.err.took) → IsWritten (seen told_after a.err.took)
   texts w = record { calls = w.calls; errors = w.errors; trace = w.trace; keep = w.keep }
 
+  end_texts : IsEndWritten (seen a a.err.took) → IsEndWritten (seen told_after a.err.took)
+  end_texts w = record { calls = w.calls; errors = w.errors; trace = w.trace; keep = w.keep }
+
   part : IsPartWritten (handed b) (seen a a.err.took) → IsPartWritten (handed b) (seen told_after a.err.took)
-  part (inl w) = inl (texts w)
+  part (inl w) = inl (record { calls = w.calls; errors = w.errors; trace = w.trace; keep = w.keep })
   part (inr w) = inr (record {
     cut = record { before = w.cut.before; last = w.cut.last; is = w.cut.is; calls = w.cut.calls; errors = w.cut.errors; trace = w.cut.trace; keep = w.cut.keep };
     store = w.store;
   })
+
+  ended : IsEndWritten (seen a a.err.took) → EndWritten b told_after
+  ended w = record { errors = a.err.took; texts = end_texts w; line = behind }
 
   all : IsWritten (seen a a.err.took) → AllWritten b told_after
   all w = record { errors = a.err.took; texts = texts w; line = behind }
 
   some : IsPartWritten (handed b) (seen a a.err.took) → SomeWritten b told_after
   some w = record { errors = a.err.took; texts = part w; line = behind }
-
-  fewer : IsWritten (seen a a.err.took) → SomeWritten b told_after
-  fewer w = record { errors = a.err.took; texts = inl (texts w); line = behind }
 
   none : Untouched b a → NoneWritten b told_after
   none u = record {
@@ -71,16 +75,15 @@ module _ (words : RunWords) (b : Before) (a : After) (r : Status) (err : SinkSta
     line = subst (λ (s : SinkState). LineBehind b told_after s.took) u.no_error behind;
   }
 
-  stood : StandsAt (IsBooted words b) (scene words b told_after) (AllWritten b told_after) (SomeWritten b told_after) (NoneWritten b told_after) r
+  stood : StandsAt (IsBooted words b) (scene words b told_after) (written b told_after) r
   stood = by is
     where
-      by : (r ≡ a.status) ⊎ (r ≡ Status.Memory) → StandsAt (IsBooted words b) (scene words b told_after) (AllWritten b told_after) (SomeWritten b told_after) (NoneWritten b told_after) r
-      by (inl e) = subst (StandsAt (IsBooted words b) (scene words b told_after) (AllWritten b told_after) (SomeWritten b told_after) (NoneWritten b told_after)) (sym e)
-          (stands_in (IsBooted words b) (scene words b a) (IsWritten (seen a a.err.took)) (IsPartWritten (handed b) (seen a a.err.took)) (Untouched b a)
-          (AllWritten b told_after) (SomeWritten b told_after) (NoneWritten b told_after) all some none fewer a.status l.stands)
-      by (inr e) = subst (StandsAt (IsBooted words b) (scene words b told_after) (AllWritten b told_after) (SomeWritten b told_after) (NoneWritten b told_after)) (sym e)
-          (stands_memory (IsBooted words b) (scene words b a) (IsWritten (seen a a.err.took)) (IsPartWritten (handed b) (seen a a.err.took)) (Untouched b a)
-          (AllWritten b told_after) (SomeWritten b told_after) (NoneWritten b told_after) all some none fewer a.status l.stands)
+      by : (r ≡ a.status) ⊎ (r ≡ Status.Memory) → StandsAt (IsBooted words b) (scene words b told_after) (written b told_after) r
+      by (inl e) = subst (StandsAt (IsBooted words b) (scene words b told_after) (written b told_after)) (sym e)
+          (stands_in (IsBooted words b) (IsBooted words b) (scene words b a) (λ h. h) (unlined b a) (written b told_after) ended all some none a.status l.stands)
+      by (inr e) = subst (StandsAt (IsBooted words b) (scene words b told_after) (written b told_after)) (sym e)
+          (stands_memory (IsBooted words b) (scene words b a) (unlined b a) (written b told_after) some none (λ w. some (inl (end_cut_of_end (seen a a.err.took) w)))
+          (λ w. some (inl (end_cut_of_whole (seen a a.err.took) w))) a.status l.stands)
 
   later : (x x' y : ℕ) → OneRose x x' y a.err.faults → OneRose x x' y err.faults
   later x x' y (inl h) = inl h
@@ -90,10 +93,19 @@ module _ (words : RunWords) (b : Before) (a : After) (r : Status) (err : SinkSta
   later_zero x x' y (inl h) = inl h
   later_zero x x' y (inr h) = inr (Rose-within y y a.err.zeros err.zeros (le_refl y) h zeros)
 
+  failed : WriteFailed b a → WriteFailed b told_after
+  failed (inl h) = inl (later b.out.faults a.out.faults b.err.faults h)
+  failed (inr h) = inr h
+
+  took_none : WriteTookNone b a → WriteTookNone b told_after
+  took_none (inl h) = inl (later_zero b.out.zeros a.out.zeros b.err.zeros h)
+  took_none (inr h) = inr h
+
   -- the status line is written behind all else
   pub told_answers : Answered words b told_after
   told_answers = record {
     stands = stood;
+    traced = l.traced;
     same = record {
       out = l.same.out;
       err = record {
@@ -110,9 +122,8 @@ module _ (words : RunWords) (b : Before) (a : After) (r : Status) (err : SinkSta
     store_refused = told_status (λ s. StoreCause b.keep.kept s) a.status r is l.store_refused tt;
     store_next = told_status (λ s. IfSome b.keep.kept (λ kept. (IsStore kept → ⊥) → IsTextFault words.config s ⊎ IsStoreFault s)) a.status r is l.store_next
         (if_all b.keep.kept (λ kept. (IsStore kept → ⊥) → IsTextFault words.config Status.Memory ⊎ IsStoreFault Status.Memory) (λ kept never. inl tt));
-    unopened = told_status (λ s. OpenCause (words.config ∷ words.sources) b.place.faults a.place.faults a.place.last s) a.status r is l.unopened tt;
+    unopened = told_status (λ s. RunOpenCause words b.place.faults a.place.faults a.place.last s) a.status r is l.unopened tt;
     unread = told_status (λ s. ReadCause words.config words.sources (map (λ (x : SourceState). x.faults) a.sources) (map (λ (x : SourceState). x.name) a.sources) s) a.status r is l.unread tt;
-    unwritten = told_status (λ s. WriteCause (OneRose b.out.faults a.out.faults b.err.faults err.faults) (OneRose b.out.zeros a.out.zeros b.err.zeros err.zeros) s) a.status r is
-        (wider_write _ _ _ _ a.status (later b.out.faults a.out.faults b.err.faults) (later_zero b.out.zeros a.out.zeros b.err.zeros) l.unwritten) tt;
+    unwritten = told_status (λ s. WriteCause (WriteFailed b told_after) (WriteTookNone b told_after) s) a.status r is (wider_write _ _ _ _ a.status failed took_none l.unwritten) tt;
     unkept = told_status (λ s. KeepCause b.keep.faults a.keep.faults s) a.status r is l.unkept tt;
   }

@@ -1,20 +1,22 @@
 -- What a run answers for. Whoever wants to trust the program reads this page, what stands at each status (`ha_run`'s `Stands` and `Served`), what
 -- was written (`Written`), and the meaning that they cite.
-use Rattle.std.specs.Prelude.{◌≡◌, ◌⊎◌, ◌∷◌, List, map, Option, Some, None, Ok, Err, IfSome, IsOk, IsSomeAnd}
+use Rattle.std.specs.Prelude.{ℕ, ◌≡◌, ◌<◌, ◌⊎◌, List, [], ◌∷◌, map, Option, Some, None, Ok, Err, IfSome, IsOk, IsSomeAnd, Contains}
+use Rattle.ha_io.specs.declared.place.Opening.{Opening}
 use Rattle.ha_model.specs.declared.config.Config.{Config}
 use Rattle.ha_model.specs.declared.journal.Entry.{Entry}
 use Rattle.ha_model.specs.declared.journal.Entry.TheVariants.{Boot}
 use Rattle.ha_model.specs.Words.{Text}
 use Rattle.store_text.specs.Store.{Switches, switches_in}
 use Rattle.ha_status.specs.declared.status.Status.{Status}
-use Rattle.ha_status.specs.Causes.{KeepCause, OneRose, OpenCause, ReadCause, WriteCause}
+use Rattle.ha_status.specs.Causes.{IsUnopened, KeepCause, OneRose, ReadCause, WriteCause}
 use Rattle.ha_status.specs.Files.{HoldsText, IsTextFault}
 use Rattle.ha_words.specs.declared.plan.RunWords.{RunWords}
+use Rattle.bus_turn.specs.States.{SinkState}
 use Rattle.ha_run.specs.Stands.{Scene, StandsAt}
 use Rattle.conf_auto.specs.Config.{config_of}
 use Rattle.ha_check.specs.Configured.{RefusedCause}
 use Rattle.ha_top.specs.Views.{After, Before}
-use Rattle.ha_top.specs.Written.{AllWritten, AreTheSame, NoneWritten, SomeWritten}
+use Rattle.ha_top.specs.Written.{AreTheSame, written}
 
 -- ---- the boot
 
@@ -60,11 +62,41 @@ IsTaken file = IsSomeAnd file (λ text. IsOk (config_of text))
 abbrev pub IsStore : Option Text → Type 0
 IsStore kept = (stored : Option Switches) × AreStored kept stored
 
+-- ---- the trace
+
+-- a trace is there exactly where the words name one, and has that name, where it is told
+abbrev pub IsNamedTrace : Option Text → Option SinkState → Type 0
+IsNamedTrace None None = Unit {0}
+IsNamedTrace (Some name) (Some s) = IfSome s.name (λ told. told ≡ name)
+IsNamedTrace _ _ = ⊥
+
+-- so where anything was booted, else there is none
+abbrev pub IsTraceOf : Option Text → List Entry → Option SinkState → Type 0
+IsTraceOf name [] trace = trace ≡ None
+IsTraceOf name (boot ∷ later) trace = IsNamedTrace name trace
+
+-- ---- what the outside decides
+
+-- The configuration or a source of the words was not opened, which are read, or their trace, which is written.
+abbrev pub RunOpenCause : RunWords → ℕ → ℕ → Option (Option (Text × Opening)) → Status → Type 0
+RunOpenCause words faults faults' last (Status.OpenFault name) =
+    (Contains (words.config ∷ words.sources) name × IsUnopened name Opening.Reading faults faults' last)
+    ⊎ ((words.trace ≡ Some name) × IsUnopened name Opening.Writing faults faults' last)
+RunOpenCause words faults faults' last _ = Unit {0}
+
+-- a write to one of the sinks failed, and one took no byte; the trace's counts were 0 when it was opened
+abbrev pub WriteFailed : Before → After → Type 0
+WriteFailed b a = OneRose b.out.faults a.out.faults b.err.faults a.err.faults ⊎ IsSomeAnd a.trace (λ s. 0 < s.faults)
+
+abbrev pub WriteTookNone : Before → After → Type 0
+WriteTookNone b a = OneRose b.out.zeros a.out.zeros b.err.zeros a.err.zeros ⊎ IsSomeAnd a.trace (λ s. 0 < s.zeros)
+
 -- ---- all of it
 
 pub record Answered (words : RunWords) (b : Before) (a : After) : Type 0 where
-  -- the journal, the lines of each source, the calls, the errors and the store, by the status
-  pub stands : StandsAt (IsBooted words b) (scene words b a) (AllWritten b a) (SomeWritten b a) (NoneWritten b a) a.status
+  -- the journal, the lines of each source, the calls, the errors, the trace and the store, by the status
+  pub stands : StandsAt (IsBooted words b) (scene words b a) (written b a) a.status
+  pub traced : IsTraceOf words.trace a.journal a.trace
   pub same : AreTheSame b a
   -- A configuration is refused with the line and code of its text, and where none is taken, one of its answers comes first. A store likewise.
   pub refused : RefusedCause b.place.files words.config a.status
@@ -72,7 +104,7 @@ pub record Answered (words : RunWords) (b : Before) (a : After) : Type 0 where
   pub store_refused : StoreCause b.keep.kept a.status
   pub store_next : IfSome b.keep.kept (λ kept. (IsStore kept → ⊥) → IsTextFault words.config a.status ⊎ IsStoreFault a.status)
   -- each fault of the outside has its cause in a count that rose
-  pub unopened : OpenCause (words.config ∷ words.sources) b.place.faults a.place.faults a.place.last a.status
+  pub unopened : RunOpenCause words b.place.faults a.place.faults a.place.last a.status
   pub unread : ReadCause words.config words.sources (map (λ s. s.faults) a.sources) (map (λ s. s.name) a.sources) a.status
-  pub unwritten : WriteCause (OneRose b.out.faults a.out.faults b.err.faults a.err.faults) (OneRose b.out.zeros a.out.zeros b.err.zeros a.err.zeros) a.status
+  pub unwritten : WriteCause (WriteFailed b a) (WriteTookNone b a) a.status
   pub unkept : KeepCause b.keep.faults a.keep.faults a.status

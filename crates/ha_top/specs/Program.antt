@@ -5,7 +5,7 @@ use Rattle.ha_status.specs.declared.status.Status.{Status}
 use Rattle.ha_status.specs.Causes.{OpenCause, ReadCause, WriteCause}
 use Rattle.ha_status.specs.Files.{IsHandedBack}
 use Rattle.ha_words.specs.declared.plan.Plan.{Plan}
-use Rattle.ha_words.specs.declared.plan.Plan.TheVariants.{Run, Check}
+use Rattle.ha_words.specs.declared.plan.Plan.TheVariants.{Run, Check, Replay, Rehearse}
 use Rattle.ha_check.specs.Checked.{IsAnswerOf, IsCheckStatus, IsOutput}
 use Rattle.ha_io.specs.Counts.{Rose}
 use Rattle.ha_top.specs.Views.{After, Before}
@@ -19,7 +19,7 @@ pub record HasNoJournal (b : Before) (a : After) : Type 0 where
   pub no_trace : a.trace ≡ None
   pub no_store : a.keep.kept ≡ b.keep.kept
 
--- the words are none of the program's: nothing was asked of the place, and nothing but the status line was written
+-- the words are none that the program takes: nothing was asked of the place, and nothing but the status line was written
 pub record Unplanned (b : Before) (a : After) : Type 0 where
   pub status_is : (a.status ≡ Status.Usage) ⊎ (a.status ≡ Status.Memory)
   pub nothing : HasNoJournal b a
@@ -40,8 +40,10 @@ pub record Checked (name : Text) (b : Before) (a : After) : Type 0 where
   pub unread : ReadCause name [] (map (λ s. s.faults) a.sources) (map (λ s. s.name) a.sources) a.status
   pub unwritten : WriteCause (Rose b.out.faults a.out.faults) (Rose b.out.zeros a.out.zeros) a.status
 
--- what the program answers for, by the plan of its words
+-- what the program answers for, by the plan of its words; it takes none yet that ask for a replay or a rehearsal
 abbrev pub AnsweredBy : Option Plan → Before → After → Type 0
 AnsweredBy None b a = Unplanned b a
 AnsweredBy (Some (Run words)) b a = Answered words b a
 AnsweredBy (Some (Check name)) b a = Checked name b a
+AnsweredBy (Some (Replay name)) b a = Unplanned b a
+AnsweredBy (Some (Rehearse lines)) b a = Unplanned b a

@@ -7,7 +7,7 @@ use Rattle.ha_model.specs.Words.{Text}
 use Rattle.ha_status.specs.Files.{Files}
 use Rattle.ha_status.specs.declared.status.Status.{Status}
 use Rattle.bus_turn.specs.States.{KeeperState, SinkState}
-use Rattle.ha_worker.specs.Courses.{SourceState, source_state}
+use Rattle.ha_worker.specs.Courses.{SourceState}
 
 -- the bytes of a place's files, where they are told, how often it has failed, and the name of its last failure, where that is told
 pub record PlaceState : Type 0 where
@@ -52,7 +52,3 @@ after_run status journal records sources place out err trace keep = record {
   trace = trace;
   keep = keep;
 }
-
--- what is seen of a source, by the members of its trait
-abbrev pub source_of : {S : Type 0} → (S → ℕ) → (S → Option Text) → (S → Option Text) → S → SourceState
-source_of faults left name s = source_state (faults s) (left s) (name s)

@@ -7,7 +7,8 @@ use Rattle.bus_turn.specs.Buses.{IsWritten}
 use Rattle.bus_turn.specs.Growth.{KeeperGrows, SinkGrows}
 use Rattle.bus_turn.specs.Shown.{BusView}
 use Rattle.bus_turn.specs.States.{Outside, outside}
-use Rattle.ha_run.specs.Core.{IsPartWritten, view_of}
+use Rattle.ha_run.specs.Core.{IsEndWritten, IsPartWritten, view_of}
+use Rattle.ha_run.specs.Stands.{Writings}
 use Rattle.ha_top.specs.Views.{After, Before}
 
 -- the journal with its records, and what the sinks took and the keeper holds before the status line, of which the error sink took this
@@ -21,13 +22,20 @@ handed b = outside b.out b.err None b.keep
 abbrev pub LineBehind : Before → After → Option Text → Type 0
 LineBehind b a errors = TookLine (OneRose b.err.faults a.err.faults b.err.zeros a.err.zeros) a.status errors a.err.took
 
--- the sinks took exactly the calls and the errors of the journal, and the keeper holds the text of its switches
+-- the sinks took exactly the calls, the errors and the trace of the journal, with its end line, and the keeper holds the text of its switches
+pub record EndWritten (b : Before) (a : After) : Type 0 where
+  pub errors : Option Text
+  pub texts : IsEndWritten (seen a errors)
+  pub line : LineBehind b a errors
+
+-- they took exactly that, but for the end line of the trace
 pub record AllWritten (b : Before) (a : After) : Type 0 where
   pub errors : Option Text
   pub texts : IsWritten (seen a errors)
   pub line : LineBehind b a errors
 
--- they took that, but for a part of what the last entry gives at most; at the boot alone the keeper may hold what it held before
+-- They took that, but for a part of the end line, or for that line and a part of what the last entry gives, at most. At the boot alone the keeper
+-- may hold what it held before.
 pub record SomeWritten (b : Before) (a : After) : Type 0 where
   pub errors : Option Text
   pub texts : IsPartWritten (handed b) (seen a errors)
@@ -39,6 +47,9 @@ pub record NoneWritten (b : Before) (a : After) : Type 0 where
   pub no_trace : a.trace ≡ None
   pub no_store : a.keep.kept ≡ b.keep.kept
   pub line : LineBehind b a b.err.took
+
+abbrev pub written : Before → After → Writings
+written b a = record { Ended = EndWritten b a; Whole = AllWritten b a; Part = SomeWritten b a; Nothing = NoneWritten b a }
 
 -- the sinks and the keeper are those that were handed in: what they tell is told as before, they have their names, and no count fell
 pub record AreTheSame (b : Before) (a : After) : Type 0 where

@@ -1,26 +1,29 @@
-//! A run before its status line: the configuration, the store, the source, the boot, and then the lines.
-ghost use Rattle.std.specs.Prelude.{◌≡◌, ◌≤◌, ◌∷◌, [], None, IfSome, IsSome, IsUtf8, length, map, option_map};
+//! A run before its status line: the configuration, the store, the sources, the trace, the boot, and then the lines.
+ghost use Rattle.std.specs.Prelude.{◌≡◌, ◌<◌, ◌≤◌, ◌∷◌, [], None, IfSome, IsSome, IsUtf8, length, map, option_map};
 ghost use Rattle.ha_clock.specs.Local.{last_moment};
 ghost use Rattle.ha_clock.specs.Zone.{zone_of};
 ghost use Rattle.ha_model.specs.declared.journal.Entry.TheVariants.{Boot};
 ghost use Rattle.ha_model.specs.Sound.{IsSoundConfig};
 ghost use Rattle.bus_turn.specs.States.{keeper_of, outside_of, sink_of};
+ghost use Rattle.ha_worker.specs.Courses.{source_of};
 ghost use Rattle.ha_top.specs.Booted.{RanOrNot};
 ghost use Rattle.ha_top.specs.Lived.{Lived};
 ghost use Rattle.ha_top.specs.Unready.{GivesBack};
-ghost use Rattle.ha_top.specs.Views.{after_run, before_run, place_state, source_of};
+ghost use Rattle.ha_top.specs.Views.{after_run, before_run, place_state};
 
-use crate::boots::Boots;
 use crate::outcome::Outcome;
-use crate::prepare::{load_store, open_source};
+use crate::prepare::{Opened, load_store, open_sources, open_trace};
+use ha_boot::Boots;
 use ha_check::{Configured, read_config_at};
-use ha_io::{Keeper, Place, Source};
+use ha_io::{Gate, Keeper, Place, Source};
 use ha_model::Config;
 use ha_run::{CoreRun, run_core};
 use ha_status::{Status, Unready};
 use ha_value::{Many, Word};
 use ha_words::RunWords;
 use std::alloc::{AllocError, AllocFailed, Global};
+use std::sync::Wait;
+use std::thread::Threads;
 
 /// Nothing was booted.
 fn unbooted<P: Place, Q: Keeper>(
@@ -68,67 +71,56 @@ fn given_back<S: Source>(alloc: Global, end: Unready<S>) -> (Status, Many<S>)
     (status, sources)
 }
 
-/// Boots the core, and runs it on the source.
-fn run_booted<E: Boots, P: Place, Q: Keeper>(
+/// Boots the core, and runs it on the sources.
+fn run_booted<R: Threads + Wait + Sync, E: Boots, P: Place, Q: Keeper, G: Gate>(
+    rt: &R,
     alloc: Global,
     words: &RunWords,
     text: Word,
     config: Config,
     stored: Option<Many<(Word, bool)>>,
-    source: P::Source,
+    sources: Many<P::Source>,
     out: P::Sink,
     err: P::Sink,
+    trace: Option<P::Sink>,
     keep: Q,
+    gate: &G,
 ) -> Outcome<P, Q>
     requires config { IsSoundConfig config }
     requires in_time { words.now.start ≤ last_moment }
     requires zoned { IsSome (zone_of words.now.zone) }
     requires zone_is_text { IsUtf8 words.now.zone }
+    requires some { 0 < length sources }
+    requires few { length sources ≤ 16 }
     requires no_calls { IfSome (P.Sink.written out) (λ t. t ≡ []) }
     requires no_errors { IfSome (P.Sink.written err) (λ t. t ≡ []) }
+    requires no_trace { IfSome trace (λ sink. IfSome (P.Sink.written sink) (λ t. t ≡ [])) }
     ensures { let s = sink_of P.Sink.written P.Sink.faults P.Sink.zeros P.Sink.name in
         let q = keeper_of Q.kept Q.faults in
-        RanOrNot (Boot text config stored words.now.start words.now.zone) (outside_of s q out err None keep) (source_of P.Source.faults P.Source.left P.Source.name source)
+        RanOrNot (Boot text config stored words.now.start words.now.zone) (outside_of s q out err trace keep) (map (source_of P.Source.faults P.Source.left P.Source.name) sources)
         result.status result.journal result.records (map (source_of P.Source.faults P.Source.left P.Source.name) result.sources) (outside_of s q result.out result.err result.trace result.keep) }
 {
-    let mut sources = Vec::new(alloc);
-    if sources.push(source).is_err() {
-        return unbooted(alloc, Status::Memory, Many::make(alloc), out, err, keep);
-    }
     let Ok(zone) = Word::from_bytes(alloc, words.zone.text()) else {
-        return unbooted(
-            alloc,
-            Status::Memory,
-            Many::from_vec(sources),
-            out,
-            err,
-            keep,
-        );
+        return unbooted(alloc, Status::Memory, sources, out, err, keep);
     };
     let Ok(core) = E::boot(alloc, text, config, stored, words.start, zone) else {
-        return unbooted(
-            alloc,
-            Status::Memory,
-            Many::from_vec(sources),
-            out,
-            err,
-            keep,
-        );
+        return unbooted(alloc, Status::Memory, sources, out, err, keep);
     };
     let CoreRun {
         status,
         journal,
         records,
+        sources,
         out,
         err,
         trace,
         keep,
-    } = run_core(alloc, core, &mut sources[0], out, err, keep);
+    } = run_core(rt, alloc, core, sources, out, err, trace, keep, gate);
     Outcome {
         status,
         journal,
         records,
-        sources: Many::from_vec(sources),
+        sources,
         out,
         err,
         trace,
@@ -136,16 +128,19 @@ fn run_booted<E: Boots, P: Place, Q: Keeper>(
     }
 }
 
-/// Reads the configuration, the store and the source, boots, and runs, before the status line.
-pub(crate) fn run_files<E: Boots, P: Place, Q: Keeper>(
+/// Reads the configuration and the store, opens the sources and the trace, boots, and runs, before the status line.
+pub(crate) fn run_files<R: Threads + Wait + Sync, E: Boots, P: Place, Q: Keeper, G: Gate>(
+    rt: &R,
     alloc: Global,
     words: &RunWords,
     place: &mut P,
     out: P::Sink,
     err: P::Sink,
     keep: Q,
+    gate: &G,
 ) -> Outcome<P, Q>
-    requires one { length words.now.sources ≡ 1 }
+    requires some { 1 ≤ length words.now.sources }
+    requires few { length words.now.sources ≤ 16 }
     requires in_time { words.now.start ≤ last_moment }
     requires zoned { IsSome (zone_of words.now.zone) }
     requires zone_is_text { IsUtf8 words.now.zone }
@@ -177,9 +172,20 @@ pub(crate) fn run_files<E: Boots, P: Place, Q: Keeper>(
         Ok(stored) => stored,
         Err(status) => return unbooted(alloc, status, Many::make(alloc), out, err, keep),
     };
-    let source = match open_source(alloc, place, &words.sources.as_slice()[0]) {
-        Ok(source) => source,
-        Err(status) => return unbooted(alloc, status, Many::make(alloc), out, err, keep),
+    let Opened { sources, fault } = open_sources(
+        alloc,
+        place,
+        words.sources.as_slice(),
+        Vec::new(alloc),
+    );
+    if let Some(status) = fault {
+        return unbooted(alloc, status, sources, out, err, keep);
+    }
+    let trace = match open_trace(alloc, place, &words.trace) {
+        Ok(trace) => trace,
+        Err(status) => return unbooted(alloc, status, sources, out, err, keep),
     };
-    run_booted::<E, P, Q>(alloc, words, text, config, stored, source, out, err, keep)
+    run_booted::<R, E, P, Q, G>(
+        rt, alloc, words, text, config, stored, sources, out, err, trace, keep, gate,
+    )
 }

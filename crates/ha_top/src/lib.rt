@@ -1,15 +1,13 @@
 //! The program as a function over its words and the outside.
 #![tactic(auto)]
 
-mod boots;
-mod engine;
 mod files;
 mod outcome;
 mod prepare;
 mod program;
 mod top;
 
-pub use boots::Boots;
+pub use ha_boot::Boots;
 pub use outcome::Outcome;
 pub use program::hearth;
 pub use top::run_live;

@@ -17,7 +17,7 @@ pub struct Outcome<P: Place, Q: Keeper> {
     pub sources: Many<P::Source>,
     pub out: P::Sink,
     pub err: P::Sink,
-    /// The trace: none, as long as no words ask for one.
+    /// The sink of the trace, where the words ask for one and anything was booted.
     pub trace: Option<P::Sink>,
     pub keep: Q,
 }

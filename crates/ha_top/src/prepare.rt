@@ -1,13 +1,15 @@
-//! What a run needs before it boots: the stored switches, and its source.
-ghost use Rattle.std.specs.Prelude.{◌≡◌, ◌≤◌, ◌∷◌, [], ◌⊎◌, IfOk, IfErr, IfSome};
+//! What a run needs before it boots: the stored switches, its sources, and the sink of its trace.
+ghost use Rattle.std.specs.Prelude.{◌≡◌, ◌≤◌, ◌++◌, ◌∷◌, [], ◌⊎◌, IfOk, IfErr, IfSome, List, map, option_map};
 ghost use Rattle.ha_model.specs.Sound.{IsSoundStore};
+ghost use Rattle.ha_model.specs.Words.{Text};
 ghost use Rattle.ha_status.specs.Causes.{KeepCause, OpenCause};
-ghost use Rattle.ha_worker.specs.Courses.{source_state};
-ghost use Rattle.ha_run.specs.Opened.{IsOpened};
-ghost use Rattle.ha_top.specs.Answered.{AreStored, IsStoreFault, StoreCause};
-ghost use Rattle.ha_top.specs.Opening.{IsOpenFault, IsSwitchesFault};
+ghost use Rattle.bus_turn.specs.States.{sink_of};
+ghost use Rattle.ha_worker.specs.Courses.{source_of};
+ghost use Rattle.ha_run.specs.Opened.{AreNew, IsOpened};
+ghost use Rattle.ha_top.specs.Answered.{AreStored, IsNamedTrace, IsStoreFault, StoreCause};
+ghost use Rattle.ha_top.specs.Opening.{IsOpenFault, IsSwitchesFault, OpensAs, TraceOpenCause};
 
-use ha_io::{IoFault, Keeper, Place};
+use ha_io::{IoFault, Keeper, Place, Source};
 use ha_status::Status;
 use ha_value::{Many, Word};
 use std::alloc::Global;
@@ -50,19 +52,87 @@ pub(crate) fn load_store<Q: Keeper>(
 }
 
 /// Opens a source of the words.
-pub(crate) fn open_source<P: Place>(
-    alloc: Global,
-    place: &mut P,
-    name: &Word,
-) -> Result<P::Source, Status>
-    ensures ok { IfOk result (λ source. IsOpened (P.holds place.old) name.now (source_state (P.Source.faults source) (P.Source.left source) (P.Source.name source))) }
-    ensures fault { IfErr result (IsOpenFault name.now) }
+fn open_source<P: Place>(alloc: Global, place: &mut P, name: &Word) -> Result<P::Source, Status>
+    ensures ok { IfOk result (λ source. IsOpened (P.holds place.old) name.now (source_of P.Source.faults P.Source.left P.Source.name source)) }
+    ensures fault { IfErr result IsOpenFault }
     ensures cause { IfErr result (OpenCause (name.now ∷ []) (P.faults place.old) (P.faults place.new) (P.last place.new)) }
     ensures never_falls { P.faults place.old ≤ P.faults place.new }
     ensures same_files { P.holds place.new ≡ P.holds place.old }
 {
     match place.reading(alloc, name.as_str()) {
         Ok(source) => Ok(source),
+        Err(IoFault::Failed) => match Word::from_str(alloc, name.as_str()) {
+            Ok(name) => Err(Status::OpenFault { name }),
+            Err(_) => Err(Status::Memory),
+        },
+        Err(IoFault::Memory) => Err(Status::Memory),
+    }
+}
+
+/// The sources that were opened, and why the next one was not, where one is lacking.
+#[derive(Drop)]
+pub(crate) struct Opened<S: Source> {
+    pub(crate) sources: Many<S>,
+    pub(crate) fault: Option<Status>,
+}
+
+/// Opens the sources of these names, in order, behind those that are open, up to the first that is not opened.
+pub(crate) fn open_sources<P: Place>(
+    alloc: Global,
+    place: &mut P,
+    names: &[Word],
+    sources: Vec<P::Source>,
+) -> Opened<P::Source>
+    ensures opens { (before : List Text) → AreNew (P.holds place.old) before (map (source_of P.Source.faults P.Source.left P.Source.name) sources.items)
+        → OpensAs (P.holds place.old) (before ++ names.now) (map (source_of P.Source.faults P.Source.left P.Source.name) result.sources) result.fault }
+    ensures fault { IfSome result.fault IsOpenFault }
+    ensures cause { IfSome result.fault (OpenCause names.now (P.faults place.old) (P.faults place.new) (P.last place.new)) }
+    ensures never_falls { P.faults place.old ≤ P.faults place.new }
+    ensures same_files { P.holds place.new ≡ P.holds place.old }
+{
+    let [name, later @ ..] = names else {
+        return Opened {
+            sources: Many::from_vec(sources),
+            fault: None,
+        };
+    };
+    let source = match open_source(alloc, place, name) {
+        Ok(source) => source,
+        Err(status) => {
+            return Opened {
+                sources: Many::from_vec(sources),
+                fault: Some(status),
+            };
+        }
+    };
+    let mut sources = sources;
+    if sources.push(source).is_err() {
+        return Opened {
+            sources: Many::from_vec(sources),
+            fault: Some(Status::Memory),
+        };
+    }
+    open_sources(alloc, place, later, sources)
+}
+
+/// Opens the trace, where there is to be one.
+pub(crate) fn open_trace<P: Place>(
+    alloc: Global,
+    place: &mut P,
+    name: &Option<Word>,
+) -> Result<Option<P::Sink>, Status>
+    ensures empty { IfOk result (λ trace. IfSome trace (λ sink. IfSome (P.Sink.written sink) (λ t. t ≡ []))) }
+    ensures named { IfOk result (λ trace. IsNamedTrace name.now (option_map (sink_of P.Sink.written P.Sink.faults P.Sink.zeros P.Sink.name) trace)) }
+    ensures fault { IfErr result IsOpenFault }
+    ensures cause { IfErr result (TraceOpenCause name.now (P.faults place.old) (P.faults place.new) (P.last place.new)) }
+    ensures never_falls { P.faults place.old ≤ P.faults place.new }
+    ensures same_files { P.holds place.new ≡ P.holds place.old }
+{
+    let Some(name) = name else {
+        return Ok(None);
+    };
+    match place.writing(alloc, name.as_str()) {
+        Ok(sink) => Ok(Some(sink)),
         Err(IoFault::Failed) => match Word::from_str(alloc, name.as_str()) {
             Ok(name) => Err(Status::OpenFault { name }),
             Err(_) => Err(Status::Memory),

@@ -1,21 +1,24 @@
 //! The program: what its words ask for.
 ghost use Rattle.std.specs.Prelude.{◌≡◌, ◌<◌, ◌⊎◌, [], IfSome, None, map, option_map, option_to_list, string_bytes, vec_capacity, vec_len};
 ghost use Rattle.bus_turn.specs.States.{keeper_of, sink_of};
+ghost use Rattle.ha_worker.specs.Courses.{source_of};
 ghost use Rattle.ha_status.specs.Causes.{NeverFall, OneRose};
 ghost use Rattle.ha_status.specs.Written.{TookLine};
 ghost use Rattle.ha_words.specs.PlanOf.{plan_of};
 ghost use Rattle.ha_top.specs.Program.{AnsweredBy, Checked};
-ghost use Rattle.ha_top.specs.Views.{after_run, before_run, place_state, source_of};
+ghost use Rattle.ha_top.specs.Views.{after_run, before_run, place_state};
 
-use crate::boots::Boots;
 use crate::outcome::Outcome;
 use crate::top::run_live;
+use ha_boot::Boots;
 use ha_check::check_call;
 use ha_io::{Gate, Keeper, Place, Source};
 use ha_status::{Status, told};
 use ha_value::{Many, Word};
 use ha_words::{Plan, WordsFault, read_words};
 use std::alloc::Global;
+use std::sync::Wait;
+use std::thread::Threads;
 
 /// Ends with this status, and nothing else.
 fn ended<P: Place, Q: Keeper>(
@@ -93,8 +96,9 @@ fn check<P: Place, Q: Keeper>(
     }
 }
 
-/// The program: what its words ask for, on the outside that it is handed.
-pub fn hearth<R, E: Boots, P: Place, Q: Keeper, G: Gate>(
+/// The program: what its words ask for, on the outside that it is handed. It takes no words yet that ask for a replay or a rehearsal. A run may
+/// wait for a worker's turn.
+pub fn hearth<R: Threads + Wait + Sync, E: Boots, P: Place, Q: Keeper, G: Gate>(
     rt: &R,
     alloc: Global,
     words: &[String],
@@ -118,6 +122,8 @@ pub fn hearth<R, E: Boots, P: Place, Q: Keeper, G: Gate>(
             rt, alloc, &words, place, out, err, keep, gate,
         ),
         Ok(Plan::Check(name)) => check(alloc, &name, place, out, err, keep),
+        Ok(Plan::Replay(_)) => ended(alloc, Status::Usage, out, err, keep),
+        Ok(Plan::Rehearse(_)) => ended(alloc, Status::Usage, out, err, keep),
         Err(WordsFault::Usage) => ended(alloc, Status::Usage, out, err, keep),
         Err(WordsFault::Memory) => ended(alloc, Status::Memory, out, err, keep),
     }

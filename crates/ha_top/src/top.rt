@@ -3,30 +3,35 @@ ghost use Rattle.std.specs.Prelude.{◌≡◌, ◌≤◌, ◌∷◌, [], IfSome,
 ghost use Rattle.ha_clock.specs.Local.{last_moment};
 ghost use Rattle.ha_clock.specs.Zone.{zone_of};
 ghost use Rattle.bus_turn.specs.States.{keeper_of, sink_of};
+ghost use Rattle.ha_worker.specs.Courses.{source_of};
 ghost use Rattle.ha_top.specs.Answered.{Answered};
-ghost use Rattle.ha_top.specs.Views.{after_run, before_run, place_state, source_of};
+ghost use Rattle.ha_top.specs.Views.{after_run, before_run, place_state};
 
-use crate::boots::Boots;
 use crate::files::run_files;
 use crate::outcome::Outcome;
+use ha_boot::Boots;
 use ha_io::{Gate, Keeper, Place};
 use ha_status::told;
 use ha_words::RunWords;
 use std::alloc::Global;
+use std::sync::Wait;
+use std::thread::Threads;
 
-/// Runs the words: reads the configuration, the store and the source, boots, puts each line of the source as it comes, with the steps that it
-/// begins, and writes the service calls to `out`, the errors and the status line to `err`, and the switches to `keep`.
-pub fn run_live<R, E: Boots, P: Place, Q: Keeper, G: Gate>(
-    _rt: &R,
+/// Runs the words: reads the configuration and the store, opens the sources and the trace, boots, puts each line of the sources as it comes, with
+/// the steps that it begins, and writes the service calls to `out`, the errors and the status line to `err`, the journal to the trace, and the
+/// switches to `keep`. Each source has a worker, in a thread of its own where one can be made. It may wait for a worker's turn.
+pub fn run_live<R: Threads + Wait + Sync, E: Boots, P: Place, Q: Keeper, G: Gate>(
+    rt: &R,
     alloc: Global,
     words: &RunWords,
     place: &mut P,
     out: P::Sink,
     err: P::Sink,
     keep: Q,
-    _gate: &G,
+    gate: &G,
 ) -> Outcome<P, Q>
-    requires one { length words.now.sources ≡ 1 }
+    requires some { 1 ≤ length words.now.sources }
+    requires few { length words.now.sources ≤ 16 }
     requires in_time { words.now.start ≤ last_moment }
     requires zoned { IsSome (zone_of words.now.zone) }
     requires zone_is_text { IsUtf8 words.now.zone }
@@ -48,7 +53,7 @@ pub fn run_live<R, E: Boots, P: Place, Q: Keeper, G: Gate>(
         mut err,
         trace,
         keep,
-    } = run_files::<E, P, Q>(alloc, words, place, out, err, keep);
+    } = run_files::<R, E, P, Q, G>(rt, alloc, words, place, out, err, keep, gate);
     let status = told(alloc, &mut err, status);
     Outcome {
         status,

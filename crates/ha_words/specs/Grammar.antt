@@ -31,14 +31,14 @@ bare_shape s = record s {
 abbrev pub bare_app : Text → App
 bare_app name = on_top bare_shape (new_app name)
 
--- `run --config F --start MOMENT [--zone Z] SOURCE..`
+-- `run --config F --start MOMENT [--zone Z] [--trace F] SOURCE..`
 unfoldable pub run_app : App
 run_app =
-    with_rule (with_rule (with_rule (with_rule (bare_app (codes "run"))
+    with_rule (with_rule (with_rule (with_rule (with_rule (bare_app (codes "run"))
     (option_rule (codes "config") true)) (option_rule (codes "start") true))
-    (option_rule (codes "zone") false)) (words_rule (codes "source"))
+    (option_rule (codes "zone") false)) (option_rule (codes "trace") false)) (words_rule (codes "source"))
 
--- `check F`
+-- `check F`, `replay F`, `rehearse N`
 unfoldable pub one_word_app : Text → App
 one_word_app name = with_rule (bare_app name) (word_rule (codes "word"))
 

@@ -1,3 +1,4 @@
+pub mod Counts
 pub mod Grammar
 pub mod Texts
 pub mod PlanOf

@@ -8,7 +8,8 @@ use Rattle.ha_clock.specs.Zone.{zone_of}
 use Rattle.ha_words.specs.declared.texts.RunTexts.{RunTexts}
 use Rattle.ha_words.specs.declared.plan.RunWords.{RunWords}
 use Rattle.ha_words.specs.declared.plan.Plan.{Plan}
-use Rattle.ha_words.specs.declared.plan.Plan.TheVariants.{Run, Check}
+use Rattle.ha_words.specs.declared.plan.Plan.TheVariants.{Run, Check, Replay, Rehearse}
+use Rattle.ha_words.specs.Counts.{count_of, most_lines}
 use Rattle.ha_words.specs.Grammar.{one_word_app, takes_words}
 use Rattle.ha_words.specs.Texts.{HasFew, is_value, texts_of}
 
@@ -19,7 +20,7 @@ zone_text t = unwrap_or t.zone (codes "UTC")
 -- the start is a moment, and the zone is one
 abbrev pub run_at : RunTexts → ℕ → Option RunWords
 run_at t start =
-    if is_some (zone_of (zone_text t)) then Some (record { config = t.config; start = start; zone = zone_text t; sources = t.sources }) else None
+    if is_some (zone_of (zone_text t)) then Some (record { config = t.config; start = start; zone = zone_text t; trace = t.trace; sources = t.sources }) else None
 
 abbrev pub run_read : RunTexts → Option RunWords
 run_read t = option_and_then (run_at t) (moment_of t.start)
@@ -35,12 +36,18 @@ unfoldable pub one_word : Text → List Text → Option Text
 one_word name words = if takes_words (one_word_app name) words
     then value_or_none (first_of (codes "word") (matches_of (one_word_app name) words)) else None
 
+-- the one word of a command, which is a number of lines
+abbrev pub one_count : Text → List Text → Option ℕ
+one_count name words = option_and_then count_of (one_word name words)
+
 -- the words after the command of this name
 abbrev pub plan_by : Text → List Text → Option Plan
 plan_by name words =
     if bytes_eq name (codes "run") then option_map (λ w. Run w) (run_of words)
     else (if bytes_eq name (codes "check") then option_map (λ w. Check w) (one_word (codes "check") words)
-    else None)
+    else (if bytes_eq name (codes "replay") then option_map (λ w. Replay w) (one_word (codes "replay") words)
+    else (if bytes_eq name (codes "rehearse") then option_map (λ n. Rehearse n) (one_count (codes "rehearse") words)
+    else None)))
 
 -- the first word names the command
 unfoldable pub plan_of : List Text → Option Plan
@@ -58,3 +65,5 @@ pub record IsRunnable (words : RunWords) : Type 0 where
 abbrev pub IsSound : Plan → Type 0
 IsSound (Run words) = IsRunnable words
 IsSound (Check name) = Unit {0}
+IsSound (Replay name) = Unit {0}
+IsSound (Rehearse lines) = lines ≤ most_lines

@@ -12,6 +12,7 @@ run_texts rows = record {
   config = unwrap_or (first_of (codes "config") rows) [];
   start = unwrap_or (first_of (codes "start") rows) [];
   zone = first_of (codes "zone") rows;
+  trace = first_of (codes "trace") rows;
   sources = unwrap_or (all_of (codes "source") rows) [];
 }
 
@@ -21,11 +22,12 @@ is_value [] = true
 is_value (b ∷ rest) = not (b == 45)
 
 abbrev pub are_values : RunTexts → Bool
-are_values t = is_value t.config && (is_value t.start && (option_map_or is_value t.zone true && list_all is_value t.sources))
+are_values t = is_value t.config && (is_value t.start && (option_map_or is_value t.zone true
+    && (option_map_or is_value t.trace true && list_all is_value t.sources)))
 
 -- how many sources `run` takes
 abbrev pub most_sources : ℕ
-most_sources = 1
+most_sources = 16
 
 abbrev pub has_few_sources : RunTexts → Bool
 has_few_sources t = nat_le 1 (length t.sources) && nat_le (length t.sources) most_sources

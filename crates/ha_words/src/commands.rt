@@ -31,6 +31,9 @@ fn run_command<'a>(alloc: Global) -> Result<Command<'a>, AllocError>
         .action(ArgAction::Set)
         .required(true);
     let zone = Arg::new(alloc, "zone").long("zone").action(ArgAction::Set);
+    let trace = Arg::new(alloc, "trace")
+        .long("trace")
+        .action(ArgAction::Set);
     let source = Arg::new(alloc, "source")
         .action(ArgAction::Append)
         .required(true);
@@ -38,7 +41,11 @@ fn run_command<'a>(alloc: Global) -> Result<Command<'a>, AllocError>
         .no_binary_name(true)
         .disable_help_flag(true)
         .disable_version_flag(true);
-    run.arg(config)?.arg(start)?.arg(zone)?.arg(source)
+    run.arg(config)?
+        .arg(start)?
+        .arg(zone)?
+        .arg(trace)?
+        .arg(source)
 }
 
 /// A command of one word.

@@ -2,6 +2,7 @@
 #![tactic(auto)]
 
 mod commands;
+mod counts;
 mod plan;
 mod read;
 mod texts;

@@ -21,7 +21,9 @@ pub struct RunWords {
     pub start: Moment,
     /// The zone of local times, which is `UTC` where the words name none.
     pub zone: Zone,
-    /// The names of the sources of lines: exactly one, as long as `run` takes one source.
+    /// The name of the file of the trace, where one is to be written.
+    pub trace: Option<Word>,
+    /// The names of the sources of lines: 1 to 16.
     pub sources: Many<Word>,
 }
 
@@ -31,4 +33,8 @@ pub enum Plan {
     Run(RunWords),
     /// Checks the configuration of this file's name.
     Check(Word),
+    /// Takes the trace of this file's name again.
+    Replay(Word),
+    /// Rehearses so many generated lines, at most 100,000.
+    Rehearse(u32),
 }

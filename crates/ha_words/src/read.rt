@@ -2,9 +2,11 @@
 ghost use Rattle.std.specs.Prelude.{◌≡◌, ◌≤◌, IfErr, IfOk, IsSome, IsUtf8, None, Some, codes, map, string_bytes, unwrap_or};
 ghost use Rattle.ha_clock.specs.Zone.{zone_of};
 ghost use Rattle.ha_words.specs.Texts.{HasFew, texts_of};
-ghost use Rattle.ha_words.specs.PlanOf.{IsRunnable, IsSound, one_word, plan_by, plan_of, run_of, run_read};
+ghost use Rattle.ha_words.specs.Counts.{most_lines};
+ghost use Rattle.ha_words.specs.PlanOf.{IsRunnable, IsSound, one_count, one_word, plan_by, plan_of, run_of, run_read};
 
 use crate::commands::{run_matches, word_matches};
+use crate::counts::count_of;
 use crate::plan::{Plan, RunWords, WordsFault};
 use crate::texts::{RunTexts, run_texts, text_of};
 use crate::values::{checked, is_value};
@@ -63,12 +65,14 @@ fn read_parts(alloc: Global, texts: RunTexts) -> Result<RunWords, WordsFault>
         config,
         start: _,
         zone: _,
+        trace,
         sources,
     } = texts;
     Ok(RunWords {
         config,
         start,
         zone,
+        trace,
         sources,
     })
 }
@@ -107,6 +111,22 @@ fn read_word(alloc: Global, name: &str, words: &[String]) -> Result<Word, WordsF
     }
 }
 
+/// The number of lines of a command that takes one.
+fn read_count(alloc: Global, name: &str, words: &[String]) -> Result<u32, WordsFault>
+    ensures count { IfOk result (λ n. one_count name.now (map string_bytes words.now) ≡ Some n) }
+    ensures usage { IfErr result (λ e. e ≡ WordsFault.Usage → one_count name.now (map string_bytes words.now) ≡ None) }
+    ensures most { IfOk result (λ n. n ≤ most_lines) }
+{
+    let word = match read_word(alloc, name, words) {
+        Ok(word) => word,
+        Err(fault) => return Err(fault),
+    };
+    match count_of(word.as_str()) {
+        Some(count) => Ok(count),
+        None => Err(WordsFault::Usage),
+    }
+}
+
 /// The plan of the words after the command's name.
 fn plan_by(alloc: Global, name: &str, words: &[String]) -> Result<Plan, WordsFault>
     ensures plan { IfOk result (λ p. plan_by name.now (map string_bytes words.now) ≡ Some p) }
@@ -125,11 +145,24 @@ fn plan_by(alloc: Global, name: &str, words: &[String]) -> Result<Plan, WordsFau
             Err(fault) => Err(fault),
         };
     }
+    if name == "replay" {
+        return match read_word(alloc, "replay", words) {
+            Ok(name) => Ok(Plan::Replay(name)),
+            Err(fault) => Err(fault),
+        };
+    }
+    if name == "rehearse" {
+        return match read_count(alloc, "rehearse", words) {
+            Ok(lines) => Ok(Plan::Rehearse(lines)),
+            Err(fault) => Err(fault),
+        };
+    }
     Err(WordsFault::Usage)
 }
 
-/// Reads the words of the program, of which the first names the command: `run --config F --start MOMENT [--zone Z] SOURCE`, with the
-/// options in any place, or `check F`. No value begins with a hyphen, and each option stands once. Every other list of words is refused.
+/// Reads the words of the program, of which the first names the command: `run --config F --start MOMENT [--zone Z] [--trace F] SOURCE..`
+/// with 1 to 16 sources and the options in any place, `check F`, `replay F`, or `rehearse N` with N from 0 to 100,000 in digits. No value
+/// begins with a hyphen, and each option stands once. Every other list of words is refused.
 pub fn read_words(alloc: Global, words: &[String]) -> Result<Plan, WordsFault>
     ensures plan { IfOk result (λ p. plan_of (map string_bytes words.now) ≡ Some p) }
     ensures usage { IfErr result (λ e. e ≡ WordsFault.Usage → plan_of (map string_bytes words.now) ≡ None) }

@@ -13,6 +13,7 @@ pub(crate) struct RunTexts {
     pub(crate) config: Word,
     pub(crate) start: Word,
     pub(crate) zone: Option<Word>,
+    pub(crate) trace: Option<Word>,
     pub(crate) sources: Many<Word>,
 }
 
@@ -68,11 +69,13 @@ pub(crate) fn run_texts(alloc: Global, matches: &ArgMatches<'_>) -> Result<RunTe
     let config = copied_or_empty(alloc, text_of(matches, "config"))?;
     let start = copied_or_empty(alloc, text_of(matches, "start"))?;
     let zone = copied_or_none(alloc, text_of(matches, "zone"))?;
+    let trace = copied_or_none(alloc, text_of(matches, "trace"))?;
     let sources = sources_of(alloc, matches)?;
     Ok(RunTexts {
         config,
         start,
         zone,
+        trace,
         sources,
     })
 }

@@ -9,7 +9,7 @@ use crate::texts::RunTexts;
 use ha_value::Word;
 
 /// How many sources `run` takes.
-const MOST_SOURCES: usize = 1;
+const MOST_SOURCES: usize = 16;
 
 /// Whether the text may be a value: it begins with no hyphen.
 pub(crate) fn is_value(text: &str) -> bool
@@ -42,7 +42,8 @@ fn are_values(texts: &RunTexts) -> bool
 {
     is_value(texts.config.as_str())
         && (is_value(texts.start.as_str())
-            && (is_value_or_none(&texts.zone) && are_all_values(texts.sources.as_slice())))
+            && (is_value_or_none(&texts.zone)
+                && (is_value_or_none(&texts.trace) && are_all_values(texts.sources.as_slice()))))
 }
 
 /// Whether there are as many sources as `run` takes.

@@ -1,8 +1,9 @@
-pub mod EntryLemmas
-pub mod KeptLemmas
-pub mod PutLemmas
+pub mod ListLemmas
+pub mod GiveLemmas
+pub mod TurnLemmas
 pub mod LineLemmas
 pub mod CmdLemmas
 pub mod CourseLemmas
 pub mod FeedLemmas
 pub mod WorkLemmas
+pub mod CloseLemmas

@@ -17,6 +17,10 @@ pub record SourceState : Type 0 where
 abbrev pub source_state : ℕ → Option Text → Option Text → SourceState
 source_state faults left name = record { faults = faults; left = left; name = name }
 
+-- what is seen of a source, by the members of its trait
+abbrev pub source_of : {S : Type 0} → (S → ℕ) → (S → Option Text) → (S → Option Text) → S → SourceState
+source_of faults left name s = source_state (faults s) (left s) (name s)
+
 -- a source gives at most this many bytes
 unfoldable pub most_bytes : ℕ
 most_bytes = 67_108_864

@@ -1,6 +1,7 @@
 pub mod Courses
-pub mod Kept
+pub mod Views
+pub mod Puts
 pub mod Worked
 pub mod Taken
-pub mod Halts
 pub mod Ends
+pub mod Closing

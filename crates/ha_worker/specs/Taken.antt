@@ -7,9 +7,9 @@ use Rattle.ha_model.specs.declared.journal.Cmd.{Cmd}
 use Rattle.ha_model.specs.Words.{Text}
 use Rattle.ha_text.specs.Lines.{lines_of, whole_lines}
 use Rattle.flow_line.specs.Command.{cmd_of}
-use Rattle.bus_turn.specs.Shown.{BusView}
+use Rattle.bus_pass.specs.declared.hand.Hand.{Hand}
 use Rattle.ha_worker.specs.Courses.{Course, HasGiven, SourceState}
-use Rattle.ha_worker.specs.Kept.{PutAll, PutSome}
+use Rattle.ha_worker.specs.Puts.{PutAll, PutSome}
 use Rattle.ha_worker.specs.declared.ending.Ending.{Ending}
 
 -- these lines were taken, whatever follows
@@ -17,11 +17,11 @@ abbrev pub Took : Text → List Text → Text → Type 0
 Took old lines new = (more : Text) → lines_of (old ++ more) ≡ lines ++ lines_of (new ++ more)
 
 -- all whole lines were taken, and put
-pub record TookAll (old new : Text) (before after : BusView) : Type 0 where
+pub record TookAll (k : ℕ) (old new : Text) (before after : Hand) : Type 0 where
   pub lines : List Text
   pub took : Took old lines new
   pub none : whole_lines new ≡ []
-  pub put : PutAll (map cmd_of lines) before after
+  pub put : PutAll k (map cmd_of lines) before after
 
 abbrev pub course_of : Ending → Course
 course_of Ending.Ends = Course.Ends
@@ -29,19 +29,19 @@ course_of Ending.Fails = Course.Fails
 course_of Ending.Exceeds = Course.Exceeds
 
 -- the source was read so far, and its whole lines were put; the cut holds a begun line alone
-pub record Fed (course : Course) (old new : BusView) (cut : Text) (before after : SourceState) : Type 0 where
+pub record Fed (k : ℕ) (course : Course) (old new : Hand) (cut : Text) (before after : SourceState) : Type 0 where
   pub bytes : Text
   pub lines : List Text
   pub given : HasGiven course bytes before after
   pub took : Took bytes lines cut
   pub none : whole_lines cut ≡ []
-  pub put : PutAll (map cmd_of lines) old new
+  pub put : PutAll k (map cmd_of lines) old new
 
 -- it was read so far, and some of its whole lines were put
-pub record FedSome (old new : BusView) (before after : SourceState) : Type 0 where
+pub record FedSome (k : ℕ) (old new : Hand) (before after : SourceState) : Type 0 where
   pub bytes : Text
   pub given : HasGiven Course.Goes bytes before after
-  pub some : PutSome (map cmd_of (whole_lines bytes)) old new
+  pub some : PutSome k (map cmd_of (whole_lines bytes)) old new
 
 -- what is put behind the whole lines, where a begun line is held
 abbrev pub rest_by : Course → Text → List Cmd

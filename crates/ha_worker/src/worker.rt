@@ -1,24 +1,31 @@
-//! The work of the one source's worker.
-ghost use Rattle.std.specs.Prelude.{◌≡◌, ◌<◌, ◌≤◌, ◌∷◌, [], None, length, IfOk, IfErr, OnOk, OnErr};
-ghost use Rattle.ha_model.specs.declared.journal.Entry.{Entry};
-ghost use Rattle.ha_text.specs.Lines.{whole_lines};
-ghost use Rattle.ha_worker.specs.Courses.{most_bytes, source_state};
-ghost use Rattle.ha_worker.specs.Ends.{ended_by, halted_by};
-ghost use Rattle.ha_worker.specs.Halts.{HaltsBy};
-ghost use Rattle.ha_worker.specs.Kept.{PutAll, PutSome, Takes};
-ghost use Rattle.ha_worker.specs.Taken.{AtBound, Fed, FedSome, course_of, rest_by};
+//! A worker and its work.
+ghost use Rattle.std.specs.Prelude.{◌≡◌, ◌<◌, ◌≤◌, ◌∷◌, [], false, None, length, map, IfOk, IfErr, OnOk, OnErr};
+ghost use Rattle.crossbeam_channel.specs.Claims.{view};
+ghost use Rattle.ha_model.specs.Commands.{IsFair, put_as};
+ghost use Rattle.ha_model.specs.Entries.{shuts_source};
+ghost use Rattle.ha_model.specs.Journal.{Journal};
+ghost use Rattle.ha_text.specs.Lines.{lines_of, whole_lines};
+ghost use Rattle.flow_line.specs.Command.{cmd_of};
+ghost use Rattle.bus_pass.specs.Turns.{IsPassOf};
+ghost use Rattle.ha_worker.specs.Courses.{most_bytes, source_of};
+ghost use Rattle.ha_worker.specs.Ends.{ended_by, Halts, Notes};
+ghost use Rattle.ha_worker.specs.Views.{IsFresh, Sits, Takes};
+ghost use Rattle.ha_worker.specs.Puts.{NoLine, PutAll, PutSome};
+ghost use Rattle.ha_worker.specs.Taken.{AtBound, Fed, FedSome, TookAll, course_of, rest_by};
 ghost use Rattle.ha_worker.specs.Worked.{Worked};
 
 use crate::end::WorkerEnd;
 use crate::ending::Ending;
-use crate::lines::{Halt, put_cmd, put_last, put_lines};
+use crate::halt::Halt;
 use crate::pieces::{NoPiece, has_more, pull};
-use crate::steps::close;
-use bus_turn::Bus;
-use ha_io::{Keeper, Sink, Source};
+use crate::turns::{put_held, settle, unread};
+use bus_pass::{Pass, Turn};
+use flow_line::read_cmd;
+use ha_io::{Gate, Keeper, Sink, Source};
 use ha_model::{Cmd, Core};
 use ha_text::LineCut;
 use std::alloc::Global;
+use std::sync::Wait;
 
 /// The bytes that one read asks for at most.
 const PIECE: usize = 65_536;
@@ -33,7 +40,7 @@ fn most_bytes() -> usize
 
 /// How the reading of a source ended that has given as many bytes as it may.
 fn read_past<S: Source>(source: &mut S) -> Ending
-    ensures bound { AtBound (course_of result) (source_state (S.faults source.old) (S.left source.old) (S.name source.old)) (source_state (S.faults source.new) (S.left source.new) (S.name source.new)) }
+    ensures bound { let s = source_of S.faults S.left S.name in AtBound (course_of result) (s source.old) (s source.new) }
     ensures never_falls { S.faults source.old ≤ S.faults source.new }
     ensures same_name { S.name source.new ≡ S.name source.old }
 {
@@ -41,76 +48,6 @@ fn read_past<S: Source>(source: &mut S) -> Ending
         Ok(true) => Ending::Exceeds,
         Ok(false) => Ending::Ends,
         Err(_) => Ending::Fails,
-    }
-}
-
-/// Reads the source piece by piece, and puts each whole line, with the steps that it begins, before the next piece is asked for. Gives how
-/// the reading ended, and the number of the next line.
-fn feed<C: Core, K: Sink, Q: Keeper, S: Source>(
-    alloc: Global,
-    bus: &mut Bus<C, K, Q>,
-    source: &mut S,
-    buffer: &mut [u8],
-    cut: &mut LineCut,
-) -> Result<(Ending, u64), Halt>
-    requires takes { Takes 0 bus.old }
-    requires fresh { cut.old ≡ [] }
-    requires buffer { 0 < length buffer.old }
-    ensures ok { IfOk result (λ r. Fed (course_of r.0) bus.old bus.new cut.new (source_state (S.faults source.old) (S.left source.old) (S.name source.old)) (source_state (S.faults source.new) (S.left source.new) (S.name source.new))) }
-    ensures takes { IfOk result (λ r. Takes r.1 bus.new) }
-    ensures some { OnErr result (FedSome bus.old bus.new (source_state (S.faults source.old) (S.left source.old) (S.name source.old)) (source_state (S.faults source.new) (S.left source.new) (S.name source.new))) }
-    ensures halt { IfErr result (λ halt. HaltsBy halt bus.new.first) }
-{
-    let mut room = most_bytes();
-    let mut number = 0;
-    'pieces: while room > 0 {
-        match pull(source, buffer, room, cut) {
-            Ok(count) => {
-                if count == 0 {
-                    return Ok((Ending::Ends, number));
-                }
-                room -= count;
-            }
-            Err(NoPiece::Failed) => return Ok((Ending::Fails, number)),
-            Err(NoPiece::Memory) => return Err(Halt::Memory),
-        }
-        match put_lines(alloc, bus, cut, number) {
-            Ok(next) => number = next,
-            Err(halt) => return Err(halt),
-        }
-    }
-    Ok((read_past(source), number))
-}
-
-/// Puts what stands behind the whole lines: the last line, or that the source was lost or is too long.
-fn finish<C: Core, K: Sink, Q: Keeper>(
-    alloc: Global,
-    bus: &mut Bus<C, K, Q>,
-    cut: &mut LineCut,
-    ending: Ending,
-    number: u64,
-) -> Result<(), Halt>
-    requires takes { Takes number bus.old }
-    requires none { whole_lines cut.old ≡ [] }
-    ensures ok { OnOk result (PutAll (rest_by (course_of ending) cut.old) bus.old bus.new) }
-    ensures free { OnOk result (bus.new.first ≡ None) }
-    ensures some { OnErr result (PutSome (rest_by (course_of ending) cut.old) bus.old bus.new) }
-    ensures halt { IfErr result (λ halt. HaltsBy halt bus.new.first) }
-{
-    match ending {
-        Ending::Ends => put_last(alloc, bus, cut, number),
-        Ending::Fails => put_cmd(alloc, bus, number, Cmd::Lost),
-        Ending::Exceeds => put_cmd(alloc, bus, number, Cmd::TooLong),
-    }
-}
-
-/// How a worker ends that was halted.
-fn halted(halt: Halt) -> WorkerEnd
-    ensures { result ≡ halted_by halt }
-{
-    match halt {
-        Halt::Stopped => WorkerEnd::Stopped,
-        Halt::Memory => WorkerEnd::Memory,
     }
 }
 
@@ -125,34 +62,311 @@ fn ended(ending: Ending) -> WorkerEnd
     }
 }
 
-/// The work of the one worker, on a bus whose journal is the boot alone: it reads its source in pieces, puts each line with the steps that
-/// it begins before the next piece is asked for, and then the closing steps. A failed read puts Lost, more than 67,108,864 bytes put
-/// TooLong; a begun line is then dropped. A first fault of the bus, and want of memory, end it.
-pub fn work<C: Core, K: Sink, Q: Keeper, S: Source>(
-    alloc: Global,
-    bus: &mut Bus<C, K, Q>,
-    source: &mut S,
-) -> WorkerEnd
-    requires free { bus.old.first ≡ None }
-    requires boot { (boot : Entry) × (bus.old.journal ≡ boot ∷ []) }
-    ensures { Worked result bus.old bus.new (source_state (S.faults source.old) (S.left source.old) (S.name source.old)) (source_state (S.faults source.new) (S.left source.new) (S.name source.new)) }
-{
-    let _ = bus.first();
-    let mut cut = LineCut::make(alloc);
-    let Ok(mut buffer) = Vec::from_elem(alloc, 0u8, PIECE) else {
-        return WorkerEnd::Memory;
-    };
-    let (ending, number) = match feed(alloc, bus, source, buffer.as_mut_slice(), &mut cut) {
-        Ok(fed) => fed,
-        Err(halt) => return halted(halt),
-    };
-    match finish(alloc, bus, &mut cut, ending, number) {
-        Ok(()) => {}
-        Err(halt) => return halted(halt),
+/// The worker of a source.
+#[derive(Drop)]
+pub struct Worker<S: Source, C: Core + Drop, K: Sink, Q: Keeper> {
+    /// The source that it reads.
+    pub source: S,
+    /// The number of its source, from 0 to 15.
+    pub id: u32,
+    /// The number of its next line.
+    pub next: u64,
+    /// What it knows of the turn.
+    pub pass: Pass<C, K, Q>,
+    /// How it ended.
+    pub end: Option<WorkerEnd>,
+}
+
+impl<S: Source, C: Core + Drop, K: Sink, Q: Keeper> Worker<S, C, K, Q> {
+    /// Reads its source to its end and puts each line, in order: a read is made while others may hold the bus, and the gate is called
+    /// before each line. In each turn it puts one step, where its source is not rested, else the line; what a line began is stepped before
+    /// the next piece of the source is asked for. A failed read puts Lost, more than 67,108,864 bytes put TooLong; a begun line is then
+    /// dropped. A first fault of the bus ends it, and so does want of memory, of which it tells the bus.
+    pub fn work<W: Wait, G: Gate>(
+        &mut self,
+        rt: &W,
+        alloc: Global,
+        turn: &Turn<C, K, Q>,
+        gate: &G,
+    ) -> WorkerEnd
+        requires turn { IsPassOf turn.now self.old.pass }
+        requires fresh { IsFresh self.old.id (view self.old.pass) }
+        requires known { self.old.id < 16 }
+        requires begins { (self.old.next ≡ 0) × (self.old.end ≡ None) }
+        ensures turn { IsPassOf turn.now self.new.pass }
+        ensures same { (self.new.id ≡ self.old.id) × (self.new.end ≡ self.old.end) }
+        ensures sits { Sits self.new.next self.old.id (view self.new.pass) }
+        ensures worked { let s = source_of S.faults S.left S.name in
+            Worked self.old.id result (view self.new.pass) (s self.old.source) (s self.new.source) }
+    {
+        let mut cut = LineCut::make(alloc);
+        let Ok(mut buffer) = Vec::from_elem(alloc, 0u8, PIECE) else {
+            return self.halted(rt, turn, Halt::Memory);
+        };
+        let ending = match self.feed(rt, alloc, turn, gate, buffer.as_mut_slice(), &mut cut) {
+            Ok(ending) => ending,
+            Err(halt) => return self.halted(rt, turn, halt),
+        };
+        match self.finish(rt, alloc, turn, gate, &mut cut, ending) {
+            Ok(_) => ended(ending),
+            Err(halt) => self.halted(rt, turn, halt),
+        }
     }
-    close(alloc, bus);
-    if bus.first().is_some() {
-        return WorkerEnd::Stopped;
+
+    /// Reads the source piece by piece, and puts each whole line, with the steps that it begins, before the next piece is asked for.
+    fn feed<W: Wait, G: Gate>(
+        &mut self,
+        rt: &W,
+        alloc: Global,
+        turn: &Turn<C, K, Q>,
+        gate: &G,
+        buffer: &mut [u8],
+        cut: &mut LineCut,
+    ) -> Result<Ending, Halt>
+        requires turn { IsPassOf turn.now self.old.pass }
+        requires known { self.old.id < 16 }
+        requires takes { Takes self.old.next self.old.id (view self.old.pass) }
+        requires fresh { cut.old ≡ [] }
+        requires buffer { 0 < length buffer.old }
+        ensures turn { IsPassOf turn.now self.new.pass }
+        ensures same { (self.new.id ≡ self.old.id) × (self.new.end ≡ self.old.end) }
+        ensures sits { Sits self.new.next self.old.id (view self.new.pass) }
+        ensures ok { let s = source_of S.faults S.left S.name in
+            IfOk result (λ ending. Fed self.old.id (course_of ending) (view self.old.pass) (view self.new.pass) cut.new (s self.old.source) (s self.new.source)) }
+        ensures takes { OnOk result (Takes self.new.next self.old.id (view self.new.pass)) }
+        ensures some { let s = source_of S.faults S.left S.name in
+            OnErr result (FedSome self.old.id (view self.old.pass) (view self.new.pass) (s self.old.source) (s self.new.source)) }
+        ensures halt { IfErr result (λ halt. Halts halt (view self.new.pass).noted) }
+    {
+        let mut room = most_bytes();
+        'pieces: while room > 0 {
+            match pull(&mut self.source, buffer, room, cut) {
+                Ok(count) => {
+                    if count == 0 {
+                        return Ok(Ending::Ends);
+                    }
+                    room -= count;
+                }
+                Err(NoPiece::Failed) => return Ok(Ending::Fails),
+                Err(NoPiece::Memory) => return Err(Halt::Memory),
+            }
+            match self.put_piece(rt, alloc, turn, gate, cut) {
+                Ok(()) => {}
+                Err(halt) => return Err(halt),
+            }
+        }
+        Ok(read_past(&mut self.source))
     }
-    ended(ending)
+
+    /// Puts each whole line that is held, and then the steps that the last one began.
+    fn put_piece<W: Wait, G: Gate>(
+        &mut self,
+        rt: &W,
+        alloc: Global,
+        turn: &Turn<C, K, Q>,
+        gate: &G,
+        cut: &mut LineCut,
+    ) -> Result<(), Halt>
+        requires turn { IsPassOf turn.now self.old.pass }
+        requires known { self.old.id < 16 }
+        requires takes { Takes self.old.next self.old.id (view self.old.pass) }
+        ensures turn { IsPassOf turn.now self.new.pass }
+        ensures same { (self.new.id ≡ self.old.id) × (self.new.source ≡ self.old.source) × (self.new.end ≡ self.old.end) }
+        ensures sits { Sits self.new.next self.old.id (view self.new.pass) }
+        ensures ok { OnOk result (TookAll self.old.id cut.old cut.new (view self.old.pass) (view self.new.pass)) }
+        ensures takes { OnOk result (Takes self.new.next self.old.id (view self.new.pass)) }
+        ensures some { OnErr result (PutSome self.old.id (map cmd_of (whole_lines cut.old)) (view self.old.pass) (view self.new.pass)) }
+        ensures halt { IfErr result (λ halt. Halts halt (view self.new.pass).noted) }
+    {
+        match self.put_lines(rt, alloc, turn, gate, cut) {
+            Ok(true) => settle(rt, alloc, turn, &mut self.pass, self.id),
+            Ok(false) => Ok(()),
+            Err(halt) => Err(halt),
+        }
+    }
+
+    /// Puts each whole line that is held. Gives whether another turn is due before the next read.
+    fn put_lines<W: Wait, G: Gate>(
+        &mut self,
+        rt: &W,
+        alloc: Global,
+        turn: &Turn<C, K, Q>,
+        gate: &G,
+        cut: &mut LineCut,
+    ) -> Result<bool, Halt>
+        requires turn { IsPassOf turn.now self.old.pass }
+        requires known { self.old.id < 16 }
+        requires takes { Takes self.old.next self.old.id (view self.old.pass) }
+        ensures turn { IsPassOf turn.now self.new.pass }
+        ensures same { (self.new.id ≡ self.old.id) × (self.new.source ≡ self.old.source) × (self.new.end ≡ self.old.end) }
+        ensures sits { Sits self.new.next self.old.id (view self.new.pass) }
+        ensures ok { OnOk result (TookAll self.old.id cut.old cut.new (view self.old.pass) (view self.new.pass)) }
+        ensures takes { OnOk result (Takes self.new.next self.old.id (view self.new.pass)) }
+        ensures some { OnErr result (PutSome self.old.id (map cmd_of (whole_lines cut.old)) (view self.old.pass) (view self.new.pass)) }
+        ensures halt { IfErr result (λ halt. Halts halt (view self.new.pass).noted) }
+    {
+        let mut is_due = false;
+        'lines: loop {
+            match cut.take() {
+                Ok(Some(line)) => match self.put_line(rt, alloc, turn, gate, line.as_slice()) {
+                    Ok(due) => is_due = due,
+                    Err(halt) => return Err(halt),
+                },
+                Ok(None) => return Ok(is_due),
+                Err(_) => return Err(Halt::Memory),
+            }
+        }
+    }
+
+    /// Puts one line that was read.
+    fn put_line<W: Wait, G: Gate>(
+        &mut self,
+        rt: &W,
+        alloc: Global,
+        turn: &Turn<C, K, Q>,
+        gate: &G,
+        line: &[u8],
+    ) -> Result<bool, Halt>
+        requires turn { IsPassOf turn.now self.old.pass }
+        requires known { self.old.id < 16 }
+        requires takes { Takes self.old.next self.old.id (view self.old.pass) }
+        ensures turn { IsPassOf turn.now self.new.pass }
+        ensures same { (self.new.id ≡ self.old.id) × (self.new.source ≡ self.old.source) × (self.new.end ≡ self.old.end) }
+        ensures sits { Sits self.new.next self.old.id (view self.new.pass) }
+        ensures ok { OnOk result (PutAll self.old.id (cmd_of line.now ∷ []) (view self.old.pass) (view self.new.pass)) }
+        ensures takes { OnOk result (Takes self.new.next self.old.id (view self.new.pass)) }
+        ensures some { OnErr result (PutSome self.old.id (cmd_of line.now ∷ []) (view self.old.pass) (view self.new.pass)) }
+        ensures halt { IfErr result (λ halt. Halts halt (view self.new.pass).noted) }
+    {
+        match read_cmd(alloc, line) {
+            Ok(cmd) => self.put_cmd(rt, alloc, turn, gate, cmd),
+            Err(_) => Err(Halt::Memory),
+        }
+    }
+
+    /// Puts a line with this command, behind the gate.
+    fn put_cmd<W: Wait, G: Gate>(
+        &mut self,
+        rt: &W,
+        alloc: Global,
+        turn: &Turn<C, K, Q>,
+        gate: &G,
+        cmd: Cmd,
+    ) -> Result<bool, Halt>
+        requires turn { IsPassOf turn.now self.old.pass }
+        requires known { self.old.id < 16 }
+        requires takes { Takes self.old.next self.old.id (view self.old.pass) }
+        requires fair { (j : Journal) → IsFair j (put_as j cmd) }
+        ensures turn { IsPassOf turn.now self.new.pass }
+        ensures same { (self.new.id ≡ self.old.id) × (self.new.source ≡ self.old.source) × (self.new.end ≡ self.old.end) }
+        ensures sits { Sits self.new.next self.old.id (view self.new.pass) }
+        ensures ok { OnOk result (PutAll self.old.id (cmd ∷ []) (view self.old.pass) (view self.new.pass)) }
+        ensures takes { OnOk result (shuts_source cmd ≡ false → Takes self.new.next self.old.id (view self.new.pass)) }
+        ensures some { OnErr result (PutSome self.old.id (cmd ∷ []) (view self.old.pass) (view self.new.pass)) }
+        ensures halt { IfErr result (λ halt. Halts halt (view self.new.pass).noted) }
+    {
+        gate.before(self.id, self.next);
+        let mut held = Some(cmd);
+        put_held(
+            rt,
+            alloc,
+            turn,
+            &mut self.pass,
+            self.id,
+            &mut self.next,
+            &mut held,
+        )
+    }
+
+    /// Puts the last line, which no line feed ends, where there is one.
+    fn put_last<W: Wait, G: Gate>(
+        &mut self,
+        rt: &W,
+        alloc: Global,
+        turn: &Turn<C, K, Q>,
+        gate: &G,
+        cut: &mut LineCut,
+    ) -> Result<bool, Halt>
+        requires turn { IsPassOf turn.now self.old.pass }
+        requires known { self.old.id < 16 }
+        requires takes { Takes self.old.next self.old.id (view self.old.pass) }
+        requires none { whole_lines cut.old ≡ [] }
+        ensures turn { IsPassOf turn.now self.new.pass }
+        ensures same { (self.new.id ≡ self.old.id) × (self.new.source ≡ self.old.source) × (self.new.end ≡ self.old.end) }
+        ensures sits { Sits self.new.next self.old.id (view self.new.pass) }
+        ensures ok { OnOk result (PutAll self.old.id (map cmd_of (lines_of cut.old)) (view self.old.pass) (view self.new.pass)) }
+        ensures some { OnErr result (PutSome self.old.id (map cmd_of (lines_of cut.old)) (view self.old.pass) (view self.new.pass)) }
+        ensures halt { IfErr result (λ halt. Halts halt (view self.new.pass).noted) }
+    {
+        match cut.finish() {
+            Ok(Some(line)) => self.put_line(rt, alloc, turn, gate, line.as_slice()),
+            Ok(None) => Ok(false),
+            Err(_) => Err(Halt::Memory),
+        }
+    }
+
+    /// Puts what stands behind the whole lines: the last line, or that the source was lost or is too long.
+    fn finish<W: Wait, G: Gate>(
+        &mut self,
+        rt: &W,
+        alloc: Global,
+        turn: &Turn<C, K, Q>,
+        gate: &G,
+        cut: &mut LineCut,
+        ending: Ending,
+    ) -> Result<bool, Halt>
+        requires turn { IsPassOf turn.now self.old.pass }
+        requires known { self.old.id < 16 }
+        requires takes { Takes self.old.next self.old.id (view self.old.pass) }
+        requires none { whole_lines cut.old ≡ [] }
+        ensures turn { IsPassOf turn.now self.new.pass }
+        ensures same { (self.new.id ≡ self.old.id) × (self.new.source ≡ self.old.source) × (self.new.end ≡ self.old.end) }
+        ensures sits { Sits self.new.next self.old.id (view self.new.pass) }
+        ensures ok { OnOk result (PutAll self.old.id (rest_by (course_of ending) cut.old) (view self.old.pass) (view self.new.pass)) }
+        ensures some { OnErr result (PutSome self.old.id (rest_by (course_of ending) cut.old) (view self.old.pass) (view self.new.pass)) }
+        ensures halt { IfErr result (λ halt. Halts halt (view self.new.pass).noted) }
+    {
+        match ending {
+            Ending::Ends => self.put_last(rt, alloc, turn, gate, cut),
+            Ending::Fails => self.put_cmd(rt, alloc, turn, gate, Cmd::Lost),
+            Ending::Exceeds => self.put_cmd(rt, alloc, turn, gate, Cmd::TooLong),
+        }
+    }
+
+    /// How it ends where it puts no further line. Of want of memory it tells the bus.
+    fn halted<W: Wait>(&mut self, rt: &W, turn: &Turn<C, K, Q>, halt: Halt) -> WorkerEnd
+        requires turn { IsPassOf turn.now self.old.pass }
+        requires sits { Sits self.old.next self.old.id (view self.old.pass) }
+        requires noted { Halts halt (view self.old.pass).noted }
+        ensures turn { IsPassOf turn.now self.new.pass }
+        ensures same { (self.new.id ≡ self.old.id) × (self.new.source ≡ self.old.source) × (self.new.end ≡ self.old.end) }
+        ensures sits { Sits self.new.next self.old.id (view self.new.pass) }
+        ensures lines { NoLine (view self.old.pass) (view self.new.pass) }
+        ensures notes { Notes result (view self.new.pass).noted }
+    {
+        match halt {
+            Halt::Stopped => WorkerEnd::Stopped,
+            Halt::Memory => self.run_out(rt, turn),
+        }
+    }
+
+    /// Has the bus keep that memory ran out, where it keeps no first fault yet.
+    fn run_out<W: Wait>(&mut self, rt: &W, turn: &Turn<C, K, Q>) -> WorkerEnd
+        requires turn { IsPassOf turn.now self.old.pass }
+        requires sits { Sits self.old.next self.old.id (view self.old.pass) }
+        ensures turn { IsPassOf turn.now self.new.pass }
+        ensures same { (self.new.id ≡ self.old.id) × (self.new.source ≡ self.old.source) × (self.new.end ≡ self.old.end) }
+        ensures sits { Sits self.new.next self.old.id (view self.new.pass) }
+        ensures lines { NoLine (view self.old.pass) (view self.new.pass) }
+        ensures notes { Notes result (view self.new.pass).noted }
+    {
+        let mut bus = turn.take(rt, &mut self.pass);
+        if bus.first().is_some() {
+            turn.give(rt, &mut self.pass, bus, unread());
+            return WorkerEnd::Stopped;
+        }
+        bus.run_out();
+        turn.give(rt, &mut self.pass, bus, unread());
+        WorkerEnd::Memory
+    }
 }

@@ -3,11 +3,13 @@ ghost use Rattle.std.specs.Prelude.{◌≡◌, [], IfOk, None};
 ghost use Rattle.ha_io.specs.MemSink.{new_sink};
 
 use ha_engine::Engine;
-use ha_io::{MemFile, MemKeeper, MemPlace, MemSink, OpenGate, have_distinct_names};
+use ha_io::{Gate, MemFile, MemKeeper, MemPlace, MemSink, OpenGate, have_distinct_names};
 use ha_status::Status;
 use ha_top::{Outcome, hearth};
 use std::alloc::{AllocError, Global};
 use std::process::Abort;
+use std::sync::Wait;
+use std::thread::Threads;
 
 /// A home with the lines that come in. A line may be short: `r E S` reports that entity E has the state S, `m T` is the moment T of
 /// the first of May 2024, `e X` is an event of type X; every other line stands as it is.
@@ -63,7 +65,7 @@ fn push_line(text: &mut String, said: &str) -> Result<(), AllocError> {
 }
 
 /// The bytes of a source with these lines.
-pub fn source_of(alloc: Global, lines: &[&str]) -> Result<String, AllocError> {
+fn source_of(alloc: Global, lines: &[&str]) -> Result<String, AllocError> {
     let mut text = String::new(alloc);
     for said in lines {
         push_line(&mut text, said)?;
@@ -156,18 +158,15 @@ fn keeper(alloc: Global, outside: &Outside) -> Result<MemKeeper, AllocError>
     Ok(MemKeeper::make(alloc, stored, fails))
 }
 
-/// Runs these words over the files `home.yaml` and `reports.txt`.
-pub fn run_words(
-    rt: &(impl Abort + Alloc<A = Global>),
+/// Runs these words over these files.
+fn run_files<R: Abort + Threads + Wait + Sync + Alloc<A = Global>, G: Gate>(
+    rt: &R,
     words: &[&str],
-    home: &[u8],
-    reports: &[u8],
+    files: Vec<MemFile>,
     outside: &Outside,
+    gate: &G,
 ) -> Result<Outcome<MemPlace, MemKeeper>, AllocError> {
     let alloc = rt.alloc();
-    let mut files = Vec::new(alloc);
-    files.push(file(alloc, "home.yaml", home, &[])?)?;
-    files.push(file(alloc, "reports.txt", reports, outside.failing_reads)?)?;
     assert!(rt; have_distinct_names(&files));
     let mut place = MemPlace::make(files, Vec::new(alloc));
     let mut given = Vec::new(alloc);
@@ -185,13 +184,63 @@ pub fn run_words(
         out,
         err,
         keep,
-        &OpenGate::make(),
+        gate,
     ))
 }
 
+/// Runs these words over the files `home.yaml` and `reports.txt`.
+pub fn run_words<R: Abort + Threads + Wait + Sync + Alloc<A = Global>>(
+    rt: &R,
+    words: &[&str],
+    home: &[u8],
+    reports: &[u8],
+    outside: &Outside,
+) -> Result<Outcome<MemPlace, MemKeeper>, AllocError> {
+    let alloc = rt.alloc();
+    let mut files = Vec::new(alloc);
+    files.push(file(alloc, "home.yaml", home, &[])?)?;
+    files.push(file(alloc, "reports.txt", reports, outside.failing_reads)?)?;
+    run_files(rt, words, files, outside, &OpenGate::make())
+}
+
+/// A source of this name with its lines, and the numbers, from 1, of its reads that fail.
+#[derive(Drop)]
+pub struct Lines<'a> {
+    pub name: &'a str,
+    pub lines: &'a [&'a str],
+    pub failing_reads: &'a [u64],
+}
+
+/// Runs an evening of a home with these sources, and with these words behind `run`.
+pub fn run_sources<R: Abort + Threads + Wait + Sync + Alloc<A = Global>, G: Gate>(
+    rt: &R,
+    home: &str,
+    more: &[&str],
+    sources: &[Lines<'_>],
+    gate: &G,
+) -> Result<Outcome<MemPlace, MemKeeper>, AllocError> {
+    let alloc = rt.alloc();
+    let mut files = Vec::new(alloc);
+    files.push(file(alloc, "home.yaml", home.as_bytes(), &[])?)?;
+    let mut words = Vec::new(alloc);
+    words.push("run")?;
+    for word in more {
+        words.push(*word)?;
+    }
+    for word in ["--start", "2024-05-01T20:00:00Z", "--config", "home.yaml"] {
+        words.push(word)?;
+    }
+    for source in sources {
+        let text = source_of(alloc, source.lines)?;
+        files.push(file(alloc, source.name, text.as_bytes(), source.failing_reads)?)?;
+        words.push(source.name)?;
+    }
+    run_files(rt, words.as_slice(), files, &PLAIN, gate)
+}
+
 /// Runs the day.
-pub fn run(
-    rt: &(impl Abort + Alloc<A = Global>),
+pub fn run<R: Abort + Threads + Wait + Sync + Alloc<A = Global>>(
+    rt: &R,
     day: &Day<'_>,
     outside: &Outside,
 ) -> Result<Outcome<MemPlace, MemKeeper>, AllocError> {
@@ -215,8 +264,8 @@ pub fn run(
 }
 
 /// Whether the day ends well with these calls and error lines.
-pub fn gives(
-    rt: &(impl Abort + Alloc<A = Global>),
+pub fn gives<R: Abort + Threads + Wait + Sync + Alloc<A = Global>>(
+    rt: &R,
     day: &Day<'_>,
     calls: &[&str],
     errors: &str,
@@ -231,8 +280,8 @@ pub fn gives(
 }
 
 /// Whether an evening of the home ends well with these calls and no error.
-pub fn calls(
-    rt: &(impl Abort + Alloc<A = Global>),
+pub fn calls<R: Abort + Threads + Wait + Sync + Alloc<A = Global>>(
+    rt: &R,
     home: &str,
     lines: &[&str],
     calls: &[&str],

@@ -1,33 +1,81 @@
-use Rattle.std.proofs.Common.{◌∙◌, [], ◌∷◌, ap, length, map, subst, sym}
+use Rattle.std.proofs.Common.{◌∙◌, [], ap, length, map, subst, sym, arith}
 use Rattle.std.specs.Option.{option_map}
 use Rattle.ha_model.specs.Words.{Text}
 use Rattle.ha_status.specs.Causes.{OpenCause}
 use Rattle.ha_status.specs.Files.{HoldsText}
 use Rattle.bus_turn.specs.States.{keeper_of, sink_of}
-use Rattle.ha_run.specs.Opened.{IsOpened}
+use Rattle.ha_worker.specs.Courses.{source_of}
+use Rattle.ha_run.specs.Opened.{AreNew}
 use Rattle.ha_run.specs.Served.{AreOpened}
+use Rattle.ha_top.specs.Answered.{RunOpenCause}
 use Rattle.ha_top.specs.Opening.{IsOpenFault}
-use Rattle.ha_top.specs.Views.{source_of}
-use Rattle.ha_top.proofs.EarlyLemmas.{early_from, lived_open, not_more, one_of, open_within}
+use Rattle.ha_top.proofs.EarlyLemmas.{early_from, lived_open, not_more, source_cause, trace_cause}
+use Rattle.ha_top.proofs.OpenLemmas.{new_count, opens_all, opens_front}
 use Rattle.ha_top.proofs.RunLemmas.{ran_lived}
 use Rattle.ha_top.proofs.files.run_files.Goals as goal
 
-pub returns-in-Err-open_source : goal.returns-in-Err-open_source
-returns-in-Err-open_source g c =
-    lived_open c.args.words.now _ _ (early_from _ _ (ap (sink_of g.P.Sink.Sink.written g.P.Sink.Sink.faults g.P.Sink.Sink.zeros g.P.Sink.Sink.name) c.unbooted-in-Err-open_source.ensures.out) (ap (sink_of g.P.Sink.Sink.written g.P.Sink.Sink.faults g.P.Sink.Sink.zeros g.P.Sink.Sink.name) c.unbooted-in-Err-open_source.ensures.err) (ap (option_map (sink_of g.P.Sink.Sink.written g.P.Sink.Sink.faults g.P.Sink.Sink.zeros g.P.Sink.Sink.name)) c.unbooted-in-Err-open_source.ensures.trace)
-    (ap g.Q.Keeper.kept c.unbooted-in-Err-open_source.ensures.keep ∙ c.load_store.ensures.keeps) (not_more g.Q.Keeper.faults (g.Q.Keeper.faults c.args.keep) _ c.unbooted-in-Err-open_source.result.keep c.unbooted-in-Err-open_source.ensures.keep c.load_store.ensures.never_falls) c.unbooted-in-Err-open_source.ensures.journal c.unbooted-in-Err-open_source.ensures.records)
-    c.in-Ok.made.text c.in-Ok.made.config c.in-Ok-load_store.stored c.index-as_slice-0.result (subst (λ (z : Text). HoldsText (g.P.Place.holds c.args.place.now) z c.in-Ok.made.text) c.as_str.ensures.value c.in-Ok.ensures.config.holds) c.in-Ok.ensures.config.reads c.in-Ok-load_store.ensures.ok (sym c.as_slice.ensures ∙ one_of c.as_slice.result.now c.index-as_slice-0.result (ap length c.as_slice.ensures ∙ c.requires.one) c.index-as_slice-0.is)
-    (subst (IsOpenFault c.index-as_slice-0.result) (sym c.unbooted-in-Err-open_source.ensures.status) c.in-Err-open_source.ensures.fault)
-    (subst (λ z. OpenCause (c.index-as_slice-0.result ∷ []) (g.P.Place.faults c.args.place.now) (g.P.Place.faults c.open_source.new.place) (g.P.Place.last c.open_source.new.place) z)
-    (sym c.unbooted-in-Err-open_source.ensures.status)
-    (open_within c.index-as_slice-0.result (g.P.Place.faults c.args.place.now) _ _ _ c.in-Err-open_source.status c.in-Err-open_source.ensures.fault c.read_config_at.ensures.never_falls c.in-Err-open_source.ensures.cause))
-    (subst (λ z. AreOpened c.args.words.now.sources (map (source_of g.P.Source.Source.faults g.P.Source.Source.left g.P.Source.Source.name) z)) (sym (c.unbooted-in-Err-open_source.ensures.sources ∙ c.make-in-Err-open_source.ensures)) tt)
+pub returns-in-Some : goal.returns-in-Some
+returns-in-Some g c =
+    let state = source_of g.P.Source.Source.faults g.P.Source.Source.left g.P.Source.Source.name in
+    let sink = sink_of g.P.Sink.Sink.written g.P.Sink.Sink.faults g.P.Sink.Sink.zeros g.P.Sink.Sink.name in
+    let e = c.unbooted-in-Some.ensures in
+    let fault = rw c.in-Some.is at c.open_sources-sources.ensures.fault in
+    let cause = rw c.in-Some.is at c.open_sources-sources.ensures.cause in
+    let opens = c.open_sources-sources.ensures.opens [] (subst (λ z. AreNew (g.P.Place.holds c.read_config_at.new.place) [] (map state z)) (sym c.new.ensures.items) tt) in
+    lived_open c.args.words.now _ _
+    (early_from _ _ (ap sink e.out) (ap sink e.err) (ap (option_map sink) e.trace) (ap g.Q.Keeper.kept e.keep ∙ c.load_store.ensures.keeps)
+    (not_more g.Q.Keeper.faults (g.Q.Keeper.faults c.args.keep) _ c.unbooted-in-Some.result.keep e.keep c.load_store.ensures.never_falls) e.journal e.records)
+    c.in-Ok.made.text c.in-Ok.made.config c.in-Ok-load_store.stored
+    (subst (λ (z : Text). HoldsText (g.P.Place.holds c.args.place.now) z c.in-Ok.made.text) c.as_str.ensures.value c.in-Ok.ensures.config.holds) c.in-Ok.ensures.config.reads c.in-Ok-load_store.ensures.ok
+    (subst IsOpenFault (sym e.status) fault)
+    (subst (λ z. RunOpenCause c.args.words.now (g.P.Place.faults c.args.place.now) (g.P.Place.faults c.open_sources-sources.new.place) (g.P.Place.last c.open_sources-sources.new.place) z) (sym e.status)
+    (source_cause c.args.words.now (g.P.Place.faults c.args.place.now) (g.P.Place.faults c.read_config_at.new.place) _ _ c.in-Some.status fault c.read_config_at.ensures.never_falls
+    (subst (λ z. OpenCause z (g.P.Place.faults c.read_config_at.new.place) (g.P.Place.faults c.open_sources-sources.new.place) (g.P.Place.last c.open_sources-sources.new.place) c.in-Some.status) c.as_slice.ensures cause)))
+    (subst (λ z. AreOpened c.args.words.now.sources (map state z)) (sym e.sources)
+    (subst (λ z. AreOpened z (map state c.open_sources-sources.result.sources)) c.as_slice.ensures (opens_front _ _ _ _ opens)))
+
+pub returns-in-Err-open_trace : goal.returns-in-Err-open_trace
+returns-in-Err-open_trace g c =
+    let state = source_of g.P.Source.Source.faults g.P.Source.Source.left g.P.Source.Source.name in
+    let sink = sink_of g.P.Sink.Sink.written g.P.Sink.Sink.faults g.P.Sink.Sink.zeros g.P.Sink.Sink.name in
+    let e = c.unbooted-in-Err-open_trace.ensures in
+    let opens = c.open_sources-sources.ensures.opens [] (subst (λ z. AreNew (g.P.Place.holds c.read_config_at.new.place) [] (map state z)) (sym c.new.ensures.items) tt) in
+    lived_open c.args.words.now _ _
+    (early_from _ _ (ap sink e.out) (ap sink e.err) (ap (option_map sink) e.trace) (ap g.Q.Keeper.kept e.keep ∙ c.load_store.ensures.keeps)
+    (not_more g.Q.Keeper.faults (g.Q.Keeper.faults c.args.keep) _ c.unbooted-in-Err-open_trace.result.keep e.keep c.load_store.ensures.never_falls) e.journal e.records)
+    c.in-Ok.made.text c.in-Ok.made.config c.in-Ok-load_store.stored
+    (subst (λ (z : Text). HoldsText (g.P.Place.holds c.args.place.now) z c.in-Ok.made.text) c.as_str.ensures.value c.in-Ok.ensures.config.holds) c.in-Ok.ensures.config.reads c.in-Ok-load_store.ensures.ok
+    (subst IsOpenFault (sym e.status) c.in-Err-open_trace.ensures.fault)
+    (subst (λ z. RunOpenCause c.args.words.now (g.P.Place.faults c.args.place.now) (g.P.Place.faults c.open_trace.new.place) (g.P.Place.last c.open_trace.new.place) z) (sym e.status)
+    (trace_cause c.args.words.now (g.P.Place.faults c.args.place.now) (g.P.Place.faults c.open_sources-sources.new.place) _ _ c.in-Err-open_trace.status c.in-Err-open_trace.ensures.fault
+    (omega (arith, c.read_config_at.ensures.never_falls, c.open_sources-sources.ensures.never_falls)) c.in-Err-open_trace.ensures.cause))
+    (subst (λ z. AreOpened c.args.words.now.sources (map state z)) (sym e.sources)
+    (subst (λ z. AreOpened z (map state c.open_sources-sources.result.sources)) c.as_slice.ensures (opens_front _ _ _ _ opens)))
+
+pub run_booted-requires-clause-some : goal.run_booted-requires-clause-some
+run_booted-requires-clause-some g c κs within =
+    let state = source_of g.P.Source.Source.faults g.P.Source.Source.left g.P.Source.Source.name in
+    let opens = c.open_sources-sources.ensures.opens [] (subst (λ z. AreNew (g.P.Place.holds c.read_config_at.new.place) [] (map state z)) (sym c.new.ensures.items) tt) in
+    let many = new_count state _ _ c.open_sources-sources.result.sources (opens_all _ _ _ c.open_sources-sources.result.fault c.in_default.is opens) ∙ ap length c.as_slice.ensures in
+    omega (arith, many, c.requires.some)
+
+pub run_booted-requires-clause-few : goal.run_booted-requires-clause-few
+run_booted-requires-clause-few g c κs within =
+    let state = source_of g.P.Source.Source.faults g.P.Source.Source.left g.P.Source.Source.name in
+    let opens = c.open_sources-sources.ensures.opens [] (subst (λ z. AreNew (g.P.Place.holds c.read_config_at.new.place) [] (map state z)) (sym c.new.ensures.items) tt) in
+    let many = new_count state _ _ c.open_sources-sources.result.sources (opens_all _ _ _ c.open_sources-sources.result.fault c.in_default.is opens) ∙ ap length c.as_slice.ensures in
+    omega (arith, many, c.requires.few)
 
 pub returns : goal.returns
 returns g c =
-    ran_lived c.args.words.now _ _ (keeper_of g.Q.Keeper.kept g.Q.Keeper.faults c.load_store.new.keep) c.in-Ok.made.text c.in-Ok.made.config c.in-Ok-load_store.stored c.index-as_slice-0.result
-    ((source_of g.P.Source.Source.faults g.P.Source.Source.left g.P.Source.Source.name) c.in-Ok-open_source.source)
+    let state = source_of g.P.Source.Source.faults g.P.Source.Source.left g.P.Source.Source.name in
+    let sink = sink_of g.P.Sink.Sink.written g.P.Sink.Sink.faults g.P.Sink.Sink.zeros g.P.Sink.Sink.name in
+    let opens = c.open_sources-sources.ensures.opens [] (subst (λ z. AreNew (g.P.Place.holds c.read_config_at.new.place) [] (map state z)) (sym c.new.ensures.items) tt) in
+    let all = opens_all _ _ _ c.open_sources-sources.result.fault c.in_default.is opens in
+    ran_lived c.args.words.now _ _ (keeper_of g.Q.Keeper.kept g.Q.Keeper.faults c.load_store.new.keep) c.in-Ok.made.text c.in-Ok.made.config c.in-Ok-load_store.stored
+    (map state c.open_sources-sources.result.sources) (option_map sink c.in-Ok-open_trace.trace)
     (record { out_faults = c.requires.out_new.0; out_zeros = c.requires.out_new.1; err_faults = c.requires.err_new.0; err_zeros = c.requires.err_new.1; keep_faults = c.requires.keep_new })
-    (subst (λ (z : Text). HoldsText (g.P.Place.holds c.args.place.now) z c.in-Ok.made.text) c.as_str.ensures.value c.in-Ok.ensures.config.holds) c.in-Ok.ensures.config.reads c.in-Ok-load_store.ensures.ok (sym c.as_slice.ensures ∙ one_of c.as_slice.result.now c.index-as_slice-0.result (ap length c.as_slice.ensures ∙ c.requires.one) c.index-as_slice-0.is)
-    (subst (λ z. IsOpened z c.index-as_slice-0.result ((source_of g.P.Source.Source.faults g.P.Source.Source.left g.P.Source.Source.name) c.in-Ok-open_source.source)) c.read_config_at.ensures.same_files c.in-Ok-open_source.ensures.ok)
-    c.load_store.ensures.keeps c.load_store.ensures.never_falls c.run_booted.ensures
+    (subst (λ (z : Text). HoldsText (g.P.Place.holds c.args.place.now) z c.in-Ok.made.text) c.as_str.ensures.value c.in-Ok.ensures.config.holds) c.in-Ok.ensures.config.reads c.in-Ok-load_store.ensures.ok
+    (subst (λ z. AreNew z c.args.words.now.sources (map state c.open_sources-sources.result.sources)) c.read_config_at.ensures.same_files
+    (subst (λ z. AreNew (g.P.Place.holds c.read_config_at.new.place) z (map state c.open_sources-sources.result.sources)) c.as_slice.ensures all))
+    c.in-Ok-open_trace.ensures.named c.load_store.ensures.keeps c.load_store.ensures.never_falls c.run_booted.ensures

@@ -35,15 +35,17 @@ returns c =
     let config_is : rule_of c.action.result ≡ option_rule (codes "config") false = set_action c.long.result _ _ Set c.action.ensures (set_long c.new.result _ _ _ c.long.ensures c.new.ensures.rule) in
     let start_is : rule_of c.action-2.result ≡ option_rule (codes "start") false = set_action c.long-2.result _ _ Set c.action-2.ensures (set_long c.new-2.result _ _ _ c.long-2.ensures c.new-2.ensures.rule) in
     let zone_is : rule_of c.action-zone.result ≡ option_rule (codes "zone") false = search rules in
-    let source_is : rule_of c.action-3.result ≡ record (words_rule (codes "source")) { required = false } = set_action c.new-4.result _ _ Append c.action-3.ensures c.new-4.ensures.rule in
+    let trace_is : rule_of c.action-trace.result ≡ option_rule (codes "trace") false = search rules in
+    let source_is : rule_of c.action-3.result ≡ record (words_rule (codes "source")) { required = false } = set_action c.new-5.result _ _ Append c.action-3.ensures c.new-5.ensures.rule in
     let bare_is : app_of c.disable_version_flag-run.result ≡ bare_app (codes "run") =
     ap app_of_fields c.disable_version_flag-run.ensures
     ∙ ap (on_top (λ (s : Shape). record s { disable_version_flag = true }))
     (ap app_of_fields c.disable_help_flag.ensures
     ∙ ap (on_top (λ (s : Shape). record s { disable_help_flag = true }))
     (ap app_of_fields c.no_binary_name.ensures
-    ∙ ap (on_top (λ (s : Shape). record s { no_binary_name = true })) c.new-5.ensures.app)) in
+    ∙ ap (on_top (λ (s : Shape). record s { no_binary_name = true })) c.new-6.ensures.app)) in
     let one = c.in_ok-arg.ensures.shape (local c.action.result _ c.required-config.ensures (local_action c.long.result _ Set c.action.ensures (local_long c.new.result _ _ c.long.ensures c.new.ensures.optional.1))) ∙ ap₂ with_rule bare_is (needed c.action.result _ _ c.required-config.ensures config_is) in
     let two = c.in_ok-arg-2.ensures.shape (local c.action-2.result _ c.required-start.ensures (local_action c.long-2.result _ Set c.action-2.ensures (local_long c.new-2.result _ _ c.long-2.ensures c.new-2.ensures.optional.1))) ∙ ap₂ with_rule one (needed c.action-2.result _ _ c.required-start.ensures start_is) in
     let three = c.in_ok-arg-3.ensures.shape (search rules) ∙ ap₂ with_rule two zone_is in
-    IfOk-weaker c.arg-4.result _ _ (λ r h. h.shape (local c.action-3.result _ c.required-source.ensures (local_action c.new-4.result _ Append c.action-3.ensures c.new-4.ensures.optional.1)) ∙ ap₂ with_rule three (needed c.action-3.result _ _ c.required-source.ensures source_is)) c.arg-4.ensures
+    let four = c.in_ok-arg-4.ensures.shape (search rules) ∙ ap₂ with_rule three trace_is in
+    IfOk-weaker c.arg-5.result _ _ (λ r h. h.shape (local c.action-3.result _ c.required-source.ensures (local_action c.new-5.result _ Append c.action-3.ensures c.new-5.ensures.optional.1)) ∙ ap₂ with_rule four (needed c.action-3.result _ _ c.required-source.ensures source_is)) c.arg-5.ensures

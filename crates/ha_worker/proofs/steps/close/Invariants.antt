@@ -1,11 +1,11 @@
 use Rattle.std.proofs.Common.{◌≡◌, ◌-◌, None, length}
-use Rattle.ha_worker.specs.Kept.{Closed}
+use Rattle.ha_worker.specs.Closing.{Closed}
 use Rattle.ha_worker.proofs.steps.close.Given as goal
 
 abbrev pub invariant-steps : goal.invariant-steps
 invariant-steps g l = record {
   free : l.bus.first ≡ None;
-  steps : Closed l.initial.bus l.bus;
+  closed : Closed l.initial.bus l.bus;
 }
 
 abbrev pub decreases-steps : goal.decreases-steps

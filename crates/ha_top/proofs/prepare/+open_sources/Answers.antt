@@ -1,0 +1,37 @@
+use Rattle.std.proofs.Common.{◌∙◌, ◌++◌, map, subst, sym}
+use Rattle.std.specs.Prelude.{IfSome, is_ok}
+use Rattle.ha_status.specs.Causes.{OpenCause}
+use Rattle.ha_worker.specs.Courses.{source_of}
+use Rattle.ha_run.specs.Served.{AreOpened}
+use Rattle.ha_top.specs.Opening.{OpensAs}
+use Rattle.ha_top.proofs.OpenLemmas.{cause_later, first_and_later, opened_front, opens_more, pushed, pushed_front}
+use Rattle.ha_top.proofs.prepare.+open_sources.Goals as goal
+
+pub returns-in-Err-clause-opens : goal.returns-in-Err-clause-opens
+returns-in-Err-clause-opens g t c = λ before h.
+    let state = source_of g.P.Source.Source.faults g.P.Source.Source.left g.P.Source.Source.name in
+    subst (λ z. AreOpened (before ++ c.args.names.now) (map state z)) (sym c.from_vec-in-Err.ensures) (opened_front (g.P.Place.holds c.args.place.now) before c.args.names.now (map state c.args.sources.items) h)
+
+pub returns-then-is_err-clause-opens : goal.returns-then-is_err-clause-opens
+returns-then-is_err-clause-opens g t c = λ before h.
+    let state = source_of g.P.Source.Source.faults g.P.Source.Source.left g.P.Source.Source.name in
+    let names = first_and_later c.args.names.now c.name-item.result c.in-len1-up.len_at_least c.name-item.is in
+    subst (λ z. AreOpened (before ++ z) (map state c.from_vec-then-is_err.result)) names
+    (pushed_front state (g.P.Place.holds c.args.place.now) before _ c.name-item.result c.args.sources.items c.from_vec-then-is_err.result c.in-Ok.source (is_ok c.push.result)
+    (c.from_vec-then-is_err.ensures ∙ c.push.ensures.items) h c.in-Ok.ensures.ok)
+
+pub returns-clause-opens : goal.returns-clause-opens
+returns-clause-opens g t c = λ before h.
+    let state = source_of g.P.Source.Source.faults g.P.Source.Source.left g.P.Source.Source.name in
+    let names = first_and_later c.args.names.now c.name-item.result c.in-len1-up.len_at_least c.name-item.is in
+    subst (λ z. OpensAs (g.P.Place.holds c.args.place.now) (before ++ z) (map state c.open_sources.result.sources) c.open_sources.result.fault) names
+    (opens_more (g.P.Place.holds c.args.place.now) (g.P.Place.holds c.open_source.new.place) before _ c.name-item.result (map state c.args.sources.items) (map state c.push.new.self.items)
+    (map state c.open_sources.result.sources) (state c.in-Ok.source) c.open_sources.result.fault c.open_source.ensures.same_files
+    (pushed state c.args.sources.items c.push.new.self.items c.in-Ok.source (is_ok c.push.result) c.push.ensures.items c.if-is_err.ensures.negation) h c.in-Ok.ensures.ok c.open_sources.ensures.opens)
+
+pub returns-clause-cause : goal.returns-clause-cause
+returns-clause-cause g t c =
+    let names = first_and_later c.args.names.now c.name-item.result c.in-len1-up.len_at_least c.name-item.is in
+    subst (λ z. IfSome c.open_sources.result.fault (OpenCause z (g.P.Place.faults c.args.place.now) (g.P.Place.faults c.open_sources.new.place) (g.P.Place.last c.open_sources.new.place))) names
+    (cause_later c.name-item.result _ (g.P.Place.faults c.args.place.now) (g.P.Place.faults c.open_source.new.place) _ _ c.open_sources.result.fault c.open_source.ensures.never_falls
+    c.open_sources.ensures.fault c.open_sources.ensures.cause)

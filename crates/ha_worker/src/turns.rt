@@ -1,0 +1,123 @@
+//! The turns of a worker: in each it takes the bus, and gives it back.
+ghost use Rattle.std.specs.Prelude.{◌≡◌, ◌<◌, ◌∷◌, [], false, None, IfSome, IsSome, OnOk, OnErr};
+ghost use Rattle.crossbeam_channel.specs.Claims.{view};
+ghost use Rattle.ha_model.specs.Commands.{IsFair, put_as};
+ghost use Rattle.ha_model.specs.Entries.{shuts_source};
+ghost use Rattle.ha_model.specs.Journal.{Journal};
+ghost use Rattle.bus_pass.specs.Turns.{IsPassOf};
+ghost use Rattle.ha_worker.specs.Views.{HoldsRested, IsOne, Sits, Takes};
+ghost use Rattle.ha_worker.specs.Puts.{NoLine, PutAll, PutSome};
+
+use crate::halt::Halt;
+use bus_pass::{Pass, Turn};
+use bus_turn::Bus;
+use ha_io::{Keeper, Sink};
+use ha_model::{Cmd, Core};
+use std::alloc::Global;
+use std::snapshot::Snapshot;
+use std::sync::Wait;
+
+/// What is told of a give without a line.
+pub(crate) fn unread() -> Snapshot<Option<Cmd>>
+    ensures { result.value ≡ None }
+{
+    let nothing = None;
+    Snapshot::of(&nothing)
+}
+
+/// Takes the bus where the source is rested. Until it is, each turn puts one step. Nothing comes back where the bus keeps a first fault.
+pub(crate) fn take_rested<C: Core + Drop, K: Sink, Q: Keeper, W: Wait>(
+    rt: &W,
+    alloc: Global,
+    turn: &Turn<C, K, Q>,
+    pass: &mut Pass<C, K, Q>,
+    id: u32,
+) -> Option<Bus<C, K, Q>>
+    requires turn { IsPassOf turn.now pass.old }
+    requires one { IsOne id (view pass.old) }
+    ensures turn { IsPassOf turn.now pass.new }
+    ensures lines { NoLine (view pass.old) (view pass.new) }
+    ensures some { IfSome result (λ bus. HoldsRested id bus (view pass.new)) }
+    ensures none { result ≡ None → IsOne id (view pass.new) × IsSome (view pass.new).noted }
+{
+    for _ in rt.forever() {
+        let mut bus = turn.take(rt, pass);
+        if bus.first().is_some() {
+            turn.give(rt, pass, bus, unread());
+            return None;
+        }
+        if bus.rested(id) {
+            return Some(bus);
+        }
+        bus.step(alloc, id);
+        let _ = bus.first();
+        turn.give(rt, pass, bus, unread());
+    }
+    unreachable!()
+}
+
+/// Puts steps, one a turn, until the source is rested.
+pub(crate) fn settle<C: Core + Drop, K: Sink, Q: Keeper, W: Wait>(
+    rt: &W,
+    alloc: Global,
+    turn: &Turn<C, K, Q>,
+    pass: &mut Pass<C, K, Q>,
+    id: u32,
+) -> Result<(), Halt>
+    requires turn { IsPassOf turn.now pass.old }
+    requires one { IsOne id (view pass.old) }
+    ensures turn { IsPassOf turn.now pass.new }
+    ensures lines { NoLine (view pass.old) (view pass.new) }
+    ensures one { IsOne id (view pass.new) }
+    ensures halt { OnErr result (IsSome (view pass.new).noted) }
+{
+    match take_rested(rt, alloc, turn, pass, id) {
+        Some(bus) => {
+            turn.give(rt, pass, bus, unread());
+            Ok(())
+        }
+        None => Err(Halt::Stopped),
+    }
+}
+
+/// Puts a line with the command that is held, as soon as its source is rested. Gives whether another turn is due before a read that may
+/// wait: the source is not rested, or the bus keeps a first fault.
+pub(crate) fn put_held<C: Core + Drop, K: Sink, Q: Keeper, W: Wait>(
+    rt: &W,
+    alloc: Global,
+    turn: &Turn<C, K, Q>,
+    pass: &mut Pass<C, K, Q>,
+    id: u32,
+    next: &mut u64,
+    held: &mut Option<Cmd>,
+) -> Result<bool, Halt>
+    requires turn { IsPassOf turn.now pass.old }
+    requires known { id < 16 }
+    requires takes { Takes next.old id (view pass.old) }
+    requires held { IsSome held.old }
+    requires fair { IfSome held.old (λ cmd. (j : Journal) → IsFair j (put_as j cmd)) }
+    ensures turn { IsPassOf turn.now pass.new }
+    ensures sits { Sits next.new id (view pass.new) }
+    ensures ok { OnOk result (IfSome held.old (λ cmd. PutAll id (cmd ∷ []) (view pass.old) (view pass.new))) }
+    ensures next { OnOk result (IfSome held.old (λ cmd. shuts_source cmd ≡ false → Takes next.new id (view pass.new))) }
+    ensures some { OnErr result (IfSome held.old (λ cmd. PutSome id (cmd ∷ []) (view pass.old) (view pass.new))) }
+    ensures halt { OnErr result (IsSome (view pass.new).noted) }
+{
+    let read = Snapshot::of(held);
+    let Some(mut bus) = take_rested(rt, alloc, turn, pass, id) else {
+        return Err(Halt::Stopped);
+    };
+    let Some(cmd) = held.take() else {
+        unreachable!()
+    };
+    let before = bus.core().journal().len();
+    bus.line(alloc, id, *next, cmd);
+    let was_put = bus.core().journal().len() > before;
+    let is_due = bus.first().is_some() || !bus.rested(id);
+    turn.give(rt, pass, bus, read);
+    if !was_put {
+        return Err(Halt::Stopped);
+    }
+    *next += 1;
+    Ok(is_due)
+}
