@@ -1,3 +1,4 @@
+pub mod AskedLemmas
 pub mod CountLemmas
 pub mod ToldLemmas
 pub mod WholeLemmas

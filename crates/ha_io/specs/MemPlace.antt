@@ -1,5 +1,5 @@
 -- What contracts see of a place in memory.
-use Rattle.std.specs.Prelude.{Contains, ◌&&◌, ℕ, Bool, true, is_none, List, [], ◌∷◌, Option, None, Some, option_and_then, find, string_bytes}
+use Rattle.std.specs.Prelude.{Contains, ◌&&◌, ℕ, Bool, true, is_none, List, [], ◌∷◌, ◌++◌, Option, None, Some, option_and_then, find, string_bytes}
 use Rattle.std.specs.Option.{option_map, option_map_or}
 use Rattle.std.specs.Str.{bytes_eq}
 use Rattle.ha_io.specs.declared.mem_place.MemFile.{MemFile}
@@ -14,9 +14,10 @@ pub record PlaceState : Type 0 where
   pub calls : ℕ  -- the calls so far, of both kinds
   pub faults : ℕ  -- those that failed
   pub last : Option (List ℕ × Opening)  -- the last that failed
+  pub asked : List (List ℕ × Opening)  -- all of them
 
 abbrev pub new_place : List MemFile → List ℕ → PlaceState
-new_place files fails = record { files = files; fails = fails; calls = 0; faults = 0; last = None }
+new_place files fails = record { files = files; fails = fails; calls = 0; faults = 0; last = None; asked = [] }
 
 abbrev pub name_of : MemFile → List ℕ
 name_of file = string_bytes file.name
@@ -54,11 +55,11 @@ sink_for files name =
     (file_named files name)
     (new_sink (Some name) [] [] [])
 
--- after a call that opened a name
-abbrev pub after_opening : PlaceState → PlaceState
-after_opening place = record place { calls = one_more place.calls }
+-- after a call that is written down
+abbrev pub after_asking : PlaceState → List ℕ → Opening → PlaceState
+after_asking place name opening = record place { calls = one_more place.calls; asked = place.asked ++ (name, opening) ∷ [] }
 
 -- after a call that failed
 abbrev pub after_failed_opening : PlaceState → List ℕ → Opening → PlaceState
 after_failed_opening place name opening =
-    record place { calls = one_more place.calls; faults = one_more place.faults; last = Some (name, opening) }
+    record (after_asking place name opening) { faults = one_more place.faults; last = Some (name, opening) }

@@ -46,6 +46,8 @@ impl<R: Files<File = File> + Drop> Place for DirPlace<R> {
 
     ghost holds = { λ _. None };
 
+    ghost asked = { λ _. None };
+
     ghost last = { λ _. None };
 
     fn reading(&mut self, _alloc: Global, name: &str) -> Result<FileSource, IoFault> {

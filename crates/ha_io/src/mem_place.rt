@@ -2,7 +2,7 @@
 ghost use Rattle.std.specs.Prelude.{◌≡◌, ◌≤◌, ◌⊎◌, IfOk, IsErr, IsErrOf, IsNone, IsTrue, OnOk, Some};
 ghost use Rattle.std.specs.Option.{option_copied};
 ghost use Rattle.ha_io.specs.Counts.{Rose};
-ghost use Rattle.ha_io.specs.MemPlace.{FailsNext, after_failed_opening, after_opening, bytes_under, file_named, have_distinct_names, new_place, sink_for, source_for};
+ghost use Rattle.ha_io.specs.MemPlace.{FailsNext, after_asking, after_failed_opening, bytes_under, file_named, have_distinct_names, new_place, sink_for, source_for};
 
 use crate::{IoFault, MemSink, MemSource, Opening, Place};
 use std::alloc::{AllocError, Global};
@@ -31,21 +31,22 @@ pub struct MemPlace {
     calls: u64,
     faults: u64,
     last: Option<(String, Opening)>,
+    asked: Vec<(String, Opening)>,
 }
 
 impl Model for MemPlace {
-    ghost use Rattle.std.specs.Prelude.{string_bytes};
+    ghost use Rattle.std.specs.Prelude.{map, string_bytes};
     ghost use Rattle.std.specs.Option.{option_map};
     ghost use Rattle.ha_io.specs.MemPlace.{PlaceState};
 
     ghost Value = { PlaceState };
 
-    ghost view = { λ p. record { files = p.files.items; fails = p.fails.items; calls = p.calls; faults = p.faults; last = option_map (λ last. (string_bytes last.0, last.1)) p.last } };
+    ghost view = { λ p. record { files = p.files.items; fails = p.fails.items; calls = p.calls; faults = p.faults; last = option_map (λ last. (string_bytes last.0, last.1)) p.last; asked = map (λ call. (string_bytes call.0, call.1)) p.asked.items } };
 }
 
 impl MemPlace {
     /// `fails` lists the numbers, from 1, of the calls that fail, those of both kinds counted together.
-    pub fn make(files: Vec<MemFile>, fails: Vec<u64>) -> MemPlace
+    pub fn make(alloc: Global, files: Vec<MemFile>, fails: Vec<u64>) -> MemPlace
         requires { IsTrue (have_distinct_names files.items) }
         ensures { result ≡ new_place files.items fails.items }
     {
@@ -55,7 +56,19 @@ impl MemPlace {
             calls: 0,
             faults: 0,
             last: None,
+            asked: Vec::new(alloc),
         }
+    }
+
+    /// Counts a call, and writes it down.
+    fn ask(&mut self, alloc: Global, name: &str, opening: Opening) -> Result<(), AllocError>
+        ensures ok { OnOk result (self.new ≡ after_asking self.old name.now opening) }
+        ensures memory { IsErr result → self.new ≡ self.old }
+    {
+        let name = String::from_str(alloc, name)?;
+        self.asked.push((name, opening))?;
+        self.calls = self.calls.saturating_add(1);
+        Ok(())
     }
 
     /// Counts a call that fails, and answers for it.
@@ -65,12 +78,14 @@ impl MemPlace {
         ensures cause { result ≡ IoFault.Failed → Rose self.old.faults self.new.faults }
         ensures never_falls { self.old.faults ≤ self.new.faults }
     {
-        let Ok(name) = String::from_str(alloc, name) else {
+        let Ok(last) = String::from_str(alloc, name) else {
             return IoFault::Memory;
         };
-        self.calls = self.calls.saturating_add(1);
+        if self.ask(alloc, name, opening).is_err() {
+            return IoFault::Memory;
+        }
         self.faults = self.faults.saturating_add(1);
-        self.last = Some((name, opening));
+        self.last = Some((last, opening));
         IoFault::Failed
     }
 }
@@ -138,13 +153,15 @@ impl Place for MemPlace {
 
     ghost holds = { λ place. Some (bytes_under place.files) };
 
+    ghost asked = { λ place. Some place.asked };
+
     ghost last = { λ place. Some place.last };
 
     fn reading(&mut self, alloc: Global, name: &str) -> Result<MemSource, IoFault>
         ensures fails { FailsNext self.old ⊎ IsNone (bytes_under self.old.files name.now) → IsErr result }
         ensures failed_only { IsErrOf result IoFault.Failed → FailsNext self.old ⊎ IsNone (bytes_under self.old.files name.now) }
         ensures gives { IfOk result (λ source. source_for self.old.files name.now ≡ Some source) }
-        ensures ok { OnOk result (self.new ≡ after_opening self.old) }
+        ensures ok { OnOk result (self.new ≡ after_asking self.old name.now Opening.Reading) }
         ensures failed { IsErrOf result IoFault.Failed → self.new ≡ after_failed_opening self.old name.now Opening.Reading }
         ensures memory { IsErrOf result IoFault.Memory → self.new ≡ self.old }
         ensures cause { IsErrOf result IoFault.Failed → Rose self.old.faults self.new.faults }
@@ -156,7 +173,7 @@ impl Place for MemPlace {
         match make_source(alloc, &self.files, name)? {
             None => Err(self.refuse(alloc, name, Opening::Reading)),
             Some(source) => {
-                self.calls = self.calls.saturating_add(1);
+                self.ask(alloc, name, Opening::Reading)?;
                 Ok(source)
             }
         }
@@ -166,7 +183,7 @@ impl Place for MemPlace {
         ensures fails { FailsNext self.old → IsErr result }
         ensures failed_only { IsErrOf result IoFault.Failed → FailsNext self.old }
         ensures gives { IfOk result (λ sink. sink ≡ sink_for self.old.files name.now) }
-        ensures ok { OnOk result (self.new ≡ after_opening self.old) }
+        ensures ok { OnOk result (self.new ≡ after_asking self.old name.now Opening.Writing) }
         ensures failed { IsErrOf result IoFault.Failed → self.new ≡ after_failed_opening self.old name.now Opening.Writing }
         ensures memory { IsErrOf result IoFault.Memory → self.new ≡ self.old }
         ensures cause { IsErrOf result IoFault.Failed → Rose self.old.faults self.new.faults }
@@ -176,7 +193,7 @@ impl Place for MemPlace {
             return Err(self.refuse(alloc, name, Opening::Writing));
         }
         let sink = make_sink(alloc, &self.files, name)?;
-        self.calls = self.calls.saturating_add(1);
+        self.ask(alloc, name, Opening::Writing)?;
         Ok(sink)
     }
 }

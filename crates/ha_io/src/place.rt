@@ -2,7 +2,7 @@
 ghost use Rattle.std.specs.Prelude.{◌≡◌, ◌≤◌, [], ℕ, List, Option, IfOk, IfSome, IsErrOf, IsSome, OnOk, Some};
 ghost use Rattle.ha_io.specs.declared.place.Opening.{Opening};
 ghost use Rattle.ha_io.specs.Counts.{Rose};
-ghost use Rattle.ha_io.specs.Told.{HasFile, told_as};
+ghost use Rattle.ha_io.specs.Told.{HasFile, IsAsked, told_as};
 
 use crate::{IoFault, Sink, Source};
 use std::alloc::Global;
@@ -26,6 +26,9 @@ pub trait Place {
     /// The bytes under each name, `None` for a missing file, where they are told.
     ghost holds: { Self → Option (List ℕ → Option (List ℕ)) };
 
+    /// All calls so far: each name with what it was opened for, in order, where they are told.
+    ghost asked: { Self → Option (List (List ℕ × Opening)) };
+
     /// The name of the last call that failed and what it was opened for, if any failed, where this is told.
     ghost last: { Self → Option (Option (List ℕ × Opening)) };
 
@@ -39,6 +42,7 @@ pub trait Place {
         ensures cause { IsErrOf result IoFault.Failed → Rose (faults self.old) (faults self.new) }
         ensures failed { IsErrOf result IoFault.Failed → last self.new ≡ told_as (last self.old) (Some (name.now, Opening.Reading)) }
         ensures opened { OnOk result (last self.new ≡ last self.old) }
+        ensures asked { IsAsked result (asked self.old) (name.now, Opening.Reading) (asked self.new) }
         ensures never_falls { faults self.old ≤ faults self.new }
         ensures same_files { holds self.new ≡ holds self.old }
         ensures memory { IsErrOf result IoFault.Memory → self.new ≡ self.old };
@@ -54,6 +58,7 @@ pub trait Place {
         ensures cause { IsErrOf result IoFault.Failed → Rose (faults self.old) (faults self.new) }
         ensures failed { IsErrOf result IoFault.Failed → last self.new ≡ told_as (last self.old) (Some (name.now, Opening.Writing)) }
         ensures opened { OnOk result (last self.new ≡ last self.old) }
+        ensures asked { IsAsked result (asked self.old) (name.now, Opening.Writing) (asked self.new) }
         ensures never_falls { faults self.old ≤ faults self.new }
         ensures same_files { holds self.new ≡ holds self.old }
         ensures memory { IsErrOf result IoFault.Memory → self.new ≡ self.old };
