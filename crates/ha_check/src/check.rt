@@ -1,6 +1,8 @@
 //! The command `check`.
 ghost use Rattle.std.specs.Prelude.{◌≡◌, ◌≤◌, ◌∷◌, [], IfSome, IsSome, Some, map, option_to_list};
+ghost use Rattle.ha_io.specs.declared.place.Opening.{Opening};
 ghost use Rattle.ha_io.specs.Counts.{Rose};
+ghost use Rattle.ha_io.specs.Told.{IsAskedSome};
 ghost use Rattle.ha_status.specs.Causes.{NeverFall, OneRose, OpenCause, ReadCause, WriteCause};
 ghost use Rattle.ha_status.specs.Files.{IsHandedBack};
 ghost use Rattle.ha_status.specs.Written.{IsWritten, TookLine};
@@ -48,6 +50,7 @@ fn checked<P: Place>(
     ensures handed_back { IsHandedBack name.now (map P.Source.name (option_to_list result.1)) result.0 }
     ensures at_end { IsSome (P.holds place.old) → result.0 ≡ Status.Ok → map P.Source.left (option_to_list result.1) ≡ Some [] ∷ [] }
     ensures counts { NeverFall (P.Sink.faults out.old) (P.Sink.faults out.new) (P.Sink.zeros out.old) (P.Sink.zeros out.new) }
+    ensures asked { IsAskedSome (P.asked place.old) ((name.now, Opening.Reading) ∷ []) (P.asked place.new) }
     ensures never_falls { P.faults place.old ≤ P.faults place.new }
     ensures same_files { P.holds place.new ≡ P.holds place.old }
 {
@@ -88,6 +91,7 @@ pub fn check_call<P: Place>(
     // The source, the place and the sinks afterwards.
     ensures handed_back { IsHandedBack name.now (map P.Source.name (option_to_list result.1)) result.0 }
     ensures at_end { IsSome (P.holds place.old) → result.0 ≡ Status.Ok → map P.Source.left (option_to_list result.1) ≡ Some [] ∷ [] }
+    ensures asked { IsAskedSome (P.asked place.old) ((name.now, Opening.Reading) ∷ []) (P.asked place.new) }
     ensures never_falls { P.faults place.old ≤ P.faults place.new }
     ensures same_files { P.holds place.new ≡ P.holds place.old }
     ensures out_counts { NeverFall (P.Sink.faults out.old) (P.Sink.faults out.new) (P.Sink.zeros out.old) (P.Sink.zeros out.new) }

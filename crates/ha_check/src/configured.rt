@@ -1,5 +1,7 @@
 //! The configuration of a file.
-ghost use Rattle.std.specs.Prelude.{◌≡◌, ◌≤◌, ◌∷◌, [], IfOk, IfErr, IfSome, IsSome, Ok, Some, map, option_to_list};
+ghost use Rattle.std.specs.Prelude.{◌≡◌, ◌≤◌, ◌∷◌, [], IfOk, IfErr, IfSome, IsSome, Ok, Some, is_ok, map, option_to_list};
+ghost use Rattle.ha_io.specs.declared.place.Opening.{Opening};
+ghost use Rattle.ha_io.specs.Told.{AreAsked};
 ghost use Rattle.ha_status.specs.Causes.{OpenCause, ReadCause};
 ghost use Rattle.ha_status.specs.Files.{IsHandedBack, IsTextFault, ThereCause};
 ghost use Rattle.ha_model.specs.Sound.{IsSoundConfig};
@@ -67,6 +69,7 @@ pub fn read_config_at<P: Place>(
     ensures there { IfErr result (λ end. ThereCause (P.holds place.old) name.now end.status) }
     ensures handed_back { IfErr result (λ end. IsHandedBack name.now (map P.Source.name (option_to_list end.source)) end.status) }
 
+    ensures asked { AreAsked (is_ok result) (P.asked place.old) ((name.now, Opening.Reading) ∷ []) (P.asked place.new) }
     ensures never_falls { P.faults place.old ≤ P.faults place.new }
     ensures same_files { P.holds place.new ≡ P.holds place.old }
 {

@@ -1,7 +1,8 @@
 //! The file of a configuration, opened and read whole.
-ghost use Rattle.std.specs.Prelude.{◌≡◌, ◌≤◌, ◌∷◌, [], ◌⊎◌, IfOk, IfErr, IfSome, IsSome, length, map, option_to_list, Some};
+ghost use Rattle.std.specs.Prelude.{◌≡◌, ◌≤◌, ◌∷◌, [], ◌⊎◌, IfOk, IfErr, IfSome, IsSome, is_ok, length, map, option_to_list, Some};
 ghost use Rattle.std.specs.Io.KnownBytes.{IsAtEnd};
-ghost use Rattle.ha_io.specs.Told.{HasFile};
+ghost use Rattle.ha_io.specs.declared.place.Opening.{Opening};
+ghost use Rattle.ha_io.specs.Told.{AreAsked, HasFile};
 ghost use Rattle.ha_status.specs.Causes.{OpenCause, ReadCause};
 ghost use Rattle.ha_status.specs.Files.{HoldsText, IsAlone, IsHandedBack, IsTextFault, LongCause, ThereCause, most_config_bytes};
 
@@ -48,6 +49,7 @@ pub fn read_config_file<P: Place>(
     ensures there { IfErr result (λ end. ThereCause (P.holds place.old) name.now end.status) }
     ensures handed_back { IfErr result (λ end. IsHandedBack name.now (map P.Source.name (option_to_list end.source)) end.status) }
 
+    ensures asked { AreAsked (is_ok result) (P.asked place.old) ((name.now, Opening.Reading) ∷ []) (P.asked place.new) }
     ensures never_falls { P.faults place.old ≤ P.faults place.new }
     ensures same_files { P.holds place.new ≡ P.holds place.old }
 {

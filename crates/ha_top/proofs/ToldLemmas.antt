@@ -22,7 +22,7 @@ use Rattle.ha_run.proofs.WrittenLemmas.{end_cut_of_end, end_cut_of_whole}
 use Rattle.ha_check.specs.Configured.{RefusedCause}
 use Rattle.ha_top.specs.Views.{After, Before}
 use Rattle.ha_top.specs.Written.{AllWritten, EndWritten, LineBehind, NoneWritten, SomeWritten, handed, seen, written}
-use Rattle.ha_top.specs.Answered.{Answered, IsBooted, IsStore, IsStoreFault, IsTaken, RunOpenCause, StoreCause, WriteFailed, WriteTookNone, scene}
+use Rattle.ha_top.specs.Answered.{Answered, IsAskedFor, IsBooted, IsStore, IsStoreFault, IsTaken, RunOpenCause, StoreCause, WriteFailed, WriteTookNone, opens, scene}
 use Rattle.ha_top.specs.Lived.{Lived, Untouched, unlined}
 
 if_all : {X : Type 0} (o : Option X) (P : X → Type 0) → ((x : X) → P x) → IfSome o P
@@ -34,7 +34,8 @@ still_told None line = refl
 still_told (Some t) line = refl
 
 module _ (words : RunWords) (b : Before) (a : After) (r : Status) (err : SinkState) (l : Lived words b a) (is : (r ≡ a.status) ⊎ (r ≡ Status.Memory))
-    (line : TookLine (OneRose a.err.faults err.faults a.err.zeros err.zeros) r a.err.took err.took) (faults : a.err.faults ≤ err.faults) (zeros : a.err.zeros ≤ err.zeros) (name : err.name ≡ a.err.name) where
+    (line : TookLine (OneRose a.err.faults err.faults a.err.zeros err.zeros) r a.err.took err.took) (faults : a.err.faults ≤ err.faults) (zeros : a.err.zeros ≤ err.zeros) (name : err.name ≡ a.err.name)
+    (asked : IsAskedFor (opens words) a.journal b.place.asked a.place.asked) where
   abbrev told_after : After
   told_after = record a { status = r; err = err }
 
@@ -106,6 +107,7 @@ module _ (words : RunWords) (b : Before) (a : After) (r : Status) (err : SinkSta
   told_answers = record {
     stands = stood;
     traced = l.traced;
+    asked = asked;
     same = record {
       out = l.same.out;
       err = record {

@@ -1,7 +1,8 @@
 -- What a run answers for. Whoever wants to trust the program reads this page, what stands at each status (`ha_run`'s `Stands` and `Served`), what
 -- was written (`Written`), and the meaning that they cite.
-use Rattle.std.specs.Prelude.{ℕ, ◌≡◌, ◌<◌, ◌⊎◌, List, [], ◌∷◌, map, Option, Some, None, Ok, Err, IfSome, IsOk, IsSomeAnd, Contains}
+use Rattle.std.specs.Prelude.{ℕ, ◌≡◌, ◌<◌, ◌⊎◌, List, [], ◌∷◌, ◌++◌, map, option_to_list, Option, Some, None, Ok, Err, IfSome, IsOk, IsSomeAnd, Contains}
 use Rattle.ha_io.specs.declared.place.Opening.{Opening}
+use Rattle.ha_io.specs.Told.{Call, IsAskedSome, and_asked}
 use Rattle.ha_model.specs.declared.config.Config.{Config}
 use Rattle.ha_model.specs.declared.journal.Entry.{Entry}
 use Rattle.ha_model.specs.declared.journal.Entry.TheVariants.{Boot}
@@ -62,6 +63,19 @@ IsTaken file = IsSomeAnd file (λ text. IsOk (config_of text))
 abbrev pub IsStore : Option Text → Type 0
 IsStore kept = (stored : Option Switches) × AreStored kept stored
 
+-- ---- what a place is asked for
+
+-- the files that a run opens, in order, and what for: its configuration and its sources are read, its trace is written
+abbrev pub opens : RunWords → List Call
+opens words =
+    (words.config, Opening.Reading) ∷ map (λ name. (name, Opening.Reading)) words.sources
+    ++ map (λ name. (name, Opening.Writing)) (option_to_list words.trace)
+
+-- the place was asked for these files and no others, in order; for all of them where anything was booted, else for the first ones
+abbrev pub IsAskedFor : List Call → List Entry → Option (List Call) → Option (List Call) → Type 0
+IsAskedFor calls [] before after = IsAskedSome before calls after
+IsAskedFor calls (boot ∷ later) before after = after ≡ and_asked before calls
+
 -- ---- the trace
 
 -- a trace is there exactly where the words name one, and has that name, where it is told
@@ -97,6 +111,7 @@ pub record Answered (words : RunWords) (b : Before) (a : After) : Type 0 where
   -- the journal, the lines of each source, the calls, the errors, the trace and the store, by the status
   pub stands : StandsAt (IsBooted words b) (scene words b a) (written b a) a.status
   pub traced : IsTraceOf words.trace a.journal a.trace
+  pub asked : IsAskedFor (opens words) a.journal b.place.asked a.place.asked
   pub same : AreTheSame b a
   -- A configuration is refused with the line and code of its text, and where none is taken, one of its answers comes first. A store likewise.
   pub refused : RefusedCause b.place.files words.config a.status

@@ -7,7 +7,9 @@ use Rattle.ha_status.specs.Files.{IsHandedBack}
 use Rattle.ha_words.specs.declared.plan.Plan.{Plan}
 use Rattle.ha_words.specs.declared.plan.Plan.TheVariants.{Run, Check, Replay, Rehearse}
 use Rattle.ha_check.specs.Checked.{IsAnswerOf, IsCheckStatus, IsOutput}
+use Rattle.ha_io.specs.declared.place.Opening.{Opening}
 use Rattle.ha_io.specs.Counts.{Rose}
+use Rattle.ha_io.specs.Told.{IsAskedSome}
 use Rattle.ha_top.specs.Views.{After, Before}
 use Rattle.ha_top.specs.Written.{LineBehind, NoneWritten}
 use Rattle.ha_top.specs.Answered.{Answered}
@@ -31,6 +33,7 @@ pub record Unplanned (b : Before) (a : After) : Type 0 where
 pub record Checked (name : Text) (b : Before) (a : After) : Type 0 where
   pub answer : IsCheckStatus name a.status
   pub of_file : IfSome b.place.files (λ f. IsAnswerOf (f name) a.status)
+  pub asked : IsAskedSome b.place.asked ((name, Opening.Reading) ∷ []) a.place.asked
   pub output : IsOutput b.place.files name a.status b.out.took a.out.took
   pub line : LineBehind b a b.err.took
   pub nothing : HasNoJournal b a

@@ -1,6 +1,7 @@
 -- What a run is handed, and what it leaves, as far as it is told.
 use Rattle.std.specs.Prelude.{ℕ, List, Option}
 use Rattle.ha_io.specs.declared.place.Opening.{Opening}
+use Rattle.ha_io.specs.Told.{Call}
 use Rattle.ha_model.specs.declared.journal.Entry.{Entry}
 use Rattle.ha_model.specs.Records.{Records}
 use Rattle.ha_model.specs.Words.{Text}
@@ -9,11 +10,12 @@ use Rattle.ha_status.specs.declared.status.Status.{Status}
 use Rattle.bus_turn.specs.States.{KeeperState, SinkState}
 use Rattle.ha_worker.specs.Courses.{SourceState}
 
--- the bytes of a place's files, where they are told, how often it has failed, and the name of its last failure, where that is told
+-- The bytes of a place's files, how often it has failed, the name of its last failure, and all that it was asked for. But for the count, as far as it tells.
 pub record PlaceState : Type 0 where
   pub files : Option Files
   pub faults : ℕ
   pub last : Option (Option (Text × Opening))
+  pub asked : Option (List Call)
 
 -- what a run is handed
 pub record Before : Type 0 where
@@ -34,8 +36,8 @@ pub record After : Type 0 where
   pub trace : Option SinkState
   pub keep : KeeperState
 
-abbrev pub place_state : Option Files → ℕ → Option (Option (Text × Opening)) → PlaceState
-place_state files faults last = record { files = files; faults = faults; last = last }
+abbrev pub place_state : Option Files → ℕ → Option (Option (Text × Opening)) → Option (List Call) → PlaceState
+place_state files faults last asked = record { files = files; faults = faults; last = last; asked = asked }
 
 abbrev pub before_run : PlaceState → SinkState → SinkState → KeeperState → Before
 before_run place out err keep = record { place = place; out = out; err = err; keep = keep }

@@ -6,6 +6,7 @@ ghost use Rattle.ha_model.specs.declared.journal.Entry.TheVariants.{Boot};
 ghost use Rattle.ha_model.specs.Sound.{IsSoundConfig};
 ghost use Rattle.bus_turn.specs.States.{keeper_of, outside_of, sink_of};
 ghost use Rattle.ha_worker.specs.Courses.{source_of};
+ghost use Rattle.ha_top.specs.Answered.{IsAskedFor, opens};
 ghost use Rattle.ha_top.specs.Booted.{RanOrNot};
 ghost use Rattle.ha_top.specs.Lived.{Lived};
 ghost use Rattle.ha_top.specs.Unready.{GivesBack};
@@ -149,9 +150,10 @@ pub(crate) fn run_files<R: Threads + Wait + Sync, E: Boots, P: Place, Q: Keeper,
     requires out_new { (P.Sink.faults out ≡ 0) × (P.Sink.zeros out ≡ 0) }
     requires err_new { (P.Sink.faults err ≡ 0) × (P.Sink.zeros err ≡ 0) }
     requires keep_new { Q.faults keep ≡ 0 }
-    ensures { let s = sink_of P.Sink.written P.Sink.faults P.Sink.zeros P.Sink.name in
+    ensures lived { let s = sink_of P.Sink.written P.Sink.faults P.Sink.zeros P.Sink.name in
         let q = keeper_of Q.kept Q.faults in
-        Lived words.now (before_run (place_state (P.holds place.old) (P.faults place.old) (P.last place.old)) (s out) (s err) (q keep)) (after_run result.status result.journal result.records (map (source_of P.Source.faults P.Source.left P.Source.name) result.sources) (place_state (P.holds place.new) (P.faults place.new) (P.last place.new)) (s result.out) (s result.err) (option_map s result.trace) (q result.keep)) }
+        Lived words.now (before_run (place_state (P.holds place.old) (P.faults place.old) (P.last place.old) (P.asked place.old)) (s out) (s err) (q keep)) (after_run result.status result.journal result.records (map (source_of P.Source.faults P.Source.left P.Source.name) result.sources) (place_state (P.holds place.new) (P.faults place.new) (P.last place.new) (P.asked place.new)) (s result.out) (s result.err) (option_map s result.trace) (q result.keep)) }
+    ensures asked { IsAskedFor (opens words.now) result.journal (P.asked place.old) (P.asked place.new) }
 {
     let mut keep = keep;
     let (text, config) = match read_config_at(alloc, place, words.config.as_str()) {

@@ -1,5 +1,7 @@
 //! What a run needs before it boots: the stored switches, its sources, and the sink of its trace.
-ghost use Rattle.std.specs.Prelude.{◌≡◌, ◌≤◌, ◌++◌, ◌∷◌, [], ◌⊎◌, IfOk, IfErr, IfSome, List, map, option_map};
+ghost use Rattle.std.specs.Prelude.{◌≡◌, ◌≤◌, ◌++◌, ◌∷◌, [], ◌⊎◌, IfOk, IfErr, IfSome, List, is_none, is_ok, map, option_map, option_to_list};
+ghost use Rattle.ha_io.specs.declared.place.Opening.{Opening};
+ghost use Rattle.ha_io.specs.Told.{AreAsked};
 ghost use Rattle.ha_model.specs.Sound.{IsSoundStore};
 ghost use Rattle.ha_model.specs.Words.{Text};
 ghost use Rattle.ha_status.specs.Causes.{KeepCause, OpenCause};
@@ -54,6 +56,7 @@ pub(crate) fn load_store<Q: Keeper>(
 /// Opens a source of the words.
 fn open_source<P: Place>(alloc: Global, place: &mut P, name: &Word) -> Result<P::Source, Status>
     ensures ok { IfOk result (λ source. IsOpened (P.holds place.old) name.now (source_of P.Source.faults P.Source.left P.Source.name source)) }
+    ensures asked { AreAsked (is_ok result) (P.asked place.old) ((name.now, Opening.Reading) ∷ []) (P.asked place.new) }
     ensures fault { IfErr result IsOpenFault }
     ensures cause { IfErr result (OpenCause (name.now ∷ []) (P.faults place.old) (P.faults place.new) (P.last place.new)) }
     ensures never_falls { P.faults place.old ≤ P.faults place.new }
@@ -85,6 +88,7 @@ pub(crate) fn open_sources<P: Place>(
 ) -> Opened<P::Source>
     ensures opens { (before : List Text) → AreNew (P.holds place.old) before (map (source_of P.Source.faults P.Source.left P.Source.name) sources.items)
         → OpensAs (P.holds place.old) (before ++ names.now) (map (source_of P.Source.faults P.Source.left P.Source.name) result.sources) result.fault }
+    ensures asked { AreAsked (is_none result.fault) (P.asked place.old) (map (λ name. (name, Opening.Reading)) names.now) (P.asked place.new) }
     ensures fault { IfSome result.fault IsOpenFault }
     ensures cause { IfSome result.fault (OpenCause names.now (P.faults place.old) (P.faults place.new) (P.last place.new)) }
     ensures never_falls { P.faults place.old ≤ P.faults place.new }
@@ -122,6 +126,7 @@ pub(crate) fn open_trace<P: Place>(
     name: &Option<Word>,
 ) -> Result<Option<P::Sink>, Status>
     ensures empty { IfOk result (λ trace. IfSome trace (λ sink. IfSome (P.Sink.written sink) (λ t. t ≡ []))) }
+    ensures asked { AreAsked (is_ok result) (P.asked place.old) (map (λ name. (name, Opening.Writing)) (option_to_list name.now)) (P.asked place.new) }
     ensures named { IfOk result (λ trace. IsNamedTrace name.now (option_map (sink_of P.Sink.written P.Sink.faults P.Sink.zeros P.Sink.name) trace)) }
     ensures fault { IfErr result IsOpenFault }
     ensures cause { IfErr result (TraceOpenCause name.now (P.faults place.old) (P.faults place.new) (P.last place.new)) }

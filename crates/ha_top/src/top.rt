@@ -42,7 +42,7 @@ pub fn run_live<R: Threads + Wait + Sync, E: Boots, P: Place, Q: Keeper, G: Gate
     requires keep_new { Q.faults keep ≡ 0 }
     ensures { let s = sink_of P.Sink.written P.Sink.faults P.Sink.zeros P.Sink.name in
         let q = keeper_of Q.kept Q.faults in
-        Answered words.now (before_run (place_state (P.holds place.old) (P.faults place.old) (P.last place.old)) (s out) (s err) (q keep)) (after_run result.status result.journal result.records (map (source_of P.Source.faults P.Source.left P.Source.name) result.sources) (place_state (P.holds place.new) (P.faults place.new) (P.last place.new)) (s result.out) (s result.err) (option_map s result.trace) (q result.keep)) }
+        Answered words.now (before_run (place_state (P.holds place.old) (P.faults place.old) (P.last place.old) (P.asked place.old)) (s out) (s err) (q keep)) (after_run result.status result.journal result.records (map (source_of P.Source.faults P.Source.left P.Source.name) result.sources) (place_state (P.holds place.new) (P.faults place.new) (P.last place.new) (P.asked place.new)) (s result.out) (s result.err) (option_map s result.trace) (q result.keep)) }
 {
     let Outcome {
         status,

@@ -168,7 +168,7 @@ fn run_files<R: Abort + Threads + Wait + Sync + Alloc<A = Global>, G: Gate>(
 ) -> Result<Outcome<MemPlace, MemKeeper>, AllocError> {
     let alloc = rt.alloc();
     assert!(rt; have_distinct_names(&files));
-    let mut place = MemPlace::make(files, Vec::new(alloc));
+    let mut place = MemPlace::make(alloc, files, Vec::new(alloc));
     let mut given = Vec::new(alloc);
     for word in words {
         given.push(String::from_str(alloc, word)?)?;

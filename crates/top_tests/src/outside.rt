@@ -75,7 +75,7 @@ fn home(alloc: Global) -> Result<MemPlace, Fail> {
     if !have_distinct_names(&files) {
         return Err(Fail::from("distinct"));
     }
-    Ok(MemPlace::make(files, numbers(alloc, &[2])?))
+    Ok(MemPlace::make(alloc, files, numbers(alloc, &[2])?))
 }
 
 #[test]

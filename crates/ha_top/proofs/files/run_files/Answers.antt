@@ -14,8 +14,8 @@ use Rattle.ha_top.proofs.OpenLemmas.{new_count, opens_all, opens_front}
 use Rattle.ha_top.proofs.RunLemmas.{ran_lived}
 use Rattle.ha_top.proofs.files.run_files.Goals as goal
 
-pub returns-in-Some : goal.returns-in-Some
-returns-in-Some g c =
+pub returns-in-Some-clause-lived : goal.returns-in-Some-clause-lived
+returns-in-Some-clause-lived g c =
     let state = source_of g.P.Source.Source.faults g.P.Source.Source.left g.P.Source.Source.name in
     let sink = sink_of g.P.Sink.Sink.written g.P.Sink.Sink.faults g.P.Sink.Sink.zeros g.P.Sink.Sink.name in
     let e = c.unbooted-in-Some.ensures in
@@ -34,8 +34,8 @@ returns-in-Some g c =
     (subst (λ z. AreOpened c.args.words.now.sources (map state z)) (sym e.sources)
     (subst (λ z. AreOpened z (map state c.open_sources-sources.result.sources)) c.as_slice.ensures (opens_front _ _ _ _ opens)))
 
-pub returns-in-Err-open_trace : goal.returns-in-Err-open_trace
-returns-in-Err-open_trace g c =
+pub returns-in-Err-open_trace-clause-lived : goal.returns-in-Err-open_trace-clause-lived
+returns-in-Err-open_trace-clause-lived g c =
     let state = source_of g.P.Source.Source.faults g.P.Source.Source.left g.P.Source.Source.name in
     let sink = sink_of g.P.Sink.Sink.written g.P.Sink.Sink.faults g.P.Sink.Sink.zeros g.P.Sink.Sink.name in
     let e = c.unbooted-in-Err-open_trace.ensures in
@@ -66,8 +66,8 @@ run_booted-requires-clause-few g c κs within =
     let many = new_count state _ _ c.open_sources-sources.result.sources (opens_all _ _ _ c.open_sources-sources.result.fault c.in_default.is opens) ∙ ap length c.as_slice.ensures in
     omega (arith, many, c.requires.few)
 
-pub returns : goal.returns
-returns g c =
+pub returns-clause-lived : goal.returns-clause-lived
+returns-clause-lived g c =
     let state = source_of g.P.Source.Source.faults g.P.Source.Source.left g.P.Source.Source.name in
     let sink = sink_of g.P.Sink.Sink.written g.P.Sink.Sink.faults g.P.Sink.Sink.zeros g.P.Sink.Sink.name in
     let opens = c.open_sources-sources.ensures.opens [] (subst (λ z. AreNew (g.P.Place.holds c.read_config_at.new.place) [] (map state z)) (sym c.new.ensures.items) tt) in
