@@ -1,0 +1,54 @@
+-- Entries of the journal, records of runs, states and waits may move between threads.
+use mathlib.Core.List.{[], ◌∷◌}
+use denote.Builtin.{u64}
+use denote.Struct.Tuple.{Tuple}
+use denote.Param.Send.{IsSend, sendable}
+use Rattle.std.specs.contracts.option.Option as Option
+use Rattle.ha_model.specs.contracts.journal.Cmd as Cmd
+use Rattle.ha_model.specs.contracts.journal.Item as Item
+use Rattle.ha_model.specs.contracts.journal.Entry as Entry
+use Rattle.ha_model.specs.contracts.journal.EndCause as EndCause
+use Rattle.ha_model.specs.contracts.journal.Record as Record
+use Rattle.ha_model.specs.contracts.journal.StateObject as StateObject
+use Rattle.ha_model.specs.contracts.journal.WaitAsk as WaitAsk
+use Rattle.ha_model.specs.contracts.journal.WaitEnd as WaitEnd
+use Rattle.ha_model.proofs.journal.EndCause.TheSendSync as cause
+use Rattle.engine_sends.proofs.Scripts.{scripts}
+
+pub command_field : IsSend Cmd.the_field.row
+command_field = search scripts depth 60 fits 20000
+
+pub item_field : IsSend Item.the_field.row
+item_field = search scripts depth 60 fits 20000
+
+pub entry_field : IsSend Entry.the_field.row
+entry_field = search (command_field, item_field, scripts) depth 60 fits 20000
+
+pub entry_send : IsSend Entry.the_row
+entry_send = search (entry_field, sendable) depth 60 fits 20000
+
+pub ended_field : IsSend (Option.the_field (Tuple (u64 ∷ EndCause.the_row ∷ []))).row
+ended_field = search (cause.the_send, scripts) depth 60 fits 20000
+
+pub record_field : IsSend Record.the_field.row
+record_field = search (ended_field, scripts) depth 60 fits 20000
+
+pub record_send : IsSend Record.the_row
+record_send = search (record_field, sendable) depth 60 fits 20000
+
+pub state_field : IsSend StateObject.the_field.row
+state_field = search scripts depth 60 fits 20000
+
+pub state_send : IsSend StateObject.the_row
+state_send = search (state_field, sendable) depth 60 fits 20000
+
+pub ask_field : IsSend WaitAsk.the_field.row
+ask_field = search scripts depth 60 fits 20000
+
+pub end_field : IsSend WaitEnd.the_field.row
+end_field = search scripts depth 60 fits 20000
+
+pub end_send : IsSend WaitEnd.the_row
+end_send = search (end_field, sendable) depth 60 fits 20000
+
+pub ruleset entries = (entry_send, record_send, state_send, ask_field, end_send, scripts)

@@ -1,0 +1,50 @@
+-- The parts of an engine may move between threads.
+use denote.Param.Send.{IsSend}
+use Rattle.std.proofs.Crossing.{crosses}
+use Rattle.std.proofs.collections.BTreeMap.TheSendSync as map
+use Rattle.std.proofs.string.String.TheSendSync as string
+use Rattle.std.proofs.alloc.Global.TheSendSync as heap
+use Rattle.std.below.std_heap.proofs.GlobalAllocator.TheSendSync as allocator
+use Rattle.ha_clock.proofs.zone.Zone.TheSendSync as zone
+use Rattle.timer_queue.proofs.TimerQueue.TheSendSync as queue
+use Rattle.event_bus.proofs.index.Index.TheSendSync as index
+use Rattle.trig_set.specs.contracts.spot.Held as Held
+use Rattle.trig_set.specs.contracts.spot.Spot as Spot
+use Rattle.trig_set.specs.contracts.owners.Attached as Attached
+use Rattle.trig_set.specs.contracts.set.TrigSet as TrigSet
+use Rattle.trig_set.proofs.numbers.Numbers.TheSendSync as numbers
+use Rattle.state_table.specs.contracts.table.StateTable as StateTable
+use Rattle.wait_set.specs.contracts.asked.Asked as Asked
+use Rattle.wait_set.specs.contracts.waits.Waits as Waits
+use Rattle.switch_book.proofs.book.Switches.TheSendSync as switches
+use Rattle.engine_parts.specs.contracts.parts.Parts as Parts
+use Rattle.engine_parts.proofs.ready.Ready.TheSendSync as ready
+use Rattle.engine_parts.proofs.slots.Slots.TheSendSync as slots
+use Rattle.engine_sends.proofs.Entries.{entries}
+use Rattle.engine_sends.proofs.Frames.{frames_send}
+
+held_send : IsSend Held.the_row
+held_send = search entries depth 60 fits 20000
+
+spot_send : IsSend Spot.the_row
+spot_send = search (held_send, entries) depth 60 fits 20000
+
+attached_send : IsSend Attached.the_row
+attached_send = search (spot_send, queue.the_send, crosses, entries) depth 60 fits 20000
+
+triggers_field : IsSend TrigSet.the_field.row
+triggers_field = search (attached_send, index.the_field_send, zone.the_send, numbers.the_field_send, crosses, entries) depth 60 fits 20000
+
+states_field : IsSend StateTable.the_field.row
+states_field = search (map.the_send, string.the_send, heap.the_send, allocator.the_frees, crosses, entries) depth 60 fits 20000
+
+asked_send : IsSend Asked.the_row
+asked_send = search entries depth 60 fits 20000
+
+waits_send : IsSend Waits.the_row
+waits_send = search (asked_send, queue.the_send, crosses, entries) depth 60 fits 20000
+
+ruleset kept = (states_field, switches.the_send, triggers_field, waits_send, frames_send, ready.the_field_send)
+
+pub parts_field : IsSend Parts.the_field.row
+parts_field = search (kept, zone.the_send, queue.the_send, slots.the_send, crosses, entries) depth 60 fits 20000

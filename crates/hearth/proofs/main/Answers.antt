@@ -1,0 +1,6 @@
+use denote.Param.Send.{sendable}
+use Rattle.engine_sends.proofs.Engines.{engine_send}
+use Rattle.hearth.proofs.main.Goals as goal
+
+pub hearth-outcome-requires-send-E : goal.hearth-outcome-requires-send-E
+hearth-outcome-requires-send-E c κs = search (engine_send, sendable)
