@@ -1,13 +1,14 @@
 -- What the set and the map do to the list of timers.
-use Rattle.std.proofs.Common.{◌≡◌, ◌∙◌, ap, sym, refl, subst, arith, ℕ, ◌<◌, ◌≤◌, Bool, true, false, not, ◌&&◌, ◌||◌, nat_eq, nat_lt, List, [], ◌∷◌, Option, Some, None, if◌then◌else◌, inl, inr, ◌⊎◌, cond}
-use Rattle.std.specs.Prelude.{is_some}
+use Rattle.std.proofs.Common.{◌≡◌, ◌∙◌, ap, sym, refl, arith, ℕ, ◌<◌, ◌≤◌, Bool, true, false, not, ◌&&◌, ◌||◌, nat_eq, nat_lt, List, [], ◌∷◌, Option, Some, None, if◌then◌else◌, inl, inr, ◌⊎◌, cond}
+use Rattle.std.specs.Prelude.{All, MatchOption, is_some}
+use Rattle.std.proofs.lemmas.List.Elements.{All-head, All-tail}
 use Rattle.std.proofs.lemmas.Bool.Decides.{eqb_tells, leb_tells, nat_tests}
-use Rattle.std.specs.Ordering.{is_eq, nat_cmp, ordering_then, match_ordering}
+use Rattle.std.specs.Ordering.{is_eq, is_gt, nat_cmp, ordering_then, match_ordering}
 use Rattle.std.specs.declared.cmp.Ordering.{Ordering}
 use Rattle.std.specs.declared.cmp.Ordering.TheVariants.{Less, Equal, Greater}
 use Rattle.std.specs.BTreeSet.{insert_key}
 use Rattle.std.specs.Set.{remove_key}
-use Rattle.timer_queue.specs.Timers.{Timer, distinct_keys, due_of, inserted, is_before, removed}
+use Rattle.timer_queue.specs.Timers.{IsLeast, Timer, distinct_keys, due_of, inserted, is_before, removed}
 
 -- the order of the set's keys
 abbrev pub order : Timer → Timer → Ordering
@@ -224,3 +225,29 @@ map_popped f g x xs d after before q =
 pub absent_of : (o : Option ℕ) → is_some o ≡ false → o ≡ None
 absent_of None h = refl
 absent_of (Some n) h = absurd (let bad : ◌≡◌ {A = Bool} true false = h in cc)
+
+-- ---- the first timer
+
+not_after : (a b : Timer) → is_gt (order a b) ≡ false → a.0 ≤ b.0
+not_after a b h = elim (leb_tells a.0 b.0) [
+  | inl fits ↦ fits.1
+  | inr more ↦ absurd (let bad : ◌≡◌ {A = Bool} true false = sym (ap is_gt (ap (λ o. ordering_then o (nat_cmp a.1 b.1)) (cmp_more a.0 b.0 more.1))) ∙ h in cc)
+]
+
+-- LAW: no timer is due before one that no other comes before
+pub least_of : (x : Timer) (ts : List Timer) → All (λ t. is_gt (order x t) ≡ false) ts → IsLeast (Some x.0) ts
+least_of x [] all key = tt
+least_of x (t ∷ ts) all key = by (nat_eq t.1 key) (least_of x ts (All-tail (λ t. is_gt (order x t) ≡ false) t ts all) key)
+  where
+    by : (b : Bool) → MatchOption (due_of key ts) (Unit {0}) (λ due. x.0 ≤ due) → MatchOption (if b then Some t.0 else due_of key ts) (Unit {0}) (λ due. x.0 ≤ due)
+    by true rest = not_after x t (All-head (λ t. is_gt (order x t) ≡ false) t ts all)
+    by false rest = rest
+
+-- LAW: where the first due comes after a moment, each does
+pub later_than : (now : ℕ) (first : Option ℕ) (ts : List Timer) → IsLeast first ts → MatchOption first (Unit {0}) (λ due. now < due) → (key : ℕ) → MatchOption (due_of key ts) (Unit {0}) (λ due. now < due)
+later_than now first ts least later key = by first (due_of key ts) later (least key)
+  where
+    by : (f o : Option ℕ) → MatchOption f (Unit {0}) (λ due. now < due) → MatchOption o (Unit {0}) (λ due. MatchOption f ⊥ (λ d. d ≤ due)) → MatchOption o (Unit {0}) (λ due. now < due)
+    by f None h le = tt
+    by None (Some due) h le = absurd le
+    by (Some d) (Some due) h le = omega (arith, h, le)

@@ -1,5 +1,5 @@
 -- Timers, ordered by due, then key. A timer is a due, in milliseconds from 1970 on, and a key.
-use Rattle.std.specs.Prelude.{ℕ, ◌&&◌, ◌||◌, nat_eq, nat_le, nat_lt, not, Bool, true, List, [], ◌∷◌, Option, Some, None, is_some, if◌then◌else◌}
+use Rattle.std.specs.Prelude.{ℕ, ◌≤◌, ◌&&◌, ◌||◌, nat_eq, nat_le, nat_lt, not, Bool, true, List, [], ◌∷◌, Option, Some, None, is_some, MatchOption, if◌then◌else◌}
 
 abbrev pub Timer : Type 0
 Timer = ℕ × ℕ
@@ -37,3 +37,12 @@ after_due now (x ∷ xs) = if nat_le x.0 now then xs else x ∷ xs
 abbrev pub distinct_keys : List Timer → Bool
 distinct_keys [] = true
 distinct_keys (x ∷ xs) = not (is_some (due_of x.1 xs)) && distinct_keys xs
+
+-- the due of the first timer
+abbrev pub earliest : List Timer → Option ℕ
+earliest [] = None
+earliest (x ∷ xs) = Some x.0
+
+-- no timer is due before this one, and there is none where it is none
+abbrev pub IsLeast : Option ℕ → List Timer → Type 0
+IsLeast first ts = (key : ℕ) → MatchOption (due_of key ts) (Unit {0}) (λ due. MatchOption first ⊥ (λ least. least ≤ due))

@@ -1,8 +1,9 @@
 //! Due times in order: what waits for a moment, taken out by due and then by key.
 #![tactic(auto)]
 
-ghost use Rattle.std.specs.Prelude.{◌≡◌, ◌<◌, ◌↔◌, [], IsNone, IsTrue, All, OnErr, OnOk, is_some};
-ghost use Rattle.timer_queue.specs.Timers.{after_due, due_of, first_due, inserted, removed};
+ghost use Rattle.std.specs.Prelude.{◌≡◌, ◌<◌, ◌↔◌, ℕ, [], IsNone, IsTrue, MatchOption, All, OnErr, OnOk, false, is_some, nat_le};
+ghost use Rattle.std.specs.Option.{option_map_or};
+ghost use Rattle.timer_queue.specs.Timers.{IsLeast, after_due, due_of, earliest, first_due, inserted, removed};
 
 use ha_clock::Moment;
 use std::alloc::Global;
@@ -79,6 +80,35 @@ impl TimerQueue {
         }
     }
 
+    /// The due of the key's timer, if there is one.
+    pub fn due(&self, key: u64) -> Option<Moment>
+        ensures { result ≡ due_of key self.now }
+    {
+        self.dues.get(&key).copied()
+    }
+
+    /// The due of the first timer, if there is one.
+    pub fn earliest(&self) -> Option<Moment>
+        ensures first { result ≡ earliest self.now }
+        ensures least { IsLeast result self.now }
+    {
+        match self.timers.first() {
+            Some(first) => Some(first.0),
+            None => None,
+        }
+    }
+
+    /// Whether a timer is due at or before `now`.
+    pub fn is_due(&self, now: Moment) -> bool
+        ensures first { result ≡ option_map_or (λ due. nat_le due now) (earliest self.now) false }
+        ensures none { result ≡ false → (key : ℕ) → MatchOption (due_of key self.now) (Unit {0}) (λ due. now < due) }
+    {
+        match self.earliest() {
+            Some(due) => due <= now,
+            None => false,
+        }
+    }
+
     /// Takes the first timer out, if it is due at or before `now`, and gives its key.
     pub fn pop_due(&mut self, now: Moment) -> Option<u64>
         ensures first { result ≡ first_due now self.old }
@@ -92,5 +122,12 @@ impl TimerQueue {
         let (_, key) = self.timers.pop_first()?;
         self.dues.remove(&key);
         Some(key)
+    }
+    /// Takes all timers out.
+    pub fn clear(&mut self)
+        ensures { self.new ≡ [] }
+    {
+        self.timers.clear();
+        self.dues.clear();
     }
 }

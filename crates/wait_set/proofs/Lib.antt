@@ -6,3 +6,4 @@ pub mod CutLemmas
 pub mod AddLemmas
 pub mod FindLemmas
 pub mod FreshLemmas
+pub mod CalmLemmas

@@ -9,7 +9,7 @@ ghost use Rattle.ha_model.specs.Scripts.{Branch as Path};
 ghost use Rattle.wait_set.specs.declared.asked.Asked.{Asked as Wait};
 ghost use Rattle.wait_set.specs.Asked.{added, end_of, is_of, noted, owners_ended, owners_of, wait_of, without_run};
 ghost use Rattle.wait_set.specs.Stands.{IsNext, StandsFor};
-ghost use Rattle.wait_set.specs.Timers.{AreTimed, timer_added};
+ghost use Rattle.wait_set.specs.Timers.{AreKept, AreLater, AreTimed, is_asking, timer_added};
 ghost use Rattle.timer_queue.specs.Timers.{due_of, removed};
 
 use crate::asked::{Asked, is_of, note_one};
@@ -19,12 +19,14 @@ use std::marker::Model;
 use timer_queue::TimerQueue;
 
 /// The waits of all runs, in the order in which they were asked for, with the dues of those that
-/// have not ended; and who owns those that ended at the entry noted last.
+/// have not ended; who owns those that ended at the entry noted last; and whether one that has not
+/// ended may ask a template.
 #[derive(Drop)]
 pub struct Waits {
     asks: Vec<Asked>,
     fresh: Vec<u64>,
     timers: TimerQueue,
+    templates: bool,
 }
 
 impl Model for Waits {
@@ -39,11 +41,11 @@ impl Model for Waits {
 
     ghost coded = { Prim.hlevel (codes, value.the_row.coded, expr.the_row.coded, piece.the_row.coded, template.the_row.coded) };
 
-    ghost use Rattle.wait_set.specs.Timers.{AreTimed};
+    ghost use Rattle.wait_set.specs.Timers.{AreKept};
 
     ghost view = { λ w. record { asks = w.asks.items; fresh = w.fresh.items } };
 
-    ghost invariant = { λ w. AreTimed w.asks.items w.timers };
+    ghost invariant = { λ w. AreKept w.asks.items w.timers w.templates };
 }
 
 impl Waits {
@@ -57,6 +59,7 @@ impl Waits {
             asks: Vec::new(alloc),
             fresh: Vec::new(alloc),
             timers: TimerQueue::make(alloc),
+            templates: false,
         }
     }
 
@@ -70,6 +73,7 @@ impl Waits {
         ensures err { OnErr result (self.new.asks ≡ self.old.asks) }
         ensures stands { OnOk result ((j : Journal) → HasEntry j → StandsFor self.old.asks j → place ≡ length j → StandsFor self.new.asks j) }
     {
+        let templates = may_ask(self.templates, &ask);
         add_one(
             &mut self.asks,
             &mut self.timers,
@@ -80,6 +84,7 @@ impl Waits {
                 end: None,
             },
         )?;
+        self.templates = templates;
         Ok(())
     }
 
@@ -99,11 +104,12 @@ impl Waits {
         ensures stands { OnOk result ((j : Journal) (x : Entry) → StandsFor self.old.asks j → IsNext j place x (A.sight answers.now) fired.now self.old.asks → StandsFor self.new.asks (more j x)) }
     {
         self.fresh.clear();
-        note_all(
+        note_entry(
             alloc,
             &mut self.asks,
             &mut self.fresh,
             &mut self.timers,
+            &mut self.templates,
             place,
             fired,
             answers,
@@ -234,6 +240,60 @@ fn note_all<A: Answers>(
         }
     }
     Ok(())
+}
+
+/// Notes the next entry. The waits are gone through only where it may concern one: where something
+/// fires, a due has come, or a template is asked.
+fn note_entry<A: Answers>(
+    alloc: Global,
+    asks: &mut Vec<Asked>,
+    fresh: &mut Vec<u64>,
+    timers: &mut TimerQueue,
+    templates: &mut bool,
+    place: u64,
+    fired: &Many<Firing>,
+    answers: &A,
+) -> Result<(), AllocError>
+    requires { AreKept asks.old.items timers.old templates.old }
+    ensures ok { OnOk result (asks.new.items ≡ noted place (A.sight answers.now) fired.now asks.old.items) }
+    ensures fresh { OnOk result (fresh.new.items ≡ fresh.old.items ++ owners_ended place (A.sight answers.now) fired.now asks.old.items) }
+    ensures kept { AreKept asks.new.items timers.new templates.new }
+{
+    if is_calm(timers, *templates, fired.as_slice(), answers.now()) {
+        return Ok(());
+    }
+    *templates = true;
+    note_all(alloc, asks, fresh, timers, place, fired, answers)?;
+    *templates = ask_templates(asks.as_slice());
+    Ok(())
+}
+
+/// Whether nothing fires, no due has come and no template is asked.
+fn is_calm(timers: &TimerQueue, templates: bool, fired: &[Firing], now: Moment) -> bool
+    ensures { result ≡ true → (templates ≡ false) × (fired.now ≡ []) × AreLater now timers.now }
+{
+    if templates {
+        return false;
+    }
+    if !fired.is_empty() {
+        return false;
+    }
+    !timers.is_due(now)
+}
+
+/// Whether a template may be asked, with one more wait.
+fn may_ask(templates: bool, ask: &WaitAsk) -> bool
+    ensures { result ≡ (templates || is_some ask.now.test) }
+{
+    templates || ask.test.is_some()
+}
+
+/// Whether a wait that has not ended asks a template.
+fn ask_templates(asks: &[Asked]) -> bool
+    ensures { result ≡ list_any is_asking asks.now }
+{
+    asks.iter()
+        .any(|asked| asked.end.is_none() && asked.ask.test.is_some())
 }
 
 /// The wait of this owner has ended: its timer goes.

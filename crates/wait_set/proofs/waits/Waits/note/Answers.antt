@@ -10,11 +10,11 @@ use Rattle.wait_set.proofs.waits.Waits.note.Goals as goal
 
 pub returns-clause-stands : goal.returns-clause-stands
 returns-clause-stands g c =
-    rw (← c.self.view_is) (λ j x stands next. subst (λ a. StandsFor a (more j x)) (sym c.in_ok-note_all.ensures.ok) (noted-stands j x c.args.place (g.A.Answers.sight c.args.answers.now) c.args.fired.now c.self.inside.asks.items stands next))
+    rw (← c.self.view_is) (λ j x stands next. subst (λ a. StandsFor a (more j x)) (sym c.in_ok-note_entry.ensures.ok) (noted-stands j x c.args.place (g.A.Answers.sight c.args.answers.now) c.args.fired.now c.self.inside.asks.items stands next))
 
 pub returns-clause-told : goal.returns-clause-told
 returns-clause-told g c =
     rw (← c.self.view_is) (λ serial branch a got.
-    ap (λ asks. is_some (end_of asks serial branch)) c.in_ok-note_all.ensures.ok
-    ∙ fresh-tells c.args.place (g.A.Answers.sight c.args.answers.now) c.args.fired.now serial branch c.self.inside.asks.items a c.self.invariant.apart got
-    ∙ (λ i. is_some (end_of c.self.inside.asks.items serial branch) || list_any (nat_eq a.owner) (sym (c.in_ok-note_all.ensures.fresh ∙ (λ k. c.clear.ensures.items k ++ owners_ended c.args.place (g.A.Answers.sight c.args.answers.now) c.args.fired.now c.self.inside.asks.items)) i)))
+    ap (λ asks. is_some (end_of asks serial branch)) c.in_ok-note_entry.ensures.ok
+    ∙ fresh-tells c.args.place (g.A.Answers.sight c.args.answers.now) c.args.fired.now serial branch c.self.inside.asks.items a c.self.invariant.timed.apart got
+    ∙ (λ i. is_some (end_of c.self.inside.asks.items serial branch) || list_any (nat_eq a.owner) (sym (c.in_ok-note_entry.ensures.fresh ∙ (λ k. c.clear.ensures.items k ++ owners_ended c.args.place (g.A.Answers.sight c.args.answers.now) c.args.fired.now c.self.inside.asks.items)) i)))
