@@ -27,7 +27,7 @@ pub total-snoc : (ns : List ℕ) (n : ℕ) → total (ns ++ (n ∷ [])) ≡ tota
 total-snoc [] n = omega arith
 total-snoc (m ∷ ns) n = omega (arith, total-snoc ns n)
 
-take-all : {X : Type 0} (xs : List X) (n : ℕ) → length xs ≤ n → take n xs ≡ xs
+pub take-all : {X : Type 0} (xs : List X) (n : ℕ) → length xs ≤ n → take n xs ≡ xs
 take-all [] zero h = refl
 take-all [] (suc n) h = refl
 take-all (x ∷ xs) zero h = absurd (omega (arith, h))

@@ -31,3 +31,4 @@ pub mod OrderLemmas
 pub mod BranchLemmas
 pub mod ListedLemmas
 pub mod TellLemmas
+pub mod LeftLemmas

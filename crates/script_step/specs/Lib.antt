@@ -12,3 +12,4 @@ pub mod Ready
 pub mod Gates
 pub mod Told
 pub mod Few
+pub mod OpenBlocks
