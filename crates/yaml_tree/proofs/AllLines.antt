@@ -7,7 +7,7 @@ use Rattle.yaml_scan.specs.declared.fault.Fault.{Fault}
 use Rattle.yaml_scan.specs.Words.{sees, is_blank, is_empty, breaks}
 use Rattle.yaml_scan.specs.Lines.{is_blank_line, is_mark, is_directive, is_start, without_start}
 use Rattle.yaml_tree.specs.declared.piece.Piece.{Piece}
-use Rattle.yaml_tree.specs.Pieces.{Found, floor, heads, is_begun, is_over, go_on, pieces}
+use Rattle.yaml_tree.specs.Pieces.{Found, floor, heads, line_heads, is_begun, is_over, go_on, pieces}
 use Rattle.yaml_tree.specs.Keys.{IsKey}
 use Rattle.yaml_tree.specs.Spelling.{IsAt, here, blank, is_dash, IsLeaf, IsHeads, nothing, dash as dash_is, leaf as leaf_is, key as key_is, key_value, IsPieces, none as no_line, line as a_line, AreClean, line as clean_line}
 use Rattle.yaml_tree.proofs.LinesFound.{tested, and_true}
@@ -118,6 +118,11 @@ next_clean ps qs begun l ls ls' right some (clean_line t d m u r) i =
 
 -- ---- all lines
 
+-- A clean line has no tab among its leading blanks.
+clean_heads : (begun : Bool) (ps : List Piece) (l : RawLine) (ls ls' : List RawLine) → AreClean begun (l ∷ ls) → line_heads ps l ls' ≡ heads ps l.line true l.indent l.content ls'
+unfolding line_heads
+clean_heads begun ps l ls ls' (clean_line t d m u r) = rw t refl
+
 abbrev Read : List Piece → List RawLine → Found → Type 0
 Read ps ls f = Passes f → IsPieces ps ls f.pieces
 
@@ -136,12 +141,15 @@ pieces_found zero ps begun ls lt some c e = absurd (omega arith)
 pieces_found (suc k) ps begun [] lt some c e = no_line
 pieces_found (suc k) ps begun (l ∷ ls) lt some c e =
     let h = not_over ps begun l ls some c in
-    let f : Found = heads ps l.line true l.indent l.content ls in
+    let f : Found = line_heads ps l ls in
+    let same = clean_heads begun ps l ls ls c in
+    let good : Passes f → Good f ps (λ qs ls'. IsHeads l.line (floor ps) true l.indent l.content ls qs ls') =
+    subst (λ (g : Found). Passes g → Good g ps (λ qs ls'. IsHeads l.line (floor ps) true l.indent l.content ls qs ls')) (sym same) (heads_found l.content ps l.line true l.indent ls) in
     let more : (qs : List Piece) (ls' : List RawLine) → IsHeads l.line (floor ps) true l.indent l.content ls qs ls' → Read (ps ++ qs) ls' (pieces k (ps ++ qs) ls') = λ qs ls' i.
     (let n = next_clean ps qs begun l ls ls' (floor ps) some c i in
     let le = end_shorter (heads_end i) in
     pieces_found k (ps ++ qs) n.0 ls' (omega arith) n.1 n.2) in
-    rw h (went_on k ps l ls f f.fault refl (heads_found l.content ps l.line true l.indent ls) more (rw h at e))
+    rw h (went_on k ps l ls f f.fault refl good more (rw h at e))
 
 pub pieces_read : (k : ℕ) (ps : List Piece) (begun : Bool) (ls : List RawLine) (whole : List Piece) → length ls < k → (is_begun ps ≡ true → begun ≡ true) → AreClean begun ls → IsPieces ps ls whole → Low whole → ((pieces k ps ls).pieces ≡ whole) × ((pieces k ps ls).fault ≡ None)
 unfolding pieces
@@ -149,9 +157,9 @@ pieces_read zero ps begun ls whole lt some c p low = absurd (omega arith)
 pieces_read (suc k) ps begun [] whole lt some c no_line low = (refl, refl)
 pieces_read (suc k) ps begun (l ∷ ls) whole lt some c (a_line {ps = qs} {ls' = ls'} i r) low =
     let h = not_over ps begun l ls some c in
-    let e = heads_read i ps refl (low_parts ps qs (low_all r low)).1 in
+    let e = clean_heads begun ps l ls ls c ∙ heads_read i ps refl (low_parts ps qs (low_all r low)).1 in
     let n = next_clean ps qs begun l ls ls' (floor ps) some c i in
     let le = end_shorter (heads_end i) in
     let more = pieces_read k (ps ++ qs) n.0 ls' whole (omega arith) n.1 n.2 r low in
-    let same : go_on (heads ps l.line true l.indent l.content ls) (heads ps l.line true l.indent l.content ls).fault (pieces k) ≡ pieces k (ps ++ qs) ls' = ap (λ (f : Found). go_on f f.fault (pieces k)) e in
+    let same : go_on (line_heads ps l ls) (line_heads ps l ls).fault (pieces k) ≡ pieces k (ps ++ qs) ls' = ap (λ (f : Found). go_on f f.fault (pieces k)) e in
     (rw h (ap (λ (f : Found). f.pieces) same ∙ more.0), rw h (ap (λ (f : Found). f.fault) same ∙ more.1))

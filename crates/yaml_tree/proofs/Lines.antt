@@ -6,7 +6,7 @@ use Rattle.yaml_scan.specs.Lines.{is_mark, is_directive}
 use Rattle.yaml_scan.specs.Answers.{front_line}
 use Rattle.yaml_tree.specs.declared.piece.Piece.{Piece}
 use Rattle.yaml_scan.specs.Words.{is_some}
-use Rattle.yaml_tree.specs.Pieces.{Found, IsFound, found, heads, go_on, is_begun, pieces}
+use Rattle.yaml_tree.specs.Pieces.{Found, IsFound, found, line_heads, go_on, is_begun, pieces}
 
 -- what is left to read makes up the whole
 pub record Continues (ps : List Piece) (ls : List RawLine) (total : Found) : Type 0 where
@@ -18,7 +18,7 @@ pub begins : (ps : List Piece) (ls : List RawLine) → Continues ps ls (pieces (
 begins ps ls = record { turns = suc (length ls); enough = omega arith; reads = refl }
 
 abbrev turned : (k : ℕ) (ps : List Piece) (l : RawLine) (ls : List RawLine) → Found
-turned k ps l ls = cond (is_begun ps && (is_mark l || is_directive l)) (found ps (l ∷ ls)) (go_on (heads ps l.line true l.indent l.content ls) (heads ps l.line true l.indent l.content ls).fault (pieces k))
+turned k ps l ls = cond (is_begun ps && (is_mark l || is_directive l)) (found ps (l ∷ ls)) (go_on (line_heads ps l ls) (line_heads ps l ls).fault (pieces k))
 
 taken : (n : ℕ) (ps : List Piece) (l : RawLine) (ls rest : List RawLine) (total : Found) → front_line ls ≡ Some l → drop 1 ls ≡ rest → length ls < n → pieces n ps ls ≡ total → (k : ℕ) × (length rest < k) × (turned k ps l rest ≡ total)
 unfolding pieces
@@ -46,16 +46,16 @@ found_none h new ls None E' s g = g
 found_none h new ls (Some f) E' s g = absurd cc
 
 pub faulty : (ps : List Piece) (l : RawLine) (ls rest : List RawLine) (total : Found) (new : List Piece) (f : Option Fault) → Continues ps ls total → front_line ls ≡ Some l → drop 1 ls ≡ rest → (is_begun ps && (is_mark l || is_directive l)) ≡ false
-    → is_some f ≡ true → ((heads ps l.line true l.indent l.content rest).pieces ≡ new) × ((heads ps l.line true l.indent l.content rest).fault ≡ f) → (total.pieces ≡ new) × (total.fault ≡ f)
+    → is_some f ≡ true → ((line_heads ps l rest).pieces ≡ new) × ((line_heads ps l rest).fault ≡ f) → (total.pieces ≡ new) × (total.fault ≡ f)
 faulty ps l ls rest total new None c fr d m s h = absurd cc
 faulty ps l ls rest total new (Some f) c fr d m s h =
     let t = taken c.turns ps l ls rest total fr d c.enough c.reads in
-    let e : heads ps l.line true l.indent l.content rest ≡ total = sym (rw (m, h.1) refl) ∙ t.2 in
+    let e : line_heads ps l rest ≡ total = sym (rw (m, h.1) refl) ∙ t.2 in
     (sym (ap (λ (x : Found). x.pieces) e) ∙ h.0, sym (ap (λ (x : Found). x.fault) e) ∙ h.1)
 
 -- a line without one
 pub goes_on : (ps : List Piece) (l : RawLine) (ls rest : List RawLine) (total : Found) (new : List Piece) (behind : List RawLine) → Continues ps ls total → front_line ls ≡ Some l → drop 1 ls ≡ rest → (is_begun ps && (is_mark l || is_directive l)) ≡ false
-    → heads ps l.line true l.indent l.content rest ≡ found new behind → length behind ≤ length rest → Continues new behind total
+    → line_heads ps l rest ≡ found new behind → length behind ≤ length rest → Continues new behind total
 goes_on ps l ls rest total new behind c fr d m h shorter =
     let t = taken c.turns ps l ls rest total fr d c.enough c.reads in
     record { turns = t.0; enough = omega (arith, t.1, shorter); reads = sym (rw (m, h) refl) ∙ t.2 }

@@ -3,7 +3,7 @@ use Rattle.std.proofs.Common.{ℕ, zero, suc, ◌+◌, ◌≤◌, Bool, true, fa
 use Rattle.std.specs.Prelude.{◌==◌, ◌&&◌, not}
 use Rattle.yaml_scan.specs.declared.fault.Fault.{Fault}
 use Rattle.yaml_scan.specs.declared.line.RawLine.{RawLine}
-use Rattle.yaml_scan.specs.Words.{is_blank, is_empty, is_some, breaks, nothing_left, colon_at, trimmed, without_blanks}
+use Rattle.yaml_scan.specs.Words.{sees, is_blank, is_empty, is_some, breaks, nothing_left, colon_at, trimmed, without_blanks}
 use Rattle.yaml_scan.specs.Quoted.{State, opened, run}
 use Rattle.yaml_tree.specs.declared.node.Node.{Node}
 use Rattle.yaml_tree.specs.declared.piece.Piece.{Piece}
@@ -14,7 +14,7 @@ use Rattle.yaml_tree.specs.declared.starts.Start.TheVariants as starts
 use Rattle.yaml_tree.specs.Nodes.{Pair, word}
 use Rattle.yaml_tree.specs.Starts.{start, is_merge}
 use Rattle.yaml_tree.specs.Leaves.{Leafs, leaf_by, colon_behind}
-use Rattle.yaml_tree.specs.Pieces.{Found, floor, dash, key, leaf_found, leaf_at, value_at, keyed, plain_key, quoted_key, node_by, heads, is_over, go_on, pieces}
+use Rattle.yaml_tree.specs.Pieces.{Found, floor, dash, key, leaf_found, leaf_at, value_at, keyed, plain_key, quoted_key, node_by, heads, is_spaced, line_heads, is_over, go_on, pieces}
 use Rattle.yaml_tree.specs.Grammar.{Nodes, IsRows, ends, more, IsItem, item, IsPair, pair, IsNodeOver, absent, leaf, list, map, IsNode, IsTree}
 use Rattle.yaml_tree.specs.Spelling.{IsPieces, none as no_line, line as a_line}
 
@@ -123,6 +123,10 @@ low_heads (b ∷ rest) ps n spaced column ls =
     (either (b == 35 && spaced) _ _ (as_they_were ps _ _)
     (either (b == 45 && breaks rest) _ _ (before_one ps (dash n column) _ (low_heads rest (ps ++ dash n column ∷ []) n false (column + 1) ls)) (low_start (start b rest) ps n column b rest ls)))
 
+low_line : (l : RawLine) (ps : List Piece) (ls : List RawLine) → KeepsLow ps (line_heads ps l ls)
+unfolding line_heads
+low_line l ps ls = either (sees 9 l.content) _ _ (low_heads (without_blanks l.content) ps l.line (is_spaced true l.content) l.indent ls) (low_heads l.content ps l.line true l.indent ls)
+
 gone_on : (ps : List Piece) (f : Found) (o : Option Fault) (go : List Piece → List RawLine → Found) → KeepsLow ps f → KeepsLow f.pieces (go f.pieces f.rest) → KeepsLow ps (go_on f o go)
 gone_on ps f (Some fault) go h later = h
 gone_on ps f None go h later = record { keeps = λ l. h.keeps (later.keeps l) }
@@ -132,8 +136,8 @@ unfolding pieces
 low_pieces zero ps ls = as_they_were ps _ _
 low_pieces (suc k) ps [] = as_they_were ps _ _
 low_pieces (suc k) ps (x ∷ ls) =
-    let f : Found = heads ps x.line true x.indent x.content ls in
-    either (is_over ps x) _ _ (as_they_were ps _ _) (gone_on ps f f.fault (pieces k) (low_heads x.content ps x.line true x.indent ls) (low_pieces k f.pieces f.rest))
+    let f : Found = line_heads ps x ls in
+    either (is_over ps x) _ _ (as_they_were ps _ _) (gone_on ps f f.fault (pieces k) (low_line x ps ls) (low_pieces k f.pieces f.rest))
 
 pub low_before : (k : ℕ) (ps : List Piece) (ls : List RawLine) → Low (pieces k ps ls).pieces → Low ps
 low_before k ps ls l = (low_pieces k ps ls).keeps l

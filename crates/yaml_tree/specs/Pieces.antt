@@ -5,7 +5,7 @@ use Rattle.yaml_scan.specs.declared.fault.Code.{Code}
 use Rattle.yaml_scan.specs.declared.fault.Code.TheVariants.{Structure, LeftOut}
 use Rattle.yaml_scan.specs.declared.line.RawLine.{RawLine}
 use Rattle.yaml_scan.specs.Lines.{is_mark, is_directive}
-use Rattle.yaml_scan.specs.Words.{is_blank, is_empty, is_some, breaks, nothing_left, colon_at, trimmed, without_blanks}
+use Rattle.yaml_scan.specs.Words.{sees, is_blank, is_empty, is_some, breaks, nothing_left, colon_at, trimmed, without_blanks}
 use Rattle.yaml_scan.specs.Quoted.{State, opened, run}
 use Rattle.yaml_tree.specs.declared.node.Node.{Node}
 use Rattle.yaml_tree.specs.declared.piece.Piece.{Piece}
@@ -117,6 +117,17 @@ heads pieces n spaced column (b ∷ rest) ls =
     (if b == 45 && breaks rest then heads (pieces ++ dash n column ∷ []) n false (column + 1) rest ls else
     node_by (start b rest) pieces n column b rest ls))
 
+-- whether a space stands last among the blanks at the front, or before them where there are none
+unfoldable pub is_spaced : Bool → List ℕ → Bool
+is_spaced spaced [] = spaced
+is_spaced spaced (b ∷ rest) = if is_blank b then is_spaced (b == 32) rest else spaced
+
+-- what a line holds, from its indent on: behind a tab, which is a fault of its own, the indent is still the number of leading spaces
+unfoldable pub line_heads : List Piece → RawLine → List RawLine → Found
+line_heads ps l ls =
+    if sees 9 l.content then heads ps l.line (is_spaced true l.content) l.indent (without_blanks l.content) ls else
+    heads ps l.line true l.indent l.content ls
+
 abbrev pub is_begun : List Piece → Bool
 is_begun [] = false
 is_begun (p ∷ ps) = true
@@ -135,7 +146,7 @@ pieces zero ps ls = found ps ls
 pieces (suc k) ps [] = found ps []
 pieces (suc k) ps (l ∷ ls) =
     if is_over ps l then found ps (l ∷ ls) else
-    let f : Found = heads ps l.line true l.indent l.content ls in
+    let f : Found = line_heads ps l ls in
     go_on f f.fault (pieces k)
 
 abbrev pub all_pieces : List RawLine → Found

@@ -5,7 +5,7 @@ ghost use Rattle.yaml_scan.specs.Words.{colon_at};
 ghost use Rattle.yaml_scan.specs.declared.fault.Code.{Code};
 ghost use Rattle.yaml_tree.specs.Leaves.{ReadsLeaf, leaf_of, flow_by, colon_behind};
 ghost use Rattle.yaml_tree.specs.Flow.{flow};
-ghost use Rattle.yaml_tree.specs.Pieces.{IsFound, AllFound, floor, leaf_at, spoiled, spoiled_key, value_at, keyed, plain_key, quoted_at, node_of, heads, pieces, is_over};
+ghost use Rattle.yaml_tree.specs.Pieces.{IsFound, AllFound, floor, leaf_at, spoiled, spoiled_key, value_at, keyed, plain_key, quoted_at, node_of, heads, is_spaced, line_heads, pieces, is_over};
 
 use crate::flow::Flow;
 use crate::leaf::{Trouble, Wrong, refused, scalar_leaf, wrong_of};
@@ -15,7 +15,7 @@ use crate::starts::{Start, is_merge, starts};
 use std::alloc::{AllocError, Global};
 use yaml_scan::{
     Code, Fault, Lines, Quoted, RawLine, blanks, breaks, colon_at, is_blank, is_directive, is_mark,
-    nothing_left, trimmed,
+    nothing_left, sees, trimmed,
 };
 
 /// The pieces so far, and the lines that are left.
@@ -314,20 +314,47 @@ impl<'a> Pieces<'a> {
         }
     }
 
-    /// What a line holds.
-    #[tactic(auto, unfolding(crate::specs::Pieces::heads))]
-    fn heads(&mut self, alloc: Global, line: &RawLine) -> Result<Option<Fault>, AllocError>
+    /// What a line holds, from its indent on. Behind a tab, which is a fault of its own, the indent is still the number of
+    /// leading spaces.
+    #[tactic(auto, unfolding(crate::specs::Pieces::line_heads))]
+    fn line_heads(&mut self, alloc: Global, line: &RawLine) -> Result<Option<Fault>, AllocError>
         requires few { length self.old.lines < 2 ^ 63 }
-        ensures exact { IsFound (heads self.old.found.items line.now.line true line.now.indent line.now.content self.old.lines) result self.new.found.items self.new.lines }
+        ensures exact { IsFound (line_heads self.old.found.items line.now self.old.lines) result self.new.found.items self.new.lines }
         ensures shorter { length self.new.lines ≤ length self.old.lines }
     {
-        let number = line.line;
         let bytes = line.content.bytes();
-        let mut spaced = true;
+        if sees(b'\t', bytes) {
+            let at = blanks(bytes);
+            return self.heads(
+                alloc,
+                line.line,
+                is_spaced(bytes),
+                line.indent,
+                &bytes[at..],
+            );
+        }
+        self.heads(alloc, line.line, true, line.indent, bytes)
+    }
+
+    /// What is left of a line from this column on, and whether a space stands before it.
+    #[tactic(auto, unfolding(crate::specs::Pieces::heads))]
+    fn heads(
+        &mut self,
+        alloc: Global,
+        number: u32,
+        before: bool,
+        indent: u32,
+        bytes: &[u8],
+    ) -> Result<Option<Fault>, AllocError>
+        requires few { length self.old.lines < 2 ^ 63 }
+        ensures exact { IsFound (heads self.old.found.items number before indent bytes.now self.old.lines) result self.new.found.items self.new.lines }
+        ensures shorter { length self.new.lines ≤ length self.old.lines }
+    {
+        let mut spaced = before;
         let mut at: usize = 0;
         'bytes: while at < bytes.len() {
             let b = bytes[at];
-            let column = u64::from(line.indent) + at as u64;
+            let column = u64::from(indent) + at as u64;
             if b == b'#' && spaced {
                 return Ok(None);
             }
@@ -361,13 +388,28 @@ impl<'a> Pieces<'a> {
                 return Ok(None);
             }
             self.lines.bump();
-            let fault = self.heads(alloc, line)?;
+            let fault = self.line_heads(alloc, line)?;
             if fault.is_some() {
                 return Ok(fault);
             }
         }
         Ok(None)
     }
+}
+
+/// Whether a space stands last among the blanks at the front, or the line begins with what is no blank.
+#[tactic(auto, unfolding(crate::specs::Pieces::is_spaced))]
+fn is_spaced(bytes: &[u8]) -> bool
+    ensures { result ≡ is_spaced true bytes.now }
+{
+    let mut spaced = true;
+    'bytes: for b in bytes {
+        if !is_blank(*b) {
+            return spaced;
+        }
+        spaced = *b == b' ';
+    }
+    spaced
 }
 
 fn right_of(column: u64) -> u128
