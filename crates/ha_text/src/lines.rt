@@ -133,10 +133,13 @@ impl LineCut {
         Ok(())
     }
 
-    /// Lets go of the bytes that were taken.
+    /// Lets go of the bytes that were taken. Where none were, nothing is moved: so a line in many pieces is moved once.
     fn forget_taken(&mut self)
         ensures { self.new ≡ self.old }
     {
+        if self.start == 0 {
+            return;
+        }
         let left = self.held.len() - self.start;
         self.held.copy_within(self.start.., 0);
         self.held.truncate(left);
