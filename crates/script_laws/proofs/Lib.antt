@@ -1,3 +1,5 @@
 pub mod FollowLemmas
 pub mod BesideLemmas
 pub mod SameMeaning
+pub mod UsedLemmas
+pub mod ByScript

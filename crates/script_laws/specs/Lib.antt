@@ -1,2 +1,3 @@
 pub mod Direct
 pub mod Followed
+pub mod Used

@@ -1,10 +1,11 @@
 //! Laws of the definitions alone. Each is a function that does nothing; its contract is the law.
-ghost use Rattle.std.specs.Prelude.{◌≡◌, List, Option};
+ghost use Rattle.std.specs.Prelude.{◌≡◌, List, Some, length};
 ghost use Rattle.ha_model.specs.declared.config.Action.{Action};
 ghost use Rattle.ha_model.specs.Words.{Pairs};
-ghost use Rattle.ha_model.specs.Scripts.{Branch, Scopes, Spot, Next, exec, whole};
-ghost use Rattle.script_laws.specs.Direct.{left_by, left_by_script};
+ghost use Rattle.ha_model.specs.Scripts.{Branch, Scopes, Spot, Next, Outcome, exec, whole};
+ghost use Rattle.script_laws.specs.Direct.{Left, left_by, left_by_script};
 ghost use Rattle.script_laws.specs.Followed.{followed};
+ghost use Rattle.script_laws.specs.Used.{IsUsed};
 
 /// The meaning of a script by what follows each part and the one that says what each part leaves
 /// are the same: for every script, whatever its environment and its places are, and for every list
@@ -13,4 +14,14 @@ pub fn scripts_said_directly()
     ensures script { (actions : List Action) (env : Pairs) (ps : List Spot) → whole actions env ps ≡ left_by_script actions env ps }
     ensures list { (actions : List Action) (next : Next) (scopes : Scopes) (b : Branch) (ps : List Spot)
         → exec actions next scopes b ps ≡ followed next next (left_by actions scopes b ps) }
+{}
+
+/// A list of actions gives an item for each place that it used, in their order; where it is open no
+/// place is left; and it leaves as many blocks as it found. So a script gives as many items as it
+/// has places.
+pub fn each_place_has_an_item()
+    ensures list { (actions : List Action) (scopes : Scopes) (b : Branch) (ps : List Spot) (l : Left)
+        → left_by actions scopes b ps ≡ Some l → IsUsed scopes ps l }
+    ensures script { (actions : List Action) (env : Pairs) (ps : List Spot) (o : Outcome)
+        → whole actions env ps ≡ Some o → length o.items ≡ length ps }
 {}

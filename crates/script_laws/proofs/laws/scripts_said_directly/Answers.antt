@@ -1,4 +1,4 @@
-use Rattle.script_laws.proofs.SameMeaning.{actions-same, script-same}
+use Rattle.script_laws.proofs.ByScript.{actions-same, script-same}
 use Rattle.script_laws.proofs.laws.scripts_said_directly.Goals as goal
 
 pub returns-clause-script : goal.returns-clause-script
