@@ -257,7 +257,7 @@ function follow(run) {
 # A run that took no further step, and that nothing ended, is of no automation whose script goes on.
 function settle(run, a, n) {
     n = steps[run]
-    if (!quiet_at[run] || first_ender(run, step_line[run, n], quiet_at[run])) return
+    if (!quiet_at[run] || last_act[run] == "failed" || first_ender(run, step_line[run, n], quiet_at[run])) return
     for (a = 1; a <= automations; a++) if (goes_on(a, n)) may_be[run, a] = 0
 }
 
