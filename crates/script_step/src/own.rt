@@ -135,6 +135,15 @@ fn triggered<A: Answers>(
     })
 }
 
+/// The same list, in no more memory than it needs: the journal keeps it for good.
+fn fitted<T: Drop>(list: Many<T>) -> Many<T>
+    ensures { result ≡ list }
+{
+    let mut items = list.into_vec();
+    items.shrink_to_fit();
+    Many::from_vec(items)
+}
+
 /// The item of a call of this service.
 pub fn item_of<A: Answers>(
     alloc: Global,
@@ -171,7 +180,7 @@ pub fn item_of<A: Answers>(
     }
     Ok(Item::Call {
         service,
-        target: targets,
-        fields: pairs,
+        target: fitted(targets),
+        fields: fitted(pairs),
     })
 }

@@ -33,11 +33,24 @@ fn decimal(alloc: Global, number: u32) -> Result<Value, AllocError>
     Ok(Value::Text(Word::from_string(format!(in alloc; "{number}")?)))
 }
 
-/// The first variables of each trigger.
-fn head(alloc: Global, platform: &str, trigger: &Trigger) -> Result<Many<(Word, Value)>, AllocError>
+/// No pairs yet, and room for so many: the record of a run keeps the variables for good.
+fn with_room(alloc: Global, count: usize) -> Result<Many<(Word, Value)>, AllocError>
+    ensures { IfOk result (λ ps. ps ≡ []) }
+{
+    let pairs = Vec::with_capacity(alloc, count)?;
+    Ok(Many::from_vec(pairs))
+}
+
+/// The first variables of each trigger, and room for so many in all.
+fn head(
+    alloc: Global,
+    platform: &str,
+    trigger: &Trigger,
+    count: usize,
+) -> Result<Many<(Word, Value)>, AllocError>
     ensures { IfOk result (λ ps. ps ≡ triggers.head_pairs [] platform.now trigger.now) }
 {
-    let mut pairs = Many::make(alloc);
+    let mut pairs = with_room(alloc, count)?;
     add(alloc, &mut pairs, "platform", text(alloc, platform)?)?;
     add(
         alloc,
@@ -57,7 +70,7 @@ fn object_pairs(
 ) -> Result<Many<(Word, Value)>, AllocError>
     ensures { IfOk result (λ ps. ps ≡ (codes "entity_id", Value.Text (entity_text entity.now)) ∷ (codes "domain", Value.Text entity.now.domain) ∷ (codes "object_id", Value.Text entity.now.object) ∷ (codes "state", Value.Text state.now.text) ∷ (codes "attributes", Map state.now.attributes) ∷ []) }
 {
-    let mut pairs = Many::make(alloc);
+    let mut pairs = with_room(alloc, 5)?;
     add(
         alloc,
         &mut pairs,
@@ -173,7 +186,7 @@ pub fn state_variables(
 ) -> Result<Value, AllocError>
     ensures { IfOk result (λ v. v ≡ Map (triggers.head_pairs [] (codes "state") trigger.now ++ ((codes "entity_id", Value.Text (entity_text entity.now)) ∷ (codes "from_state", triggers.state_value [] entity.now (option_copied old.entry)) ∷ (codes "to_state", triggers.state_value [] entity.now (option_copied new.entry)) ∷ (codes "attribute", triggers.text_or_null [] attribute.now) ∷ []))) }
 {
-    let mut pairs = head(alloc, "state", trigger)?;
+    let mut pairs = head(alloc, "state", trigger, 7)?;
     let mut more = states_pairs(alloc, entity, old, new)?;
     add(
         alloc,
@@ -213,7 +226,7 @@ pub fn numeric_variables(
 ) -> Result<Value, AllocError>
     ensures { IfOk result (λ v. v ≡ Map (triggers.head_pairs [] (codes "numeric_state") trigger.now ++ ((codes "entity_id", Value.Text (entity_text entity.now)) ∷ (codes "from_state", triggers.state_value [] entity.now (option_copied old.entry)) ∷ (codes "to_state", triggers.state_value [] entity.now (option_copied new.entry)) ∷ (codes "above", triggers.number_or_null [] above) ∷ (codes "below", triggers.number_or_null [] below) ∷ []))) }
 {
-    let mut pairs = head(alloc, "numeric_state", trigger)?;
+    let mut pairs = head(alloc, "numeric_state", trigger, 8)?;
     pairs.append(numeric_pairs(alloc, above, below, entity, old, new)?)?;
     Ok(Value::Pairs(pairs))
 }
@@ -226,7 +239,7 @@ fn event_pairs(
 ) -> Result<Many<(Word, Value)>, AllocError>
     ensures { IfOk result (λ ps. ps ≡ (codes "event_type", Value.Text kind.now) ∷ (codes "data", Map pairs.now) ∷ []) }
 {
-    let mut event = Many::make(alloc);
+    let mut event = with_room(alloc, 2)?;
     add(
         alloc,
         &mut event,
@@ -246,7 +259,7 @@ pub fn event_variables(
 ) -> Result<Value, AllocError>
     ensures { IfOk result (λ v. v ≡ Map (triggers.head_pairs [] (codes "event") trigger.now ++ ((codes "event", Map ((codes "event_type", Value.Text kind.now) ∷ (codes "data", Map fields.now) ∷ [])) ∷ []))) }
 {
-    let mut pairs = head(alloc, "event", trigger)?;
+    let mut pairs = head(alloc, "event", trigger, 4)?;
     let event = event_pairs(alloc, kind, fields)?;
     add(alloc, &mut pairs, "event", Value::Pairs(event))?;
     Ok(Value::Pairs(pairs))
@@ -256,5 +269,5 @@ pub fn event_variables(
 pub fn bare_variables(alloc: Global, platform: &str, trigger: &Trigger) -> Result<Value, AllocError>
     ensures { IfOk result (λ v. v ≡ Map (triggers.head_pairs [] platform.now trigger.now)) }
 {
-    Ok(Value::Pairs(head(alloc, platform, trigger)?))
+    Ok(Value::Pairs(head(alloc, platform, trigger, 3)?))
 }
