@@ -1,0 +1,210 @@
+-- A line that is only noted moves no trigger, and each hold that is pending stays so.
+use Rattle.std.proofs.Common.{◌≡◌, ℕ, zero, suc, ◌+◌, ◌-◌, ◌<◌, [], ◌∷◌, ◌++◌, length, take, map, Bool, true, false, refl, sym, ◌∙◌, arith}
+use Rattle.std.specs.Prelude.{Option, Some, None, is_some, is_none, find, not, nat_lt, nat_le, option_and_then, ◌&&◌, ◌||◌, if◌then◌else◌}
+use Rattle.std.specs.List.{list_all, list_any, enumerate_from}
+use Rattle.std.specs.Option.{option_map_or}
+use Rattle.ha_value.specs.declared.value.EntityId.{EntityId}
+use Rattle.ha_model.specs.declared.config.Trigger.{Trigger}
+use Rattle.ha_model.specs.declared.config.TriggerRule.{TriggerRule}
+use Rattle.ha_model.specs.declared.journal.Cmd.{Cmd}
+use Rattle.ha_model.specs.declared.journal.Entry.{Entry}
+use Rattle.ha_model.specs.declared.journal.Entry.TheVariants.{Line}
+use Rattle.ha_model.specs.Words.{Text, numbers_from, up_to, one_of}
+use Rattle.ha_model.specs.Numbers.{in_bounds}
+use Rattle.ha_model.specs.Equal.{same_flag}
+use Rattle.ha_model.specs.Entries.{event_in, is_moment, opens_segment}
+use Rattle.ha_model.specs.Journal.{Journal, HasEntry, now, zone_of}
+use Rattle.ha_model.specs.States.{Sight, states, switches_of}
+use Rattle.ha_model.specs.Templates.{rendered, says}
+use Rattle.ha_model.specs.RecordSteps.{more}
+use Rattle.ha_model.specs.Records.{or_else}
+use Rattle.ha_model.specs.Triggers.{sight, moves, starts, same_watched, between, after, report_number, latest_number, pair_holds, passed}
+use Rattle.ha_model.proofs.HeldLaws.{latest-more}
+use Rattle.ha_model.proofs.FiringLaws.{state-stays}
+use Rattle.ha_model.proofs.LastEntry.{or-none}
+use Rattle.ha_model.proofs.RecordGrowth.{automations-more}
+use Rattle.ha_model.proofs.RecordLaws.{length-more, through-last}
+use Rattle.ha_model.proofs.SinceLaws.{take-before, get-last}
+use Rattle.ha_past.specs.Holds.{is_over, holds_to, pending}
+use Rattle.ha_past.specs.Looks.{looks, watches}
+use Rattle.ha_past.proofs.ListLemmas.{find-snoc, find-alike, up_to-snoc, map-snoc, all-append, any-append}
+use Rattle.ha_past.proofs.PastLemmas.{sight-more, moves-more, watched-more, over-more, same-watches}
+use Rattle.ha_past.proofs.HoldLaws.{at-between}
+use Rattle.ha_past.proofs.EntryLaws.{moves-at}
+use Rattle.ha_laws.specs.IdleLines.{IsIdle, NothingChanges}
+use Rattle.ha_laws.proofs.IdleLines.{idle-changes-nothing}
+
+-- what such a line is not
+record IsQuiet (x : Entry) : Type 0 where
+  opens : opens_segment x ≡ false
+  moment : is_moment x ≡ false
+  event : event_in x ≡ None
+  number : (e : EntityId) (name : Option Text) → report_number e name x ≡ None
+
+idle-quiet : (source number : ℕ) (cmd : Cmd) → IsIdle cmd → IsQuiet (Line source number cmd)
+idle-quiet source number (Cmd.Report entity text attributes) h = absurd h
+idle-quiet source number (Cmd.Gone entity) h = absurd h
+idle-quiet source number (Cmd.Event kind pairs) h = absurd h
+idle-quiet source number (Cmd.Moment at) h = absurd h
+idle-quiet source number (Cmd.Switch name on stop) h = absurd h
+idle-quiet source number (Cmd.Trigger name skip) h = absurd h
+idle-quiet source number Cmd.Restart h = absurd h
+idle-quiet source number (Cmd.Refused code) h = record { opens = refl; moment = refl; event = refl; number = λ e name. refl }
+idle-quiet source number Cmd.Lost h = record { opens = refl; moment = refl; event = refl; number = λ e name. refl }
+idle-quiet source number Cmd.TooLong h = record { opens = refl; moment = refl; event = refl; number = λ e name. refl }
+
+not-itself : (b : Bool) → (b && not b) ≡ false
+not-itself true = refl
+not-itself false = refl
+
+or-false : (b : Bool) → (b || false) ≡ b
+or-false true = refl
+or-false false = refl
+
+-- a test that follows from another adds nothing to it
+and-same : (b c : Bool) → (b ≡ true → c ≡ true) → (b && c) ≡ b
+and-same true c h = h refl
+and-same false c h = refl
+
+all-alike : (f g : ℕ → Bool) (i low n : ℕ) → ((q : ℕ) → q < i + low + n → f q ≡ g q) → list_all f (map (λ m. i + m) (numbers_from low n)) ≡ list_all g (map (λ m. i + m) (numbers_from low n))
+all-alike f g i low zero h = refl
+all-alike f g i low (suc n) h = (λ k. h (i + low) (omega arith) k && all-alike f g i (low + 1) n (λ q lt. h q (omega (arith, lt))) k)
+
+any-alike : (f g : ℕ → Bool) (i low n : ℕ) → ((q : ℕ) → q < i + low + n → f q ≡ g q) → list_any f (map (λ m. i + m) (numbers_from low n)) ≡ list_any g (map (λ m. i + m) (numbers_from low n))
+any-alike f g i low zero h = refl
+any-alike f g i low (suc n) h = (λ k. h (i + low) (omega arith) k || any-alike f g i (low + 1) n (λ q lt. h q (omega (arith, lt))) k)
+
+-- the places up to p, and those before it
+between-last : (j : Journal) (i p : ℕ) → i < p → between j i p ≡ between j i (p - 1) ++ (p ∷ [])
+between-last j i p lt =
+    let one : suc p - i ≡ suc (suc (p - 1) - i) = omega (arith, lt) in
+    let last : i + (suc (p - 1) - i) ≡ p = omega (arith, lt) in
+    (λ k. map (λ m. i + m) (up_to (one k)))
+    ∙ (λ k. map (λ m. i + m) (up_to-snoc (suc (p - 1) - i) k))
+    ∙ map-snoc (λ m. i + m) (up_to (suc (p - 1) - i)) (suc (p - 1) - i)
+    ∙ (λ k. map (λ m. i + m) (up_to (suc (p - 1) - i)) ++ (last k ∷ []))
+
+-- where nothing that is seen changes, and the entry is none of these, no rule holds
+looks-still : (a : Sight) (past : Journal) (x : Entry) → IsQuiet x → (rule : TriggerRule) (held : Bool) (e : Option EntityId) → looks a a past rule held e x ≡ false
+looks-still a past x s (TriggerRule.State entities attribute from to) held (Some e) = state-stays attribute from to held (a.states e)
+looks-still a past x s (TriggerRule.State entities attribute from to) held None = refl
+looks-still a past x s (TriggerRule.Numeric entities attribute above below) held (Some e) =
+    (λ i. option_map_or (in_bounds above below) (s.number e attribute i) false && not (option_map_or (in_bounds above below) (latest_number e attribute past) false))
+looks-still a past x s (TriggerRule.Numeric entities attribute above below) held None = refl
+looks-still a past x s (TriggerRule.Event kinds pairs) held (Some e) = refl
+looks-still a past x s (TriggerRule.Event kinds pairs) held None = (λ i. option_map_or (λ v. one_of v.0 kinds && list_all (pair_holds v.1) pairs) (s.event i) false)
+looks-still a past x s (TriggerRule.Time seconds) held (Some e) = refl
+looks-still a past x s (TriggerRule.Time seconds) held None = (λ i. s.moment i && passed (TriggerRule.Time seconds) a.zone a.now a.now)
+looks-still a past x s (TriggerRule.Pattern hours minutes seconds) held (Some e) = refl
+looks-still a past x s (TriggerRule.Pattern hours minutes seconds) held None = (λ i. s.moment i && passed (TriggerRule.Pattern hours minutes seconds) a.zone a.now a.now)
+looks-still a past x s (TriggerRule.Template t) held (Some e) = refl
+looks-still a past x s (TriggerRule.Template t) held None = not-itself (says (rendered a t []))
+looks-still a past x s TriggerRule.Start held e = refl
+
+module _ (j : Journal) (x : Entry) (h : HasEntry j) (s : IsQuiet x) (same : NothingChanges j (more j x)) where
+  abbrev k : Journal
+  k = more j x
+
+  abbrev p : ℕ
+  p = length j
+
+  switches-still : switches_of k ≡ switches_of j
+  switches-still = (λ i. map (λ a. (a.1.name, same.switches_stay a.0 i)) (enumerate_from 0 (sym (automations-more j x h) i)))
+
+  -- what is seen after the line is what was seen before it
+  sight-still : sight k (suc p) ≡ sight k p
+  sight-still =
+      (let all = through-last j x in λ i. record { states = states (all i); now = now (all i); zone = zone_of k; automations = switches_of (all i) })
+      ∙ (λ i. record { states = λ e. same.states_stay e i; now = same.now_stays i; zone = zone_of k; automations = switches-still i })
+      ∙ (let all = sym (take-before j x) in λ i. record { states = states (all i); now = now (all i); zone = zone_of k; automations = switches_of (all i) })
+
+  moves-here : (t : Trigger) (e : Option EntityId) → moves k t e p ≡ false
+  moves-here t e =
+      moves-at j x h t e
+      ∙ (λ i. if s.opens i then starts j t.rule && is_none e else looks (sight j p) ((sight-still ∙ sight-more j x h p (omega arith)) i) j t.rule (is_some t.hold) e x)
+      ∙ looks-still (sight j p) j x s t.rule (is_some t.hold) e
+
+  latest-still : (e : EntityId) (name : Option Text) → latest_number e name (take (suc p) k) ≡ latest_number e name (take p k)
+  latest-still e name =
+      (λ i. latest_number e name (through-last j x i))
+      ∙ latest-more j x e name
+      ∙ (λ i. if s.opens i then None else or_else (s.number e name i) (latest_number e name j))
+      ∙ (λ i. latest_number e name (sym (take-before j x) i))
+
+  past-still : (one two : Sight) (first : Journal) (rule : TriggerRule) (e : Option EntityId) → watches one two first (take (suc p) k) rule e ≡ watches one two first (take p k) rule e
+  past-still one two first (TriggerRule.State entities (Some name) from to) (Some e) = refl
+  past-still one two first (TriggerRule.State entities None from to) (Some e) = refl
+  past-still one two first (TriggerRule.State entities (Some name) from to) None = refl
+  past-still one two first (TriggerRule.State entities None from to) None = refl
+  past-still one two first (TriggerRule.Numeric entities attribute above below) (Some e) =
+      (λ i. same_flag (option_map_or (in_bounds above below) (latest_number e attribute first) false) (option_map_or (in_bounds above below) (latest-still e attribute i) false))
+  past-still one two first (TriggerRule.Numeric entities attribute above below) None = refl
+  past-still one two first (TriggerRule.Event kinds pairs) e = refl
+  past-still one two first (TriggerRule.Time seconds) e = refl
+  past-still one two first (TriggerRule.Pattern hours minutes seconds) e = refl
+  past-still one two first (TriggerRule.Template t) (Some e) = refl
+  past-still one two first (TriggerRule.Template t) None = refl
+  past-still one two first TriggerRule.Start e = refl
+
+  -- what is watched after the line is what it was after the entry before it
+  watch-still : (rule : TriggerRule) (e : Option EntityId) (i : ℕ) → i < p → same_watched k rule e i p ≡ same_watched k rule e i (p - 1)
+  watch-still rule e i lt =
+      let before : p ≡ suc (p - 1) = omega (arith, lt) in
+      same-watches k rule e i p
+      ∙ (λ q. watches (sight k (suc i)) (sight-still q) (take (suc i) k) (take (suc p) k) rule e)
+      ∙ past-still (sight k (suc i)) (sight k p) (take (suc i) k) rule e
+      ∙ (λ q. watches (sight k (suc i)) (sight k (before q)) (take (suc i) k) (take (before q) k) rule e)
+      ∙ sym (same-watches k rule e i (p - 1))
+
+  module _ (t : Trigger) (e : Option EntityId) (since d : ℕ) where
+    watched-still : (i : ℕ) → i < p → list_all (same_watched k t.rule e i) (between k i p) ≡ list_all (same_watched j t.rule e i) (between j i (p - 1))
+    watched-still i lt =
+        (λ q. list_all (same_watched k t.rule e i) (between-last k i p lt q))
+        ∙ all-append (same_watched k t.rule e i) (between k i (p - 1)) p
+        ∙ and-same (list_all (same_watched k t.rule e i) (between k i (p - 1))) (same_watched k t.rule e i p)
+        (λ all. watch-still t.rule e i lt ∙ at-between k (same_watched k t.rule e i) i (p - 1) (p - 1) all (omega (arith, lt)) (omega arith))
+        ∙ all-alike (same_watched k t.rule e i) (same_watched j t.rule e i) i 0 (suc (p - 1) - i) (λ q below. watched-more j x h t.rule e i q lt (omega (arith, lt, below)))
+
+    over-here : (i : ℕ) → is_over k t e since d i p ≡ false
+    over-here i =
+        (λ q. option_map_or is_moment (get-last j x q) false && nat_le ((after k i).now + d) (after k p).now) ∙ (λ q. s.moment q && nat_le ((after k i).now + d) (after k p).now)
+
+    over-still : (i : ℕ) → i < p → list_any (is_over k t e since d i) (between k i p) ≡ list_any (is_over j t e since d i) (between j i (p - 1))
+    over-still i lt =
+        (λ q. list_any (is_over k t e since d i) (between-last k i p lt q))
+        ∙ any-append (is_over k t e since d i) (between k i (p - 1)) p
+        ∙ (λ q. list_any (is_over k t e since d i) (between k i (p - 1)) || over-here i q)
+        ∙ or-false (list_any (is_over k t e since d i) (between k i (p - 1)))
+        ∙ any-alike (is_over k t e since d i) (is_over j t e since d i) i 0 (suc (p - 1) - i) (λ q below. over-more j x h t e since d i q lt (omega (arith, lt, below)))
+
+    holds-still : (i : ℕ) → i < p → holds_to k t e since p d i ≡ holds_to j t e since (p - 1) d i
+    holds-still i lt = (λ q. nat_lt since i && moves-more j x h t e i lt q && watched-still i lt q && not (over-still i lt q))
+
+    holds-here : holds_to k t e since p d p ≡ false
+    holds-here =
+        (λ q. nat_lt since p && moves-here t e q && list_all (same_watched k t.rule e p) (between k p p) && not (list_any (is_over k t e since d p) (between k p p)))
+        ∙ by (nat_lt since p) (list_all (same_watched k t.rule e p) (between k p p)) (not (list_any (is_over k t e since d p) (between k p p)))
+      where
+        by : (a b c : Bool) → (a && false && b && c) ≡ false
+        by true b c = refl
+        by false b c = refl
+
+    found-still : find (holds_to k t e since (length k - 1) d) (up_to (length k)) ≡ find (holds_to j t e since (p - 1) d) (up_to p)
+    found-still =
+        let last : length k - 1 ≡ p = omega (arith, length-more j x) in
+        (λ q. find (holds_to k t e since (last q) d) (up_to (length-more j x q)))
+        ∙ (λ q. find (holds_to k t e since p d) (up_to-snoc p q))
+        ∙ find-snoc (holds_to k t e since p d) (up_to p) p
+        ∙ (λ q. or_else (find (holds_to k t e since p d) (up_to p)) (if holds-here q then Some p else None))
+        ∙ or-none (find (holds_to k t e since p d) (up_to p))
+        ∙ find-alike (holds_to k t e since p d) (holds_to j t e since (p - 1) d) 0 p (λ i lt. holds-still i (omega (arith, lt)))
+
+  stays : (t : Trigger) (e : Option EntityId) (since : ℕ) → pending k t e since ≡ pending j t e since
+  stays t e since = (λ q. option_and_then (λ d. found-still t e since d q) t.hold)
+
+pub moves-still : (j : Journal) (source number : ℕ) (cmd : Cmd) → HasEntry j → IsIdle cmd → (t : Trigger) (e : Option EntityId) → moves (more j (Line source number cmd)) t e (length j) ≡ false
+moves-still j source number cmd h idle = moves-here j (Line source number cmd) h (idle-quiet source number cmd idle) (idle-changes-nothing j source number cmd h idle)
+
+pub pending-stays : (j : Journal) (source number : ℕ) (cmd : Cmd) → HasEntry j → IsIdle cmd → (t : Trigger) (e : Option EntityId) (since : ℕ)
+    → pending (more j (Line source number cmd)) t e since ≡ pending j t e since
+pending-stays j source number cmd h idle = stays j (Line source number cmd) h (idle-quiet source number cmd idle) (idle-changes-nothing j source number cmd h idle)
