@@ -1,9 +1,9 @@
 -- What an entry doesn't concern keeps what it keeps, and fires nothing.
-use Rattle.std.proofs.Common.{◌≡◌, ℕ, zero, suc, List, [], ◌∷◌, length, map, Bool, true, false, refl, sym, ap, subst, ◌∙◌}
+use Rattle.std.proofs.Common.{◌≡◌, ℕ, zero, suc, ◌<◌, List, [], ◌∷◌, length, map, Bool, true, false, refl, sym, ap, subst, ◌∙◌}
 use Rattle.std.specs.Prelude.{Option, Some, None, MatchOption, filter_map, is_some, nat_lt, not, option_and_then, option_map, slice_get, ◌&&◌, if◌then◌else◌}
 use Rattle.std.specs.List.{cons_option, list_all}
 use Rattle.std.specs.Option.{option_map_or}
-use Rattle.timer_queue.specs.Timers.{Timer}
+use Rattle.timer_queue.specs.Timers.{Timer, due_of}
 use Rattle.ha_value.specs.declared.value.EntityId.{EntityId}
 use Rattle.ha_value.specs.declared.value.Num.{Num}
 use Rattle.ha_value.specs.declared.value.Value.{Value}
@@ -34,6 +34,7 @@ use Rattle.trig_set.specs.Next.{reports}
 use Rattle.trig_set.proofs.KeptLemmas.{step-moved}
 use Rattle.trig_set.proofs.MovedLemmas.{moves-by, moves-not, unlisted-moves, unlisted-number, unlisted-stays}
 use Rattle.trig_set.proofs.NoteLemmas.{spots-give, spots-stand}
+use Rattle.trig_set.proofs.RipeLemmas.{none-ripens}
 
 pub never : (b : Bool) → b ≡ true → b ≡ false → ⊥
 never b h k = (let bad : ◌≡◌ {A = Bool} true false = sym h ∙ k in cc)
@@ -53,13 +54,15 @@ unreported e name x = by (report_in x)
     by None h = refl
     by (Some r) h = (λ i. if h i then number_watched name r.text r.attributes else None)
 
--- what the entry leaves of a spot as it is: the states of its entity, with no report of it; its events are of other types; and it asks no template
+-- what the entry leaves of a spot as it is: the states of its entity, with no report of it; its events are of other types; it asks no template; and
+-- where it is a moment, the trigger is not one on times
 pub record IsCalm (j : Journal) (x : Entry) (since : ℕ) (rule : TriggerRule) (e : Option EntityId) : Type 0 where
   pub apart : (f : EntityId) → concerns rule e (Subject.Entity f) ≡ true → nat_lt since (length j) ≡ true → (states (more j x) f ≡ states j f) × (reports f x ≡ false)
   pub unnamed : MatchOption (option_map (λ v. v.0) (event_in x)) (Unit {0}) (λ q. concerns rule e (Subject.Event q) ≡ false)
   pub plain : concerns rule e Subject.Entries ≡ false
+  pub untimed : is_moment x ≡ true → concerns rule e Subject.Moments ≡ false
 
-module _ (j : Journal) (x : Entry) (t : Trigger) (since : ℕ) (h : HasEntry j) (opens : opens_segment x ≡ false) (moment : is_moment x ≡ false) where
+module _ (j : Journal) (x : Entry) (t : Trigger) (since : ℕ) (h : HasEntry j) (opens : opens_segment x ≡ false) where
   abbrev before : Sight
   before = sight j (length j)
 
@@ -79,6 +82,14 @@ module _ (j : Journal) (x : Entry) (t : Trigger) (since : ℕ) (h : HasEntry j) 
   event-off kinds pairs None u = refl
   event-off kinds pairs (Some v) u = (λ i. u i && list_all (pair_holds v.1) pairs)
 
+  -- a moment moves triggers on times alone
+  unpassed : (passes : Bool) → (is_moment x ≡ true → true ≡ false) → (is_moment x && passes) ≡ false
+  unpassed passes never-now = by (is_moment x) refl
+    where
+      by : (b : Bool) → is_moment x ≡ b → (b && passes) ≡ false
+      by true is = absurd (let bad : ◌≡◌ {A = Bool} true false = never-now is in cc)
+      by false is = refl
+
   -- it does not move
   idle : (rule : TriggerRule) (e : Option EntityId) → t.rule ≡ rule → IsCalm j x since rule e → nat_lt since (length j) ≡ true → None ≡ target e
   idle (TriggerRule.State entities attribute from to) (Some y) is calm lt = unlisted-moves j x t y entities attribute from to is (calm.apart y (entity-refl y) lt).0
@@ -88,10 +99,10 @@ module _ (j : Journal) (x : Entry) (t : Trigger) (since : ℕ) (h : HasEntry j) 
   idle (TriggerRule.Event kinds pairs) (Some y) is calm lt = off (TriggerRule.Event kinds pairs) (Some y) is refl
   idle (TriggerRule.Event kinds pairs) None is calm lt = off (TriggerRule.Event kinds pairs) None is (event-off kinds pairs (event_in x) calm.unnamed)
   idle (TriggerRule.Time seconds) (Some y) is calm lt = off (TriggerRule.Time seconds) (Some y) is refl
-  idle (TriggerRule.Time seconds) None is calm lt = off (TriggerRule.Time seconds) None is (λ i. moment i && passed (TriggerRule.Time seconds) before.zone before.now behind.now)
+  idle (TriggerRule.Time seconds) None is calm lt = off (TriggerRule.Time seconds) None is (unpassed (passed (TriggerRule.Time seconds) before.zone before.now behind.now) calm.untimed)
   idle (TriggerRule.Pattern hours minutes seconds) (Some y) is calm lt = off (TriggerRule.Pattern hours minutes seconds) (Some y) is refl
   idle (TriggerRule.Pattern hours minutes seconds) None is calm lt =
-      off (TriggerRule.Pattern hours minutes seconds) None is (λ i. moment i && passed (TriggerRule.Pattern hours minutes seconds) before.zone before.now behind.now)
+      off (TriggerRule.Pattern hours minutes seconds) None is (unpassed (passed (TriggerRule.Pattern hours minutes seconds) before.zone before.now behind.now) calm.untimed)
   idle (TriggerRule.Template u) e is calm lt = absurd (never true refl calm.plain)
   idle TriggerRule.Start (Some y) is calm lt = off TriggerRule.Start (Some y) is refl
   idle TriggerRule.Start None is calm lt = off TriggerRule.Start None is refl
@@ -173,15 +184,15 @@ all-then P Q (s ∷ ss) step h (suc n) = all-then P Q ss step (λ m. h (suc m)) 
 abbrev pub CalmAt : Journal → Entry → List Trigger → ℕ → Spot → Type 0
 CalmAt j x triggers since s = MatchOption (slice_get triggers s.trigger) (Unit {0}) (λ t. IsCalm j x since t.rule s.entity)
 
-module _ (j : Journal) (x : Entry) (triggers : List Trigger) (since : ℕ) (h : HasEntry j) (opens : opens_segment x ≡ false) (moment : is_moment x ≡ false) (well : AreWell triggers) (spots : List Spot) (timers : List Timer)
-    (stand : SpotsStand j triggers since spots timers) (calm : All spots (CalmAt j x triggers since)) where
+module _ (j : Journal) (x : Entry) (triggers : List Trigger) (since : ℕ) (h : HasEntry j) (opens : opens_segment x ≡ false) (well : AreWell triggers) (spots : List Spot) (timers : List Timer)
+    (stand : SpotsStand j triggers since spots timers) (calm : All spots (CalmAt j x triggers since)) (later : is_moment x ≡ true → (n d : ℕ) → due_of n timers ≡ Some d → now (more j x) < d) where
   moved-at : (s : Spot) → KeepsAt j triggers since s → CalmAt j x triggers since s → MovedAt j x triggers since s
   moved-at s = by (slice_get triggers s.trigger) (well s.trigger)
     where
       by : (o : Option Trigger) → MatchOption o (Unit {0}) holds_well → MatchOption o ((s.hold ≡ None) × (s.fired ≡ None)) (λ t. Keeps j t since s) → MatchOption o (Unit {0}) (λ t. IsCalm j x since t.rule s.entity)
           → MatchOption o ((s.hold ≡ None) × (s.fired ≡ None)) (λ t. Moved j x t since s)
       by None w k c = k
-      by (Some t) w k c = calm-moved j x t since h opens moment s w k c
+      by (Some t) w k c = calm-moved j x t since h opens s w k c
 
   all-moved : All spots (MovedAt j x triggers since)
   all-moved n = by (slice_get spots n) (stand.kept n) (calm n)
@@ -194,7 +205,11 @@ module _ (j : Journal) (x : Entry) (triggers : List Trigger) (since : ℕ) (h : 
   all-quiet = all-then (KeepsAt j triggers since) (λ s. s.fired ≡ None) spots (none-fired j triggers since) stand.kept
 
   same-if : ripened_if x (now (more j x)) spots ≡ spots
-  same-if = (λ i. if moment i then map (ripened (now (more j x))) spots else spots)
+  same-if = by (is_moment x) refl
+    where
+      by : (b : Bool) → is_moment x ≡ b → (if b then map (ripened (now (more j x))) spots else spots) ≡ spots
+      by true is = none-ripens (now (more j x)) timers spots (later is) stand.timed
+      by false is = refl
 
   -- LAW: they stand for the journal with the entry
   pub calm-stand : SpotsStand (more j x) triggers since spots timers

@@ -1,15 +1,16 @@
 -- An entry doesn't concern whom the index leaves aside.
-use Rattle.std.proofs.Common.{◌≡◌, ℕ, zero, suc, List, [], ◌∷◌, length, map, Bool, true, false, refl, sym, ap, subst, ◌∙◌}
+use Rattle.std.proofs.Common.{◌≡◌, ℕ, zero, suc, ◌<◌, List, [], ◌∷◌, length, map, Bool, true, false, refl, sym, ap, subst, ◌∙◌}
 use Rattle.std.specs.Prelude.{Option, Some, None, MatchOption, nat_lt, option_map, slice_get, if◌then◌else◌}
 use Rattle.std.specs.Option.{option_map_or}
 use Rattle.ha_value.specs.declared.value.EntityId.{EntityId}
 use Rattle.ha_model.specs.declared.config.Trigger.{Trigger}
 use Rattle.ha_model.specs.declared.journal.Entry.{Entry}
 use Rattle.ha_model.specs.Entries.{event_in, is_moment}
-use Rattle.ha_model.specs.Journal.{Journal}
+use Rattle.ha_model.specs.Journal.{Journal, now}
 use Rattle.ha_model.specs.RecordSteps.{more}
 use Rattle.ha_model.specs.States.{states}
-use Rattle.ha_model.specs.Switches.{opens_segment}
+use Rattle.timer_queue.specs.Timers.{Timer, due_of}
+use Rattle.timer_queue.proofs.TimerLemmas.{later_than}
 use Rattle.ha_model.specs.Words.{Text, same, same_entity}
 use Rattle.ha_model.proofs.EqualLemmas.{and_left, and_right, same-sound}
 use Rattle.ha_past.specs.Firings.{firings_of}
@@ -25,6 +26,7 @@ use Rattle.trig_set.specs.Kept.{All, place_of, places_of}
 use Rattle.trig_set.specs.Known.{AreKnown, HasAt, HasFor, HasSpot, IsListed}
 use Rattle.trig_set.specs.Next.{reports}
 use Rattle.trig_set.specs.Order.{ascend}
+use Rattle.trig_set.specs.Queued.{HasDue}
 use Rattle.trig_set.specs.Scenes.{AreShifts, Shows, face, shift_of}
 use Rattle.trig_set.specs.Stands.{AllOwners, AtOwner, OwnerStands, firings_at, owner_of}
 use Rattle.trig_set.proofs.CalmLemmas.{CalmAt, IsCalm, calm-quiet, calm-stand, never}
@@ -53,32 +55,33 @@ unshifted index n e (c ∷ cs) aside h = by (same_entity c.entity e) refl (unshi
         absurd (never (knows index (Subject.Entity e) n) h (sym (λ i. has_in index.entities (d i) (o i) n) ∙ aside 0))
     by false s rest = rest
 
-has-calm : (j : Journal) (x : Entry) (since : ℕ) (index : Index) (shifts : List Shift) (n : ℕ) (t : Trigger) (e : Option EntityId) → (nat_lt since (length j) ≡ true → AreShifts shifts j x)
-    → IsAside index shifts x n → HasFor index n t e → IsCalm j x since t.rule e
-has-calm j x since index shifts n t e are aside has = record {
+has-calm : (j : Journal) (x : Entry) (since : ℕ) (index : Index) (queue : List Timer) (to : ℕ) (shifts : List Shift) (n : ℕ) (t : Trigger) (e : Option EntityId) → (nat_lt since (length j) ≡ true → AreShifts shifts j x)
+    → IsAside index queue to shifts x n → HasFor index n t e → IsCalm j x since t.rule e
+has-calm j x since index queue to shifts n t e are aside has = record {
   apart = λ f named lt.
       subst (λ o. MatchOption o ((states (more j x) f ≡ states j f) × (reports f x ≡ false)) (λ c. (face c.old ≡ face (states j f)) × (face c.new ≡ face (states (more j x) f))))
       (unshifted index n f shifts aside.entities (has (Subject.Entity f) named)) (are lt f);
   unnamed = by (option_map (λ v. v.0) (event_in x)) aside.events;
   plain = not-true (concerns t.rule e Subject.Entries) (knows index Subject.Entries n) (has Subject.Entries) aside.entries;
+  untimed = λ moment. not-true (concerns t.rule e Subject.Moments) (knows index Subject.Moments n) (has Subject.Moments) (aside.times moment);
 }
   where
     by : (o : Option Text) → MatchOption o (Unit {0}) (λ q. knows index (Subject.Event q) n ≡ false) → MatchOption o (Unit {0}) (λ q. concerns t.rule e (Subject.Event q) ≡ false)
     by None k = tt
     by (Some q) k = not-true (concerns t.rule e (Subject.Event q)) (knows index (Subject.Event q) n) (has (Subject.Event q)) k
 
-module _ (scene : Scene) (index : Index) (j : Journal) (opens : opens_segment scene.entry.now ≡ false) (moment : is_moment scene.entry.now ≡ false) where
+module _ (scene : Scene) (index : Index) (queue : List Timer) (j : Journal) where
   abbrev x : Entry
   x = scene.entry.now
 
-  spot-calm : (a : Attached) (s : Spot) → Shows scene j a.since → IsAside index scene.shifts.now x a.owner → HasSpot index a.owner a.triggers s → CalmAt j x a.triggers a.since s
+  spot-calm : (a : Attached) (s : Spot) → Shows scene j a.since → IsAside index queue scene.to scene.shifts.now x a.owner → HasSpot index a.owner a.triggers s → CalmAt j x a.triggers a.since s
   spot-calm a s shows aside = by (slice_get a.triggers s.trigger)
     where
       by : (o : Option Trigger) → MatchOption o (Unit {0}) (λ t. HasFor index a.owner t s.entity) → MatchOption o (Unit {0}) (λ t. IsCalm j x a.since t.rule s.entity)
       by None h = tt
-      by (Some t) h = has-calm j x a.since index scene.shifts.now a.owner t s.entity shows.shifts aside h
+      by (Some t) h = has-calm j x a.since index queue scene.to scene.shifts.now a.owner t s.entity shows.shifts aside h
 
-  all-calm : (a : Attached) → Shows scene j a.since → OwnerStands j a → IsListed index (owner_of a) → IsAside index scene.shifts.now x a.owner → All a.spots.items (CalmAt j x a.triggers a.since)
+  all-calm : (a : Attached) → Shows scene j a.since → OwnerStands j a → IsListed index (owner_of a) → IsAside index queue scene.to scene.shifts.now x a.owner → All a.spots.items (CalmAt j x a.triggers a.since)
   all-calm a shows stand listed aside m = by (slice_get a.spots.items m) refl
     where
       by : (o : Option Spot) → slice_get a.spots.items m ≡ o → MatchOption o (Unit {0}) (CalmAt j x a.triggers a.since)
@@ -88,26 +91,33 @@ module _ (scene : Scene) (index : Index) (j : Journal) (opens : opens_segment sc
           (subst (λ o. MatchOption o (Unit {0}) (HasAt index a.owner a.triggers))
           (ap (λ l. slice_get l m) (sym (stand.spots.places ∙ places-alike j [] a.triggers)) ∙ get-map place_of a.spots.items m ∙ ap (option_map place_of) at) (listed m))
 
+  -- its holds are over later
+  all-later : (a : Attached) → Shows scene j a.since → HasDue queue a → IsAside index queue scene.to scene.shifts.now x a.owner → is_moment x ≡ true → (n d : ℕ) → due_of n a.timers ≡ Some d → now (more j x) < d
+  all-later a shows due aside moment n d is =
+      subst (λ to. to < d) shows.to (subst (λ o. MatchOption o (Unit {0}) (λ due. scene.to < due)) is (later_than scene.to (due_of a.owner queue) a.timers due (aside.later moment) n))
+
   -- LAW: an owner that the index leaves aside stands for the journal with the entry, and fires nothing
-  pub owner-calm : (a : Attached) → Shows scene j a.since → OwnerStands j a → IsListed index (owner_of a) → IsAside index scene.shifts.now x a.owner
+  pub owner-calm : (a : Attached) → Shows scene j a.since → OwnerStands j a → IsListed index (owner_of a) → HasDue queue a → IsAside index queue scene.to scene.shifts.now x a.owner
       → OwnerStands (more j x) a × (firings_of (more j x) (length j) (owner_of a) ≡ [])
-  owner-calm a shows stand listed aside =
-      let h = has-past j x shows.journal opens in
+  owner-calm a shows stand listed due aside =
+      let h = has-past j x shows.journal aside.within in
+      let later = all-later a shows due aside in
       let calm = all-calm a shows stand listed aside in (
-        record { well = stand.well; spots = calm-stand j x a.triggers a.since h opens moment stand.well a.spots.items a.timers stand.spots calm },
-        calm-quiet j x a.triggers a.since h opens moment stand.well a.spots.items a.timers stand.spots calm a.owner,
+        record { well = stand.well; spots = calm-stand j x a.triggers a.since h aside.within stand.well a.spots.items a.timers stand.spots calm later },
+        calm-quiet j x a.triggers a.since h aside.within stand.well a.spots.items a.timers stand.spots calm later a.owner,
       )
 
-  module _ (owners : List Attached) (known : AreKnown index (map owner_of owners)) (shows : AllOwners owners (λ a. Shows scene j a.since)) (stand : AllOwners owners (OwnerStands j)) (n : ℕ)
-      (aside : AtOwner owners n (λ a. ascend (map owner_of owners) ≡ true → IsAside index scene.shifts.now x a.owner)) where
+  module _ (owners : List Attached) (known : AreKnown index (map owner_of owners)) (shows : AllOwners owners (λ a. Shows scene j a.since)) (stand : AllOwners owners (OwnerStands j))
+      (queued : AllOwners owners (HasDue queue)) (n : ℕ)
+      (aside : AtOwner owners n (λ a. ascend (map owner_of owners) ≡ true → IsAside index queue scene.to scene.shifts.now x a.owner)) where
     both-at : AtOwner owners n (λ a. OwnerStands (more j x) a × (firings_of (more j x) (length j) (owner_of a) ≡ []))
-    both-at = by (slice_get owners n) (shows n) (stand n) (subst (λ o. MatchOption o (Unit {0}) (IsListed index)) (get-map owner_of owners n) (known.listed n)) aside
+    both-at = by (slice_get owners n) (shows n) (stand n) (queued n) (subst (λ o. MatchOption o (Unit {0}) (IsListed index)) (get-map owner_of owners n) (known.listed n)) aside
       where
-        by : (o : Option Attached) → MatchOption o (Unit {0}) (λ a. Shows scene j a.since) → MatchOption o (Unit {0}) (OwnerStands j) → MatchOption (option_map owner_of o) (Unit {0}) (IsListed index)
-            → MatchOption o (Unit {0}) (λ a. ascend (map owner_of owners) ≡ true → IsAside index scene.shifts.now x a.owner)
+        by : (o : Option Attached) → MatchOption o (Unit {0}) (λ a. Shows scene j a.since) → MatchOption o (Unit {0}) (OwnerStands j) → MatchOption o (Unit {0}) (HasDue queue) → MatchOption (option_map owner_of o) (Unit {0}) (IsListed index)
+            → MatchOption o (Unit {0}) (λ a. ascend (map owner_of owners) ≡ true → IsAside index queue scene.to scene.shifts.now x a.owner)
             → MatchOption o (Unit {0}) (λ a. OwnerStands (more j x) a × (firings_of (more j x) (length j) (owner_of a) ≡ []))
-        by None s t l i = tt
-        by (Some a) s t l i = owner-calm a s t l (i known.ascend)
+        by None s t q l i = tt
+        by (Some a) s t q l i = owner-calm a s t l q (i known.ascend)
 
     pub calm-stands : AtOwner owners n (OwnerStands (more j x))
     calm-stands = by (slice_get owners n) both-at

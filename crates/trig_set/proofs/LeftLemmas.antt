@@ -1,6 +1,6 @@
 -- Places put into a set, and taken out, the least first.
 use Rattle.std.proofs.Common.{◌≡◌, ℕ, zero, suc, ◌+◌, ◌<◌, ◌≤◌, List, [], ◌∷◌, ◌++◌, length, get_or, Bool, true, false, refl, sym, ap, subst, ◌∙◌, arith, nat_cmp, inl, inr}
-use Rattle.std.specs.Prelude.{IsSome, IsTrue, ◌↔◌, MatchOption, None, Option, Some, flat_map, map, nat_eq, slice_get, ◌||◌, if◌then◌else◌}
+use Rattle.std.specs.Prelude.{All, IsSome, IsTrue, ◌↔◌, MatchOption, None, Option, Some, flat_map, map, nat_eq, nat_le, slice_get, ◌||◌, if◌then◌else◌}
 use Rattle.std.specs.List.{list_any}
 use Rattle.std.specs.BTreeMap.{is_at}
 use Rattle.std.specs.BTreeSet.{BTreeSet, IsLowerBound, Updates}
@@ -8,14 +8,17 @@ use Rattle.std.specs.Ordering.{is_gt}
 use Rattle.std.proofs.lemmas.Bool.Decides.{eqb_tells, leb_tells, nat_tests}
 use Rattle.ha_model.specs.Words.{up_to}
 use Rattle.event_bus.specs.Lists.{has}
+use Rattle.timer_queue.specs.Timers.{Timer, after_due, due_of, first_due}
 use Rattle.trig_set.specs.declared.owners.Attached.{Attached}
 use Rattle.event_bus.specs.declared.index.Index.{Index}
 use Rattle.event_bus.specs.Subjects.{Subject, knows}
 use Rattle.trig_set.specs.declared.scene.Shift.{Shift}
 use Rattle.trig_set.specs.Concerned.{OfOthers}
 use Rattle.trig_set.specs.Order.{ascend}
+use Rattle.trig_set.specs.Queued.{IsLater}
 use Rattle.trig_set.specs.Stands.{AtOwner, owner_of}
-use Rattle.trig_set.proofs.OwnersLemmas.{flat-up}
+use Rattle.trig_set.proofs.OwnersLemmas.{at-beyond, flat-up}
+use Rattle.trig_set.proofs.RipeLemmas.{none-due}
 use Rattle.trig_set.proofs.SpotLemmas.{get-at}
 
 is-at-same : (n : ℕ) → is_at (nat_cmp n) n ≡ true
@@ -127,9 +130,61 @@ put-end owners listed left n is = by (slice_get owners n)
     by None t = tt
     by (Some a) t = λ asc. t asc ∙ (λ i. list_any (is_at (nat_cmp a.owner)) (is i))
 
+-- the key of a timer that comes is the only one that loses its due
+due-else : (to k m : ℕ) (timers : List Timer) → first_due to timers ≡ Some k → nat_eq k m ≡ false → due_of m (after_due to timers) ≡ due_of m timers
+due-else to k m [] first apart = refl
+due-else to k m (t ∷ ts) first apart = by (nat_le t.0 to) first
+  where
+    other : (b : Bool) → nat_eq t.1 m ≡ b → t.1 ≡ k → due_of m ts ≡ (if b then Some t.0 else due_of m ts)
+    other true is same = absurd (let bad : ◌≡◌ {A = Bool} true false = sym is ∙ (λ i. nat_eq (same i) m) ∙ apart in cc)
+    other false is same = refl
+
+    by : (b : Bool) → (if b then Some t.1 else None) ≡ Some k → due_of m (if b then ts else t ∷ ts) ≡ due_of m (t ∷ ts)
+    by true e = (let same : t.1 ≡ k = cc in other (nat_eq t.1 m) refl same)
+    by false e = refl
+
+-- LAW: an owner whose place is not there is not the one whose timer came
+pub due-aside : (owners : List Attached) (old new : BTreeSet ℕ) (p : ℕ) → Updates nat_cmp old new p true → (n : ℕ) → has new n ≡ false → (to k : ℕ) (start before after : List Timer)
+    → first_due to before ≡ Some k → after ≡ after_due to before → (ascend (map owner_of owners) ≡ true → AtOwner owners n (λ a. a.owner ≡ k → p ≡ n))
+    → AtOwner owners n (λ a. ascend (map owner_of owners) ≡ true → due_of a.owner before ≡ due_of a.owner start)
+    → AtOwner owners n (λ a. ascend (map owner_of owners) ≡ true → due_of a.owner after ≡ due_of a.owner start)
+due-aside owners old new p updates n none to k start before after first rest found told = by (slice_get owners n) found told
+  where
+    other : (m : ℕ) → (m ≡ k → p ≡ n) → nat_eq k m ≡ false
+    other m at = elim (eqb_tells k m) [
+      | inl same ↦ absurd (apart-never old new p updates n none (put-apart old new p updates n none) (at (sym same.1)))
+      | inr apart ↦ apart.0
+    ]
+
+    by : (o : Option Attached) → (ascend (map owner_of owners) ≡ true → MatchOption o (Unit {0}) (λ a. a.owner ≡ k → p ≡ n))
+        → MatchOption o (Unit {0}) (λ a. ascend (map owner_of owners) ≡ true → due_of a.owner before ≡ due_of a.owner start)
+        → MatchOption o (Unit {0}) (λ a. ascend (map owner_of owners) ≡ true → due_of a.owner after ≡ due_of a.owner start)
+    by None f t = tt
+    by (Some a) f t = λ asc. (λ i. due_of a.owner (rest i)) ∙ due-else to k a.owner before first (other a.owner (f asc)) ∙ t asc
+
+-- LAW: a place that is not among those of all owners is behind them
+pub all-put : (old new : BTreeSet ℕ) (place : ℕ) → Updates nat_cmp old new place true → ((n : ℕ) → has old n ≡ false → place ≤ n) → (n : ℕ) → has new n ≡ false → place + 1 ≤ n
+all-put old new place updates told n none =
+    let le = told n (put-kept old new place updates n none) in
+    elim (eqb_tells place n) [
+      | inl same ↦ absurd (apart-never old new place updates n none (put-apart old new place updates n none) same.1)
+      | inr other ↦ (let apart = other.1 in omega (arith, le, apart))
+    ]
+
+-- LAW: there is nobody aside where all have their places
+pub others-none : (owners : List Attached) (places : BTreeSet ℕ) (P : ℕ → Type 0) → ((n : ℕ) → has places n ≡ false → length owners ≤ n) → OfOthers owners places P
+others-none owners places P beyond n none = at-beyond (λ a. ascend (map owner_of owners) ≡ true → P a.owner) owners n (beyond n none)
+
 -- what holds of the others with fewer places holds with more
 pub others-more : (owners : List Attached) (old new : BTreeSet ℕ) (P : ℕ → Type 0) → ((n : ℕ) → has new n ≡ false → has old n ≡ false) → OfOthers owners old P → OfOthers owners new P
 others-more owners old new P kept told n none = told n (kept n none)
+
+pub others-all : (owners : List Attached) (places : BTreeSet ℕ) (P : ℕ → Type 0) → ((m : ℕ) → P m) → OfOthers owners places P
+others-all owners places P each n none = by (slice_get owners n)
+  where
+    by : (o : Option Attached) → MatchOption o (Unit {0}) (λ a. ascend (map owner_of owners) ≡ true → P a.owner)
+    by None = tt
+    by (Some a) = λ asc. each a.owner
 
 pub others-then : (owners : List Attached) (places : BTreeSet ℕ) (P Q : ℕ → Type 0) → ((m : ℕ) → P m → Q m) → OfOthers owners places P → OfOthers owners places Q
 others-then owners places P Q step told n none = by (slice_get owners n) (told n none)
@@ -137,6 +192,17 @@ others-then owners places P Q step told n none = by (slice_get owners n) (told n
     by : (o : Option Attached) → MatchOption o (Unit {0}) (λ a. ascend (map owner_of owners) ≡ true → P a.owner) → MatchOption o (Unit {0}) (λ a. ascend (map owner_of owners) ≡ true → Q a.owner)
     by None t = tt
     by (Some a) t = λ asc. step a.owner (t asc)
+
+-- LAW: once none comes, each due of the others comes later
+pub due-end : (owners : List Attached) (places : BTreeSet ℕ) (to : ℕ) (start left : List Timer) → All (λ t. to < t.0) left → OfOthers owners places (λ m. due_of m left ≡ due_of m start)
+    → OfOthers owners places (λ m. IsLater to (due_of m start))
+due-end owners places to start left all told =
+    others-then owners places (λ m. due_of m left ≡ due_of m start) (λ m. IsLater to (due_of m start))
+    (λ m same. subst (IsLater to) same (by m (due_of m left) refl)) told
+  where
+    by : (m : ℕ) (o : Option ℕ) → due_of m left ≡ o → IsLater to o
+    by m None is = tt
+    by m (Some d) is = none-due to left all m d is
 
 pub others-two : (owners : List Attached) (places : BTreeSet ℕ) (P Q R : ℕ → Type 0) → ((m : ℕ) → P m → Q m → R m) → OfOthers owners places P → OfOthers owners places Q → OfOthers owners places R
 others-two owners places P Q R step told also n none = by (slice_get owners n) (told n none) (also n none)

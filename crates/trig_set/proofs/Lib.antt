@@ -20,3 +20,4 @@ pub mod TableLemmas
 pub mod FirstLemmas
 pub mod ShiftLemmas
 pub mod OrderLemmas
+pub mod QueueLemmas

@@ -77,7 +77,7 @@ ripe-step to n timers spots first timed =
     )
 
 -- where no timer comes, each hold is left
-none-due : (to : ℕ) (timers : List Timer) → All (λ t. to < t.0) timers → (n d : ℕ) → due_of n timers ≡ Some d → to < d
+pub none-due : (to : ℕ) (timers : List Timer) → All (λ t. to < t.0) timers → (n d : ℕ) → due_of n timers ≡ Some d → to < d
 none-due to [] all n d h = absurd (let bad : ◌≡◌ {A = Option ℕ} None (Some d) = h in cc)
 none-due to (x ∷ xs) all n d h = by (nat_eq x.1 n) h (none-due to xs (All-tail (λ t. to < t.0) x xs all) n d)
   where
@@ -99,9 +99,13 @@ all-left : (to : ℕ) (spots : List Spot) → ((n d : ℕ) → option_and_then d
 all-left to [] far = refl
 all-left to (s ∷ ss) far = (λ i. spot-left to s (far 0) i ∷ all-left to ss (λ n d h. far (suc n) d h) i)
 
--- LAW: where no timer comes, no hold is over
+-- LAW: where each due comes later, no hold is over
+pub none-ripens : (to : ℕ) (timers : List Timer) (spots : List Spot) → ((n d : ℕ) → due_of n timers ≡ Some d → to < d) → AreTimed timers spots → map (ripened to) spots ≡ spots
+none-ripens to timers spots later timed = all-left to spots (λ n d h. later n d (timed.dues n ∙ h))
+
+-- LAW: and so where no timer comes
 pub ripe-end : (to : ℕ) (timers : List Timer) (spots : List Spot) → All (λ t. to < t.0) timers → AreTimed timers spots → map (ripened to) spots ≡ spots
-ripe-end to timers spots all timed = all-left to spots (λ n d h. none-due to timers all n d (timed.dues n ∙ h))
+ripe-end to timers spots all timed = none-ripens to timers spots (none-due to timers all) timed
 
 pub none-first : (to : ℕ) (timers : List Timer) → first_due to timers ≡ None → after_due to timers ≡ timers
 none-first to [] h = refl

@@ -8,4 +8,5 @@ pub mod Equality
 pub mod Shifts
 pub mod Order
 pub mod Known
+pub mod Queued
 pub mod Concerned

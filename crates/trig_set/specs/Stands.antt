@@ -13,6 +13,7 @@ use Rattle.trig_set.specs.declared.set.TrigSet.{TrigSet}
 use Rattle.ha_past.specs.Firings.{Owner, firings_of}
 use Rattle.trig_set.specs.Kept.{AreWell, SpotsStand}
 use Rattle.trig_set.specs.Known.{AreKnown}
+use Rattle.trig_set.specs.Queued.{HasDue}
 use Rattle.trig_set.specs.Table.{number_at}
 
 abbrev pub owner_of : Attached → Owner
@@ -38,10 +39,12 @@ AllOwners owners P = (n : ℕ) → AtOwner owners n P
 abbrev pub firings_at : Journal → Entry → List Attached → ℕ → List Firing
 firings_at j x owners n = option_map_or (λ a. firings_of (more j x) (length j) (owner_of a)) (slice_get owners n) []
 
--- the set stands for a journal: for each owner its pending holds with their timers and the truth of its templates; the index of whom an entry concerns; the latest numbers, Now and the zone
+-- the set stands for a journal: for each owner its pending holds with their timers and the truth of its templates; the index of whom an entry concerns; the queue of the
+-- owners by their earliest hold; the latest numbers, Now and the zone
 pub record StandsFor (s : TrigSet) (j : Journal) : Type 0 where
   pub owners : AllOwners s.owners.items (OwnerStands j)
   pub known : AreKnown s.index (attached s)
+  pub queued : AllOwners s.owners.items (HasDue s.queue)
   pub at : s.now ≡ now j
   pub zone : HasEntry j → MatchOption s.zone ⊥ (λ z. z ≡ zone_of j)
   pub numbers : (e : EntityId) (name : Option Text) → number_at s.numbers e name ≡ latest_number e name j

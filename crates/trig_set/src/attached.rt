@@ -32,7 +32,7 @@ fn now_true<A: Answers>(alloc: Global, rule: &TriggerRule, answers: &A) -> Resul
 }
 
 /// Sets the timer of a place, where its due changed.
-fn retime(
+pub fn retime(
     timers: &mut TimerQueue,
     place: u64,
     before: Option<Moment>,

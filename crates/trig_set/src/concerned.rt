@@ -3,21 +3,26 @@ ghost use Rattle.std.specs.Prelude.{◌≡◌, ◌≤◌, ℕ, OnOk, IfOk, Match
 ghost use Rattle.std.specs.Option.{option_copied, option_map_or};
 ghost use Rattle.event_bus.specs.Lists.{has};
 ghost use Rattle.event_bus.specs.Subjects.{Subject, knows};
-ghost use Rattle.ha_model.specs.Entries.{event_in};
+ghost use Rattle.ha_model.specs.Entries.{event_in, is_moment, opens_segment};
+ghost use Rattle.timer_queue.specs.Timers.{due_of};
 ghost use Rattle.trig_set.specs.Concerned.{IsAside, OfOthers};
 ghost use Rattle.trig_set.specs.Kept.{All};
 ghost use Rattle.trig_set.specs.Known.{HasSpot};
 ghost use Rattle.trig_set.specs.Order.{ascend};
+ghost use Rattle.trig_set.specs.Queued.{IsLater};
 ghost use Rattle.trig_set.specs.Stands.{AtOwner, owner_of};
 
+use crate::attached::is_moment;
 use crate::event::kind_in;
+use crate::moved::opens;
 use crate::owners::Attached;
 use crate::scene::Shift;
 use crate::spot::Spot;
 use event_bus::Index;
-use ha_model::{Entry, Many, Trigger};
+use ha_model::{Entry, Many, Moment, Trigger};
 use std::alloc::{AllocError, Global};
 use std::collections::BTreeSet;
+use timer_queue::TimerQueue;
 
 /// Lists an owner for one of its triggers and one of its entities.
 fn list_spot(
@@ -151,19 +156,109 @@ fn put_entities(
     Ok(())
 }
 
-/// The places of the owners whom the entry concerns, where no segment opens with it and it is no moment.
-pub fn concerned(
+/// Puts the places of those in who have a hold that is over. What the queue has for the others stays.
+fn put_due(
+    owners: &[Attached],
+    queue: &mut TimerQueue,
+    to: Moment,
+    places: &mut BTreeSet<usize>,
+) -> Result<(), AllocError>
+    ensures kept { OnOk result ((n : ℕ) → has places.new n ≡ false → has places.old n ≡ false) }
+    ensures later { OnOk result (OfOthers owners.now places.new (λ m. IsLater to (due_of m queue.old))) }
+    ensures queue { OnOk result (OfOthers owners.now places.new (λ m. due_of m queue.new ≡ due_of m queue.old)) }
+{
+    'dues: while let Some(owner) = queue.pop_due(to) {
+        places.insert(place_of(owners, owner))?;
+    }
+    Ok(())
+}
+
+/// Puts the places of those in whom a moment concerns: those with a trigger on times, and with a hold that is over.
+fn put_timely(
+    index: &Index,
+    to: Moment,
+    owners: &[Attached],
+    queue: &mut TimerQueue,
+    places: &mut BTreeSet<usize>,
+) -> Result<(), AllocError>
+    ensures kept { OnOk result ((n : ℕ) → has places.new n ≡ false → has places.old n ≡ false) }
+    ensures times { OnOk result (OfOthers owners.now places.new (λ m. knows index.now Subject.Moments m ≡ false)) }
+    ensures later { OnOk result (OfOthers owners.now places.new (λ m. IsLater to (due_of m queue.old))) }
+    ensures queue { OnOk result (OfOthers owners.now places.new (λ m. due_of m queue.new ≡ due_of m queue.old)) }
+{
+    put_places(owners, &index.moments, places)?;
+    put_due(owners, queue, to, places)
+}
+
+/// The same, where the entry is a moment.
+fn put_moment(
+    index: &Index,
+    entry: &Entry,
+    to: Moment,
+    owners: &[Attached],
+    queue: &mut TimerQueue,
+    places: &mut BTreeSet<usize>,
+) -> Result<(), AllocError>
+    ensures kept { OnOk result ((n : ℕ) → has places.new n ≡ false → has places.old n ≡ false) }
+    ensures times { OnOk result (OfOthers owners.now places.new (λ m. is_moment entry.now ≡ true → knows index.now Subject.Moments m ≡ false)) }
+    ensures later { OnOk result (OfOthers owners.now places.new (λ m. is_moment entry.now ≡ true → IsLater to (due_of m queue.old))) }
+    ensures queue { OnOk result (OfOthers owners.now places.new (λ m. due_of m queue.new ≡ due_of m queue.old)) }
+{
+    if is_moment(entry) {
+        put_timely(index, to, owners, queue, places)
+    } else {
+        Ok(())
+    }
+}
+
+/// The places of the owners whom the entry concerns, where no segment opens with it.
+fn some_places(
     alloc: Global,
     index: &Index,
     entry: &Entry,
+    to: Moment,
     shifts: &[Shift],
     owners: &[Attached],
+    queue: &mut TimerQueue,
 ) -> Result<BTreeSet<usize>, AllocError>
-    ensures { IfOk result (λ places. OfOthers owners.now places (IsAside index.now shifts.now entry.now)) }
+    requires { opens_segment entry.now ≡ false }
+    ensures aside { IfOk result (λ places. OfOthers owners.now places (IsAside index.now queue.old to shifts.now entry.now)) }
+    ensures queue { IfOk result (λ places. OfOthers owners.now places (λ m. due_of m queue.new ≡ due_of m queue.old)) }
 {
     let mut places = BTreeSet::new(alloc);
     put_places(owners, &index.entries, &mut places)?;
     put_event(index, entry, owners, &mut places)?;
     put_entities(index, shifts, owners, &mut places)?;
+    put_moment(index, entry, to, owners, queue, &mut places)?;
     Ok(places)
+}
+
+/// The places of all owners.
+fn all_places(alloc: Global, owners: &[Attached]) -> Result<BTreeSet<usize>, AllocError>
+    ensures { IfOk result (λ places. (n : ℕ) → has places n ≡ false → length owners.now ≤ n) }
+{
+    let mut places = BTreeSet::new(alloc);
+    for place in 0..owners.len() {
+        places.insert(place)?;
+    }
+    Ok(places)
+}
+
+/// The places of the owners whom the entry concerns: of all where a segment opens with it. What the queue has for the others stays.
+pub fn concerned(
+    alloc: Global,
+    index: &Index,
+    entry: &Entry,
+    to: Moment,
+    shifts: &[Shift],
+    owners: &[Attached],
+    queue: &mut TimerQueue,
+) -> Result<BTreeSet<usize>, AllocError>
+    ensures aside { IfOk result (λ places. OfOthers owners.now places (IsAside index.now queue.old to shifts.now entry.now)) }
+    ensures queue { IfOk result (λ places. OfOthers owners.now places (λ m. due_of m queue.new ≡ due_of m queue.old)) }
+{
+    if opens(entry) {
+        return all_places(alloc, owners);
+    }
+    some_places(alloc, index, entry, to, shifts, owners, queue)
 }

@@ -1,26 +1,28 @@
 //! What an entry makes of the owners: of those alone whom it concerns.
-ghost use Rattle.std.specs.Prelude.{◌≡◌, ◌≤◌, ◌++◌, ℕ, [], OnOk, false, flat_map, length, map, nat_eq, slice_get};
-ghost use Rattle.ha_model.specs.Entries.{is_moment, opens_segment};
+ghost use Rattle.std.specs.Prelude.{◌≡◌, ◌≤◌, ◌++◌, ℕ, [], OnOk, false, flat_map, length, map, nat_eq, slice_get, true};
 ghost use Rattle.ha_clock.specs.Local.{last_moment};
 ghost use Rattle.event_bus.specs.Lists.{has};
 ghost use Rattle.ha_model.specs.Journal.{Journal};
 ghost use Rattle.ha_model.specs.Words.{up_to};
 ghost use Rattle.ha_model.specs.RecordSteps.{more};
 ghost use Rattle.ha_model.specs.Triggers.{sight};
+ghost use Rattle.timer_queue.specs.Timers.{due_of};
 ghost use Rattle.ha_past.specs.Firings.{firings};
 ghost use Rattle.trig_set.specs.Known.{AreKnown};
+ghost use Rattle.trig_set.specs.Order.{ascend};
+ghost use Rattle.trig_set.specs.Queued.{HasDue};
 ghost use Rattle.trig_set.specs.Scenes.{Shows};
 ghost use Rattle.trig_set.specs.Stands.{AllOwners, AtOwner, OwnerStands, firings_at, owner_of};
 
-use crate::attached::is_moment;
+use crate::attached::retime;
 use crate::concerned::concerned;
-use crate::moved::opens;
-use crate::owners::{Attached, note_all, note_at};
+use crate::owners::{Attached, note_at};
 use crate::scene::Scene;
 use event_bus::Index;
 use ha_model::{Answers, Firing, Many};
 use std::alloc::{AllocError, Global};
 use std::collections::BTreeSet;
+use timer_queue::TimerQueue;
 
 /// What the entry makes of the owner at a place, if there is one; what fires is appended.
 fn note_there<A: Answers>(
@@ -46,6 +48,29 @@ fn note_there<A: Answers>(
     }
 }
 
+/// The queue has the earliest due of an owner.
+fn enqueue_one(queue: &mut TimerQueue, attached: &Attached) -> Result<(), AllocError>
+    ensures here { OnOk result (HasDue queue.new attached.now) }
+    ensures others { OnOk result ((n : ℕ) → nat_eq attached.now.owner n ≡ false → due_of n queue.new ≡ due_of n queue.old) }
+{
+    let owner = attached.owner;
+    let present = queue.due(owner);
+    retime(queue, owner, present, attached.timers.earliest())
+}
+
+/// The same, of the owner at a place, if there is one.
+fn enqueue(queue: &mut TimerQueue, owners: &[Attached], place: usize) -> Result<(), AllocError>
+    ensures here { OnOk result (AtOwner owners.now place (HasDue queue.new)) }
+    ensures elsewhere { OnOk result (ascend (map owner_of owners.now) ≡ true → (n : ℕ) → nat_eq place n ≡ false
+        → AtOwner owners.now n (HasDue queue.old) → AtOwner owners.now n (HasDue queue.new)) }
+{
+    if place < owners.len() {
+        enqueue_one(queue, &owners[place])
+    } else {
+        Ok(())
+    }
+}
+
 /// What the entry makes of the owners at these places; the others are as before.
 fn note_some<A: Answers>(
     alloc: Global,
@@ -53,6 +78,7 @@ fn note_some<A: Answers>(
     answers: &A,
     places: BTreeSet<usize>,
     owners: &mut [Attached],
+    queue: &mut TimerQueue,
     fired: &mut Many<Firing>,
 ) -> Result<(), AllocError>
     requires { scene.now.to ≤ last_moment }
@@ -62,61 +88,47 @@ fn note_some<A: Answers>(
     ensures fired { OnOk result ((j : Journal) → AllOwners owners.old (λ a. Shows scene.now j a.since) → A.sight answers.now ≡ sight (more j scene.now.entry.now) (length (more j scene.now.entry.now))
         → AllOwners owners.old (OwnerStands j) → ((n : ℕ) → has places n ≡ false → firings_at j scene.now.entry.now owners.old n ≡ [])
         → fired.new ≡ fired.old ++ flat_map (firings_at j scene.now.entry.now owners.old) (up_to (length owners.old))) }
+    ensures queued { OnOk result (ascend (map owner_of owners.old) ≡ true → ((n : ℕ) → has places n ≡ false → AtOwner owners.old n (HasDue queue.old))
+        → AllOwners owners.new (HasDue queue.new)) }
     ensures owners { OnOk result (map owner_of owners.new ≡ map owner_of owners.old) }
 {
     let mut left = places;
     'places: while let Some(place) = left.pop_first() {
         note_there(alloc, scene, answers, place, owners, fired)?;
+        enqueue(queue, owners, place)?;
     }
     Ok(())
 }
 
-/// What the entry makes of the owners whom it concerns, where no segment opens with it and it is no moment.
-fn note_concerned<A: Answers>(
-    alloc: Global,
-    scene: &Scene<'_>,
-    answers: &A,
-    index: &Index,
-    owners: &mut [Attached],
-    fired: &mut Many<Firing>,
-) -> Result<(), AllocError>
-    requires { scene.now.to ≤ last_moment }
-    ensures stands { OnOk result ((j : Journal) → AllOwners owners.old (λ a. Shows scene.now j a.since) → A.sight answers.now ≡ sight (more j scene.now.entry.now) (length (more j scene.now.entry.now))
-        → AllOwners owners.old (OwnerStands j) → AreKnown index.now (map owner_of owners.old) → opens_segment scene.now.entry.now ≡ false → is_moment scene.now.entry.now ≡ false
-        → AllOwners owners.new (OwnerStands (more j scene.now.entry.now))) }
-    ensures fired { OnOk result ((j : Journal) → AllOwners owners.old (λ a. Shows scene.now j a.since) → A.sight answers.now ≡ sight (more j scene.now.entry.now) (length (more j scene.now.entry.now))
-        → AllOwners owners.old (OwnerStands j) → AreKnown index.now (map owner_of owners.old) → opens_segment scene.now.entry.now ≡ false → is_moment scene.now.entry.now ≡ false
-        → fired.new ≡ fired.old ++ flat_map (firings_at j scene.now.entry.now owners.old) (up_to (length owners.old))) }
-    ensures owners { OnOk result (map owner_of owners.new ≡ map owner_of owners.old) }
-{
-    let places = concerned(alloc, index, scene.entry, scene.shifts, owners)?;
-    note_some(alloc, scene, answers, places, owners, fired)
-}
-
-/// What the entry makes of the owners; what fires is appended. A moment, and an entry with which a segment opens, are told to all.
+/// What the entry makes of the owners whom it concerns; what fires is appended.
 fn note_list<A: Answers>(
     alloc: Global,
     scene: &Scene<'_>,
     answers: &A,
     index: &Index,
     owners: &mut [Attached],
+    queue: &mut TimerQueue,
     fired: &mut Many<Firing>,
 ) -> Result<(), AllocError>
     requires { scene.now.to ≤ last_moment }
     ensures stands { OnOk result ((j : Journal) → AllOwners owners.old (λ a. Shows scene.now j a.since) → A.sight answers.now ≡ sight (more j scene.now.entry.now) (length (more j scene.now.entry.now))
-        → AllOwners owners.old (OwnerStands j) → AreKnown index.now (map owner_of owners.old) → AllOwners owners.new (OwnerStands (more j scene.now.entry.now))) }
+        → AllOwners owners.old (OwnerStands j) → AreKnown index.now (map owner_of owners.old) → AllOwners owners.old (HasDue queue.old) → AllOwners owners.new (OwnerStands (more j scene.now.entry.now))) }
     ensures fired { OnOk result ((j : Journal) → AllOwners owners.old (λ a. Shows scene.now j a.since) → A.sight answers.now ≡ sight (more j scene.now.entry.now) (length (more j scene.now.entry.now))
-        → AllOwners owners.old (OwnerStands j) → AreKnown index.now (map owner_of owners.old)
+        → AllOwners owners.old (OwnerStands j) → AreKnown index.now (map owner_of owners.old) → AllOwners owners.old (HasDue queue.old)
         → fired.new ≡ fired.old ++ flat_map (firings_at j scene.now.entry.now owners.old) (up_to (length owners.old))) }
+    ensures queued { OnOk result (ascend (map owner_of owners.old) ≡ true → AllOwners owners.old (HasDue queue.old) → AllOwners owners.new (HasDue queue.new)) }
     ensures owners { OnOk result (map owner_of owners.new ≡ map owner_of owners.old) }
 {
-    if opens(scene.entry) {
-        return note_all(alloc, scene, answers, owners, fired);
-    }
-    if is_moment(scene.entry) {
-        return note_all(alloc, scene, answers, owners, fired);
-    }
-    note_concerned(alloc, scene, answers, index, owners, fired)
+    let places = concerned(
+        alloc,
+        index,
+        scene.entry,
+        scene.to,
+        scene.shifts,
+        owners,
+        queue,
+    )?;
+    note_some(alloc, scene, answers, places, owners, queue, fired)
 }
 
 /// The same, of the owners where they are kept.
@@ -126,15 +138,26 @@ pub fn note_owners<A: Answers>(
     answers: &A,
     index: &Index,
     owners: &mut Vec<Attached>,
+    queue: &mut TimerQueue,
     fired: &mut Many<Firing>,
 ) -> Result<(), AllocError>
     requires { scene.now.to ≤ last_moment }
     ensures stands { OnOk result ((j : Journal) → AllOwners owners.old.items (λ a. Shows scene.now j a.since) → A.sight answers.now ≡ sight (more j scene.now.entry.now) (length (more j scene.now.entry.now))
-        → AllOwners owners.old.items (OwnerStands j) → AreKnown index.now (map owner_of owners.old.items) → AllOwners owners.new.items (OwnerStands (more j scene.now.entry.now))) }
+        → AllOwners owners.old.items (OwnerStands j) → AreKnown index.now (map owner_of owners.old.items) → AllOwners owners.old.items (HasDue queue.old)
+        → AllOwners owners.new.items (OwnerStands (more j scene.now.entry.now))) }
     ensures fired { OnOk result ((j : Journal) → AllOwners owners.old.items (λ a. Shows scene.now j a.since) → A.sight answers.now ≡ sight (more j scene.now.entry.now) (length (more j scene.now.entry.now))
-        → AllOwners owners.old.items (OwnerStands j) → AreKnown index.now (map owner_of owners.old.items)
+        → AllOwners owners.old.items (OwnerStands j) → AreKnown index.now (map owner_of owners.old.items) → AllOwners owners.old.items (HasDue queue.old)
         → fired.new ≡ fired.old ++ firings (more j scene.now.entry.now) (length j) (map owner_of owners.old.items)) }
+    ensures queued { OnOk result (ascend (map owner_of owners.old.items) ≡ true → AllOwners owners.old.items (HasDue queue.old) → AllOwners owners.new.items (HasDue queue.new)) }
     ensures owners { OnOk result (map owner_of owners.new.items ≡ map owner_of owners.old.items) }
 {
-    note_list(alloc, scene, answers, index, owners.as_mut_slice(), fired)
+    note_list(
+        alloc,
+        scene,
+        answers,
+        index,
+        owners.as_mut_slice(),
+        queue,
+        fired,
+    )
 }

@@ -1,15 +1,16 @@
 //! The owners, in the order of their numbers.
-ghost use Rattle.std.specs.Prelude.{◌≡◌, ◌≤◌, ◌<◌, ◌++◌, ℕ, IfOk, IsTrue, OnOk, OnErr, insert, length, map, flat_map, false, nat_eq, slice_get};
+ghost use Rattle.std.specs.Prelude.{◌≡◌, ◌≤◌, ◌<◌, ◌++◌, ℕ, List, IfOk, IsTrue, OnOk, OnErr, insert, length, map, false, nat_eq, slice_get};
 ghost use Rattle.ha_clock.specs.Local.{last_moment};
 ghost use Rattle.ha_model.specs.Journal.{Journal};
-ghost use Rattle.ha_model.specs.Words.{up_to};
 ghost use Rattle.ha_model.specs.RecordSteps.{more};
 ghost use Rattle.ha_model.specs.Sound.{are_sound_triggers};
 ghost use Rattle.ha_model.specs.Triggers.{sight};
+ghost use Rattle.timer_queue.specs.Timers.{Timer, removed};
 ghost use Rattle.ha_past.specs.Firings.{Owner, firings_of, placed, without_owner};
 ghost use Rattle.event_bus.specs.Subjects.{Subject, knows};
 ghost use Rattle.trig_set.specs.Kept.{All};
 ghost use Rattle.trig_set.specs.Known.{HasSpot};
+ghost use Rattle.trig_set.specs.Queued.{HasDue};
 ghost use Rattle.trig_set.specs.Stands.{AllOwners, AtOwner, OwnerStands, firings_at, owner_of};
 ghost use Rattle.trig_set.specs.Scenes.{Shows};
 
@@ -84,27 +85,6 @@ pub fn note_at<A: Answers>(
     note_one(alloc, scene, answers, &mut owners[place], fired)
 }
 
-/// The same, of all owners.
-pub fn note_all<A: Answers>(
-    alloc: Global,
-    scene: &Scene<'_>,
-    answers: &A,
-    owners: &mut [Attached],
-    fired: &mut Many<Firing>,
-) -> Result<(), AllocError>
-    requires { scene.now.to ≤ last_moment }
-    ensures stands { OnOk result ((j : Journal) → AllOwners owners.old (λ a. Shows scene.now j a.since) → A.sight answers.now ≡ sight (more j scene.now.entry.now) (length (more j scene.now.entry.now))
-        → AllOwners owners.old (OwnerStands j) → AllOwners owners.new (OwnerStands (more j scene.now.entry.now))) }
-    ensures fired { OnOk result ((j : Journal) → AllOwners owners.old (λ a. Shows scene.now j a.since) → A.sight answers.now ≡ sight (more j scene.now.entry.now) (length (more j scene.now.entry.now))
-        → AllOwners owners.old (OwnerStands j) → fired.new ≡ fired.old ++ flat_map (firings_at j scene.now.entry.now owners.old) (up_to (length owners.old))) }
-    ensures owners { OnOk result (map owner_of owners.new ≡ map owner_of owners.old) }
-{
-    for place in 0..owners.len() {
-        note_at(alloc, scene, answers, place, owners, fired)?;
-    }
-    Ok(())
-}
-
 /// What is kept for triggers that are attached: nothing is pending.
 pub fn fresh(
     alloc: Global,
@@ -115,6 +95,7 @@ pub fn fresh(
     requires { IsTrue (are_sound_triggers triggers.now) }
     ensures owner { IfOk result (λ a. owner_of a ≡ record { owner = owner; triggers = triggers.now; since = since }) }
     ensures stands { IfOk result (λ a. (j : Journal) → length j ≤ since → OwnerStands j a) }
+    ensures due { IfOk result (λ a. (queue : List Timer) → HasDue queue a) }
 {
     let mut spots = Vec::new(alloc);
     add_triggers(alloc, triggers.as_slice(), &mut spots)?;
@@ -144,6 +125,7 @@ fn place_for(owners: &[Attached], owner: u64) -> usize
 pub fn put_in(owners: &mut Vec<Attached>, attached: Attached) -> Result<(), AllocError>
     ensures ok { OnOk result (map owner_of owners.new.items ≡ placed (owner_of attached) (map owner_of owners.old.items)) }
     ensures stands { OnOk result ((j : Journal) → AllOwners owners.old.items (OwnerStands j) → OwnerStands j attached → AllOwners owners.new.items (OwnerStands j)) }
+    ensures queued { OnOk result ((queue : List Timer) → AllOwners owners.old.items (HasDue queue) → HasDue queue attached → AllOwners owners.new.items (HasDue queue)) }
     ensures err { OnErr result (owners.new.items ≡ owners.old.items) }
 {
     let place = place_for(owners.as_slice(), attached.owner);
@@ -180,6 +162,7 @@ pub fn unlist_owner(index: &mut Index, owners: &[Attached], owner: u64)
 pub fn take_out(owners: &mut Vec<Attached>, owner: u64)
     ensures rest { map owner_of owners.new.items ≡ without_owner owner (map owner_of owners.old.items) }
     ensures stands { (j : Journal) → AllOwners owners.old.items (OwnerStands j) → AllOwners owners.new.items (OwnerStands j) }
+    ensures queued { (queue : List Timer) → AllOwners owners.old.items (HasDue queue) → AllOwners owners.new.items (HasDue (removed owner queue)) }
 {
     owners.retain(|attached| attached.owner != owner);
 }

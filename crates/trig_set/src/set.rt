@@ -20,6 +20,7 @@ use ha_clock::{ClockFault, Zone};
 use ha_model::{Answers, EntityId, Entry, Firing, Many, Moment, StateObject, Trigger};
 use std::alloc::{AllocError, Global};
 use std::collections::BTreeMap;
+use timer_queue::TimerQueue;
 
 /// Triggers that are attached under owners, with what has to be known of the journal so far to tell what fires at its next entry.
 #[derive(Drop)]
@@ -28,6 +29,8 @@ pub struct TrigSet {
     owners: Vec<Attached>,
     /// Which owners each entity and each type of events concerns.
     index: Index,
+    /// The earliest due of the holds of each owner that has some, under its number.
+    queue: TimerQueue,
     /// Now.
     now: Moment,
     /// The Boot's, once it was noted.
@@ -44,6 +47,7 @@ impl TrigSet {
         TrigSet {
             owners: Vec::new(alloc),
             index: Index::make(alloc),
+            queue: TimerQueue::make(alloc),
             now: Moment::at(0),
             zone: None,
             numbers: Numbers {
@@ -79,6 +83,7 @@ impl TrigSet {
     {
         unlist_owner(&mut self.index, self.owners.as_slice(), owner);
         take_out(&mut self.owners, owner);
+        self.queue.remove(owner);
     }
 
     /// Detaches all triggers, with their holds.
@@ -88,6 +93,7 @@ impl TrigSet {
     {
         self.owners.clear();
         self.index.clear();
+        self.queue.clear();
     }
 
     /// The zone of a Boot is read.
@@ -142,6 +148,7 @@ impl TrigSet {
             answers,
             &self.index,
             &mut self.owners,
+            &mut self.queue,
             &mut fired,
         )?;
         self.numbers.note(alloc, entry)?;

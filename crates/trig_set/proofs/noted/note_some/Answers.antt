@@ -4,6 +4,8 @@ use Rattle.std.proofs.lemmas.Bool.Decides.{eqb_tells, leb_tells}
 use Rattle.event_bus.specs.Lists.{has}
 use Rattle.ha_model.specs.Words.{up_to}
 use Rattle.ha_model.specs.RecordSteps.{more}
+use Rattle.trig_set.specs.Order.{ascend}
+use Rattle.trig_set.specs.Queued.{HasDue}
 use Rattle.trig_set.specs.Scenes.{Shows}
 use Rattle.trig_set.specs.Stands.{AtOwner, OwnerStands, firings_at}
 use Rattle.trig_set.proofs.CalmLemmas.{never}
@@ -15,6 +17,7 @@ pub places-init : goal.places-init
 places-init g c = record {
   stands = λ j shows sees all calm n none. calm n none;
   same = λ n there. refl;
+  queued = λ asc calm n none. calm n none;
   owners = refl;
   next = zero;
   ahead = λ n there. omega arith;
@@ -46,6 +49,12 @@ places-preserved g c =
         | inl same ↦ absurd (never (has rest n) there (subst (λ m. has rest m ≡ false) same.1 (left-here old rest p updates least)))
         | inr other ↦ c.in_ok-note_there.ensures.elsewhere n other.0 ∙ inv.same n (sym (left-else old rest p updates least n other.0) ∙ there)
       ];
+      queued = λ asc calm n none. elim (eqb_tells p n) [
+        | inl same ↦ subst (λ m. AtOwner new m (HasDue c.enqueue.new.queue)) same.1 c.in_ok-enqueue.ensures.here
+        | inr other ↦
+            c.in_ok-enqueue.ensures.elsewhere (ap ascend (c.in_ok-note_there.ensures.owners ∙ inv.owners) ∙ asc) n other.0
+            (at-along (HasDue c.places.queue) new now n (c.in_ok-note_there.ensures.elsewhere n other.0) (inv.queued asc calm n (sym (left-else old rest p updates least n other.0) ∙ none)))
+      ];
       owners = c.in_ok-note_there.ensures.owners ∙ inv.owners;
       next = p + 1;
       ahead = λ n there. left-from old rest p updates least n there;
@@ -64,6 +73,9 @@ places-smaller g c = (let e = ap length c.in-Some.ensures.removal in omega (arit
 
 pub returns-clause-owners : goal.returns-clause-owners
 returns-clause-owners g c = c.places.invariant.owners
+
+pub returns-clause-queued : goal.returns-clause-queued
+returns-clause-queued g c asc calm n = c.places.invariant.queued asc calm n (none-left c.places.left (c.in_default.ensures.variant) n)
 
 pub returns-clause-stands : goal.returns-clause-stands
 returns-clause-stands g c j shows sees all calm n = c.places.invariant.stands j shows sees all calm n (none-left c.places.left (c.in_default.ensures.variant) n)

@@ -6,6 +6,8 @@ use Rattle.ha_model.specs.Journal.{Journal}
 use Rattle.ha_model.specs.RecordSteps.{more}
 use Rattle.ha_model.specs.Triggers.{sight}
 use Rattle.trig_set.specs.Stands.{AllOwners, AtOwner, OwnerStands, firings_at, owner_of}
+use Rattle.trig_set.specs.Order.{ascend}
+use Rattle.trig_set.specs.Queued.{HasDue}
 use Rattle.trig_set.specs.Scenes.{Shows}
 use Rattle.trig_set.proofs.noted.note_some.Given as goal
 
@@ -18,6 +20,8 @@ invariant-places g l = record {
       → AllOwners l.initial.owners (OwnerStands j) → ((n : ℕ) → has l.initial.left n ≡ false → AtOwner l.initial.owners n (OwnerStands (more j l.scene.entry.now)))
       → (n : ℕ) → has l.left n ≡ false → AtOwner l.owners n (OwnerStands (more j l.scene.entry.now));
   same : (n : ℕ) → has l.left n ≡ true → slice_get l.owners n ≡ slice_get l.initial.owners n;
+  queued : ascend (map owner_of l.initial.owners) ≡ true → ((n : ℕ) → has l.initial.left n ≡ false → AtOwner l.initial.owners n (HasDue l.initial.queue))
+      → (n : ℕ) → has l.left n ≡ false → AtOwner l.owners n (HasDue l.queue);
   owners : map owner_of l.owners ≡ map owner_of l.initial.owners;
   next : ℕ;
   ahead : (n : ℕ) → has l.left n ≡ true → next ≤ n;

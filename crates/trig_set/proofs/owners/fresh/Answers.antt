@@ -5,6 +5,7 @@ use Rattle.trig_set.specs.Blank.{are_blank}
 use Rattle.trig_set.specs.Kept.{AreTimed, place_of, places_of}
 use Rattle.trig_set.proofs.NoteLemmas.{places-alike}
 use Rattle.trig_set.proofs.BlankLemmas.{both, sound-well, blank-kept, blank-timed}
+use Rattle.timer_queue.specs.Timers.{IsLeast, due_of}
 use Rattle.trig_set.specs.Stands.{OwnerStands}
 use Rattle.trig_set.proofs.owners.fresh.Goals as goal
 
@@ -22,3 +23,6 @@ returns-clause-stands c j le =
         timed = subst (λ l. AreTimed l spots.items) (sym c.make.ensures) (blank-timed spots.items blank);
       };
     })
+
+pub returns-clause-due : goal.returns-clause-due
+returns-clause-due c queue = subst (IsLeast (due_of c.args.owner queue)) (sym c.make.ensures) (λ key. tt)

@@ -1,6 +1,7 @@
 use Rattle.std.proofs.Common.{◌∙◌, refl, ap, sym, subst, map}
 use Rattle.std.specs.Prelude.{insert}
 use Rattle.ha_past.specs.Firings.{placed}
+use Rattle.trig_set.specs.Queued.{HasDue}
 use Rattle.trig_set.specs.Stands.{AllOwners, OwnerStands, owner_of}
 use Rattle.trig_set.proofs.OnLemmas.{on-any-err}
 use Rattle.trig_set.proofs.PlaceLemmas.{map-insert, all-insert}
@@ -20,3 +21,7 @@ returns-clause-ok c =
 pub returns-clause-stands : goal.returns-clause-stands
 returns-clause-stands c j all here =
     subst (λ l. AllOwners l (OwnerStands j)) (sym c.in_ok-insert.ensures.items) (all-insert (OwnerStands j) c.args.owners.now.items c.place_for-place.result c.args.attached all here)
+
+pub returns-clause-queued : goal.returns-clause-queued
+returns-clause-queued c queue all here =
+    subst (λ l. AllOwners l (HasDue queue)) (sym c.in_ok-insert.ensures.items) (all-insert (HasDue queue) c.args.owners.now.items c.place_for-place.result c.args.attached all here)

@@ -8,6 +8,7 @@ use Rattle.ha_past.specs.Looks.{or_else}
 use Rattle.trig_set.specs.Scenes.{AreShifts}
 use Rattle.ha_past.specs.Firings.{firings}
 use Rattle.trig_set.specs.Known.{AreKnown}
+use Rattle.trig_set.specs.Queued.{HasDue}
 use Rattle.trig_set.specs.Table.{number_at}
 use Rattle.trig_set.specs.Stands.{AllOwners, OwnerStands, attached, owner_of}
 use Rattle.ha_model.proofs.HeldLaws.{latest-more}
@@ -19,6 +20,7 @@ returns-clause-stands g c j stands next =
     let r = c.open.ensures.rest in
     let items = ap (λ s. s.owners.items) r in
     let known = subst (λ s. AreKnown s.index (attached s)) (sym r) stands.known in
+    let queued = subst (λ s. AllOwners s.owners.items (HasDue s.queue)) (sym r) stands.queued in
     let to-is = c.now-to.ensures ∙ (λ i. (next.sees i).now) ∙ now-seen (more j c.args.entry.now) in
     let zone = zone-next j c.args.entry.now c.args.self.now.zone c.open.new.self.zone next.journal next.zone stands.zone c.in_ok-open.ensures.boot in
     record {
@@ -32,8 +34,9 @@ returns-clause-stands g c j stands next =
             from = ap (λ s. s.now) r ∙ stands.at;
             to = to-is;
             numbers = λ e name. ap (λ s. number_at s.numbers e name) r ∙ stands.numbers e name;
-          })) next.sees (subst (λ l. AllOwners l (OwnerStands j)) (sym items) stands.owners) known;
+          })) next.sees (subst (λ l. AllOwners l (OwnerStands j)) (sym items) stands.owners) known queued;
       known = subst (AreKnown c.open.new.self.index) (sym c.in_ok-note_owners.ensures.owners) known;
+      queued = c.in_ok-note_owners.ensures.queued known.ascend queued;
       at = to-is;
       zone = λ h. zone;
       numbers = λ e name.
@@ -47,6 +50,7 @@ returns-clause-fired g c j stands next =
     let r = c.open.ensures.rest in
     let items = ap (λ s. s.owners.items) r in
     let known = subst (λ s. AreKnown s.index (attached s)) (sym r) stands.known in
+    let queued = subst (λ s. AllOwners s.owners.items (HasDue s.queue)) (sym r) stands.queued in
     let to-is = c.now-to.ensures ∙ (λ i. (next.sees i).now) ∙ now-seen (more j c.args.entry.now) in
     let zone = zone-next j c.args.entry.now c.args.self.now.zone c.open.new.self.zone next.journal next.zone stands.zone c.in_ok-open.ensures.boot in
     c.in_ok-note_owners.ensures.fired j
@@ -59,5 +63,5 @@ returns-clause-fired g c j stands next =
       from = ap (λ s. s.now) r ∙ stands.at;
       to = to-is;
       numbers = λ e name. ap (λ s. number_at s.numbers e name) r ∙ stands.numbers e name;
-    })) next.sees (subst (λ l. AllOwners l (OwnerStands j)) (sym items) stands.owners) known
+    })) next.sees (subst (λ l. AllOwners l (OwnerStands j)) (sym items) stands.owners) known queued
     ∙ (λ i. c.make-fired.ensures i ++ firings (more j c.args.entry.now) (sym next.at i) (map owner_of (items i)))
