@@ -319,6 +319,36 @@ fn sixty_four_expressions_may_be_open(rt: HostRuntime) -> Result<(), Fail> {
     Ok(())
 }
 
+/// The opening of a tag, so many open groups, and a text.
+fn behind_groups(alloc: Global, count: usize, text: &[u8]) -> Result<Vec<u8>, AllocError> {
+    let mut all = Vec::new(alloc);
+    all.extend_from_slice(b"{{")?;
+    for _i in 0..count {
+        all.push(b'(')?;
+    }
+    all.extend_from_slice(text)?;
+    Ok(all)
+}
+
+/// The place of a text's fault behind so many open groups.
+fn place_behind(alloc: Global, count: usize, text: &[u8]) -> Result<u32, AllocError> {
+    Ok(place(alloc, behind_groups(alloc, count, text)?.as_slice()))
+}
+
+#[test]
+fn where_no_expression_may_be_opened_nothing_with_arguments_begins(
+    rt: HostRuntime,
+) -> Result<(), Fail> {
+    let alloc = rt.alloc();
+    assert_eq!(rt; place_behind(alloc, 63, b"x|de")?, 67);
+    assert_eq!(rt; place_behind(alloc, 63, b"x|replace(1)")?, 68);
+    assert_eq!(rt; place_behind(alloc, 63, b"states )")?, 71);
+    assert_eq!(rt; place_behind(alloc, 63, b"x|int(1)")?, 71);
+    assert_eq!(rt; place_behind(alloc, 62, b"x|de")?, 68);
+    assert_eq!(rt; place_behind(alloc, 62, b"states )")?, 71);
+    Ok(())
+}
+
 #[test]
 fn the_longest_chains_are_read(rt: HostRuntime) -> Result<(), Fail> {
     let alloc = rt.alloc();

@@ -110,6 +110,7 @@ fn of_a_long_line_the_first_bytes_are_kept(rt: HostRuntime) -> Result<(), Fail> 
         long_line(rt.alloc(), text.as_slice(), 3, b"\n")?,
         Some(65_537)
     );
+    assert_eq!(rt; long_line(rt.alloc(), b"x", 60_000, b"\n")?, Some(60_000));
     let blank = vec![in rt.alloc(); b' '; 40_000]?;
     assert_eq!(rt; long_line(rt.alloc(), blank.as_slice(), 3, b"\r\n")?, None);
     assert_eq!(rt;

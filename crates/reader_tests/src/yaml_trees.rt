@@ -97,6 +97,40 @@ fn nodes_in_one_another(rt: HostRuntime) -> Result<(), Fail> {
     Ok(())
 }
 
+/// 64 dashes on a line, each an item of the one before it, and a line that begins with so many spaces.
+fn dashes(alloc: Global, spaces: usize, line: &[u8]) -> Result<Vec<u8>, AllocError> {
+    let mut text = Vec::new(alloc);
+    for _dash in 0..63usize {
+        text.extend_from_slice(b"- ")?;
+    }
+    text.extend_from_slice(b"-\n")?;
+    for _space in 0..spaces {
+        text.push(b' ')?;
+    }
+    text.extend_from_slice(line)?;
+    Ok(text)
+}
+
+#[test]
+fn a_tab_is_no_column(rt: HostRuntime) -> Result<(), Fail> {
+    let alloc = rt.alloc();
+    let beside = dashes(alloc, 126, b"\tb\n")?;
+    assert_eq!(rt; refusal(alloc, &rt, beside.as_slice()), Some((1, 12)));
+    let deeper = dashes(alloc, 127, b"\tb\n")?;
+    assert_eq!(rt; refusal(alloc, &rt, deeper.as_slice()), Some((2, 1)));
+    Ok(())
+}
+
+#[test]
+fn nothing_but_a_comment_follows_a_colon(rt: HostRuntime) -> Result<(), Fail> {
+    let alloc = rt.alloc();
+    assert_eq!(rt; refusal(alloc, &rt, b"[a, b]:\t # x\n"), Some((1, 3)));
+    assert_eq!(rt; refusal(alloc, &rt, b"[a, b]:\tx\n"), Some((1, 2)));
+    let tree = read_tree(alloc, b"a:\t # x\n")?;
+    assert!(rt; matches!(tree.kind, NodeKind::Map(_)));
+    Ok(())
+}
+
 #[test]
 fn nothing_is_null(rt: HostRuntime) -> Result<(), Fail> {
     let tree = read_tree(rt.alloc(), b"")?;

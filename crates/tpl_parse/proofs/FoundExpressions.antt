@@ -16,8 +16,8 @@ use Rattle.tpl_parse.specs.declared.expression.Level.{Level}
 use Rattle.tpl_parse.specs.declared.expression.Last.{Last}
 use Rattle.tpl_parse.specs.declared.expression.Part.{Part}
 use Rattle.tpl_parse.specs.Token.{Reads, spaces, stands, next_is, past, behind, want, text_of, none_of}
-use Rattle.tpl_parse.specs.Names.{filter_row, filter_named}
-use Rattle.tpl_parse.specs.Literal.{name, word, skip_word, filter_or, filter_name}
+use Rattle.tpl_parse.specs.Names.{filter_row, filter_named, may_stand}
+use Rattle.tpl_parse.specs.Literal.{name, word, skip_word, filter_or, filter_name, standing}
 use Rattle.tpl_parse.specs.Reading.{Inner, operators, comparisons, operator, operator_of, behind_operator, part_of, ending, pair, enclosed, arguments, at_place, part_turns, reached, atom, signed, filter_arguments, filter_turns, filtered, after_operator, operand_turns, chain, product, joined, sum, tested, tested_printed, tested_last, none_test, any_operator, comparator, with_right, compared, comparison, negation, conjunction, disjunction, chosen, with_else, expression, inside, opened}
 use Rattle.tpl_parse.specs.Grammar.{Takes, takes, IsWord, Joins, or, and, plus, minus, join, times, over, floor, modulo, Compares, equal, unequal, less, at_most, greater, at_least, within, IsNoneToken, plain_none, printed_none, IsTest, is_none, is_defined, is_not_none, is_not_defined, of_filter, Phrase, an_expression, a_negation, a_comparison, with_filters, with_sign, with_parts, operands, more_operands, more_filters, more_parts, operand_of, Is, chosen as chosen_is_in, chosen_if, chosen_else, chain as chain_is, no_operand, one_operand, negated, compared as compared_is, alone, compare, outside, tested as tested_is, filtered as filtered_is, no_filter, bare_filter, one_filter, negative, unsigned, asked, no_part, one_key, one_place}
 use Rattle.tpl_parse.proofs.Tokens.{spaces_twice}
@@ -87,28 +87,32 @@ signed_found (deeper {d = d} {inner = inner} sound) t u alike e left h =
 
 -- ---- filters
 
-named_filter : (o : Option Filter) (s : List ℕ) (f : Filter) (left : List ℕ) → filter_or o s ≡ Ok (f, left) → (o ≡ Some f) × (skip_word s ≡ left)
-named_filter None s f left h = absurd cc
-named_filter (Some g) s f left h = let p = ok_parts {F = Fault} (g, skip_word s) (f, left) h in (ap (λ (x : Filter). Some x) p.0, p.1)
+named_filter : (opens : Bool) (o : Option Filter) (s : List ℕ) (f : Filter) (left : List ℕ) → filter_or opens o s ≡ Ok (f, left) → (o ≡ Some f) × (skip_word s ≡ left)
+named_filter opens None s f left h = absurd cc
+named_filter opens (Some g) s f left h = let p = ok_parts {F = Fault} (g, skip_word s) (f, left) h in (ap (λ (x : Filter). Some x) p.0, p.1)
 
-filter_name_found : (t : List ℕ) (f : Filter) (left : List ℕ) → filter_name t ≡ Ok (f, left) → (w : List ℕ) × IsWord (spaces t) w left × (filter_named w ≡ Some f)
+was_named : (opens : Bool) (o : Option Filter) (f : Filter) → standing opens o ≡ Some f → o ≡ Some f
+was_named opens None f h = absurd cc
+was_named opens (Some g) f h = elim (chosen_of (may_stand opens g) (Some g) None (Some f) h) [ inl k ↦ k.1 | inr k ↦ absurd (let x = k.1 in cc) ]
+
+filter_name_found : (opens : Bool) (t : List ℕ) (f : Filter) (left : List ℕ) → filter_name opens t ≡ Ok (f, left) → (w : List ℕ) × IsWord (spaces t) w left × (filter_named w ≡ Some f)
 unfolding filter_name
-filter_name_found t f left h =
-    let p = named_filter (filter_named (word (spaces t))) (spaces t) f left h in
-    (word (spaces t), subst (λ (r : List ℕ). IsWord (spaces t) (word (spaces t)) r) p.1 (word_found (spaces t)), p.0)
+filter_name_found opens t f left h =
+    let p = named_filter opens (standing opens (filter_named (word (spaces t)))) (spaces t) f left h in
+    (word (spaces t), subst (λ (r : List ℕ). IsWord (spaces t) (word (spaces t)) r) p.1 (word_found (spaces t)), was_named opens (filter_named (word (spaces t))) f p.0)
 
 module _ {d : ℕ} {o : Option Inner} (depth : Depth d o) where
   filters_found : (n : ℕ) (base : Expr) (t u : List ℕ) → Alike u t → (e : Expr) (left : List ℕ) → filter_turns n o base t ≡ Ok (e, left) → Spelled (more_filters base) d u e left
   unfolding filter_turns filter_arguments
   filters_found zero base t u alike e left h = absurd cc
   filters_found (suc n) base t u alike e left h =
-      elim (chosen_of (next_is Token.Bar t) (filter_name (behind Token.Bar t) >>= λ filter. filter_arguments o (filter_row filter.0).counts filter.1 >>= λ args. filter_turns n o (Expr.Filter (filter_row filter.0).number base args.0) args.1) (Ok (base, spaces t)) (Ok (e, left)) h) [
+      elim (chosen_of (next_is Token.Bar t) (filter_name (is_some o) (behind Token.Bar t) >>= λ filter. filter_arguments o (filter_row filter.0).counts filter.1 >>= λ args. filter_turns n o (Expr.Filter (filter_row filter.0).number base args.0) args.1) (Ok (base, spaces t)) (Ok (e, left)) h) [
         | inr k ↦ (let p = ok_parts {F = Fault} (base, spaces t) (e, left) k.1 in ended no_filter (alike ∙ sym (spaces_twice t)) p.0 p.1)
         | inl k ↦
-            let b = bind_ok (filter_name (behind Token.Bar t)) (λ filter. filter_arguments o (filter_row filter.0).counts filter.1 >>= λ args. filter_turns n o (Expr.Filter (filter_row filter.0).number base args.0) args.1) (e, left) k.1 in
+            let b = bind_ok (filter_name (is_some o) (behind Token.Bar t)) (λ filter. filter_arguments o (filter_row filter.0).counts filter.1 >>= λ args. filter_turns n o (Expr.Filter (filter_row filter.0).number base args.0) args.1) (e, left) k.1 in
             let f : Filter = b.0.0 in
             let counts : Counts = (filter_row f).counts in
-            let w = filter_name_found (behind Token.Bar t) f b.0.1 b.1 in
+            let w = filter_name_found (is_some o) (behind Token.Bar t) f b.0.1 b.1 in
             let c = bind_ok (filter_arguments o counts b.0.1) (λ args. filter_turns n o (Expr.Filter (filter_row f).number base args.0) args.1) (e, left) b.2 in
             let bar = took Token.Bar u t alike k.0 in
             elim (chosen_of ((counts.least == 0 || is_some o) && next_is Token.OpenGroup b.0.1) (arguments o Token.CloseGroup counts (behind Token.OpenGroup b.0.1)) _ (Ok c.0) c.1) [

@@ -327,22 +327,22 @@ module _ (inner : Option Inner) where
         let k = other_next Token.Bar rest moved bar bars moves h in
         ends further_filters base rest total so_far (Ok (base, moved)) (λ n. rw (k.0, k.1) refl)
 
-    module _ (h : bar ≡ true) where
-      pub no_filter : (e : Stop (Bad (Unit {0}))) (new : List ℕ) → Gives (filter_name moved) (Err e) new → Gives {A = Expr} total (Err e) new
+    module _ (h : bar ≡ true) (opens : Bool) (opening : opens ≡ is_some inner) where
+      pub no_filter : (e : Stop (Bad (Unit {0}))) (new : List ℕ) → Gives (filter_name opens moved) (Err e) new → Gives {A = Expr} total (Err e) new
       unfolding filter_turns
       no_filter stops.Memory new given = tt
       no_filter (stops.Fault f) new given =
           let k = token_next Token.Bar rest moved bar bars moves h in
-          let fault : filter_name (past Token.Bar rest) ≡ Err f = ap filter_name (sym k.1) ∙ given in
+          let fault : filter_name (is_some inner) (past Token.Bar rest) ≡ Err f = ap (λ (b : Bool). filter_name b (past Token.Bar rest)) (sym opening) ∙ ap (filter_name opens) (sym k.1) ∙ given in
           ends further_filters base rest total so_far (Err f) (λ n. rw (k.0, fault) refl)
 
-      module _ (filter : Filter) (after : List ℕ) (named : filter_name moved ≡ Ok (filter, after)) (counts : Counts) (counted : counts ≡ (filter_row filter).counts) where
+      module _ (filter : Filter) (after : List ℕ) (named : filter_name opens moved ≡ Ok (filter, after)) (counts : Counts) (counted : counts ≡ (filter_row filter).counts) where
         pub no_filter_arguments : (e : Stop (Bad (Unit {0}))) (new : List ℕ) → Gives (filter_arguments inner counts after) (Err e) new → Gives {A = Expr} total (Err e) new
         unfolding filter_turns
         no_filter_arguments stops.Memory new given = tt
         no_filter_arguments (stops.Fault f) new given =
             let k = token_next Token.Bar rest moved bar bars moves h in
-            let name_at : filter_name (past Token.Bar rest) ≡ Ok (filter, after) = ap filter_name (sym k.1) ∙ named in
+            let name_at : filter_name (is_some inner) (past Token.Bar rest) ≡ Ok (filter, after) = ap (λ (b : Bool). filter_name b (past Token.Bar rest)) (sym opening) ∙ ap (filter_name opens) (sym k.1) ∙ named in
             let fault : filter_arguments inner (filter_row filter).counts after ≡ Err f = ap (λ (n : Counts). filter_arguments inner n after) (sym counted) ∙ given in
             ends further_filters base rest total so_far (Err f) (λ n. rw (k.0, name_at, fault) refl)
 
@@ -350,7 +350,7 @@ module _ (inner : Option Inner) where
           pub filter_shorter : length new < length rest
           filter_shorter =
               let behind_bar : length moved < length rest = taken_shorter Token.Bar rest moved bar (omega arith) bars moves h in
-              let behind_name : length after ≤ length moved = kept filter_name filter_name_keeps moved filter after named in
+              let behind_name : length after ≤ length moved = kept (filter_name opens) (filter_name_keeps opens) moved filter after named in
               let behind_arguments : length new ≤ length after = kept (filter_arguments inner counts) (filter_arguments_keeps inner open_keeps counts) after args new given in
               omega arith
 
@@ -358,7 +358,7 @@ module _ (inner : Option Inner) where
           unfolding filter_turns
           next_filter next number numbered is =
               let k = token_next Token.Bar rest moved bar bars moves h in
-              let name_at : filter_name (past Token.Bar rest) ≡ Ok (filter, after) = ap filter_name (sym k.1) ∙ named in
+              let name_at : filter_name (is_some inner) (past Token.Bar rest) ≡ Ok (filter, after) = ap (λ (b : Bool). filter_name b (past Token.Bar rest)) (sym opening) ∙ ap (filter_name opens) (sym k.1) ∙ named in
               let read : filter_arguments inner (filter_row filter).counts after ≡ Ok (args, new) = ap (λ (n : Counts). filter_arguments inner n after) (sym counted) ∙ given in
               let made_so : Expr.Filter (filter_row filter).number base args ≡ next = ap (λ (n : ℕ). Expr.Filter n base args) (sym numbered) ∙ sym is in
               goes_on further_filters base rest total so_far next new (λ n. rw (k.0, name_at, read, made_so) refl) filter_shorter

@@ -1,7 +1,7 @@
 -- Chains of operands, filters, keys, places and signs in the grammar are read.
-use Rattle.std.proofs.Common.{◌≡◌, ℕ, suc, zero, ◌≤◌, ◌<◌, Bool, true, false, List, [], ◌∷◌, length, Option, Some, Ok, refl, ap, ◌∙◌, arith}
+use Rattle.std.proofs.Common.{◌≡◌, ℕ, suc, zero, ◌≤◌, ◌<◌, Bool, true, false, List, [], ◌∷◌, length, Option, Some, None, Ok, refl, ap, ◌∙◌, arith}
 use Rattle.std.specs.Prelude.{◌==◌, ◌||◌, ◌&&◌, nat_le, is_some}
-use Rattle.std.proofs.lemmas.Bool.{and_parts, leb-true, eq-eqb}
+use Rattle.std.proofs.lemmas.Bool.{cond-true, and_parts, leb-true, eq-eqb}
 use Rattle.ha_model.specs.declared.template.Op.{Op}
 use Rattle.ha_model.specs.declared.template.Expr.{Expr}
 use Rattle.ha_model.specs.declared.template.Expr
@@ -14,8 +14,8 @@ use Rattle.tpl_parse.specs.declared.table.Filter.{Filter}
 use Rattle.tpl_parse.specs.declared.expression.Level.{Level}
 use Rattle.tpl_parse.specs.declared.expression.Part.{Part}
 use Rattle.tpl_parse.specs.Token.{spaces, next_is}
-use Rattle.tpl_parse.specs.Names.{filter_row, filter_named}
-use Rattle.tpl_parse.specs.Literal.{filter_or, filter_name, name}
+use Rattle.tpl_parse.specs.Names.{filter_row, filter_named, may_stand}
+use Rattle.tpl_parse.specs.Literal.{filter_or, filter_name, standing as standing_there, name}
 use Rattle.tpl_parse.specs.Reading.{operators, operator, after_operator, operand_turns, chain, operand, opened, inside, expression, pair, enclosed, arguments, filter_arguments, filter_turns, filtered, signed, reached, atom, part_turns}
 use Rattle.tpl_parse.specs.Grammar.{Takes, Joins, or, and, plus, minus, join, times, over, floor, modulo, IsWord, IsName, Holder, of_filter, allows, counts_of, is_within, more_operands, more_filters, more_parts, in_brackets, Is, no_items, some_items}
 use Rattle.tpl_parse.proofs.Tokens.{spaces_twice}
@@ -94,11 +94,12 @@ one_operand_read level d t j alike i g small r q n part lt e = one_more level d 
 
 -- ---- filters
 
-pub filter_name_read : (a : List ℕ) {w b : List ℕ} {filter : Filter} → IsWord (spaces a) w b → filter_named w ≡ Some filter → filter_name a ≡ Ok (filter, b)
+pub filter_name_read : (opens : Bool) (a : List ℕ) {w b : List ℕ} {filter : Filter} → IsWord (spaces a) w b → filter_named w ≡ Some filter → may_stand opens filter ≡ true → filter_name opens a ≡ Ok (filter, b)
 unfolding filter_name
-filter_name_read a {w} {b} {filter} run e =
+filter_name_read opens a {w} {b} {filter} run e may =
     let r = word_read run in
-    ap (λ (o : Option Filter). filter_or o (spaces a)) (ap filter_named r.word_is ∙ e) ∙ ap (λ (s : List ℕ). Ok (filter, s)) r.left
+    ap (λ (o : Option Filter). filter_or opens (standing_there opens o) (spaces a)) (ap filter_named r.word_is ∙ e) ∙ ap (λ (o : Option Filter). filter_or opens o (spaces a)) (cond-true (may_stand opens filter) (Some filter) None may)
+    ∙ ap (λ (s : List ℕ). Ok (filter, s)) r.left
 
 pub and_false : (a b : Bool) → b ≡ false → (a && b) ≡ false
 and_false true b h = h
@@ -147,7 +148,7 @@ module _ (d : ℕ) (t : List ℕ) where
       let none' : (((filter_row filter).counts.least == 0 || is_some (opened d)) && next_is Token.OpenGroup b) ≡ false = and_false ((filter_row filter).counts.least == 0 || is_some (opened d)) (next_is Token.OpenGroup b) quiet.1.1.0 in
       let small : length (spaces b) ≤ length (spaces a) = omega (arith, (word_read run).within, spaces_within b) in
       let m = r (spaces b) (spaces_twice b) q n (omega (arith, ap length (spaces_twice b), small, k.less, ap length alike)) in
-      record { left = m.left; is = rw (k.rest_is, k.next, filter_name_read a run named, none', none_least (filter_row filter).counts few) m.is; alike = m.alike }
+      record { left = m.left; is = rw (k.rest_is, k.next, filter_name_read (is_some (opened d)) a run named (or_first ((filter_row filter).counts.least == 0) (is_some (opened d)) (none_least (filter_row filter).counts few)), none', none_least (filter_row filter).counts few) m.is; alike = m.alike }
 
   applied : (base : Expr) {made' e : Expr} {u a w b c c' rest : List ℕ} {filter : Filter} (n : ℕ)
       → Alike t u → Takes Token.Bar u a → IsWord (spaces a) w b → filter_named w ≡ Some filter → Takes Token.OpenGroup b c
@@ -164,7 +165,7 @@ module _ (d : ℕ) (t : List ℕ) where
       let m = r g.left g.alike q n (omega (arith, ap length g.alike, small, l.less, word_small, k.less, ap length alike)) in
       record {
         left = m.left;
-        is = rw (k.rest_is, k.next, filter_name_read a run named, both', l.rest_is, x.1) (ap (λ (f : Expr). filter_turns n (opened d) f g.left) x.2 ∙ m.is);
+        is = rw (k.rest_is, k.next, filter_name_read (is_some (opened d)) a run named open', both', l.rest_is, x.1) (ap (λ (f : Expr). filter_turns n (opened d) f g.left) x.2 ∙ m.is);
         alike = m.alike;
       }
 

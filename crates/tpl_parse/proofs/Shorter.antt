@@ -22,7 +22,7 @@ use Rattle.tpl_parse.specs.declared.expression.Level.{Level}
 use Rattle.tpl_parse.specs.declared.expression.Part.{Part}
 use Rattle.tpl_parse.specs.Token.{Reads, text_of, is_space, spaces, reach, next_is, past, behind, in_name, is_reserved, want}
 use Rattle.tpl_parse.specs.Names.{any_from, filter_named, filter_row, filters_reach, function_named, function_row, takes_behind}
-use Rattle.tpl_parse.specs.Literal.{before, before_range_end, begins_places, behind_number, byte_in, character, escape_at, filter_name, filter_or, further, in_range, is_in, name, number, plain_or, second, sequence, skip_digits, skip_word, starts_name, string, string_character, string_turns, unreserved, word}
+use Rattle.tpl_parse.specs.Literal.{before, before_range_end, begins_places, behind_number, byte_in, character, escape_at, filter_name, filter_or, standing, further, in_range, is_in, name, number, plain_or, second, sequence, skip_digits, skip_word, starts_name, string, string_character, string_turns, unreserved, word}
 use Rattle.tpl_parse.specs.Reading.{Inner, Start, numeric, quoted, bracket, group, letter, nothing, after_item, after_operator, arguments, at_place, atom, atom_by, behind_operator, by_word, call_or_name, chain, chosen, comparator, compared, comparison, comparisons, conjunction, constant, disjunction, enclosed, ending, expression, filter_arguments, filter_turns, filtered, in_group, inside, item_turns, items_in, joined, negation, not_called, opened, operand, operand_turns, operator, operators, pair, part_of, part_turns, product, reached, signed, start_of, sum, none_test, tested, with_else, with_right, word_atom}
 
 abbrev pub Read : Type 0 → Type 0
@@ -153,13 +153,13 @@ name_keeps t =
       | inr h ↦ rw h (length-spaces t)
     ]
 
-filter_or_keeps : (o : Option Filter) → Keeps (filter_or o)
-filter_or_keeps (Some filter) t = length-skip_word t
-filter_or_keeps None t = length-drop_some (filters_reach t) t
+filter_or_keeps : (opens : Bool) (o : Option Filter) → Keeps (filter_or opens o)
+filter_or_keeps opens (Some filter) t = length-skip_word t
+filter_or_keeps opens None t = length-drop_some (filters_reach opens t) t
 
-pub filter_name_keeps : Keeps filter_name
+pub filter_name_keeps : (opens : Bool) → Keeps (filter_name opens)
 unfolding filter_name
-filter_name_keeps t = later (filter_or (filter_named (word (spaces t)))) (filter_or_keeps (filter_named (word (spaces t)))) (spaces t) (length t) (length-spaces t)
+filter_name_keeps opens t = later (filter_or opens (standing opens (filter_named (word (spaces t))))) (filter_or_keeps opens (standing opens (filter_named (word (spaces t))))) (spaces t) (length t) (length-spaces t)
 
 pub want_keeps : (token : Token) → Keeps (want token)
 unfolding want
@@ -229,7 +229,7 @@ arguments_keeps inner h close counts t =
 -- ---- atoms
 
 not_called_keeps : (function : Function) (name : List ℕ) → Keeps (not_called function name)
-not_called_keeps Function.States name t = length-spaces t
+not_called_keeps Function.States name t = omega arith
 not_called_keeps _ name t = omega arith
 
 call_or_name_keeps : (function : Option Function) (inner : Option Inner) → IsOpen inner → (name : List ℕ) → Keeps (call_or_name function inner name)
@@ -328,7 +328,7 @@ unfolding filter_turns
 filter_turns_keeps zero inner h base t = omega arith
 filter_turns_keeps (suc n) inner h base t =
     elim (chosen_is (next_is Token.Bar t)) [
-      | inl b ↦ rw b (elim (outcome (length t) (filter_name (past Token.Bar t)) (later filter_name filter_name_keeps (past Token.Bar t) (length t) (length-past Token.Bar t))) [
+      | inl b ↦ rw b (elim (outcome (length t) (filter_name (is_some inner) (past Token.Bar t)) (later (filter_name (is_some inner)) (filter_name_keeps (is_some inner)) (past Token.Bar t) (length t) (length-past Token.Bar t))) [
         | inl x ↦
             let counts : Counts = (filter_row x.0.0).counts in
             rw x.1 (elim (outcome (length t) (filter_arguments inner counts x.0.1) (later (filter_arguments inner counts) (filter_arguments_keeps inner h counts) x.0.1 (length t) x.2)) [

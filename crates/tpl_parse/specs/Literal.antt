@@ -6,7 +6,7 @@ use Rattle.ha_value.specs.Numbers.{read_number}
 use Rattle.reading.specs.Answer.{◌>>=◌, front, stop}
 use Rattle.reading.specs.Bytes.{sees}
 use Rattle.tpl_parse.specs.declared.table.Filter.{Filter}
-use Rattle.tpl_parse.specs.Names.{filter_named, filters_reach}
+use Rattle.tpl_parse.specs.Names.{filter_named, filters_reach, may_stand}
 use Rattle.tpl_parse.specs.Token.{Reads, begins_name, in_name, is_reserved, spaces, stop_behind}
 
 -- the bytes before those that are left
@@ -150,10 +150,14 @@ name_at rest = if starts_name (front rest) then unreserved rest else stop tt res
 unfoldable pub name : Reads (List ℕ)
 name rest = name_at (spaces rest)
 
-abbrev pub filter_or : Option Filter → Reads Filter
-filter_or (Some filter) rest = Ok (filter, skip_word rest)
-filter_or None rest = stop_behind (filters_reach rest) rest
+abbrev pub standing : Bool → Option Filter → Option Filter
+standing opens None = None
+standing opens (Some filter) = if may_stand opens filter then Some filter else None
 
--- the name of a filter, behind blanks and breaks
-unfoldable pub filter_name : Reads Filter
-filter_name rest = filter_or (filter_named (word (spaces rest))) (spaces rest)
+abbrev pub filter_or : Bool → Option Filter → Reads Filter
+filter_or opens (Some filter) rest = Ok (filter, skip_word rest)
+filter_or opens None rest = stop_behind (filters_reach opens rest) rest
+
+-- the name of a filter, behind blanks and breaks; whether an expression may be opened in it
+unfoldable pub filter_name : Bool → Reads Filter
+filter_name opens rest = filter_or opens (standing opens (filter_named (word (spaces rest)))) (spaces rest)

@@ -1,5 +1,5 @@
 -- The filters and functions, in the order of their numbers: their names, and the numbers of arguments that they have.
-use Rattle.std.specs.Prelude.{ℕ, Bool, true, nat_lt, max, List, [], ◌∷◌, Option, Some, None, codes}
+use Rattle.std.specs.Prelude.{ℕ, Bool, true, ◌||◌, ◌==◌, nat_lt, max, if◌then◌else◌, List, [], ◌∷◌, Option, Some, None, codes}
 use Rattle.std.specs.List.{fold, find}
 use Rattle.std.specs.Str.{bytes_eq}
 use Rattle.tpl_parse.specs.declared.table.Counts.{Counts}
@@ -67,9 +67,16 @@ filter_named name = find (λ filter. bytes_eq (filter_row filter).name name) all
 abbrev pub function_named : List ℕ → Option Function
 function_named name = find (λ function. bytes_eq (function_row function).name name) all_functions
 
--- how far the text goes on as the name of a filter
-abbrev pub filters_reach : List ℕ → ℕ
-filters_reach rest = fold (λ far filter. max far (common (filter_row filter).name rest)) 0 all_filters
+-- Where no expression may be opened, a filter may stand that needs no argument; elsewhere each may.
+abbrev pub may_stand : Bool → Filter → Bool
+may_stand opens filter = (filter_row filter).counts.least == 0 || opens
+
+abbrev pub farther : Bool → List ℕ → ℕ → Filter → ℕ
+farther opens rest far filter = if may_stand opens filter then max far (common (filter_row filter).name rest) else far
+
+-- how far the text goes on as the name of a filter that may stand there
+abbrev pub filters_reach : Bool → List ℕ → ℕ
+filters_reach opens rest = fold (farther opens rest) 0 all_filters
 
 -- a further argument may stand behind so many
 abbrev pub takes_behind : Option ℕ → ℕ → Bool

@@ -121,7 +121,7 @@ constant word =
 
 -- the name of a function where no call stands: `states` is no name of a variable
 abbrev pub not_called : Function → List ℕ → Reads Expr
-not_called Function.States name rest = stop tt (spaces rest)
+not_called Function.States name rest = stop tt rest
 not_called _ name rest = Ok (Expr.Name name, rest)
 
 abbrev pub call_or_name : Option Function → Option Inner → List ℕ → Reads Expr
@@ -205,7 +205,7 @@ unfoldable pub filter_turns : ℕ → Option Inner → Expr → Reads Expr
 filter_turns zero inner base rest = stop tt rest
 filter_turns (suc n) inner base rest =
     if next_is Token.Bar rest then (do
-      filter ← filter_name (behind Token.Bar rest)
+      filter ← filter_name (is_some inner) (behind Token.Bar rest)
       args ← filter_arguments inner (filter_row filter.0).counts filter.1
       filter_turns n inner (Expr.Filter (filter_row filter.0).number base args.0) args.1) else Ok (base, spaces rest)
 

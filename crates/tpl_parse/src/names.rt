@@ -58,15 +58,21 @@ impl<'a> Parser<'a> {
         Ok(Word::from_bytes(alloc, name)?)
     }
 
-    /// The name of a filter, behind blanks.
+    /// The name of a filter, behind blanks; whether an expression may be opened in it.
     #[tactic(auto, unfolding(crate::specs::Literal::filter_name))]
-    pub fn filter_name(&mut self) -> Result<Filter, Stopped>
-        ensures { Gives (filter_name self.old) result self.new }
+    pub fn filter_name(&mut self, opens: bool) -> Result<Filter, Stopped>
+        ensures { Gives (filter_name opens self.old) result self.new }
     {
         self.skip_spaces();
-        let far = self.wrong_behind(filters_reach(self.rest()));
+        let far = self.wrong_behind(filters_reach(opens, self.rest()));
         match filter_named(self.word()) {
-            Some(filter) => Ok(filter),
+            Some(filter) => {
+                if filter.may_stand(opens) {
+                    Ok(filter)
+                } else {
+                    Err(far)
+                }
+            }
             None => Err(far),
         }
     }

@@ -36,12 +36,19 @@ fn named(alloc: Global, word: &[u8]) -> Result<Boxed<Expr>, AllocError>
     Boxed::new(alloc, Expr::Name(name))
 }
 
-/// Whether a bracket may stand behind the name of a filter: also where no expression may be opened, one with nothing in it.
+/// Whether an expression may be opened.
 #[tactic(auto, unfolding(crate::specs::Reading::opened))]
+fn may_open(depth: usize) -> bool
+    ensures { result ≡ is_some (opened depth) }
+{
+    0 < depth
+}
+
+/// Whether a bracket may stand behind the name of a filter: also where no expression may be opened, one with nothing in it.
 fn may_have_arguments(depth: usize, counts: Counts) -> bool
     ensures { result ≡ (counts.least == 0 || is_some (opened depth)) }
 {
-    counts.least == 0 || 0 < depth
+    counts.least == 0 || may_open(depth)
 }
 
 impl<'a> Parser<'a> {
@@ -66,7 +73,7 @@ impl<'a> Parser<'a> {
     {
         let mut base = self.signed(alloc, depth)?;
         'filters: while self.take(Token::Bar) {
-            let filter = self.filter_name()?;
+            let filter = self.filter_name(may_open(depth))?;
             let args = self.filter_arguments(alloc, depth, filter.counts())?;
             base = Boxed::new(
                 alloc,
@@ -240,7 +247,6 @@ impl<'a> Parser<'a> {
         ensures { Gives (not_called function name.now self.old) result self.new }
     {
         if function == Function::States {
-            self.skip_spaces();
             return Err(self.wrong());
         }
         Ok(named(alloc, name)?)

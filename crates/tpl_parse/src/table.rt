@@ -3,7 +3,7 @@
 ghost use Rattle.std.specs.Prelude.{◌≡◌};
 ghost use Rattle.std.specs.List.{find};
 ghost use Rattle.std.specs.Str.{bytes_eq};
-ghost use Rattle.tpl_parse.specs.Names.{any_from, between, filter_named, filter_row, filters_reach, function_named, function_row, takes_behind};
+ghost use Rattle.tpl_parse.specs.Names.{any_from, between, filter_named, farther, filter_row, filters_reach, function_named, function_row, may_stand, takes_behind};
 
 use crate::token::common;
 
@@ -130,6 +130,24 @@ impl Filter {
             _ => Counts::between(0, 0),
         }
     }
+
+    /// Whether it may stand there: where no expression may be opened, only one that needs no argument.
+    pub fn may_stand(self, opens: bool) -> bool
+        ensures { result ≡ may_stand opens self }
+    {
+        self.counts().least == 0 || opens
+    }
+}
+
+/// How far the text goes on as a name: this filter's, where it may stand there, or one that goes so far.
+fn farther(opens: bool, rest: &[u8], far: usize, filter: Filter) -> usize
+    ensures { result ≡ farther opens rest.now far filter }
+{
+    if filter.may_stand(opens) {
+        far.max(common(filter.name(), rest))
+    } else {
+        far
+    }
 }
 
 fn filter_among(filters: &[Filter], name: &[u8]) -> Option<Filter>
@@ -145,13 +163,13 @@ pub fn filter_named(name: &[u8]) -> Option<Filter>
     filter_among(&FILTERS, name)
 }
 
-/// How far the text goes on as the name of a filter.
-pub fn filters_reach(rest: &[u8]) -> usize
-    ensures { result ≡ filters_reach rest.now }
+/// How far the text goes on as the name of a filter that may stand there.
+pub fn filters_reach(opens: bool, rest: &[u8]) -> usize
+    ensures { result ≡ filters_reach opens rest.now }
 {
     FILTERS
         .iter()
-        .fold(0, |far, filter| far.max(common(filter.name(), rest)))
+        .fold(0, |far, filter| farther(opens, rest, far, *filter))
 }
 
 #[derive(Clone, Copy, Debug, PartialEq, Eq)]

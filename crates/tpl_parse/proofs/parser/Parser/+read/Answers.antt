@@ -54,25 +54,25 @@ pub filtered-returns-in_err-filter : goal.filtered-returns-in_err-filter
 filtered-returns-in_err-filter t c =
     let p = err_from_is_err_and c.from_residual-in_err-filter.result c.from_residual-in_err-filter.ensures.1 in
     rw (p.1, p.2) (no_filter (opened c.args.depth) c.filters.base c.filters.self (filtered (opened c.args.depth) c.args.self.now) c.filters.invariant
-    c.take.result c.take.new.self c.take.ensures.found c.take.ensures.rest c.filters-test.true c.in_err-filter.field-0.0 c.filter_name.new.self c.in_err-filter.ensures)
+    c.take.result c.take.new.self c.take.ensures.found c.take.ensures.rest c.filters-test.true c.may_open.result c.may_open.ensures c.in_err-filter.field-0.0 c.filter_name.new.self c.in_err-filter.ensures)
 
 pub filtered-returns-in_err-args : goal.filtered-returns-in_err-args
 filtered-returns-in_err-args t c =
     let p = err_from_is_err_and c.from_residual-in_err-args.result c.from_residual-in_err-args.ensures.1 in
     rw (p.1, p.2) (no_filter_arguments (opened c.args.depth) c.filters.base c.filters.self (filtered (opened c.args.depth) c.args.self.now) c.filters.invariant
-    c.take.result c.take.new.self c.take.ensures.found c.take.ensures.rest c.filters-test.true c.in_ok-filter.filter c.filter_name.new.self c.in_ok-filter.ensures c.counts.result c.counts.ensures
+    c.take.result c.take.new.self c.take.ensures.found c.take.ensures.rest c.filters-test.true c.may_open.result c.may_open.ensures c.in_ok-filter.filter c.filter_name.new.self c.in_ok-filter.ensures c.counts.result c.counts.ensures
     c.in_err-args.field-0.0 c.filter_arguments.new.self c.in_err-args.ensures)
 
 pub filtered-filters-smaller : goal.filtered-filters-smaller
 filtered-filters-smaller t c =
     filter_shorter (opened c.args.depth) c.filters.base c.filters.self (filtered (opened c.args.depth) c.args.self.now) c.filters.invariant
-    c.take.result c.take.new.self c.take.ensures.found c.take.ensures.rest c.filters-test.true c.in_ok-filter.filter c.filter_name.new.self c.in_ok-filter.ensures c.counts.result c.counts.ensures
+    c.take.result c.take.new.self c.take.ensures.found c.take.ensures.rest c.filters-test.true c.may_open.result c.may_open.ensures c.in_ok-filter.filter c.filter_name.new.self c.in_ok-filter.ensures c.counts.result c.counts.ensures
     c.in_ok-args.args c.filter_arguments.new.self c.in_ok-args.ensures (opened_opens c.args.depth)
 
 pub filtered-filters-preserved : goal.filtered-filters-preserved
 filtered-filters-preserved t c =
     next_filter (opened c.args.depth) c.filters.base c.filters.self (filtered (opened c.args.depth) c.args.self.now) c.filters.invariant
-    c.take.result c.take.new.self c.take.ensures.found c.take.ensures.rest c.filters-test.true c.in_ok-filter.filter c.filter_name.new.self c.in_ok-filter.ensures c.counts.result c.counts.ensures
+    c.take.result c.take.new.self c.take.ensures.found c.take.ensures.rest c.filters-test.true c.may_open.result c.may_open.ensures c.in_ok-filter.filter c.filter_name.new.self c.in_ok-filter.ensures c.counts.result c.counts.ensures
     c.in_ok-args.args c.filter_arguments.new.self c.in_ok-args.ensures (opened_opens c.args.depth) c.in_ok-base-2.base c.number.result c.number.ensures c.in_ok-base-2.ensures
 
 pub filtered-returns : goal.filtered-returns
