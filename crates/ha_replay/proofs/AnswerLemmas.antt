@@ -1,5 +1,5 @@
 -- What the tests and the puts of a line come to.
-use Rattle.std.proofs.Common.{◌≡◌, ◌∙◌, ap, sym, subst, refl, ℕ, ◌+◌, ◌-◌, ◌/◌, ◌%◌, ◌<◌, ◌≤◌, ◌^◌, List, [], ◌∷◌, ◌++◌, length, Bool, true, false, rules, arith, length-append}
+use Rattle.std.proofs.Common.{◌≡◌, ◌≢◌, ◌∙◌, ap, sym, subst, refl, ℕ, ◌+◌, ◌-◌, ◌/◌, ◌%◌, ◌<◌, ◌≤◌, ◌^◌, List, [], ◌∷◌, ◌++◌, length, Bool, true, false, rules, arith, length-append}
 use Rattle.std.proofs.lemmas.Bool.Decides.{nat_tests}
 use Rattle.std.proofs.lemmas.Fmt.{decimal_digit, decimal_step}
 use Rattle.std.proofs.lemmas.List.Sums.{count_by-le-length}
@@ -25,7 +25,7 @@ use Rattle.ha_texts.specs.Lines.{AreDated}
 use Rattle.flow_printed.specs.declared.line.PrintedLine.{PrintedLine}
 use Rattle.flow_printed.specs.Printed.{IsFairButForName, IsPrintOfLine}
 use Rattle.ha_replay.specs.Digits.{digit_of, number_before_comma}
-use Rattle.ha_replay.specs.Traces.{IsEnd, IsNext, IsNoNext, Reached, Stands, Takes, reached}
+use Rattle.ha_replay.specs.Traces.{IsEnd, IsNext, IsNoNext, Reached, Stands, Takes, most_entries, reached}
 use Rattle.ha_replay.specs.Steps.{IsAllowed, IsNextLine, IsOf, IsOnlyPrint, is_named}
 use Rattle.ha_replay.proofs.CmdLemmas.{fair-but, fair-named, named-fair, put-named, is-true, of-true}
 use Rattle.ha_replay.proofs.TextLemmas.{no-source-line, no-step-line, same-line}
@@ -117,14 +117,15 @@ no-source r text l stands print only short no_next = nothing-next r text stands 
     steps : (k serial : ℕ) (branch : Branch) (item : Item) (rs' : Records) → IsNext r.journal text (Step k serial branch item) rs' → StepFacts r text k serial branch → ⊥
     steps k serial branch item rs' next f = no-step-line text k l.source l.number _ f.line_is print.text_is
 
-pub line-taken : (r : Reached) (text : Text) (source number : ℕ) (cmd : Cmd) (k : Journal) (rs' : Records) → Stands r → IsPrintOfLine text (record { source = source; number = number; cmd = cmd })
-    → IsNextLine r (record { source = source; number = number; cmd = cmd }) → k ≡ more r.journal (Line source number (put_as r.journal cmd)) → Right k rs' → Takes text r (reached k rs' r.closing)
-line-taken r text source number cmd k rs' stands print next is right =
+pub line-taken : (r : Reached) (text : Text) (source number : ℕ) (cmd : Cmd) (k : Journal) (rs' : Records) → Stands r → length r.journal ≢ most_entries
+    → IsPrintOfLine text (record { source = source; number = number; cmd = cmd }) → IsNextLine r (record { source = source; number = number; cmd = cmd }) → k ≡ more r.journal (Line source number (put_as r.journal cmd)) → Right k rs' → Takes text r (reached k rs' r.closing)
+line-taken r text source number cmd k rs' stands room print next is right =
     let same : put_as r.journal cmd ≡ cmd = put-named r.journal cmd next.named in
     let made : k ≡ more r.journal (Line source number cmd) = is ∙ (λ i. more r.journal (Line source number (same i))) in
     let stood = line-stands r source number cmd rs' stands next.is_open (subst (λ l. Right l rs') made right) (next.known, next.rested, next.next, next.unshut) in
     record {
       entry = Line source number cmd;
+      room = room;
       journal = made;
       line_is = ap as_line print.text_is;
       stands = subst (λ l. Stands (reached l rs' r.closing)) (sym made) stood;
@@ -168,10 +169,11 @@ made-step r worker k rs' closed stands allowed put right e = record {
   stands = subst (λ c. Stands (reached (more r.journal (Step worker put.0 put.1 put.2)) rs' c)) (sym e) (step-stands r worker put.0 put.1 put.2 rs' stands allowed put.3 (subst (λ l. Right l rs') put.4 right));
 }
 
-pub step-taken : (r : Reached) (line : Text) (worker : ℕ) (k : Journal) (rs' : Records) (closed : Bool) (m : Made r worker k rs' closed) → Stands r
+pub step-taken : (r : Reached) (line : Text) (worker : ℕ) (k : Journal) (rs' : Records) (closed : Bool) (m : Made r worker k rs' closed) → Stands r → length r.journal ≢ most_entries
     → as_line line ≡ trace_line (automations (more r.journal (Step worker m.serial m.branch m.item))) (Step worker m.serial m.branch m.item) → Takes line r (reached k rs' closed)
-step-taken r line worker k rs' closed m stands is = record {
+step-taken r line worker k rs' closed m stands room is = record {
   entry = Step worker m.serial m.branch m.item;
+  room = room;
   journal = m.journal;
   line_is = is ∙ (λ i. trace_line (automations-more r.journal (Step worker m.serial m.branch m.item) (has-entry r.journal stands.lawful.right.journal) i) (Step worker m.serial m.branch m.item));
   stands = subst (λ l. Stands (reached l rs' closed)) (sym m.journal) m.stands;

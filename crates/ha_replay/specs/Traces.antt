@@ -45,9 +45,10 @@ pub record Stands (r : Reached) : Type 0 where
   pub lawful : Lawful r.journal r.records
   pub closing : TellsClosing r.closing r.records r.journal
 
--- one more entry stands, whose line this is
+-- one more entry stands, whose line this is, and the journal had room for it
 pub record Takes (line : Text) (before after : Reached) : Type 0 where
   pub entry : Entry
+  pub room : length before.journal ≢ most_entries
   pub journal : after.journal ≡ more before.journal entry
   pub line_is : as_line line ≡ trace_line (automations before.journal) entry
   pub stands : Stands after

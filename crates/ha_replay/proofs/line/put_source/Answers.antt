@@ -14,5 +14,5 @@ put_line-requires-clause-fair g c = fair-put (g.C.Core.entries c.args.core.now) 
 pub returns-in-Ok-clause-answer : goal.returns-in-Ok-clause-answer
 returns-in-Ok-clause-answer g c = λ text print only unended.
     let r = reached (g.C.Core.entries c.args.core.now) (g.C.Core.runs c.args.core.now) c.args.closing in
-    line-taken r text c.args.line.source c.args.line.number c.args.line.cmd (g.C.Core.entries c.put_line.new.self) (g.C.Core.runs c.put_line.new.self) c.requires.stands print
+    line-taken r text c.args.line.source c.args.line.number c.args.line.cmd (g.C.Core.entries c.put_line.new.self) (g.C.Core.runs c.put_line.new.self) c.requires.stands c.requires.room print
     (c.is_due.ensures.0 (search (rules, c.if-not-is_due.false))) c.in-Ok.ensures.put c.in-Ok.ensures.right

@@ -20,7 +20,7 @@ returns-in-Ok-true-clause-answer g c =
     let r = reached j (g.C.Core.runs c.args.core.now) c.args.closing.now in
     let m = made-step r c.args.worker (g.C.Core.entries c.put_step.new.self) (g.C.Core.runs c.put_step.new.self) c.closes-closed.result c.requires.stands
     (c.may_step.ensures.0 (search (rules, c.if-not-may_step.false))) c.in-Ok.ensures.put c.in-Ok.ensures.right c.closes-closed.ensures in
-    step-taken r c.args.line.now c.args.worker (g.C.Core.entries c.put_step.new.self) (g.C.Core.runs c.put_step.new.self) c.closes-closed.result m c.requires.stands
+    step-taken r c.args.line.now c.args.worker (g.C.Core.entries c.put_step.new.self) (g.C.Core.runs c.put_step.new.self) c.closes-closed.result m c.requires.stands c.requires.room
     ((c.in-Ok-true.ensures j (Step c.args.worker m.serial m.branch m.item) m.journal).0 (search (rules, c.in-Ok-true.field-0-test)))
 
 pub returns-in-Ok-false-clause-answer : goal.returns-in-Ok-false-clause-answer
