@@ -12,6 +12,7 @@ function quoted(text) {
     gsub(/\n/, "\\n", text)
     gsub(/\r/, "\\r", text)
     gsub(/\t/, "\\t", text)
+    gsub(/[\001-\037\177]/, "?", text)
     return "\"" text "\""
 }
 
@@ -55,7 +56,7 @@ function item_words(n, inner, i, out) {
         return out == "" ? "turned no automation on or off" : out
     }
     if (act == "triggered") {
-        for (i in asked) out = out " automation." i
+        for (i = 1; i <= size[get(inner, "automations")]; i++) out = out (i > 1 ? ", " : " ") "automation." word[part[get(inner, "automations"), i]]
         return "asked" (out == "" ? " no automation" : out) " to run, " (skips ? "whatever the conditions" : "if the conditions hold")
     }
     return ""
@@ -111,7 +112,7 @@ function tell_run(run, i, behind) {
             continue
         }
         behind = step_behind[run, i]
-        if (i > 1 && behind != step_behind[run, i - 1]) print "    then, behind line " behind ": " line_said[behind]
+        if (i > 1 && behind != step_behind[run, i - 1]) print "    then, behind line " behind ": " behind_said[run, i]
         print "    line " step_line[run, i] (step_line[run, i] == wanted ? ", this one" : "") ": it " step_words(run, i)
     }
     print "    " ending_words(run, step_line[run, steps[run]], step_in_plan(run, steps[run]))
@@ -141,6 +142,7 @@ function ending_words(run, last, step, goes_on, ender) {
     if (goes_on) return "no step follows: it ended at line " last ", or a delay or wait of it is not over" (ender ? "; if so, line " ender " " verb : "")
     if (step == "tested a condition" && !(steps[run] == planned[owner] && is_whole[owner])) step = "the condition did not hold"
     else if (step == "stopped") step = "by its `stop`"
+    else if (step == "ended the wait" && steps[run] < planned[owner]) step = "its wait timed out"
     else step = "that was its last step"
     return "it ended at line " last ": " step (ender ? ", or line " ender " " verb " before its next one" : "")
 }
@@ -177,6 +179,7 @@ function tell_begun(i, a, run, begun, none) {
         if (found[wanted, a] == "apart") none++
         else if (!(a in begun)) tell_none(a)
     }
+    if (abouts == most) print "further runs may have begun at it"
     if (none == automations) print "no automation has a trigger for such a line: no run began"
     else if (none) print "no other automation has a trigger for such a line"
 }
@@ -189,6 +192,11 @@ function tell_moved(i, out) {
 
 function tell_none(a, how) {
     how = found[wanted, a]
+    if (how ~ /fires|may/ && !all_begun) {
+        print "automation." name[a] ": the trace stops before it tells whether a run of it began"
+        printf "%s", why[a]
+        return
+    }
     if (how == "off") how = "it was turned off" (was_off[a] == 1 ? " from the start" : " (line " was_off[a] ")")
     else if (how == "no") how = "no trigger of it fired"
     else how = (how == "may" ? "no trigger of it fired, or " : wanted_asks ? "" : "its trigger fired, but ") refusal(a)
