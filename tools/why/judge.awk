@@ -31,7 +31,8 @@ function trigger_kind(t) {
 
 function trigger_words(t, k) {
     k = trigger_kind(t)
-    if (k == "state" || k == "numeric_state") return k " of " listed(get(t, "entity_id")) (get(t, "attribute") ? ", attribute " word[get(t, "attribute")] : "")
+    if (k == "state" || k == "numeric_state")
+        return k " of " listed(get(t, "entity_id")) (get(t, "attribute") ? ", attribute " quoted(word[get(t, "attribute")]) : "")
     if (k == "event") return "event " listed(get(t, "event_type"))
     if (k == "time") return "time " listed(get(t, "at"))
     return k
@@ -130,8 +131,10 @@ function has_sides(t) {
 
 # Whether the old text and the new one, where there are such, are those that the trigger asks for.
 function sides_answer(t, has_old, old, has_new, new) {
-    if (!fits(t, "from", has_old, old)) return says("no", "not met, " (has_old ? "`" side "` does not allow that it was " quoted(old) : "`from` does not allow that it was not there"))
-    if (!fits(t, "to", has_new, new)) return says("no", "not met, `" side "` does not allow " (has_new ? quoted(new) : "a value that is no text"))
+    if (!fits(t, "from", has_old, old))
+        return says("no", has_old ? "not met, `" side "` does not allow that it was " quoted(old) : "not met, `from` does not allow that it was not there")
+    if (!fits(t, "to", has_new, new))
+        return says("no", "not met, `" side "` does not allow " (has_new ? quoted(new) : "a value that is no text"))
     return says("fires", "met")
 }
 

@@ -131,7 +131,7 @@ function take_command(n) {
     else if (act == "gone") change(word[get(n, "gone")], 0, "", "")
     else if (act == "event") take_event(n)
     else if (act == "moment") take_moment(word[get(n, "moment")])
-    else if (act == "switch") turn_automation(substr(word[get(n, "switch")], 12), word[get(n, "to")] == "on", word[get(n, "stop_actions")] == "true")
+    else if (act == "switch") turn_automation(substr(word[get(n, "switch")], 12), word[get(n, "to")] == "on", is_true(n, "stop_actions"))
     else if (act == "trigger") {
         ask_for(n)
         asked[substr(word[get(n, "trigger")], 12)] = 1
@@ -172,6 +172,10 @@ function change(e, is_there, state, attributes, i) {
     line_of[e] = here
 }
 
+function is_true(n, name) {
+    return word[get(n, name)] == "true"
+}
+
 function take_event(n) {
     entry_is = "event"
     event_type = word[get(n, "event")]
@@ -187,7 +191,7 @@ function take_moment(moment) {
 function ask_for(n) {
     entry_is = "ask"
     split("", asked)
-    skips = word[get(n, "skip_condition")] == "true"
+    skips = is_true(n, "skip_condition")
 }
 
 function take_restart(a) {
@@ -227,7 +231,7 @@ function take_item(n, i, list, inner) {
     inner = get(n, act)
     if (act == "fired") take_event(inner)
     else if (act == "switched") {
-        for (i = 1; i <= size[inner]; i++) turn_automation(word[get(part[inner, i], "automation")], word[get(part[inner, i], "on")] == "true", word[get(part[inner, i], "stop")] == "true")
+        for (i = 1; i <= size[inner]; i++) turn_automation(word[get(part[inner, i], "automation")], is_true(part[inner, i], "on"), is_true(part[inner, i], "stop"))
     } else if (act == "triggered") {
         ask_for(inner)
         list = get(inner, "automations")
@@ -311,8 +315,12 @@ function goes_on(a, n) {
 function can_do(a) {
     if (branch != "[]" && !splits[a]) return 0
     if (act == "fired") return (a, "event", event_type) in names
-    if (act == "call") return any_service[a] || (a, "service", service) in names
-    if (act == "triggered") return any_service[a] || (a, "service", "automation.trigger") in names
-    if (act == "switched") return any_service[a] || (a, "service", "automation.turn_on") in names || (a, "service", "automation.turn_off") in names || (a, "service", "automation.toggle") in names
+    if (act == "call") return may_call(a, service)
+    if (act == "triggered") return may_call(a, "automation.trigger")
+    if (act == "switched") return may_call(a, "automation.turn_on") || may_call(a, "automation.turn_off") || may_call(a, "automation.toggle")
     return 1
+}
+
+function may_call(a, what) {
+    return any_service[a] || (a, "service", what) in names
 }

@@ -29,11 +29,16 @@ function command_words(n) {
     if (act == "gone") return entity[1] " was reported gone" (stood[1] ? "" : ", which was not there")
     if (act == "event") return "the event " quoted(event_type) " came" with_data(event_data)
     if (act == "moment") return passes ? "the time became " time : "a moment came that is not later than " time ", and passed no time"
-    if (act == "switch") return word[get(n, "switch")] " was turned " word[get(n, "to")] (word[get(n, "to")] == "on" ? "" : word[get(n, "stop_actions")] == "true" ? ", and its runs ended" : ", and its runs go on")
+    if (act == "switch") return word[get(n, "switch")] " was turned " word[get(n, "to")] runs_words(n)
     if (act == "trigger") return word[get(n, "trigger")] " was asked to run, " (skips ? "whatever its conditions" : "if its conditions hold")
     if (act == "restart") return "all was restarted: no states, no runs"
     if (act == "refused") return "the line was refused with " code_words(word[get(n, "refused")]) " and changed nothing"
     return get(n, "lost") ? "the source was lost" : "the source was too long"
+}
+
+function runs_words(n) {
+    if (word[get(n, "to")] == "on") return ""
+    return is_true(n, "stop_actions") ? ", and its runs ended" : ", and its runs go on"
 }
 
 function report_words(out) {
@@ -52,7 +57,7 @@ function item_words(n, inner, i, out) {
     if (act == "fired") return "fired the event " quoted(event_type) with_data(event_data)
     if (act == "failed") return "failed with " code_words(word[inner])
     if (act == "switched") {
-        for (i = 1; i <= size[inner]; i++) out = out (i > 1 ? ", " : "") "turned automation." word[get(part[inner, i], "automation")] (word[get(part[inner, i], "on")] == "true" ? " on" : " off")
+        for (i = 1; i <= size[inner]; i++) out = out (i > 1 ? ", " : "") "turned " automation_in(part[inner, i]) (is_true(part[inner, i], "on") ? " on" : " off")
         return out == "" ? "turned no automation on or off" : out
     }
     if (act == "triggered") {
@@ -60,6 +65,10 @@ function item_words(n, inner, i, out) {
         return "asked" (out == "" ? " no automation" : out) " to run, " (skips ? "whatever the conditions" : "if the conditions hold")
     }
     return ""
+}
+
+function automation_in(n) {
+    return "automation." word[get(n, "automation")]
 }
 
 # ---- the answer
@@ -139,7 +148,8 @@ function ending_words(run, last, step, goes_on, ender) {
     }
     goes_on = step == "" && (last_act[run] == "nothing" || last_branch[run] != "[]") && may_wait(run)
     ender = first_ender(run, last, goes_on ? 0 : quiet_at[run])
-    if (goes_on) return "no step follows: it ended at line " last ", or a delay or wait of it is not over" (ender ? "; if so, line " ender " " verb : "")
+    if (goes_on)
+        return "no step follows: it ended at line " last ", or a delay or wait of it is not over" (ender ? "; if so, line " ender " " verb : "")
     if (step == "tested a condition" && !(steps[run] == planned[owner] && is_whole[owner])) step = "the condition did not hold"
     else if (step == "stopped") step = "by its `stop`"
     else if (step == "ended the wait" && steps[run] < planned[owner]) step = "its wait timed out"
