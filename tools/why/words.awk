@@ -139,16 +139,16 @@ function step_words(run, i) {
 }
 
 # How the run ended, as far as the trace tells; `step` is its last one, where the configuration tells which that is.
-function ending_words(run, last, step, goes_on, ender) {
+function ending_words(run, last, step, waits_on, ender) {
     if (last_act[run] == "failed" && last_branch[run] == "[]") return "it ended at line " last ": it failed"
     if (!quiet_at[run]) return "the trace stops before it tells whether a further step came"
     if (step ~ /^began/) {
         ender = first_ender(run, last, 0)
         return "the " substr(step, 9) " that began at line " last (ender ? " was not over when line " ender " " verb : " is not over")
     }
-    goes_on = step == "" && (last_act[run] == "nothing" || last_branch[run] != "[]") && may_wait(run)
-    ender = first_ender(run, last, goes_on ? 0 : quiet_at[run])
-    if (goes_on)
+    waits_on = step == "" && (last_act[run] == "nothing" || last_branch[run] != "[]") && may_wait(run)
+    ender = first_ender(run, last, waits_on ? 0 : quiet_at[run])
+    if (waits_on)
         return "no step follows: it ended at line " last ", or a delay or wait of it is not over" (ender ? "; if so, line " ender " " verb : "")
     if (step == "tested a condition" && !(steps[run] == planned[owner] && is_whole[owner])) step = "the condition did not hold"
     else if (step == "stopped") step = "by its `stop`"
