@@ -14,7 +14,8 @@ BEGIN {
         tell()
         exit 0
     }
-    print "hearth: " fault >"/dev/stderr"
+    print "hearth: " fault | "cat >&2"
+    close("cat >&2")
     exit status
 }
 
