@@ -31,11 +31,27 @@ function trigger_kind(t) {
 
 function trigger_words(t, k) {
     k = trigger_kind(t)
-    if (k == "state" || k == "numeric_state")
-        return k " of " listed(get(t, "entity_id")) (get(t, "attribute") ? ", attribute " quoted(word[get(t, "attribute")]) : "")
+    if (k == "state") return k " of " watched(t) asked_side(t, "from") asked_side(t, "to")
+    if (k == "numeric_state") return k " of " watched(t) asked_side(t, "above") asked_side(t, "below")
     if (k == "event") return "event " listed(get(t, "event_type"))
     if (k == "time") return "time " listed(get(t, "at"))
     return k
+}
+
+function watched(t) {
+    return listed(get(t, "entity_id")) (get(t, "attribute") ? ", attribute " listed(get(t, "attribute")) : "")
+}
+
+# What a trigger asks for by a key, or by its negation.
+function asked_side(t, side) {
+    if (get(t, side)) return " " side " " any_of(get(t, side))
+    return get(t, "not_" side) ? " not " side " " any_of(get(t, "not_" side)) : ""
+}
+
+function any_of(n, out) {
+    out = kind[n] == "null" ? "any" : listed(n)
+    gsub(/, /, " or ", out)
+    return out
 }
 
 function trigger_answer(t, k) {
