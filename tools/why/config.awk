@@ -126,6 +126,7 @@ function read_texts(n, parted, list, i, j, count, pieces, total) {
 function listed(n, i, count, out) {
     count = read_texts(n, 0)
     for (i = 1; i <= count; i++) out = out (i > 1 ? ", " : "") texts[i]
+    gsub(/[\001-\037\177]/, "?", out)
     return out
 }
 

@@ -1,5 +1,5 @@
 # Which automations an entry may have asked to run, by their triggers (docs/FORMATS.md, docs/MEANING.md). Decided is whether it moves a trigger
-# of the kinds state, event and homeassistant; a trigger of another kind may fire where the entry is one at which such can. The entry is told
+# on states, on numbers of states, on events or on starts; another one may fire where the entry is one at which such can. The entry is told
 # by `entry_is` (start, ask, event, moment, change or other) and what stands beside it, as why.awk sets it.
 
 # The answer of an automation: fires, may, off or no (one of its triggers looks at this), or apart. `because` has a row for each such trigger.
@@ -31,10 +31,27 @@ function trigger_kind(t) {
 
 function trigger_words(t, k) {
     k = trigger_kind(t)
-    if (k == "state" || k == "numeric_state") return k " of " listed(get(t, "entity_id")) (get(t, "attribute") ? ", attribute " word[get(t, "attribute")] : "")
+    if (k == "state") return k " of " watched(t) asked_side(t, "from") asked_side(t, "to")
+    if (k == "numeric_state") return k " of " watched(t) asked_side(t, "above") asked_side(t, "below")
     if (k == "event") return "event " listed(get(t, "event_type"))
     if (k == "time") return "time " listed(get(t, "at"))
     return k
+}
+
+function watched(t) {
+    return listed(get(t, "entity_id")) (get(t, "attribute") ? ", attribute " listed(get(t, "attribute")) : "")
+}
+
+# What a trigger asks for by a key, or by its negation.
+function asked_side(t, side) {
+    if (get(t, side)) return " " side " " any_of(get(t, side))
+    return get(t, "not_" side) ? " not " side " " any_of(get(t, "not_" side)) : ""
+}
+
+function any_of(n, out) {
+    out = kind[n] == "null" ? "any" : listed(n)
+    gsub(/, /, " or ", out)
+    return out
 }
 
 function trigger_answer(t, k) {
@@ -74,8 +91,8 @@ function event_answer(t, i, list, given) {
     list = get(t, "event_data")
     for (i = 1; list && i <= size[list]; i++) {
         given = get(event_data, key[list, i])
-        if (!given) return says("no", "not met, the event has no `" key[list, i] "`")
-        if (!agrees(part[list, i], given)) return says("no", "not met, the event's `" key[list, i] "` is another")
+        if (!given) return says("no", "not met, the event has no " quoted(key[list, i]))
+        if (!agrees(part[list, i], given)) return says("no", "not met, the event's " quoted(key[list, i]) " is another")
     }
     return says("fires", "met")
 }
@@ -130,8 +147,10 @@ function has_sides(t) {
 
 # Whether the old text and the new one, where there are such, are those that the trigger asks for.
 function sides_answer(t, has_old, old, has_new, new) {
-    if (!fits(t, "from", has_old, old)) return says("no", "not met, " (has_old ? "`" side "` does not allow that it was " old : "`from` does not allow that it was not there"))
-    if (!fits(t, "to", has_new, new)) return says("no", "not met, `" side "` does not allow " (has_new ? new : "a value that is no text"))
+    if (!fits(t, "from", has_old, old))
+        return says("no", has_old ? "not met, `" side "` does not allow that it was " quoted(old) : "not met, `from` does not allow that it was not there")
+    if (!fits(t, "to", has_new, new))
+        return says("no", "not met, `" side "` does not allow " (has_new ? quoted(new) : "a value that is no text"))
     return says("fires", "met")
 }
 

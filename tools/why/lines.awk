@@ -1,7 +1,7 @@
 # The lines of a trace, read one after the other: each has the form of docs/TRACE.md, but what stands in attributes and data is not looked at.
 
-# What a line is: boot, line, step or end, or nothing. Its parts are then in `turn` (the source or worker), `number` (of the line or the run), `branch`,
-# `rest` (the command or item) and `act` (which one that is).
+# What a line is: boot, line, step or end, or nothing. Its parts are then in `turn` (the source or worker), `number` (of the line or the run),
+# `branch`, `rest` (the command or item) and `act` (which one that is).
 function scan(text, head, field) {
     is = ""
     if (text !~ /\}$/ || text ~ /[\001-\037]/) return 0

@@ -1,9 +1,9 @@
 # Values as a trace prints them, read into a tree of numbered nodes: kind[n] is null, flag, number, text, list or map, word[n] is what a leaf
 # says, and shown[n] how it is printed. A list or map has size[n] parts part[n, i] from 1; in a map each has its key[n, i].
 
-function node(of_kind, says) {
+function node(of_kind, text) {
     kind[++nodes] = of_kind
-    word[nodes] = says
+    word[nodes] = text
     size[nodes] = 0
     return nodes
 }

@@ -14,7 +14,8 @@ BEGIN {
         tell()
         exit 0
     }
-    print "hearth: " fault >"/dev/stderr"
+    print "hearth: " fault | "cat >&2"
+    close("cat >&2")
     exit status
 }
 
@@ -31,8 +32,8 @@ function find() {
         if (is == "step" && !(number in first_step)) {
             first_step[number] = here
             from_line[number] = earliest()
-            if (here > wanted && (from_line[number] > wanted || abouts == most)) break
-            if (here > wanted) concern(number)
+            if (here > wanted && from_line[number] > wanted) break
+            if (here > wanted && abouts < most) concern(number)
         }
         if (here == wanted) {
             wanted_is = is
@@ -101,18 +102,29 @@ function take(i) {
         wanted_skips = wanted_asks && skips
         wanted_turn = is == "boot" || is == "end" ? "" : is == "line" ? "line " number " of source " turn : "the turn of source " turn
     }
-    if (is == "line" && here > wanted) past_wanted = 1
-    if (is == "step" && here > wanted && !past_wanted && !is_about[number] && !(number in moved_at)) {
-        moved[++moves] = number
-        moved_at[number] = here
-    }
+    if (here > wanted) look_behind()
     if (begins_runs()) ask_all()
     for (i = 1; i <= abouts; i++) follow(about[i])
     if (is == "line") {
-        line_said[here] = said
         last_of_all = here
+        last_said = said
     }
     lines = here
+}
+
+# What follows the line that is wanted: which runs go on before the next line of a source, and whether all that it began has had its steps.
+function look_behind() {
+    if (is == "line") past_wanted = 1
+    if (is == "step" && !past_wanted && !is_about[number] && !(number in moved_at)) {
+        moved[++moves] = number
+        moved_at[number] = here
+    }
+    if (was_quiet(wanted)) all_begun = 1
+}
+
+# Whether this line tells that no step was due at some time behind an earlier one.
+function was_quiet(line) {
+    return is == "end" || is == "line" && turn in line_before && (sources == 1 || line_before[turn] >= line)
 }
 
 function take_command(n) {
@@ -120,7 +132,7 @@ function take_command(n) {
     else if (act == "gone") change(word[get(n, "gone")], 0, "", "")
     else if (act == "event") take_event(n)
     else if (act == "moment") take_moment(word[get(n, "moment")])
-    else if (act == "switch") turn_automation(substr(word[get(n, "switch")], 12), word[get(n, "to")] == "on", word[get(n, "stop_actions")] == "true")
+    else if (act == "switch") turn_automation(substr(word[get(n, "switch")], 12), word[get(n, "to")] == "on", is_true(n, "stop_actions"))
     else if (act == "trigger") {
         ask_for(n)
         asked[substr(word[get(n, "trigger")], 12)] = 1
@@ -161,6 +173,10 @@ function change(e, is_there, state, attributes, i) {
     line_of[e] = here
 }
 
+function is_true(n, name) {
+    return word[get(n, name)] == "true"
+}
+
 function take_event(n) {
     entry_is = "event"
     event_type = word[get(n, "event")]
@@ -176,7 +192,7 @@ function take_moment(moment) {
 function ask_for(n) {
     entry_is = "ask"
     split("", asked)
-    skips = word[get(n, "skip_condition")] == "true"
+    skips = is_true(n, "skip_condition")
 }
 
 function take_restart(a) {
@@ -216,7 +232,7 @@ function take_item(n, i, list, inner) {
     inner = get(n, act)
     if (act == "fired") take_event(inner)
     else if (act == "switched") {
-        for (i = 1; i <= size[inner]; i++) turn_automation(word[get(part[inner, i], "automation")], word[get(part[inner, i], "on")] == "true", word[get(part[inner, i], "stop")] == "true")
+        for (i = 1; i <= size[inner]; i++) turn_automation(word[get(part[inner, i], "automation")], is_true(part[inner, i], "on"), is_true(part[inner, i], "stop"))
     } else if (act == "triggered") {
         ask_for(inner)
         list = get(inner, "automations")
@@ -226,7 +242,8 @@ function take_item(n, i, list, inner) {
     said = n ? item_words(n) : ""
 }
 
-# The answers of the automations to a line that matters, and of those in mode restart whose runs are told of to each other one.
+# The answers of the automations to a line that matters; and to each other one of those in mode restart whose runs are told of, since a new
+# run ends the one before.
 function ask_all(a) {
     for (a = 1; a <= automations; a++) {
         if (!matters && !replaces[a]) continue
@@ -250,8 +267,7 @@ function follow(run) {
     }
     if (here == first_step[run]) find_askers(run)
     if (is == "step" && number == run) take_step(run, ++steps[run])
-    else if (!quiet_at[run] && (is == "end" || is == "line" && (sources == 1 || seen[run, turn] == steps[run]))) quiet_at[run] = here
-    else if (is == "line") seen[run, turn] = steps[run]
+    else if (!quiet_at[run] && was_quiet(step_line[run, steps[run]])) quiet_at[run] = here
 }
 
 # A run that took no further step, and that nothing ended, is of no automation whose script goes on.
@@ -278,6 +294,7 @@ function take_step(run, n, a) {
     if (here == wanted) wanted_step = n
     step_said[run, n] = said
     step_behind[run, n] = last_of_all
+    behind_said[run, n] = last_said
     last_act[run] = act
     last_branch[run] = branch
     quiet_at[run] = 0
@@ -292,15 +309,19 @@ function is_planned(a, n) {
 
 # Whether the script of an automation goes on at once behind its step n.
 function goes_on(a, n) {
-    return n < planned[a] && plan[a, n] !~ /^(began|tested|stopped)/
+    return n < planned[a] && plan[a, n] !~ /^(began|tested|stopped|ended the wait)/
 }
 
 # Whether an automation's actions hold what this step did.
 function can_do(a) {
     if (branch != "[]" && !splits[a]) return 0
     if (act == "fired") return (a, "event", event_type) in names
-    if (act == "call") return any_service[a] || (a, "service", service) in names
-    if (act == "triggered") return any_service[a] || (a, "service", "automation.trigger") in names
-    if (act == "switched") return any_service[a] || (a, "service", "automation.turn_on") in names || (a, "service", "automation.turn_off") in names || (a, "service", "automation.toggle") in names
+    if (act == "call") return may_call(a, service)
+    if (act == "triggered") return may_call(a, "automation.trigger")
+    if (act == "switched") return may_call(a, "automation.turn_on") || may_call(a, "automation.turn_off") || may_call(a, "automation.toggle")
     return 1
+}
+
+function may_call(a, what) {
+    return any_service[a] || (a, "service", what) in names
 }

@@ -12,6 +12,7 @@ function quoted(text) {
     gsub(/\n/, "\\n", text)
     gsub(/\r/, "\\r", text)
     gsub(/\t/, "\\t", text)
+    gsub(/[\001-\037\177]/, "?", text)
     return "\"" text "\""
 }
 
@@ -28,11 +29,16 @@ function command_words(n) {
     if (act == "gone") return entity[1] " was reported gone" (stood[1] ? "" : ", which was not there")
     if (act == "event") return "the event " quoted(event_type) " came" with_data(event_data)
     if (act == "moment") return passes ? "the time became " time : "a moment came that is not later than " time ", and passed no time"
-    if (act == "switch") return word[get(n, "switch")] " was turned " word[get(n, "to")] (word[get(n, "to")] == "on" ? "" : word[get(n, "stop_actions")] == "true" ? ", and its runs ended" : ", and its runs go on")
+    if (act == "switch") return word[get(n, "switch")] " was turned " word[get(n, "to")] runs_words(n)
     if (act == "trigger") return word[get(n, "trigger")] " was asked to run, " (skips ? "whatever its conditions" : "if its conditions hold")
     if (act == "restart") return "all was restarted: no states, no runs"
     if (act == "refused") return "the line was refused with " code_words(word[get(n, "refused")]) " and changed nothing"
     return get(n, "lost") ? "the source was lost" : "the source was too long"
+}
+
+function runs_words(n) {
+    if (word[get(n, "to")] == "on") return ""
+    return is_true(n, "stop_actions") ? ", and its runs ended" : ", and its runs go on"
 }
 
 function report_words(out) {
@@ -51,14 +57,18 @@ function item_words(n, inner, i, out) {
     if (act == "fired") return "fired the event " quoted(event_type) with_data(event_data)
     if (act == "failed") return "failed with " code_words(word[inner])
     if (act == "switched") {
-        for (i = 1; i <= size[inner]; i++) out = out (i > 1 ? ", " : "") "turned automation." word[get(part[inner, i], "automation")] (word[get(part[inner, i], "on")] == "true" ? " on" : " off")
+        for (i = 1; i <= size[inner]; i++) out = out (i > 1 ? ", " : "") "turned " automation_in(part[inner, i]) (is_true(part[inner, i], "on") ? " on" : " off")
         return out == "" ? "turned no automation on or off" : out
     }
     if (act == "triggered") {
-        for (i in asked) out = out " automation." i
+        for (i = 1; i <= size[get(inner, "automations")]; i++) out = out (i > 1 ? ", " : " ") "automation." word[part[get(inner, "automations"), i]]
         return "asked" (out == "" ? " no automation" : out) " to run, " (skips ? "whatever the conditions" : "if the conditions hold")
     }
     return ""
+}
+
+function automation_in(n) {
+    return "automation." word[get(n, "automation")]
 }
 
 # ---- the answer
@@ -111,7 +121,7 @@ function tell_run(run, i, behind) {
             continue
         }
         behind = step_behind[run, i]
-        if (i > 1 && behind != step_behind[run, i - 1]) print "    then, behind line " behind ": " line_said[behind]
+        if (i > 1 && behind != step_behind[run, i - 1]) print "    then, behind line " behind ": " behind_said[run, i]
         print "    line " step_line[run, i] (step_line[run, i] == wanted ? ", this one" : "") ": it " step_words(run, i)
     }
     print "    " ending_words(run, step_line[run, steps[run]], step_in_plan(run, steps[run]))
@@ -129,18 +139,20 @@ function step_words(run, i) {
 }
 
 # How the run ended, as far as the trace tells; `step` is its last one, where the configuration tells which that is.
-function ending_words(run, last, step, goes_on, ender) {
+function ending_words(run, last, step, waits_on, ender) {
     if (last_act[run] == "failed" && last_branch[run] == "[]") return "it ended at line " last ": it failed"
     if (!quiet_at[run]) return "the trace stops before it tells whether a further step came"
     if (step ~ /^began/) {
         ender = first_ender(run, last, 0)
         return "the " substr(step, 9) " that began at line " last (ender ? " was not over when line " ender " " verb : " is not over")
     }
-    goes_on = step == "" && (last_act[run] == "nothing" || last_branch[run] != "[]") && may_wait(run)
-    ender = first_ender(run, last, goes_on ? 0 : quiet_at[run])
-    if (goes_on) return "no step follows: it ended at line " last ", or a delay or wait of it is not over" (ender ? "; if so, line " ender " " verb : "")
+    waits_on = step == "" && (last_act[run] == "nothing" || last_branch[run] != "[]") && may_wait(run)
+    ender = first_ender(run, last, waits_on ? 0 : quiet_at[run])
+    if (waits_on)
+        return "no step follows: it ended at line " last ", or a delay or wait of it is not over" (ender ? "; if so, line " ender " " verb : "")
     if (step == "tested a condition" && !(steps[run] == planned[owner] && is_whole[owner])) step = "the condition did not hold"
     else if (step == "stopped") step = "by its `stop`"
+    else if (step == "ended the wait" && steps[run] < planned[owner]) step = "its wait timed out"
     else step = "that was its last step"
     return "it ended at line " last ": " step (ender ? ", or line " ender " " verb " before its next one" : "")
 }
@@ -177,6 +189,7 @@ function tell_begun(i, a, run, begun, none) {
         if (found[wanted, a] == "apart") none++
         else if (!(a in begun)) tell_none(a)
     }
+    if (abouts == most) print "further runs may have begun at it"
     if (none == automations) print "no automation has a trigger for such a line: no run began"
     else if (none) print "no other automation has a trigger for such a line"
 }
@@ -189,6 +202,11 @@ function tell_moved(i, out) {
 
 function tell_none(a, how) {
     how = found[wanted, a]
+    if (how ~ /fires|may/ && !all_begun) {
+        print "automation." name[a] ": the trace stops before it tells whether a run of it began"
+        printf "%s", why[a]
+        return
+    }
     if (how == "off") how = "it was turned off" (was_off[a] == 1 ? " from the start" : " (line " was_off[a] ")")
     else if (how == "no") how = "no trigger of it fired"
     else how = (how == "may" ? "no trigger of it fired, or " : wanted_asks ? "" : "its trigger fired, but ") refusal(a)
