@@ -1,42 +1,17 @@
 -- What is left when all goes.
-use Rattle.std.proofs.Common.{◌≡◌, ℕ, zero, suc, ◌+◌, ◌≤◌, List, [], ◌∷◌, length, replicate, Bool, true, false, refl, sym, subst, ◌∙◌, rules, arith}
-use Rattle.std.specs.Prelude.{Option, None, not, nat_eq, if◌then◌else◌}
+use Rattle.std.proofs.Common.{◌≡◌, ℕ, zero, suc, List, [], ◌∷◌, length, replicate, refl, sym, subst, ◌∙◌}
+use Rattle.std.specs.Prelude.{Option, None}
 use Rattle.timer_queue.specs.Timers.{Timer}
 use Rattle.ha_model.specs.declared.journal.Record.{Record}
 use Rattle.ha_model.specs.Journal.{Journal}
 use Rattle.ha_model.specs.Records.{Records}
 use Rattle.ha_model.specs.Scripts.{Branch}
-use Rattle.ha_past.specs.Firings.{Owner, without_owner}
 use Rattle.ha_ready.specs.ReadyPairs.{pairs_from}
 use Rattle.script_step.specs.declared.frames.Frames.{Frames}
 use Rattle.wait_set.specs.declared.asked.Asked.{Asked}
 use Rattle.wait_set.specs.Asked.{WaitTable as Waits}
 use Rattle.engine_parts.specs.Kept.{RunsKept, SlotBut, everyone, left_branches}
-use Rattle.engine_parts.specs.Owners.{AreAscending, AreBelow}
 use Rattle.engine_parts.specs.Runs.{AreHeld, SlotsWith}
-use Rattle.engine_parts.proofs.DetachLemmas.{ascend-lower, ascend-without}
-
--- ---- owners
-
--- LAW: without the owner of a number, the others come later
-pub ascend-next : (n : ℕ) (os : List Owner) → AreAscending n os → AreAscending (n + 1) (without_owner n os)
-ascend-next n [] h = tt
-ascend-next n (o ∷ os) h = by (nat_eq o.owner n) refl (ascend-without n (suc o.owner) os h.1)
-  where
-    at : (a b : ℕ) → nat_eq a b ≡ true → a ≡ b
-    at a b e = search (rules, e)
-
-    above : (a b : ℕ) → b ≤ a → nat_eq a b ≡ false → b + 1 ≤ a
-    above a b le e = search (rules, le, e)
-
-    by : (b : Bool) → nat_eq o.owner n ≡ b → AreAscending (suc o.owner) (without_owner n os) → AreAscending (n + 1) (if not b then o ∷ without_owner n os else without_owner n os)
-    by true e rest = ascend-lower (n + 1) (suc o.owner) (without_owner n os) (omega (arith, at o.owner n e)) rest
-    by false e rest = (above o.owner n h.0 e, rest)
-
--- LAW: at last there is none
-pub none-left : (n m : ℕ) (os : List Owner) → m ≤ n → AreAscending n os → AreBelow m os → os ≡ []
-none-left n m [] le up below = refl
-none-left n m (o ∷ os) le up below = absurd (omega (arith, le, up.0, below.0))
 
 -- ---- runs
 

@@ -1,5 +1,5 @@
 //! What a restart takes away before all is set anew: what runs, what is attached, and what is known of entities.
-ghost use Rattle.std.specs.Prelude.{◌≡◌, ◌<◌, ◌≤◌, ℕ, [], None, length, replicate};
+ghost use Rattle.std.specs.Prelude.{◌≡◌, ℕ, [], None, length, replicate};
 ghost use Rattle.ha_model.specs.declared.journal.Cmd as cmd;
 ghost use Rattle.ha_model.specs.declared.journal.Entry.TheVariants.{Line};
 ghost use Rattle.ha_model.specs.Journal.{Journal};
@@ -7,29 +7,17 @@ ghost use Rattle.ha_model.specs.RecordSteps.{more};
 ghost use Rattle.state_table.specs.Anew.{sets_anew};
 ghost use Rattle.state_table.specs.Table.{StandsBut};
 ghost use Rattle.trig_set.specs.Stands.{StandsFor, attached};
-ghost use Rattle.engine_parts.specs.Owners.{AreAscending, AreBelow};
 
 use engine_parts::parts::Parts;
 use std::alloc::Global;
 use timer_queue::TimerQueue;
-use trig_set::TrigSet;
 use wait_set::Waits;
 
-/// The triggers of all owners below a number are detached.
-fn detach_below(triggers: &mut TrigSet, most: u64)
-    ensures stands { (j : Journal) → StandsFor triggers.old j → StandsFor triggers.new j }
-    ensures none { AreAscending 0 (attached triggers.old) → AreBelow most (attached triggers.old) → attached triggers.new ≡ [] }
-{
-    'owners: for owner in 0..most {
-        triggers.detach(owner);
-    }
-}
-
-/// No run has frames, pairs, waits or delays any more, no owner below the number has triggers, and no entity has a state.
-pub fn let_go(parts: &mut Parts, alloc: Global, most: u64)
+/// No run has frames, pairs, waits or delays any more, nobody has triggers, and no entity has a state.
+pub fn let_go(parts: &mut Parts, alloc: Global)
     ensures states { (j : Journal) (k n : ℕ) → StandsBut (sets_anew j (Line k n cmd.Cmd.Restart)) parts.new.states (more j (Line k n cmd.Cmd.Restart)) }
     ensures stands { (j : Journal) → StandsFor parts.old.triggers j → StandsFor parts.new.triggers j }
-    ensures none { AreAscending 0 (attached parts.old.triggers) → AreBelow most (attached parts.old.triggers) → attached parts.new.triggers ≡ [] }
+    ensures none { attached parts.new.triggers ≡ [] }
     ensures slots { parts.new.frames.items ≡ replicate (length parts.old.frames.items) None }
     ensures pairs { parts.new.ready.pairs.items ≡ [] }
     ensures asks { parts.new.waits.asks ≡ [] }
@@ -37,7 +25,7 @@ pub fn let_go(parts: &mut Parts, alloc: Global, most: u64)
     ensures rest { parts.new ≡ record parts.old { states = parts.new.states; triggers = parts.new.triggers; waits = parts.new.waits; frames = parts.new.frames; delays = parts.new.delays; ready = parts.new.ready } }
 {
     parts.states.clear();
-    detach_below(&mut parts.triggers, most);
+    parts.triggers.clear();
     parts.waits = Waits::make(alloc);
     parts.frames.clear();
     parts.delays = TimerQueue::make(alloc);

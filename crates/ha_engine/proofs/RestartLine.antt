@@ -48,12 +48,11 @@ use Rattle.wait_set.specs.Timers.{AreApart}
 use Rattle.engine_parts.specs.declared.parts.Parts.{Parts}
 use Rattle.engine_parts.specs.Kept.{AreOwned, AreSound, Going, KeysBelow, Owned, RunsKept, everyone, nobody}
 use Rattle.engine_entry.specs.Opened.{AllOpened, Opening}
-use Rattle.engine_parts.specs.Owners.{AreBelow, owners_on}
+use Rattle.engine_parts.specs.Owners.{owners_on}
 use Rattle.engine_parts.specs.Records.{IsTable}
 use Rattle.engine_parts.specs.Runs.{AreHeld, first_wait}
 use Rattle.engine_parts.specs.Stages.{Entered, Noted, PushedAs, Stopped}
 use Rattle.ha_engine.proofs.ConcludeLemmas.{line-table}
-use Rattle.engine_parts.proofs.DetachLemmas.{below-more}
 use Rattle.engine_entry.proofs.EnterLemmas.{now-left, sound-more, zone-more}
 use Rattle.engine_entry.proofs.OpenLemmas.{open-begin, opened-ascend, opened-automations, opened-below, opened-late}
 use Rattle.engine_entry.proofs.NamedLemmas.{sound-few}
@@ -133,10 +132,6 @@ module _ (k : Journal) (rs : Records) (p : Parts) (h : PushedAs Cmd.Restart k rs
 
   pub again-table : IsTable k rs
   again-table = subst (λ (i : Journal). IsTable i rs) (sym again-is) (line-table j rs h.pushed.source h.pushed.number Cmd.Restart h.pushed.right)
-
-  -- all owners are below this
-  pub again-below : AreBelow (length k + 1024) (triggers.attached p.triggers)
-  again-below = below-more (first_wait + length j) (length k + 1024) (triggers.attached p.triggers) (omega (arith, again-place, again-within)) h.pushed.kept.going.owned.early
 
   has-length : (i : Journal) → HasEntry i → 0 < length i
   has-length [] g = absurd g

@@ -15,6 +15,7 @@ ghost use Rattle.ha_model.specs.Texts.{store_text};
 
 use crate::advance::advance;
 use crate::follow::follow_line;
+use crate::prepare::fitted;
 use engine_parts::last::drop_last;
 use engine_parts::parts::Parts;
 use ha_model::{Automation, Cmd, Config, CoreFault, Entry, Many, Record, Word, same_text};
@@ -106,6 +107,19 @@ fn put_as(journal: &[Entry], cmd: Cmd) -> Cmd
                 Cmd::Refused(9)
             }
         }
+        Cmd::Report {
+            entity,
+            text,
+            attributes,
+        } => Cmd::Report {
+            entity,
+            text,
+            attributes: fitted(attributes),
+        },
+        Cmd::Event { kind, pairs } => Cmd::Event {
+            kind,
+            pairs: fitted(pairs),
+        },
         other => other,
     }
 }

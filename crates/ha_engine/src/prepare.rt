@@ -69,11 +69,11 @@ fn begin_frames(alloc: Global, actions: &Many<Action>, env: &Env) -> Result<Box<
     Ok(held)
 }
 
-/// The same variables, in no more memory than they need: the record of the run keeps them for good.
-fn fitted(env: Env) -> Env
-    ensures { result ≡ env }
+/// The same pairs, in no more memory than they need: the journal or the record of a run keeps them for good.
+pub(crate) fn fitted(pairs: Many<(Word, Value)>) -> Many<(Word, Value)>
+    ensures { result ≡ pairs }
 {
-    let mut pairs = env.into_vec();
+    let mut pairs = pairs.into_vec();
     pairs.shrink_to_fit();
     Many::from_vec(pairs)
 }

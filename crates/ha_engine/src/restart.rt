@@ -66,7 +66,7 @@ fn reopen(parts: &mut Parts, alloc: Global, journal: &[Entry]) -> Result<(), All
     let rules = config.automations.as_slice();
     parts.changed = moves_any(&parts.switches, rules);
     parts.switches.restart(config);
-    let_go(parts, alloc, journal.len() as u64 + 1024);
+    let_go(parts, alloc);
     open_all(
         &mut parts.states,
         &mut parts.triggers,

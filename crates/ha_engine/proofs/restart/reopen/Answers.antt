@@ -11,7 +11,7 @@ use Rattle.switch_book.specs.Book as switches
 use Rattle.engine_parts.specs.declared.parts.Parts.{Parts}
 use Rattle.engine_parts.specs.Kept.{SlotBut, nobody}
 use Rattle.engine_entry.proofs.EmptyLemmas.{all-gone}
-use Rattle.ha_engine.proofs.RestartLine.{again, again-automations, again-below, again-changes, again-entered, again-journal, again-opening, again-some, length-switches}
+use Rattle.ha_engine.proofs.RestartLine.{again, again-automations, again-changes, again-entered, again-journal, again-opening, again-some, length-switches}
 use Rattle.ha_engine.proofs.restart.reopen.Goals as goal
 
 pub configuration-config-requires : goal.configuration-config-requires
@@ -33,7 +33,7 @@ open_all-requires c =
     = subst (λ (s : Switches). switches.StandsFor s (more h.pushed.j (again k c.requires.0 p h))) (sym (ap (λ (r : Parts). r.switches) c.let_go.ensures.rest))
     (c.restart.ensures.stands h.pushed.j h.pushed.source h.pushed.number (again-some k c.requires.0 p h) all h.pushed.kept.going.sees.switches_stand) in
     again-opening k c.requires.0 p h c.as_slice-rules.result.now (c.as_slice-rules.ensures ∙ c.configuration-config.ensures) q.switches sw q.states (c.let_go.ensures.states h.pushed.j h.pushed.source h.pushed.number)
-    q.triggers (c.let_go.ensures.none h.pushed.kept.going.owned.ascend (again-below k c.requires.0 p h)) (c.let_go.ensures.stands h.pushed.j h.pushed.kept.going.triggers_stand) q.at (ap (λ (r : Parts). r.at) c.let_go.ensures.rest)
+    q.triggers c.let_go.ensures.none (c.let_go.ensures.stands h.pushed.j h.pushed.kept.going.triggers_stand) q.at (ap (λ (r : Parts). r.at) c.let_go.ensures.rest)
 
 pub returns-clause-entered : goal.returns-clause-entered
 returns-clause-entered c =
@@ -47,7 +47,7 @@ returns-clause-entered c =
     = subst (λ (s : Switches). switches.StandsFor s (more h.pushed.j (again k c.requires.0 p h))) (sym (ap (λ (r : Parts). r.switches) c.let_go.ensures.rest))
     (c.restart.ensures.stands h.pushed.j h.pushed.source h.pushed.number (again-some k c.requires.0 p h) (sym config) h.pushed.kept.going.sees.switches_stand) in
     let opening = again-opening k c.requires.0 p h c.as_slice-rules.result.now (c.as_slice-rules.ensures ∙ c.configuration-config.ensures) q.switches sw q.states (c.let_go.ensures.states h.pushed.j h.pushed.source h.pushed.number)
-    q.triggers (c.let_go.ensures.none h.pushed.kept.going.owned.ascend (again-below k c.requires.0 p h)) (c.let_go.ensures.stands h.pushed.j h.pushed.kept.going.triggers_stand) q.at (ap (λ (r : Parts). r.at) c.let_go.ensures.rest) in
+    q.triggers c.let_go.ensures.none (c.let_go.ensures.stands h.pushed.j h.pushed.kept.going.triggers_stand) q.at (ap (λ (r : Parts). r.at) c.let_go.ensures.rest) in
     again-entered k c.requires.0 p h (record q { states = c.open_all.new.states; triggers = c.open_all.new.triggers }) (ap (λ (r : Parts). r.at) c.let_go.ensures.rest) (ap (λ (r : Parts). r.zone) c.let_go.ensures.rest) sw
     (ap (λ (r : Parts). r.changed) c.let_go.ensures.rest ∙ c.moves_any-parts.ensures h.pushed.j h.pushed.kept.going.sees.switches_stand rules
     ∙ (λ i. list_any (λ a. not (same_flag (is_on h.pushed.j a) (unwrap_or (initial_of (rules i) a) (is_on h.pushed.j a)))) (up_to (length (rules i)))) ∙ again-changes k c.requires.0 p h)
