@@ -24,7 +24,7 @@ use Rattle.ha_top.specs.Answered.{AreStored, IsBooted, IsStore, IsStoreFault, Is
 use Rattle.ha_top.specs.Lived.{Lived, Untouched, unlined}
 use Rattle.ha_status.proofs.CauseLemmas.{unopened_within}
 
-if_all : {X : Type 0} (o : Option X) (P : X → Type 0) → ((x : X) → P x) → IfSome o P
+pub if_all : {X : Type 0} (o : Option X) (P : X → Type 0) → ((x : X) → P x) → IfSome o P
 if_all None P h = tt
 if_all (Some x) P h = h x
 
@@ -35,7 +35,7 @@ pub record IsEarly (b : Before) (a : After) : Type 0 where
   pub no_record : a.records ≡ []
   pub faults : b.keep.faults ≤ a.keep.faults
 
-sink_same : (s s' : SinkState) → s' ≡ s → SinkGrows s s'
+pub sink_same : (s s' : SinkState) → s' ≡ s → SinkGrows s s'
 sink_same s s' e = subst (SinkGrows s) (sym e) (record { told = refl; faults = le_refl s.faults; zeros = le_refl s.zeros; same_name = refl })
 
 pub same_of : (b : Before) (a : After) → IsEarly b a → AreTheSame b a

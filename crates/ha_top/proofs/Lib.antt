@@ -1,4 +1,6 @@
+pub mod AskedLemmas
 pub mod EarlyLemmas
+pub mod EndedLemmas
 pub mod OpenLemmas
 pub mod RunLemmas
 pub mod StoreLemmas

@@ -29,7 +29,7 @@ if_all : {X : Type 0} (o : Option X) (P : X → Type 0) → ((x : X) → P x) �
 if_all None P h = tt
 if_all (Some x) P h = h x
 
-still_told : (o : Option Text) (line : Text) → is_some (option_map (λ (all : Text). all ++ line) o) ≡ is_some o
+pub still_told : (o : Option Text) (line : Text) → is_some (option_map (λ (all : Text). all ++ line) o) ≡ is_some o
 still_told None line = refl
 still_told (Some t) line = refl
 

@@ -1,5 +1,9 @@
-use Rattle.std.proofs.Common.{◌∙◌, [], ap, length, map, subst, sym, arith}
+use Rattle.std.proofs.Common.{◌∙◌, ◌∷◌, List, [], ap, length, map, subst, sym, arith, true, false}
+use Rattle.std.specs.Prelude.{is_none}
 use Rattle.std.specs.Option.{option_map}
+use Rattle.ha_io.specs.declared.place.Opening.{Opening}
+use Rattle.ha_io.specs.Told.{AreAsked, IsAskedSome}
+use Rattle.ha_io.proofs.AskedLemmas.{asked_front, asked_some, asked_then}
 use Rattle.ha_model.specs.Words.{Text}
 use Rattle.ha_status.specs.Causes.{OpenCause}
 use Rattle.ha_status.specs.Files.{HoldsText}
@@ -9,6 +13,7 @@ use Rattle.ha_run.specs.Opened.{AreNew}
 use Rattle.ha_run.specs.Served.{AreOpened}
 use Rattle.ha_top.specs.Answered.{RunOpenCause}
 use Rattle.ha_top.specs.Opening.{IsOpenFault}
+use Rattle.ha_top.proofs.AskedLemmas.{asked_all, asked_early}
 use Rattle.ha_top.proofs.EarlyLemmas.{early_from, lived_open, not_more, source_cause, trace_cause}
 use Rattle.ha_top.proofs.OpenLemmas.{new_count, opens_all, opens_front}
 use Rattle.ha_top.proofs.RunLemmas.{ran_lived}
@@ -79,3 +84,46 @@ returns-clause-lived g c =
     (subst (λ z. AreNew z c.args.words.now.sources (map state c.open_sources-sources.result.sources)) c.read_config_at.ensures.same_files
     (subst (λ z. AreNew (g.P.Place.holds c.read_config_at.new.place) z (map state c.open_sources-sources.result.sources)) c.as_slice.ensures all))
     c.in-Ok-open_trace.ensures.named c.load_store.ensures.keeps c.load_store.ensures.never_falls c.run_booted.ensures
+
+pub returns-in-Err-clause-asked : goal.returns-in-Err-clause-asked
+returns-in-Err-clause-asked g c =
+    let told = g.P.Place.asked in
+    asked_early _ c.unbooted.result.journal (told c.args.place.now) (told c.read_config_at.new.place) c.unbooted.ensures.journal
+    (asked_front (told c.args.place.now) (told c.read_config_at.new.place) ((c.args.words.now.config, Opening.Reading) ∷ []) _
+    (subst (λ (z : Text). IsAskedSome (told c.args.place.now) ((z, Opening.Reading) ∷ []) (told c.read_config_at.new.place)) c.as_str.ensures.value c.in-Err.ensures.asked))
+
+pub returns-in-Some-clause-asked : goal.returns-in-Some-clause-asked
+returns-in-Some-clause-asked g c =
+    let told = g.P.Place.asked in
+    let first = subst (λ (z : Text). AreAsked true (told c.args.place.now) ((z, Opening.Reading) ∷ []) (told c.read_config_at.new.place)) c.as_str.ensures.value c.in-Ok.ensures.asked in
+    let sources = map (λ (name : Text). (name, Opening.Reading)) c.args.words.now.sources in
+    asked_early _ c.unbooted-in-Some.result.journal (told c.args.place.now) (told c.open_sources-sources.new.place) c.unbooted-in-Some.ensures.journal
+    (asked_front (told c.args.place.now) (told c.open_sources-sources.new.place) ((c.args.words.now.config, Opening.Reading) ∷ sources) _
+    (asked_then false (told c.args.place.now) (told c.read_config_at.new.place) (told c.open_sources-sources.new.place) ((c.args.words.now.config, Opening.Reading) ∷ []) sources first
+    (asked_some (is_none c.open_sources-sources.result.fault) (told c.read_config_at.new.place) (told c.open_sources-sources.new.place) sources
+    (subst (λ (z : List Text). AreAsked (is_none c.open_sources-sources.result.fault) (told c.read_config_at.new.place) (map (λ (name : Text). (name, Opening.Reading)) z)
+    (told c.open_sources-sources.new.place)) c.as_slice.ensures c.open_sources-sources.ensures.asked))))
+
+pub returns-in-Err-open_trace-clause-asked : goal.returns-in-Err-open_trace-clause-asked
+returns-in-Err-open_trace-clause-asked g c =
+    let told = g.P.Place.asked in
+    let first = subst (λ (z : Text). AreAsked true (told c.args.place.now) ((z, Opening.Reading) ∷ []) (told c.read_config_at.new.place)) c.as_str.ensures.value c.in-Ok.ensures.asked in
+    let sources = map (λ (name : Text). (name, Opening.Reading)) c.args.words.now.sources in
+    let second = asked_then true (told c.args.place.now) (told c.read_config_at.new.place) (told c.open_sources-sources.new.place) ((c.args.words.now.config, Opening.Reading) ∷ []) sources first
+    (subst (λ (z : List Text). AreAsked true (told c.read_config_at.new.place) (map (λ (name : Text). (name, Opening.Reading)) z) (told c.open_sources-sources.new.place)) c.as_slice.ensures
+    (rw c.in_default.is at c.open_sources-sources.ensures.asked)) in
+    asked_early _ c.unbooted-in-Err-open_trace.result.journal (told c.args.place.now) (told c.open_trace.new.place) c.unbooted-in-Err-open_trace.ensures.journal
+    (asked_then false (told c.args.place.now) (told c.open_sources-sources.new.place) (told c.open_trace.new.place) ((c.args.words.now.config, Opening.Reading) ∷ sources) _ second
+    c.in-Err-open_trace.ensures.asked)
+
+pub returns-clause-asked : goal.returns-clause-asked
+returns-clause-asked g c =
+    let told = g.P.Place.asked in
+    let first = subst (λ (z : Text). AreAsked true (told c.args.place.now) ((z, Opening.Reading) ∷ []) (told c.read_config_at.new.place)) c.as_str.ensures.value c.in-Ok.ensures.asked in
+    let sources = map (λ (name : Text). (name, Opening.Reading)) c.args.words.now.sources in
+    let second = asked_then true (told c.args.place.now) (told c.read_config_at.new.place) (told c.open_sources-sources.new.place) ((c.args.words.now.config, Opening.Reading) ∷ []) sources first
+    (subst (λ (z : List Text). AreAsked true (told c.read_config_at.new.place) (map (λ (name : Text). (name, Opening.Reading)) z) (told c.open_sources-sources.new.place)) c.as_slice.ensures
+    (rw c.in_default.is at c.open_sources-sources.ensures.asked)) in
+    asked_all _ c.run_booted.result.journal (told c.args.place.now) (told c.open_trace.new.place)
+    (asked_then true (told c.args.place.now) (told c.open_sources-sources.new.place) (told c.open_trace.new.place) ((c.args.words.now.config, Opening.Reading) ∷ sources) _ second
+    c.in-Ok-open_trace.ensures.asked)

@@ -1,5 +1,9 @@
-use Rattle.std.proofs.Common.{◌∙◌, ◌++◌, map, subst, sym}
-use Rattle.std.specs.Prelude.{IfSome, is_ok}
+use Rattle.std.proofs.Common.{◌∙◌, ◌∷◌, List, [], ◌++◌, map, subst, sym}
+use Rattle.std.specs.Prelude.{IfSome, is_none, is_ok}
+use Rattle.ha_io.specs.declared.place.Opening.{Opening}
+use Rattle.ha_io.specs.Told.{AreAsked, IsAskedSome}
+use Rattle.ha_io.proofs.AskedLemmas.{asked_front, asked_then}
+use Rattle.ha_model.specs.Words.{Text}
 use Rattle.ha_status.specs.Causes.{OpenCause}
 use Rattle.ha_worker.specs.Courses.{source_of}
 use Rattle.ha_run.specs.Served.{AreOpened}
@@ -35,3 +39,18 @@ returns-clause-cause g t c =
     subst (λ z. IfSome c.open_sources.result.fault (OpenCause z (g.P.Place.faults c.args.place.now) (g.P.Place.faults c.open_sources.new.place) (g.P.Place.last c.open_sources.new.place))) names
     (cause_later c.name-item.result _ (g.P.Place.faults c.args.place.now) (g.P.Place.faults c.open_source.new.place) _ _ c.open_sources.result.fault c.open_source.ensures.never_falls
     c.open_sources.ensures.fault c.open_sources.ensures.cause)
+
+pub returns-in-Err-clause-asked : goal.returns-in-Err-clause-asked
+returns-in-Err-clause-asked g t c =
+    let told = g.P.Place.asked in
+    let names = first_and_later c.args.names.now c.name-item.result c.in-len1-up.len_at_least c.name-item.is in
+    subst (λ (z : List Text). IsAskedSome (told c.args.place.now) (map (λ (name : Text). (name, Opening.Reading)) z) (told c.open_source.new.place)) names
+    (asked_front (told c.args.place.now) (told c.open_source.new.place) ((c.name-item.result, Opening.Reading) ∷ []) _ c.in-Err.ensures.asked)
+
+pub returns-clause-asked : goal.returns-clause-asked
+returns-clause-asked g t c =
+    let told = g.P.Place.asked in
+    let names = first_and_later c.args.names.now c.name-item.result c.in-len1-up.len_at_least c.name-item.is in
+    subst (λ (z : List Text). AreAsked (is_none c.open_sources.result.fault) (told c.args.place.now) (map (λ (name : Text). (name, Opening.Reading)) z) (told c.open_sources.new.place)) names
+    (asked_then (is_none c.open_sources.result.fault) (told c.args.place.now) (told c.open_source.new.place) (told c.open_sources.new.place) ((c.name-item.result, Opening.Reading) ∷ []) _
+    c.in-Ok.ensures.asked c.open_sources.ensures.asked)
