@@ -127,7 +127,7 @@ fn nothing_but_a_comment_follows_a_colon(rt: HostRuntime) -> Result<(), Fail> {
     assert_eq!(rt; refusal(alloc, &rt, b"[a, b]:\t # x\n"), Some((1, 3)));
     assert_eq!(rt; refusal(alloc, &rt, b"[a, b]:\tx\n"), Some((1, 2)));
     let tree = read_tree(alloc, b"a:\t # x\n")?;
-    assert!(rt; matches!(tree.kind, NodeKind::Map(_)));
+    assert!(rt; matches!(&tree.kind, NodeKind::Map(_)));
     Ok(())
 }
 
