@@ -2,9 +2,10 @@
 # on states, on numbers of states, on events or on starts; another one may fire where the entry is one at which such can. The entry is told
 # by `entry_is` (start, ask, event, moment, change or other) and what stands beside it, as why.awk sets it.
 
-# The answer of an automation: fires, may, off or no (one of its triggers looks at this), or apart. `because` has a row for each such trigger.
+# The answer of an automation: fires, may, off or no (one of its triggers looks at this), or apart. `because` has a row for each such trigger,
+# and `movers` names those that fire or may.
 function answer(a, i, best, found, list) {
-    because = ""
+    because = movers = ""
     if (entry_is == "ask") return name[a] in asked ? "fires" : "apart"
     list = triggers[a]
     best = "apart"
@@ -14,6 +15,7 @@ function answer(a, i, best, found, list) {
         found = trigger_answer(part[list, i])
         if (found == "apart") continue
         because = because "        trigger " (i - 1) ", " trigger_words(part[list, i]) ": " reason "\n"
+        if (found != "no") movers = movers (movers == "" ? "" : " or ") "trigger " (i - 1) ", " trigger_words(part[list, i])
         if (rank(found) > rank(best)) best = found
     }
     if (best == "apart" || best == "no") return best
@@ -70,8 +72,11 @@ function says(found, why) {
     return found
 }
 
-function has_hold(t) {
-    return get(t, "for") && (kind[get(t, "for")] == "map" || word[get(t, "for")] !~ /^[0:]*$/)
+function has_hold(t, n, i) {
+    n = get(t, "for")
+    if (!n || kind[n] != "map") return n && word[n] !~ /^[0:]*$/
+    for (i = 1; i <= size[n]; i++) if (word[part[n, i]] !~ /^0*$/) return 1
+    return 0
 }
 
 # A trigger with a `for` does not fire where it moves.

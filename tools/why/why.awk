@@ -248,6 +248,7 @@ function ask_all(a) {
     for (a = 1; a <= automations; a++) {
         if (!matters && !replaces[a]) continue
         found[here, a] = answer(a)
+        moved_by[here, a] = movers
         if (here == wanted) why[a] = because
         if (here == wanted) was_off[a] = on[a] ? 0 : turned_at[a]
         if (replaces[a] && found[here, a] ~ /fires|may/) {

@@ -92,7 +92,7 @@ function may_begin(run, line, a) {
 }
 
 # The automations that the run can be of, and the lines that can have asked for it.
-function read_run(run, a, line) {
+function read_run(run, a, line, by, any) {
     whose = askers = ""
     owners = asker_count = queues = 0
     for (a = 1; a <= automations; a++) {
@@ -102,11 +102,13 @@ function read_run(run, a, line) {
         if (mode[a] == "queued" && may_queue[run]) queues = 1
     }
     for (line = from_line[run]; line < first_step[run]; line++) {
-        for (a = 1; a <= automations && !may_begin(run, line, a); a++) continue
-        if (a > automations) continue
-        asker_count++
-        asker = line
-        askers = askers "    " (asker_count > 1 ? "or " : "") "asked for by line " line ": " sentence[line] "\n"
+        by = ""
+        for (a = any = 0; ++a <= automations;) {
+            if (!may_begin(run, line, a)) continue
+            any = 1
+            if (moved_by[line, a] != "") by = by "        by " (owners > 1 ? "automation." name[a] ", " : "its ") moved_by[line, a] "\n"
+        }
+        if (any) askers = askers "    " (asker_count++ ? "or " : "") "asked for by line " line ": " sentence[line] "\n" by
     }
     if (queues) askers = askers "    " (asker_count ? "or it" : "it") " waited in the queue behind an earlier run, asked for by an earlier line\n"
 }
