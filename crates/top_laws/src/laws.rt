@@ -1,0 +1,20 @@
+//! Laws of the definitions alone. Each is a function that does nothing; its contract is the law.
+ghost use Rattle.std.specs.Prelude.{◌≡◌, ◌⊎◌};
+ghost use Rattle.ha_model.specs.Words.{Text};
+ghost use Rattle.ha_status.specs.declared.status.Status.{Status};
+ghost use Rattle.ha_words.specs.declared.plan.RunWords.{RunWords};
+ghost use Rattle.ha_top.specs.Views.{Before, After};
+ghost use Rattle.ha_top.specs.Answered.{Answered};
+ghost use Rattle.ha_top.specs.Program.{Checked};
+ghost use Rattle.top_laws.specs.Unhindered.{IsUnhinderedRun, IsUnhinderedCheck};
+
+/// Where nothing hinders a command, it ends well, but for want of memory: a run whose configuration
+/// is taken, whose store is none or a store's text, whose place, sinks, keeper and sources did not
+/// fail, whose sources keep within their bound and whose journal is not full; and a check of a file
+/// that is a configuration, where nothing failed.
+pub fn what_nothing_hinders_ends_well()
+    ensures run { (words : RunWords) (b : Before) (a : After) → Answered words b a → IsUnhinderedRun words b a
+        → (a.status ≡ Status.Ok) ⊎ (a.status ≡ Status.Memory) }
+    ensures check { (name : Text) (b : Before) (a : After) → Checked name b a → IsUnhinderedCheck name b a
+        → (a.status ≡ Status.Ok) ⊎ (a.status ≡ Status.Memory) }
+{}

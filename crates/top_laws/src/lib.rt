@@ -1,0 +1,4 @@
+//! Laws on what the program answers for.
+#![tactic(auto)]
+
+pub mod laws;
