@@ -1,0 +1,6 @@
+pub mod CutLemmas
+pub mod FrontLemmas
+pub mod BootLemmas
+pub mod TakeLemmas
+pub mod WriteLemmas
+pub mod ReplayLemmas

@@ -1,0 +1,104 @@
+-- A file's bytes and their judgement, and the status that was told.
+use Rattle.std.proofs.Common.{◌≡◌, ◌∙◌, ap, sym, subst, refl, ℕ, ◌<◌, ◌≤◌, ◌+◌, inl, inr, List, [], ◌∷◌, ◌++◌, length, arith, append_assoc, append-nil, length-append}
+use Rattle.std.specs.Prelude.{◌⊎◌, Option, Some, None, IfSome, IsSomeAnd}
+use Rattle.std.specs.Io.KnownBytes.{IsAtEnd}
+use Rattle.ha_io.specs.Told.{Gives, HasFile, Takes}
+use Rattle.ha_io.proofs.ToldLemmas.{Takes-nothing}
+use Rattle.ha_model.specs.Words.{Text}
+use Rattle.ha_status.specs.declared.status.Status.{Status}
+use Rattle.ha_status.specs.Files.{Files}
+use Rattle.ha_status.specs.Written.{TookLine}
+use Rattle.ha_status.specs.Causes.{IsUnread as IsUnreadSource, ReadCause}
+use Rattle.ha_status.proofs.CauseLemmas.{read_cause, told_status}
+use Rattle.replay_file.specs.declared.front.FrontEnd.{FrontEnd}
+use Rattle.replay_file.specs.Fronts.{IsFrontOf, IsRead, IsReadOf, most_bytes}
+use Rattle.replay_file.specs.Judged.{AreErrorsTaken, IsCutShort, IsStatusOf, IsTaken, Judged}
+use Rattle.replay_file.specs.Replays.{IsReplay, IsUnread, Replayed}
+use Rattle.replay_file.proofs.TakeLemmas.{whole_taken}
+
+-- ---- the bytes
+
+-- what a source gave is what it had, and then what it has
+given : (bytes text : List ℕ) (after : Option (List ℕ)) → Gives (Some bytes) text after → (rest : List ℕ) × (after ≡ Some rest) × (bytes ≡ text ++ rest)
+given bytes text None g = absurd (let bad : ◌≡◌ {A = Option (List ℕ)} (Some bytes) None = g in cc)
+given bytes text (Some rest) g = (rest, refl, (let whole : ◌≡◌ {A = Option (List ℕ)} (Some bytes) (Some (text ++ rest)) = g in cc))
+
+at_its_end : (rest : List ℕ) (after : Option (List ℕ)) → after ≡ Some rest → IsAtEnd after → rest ≡ []
+at_its_end rest after e h = subst IsAtEnd e h
+
+front_of : (bytes text : List ℕ) (end : FrontEnd) (after : Option (List ℕ)) → IsRead most_bytes (Some bytes) text end after → IsFrontOf text end bytes
+front_of bytes text FrontEnd.Whole after r =
+    let g = given bytes text after r.0 in
+    g.2 ∙ ap (λ z. text ++ z) (at_its_end g.0 after g.1 r.1) ∙ append-nil text
+front_of bytes text FrontEnd.Failed after r = let g = given bytes text after r in (g.0, g.2)
+front_of bytes text FrontEnd.TooLong after r =
+    let more = r.1.0 in
+    let g = given bytes (text ++ more) after r.1.2 in
+    let one = r.1.1 in (
+      r.0,
+      (more ++ g.0, omega (arith, one, length-append more g.0), g.2 ∙ append_assoc text more g.0),
+    )
+
+pub read_of : (files : Option Files) (name text : Text) (end : FrontEnd) (before after : Option (List ℕ)) → HasFile files name before → IsRead most_bytes before text end after → IsReadOf files name text end
+read_of None name text end before after has r = tt
+read_of (Some f) name text end before after has r = by (f name) has
+  where
+    by : (file : Option (List ℕ)) → IsSomeAnd file (λ bytes. before ≡ Some bytes) → IsSomeAnd file (IsFrontOf text end)
+    by None h = absurd h
+    by (Some bytes) h = front_of bytes text end after (subst (λ z. IsRead most_bytes z text end after) h r)
+
+-- ---- a file that was not read
+
+pub unread : (files : Option Files) (name : Text) (s : Status) (o e : Option Text) → IsUnread s → IsReplay files name s (λ t. IsTaken s t o o) (λ t. IsTaken s t e e)
+unread files name s o e is = inl (is, whole_taken s [] o o (Takes-nothing o), whole_taken s [] e e (Takes-nothing e))
+
+-- ---- a file that was read
+
+pub read_replay : (files : Option Files) (name text text' : Text) (end : FrontEnd) (before after : Option (List ℕ)) (s : Status) (C E : Text → Type 0) → HasFile files name before → IsRead most_bytes before text end after
+    → length text ≤ most_bytes → text' ≡ text → Judged text' end s C E → IsReplay files name s C E
+read_replay files name text text' end before after s C E has r low same j = inr (record {
+  text = text;
+  end = end;
+  read = read_of files name text end before after has r;
+  within = low;
+  judged = subst (λ z. Judged z end s C E) same j;
+})
+
+-- a failed read is that of the one source
+pub read_causes : (name text : Text) (end : FrontEnd) (s : Status) (C E : Text → Type 0) (faults : List ℕ) (names : List (Option Text)) → Judged text end s C E → (end ≡ FrontEnd.Failed → IsUnreadSource name 0 faults names)
+    → ReadCause name (name ∷ []) faults names s
+read_causes name text end s C E faults names j failed = read_cause name (name ∷ []) faults names s (λ k e. by k (subst (IsStatusOf end j.journal j.records j.ended j.left) e j.status_is))
+  where
+    by : (k : Option ℕ) → IsStatusOf end j.journal j.records j.ended j.left (Status.ReadFault k) → ReadCause name (name ∷ []) faults names (Status.ReadFault k)
+    by None is = absurd is
+    by (Some n) is = subst (λ (z : ℕ). ReadCause name (name ∷ []) faults names (Status.ReadFault (Some z))) (sym is.0) (name, refl, failed is.1)
+
+-- ---- the status that was told
+
+taken_told : (s r : Status) (t : Text) (a b : Option Text) → (r ≡ s) ⊎ (r ≡ Status.Memory) → IsTaken s t a b → IsTaken r t a b
+taken_told s r t a b told w = told_status (λ z. IsTaken z t a b) s r told w (record { rest = w.rest; took = w.took; all = inl tt })
+
+module _ (files : Option Files) (name : Text) (s r : Status) (told : (r ≡ s) ⊎ (r ≡ Status.Memory)) (faulted : Type 0) (o o' e e' e'' : Option Text) (line : TookLine faulted r e' e'') where
+  errors_told : (t : Text) → IsTaken s t e e' → AreErrorsTaken faulted r t e e''
+  errors_told t w = record { between = e'; errors_taken = taken_told s r t e e' told w; line_taken = line }
+
+  pub replay_told : IsReplay files name s (λ t. IsTaken s t o o') (λ t. IsTaken s t e e') → IsReplay files name r (λ t. IsTaken r t o o') (λ t. AreErrorsTaken faulted r t e e'')
+  replay_told (inl none) = inl (told_status IsUnread s r told none.0 tt, taken_told s r [] o o' told none.1, errors_told [] none.2)
+  replay_told (inr h) =
+      let j = h.judged in
+      inr (record {
+        text = h.text;
+        end = h.end;
+        read = h.read;
+        within = h.within;
+        judged = record {
+          journal = j.journal;
+          records = j.records;
+          ended = j.ended;
+          left = j.left;
+          begins = j.begins;
+          status_is = told_status (IsStatusOf h.end j.journal j.records j.ended j.left) s r told j.status_is tt;
+          calls = taken_told s r _ o o' told j.calls;
+          errors = errors_told _ j.errors;
+        };
+      })

@@ -1,0 +1,389 @@
+-- What a line that is taken, or refused, makes of what was found so far.
+use Rattle.std.proofs.Common.{◌≡◌, ◌≢◌, ◌∙◌, ap, sym, subst, refl, ℕ, suc, ◌+◌, ◌<◌, ◌≤◌, inl, inr, List, [], ◌∷◌, ◌++◌, take, drop, length, Bool, true, false, arith, append_assoc, append-nil, length-append}
+use Rattle.std.proofs.lemmas.Bool.Decides.{nat_tests}
+use Rattle.std.specs.Prelude.{◌⊎◌, ◌&&◌, ◌==◌, not, nat_eq, Ok, Err, Option, Some, None}
+use Rattle.std.specs.List.{list_all}
+use Rattle.std.proofs.lemmas.List.{nil_from_length, take-append-drop}
+use Rattle.std.proofs.lemmas.List.Folds.{list_all-append}
+use Rattle.ha_io.specs.Told.{Takes}
+use Rattle.ha_io.specs.Whole.{IsFrontTaken}
+use Rattle.ha_io.proofs.ToldLemmas.{Takes-Takes, Takes-nothing}
+use Rattle.ha_model.specs.declared.journal.Entry.{Entry}
+use Rattle.ha_model.specs.declared.journal.Entry.TheVariants.{Boot, Line, Step}
+use Rattle.ha_model.specs.Words.{Text}
+use Rattle.ha_model.specs.Journal.{HasEntry, Journal, automations}
+use Rattle.ha_model.specs.Records.{Records}
+use Rattle.ha_model.specs.RecordSteps.{more}
+use Rattle.ha_model.specs.Lawful.{Lawful, Right, is_quiet}
+use Rattle.ha_model.specs.Texts.{as_line, call_text, call_text_of, end_line, error_text, error_text_of, texts_after, trace_line, trace_text}
+use Rattle.ha_model.proofs.EqualLemmas.{and_right}
+use Rattle.ha_model.proofs.LawfulLaws.{has-entry}
+use Rattle.ha_model.proofs.RecordGrowth.{automations-more, true-false}
+use Rattle.ha_laws.proofs.CallGrowth.{calls-same}
+use Rattle.ha_laws.proofs.TextLemmas.{calls-more, errors-more, trace-more}
+use Rattle.bus_turn.proofs.NumberLemmas.{numbers-more}
+use Rattle.ha_status.specs.declared.status.Status.{Status}
+use Rattle.ha_replay.specs.declared.fault.TraceFault.{TraceFault}
+use Rattle.ha_replay.specs.Traces.{Answers, IsEnd, IsNoNext, Reached, Stands, Takes as TakesEntry, most_entries, reached}
+use Rattle.replay_file.specs.declared.front.FrontEnd.{FrontEnd}
+use Rattle.replay_file.specs.Lines.{Cuts, is_one_line}
+use Rattle.replay_file.specs.Runs.{Begins, GoesOn, IsFirst, IsRun, MayFollow, line_count}
+use Rattle.replay_file.specs.Boot.{IsBooted, IsUnbooted}
+use Rattle.replay_file.specs.Steps.{IsReady}
+use Rattle.replay_file.specs.Judged.{GoesNoFurther, HasLine, HasNoEnd, IsAt, IsCutShort, IsJudged, IsRefused, IsStatusOf, IsTaken, Judged}
+
+-- ---- lines
+
+and_false : (b : Bool) → (b && false) ≡ false
+and_false true = refl
+and_false false = refl
+
+abbrev no_feed : ℕ → Bool
+no_feed c = not (nat_eq c 10)
+
+pub has_line : (line behind : Text) → is_one_line (line ++ (10 ∷ behind)) ≡ false
+has_line line behind = list_all-append no_feed line (10 ∷ behind) ∙ and_false (list_all no_feed line)
+
+pub is_left : (line behind : Text) → line ++ (10 ∷ behind) ≢ []
+is_left line behind e = true-false (sym (ap is_one_line e) ∙ has_line line behind)
+
+feed_ends : (c : ℕ) (rest : Bool) → c ≡ 10 → (no_feed c && rest) ≡ true → ⊥
+feed_ends c rest e h = true-false (sym h ∙ (λ i. no_feed (e i) && rest))
+
+abbrev head_or : ℕ → Text → ℕ
+head_or d [] = d
+head_or d (c ∷ cs) = c
+
+abbrev tail_of : Text → Text
+tail_of [] = []
+tail_of (c ∷ cs) = cs
+
+one_cut : (line behind line' behind' : Text) → is_one_line line ≡ true → is_one_line line' ≡ true → line ++ (10 ∷ behind) ≡ line' ++ (10 ∷ behind') → line ≡ line'
+one_cut [] behind [] behind' h h' e = refl
+one_cut [] behind (c ∷ line') behind' h h' e = absurd (feed_ends c (is_one_line line') (sym (ap (head_or 0) e)) h')
+one_cut (c ∷ line) behind [] behind' h h' e = absurd (feed_ends c (is_one_line line) (ap (head_or 0) e) h)
+one_cut (c ∷ line) behind (d ∷ line') behind' h h' e =
+    let rest = one_cut line behind line' behind' (and_right (no_feed c) (is_one_line line) h) (and_right (no_feed d) (is_one_line line') h') (ap tail_of e) in
+    (λ i. ap (head_or 0) e i ∷ rest i)
+
+pub same_cut : (line behind line' behind' : Text) → is_one_line line ≡ true → Cuts (line ++ (10 ∷ behind)) line' behind' → line ≡ line'
+same_cut line behind line' behind' one cuts = one_cut line behind line' behind' one cuts.one_line cuts.text_is
+
+pub empty_is : (text : Text) (r : Bool) → r ≡ (length text == 0) → r ≡ true → text ≡ []
+empty_is text r is yes_it_is = nil_from_length text (let none : (length text == 0) ≡ true = sym is ∙ yes_it_is in grind (arith, nat_tests))
+
+-- a text without an LF has no whole line
+pub no_cut : (left line behind : Text) → is_one_line left ≡ true → Cuts left line behind → ⊥
+no_cut left line behind one cuts = true-false (sym one ∙ ap is_one_line cuts.text_is ∙ has_line line behind)
+
+-- ---- runs
+
+pub lawful_of : (j : Journal) (rs : Records) → HasEntry j → IsRun j rs → Lawful j rs
+lawful_of [] rs h run = absurd h
+lawful_of (first ∷ behind) rs h run = run.1
+
+has_more : (j : Journal) (x : Entry) → HasEntry (more j x)
+has_more [] x = tt
+has_more (first ∷ behind) x = tt
+
+run_more : (j k : Journal) (rs rs' : Records) (x : Entry) → HasEntry j → k ≡ more j x → IsRun j rs → Lawful k rs' → IsRun k rs'
+run_more [] k rs rs' x h e run lawful = absurd h
+run_more (first ∷ behind) k rs rs' x h e run lawful = subst (λ l. IsRun l rs') (sym e) (run.0, subst (λ l. Lawful l rs') e lawful)
+
+-- a line that may follow is the next lawful entry's, or the end
+pub follows : (j : Journal) (rs : Records) (line : Text) → HasEntry j → (IsEnd j rs line → ⊥) → IsNoNext j line → MayFollow j rs line → ⊥
+follows j rs line h no_end no_next (inl end) = no_end end.1
+follows j rs line h no_end no_next (inr next) =
+    no_next next.0 next.1 (record {
+      lawful = lawful_of (more j next.0) next.1 (has_more j next.0) next.2.run;
+      line_is = next.2.line_is ∙ (λ i. trace_line (sym (automations-more j next.0 h) i) next.0);
+    })
+
+-- ---- what is written
+
+pub whole_taken : (s : Status) (t : Text) (a b : Option Text) → Takes a t b → IsTaken s t a b
+whole_taken s t a b took = record { rest = []; took = record { front = t; text_is = sym (append-nil t); took = took }; all = inr refl }
+
+pub front_taken : (s : Status) (t u : Text) (a b c : Option Text) → IsCutShort s → Takes a t b → IsFrontTaken b u c → IsTaken s (t ++ u) a c
+front_taken s t u a b c cut took front = record {
+  rest = drop front.0 u;
+  took = record {
+    front = t ++ take front.0 u;
+    text_is = ap (λ z. t ++ z) (sym (take-append-drop front.0 u)) ∙ sym (append_assoc t (take front.0 u) (drop front.0 u));
+    took = Takes-Takes a b c t (take front.0 u) took front.1.1;
+  };
+  all = inl cut;
+}
+
+-- the text as it stands, for a status
+module _ (text : Text) (end : FrontEnd) (j : Journal) (rs : Records) (ended : Bool) (left : Text) (o o' e e' : Option Text) (at : IsAt text j rs ended left o o' e e') where
+  pub judged_here : (s : Status) → IsStatusOf end j rs ended left s → Judged text end s (λ t. IsTaken s t o o') (λ t. IsTaken s t e e')
+  judged_here s is = record {
+    journal = j;
+    records = rs;
+    ended = ended;
+    left = left;
+    begins = at.begins;
+    status_is = is;
+    calls = whole_taken s (call_text j rs) o o' at.calls_taken;
+    errors = whole_taken s (error_text j) e e' at.errors_taken;
+  }
+
+  -- ---- no whole line is left
+
+  pub read_failed : end ≡ FrontEnd.Failed → is_one_line left ≡ true → Judged text end (Status.ReadFault (Some 0)) (λ t. IsTaken (Status.ReadFault (Some 0)) t o o') (λ t. IsTaken (Status.ReadFault (Some 0)) t e e')
+  read_failed is one = judged_here (Status.ReadFault (Some 0)) (refl, is, one)
+
+  pub too_long : end ≡ FrontEnd.TooLong → is_one_line left ≡ true → Judged text end (Status.SourceTooLong 0) (λ t. IsTaken (Status.SourceTooLong 0) t o o') (λ t. IsTaken (Status.SourceTooLong 0) t e e')
+  too_long is one = judged_here (Status.SourceTooLong 0) (refl, is, one)
+
+  pub finished : end ≡ FrontEnd.Whole → ended ≡ true → left ≡ [] → Judged text end Status.Ok (λ t. IsTaken Status.Ok t o o') (λ t. IsTaken Status.Ok t e e')
+  finished is closed none = judged_here Status.Ok (is, closed, none)
+
+  pub full_at_end : end ≡ FrontEnd.Whole → ended ≡ false → length j ≡ most_entries → is_one_line left ≡ true
+      → Judged text end Status.JournalFull (λ t. IsTaken Status.JournalFull t o o') (λ t. IsTaken Status.JournalFull t e e')
+  full_at_end is unended full one = judged_here Status.JournalFull (unended, full, (λ line behind cuts. absurd (no_cut left line behind one cuts)), inr is)
+
+  pub refused_at_end : (lines : ℕ) → end ≡ FrontEnd.Whole → (ended ≡ true → left ≢ []) → (ended ≡ false → length j ≢ most_entries) → is_one_line left ≡ true → lines ≡ line_count j ended
+      → (s : Status) → s ≡ Status.TraceRefused (lines + 1) → Judged text end s (λ t. IsTaken s t o o') (λ t. IsTaken s t e e')
+  refused_at_end lines is unfinished room one counted s same = judged_here s (subst (IsStatusOf end j rs ended left) (sym same) (record {
+    line_is = omega (arith, counted);
+    judged = inr is;
+    unfinished = unfinished;
+    room = room;
+    no_further = λ line behind cuts. absurd (no_cut left line behind one cuts);
+  }))
+
+-- ---- a line that is not taken
+
+module _ (text line behind : Text) (end : FrontEnd) (j : Journal) (rs : Records) (lines : ℕ) (o o' e e' : Option Text) (one : is_one_line line ≡ true) where
+  abbrev left : Text
+  left = line ++ (10 ∷ behind)
+
+  pub line_refused : IsAt text j rs false left o o' e e' → lines ≡ line_count j false → length j ≢ most_entries → (MayFollow j rs line → ⊥)
+      → (s : Status) → s ≡ Status.TraceRefused (lines + 1) → Judged text end s (λ t. IsTaken s t o o') (λ t. IsTaken s t e e')
+  line_refused at counted room never s same = judged_here text end j rs false left o o' e e' at s (subst (IsStatusOf end j rs false left) (sym same) (record {
+    line_is = omega (arith, counted);
+    judged = inl (has_line line behind);
+    unfinished = λ bad. absurd (true-false (sym bad));
+    room = λ _. room;
+    no_further = λ line' behind' cuts. inr (λ m. never (subst (MayFollow j rs) (sym (same_cut line behind line' behind' one cuts)) m));
+  }))
+
+  pub behind_end : IsAt text j rs true left o o' e e' → lines ≡ line_count j true
+      → (s : Status) → s ≡ Status.TraceRefused (lines + 1) → Judged text end s (λ t. IsTaken s t o o') (λ t. IsTaken s t e e')
+  behind_end at counted s same = judged_here text end j rs true left o o' e e' at s (subst (IsStatusOf end j rs true left) (sym same) (record {
+    line_is = omega (arith, counted);
+    judged = inl (has_line line behind);
+    unfinished = λ _. is_left line behind;
+    room = λ bad. absurd (true-false bad);
+    no_further = λ line' behind' cuts. inl refl;
+  }))
+
+  pub journal_full : IsAt text j rs false left o o' e e' → length j ≡ most_entries → (IsEnd j rs line → ⊥)
+      → (s : Status) → s ≡ Status.JournalFull → Judged text end s (λ t. IsTaken s t o o') (λ t. IsTaken s t e e')
+  journal_full at full no_end s same = judged_here text end j rs false left o o' e e' at s (subst (IsStatusOf end j rs false left) (sym same) (
+    refl,
+    full,
+    (λ line' behind' cuts is. no_end (subst (IsEnd j rs) (sym (same_cut line behind line' behind' one cuts)) is)),
+    inl (has_line line behind),
+  ))
+
+-- nothing was taken yet
+pub nothing_at : (text : Text) (o e : Option Text) → IsAt text [] [] false text o o e e
+nothing_at text o e = record {
+  begins = record { run = refl; room = omega arith; ends = λ bad. absurd (true-false (sym bad)); text_is = refl };
+  calls_taken = Takes-nothing o;
+  errors_taken = Takes-nothing e;
+}
+
+-- a command that was cut short may end so at any line
+pub cut_status : (end : FrontEnd) (j : Journal) (rs : Records) (ended : Bool) (rest : Text) (s : Status) → IsCutShort s → IsStatusOf end j rs ended rest s
+cut_status end j rs ended rest (Status.WriteFault zero) cut = tt
+cut_status end j rs ended rest Status.Memory cut = tt
+cut_status end j rs ended rest Status.Ok cut = absurd cut
+cut_status end j rs ended rest Status.Usage cut = absurd cut
+cut_status end j rs ended rest (Status.ConfigRefused line code) cut = absurd cut
+cut_status end j rs ended rest (Status.OpenFault name) cut = absurd cut
+cut_status end j rs ended rest (Status.ReadFault source) cut = absurd cut
+cut_status end j rs ended rest Status.KeepFault cut = absurd cut
+cut_status end j rs ended rest Status.JournalFull cut = absurd cut
+cut_status end j rs ended rest (Status.SourceTooLong source) cut = absurd cut
+cut_status end j rs ended rest (Status.StoreRefused code) cut = absurd cut
+cut_status end j rs ended rest (Status.TraceRefused line) cut = absurd cut
+
+-- ---- a line that is taken
+
+-- a line that was left stands behind the trace
+behind_trace : (text trace line behind shown : Text) → text ≡ trace ++ (line ++ (10 ∷ behind)) → as_line line ≡ shown → text ≡ (trace ++ shown) ++ behind
+behind_trace text trace line behind shown is e =
+    is ∙ ap (λ z. trace ++ z) (sym (append_assoc line (10 ∷ []) behind)) ∙ sym (append_assoc trace (as_line line) behind) ∙ (λ i. (trace ++ e i) ++ behind)
+
+-- the end line
+pub end_taken : (text line behind : Text) (j : Journal) (rs : Records) (o o' e e' : Option Text) → HasEntry j → IsEnd j rs line
+    → IsAt text j rs false (line ++ (10 ∷ behind)) o o' e e' → IsAt text j rs true behind o o' e e'
+end_taken text line behind j rs o o' e e' has end at = record {
+  begins = record {
+    run = at.begins.run;
+    room = at.begins.room;
+    ends = λ _. (has, end.quiet);
+    text_is = behind_trace text (trace_text j false) line behind (end_line (length j)) at.begins.text_is end.line_is
+        ∙ (λ i. (append-nil (texts_after (λ before x. trace_line (automations j) x) [] j) i ++ end_line (length j)) ++ behind);
+  };
+  calls_taken = at.calls_taken;
+  errors_taken = at.errors_taken;
+}
+
+-- an entry
+module _ (text line behind : Text) (r r' : Reached) (t : TakesEntry line r r') (stands : Stands r) where
+  has : HasEntry r.journal
+  has = has-entry r.journal stands.lawful.right.journal
+
+  right_now : Right (more r.journal t.entry) r'.records
+  right_now = subst (λ l. Right l r'.records) t.journal t.stands.lawful.right
+
+  pub calls_now : call_text r'.journal r'.records ≡ call_text r.journal r.records ++ call_text_of r'.records r.journal t.entry
+  calls_now =
+      ap (λ l. call_text l r'.records) t.journal ∙ calls-more r.journal t.entry r'.records
+      ∙ ap (λ z. z ++ call_text_of r'.records r.journal t.entry) (sym (calls-same r.journal r.records r'.records stands.lawful.right (numbers-more r.journal t.entry r.records r'.records stands.lawful.right right_now)))
+
+  pub errors_now : error_text r'.journal ≡ error_text r.journal ++ error_text_of t.entry
+  errors_now = ap error_text t.journal ∙ errors-more r.journal t.entry
+
+  pub begins_now : Begins text r.journal r.records false (line ++ (10 ∷ behind)) → Begins text r'.journal r'.records false behind
+  begins_now b = record {
+    run = run_more r.journal r'.journal r.records r'.records t.entry has t.journal b.run t.stands.lawful;
+    room = (let long = ap length t.journal ∙ length-append r.journal (t.entry ∷ []) in let room = t.room in let low = b.room in omega (arith, long, room, low));
+    ends = λ bad. absurd (true-false (sym bad));
+    text_is = behind_trace text (trace_text r.journal false) line behind (trace_line (automations r.journal) t.entry) b.text_is t.line_is
+        ∙ (λ i. sym (trace-more r.journal t.entry has) i ++ behind) ∙ (λ i. trace_text (sym t.journal i) false ++ behind);
+  }
+
+  module _ (o o' o'' e e' e'' : Option Text) (at : IsAt text r.journal r.records false (line ++ (10 ∷ behind)) o o' e e') where
+    pub entry_taken : Takes o' (call_text_of r'.records r.journal t.entry) o'' → Takes e' (error_text_of t.entry) e'' → IsAt text r'.journal r'.records false behind o o'' e e''
+    entry_taken calls errors = record {
+      begins = begins_now at.begins;
+      calls_taken = subst (λ z. Takes o z o'') (sym calls_now) (Takes-Takes o o' o'' _ _ at.calls_taken calls);
+      errors_taken = subst (λ z. Takes e z e'') (sym errors_now) (Takes-Takes e e' e'' _ _ at.errors_taken errors);
+    }
+
+    pub entry_cut : (end : FrontEnd) (s : Status) → IsCutShort s → IsFrontTaken o' (call_text_of r'.records r.journal t.entry) o'' → IsFrontTaken e' (error_text_of t.entry) e''
+        → Judged text end s (λ z. IsTaken s z o o'') (λ z. IsTaken s z e e'')
+    entry_cut end s cut calls errors = record {
+      journal = r'.journal;
+      records = r'.records;
+      ended = false;
+      left = behind;
+      begins = begins_now at.begins;
+      status_is = cut_status end r'.journal r'.records false behind s cut;
+      calls = subst (λ z. IsTaken s z o o'') (sym calls_now) (front_taken s _ _ o o' o'' cut at.calls_taken calls);
+      errors = subst (λ z. IsTaken s z e e'') (sym errors_now) (front_taken s _ _ e e' e'' cut at.errors_taken errors);
+    }
+
+-- ---- further lines
+
+pub at_same : (text : Text) (r r' : Reached) (b b' : Bool) (left : Text) (o o' e e' : Option Text) → r' ≡ r → b' ≡ b → IsAt text r.journal r.records b left o o' e e' → IsAt text r'.journal r'.records b' left o o' e e'
+at_same text r r' b b' left o o' e e' same closed at =
+    subst (λ (z : Bool). IsAt text r'.journal r'.records z left o o' e e') (sym closed) (subst (λ (z : Reached). IsAt text z.journal z.records b left o o' e e') (sym same) at)
+
+pub ready_ended : (r r' : Reached) (spent spent' : Bool) (lines : ℕ) → r' ≡ r → spent' ≡ false → IsReady r spent false lines → IsReady r' spent' true (lines + 1)
+ready_ended r r' spent spent' lines same usable h = record {
+  usable = usable;
+  stands = subst Stands (sym same) h.stands;
+  counted = (let n = ap (λ (z : Reached). length z.journal) same in let m = h.counted in omega (arith, n, m));
+  room = (let n = ap (λ (z : Reached). length z.journal) same in let m = h.room in omega (arith, n, m));
+}
+
+pub ready_more : (line : Text) (r r' : Reached) (spent spent' : Bool) (lines : ℕ) → TakesEntry line r r' → spent' ≡ false → IsReady r spent false lines → IsReady r' spent' false (lines + 1)
+ready_more line r r' spent spent' lines t usable h = record {
+  usable = usable;
+  stands = t.stands;
+  counted = (let n = ap length t.journal ∙ length-append r.journal (t.entry ∷ []) in let m = h.counted in omega (arith, n, m));
+  room = (let n = ap length t.journal ∙ length-append r.journal (t.entry ∷ []) in let m = h.room in let k = t.room in omega (arith, n, m, k));
+}
+
+-- what the core says of a line that it took
+pub end_of : (line : Text) (r r' : Reached) (b : Bool) → b ≡ true → Answers line r r' (Ok b) → IsEnd r.journal r.records line × (r' ≡ r)
+end_of line r r' b is h = subst (λ (z : Bool). Answers line r r' (Ok z)) is h
+
+pub entry_of : (line : Text) (r r' : Reached) (b : Bool) → b ≡ false → Answers line r r' (Ok b) → TakesEntry line r r'
+entry_of line r r' b is h = subst (λ (z : Bool). Answers line r r' (Ok z)) is h
+
+-- a line that the core did not take
+module _ (text line behind : Text) (end : FrontEnd) (r r' : Reached) (lines : ℕ) (o o' e e' : Option Text) where
+  pub not_taken : is_one_line line ≡ true → IsAt text r.journal r.records false (line ++ (10 ∷ behind)) o o' e e' → Stands r → lines ≡ line_count r.journal false
+      → (fault : TraceFault) → Answers line r r' (Err fault)
+      → (s : Status) → (fault ≡ TraceFault.Refused → s ≡ Status.TraceRefused (lines + 1)) → (fault ≡ TraceFault.Full → s ≡ Status.JournalFull) → (fault ≡ TraceFault.Memory → s ≡ Status.Memory)
+      → Judged text end s (λ t. IsTaken s t o o') (λ t. IsTaken s t e e')
+  not_taken one at stands counted TraceFault.Refused never s refused full memory =
+      line_refused text line behind end r.journal r.records lines o o' e e' one at counted never.0
+      (follows r.journal r.records line (has-entry r.journal stands.lawful.right.journal) never.1 never.2) s (refused refl)
+  not_taken one at stands counted TraceFault.Full never s refused full memory =
+      journal_full text line behind end r.journal r.records lines o o' e e' one at never.0 never.1 s (full refl)
+  not_taken one at stands counted TraceFault.Memory never s refused full memory =
+      judged_here text end r.journal r.records false (line ++ (10 ∷ behind)) o o' e e' at s (cut_status end r.journal r.records false (line ++ (10 ∷ behind)) s (subst IsCutShort (sym (memory refl)) tt))
+
+-- ---- the first line
+
+-- the journal of a first entry alone is lawful, and has no closing step
+first_stands : (first : Entry) (rs : Records) → IsFirst first → Right (first ∷ []) rs → Stands (reached (first ∷ []) rs false)
+first_stands (Boot text config stored start zone) rs is right = record { lawful = record { right = right; turns = (tt, tt); closed = (tt, tt) }; closing = (tt, tt) }
+first_stands (Line source number cmd) rs is right = absurd is
+first_stands (Step worker serial branch item) rs is right = absurd is
+
+pub booted_ready : (line : Text) (j : Journal) (rs : Records) (spent : Bool) → IsBooted line j rs → spent ≡ false → IsReady (reached j rs false) spent false 1
+booted_ready line j rs spent b usable = record {
+  usable = usable;
+  stands = subst (λ l. Stands (reached l rs false)) (sym b.journal) (first_stands b.first rs b.is_first (subst (λ l. Right l rs) b.journal b.right));
+  counted = (let n = ap length b.journal in omega (arith, n));
+  room = (let n = ap length b.journal in omega (arith, n));
+}
+
+no_calls : (first : Entry) (rs : Records) → IsFirst first → call_text (first ∷ []) rs ≡ []
+no_calls (Boot text config stored start zone) rs is = refl
+no_calls (Line source number cmd) rs is = absurd is
+no_calls (Step worker serial branch item) rs is = absurd is
+
+no_errors : (first : Entry) → IsFirst first → error_text (first ∷ []) ≡ []
+no_errors (Boot text config stored start zone) is = refl
+no_errors (Line source number cmd) is = absurd is
+no_errors (Step worker serial branch item) is = absurd is
+
+pub booted_at : (text line behind : Text) (j : Journal) (rs : Records) (o e : Option Text) → IsBooted line j rs → Cuts text line behind → IsAt text j rs false behind o o e e
+booted_at text line behind j rs o e b cuts =
+    let first = b.first in
+    let right : Right (first ∷ []) rs = subst (λ l. Right l rs) b.journal b.right in
+    subst (λ l. IsAt text l rs false behind o o e e) (sym b.journal) (record {
+      begins = record {
+        run = (b.is_first, (first_stands first rs b.is_first right).lawful);
+        room = omega arith;
+        ends = λ bad. absurd (true-false (sym bad));
+        text_is = behind_trace text [] line behind (trace_line (automations j) first) cuts.text_is b.line_is
+            ∙ (λ i. trace_line (automations (b.journal i)) first ++ behind)
+            ∙ ap (λ z. z ++ behind) (sym (append-nil (trace_line (automations (first ∷ [])) first)) ∙ sym (append-nil (trace_line (automations (first ∷ [])) first ++ [])));
+      };
+      calls_taken = subst (λ t. Takes o t o) (sym (no_calls first rs b.is_first)) (Takes-nothing o);
+      errors_taken = subst (λ t. Takes e t e) (sym (no_errors first b.is_first)) (Takes-nothing e);
+    })
+
+-- ---- several lines
+
+pub no_longer : (left line behind : Text) → Cuts left line behind → length behind < length left
+no_longer left line behind cuts = (let n = ap length cuts.text_is in omega (arith, n, length-append line (10 ∷ behind)))
+
+pub line_within : (left line behind : Text) (most : ℕ) → Cuts left line behind → length left ≤ most → length line ≤ most
+line_within left line behind most cuts low = (let n = ap length cuts.text_is in omega (arith, n, low, length-append line (10 ∷ behind)))
+
+-- the first line was refused
+pub unbooted_judged : (text line behind : Text) (end : FrontEnd) (o e : Option Text) → Cuts text line behind → (fault : TraceFault) → IsUnbooted line fault
+    → (s : Status) → (fault ≡ TraceFault.Refused → s ≡ Status.TraceRefused (0 + 1)) → (fault ≡ TraceFault.Memory → s ≡ Status.Memory) → Judged text end s (λ t. IsTaken s t o o) (λ t. IsTaken s t e e)
+unbooted_judged text line behind end o e cuts TraceFault.Refused never s refused memory =
+    let all : Text = line ++ (10 ∷ behind) in
+    subst (λ (z : Text). Judged z end s (λ t. IsTaken s t o o) (λ t. IsTaken s t e e)) (sym cuts.text_is)
+    (line_refused all line behind end [] [] 0 o o e e cuts.one_line (nothing_at all o e) refl (λ full. omega (arith, full)) never s (refused refl))
+unbooted_judged text line behind end o e cuts TraceFault.Full never s refused memory = absurd never
+unbooted_judged text line behind end o e cuts TraceFault.Memory never s refused memory =
+    judged_here text end [] [] false text o o e e (nothing_at text o e) s (cut_status end [] [] false text s (subst IsCutShort (sym (memory refl)) tt))
+
+pub left_as : (text left left' : Text) (j : Journal) (rs : Records) (ended : Bool) (o o' e e' : Option Text) → left ≡ left' → IsAt text j rs ended left o o' e e' → IsAt text j rs ended left' o o' e e'
+left_as text left left' j rs ended o o' e e' same at = subst (λ z. IsAt text j rs ended z o o' e e') same at

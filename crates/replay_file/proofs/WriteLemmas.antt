@@ -1,0 +1,109 @@
+-- What is written of the last entry.
+use Rattle.std.proofs.Common.{◌≡◌, ◌∙◌, ap, sym, subst, refl, ℕ, ◌-◌, ◌≤◌, inl, inr, length, take, Bool, true, false, arith}
+use Rattle.std.proofs.Math.Seq.{take-length}
+use Rattle.std.specs.Prelude.{◌⊎◌, Option, Some, None, slice_get}
+use Rattle.ha_io.specs.Told.{Takes}
+use Rattle.ha_io.proofs.ToldLemmas.{Takes-nothing}
+use Rattle.ha_model.specs.declared.journal.Entry.{Entry}
+use Rattle.ha_model.specs.Words.{Text}
+use Rattle.ha_model.specs.Journal.{Journal}
+use Rattle.ha_model.specs.RecordSteps.{more}
+use Rattle.ha_model.specs.Records.{Records}
+use Rattle.ha_model.specs.Texts.{call_text_of, error_text_of}
+use Rattle.ha_model.proofs.LawfulLaws.{none-some, some-same}
+use Rattle.bus_turn.specs.declared.fault.BusFault.{BusFault}
+use Rattle.bus_turn.specs.States.{SinkState}
+use Rattle.bus_turn.specs.Writes.{SinkCause, Took, TookFront, Writes}
+use Rattle.bus_turn.proofs.LastLemmas.{last-is}
+use Rattle.ha_status.specs.declared.status.Status.{Status}
+use Rattle.ha_status.specs.Causes.{NeverFall, OneRose, WriteCause}
+use Rattle.ha_io.proofs.CountLemmas.{Rose-within}
+use Rattle.ha_status.proofs.CauseLemmas.{wider_write, write_cause}
+use Rattle.replay_file.specs.Steps.{IfWrite, WritesBoth}
+
+-- ---- one sink
+
+nothing_taken : (text : Text) (s : SinkState) → TookFront text s s
+nothing_taken text s = record { front = (0, (omega arith, Takes-nothing s.took)); faults_stay = omega arith; zeros_stay = omega arith; same_name = refl }
+
+all_taken : (text : Text) (s s' : SinkState) → Took text s s' → TookFront text s s'
+all_taken text s s' t = record {
+  front = (length text, (omega arith, subst (λ z. Takes s.took z s'.took) (sym (take-length text)) t.took));
+  faults_stay = t.faults_stay;
+  zeros_stay = t.zeros_stay;
+  same_name = t.same_name;
+}
+
+-- ---- the last entry
+
+last_entry : (k seen before : Journal) (x entry : Entry) → k ≡ more before x → seen ≡ k → Some entry ≡ slice_get seen (length seen - 1) → entry ≡ x
+last_entry k seen before x entry is same last =
+    some-same entry x (last ∙ (λ i. slice_get ((same ∙ is) i) (length ((same ∙ is) i) - 1)) ∙ last-is before x)
+
+-- a journal with an entry has a last one
+pub has_last : (k seen before : Journal) (x : Entry) → k ≡ more before x → seen ≡ k → None ≡ slice_get seen (length seen - 1) → ⊥
+has_last k seen before x is same last =
+    none-some x (last ∙ (λ i. slice_get ((same ∙ is) i) (length ((same ∙ is) i) - 1)) ∙ last-is before x)
+
+-- ---- both texts
+
+module _ (k seen before : Journal) (x entry : Entry) (rs : Records) (is : k ≡ more before x) (same : seen ≡ k) (last : Some entry ≡ slice_get seen (length seen - 1)) where
+  abbrev one : entry ≡ x
+  one = last_entry k seen before x entry is same last
+
+  call_of : (o o' : SinkState) (f : Option BusFault) → ((b : Journal) → k ≡ more b entry → Writes (call_text_of rs b entry) o f o') → Writes (call_text_of rs before x) o f o'
+  call_of o o' f w = subst (λ y. Writes (call_text_of rs before y) o f o') one (w before (is ∙ ap (more before) (sym one)))
+
+  -- the call was not written
+  pub call_unwritten : (o o' e : SinkState) (fault : BusFault) → ((b : Journal) → k ≡ more b entry → Writes (call_text_of rs b entry) o (Some fault) o')
+      → WritesBoth (call_text_of rs before x) (error_text_of x) o e (Some fault) o' e
+  call_unwritten o o' e fault w = let c = call_of o o' (Some fault) w in (c.0, nothing_taken (error_text_of x) e, inl c.1)
+
+  -- the call was written, and the error perhaps
+  pub call_written : (o o' e e' : SinkState) (f : Option BusFault) → ((b : Journal) → k ≡ more b entry → Writes (call_text_of rs b entry) o None o') → Writes (error_text_of entry) e f e'
+      → WritesBoth (call_text_of rs before x) (error_text_of x) o e f o' e'
+  call_written o o' e e' f w v = by f (call_of o o' None w) (subst (λ y. Writes (error_text_of y) e f e') one v)
+    where
+      by : (f : Option BusFault) → Took (call_text_of rs before x) o o' → Writes (error_text_of x) e f e' → WritesBoth (call_text_of rs before x) (error_text_of x) o e f o' e'
+      by None c d = (c, d)
+      by (Some fault) c d = (all_taken (call_text_of rs before x) o o' c, d.0, inr d.1)
+
+-- ---- counts and causes
+
+pub both_counts : (calls errors : Text) (o o' e e' : SinkState) (f : Option BusFault) → WritesBoth calls errors o e f o' e'
+    → NeverFall o.faults o'.faults o.zeros o'.zeros × NeverFall e.faults e'.faults e.zeros e'.zeros
+both_counts calls errors o o' e e' None w =
+    (record { faults_stay = w.0.faults_stay; zeros_stay = w.0.zeros_stay }, record { faults_stay = w.1.faults_stay; zeros_stay = w.1.zeros_stay })
+both_counts calls errors o o' e e' (Some fault) w =
+    (record { faults_stay = w.0.faults_stay; zeros_stay = w.0.zeros_stay }, record { faults_stay = w.1.faults_stay; zeros_stay = w.1.zeros_stay })
+
+pub write_causes : (s : Status) (fault : BusFault) (o o' e e' : SinkState) → IfWrite s fault → SinkCause fault o o' ⊎ SinkCause fault e e'
+    → WriteCause (OneRose o.faults o'.faults e.faults e'.faults) (OneRose o.zeros o'.zeros e.zeros e'.zeros) s
+write_causes s fault o o' e e' is cause = write_cause _ _ s (λ z eq. by z (subst (λ (x : Status). IfWrite x fault) eq is))
+  where
+    by : (z : Bool) → fault ≡ BusFault.Write z → WriteCause (OneRose o.faults o'.faults e.faults e'.faults) (OneRose o.zeros o'.zeros e.zeros e'.zeros) (Status.WriteFault z)
+    by true same = subst (λ f. SinkCause f o o' ⊎ SinkCause f e e') same cause
+    by false same = subst (λ f. SinkCause f o o' ⊎ SinkCause f e e') same cause
+
+-- ---- longer times
+
+pub rose_within : (f f' f'' g g' g'' : ℕ) → f ≤ f' → g ≤ g' → OneRose f' f'' g' g'' → OneRose f f'' g g''
+rose_within f f' f'' g g' g'' low less (inl rose) = inl (Rose-within f f' f'' f'' low rose (omega arith))
+rose_within f f' f'' g g' g'' low less (inr rose) = inr (Rose-within g g' g'' g'' less rose (omega arith))
+
+-- a cause in a later time is one in the whole
+pub cause_later : (s : Status) (f f' f'' g g' g'' z z' z'' y y' y'' : ℕ) → NeverFall f f' z z' → NeverFall g g' y y' → WriteCause (OneRose f' f'' g' g'') (OneRose z' z'' y' y'') s
+    → WriteCause (OneRose f f'' g g'') (OneRose z z'' y y'') s
+cause_later s f f' f'' g g' g'' z z' z'' y y' y'' a b = wider_write _ _ _ _ s (rose_within f f' f'' g g' g'' a.faults_stay b.faults_stay) (rose_within z z' z'' y y' y'' a.zeros_stay b.zeros_stay)
+
+rose_longer : (f f' g g' g'' : ℕ) → g' ≤ g'' → OneRose f f' g g' → OneRose f f' g g''
+rose_longer f f' g g' g'' high (inl rose) = inl rose
+rose_longer f f' g g' g'' high (inr rose) = inr (Rose-within g g g' g'' (omega arith) rose high)
+
+-- and one before the status line is written, too
+pub cause_before : (s : Status) (f f' g g' g'' z z' y y' y'' : ℕ) → NeverFall g' g'' y' y'' → WriteCause (OneRose f f' g g') (OneRose z z' y y') s → WriteCause (OneRose f f' g g'') (OneRose z z' y y'') s
+cause_before s f f' g g' g'' z z' y y' y'' b = wider_write _ _ _ _ s (rose_longer f f' g g' g'' b.faults_stay) (rose_longer z z' y y' y'' b.zeros_stay)
+
+-- no cause is any cause
+pub cause_none : (s : Status) (A B : Type 0) → WriteCause ⊥ ⊥ s → WriteCause A B s
+cause_none s A B w = wider_write ⊥ ⊥ A B s (λ never. absurd never) (λ never. absurd never) w

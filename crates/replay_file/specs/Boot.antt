@@ -1,0 +1,24 @@
+-- What the first line of a trace boots.
+use Rattle.std.specs.Prelude.{◌≡◌, [], ◌∷◌}
+use Rattle.ha_model.specs.declared.journal.Entry.{Entry}
+use Rattle.ha_model.specs.Words.{Text}
+use Rattle.ha_model.specs.Journal.{Journal, automations}
+use Rattle.ha_model.specs.Records.{Records}
+use Rattle.ha_model.specs.Lawful.{Right}
+use Rattle.ha_model.specs.Texts.{as_line, trace_line}
+use Rattle.ha_replay.specs.declared.fault.TraceFault.{TraceFault}
+use Rattle.replay_file.specs.Runs.{IsFirst, MayFollow}
+
+-- the journal is a first entry alone, whose line this is
+pub record IsBooted (line : Text) (j : Journal) (rs : Records) : Type 0 where
+  pub first : Entry
+  pub journal : j ≡ first ∷ []
+  pub is_first : IsFirst first
+  pub line_is : as_line line ≡ trace_line (automations j) first
+  pub right : Right j rs
+
+-- the line may not stand first, unless memory ran out
+abbrev pub IsUnbooted : Text → TraceFault → Type 0
+IsUnbooted line TraceFault.Refused = MayFollow [] [] line → ⊥
+IsUnbooted line TraceFault.Full = ⊥
+IsUnbooted line TraceFault.Memory = Unit {0}

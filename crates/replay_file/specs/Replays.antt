@@ -1,0 +1,26 @@
+-- What `replay` of a file comes to.
+use Rattle.std.specs.Prelude.{◌≤◌, ◌⊎◌, [], Option, length}
+use Rattle.ha_model.specs.Words.{Text}
+use Rattle.ha_status.specs.declared.status.Status.{Status}
+use Rattle.ha_status.specs.Files.{Files}
+use Rattle.replay_file.specs.declared.front.FrontEnd.{FrontEnd}
+use Rattle.replay_file.specs.Fronts.{IsReadOf, most_bytes}
+use Rattle.replay_file.specs.Judged.{Judged}
+
+-- the file was read, and its bytes were judged
+pub record Replayed (files : Option Files) (name : Text) (status : Status) (Calls Errors : Text → Type 0) : Type 0 where
+  pub text : Text
+  pub end : FrontEnd
+  pub read : IsReadOf files name text end
+  pub within : length text ≤ most_bytes
+  pub judged : Judged text end status Calls Errors
+
+-- the answers where the file was not read
+abbrev pub IsUnread : Status → Type 0
+IsUnread (Status.OpenFault name) = Unit {0}
+IsUnread Status.Memory = Unit {0}
+IsUnread _ = ⊥
+
+-- no calls and no errors where the file was not read, else those of the run that its bytes begin with
+abbrev pub IsReplay : Option Files → Text → Status → (Text → Type 0) → (Text → Type 0) → Type 0
+IsReplay files name status Calls Errors = (IsUnread status × Calls [] × Errors []) ⊎ Replayed files name status Calls Errors

@@ -1,0 +1,64 @@
+-- Runs so far, and what their traces begin with.
+use Rattle.std.specs.Prelude.{ℕ, ◌≡◌, ◌≤◌, ◌+◌, ◌⊎◌, Bool, true, false, List, [], ◌∷◌, ◌++◌, length, Option, Ok, IsSome, if◌then◌else◌}
+use Rattle.ha_clock.specs.Local.{last_moment}
+use Rattle.ha_clock.specs.Zone.{zone_of}
+use Rattle.ha_model.specs.declared.config.Config.{Config}
+use Rattle.ha_model.specs.declared.journal.Entry.{Entry}
+use Rattle.ha_model.specs.declared.journal.Entry.TheVariants.{Boot, Line, Step}
+use Rattle.ha_model.specs.Words.{Text}
+use Rattle.ha_model.specs.Journal.{HasEntry, Journal, automations}
+use Rattle.ha_model.specs.Records.{Records}
+use Rattle.ha_model.specs.RecordSteps.{more}
+use Rattle.ha_model.specs.Lawful.{Lawful, is_quiet}
+use Rattle.ha_model.specs.Texts.{as_line, trace_line, trace_text}
+use Rattle.conf_auto.specs.Config.{config_of}
+use Rattle.ha_replay.specs.declared.boot.BootLine.{BootLine}
+use Rattle.ha_replay.specs.Boots.{HasUtf8, Switches, are_stored}
+use Rattle.ha_replay.specs.Traces.{IsEnd, most_entries}
+
+-- ---- the first entry
+
+-- the configuration, the moment and the zone are read from their texts, and the stored names stand in byte order, each once
+pub record IsConfigured (b : BootLine) (config : Config) : Type 0 where
+  pub config_is : config_of b.text ≡ Ok config
+  pub start : b.start ≤ last_moment
+  pub zone : IsSome (zone_of b.zone)
+  pub ordered : are_stored b.stored ≡ true
+  pub utf8 : HasUtf8 b
+
+abbrev pub boot_line : Text → Option Switches → ℕ → Text → BootLine
+boot_line text stored start zone = record { text = text; stored = stored; start = start; zone = zone }
+
+abbrev pub IsFirst : Entry → Type 0
+IsFirst (Boot text config stored start zone) = IsConfigured (boot_line text stored start zone) config
+IsFirst (Line source number cmd) = ⊥
+IsFirst (Step worker serial branch item) = ⊥
+
+-- ---- runs
+
+-- a run so far: nothing yet, or a lawful journal with such a first entry
+abbrev pub IsRun : Journal → Records → Type 0
+IsRun [] rs = rs ≡ []
+IsRun (first ∷ behind) rs = IsFirst first × Lawful (first ∷ behind) rs
+
+-- the text begins with the trace of a run so far, with its end line where the run has ended, which is quiet then; the rest is left
+pub record Begins (text : Text) (j : Journal) (rs : Records) (ended : Bool) (left : Text) : Type 0 where
+  pub run : IsRun j rs
+  pub room : length j ≤ most_entries
+  pub ends : ended ≡ true → HasEntry j × (is_quiet rs j ≡ true)
+  pub text_is : text ≡ trace_text j ended ++ left
+
+-- how many lines that trace has
+abbrev pub line_count : Journal → Bool → ℕ
+line_count j ended = length j + (if ended then 1 else 0)
+
+-- ---- the next line
+
+-- the line, with its LF, is that of an entry with which the run goes on
+pub record GoesOn (j : Journal) (line : Text) (x : Entry) (rs : Records) : Type 0 where
+  pub run : IsRun (more j x) rs
+  pub line_is : as_line line ≡ trace_line (automations (more j x)) x
+
+-- the line may stand next: it is that of an entry, or the end line
+abbrev pub MayFollow : Journal → Records → Text → Type 0
+MayFollow j rs line = (HasEntry j × IsEnd j rs line) ⊎ ((x : Entry) × (rs' : Records) × GoesOn j line x rs')
