@@ -1,0 +1,4 @@
+pub mod EntryLemmas
+pub mod PutLemmas
+pub mod BootLemmas
+pub mod SameLemmas
