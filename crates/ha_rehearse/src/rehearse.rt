@@ -21,16 +21,19 @@ use ha_status::{Status, told};
 use ha_value::Word;
 use rehearsal::{START, rehearse_config};
 use std::alloc::Global;
+use yaml_scan::YamlFault;
 
-/// The configuration of a text that is one: it is not read only for want of memory.
+/// The configuration of a text that is one.
 fn read_text(alloc: Global, text: &[u8]) -> Result<Config, Status>
+    requires read { (config : Configuration) × (config_of text.now ≡ Ok config) }
     ensures config { IfOk result (λ config. config_of text.now ≡ Ok config) }
     ensures sound { IfOk result IsSoundConfig }
     ensures fault { IfErr result (λ status. status ≡ Status.Memory) }
 {
     match read_config(alloc, text) {
         Ok(config) => Ok(config),
-        Err(_) => Err(Status::Memory),
+        Err(YamlFault::Memory) => Err(Status::Memory),
+        Err(YamlFault::Bad { .. }) => unreachable!(),
     }
 }
 
