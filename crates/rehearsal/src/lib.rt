@@ -6,4 +6,4 @@ mod config;
 mod line;
 
 pub use config::rehearse_config;
-pub use line::{next_x, rehearse_line};
+pub use line::{START, next_x, rehearse_line};

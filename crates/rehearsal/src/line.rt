@@ -7,8 +7,8 @@ use ha_clock::{Moment, print_moment};
 use ha_value::Word;
 use std::alloc::{AllocError, Global};
 
-/// The start, 2024-01-01T00:00:00Z, in milliseconds since 1970.
-const START: u64 = 1_704_067_200_000;
+/// The start of a rehearsal, 2024-01-01T00:00:00Z, in milliseconds since 1970.
+pub const START: u64 = 1_704_067_200_000;
 
 /// The number that follows x, from 0 to 100.
 pub fn next_x(x: u32) -> u32

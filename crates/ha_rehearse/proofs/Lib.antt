@@ -1,0 +1,12 @@
+pub mod EntryLemmas
+pub mod PutLemmas
+pub mod BootLemmas
+pub mod SameLemmas
+pub mod LineLemmas
+pub mod TreeLemmas
+pub mod ReadLemmas
+pub mod ShownLemmas
+pub mod ConfigLines
+pub mod ConfigTree
+pub mod ConfigParts
+pub mod ConfigLemmas

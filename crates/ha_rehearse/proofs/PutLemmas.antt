@@ -1,0 +1,174 @@
+-- What one entry more keeps of a rehearsal.
+use Rattle.std.proofs.Common.{◌≡◌, ◌⊎◌, inl, inr, ◌+◌, ◌∙◌, ◌≤◌, ◌<◌, ℕ, suc, [], ◌∷◌, ◌++◌, Bool, true, false, length, Some, ap, arith, refl, sym, subst, lit<}
+use Rattle.std.specs.Prelude.{◌↔◌, Result, Ok, Err}
+use Rattle.std.specs.Prelude.{◌||◌}
+use Rattle.std.proofs.lemmas.Bool.{false≢true}
+use Rattle.ha_model.specs.declared.faults.CoreFault.{CoreFault}
+use Rattle.ha_model.specs.declared.journal.Cmd.{Cmd}
+use Rattle.ha_model.specs.declared.journal.Entry.{Entry}
+use Rattle.ha_model.specs.declared.journal.Entry.TheVariants.{Line, Step}
+use Rattle.ha_model.specs.declared.journal.Item.{Item}
+use Rattle.ha_model.specs.Commands.{ArePutFrom, put_as}
+use Rattle.ha_model.specs.Entries.{shuts_source}
+use Rattle.ha_model.specs.Journal.{Journal}
+use Rattle.ha_model.specs.Lawful.{Lawful, Right, Running, is_quiet, is_rested, pick, ready}
+use Rattle.ha_model.specs.Records.{Records}
+use Rattle.ha_model.specs.RecordSteps.{more}
+use Rattle.ha_model.specs.Scripts.{Branch}
+use Rattle.ha_model.proofs.LawfulLaws.{has-entry}
+use Rattle.ha_laws.proofs.OneStep.{quiet-rested}
+use Rattle.ha_laws.proofs.RightMore.{right-closes, right-runs}
+use Rattle.flow_line.specs.Command.{cmd_of}
+use Rattle.rehearsal.specs.Generated.{line_at}
+use Rattle.ha_rehearse.specs.Puts.{Closing, Failed, On, Put, cmds}
+use Rattle.ha_worker.proofs.CmdLemmas.{read_open}
+use Rattle.ha_rehearse.proofs.EntryLemmas.{line_number, line_puts, line_shuts, one_more, picked_some, step_number, step_puts, step_shuts}
+
+-- a source that is not rested has runs that can go on
+pub unrested_busy : (rs : Records) (j : Journal) → Right j rs → is_rested rs 0 j ≡ false → is_quiet rs j ≡ false
+unrested_busy rs j right busy = by (is_quiet rs j) (quiet-rested rs 0 j (has-entry j right.journal))
+  where
+    by : (b : Bool) → (b ≡ true → is_rested rs 0 j ≡ true) → b ≡ false
+    by true h = absurd (false≢true (sym busy ∙ h refl))
+    by false h = refl
+
+-- ---- a step
+
+module _ (boot : Entry) (n : ℕ) (j : Journal) (serial : ℕ) (branch : Branch) (item : Item) where
+  abbrev step : Entry
+  step = Step 0 serial branch item
+
+  put_step : Put boot n j → Put boot n (more j step)
+  put_step p = record {
+    later = p.later ++ step ∷ [];
+    begins = ap (λ (k : Journal). more k step) p.begins;
+    alone = one_more j step p.alone refl;
+    puts = step_puts j 0 serial branch item (cmds n) p.puts;
+    number = step_number j 0 serial branch item ∙ p.number;
+    unshut = step_shuts j 0 serial branch item ∙ p.unshut;
+  }
+
+  module _ (rs rs' : Records) (picked : pick 0 (ready rs j) ≡ Some (serial, branch)) (right : Right (more j step) rs') where
+    pub step_on : is_rested rs 0 j ≡ false → On boot n j rs → On boot n (more j step) rs'
+    step_on busy o = record { running = right-runs j rs rs' step o.running right (picked_some 0 (ready rs j) (serial, branch) picked, picked) busy; put = put_step o.put }
+
+    pub step_closing : Closing boot n j rs → Closing boot n (more j step) rs'
+    step_closing o = record { lawful = right-closes j rs rs' serial branch item o.lawful right (picked_some 0 (ready rs j) (serial, branch) picked, picked); put = put_step o.put }
+
+-- ---- a line
+
+pub one_more_is : (n : ℕ) → n + 1 ≡ suc n
+one_more_is n = omega arith
+
+module _ (boot : Entry) (n : ℕ) (j : Journal) (c : Cmd) (rs rs' : Records) (read : c ≡ cmd_of (line_at n)) where
+  abbrev line : Entry
+  line = Line 0 n (put_as j c)
+
+  pub line_on : is_rested rs 0 j ≡ true → Right (more j line) rs' → On boot n j rs → On boot (suc n) (more j line) rs'
+  line_on rested right o =
+      let p = o.put in
+      record {
+        running = right-runs j rs rs' line o.running right (lit< tt, rested, sym p.number, p.unshut) tt;
+        put = record {
+          later = p.later ++ line ∷ [];
+          begins = ap (λ (k : Journal). more k line) p.begins;
+          alone = one_more j line p.alone refl;
+          puts = subst (λ (d : Cmd). ArePutFrom 0 (more j line) (cmds n ++ d ∷ [])) read (line_puts j n c (cmds n) p.puts);
+          number = line_number j n (put_as j c) ∙ ap (λ m. m + 1) p.number ∙ one_more_is n;
+          unshut = line_shuts j n c ∙ ap (λ (b : Bool). b || shuts_source c) p.unshut ∙ ap shuts_source read ∙ read_open (line_at n);
+        };
+      }
+
+-- ---- where it ends
+
+pub on_closing : (boot : Entry) (n : ℕ) (j : Journal) (rs : Records) → On boot n j rs → Closing boot n j rs
+on_closing boot n j rs o = record { lawful = o.running.lawful; put = o.put }
+
+-- a step was due, and none was put
+pub step_failed : (boot : Entry) (n : ℕ) (fault : CoreFault) (j : Journal) (rs : Records) → (fault ≡ CoreFault.Full → length j ≡ 1_048_576) → is_quiet rs j ≡ false
+    → Closing boot n j rs → Failed boot n fault j rs
+step_failed boot n fault j rs full busy o = record { n = n; within = omega arith; closing = o; due = λ e. record { full = full e; due = inl busy } }
+
+-- a line was due, and none was put
+pub line_failed : (boot : Entry) (n most : ℕ) (fault : CoreFault) (j : Journal) (rs : Records) → (fault ≡ CoreFault.Full → length j ≡ 1_048_576) → n < most
+    → Closing boot n j rs → Failed boot most fault j rs
+line_failed boot n most fault j rs full more_due o = record { n = n; within = omega (arith, more_due); closing = o; due = λ e. record { full = full e; due = inr more_due } }
+
+-- of more lines
+pub failed_more : (boot : Entry) (n most : ℕ) (fault : CoreFault) (j : Journal) (rs : Records) → n ≤ most → Failed boot n fault j rs → Failed boot most fault j rs
+failed_more boot n most fault j rs le f = record {
+  n = f.n;
+  within = omega (arith, le, f.within);
+  closing = f.closing;
+  due = λ e. let full = f.due e in record { full = full.full; due = by full.due };
+}
+  where
+    by : (is_quiet rs j ≡ false) ⊎ (f.n < n) → (is_quiet rs j ≡ false) ⊎ (f.n < most)
+    by (inl h) = inl h
+    by (inr h) = inr (omega (arith, h, le))
+
+-- as they were
+pub same_on : (boot : Entry) (n : ℕ) (j j' : Journal) (rs rs' : Records) → j' ≡ j → rs' ≡ rs → On boot n j rs → On boot n j' rs'
+same_on boot n j j' rs rs' e f o = subst (λ k. On boot n k rs') (sym e) (subst (λ k. On boot n j k) (sym f) o)
+
+pub same_closing : (boot : Entry) (n : ℕ) (j j' : Journal) (rs rs' : Records) → j' ≡ j → rs' ≡ rs → Closing boot n j rs → Closing boot n j' rs'
+same_closing boot n j j' rs rs' e f o = subst (λ k. Closing boot n k rs') (sym e) (subst (λ k. Closing boot n j k) (sym f) o)
+
+-- ---- the core's answers
+
+-- a put that was not refused spends nothing
+pub fresh : (spent : Bool) (r : Result (Unit {0}) CoreFault) (u : Unit {0}) → ((spent ≡ true) ↔ (r ≡ Err CoreFault.Memory)) → r ≡ Ok u → spent ≡ false
+fresh false r u h e = refl
+fresh true r u h e = absurd (let bad : ◌≡◌ {A = Result (Unit {0}) CoreFault} (Ok u) (Err CoreFault.Memory) = sym e ∙ h.0 refl in cc)
+
+-- a step of worker 0 that was put
+abbrev pub Stepped : Journal → Records → Journal → Type 0
+Stepped j rs j' = (serial : ℕ) × (branch : Branch) × (item : Item) × (pick 0 (ready rs j) ≡ Some (serial, branch)) × (j' ≡ more j (Step 0 serial branch item))
+
+module _ (j j' : Journal) (rs rs' : Records) (s : Stepped j rs j') (right : Right j' rs') where
+  abbrev there : Right (more j (Step 0 s.0 s.1 s.2)) rs'
+  there = subst (λ (k : Journal). Right k rs') s.4 right
+
+  pub stepped_on : is_rested rs 0 j ≡ false → (boot : Entry) (n : ℕ) → On boot n j rs → On boot n j' rs'
+  stepped_on busy boot n o = subst (λ (k : Journal). On boot n k rs') (sym s.4) (step_on boot n j s.0 s.1 s.2 rs rs' s.3 there busy o)
+
+  pub stepped_running : is_rested rs 0 j ≡ false → Running j rs → Running j' rs'
+  stepped_running busy running =
+      subst (λ (k : Journal). Running k rs') (sym s.4) (right-runs j rs rs' (Step 0 s.0 s.1 s.2) running there (picked_some 0 (ready rs j) (s.0, s.1) s.3, s.3) busy)
+
+  pub stepped_closing : (boot : Entry) (n : ℕ) → Closing boot n j rs → Closing boot n j' rs'
+  stepped_closing boot n o = subst (λ (k : Journal). Closing boot n k rs') (sym s.4) (step_closing boot n j s.0 s.1 s.2 rs rs' s.3 there o)
+
+  pub stepped_lawful : Lawful j rs → Lawful j' rs'
+  stepped_lawful lawful =
+      subst (λ (k : Journal). Lawful k rs') (sym s.4) (right-closes j rs rs' s.0 s.1 s.2 lawful there (picked_some 0 (ready rs j) (s.0, s.1) s.3, s.3))
+
+-- a step that was refused, where one was due
+pub step_refused : (j j' : Journal) (rs rs' : Records) (fault : CoreFault) → (fault ≡ CoreFault.Full → length j ≡ 1_048_576) → (j' ≡ j) × (rs' ≡ rs) → is_quiet rs j ≡ false
+    → (boot : Entry) (n : ℕ) → Closing boot n j rs → Failed boot n fault j' rs'
+step_refused j j' rs rs' fault full same busy boot n o =
+    subst (λ (k : Journal). Failed boot n fault k rs') (sym same.0) (subst (λ (k : Records). Failed boot n fault j k) (sym same.1) (step_failed boot n fault j rs full busy o))
+
+-- a line that was refused
+pub line_refused : (j j' : Journal) (rs rs' : Records) (fault : CoreFault) (n most : ℕ) → n < most → (fault ≡ CoreFault.Full → length j ≡ 1_048_576) → (j' ≡ j) × (rs' ≡ rs)
+    → (boot : Entry) → On boot n j rs → Failed boot most fault j' rs'
+line_refused j j' rs rs' fault n most more_due full same boot o =
+    subst (λ (k : Journal). Failed boot most fault k rs') (sym same.0)
+    (subst (λ (k : Records). Failed boot most fault j k) (sym same.1) (line_failed boot n most fault j rs full more_due (on_closing boot n j rs o)))
+
+-- a line that was put
+pub lined_on : (j j' : Journal) (rs rs' : Records) (n number : ℕ) (c : Cmd) → number ≡ n → c ≡ cmd_of (line_at n) → is_rested rs 0 j ≡ true → Right j' rs'
+    → j' ≡ more j (Line 0 number (put_as j c)) → (boot : Entry) → On boot n j rs → On boot (n + 1) j' rs'
+lined_on j j' rs rs' n number c same read rested right e boot o =
+    let f : j' ≡ more j (Line 0 n (put_as j c)) = e ∙ ap (λ (m : ℕ). more j (Line 0 m (put_as j c))) same in
+    subst (λ (m : ℕ). On boot m j' rs') (sym (one_more_is n))
+    (subst (λ (k : Journal). On boot (suc n) k rs') (sym f) (line_on boot n j c rs rs' read rested (subst (λ (k : Journal). Right k rs') f right) o))
+
+-- memory ran out before a line was put
+pub memory_failed : (boot : Entry) (n most : ℕ) (fault : CoreFault) (j : Journal) (rs : Records) → fault ≡ CoreFault.Memory → n ≤ most → On boot n j rs → Failed boot most fault j rs
+memory_failed boot n most fault j rs memory le o = record {
+  n = n;
+  within = le;
+  closing = on_closing boot n j rs o;
+  due = λ full. absurd (let bad : ◌≡◌ {A = CoreFault} CoreFault.Memory CoreFault.Full = sym memory ∙ full in cc);
+}

@@ -1,0 +1,21 @@
+use Rattle.std.proofs.Common.{◌+◌}
+use Rattle.std.proofs.lemmas.Result.{IfErr-weaker, on_ok_weaker}
+use Rattle.ha_rehearse.proofs.PutLemmas.{lined_on}
+use Rattle.ha_rehearse.proofs.puts.put_cmd.Goals as goal
+
+pub settle-requires-clause-running : goal.settle-requires-clause-running
+settle-requires-clause-running g c =
+    (lined_on (g.C.Core.entries c.args.core.now) (g.C.Core.entries c.put_line.new.self) (g.C.Core.runs c.args.core.now) (g.C.Core.runs c.put_line.new.self) c.args.i c.from.result c.args.cmd
+    c.from.ensures c.requires.cmd c.requires.rested c.in-Ok.ensures.right c.in-Ok.ensures.put c.requires.on.0 c.requires.on.1).running
+
+pub returns-in-Ok-clause-on : goal.returns-in-Ok-clause-on
+returns-in-Ok-clause-on g c =
+    on_ok_weaker c.settle.result (λ h boot o. h boot (c.args.i + 1)
+    (lined_on (g.C.Core.entries c.args.core.now) (g.C.Core.entries c.put_line.new.self) (g.C.Core.runs c.args.core.now) (g.C.Core.runs c.put_line.new.self) c.args.i c.from.result c.args.cmd
+    c.from.ensures c.requires.cmd c.requires.rested c.in-Ok.ensures.right c.in-Ok.ensures.put boot o)) c.settle.ensures.on
+
+pub returns-in-Ok-clause-failed : goal.returns-in-Ok-clause-failed
+returns-in-Ok-clause-failed g c =
+    IfErr-weaker c.settle.result _ _ (λ fault h boot o. h boot (c.args.i + 1)
+    (lined_on (g.C.Core.entries c.args.core.now) (g.C.Core.entries c.put_line.new.self) (g.C.Core.runs c.args.core.now) (g.C.Core.runs c.put_line.new.self) c.args.i c.from.result c.args.cmd
+    c.from.ensures c.requires.cmd c.requires.rested c.in-Ok.ensures.right c.in-Ok.ensures.put boot o)) c.settle.ensures.failed

@@ -1,0 +1,9 @@
+use Rattle.std.proofs.Common.{◌≡◌, ◌≤◌, count_by, take}
+use Rattle.ha_rehearse.specs.Counts.{is_line}
+use Rattle.ha_rehearse.proofs.text.lines_in.Given as goal
+
+abbrev pub invariant-entries : goal.invariant-entries
+invariant-entries l = record {
+  counted : l.count ≡ count_by is_line (take l.entry-index l.journal);
+  few : l.count ≤ l.entry-index;
+}

@@ -1,0 +1,11 @@
+-- Which entries are counted.
+use Rattle.std.specs.Prelude.{Bool, false, is_some}
+use Rattle.std.specs.Option.{option_map_or}
+use Rattle.ha_model.specs.declared.journal.Entry.{Entry}
+use Rattle.ha_model.specs.Entries.{is_call, line_of, step_of}
+
+unfoldable pub is_line : Entry → Bool
+is_line x = is_some (line_of x)
+
+unfoldable pub calls : Entry → Bool
+calls x = option_map_or (λ s. is_call s.item) (step_of x) false

@@ -1,0 +1,49 @@
+-- What stands while the lines of a rehearsal are put.
+use Rattle.std.specs.Prelude.{ℕ, zero, suc, ◌≡◌, ◌≤◌, ◌<◌, ◌⊎◌, false, List, [], ◌∷◌, ◌++◌, length, count_by}
+use Rattle.std.specs.List.{list_any}
+use Rattle.ha_model.specs.declared.faults.CoreFault.{CoreFault}
+use Rattle.ha_model.specs.declared.journal.Cmd.{Cmd}
+use Rattle.ha_model.specs.declared.journal.Entry.{Entry}
+use Rattle.ha_model.specs.Commands.{ArePutFrom}
+use Rattle.ha_model.specs.Journal.{Journal}
+use Rattle.ha_model.specs.Lawful.{Lawful, Running, is_line_of, is_quiet, shuts}
+use Rattle.ha_model.specs.Records.{Records}
+use Rattle.ha_laws.specs.Makers.{OfOne}
+use Rattle.flow_line.specs.Command.{cmd_of}
+use Rattle.rehearsal.specs.Generated.{line_at}
+
+-- the commands of the first n lines
+abbrev pub cmds : ℕ → List Cmd
+cmds zero = []
+cmds (suc n) = cmds n ++ cmd_of (line_at n) ∷ []
+
+-- The journal begins with this entry. All others are of source 0 and its worker, and its lines are put from the first n commands.
+pub record Put (boot : Entry) (n : ℕ) (j : Journal) : Type 0 where
+  pub later : List Entry
+  pub begins : j ≡ boot ∷ later
+  pub alone : OfOne j
+  pub puts : ArePutFrom 0 j (cmds n)
+  pub number : count_by (is_line_of 0) j ≡ n
+  pub unshut : list_any (shuts 0) j ≡ false
+
+-- so far, without closing steps
+pub record On (boot : Entry) (n : ℕ) (j : Journal) (records : Records) : Type 0 where
+  pub running : Running j records
+  pub put : Put boot n j
+
+-- and with closing steps
+pub record Closing (boot : Entry) (n : ℕ) (j : Journal) (records : Records) : Type 0 where
+  pub lawful : Lawful j records
+  pub put : Put boot n j
+
+-- the journal is full, and a step is due, or one of the lines
+pub record IsFull (n most : ℕ) (j : Journal) (records : Records) : Type 0 where
+  pub full : length j ≡ 1_048_576
+  pub due : (is_quiet records j ≡ false) ⊎ (n < most)
+
+-- after a fault, some of so many lines stand
+pub record Failed (boot : Entry) (most : ℕ) (fault : CoreFault) (j : Journal) (records : Records) : Type 0 where
+  pub n : ℕ
+  pub within : n ≤ most
+  pub closing : Closing boot n j records
+  pub due : fault ≡ CoreFault.Full → IsFull n most j records
