@@ -1,5 +1,5 @@
 -- The first line of a trace.
-use Rattle.std.proofs.Common.{◌≡◌, ◌∙◌, ◌<◌, ◌+◌, ap, sym, subst, refl, ℕ, inl, inr, [], ◌∷◌, length, take, get_or, true, Bool}
+use Rattle.std.proofs.Common.{◌≡◌, ◌∙◌, ◌<◌, ◌+◌, ap, sym, subst, ℕ, inl, inr, [], ◌∷◌, length, take, get_or, true, Bool}
 use Rattle.std.proofs.lemmas.List.Folds.{list_all_more}
 use Rattle.std.specs.List.{list_all}
 use Rattle.std.specs.Prelude.{◌&&◌, Option, Result, Ok, Err, IsSome}
@@ -11,7 +11,7 @@ use Rattle.ha_model.specs.declared.config.Config.{Config}
 use Rattle.ha_model.specs.declared.journal.Entry.{Entry}
 use Rattle.ha_model.specs.declared.journal.Entry.TheVariants.{Boot, Line, Step}
 use Rattle.ha_model.specs.Words.{Text}
-use Rattle.ha_model.specs.Journal.{HasEntry, Journal}
+use Rattle.ha_model.specs.Journal.{Journal}
 use Rattle.ha_model.specs.Lawful.{Right}
 use Rattle.ha_model.specs.Records.{Records}
 use Rattle.ha_model.proofs.LawfulLaws.{some-same}
@@ -23,7 +23,7 @@ use Rattle.ha_replay.specs.declared.fault.TraceFault.{TraceFault}
 use Rattle.ha_replay.specs.Boots.{HasUtf8, IsBootLine, Reads, Switches, have_utf8_names, parts, parts_in}
 use Rattle.ha_replay.proofs.BootLemmas.{boot-parts, boot-spelled, value_of}
 use Rattle.replay_file.specs.Boot.{IsBooted, IsUnbooted}
-use Rattle.replay_file.specs.Runs.{GoesOn, IsConfigured, IsFirst, MayFollow, boot_line}
+use Rattle.replay_file.specs.Runs.{GoesOn, IsConfigured, MayFollow, boot_line}
 
 -- LAW: a line is that of one first entry at most
 pub one_parts : (line : Text) (b b' : BootLine) → IsBootLine line b → HasUtf8 b → IsBootLine line b' → HasUtf8 b'

@@ -1,9 +1,8 @@
 -- A file's bytes and their judgement, and the status that was told.
-use Rattle.std.proofs.Common.{◌≡◌, ◌∙◌, ap, sym, subst, refl, ℕ, ◌<◌, ◌≤◌, ◌+◌, inl, inr, List, [], ◌∷◌, ◌++◌, length, arith, append_assoc, append-nil, length-append}
-use Rattle.std.specs.Prelude.{◌⊎◌, Option, Some, None, IfSome, IsSomeAnd}
+use Rattle.std.proofs.Common.{◌≡◌, ◌∙◌, ap, sym, subst, refl, ℕ, ◌≤◌, ◌+◌, inl, inr, List, [], ◌∷◌, ◌++◌, length, arith, append_assoc, append-nil, length-append}
+use Rattle.std.specs.Prelude.{◌⊎◌, Option, Some, None, IsSomeAnd}
 use Rattle.std.specs.Io.KnownBytes.{IsAtEnd}
-use Rattle.ha_io.specs.Told.{Gives, HasFile, Takes}
-use Rattle.ha_io.proofs.ToldLemmas.{Takes-nothing}
+use Rattle.ha_io.specs.Told.{Gives, HasFile}
 use Rattle.ha_model.specs.Words.{Text}
 use Rattle.ha_status.specs.declared.status.Status.{Status}
 use Rattle.ha_status.specs.Files.{Files}
@@ -12,9 +11,8 @@ use Rattle.ha_status.specs.Causes.{IsUnread as IsUnreadSource, ReadCause}
 use Rattle.ha_status.proofs.CauseLemmas.{read_cause, told_status}
 use Rattle.replay_file.specs.declared.front.FrontEnd.{FrontEnd}
 use Rattle.replay_file.specs.Fronts.{IsFrontOf, IsRead, IsReadOf, most_bytes}
-use Rattle.replay_file.specs.Judged.{AreErrorsTaken, IsCutShort, IsStatusOf, IsTaken, Judged}
-use Rattle.replay_file.specs.Replays.{IsReplay, IsUnread, Replayed}
-use Rattle.replay_file.proofs.TakeLemmas.{whole_taken}
+use Rattle.replay_file.specs.Judged.{AreErrorsTaken, IsStatusOf, IsTaken, Judged}
+use Rattle.replay_file.specs.Replays.{IsReplay, IsUnread}
 
 -- ---- the bytes
 
@@ -46,11 +44,6 @@ read_of (Some f) name text end before after has r = by (f name) has
     by : (file : Option (List ℕ)) → IsSomeAnd file (λ bytes. before ≡ Some bytes) → IsSomeAnd file (IsFrontOf text end)
     by None h = absurd h
     by (Some bytes) h = front_of bytes text end after (subst (λ z. IsRead most_bytes z text end after) h r)
-
--- ---- a file that was not read
-
-pub unread : (files : Option Files) (name : Text) (s : Status) (o e : Option Text) → IsUnread s → IsReplay files name s (λ t. IsTaken s t o o) (λ t. IsTaken s t e e)
-unread files name s o e is = inl (is, whole_taken s [] o o (Takes-nothing o), whole_taken s [] e e (Takes-nothing e))
 
 -- ---- a file that was read
 

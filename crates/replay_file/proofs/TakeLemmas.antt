@@ -1,7 +1,7 @@
 -- What a line that is taken, or refused, makes of what was found so far.
-use Rattle.std.proofs.Common.{◌≡◌, ◌≢◌, ◌∙◌, ap, sym, subst, refl, ℕ, suc, ◌+◌, ◌<◌, ◌≤◌, inl, inr, List, [], ◌∷◌, ◌++◌, take, drop, length, Bool, true, false, arith, append_assoc, append-nil, length-append}
+use Rattle.std.proofs.Common.{◌≡◌, ◌≢◌, ◌∙◌, ap, sym, subst, refl, ℕ, ◌+◌, ◌<◌, ◌≤◌, inl, inr, [], ◌∷◌, ◌++◌, take, drop, length, Bool, true, false, arith, append_assoc, append-nil, length-append}
 use Rattle.std.proofs.lemmas.Bool.Decides.{nat_tests}
-use Rattle.std.specs.Prelude.{◌⊎◌, ◌&&◌, ◌==◌, not, nat_eq, Ok, Err, Option, Some, None}
+use Rattle.std.specs.Prelude.{◌&&◌, ◌==◌, not, nat_eq, Ok, Err, Option, Some}
 use Rattle.std.specs.List.{list_all}
 use Rattle.std.proofs.lemmas.List.{nil_from_length, take-append-drop}
 use Rattle.std.proofs.lemmas.List.Folds.{list_all-append}
@@ -14,7 +14,7 @@ use Rattle.ha_model.specs.Words.{Text}
 use Rattle.ha_model.specs.Journal.{HasEntry, Journal, automations}
 use Rattle.ha_model.specs.Records.{Records}
 use Rattle.ha_model.specs.RecordSteps.{more}
-use Rattle.ha_model.specs.Lawful.{Lawful, Right, is_quiet}
+use Rattle.ha_model.specs.Lawful.{Lawful, Right}
 use Rattle.ha_model.specs.Texts.{as_line, call_text, call_text_of, end_line, error_text, error_text_of, texts_after, trace_line, trace_text}
 use Rattle.ha_model.proofs.EqualLemmas.{and_right}
 use Rattle.ha_model.proofs.LawfulLaws.{has-entry}
@@ -27,10 +27,10 @@ use Rattle.ha_replay.specs.declared.fault.TraceFault.{TraceFault}
 use Rattle.ha_replay.specs.Traces.{Answers, IsEnd, IsNoNext, Reached, Stands, Takes as TakesEntry, most_entries, reached}
 use Rattle.replay_file.specs.declared.front.FrontEnd.{FrontEnd}
 use Rattle.replay_file.specs.Lines.{Cuts, is_one_line}
-use Rattle.replay_file.specs.Runs.{Begins, GoesOn, IsFirst, IsRun, MayFollow, line_count}
+use Rattle.replay_file.specs.Runs.{Begins, IsFirst, IsRun, MayFollow, line_count}
 use Rattle.replay_file.specs.Boot.{IsBooted, IsUnbooted}
 use Rattle.replay_file.specs.Steps.{IsReady}
-use Rattle.replay_file.specs.Judged.{GoesNoFurther, HasLine, HasNoEnd, IsAt, IsCutShort, IsJudged, IsRefused, IsStatusOf, IsTaken, Judged}
+use Rattle.replay_file.specs.Judged.{IsAt, IsCutShort, IsStatusOf, IsTaken, Judged}
 
 -- ---- lines
 
@@ -292,14 +292,6 @@ ready_ended r r' spent spent' lines same usable h = record {
   stands = subst Stands (sym same) h.stands;
   counted = (let n = ap (λ (z : Reached). length z.journal) same in let m = h.counted in omega (arith, n, m));
   room = (let n = ap (λ (z : Reached). length z.journal) same in let m = h.room in omega (arith, n, m));
-}
-
-pub ready_more : (line : Text) (r r' : Reached) (spent spent' : Bool) (lines : ℕ) → TakesEntry line r r' → spent' ≡ false → IsReady r spent false lines → IsReady r' spent' false (lines + 1)
-ready_more line r r' spent spent' lines t usable h = record {
-  usable = usable;
-  stands = t.stands;
-  counted = (let n = ap length t.journal ∙ length-append r.journal (t.entry ∷ []) in let m = h.counted in omega (arith, n, m));
-  room = (let n = ap length t.journal ∙ length-append r.journal (t.entry ∷ []) in let m = h.room in let k = t.room in omega (arith, n, m, k));
 }
 
 -- what the core says of a line that it took

@@ -1,7 +1,7 @@
 -- What is written of the last entry.
-use Rattle.std.proofs.Common.{◌≡◌, ◌∙◌, ap, sym, subst, refl, ℕ, ◌-◌, ◌≤◌, inl, inr, length, take, Bool, true, false, arith}
+use Rattle.std.proofs.Common.{◌≡◌, ◌∙◌, ap, sym, subst, refl, ℕ, ◌-◌, ◌≤◌, inl, inr, length, arith}
 use Rattle.std.proofs.Math.Seq.{take-length}
-use Rattle.std.specs.Prelude.{◌⊎◌, Option, Some, None, slice_get}
+use Rattle.std.specs.Prelude.{Option, Some, None, slice_get}
 use Rattle.ha_io.specs.Told.{Takes}
 use Rattle.ha_io.proofs.ToldLemmas.{Takes-nothing}
 use Rattle.ha_model.specs.declared.journal.Entry.{Entry}
@@ -13,13 +13,13 @@ use Rattle.ha_model.specs.Texts.{call_text_of, error_text_of}
 use Rattle.ha_model.proofs.LawfulLaws.{none-some, some-same}
 use Rattle.bus_turn.specs.declared.fault.BusFault.{BusFault}
 use Rattle.bus_turn.specs.States.{SinkState}
-use Rattle.bus_turn.specs.Writes.{SinkCause, Took, TookFront, Writes}
+use Rattle.bus_turn.specs.Writes.{Took, TookFront, Writes}
 use Rattle.bus_turn.proofs.LastLemmas.{last-is}
 use Rattle.ha_status.specs.declared.status.Status.{Status}
 use Rattle.ha_status.specs.Causes.{NeverFall, OneRose, WriteCause}
 use Rattle.ha_io.proofs.CountLemmas.{Rose-within}
-use Rattle.ha_status.proofs.CauseLemmas.{wider_write, write_cause}
-use Rattle.replay_file.specs.Steps.{IfWrite, WritesBoth}
+use Rattle.ha_status.proofs.CauseLemmas.{wider_write}
+use Rattle.replay_file.specs.Steps.{WritesBoth}
 
 -- ---- one sink
 
@@ -67,23 +67,6 @@ module _ (k seen before : Journal) (x entry : Entry) (rs : Records) (is : k ≡ 
       by : (f : Option BusFault) → Took (call_text_of rs before x) o o' → Writes (error_text_of x) e f e' → WritesBoth (call_text_of rs before x) (error_text_of x) o e f o' e'
       by None c d = (c, d)
       by (Some fault) c d = (all_taken (call_text_of rs before x) o o' c, d.0, inr d.1)
-
--- ---- counts and causes
-
-pub both_counts : (calls errors : Text) (o o' e e' : SinkState) (f : Option BusFault) → WritesBoth calls errors o e f o' e'
-    → NeverFall o.faults o'.faults o.zeros o'.zeros × NeverFall e.faults e'.faults e.zeros e'.zeros
-both_counts calls errors o o' e e' None w =
-    (record { faults_stay = w.0.faults_stay; zeros_stay = w.0.zeros_stay }, record { faults_stay = w.1.faults_stay; zeros_stay = w.1.zeros_stay })
-both_counts calls errors o o' e e' (Some fault) w =
-    (record { faults_stay = w.0.faults_stay; zeros_stay = w.0.zeros_stay }, record { faults_stay = w.1.faults_stay; zeros_stay = w.1.zeros_stay })
-
-pub write_causes : (s : Status) (fault : BusFault) (o o' e e' : SinkState) → IfWrite s fault → SinkCause fault o o' ⊎ SinkCause fault e e'
-    → WriteCause (OneRose o.faults o'.faults e.faults e'.faults) (OneRose o.zeros o'.zeros e.zeros e'.zeros) s
-write_causes s fault o o' e e' is cause = write_cause _ _ s (λ z eq. by z (subst (λ (x : Status). IfWrite x fault) eq is))
-  where
-    by : (z : Bool) → fault ≡ BusFault.Write z → WriteCause (OneRose o.faults o'.faults e.faults e'.faults) (OneRose o.zeros o'.zeros e.zeros e'.zeros) (Status.WriteFault z)
-    by true same = subst (λ f. SinkCause f o o' ⊎ SinkCause f e e') same cause
-    by false same = subst (λ f. SinkCause f o o' ⊎ SinkCause f e e') same cause
 
 -- ---- longer times
 

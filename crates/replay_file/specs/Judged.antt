@@ -1,5 +1,5 @@
 -- What is found in the bytes of a trace, and how far its calls and errors are written.
-use Rattle.std.specs.Prelude.{ℕ, suc, ◌≡◌, ◌≢◌, ◌⊎◌, Bool, true, false, [], Option, None, Some, length}
+use Rattle.std.specs.Prelude.{ℕ, suc, ◌≡◌, ◌≢◌, ◌⊎◌, Bool, true, false, [], Option, Some, length}
 use Rattle.ha_model.specs.Words.{Text}
 use Rattle.ha_model.specs.Journal.{Journal}
 use Rattle.ha_model.specs.Records.{Records}

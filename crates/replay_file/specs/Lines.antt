@@ -1,5 +1,5 @@
 -- A text cut at its line feeds.
-use Rattle.std.specs.Prelude.{ℕ, ◌≡◌, Bool, true, not, nat_eq, List, [], ◌∷◌, ◌++◌}
+use Rattle.std.specs.Prelude.{ℕ, ◌≡◌, Bool, true, not, nat_eq, List, ◌∷◌, ◌++◌}
 use Rattle.std.specs.List.{list_all}
 
 -- no byte is an LF

@@ -1,5 +1,5 @@
 -- Runs so far, and what their traces begin with.
-use Rattle.std.specs.Prelude.{ℕ, ◌≡◌, ◌≤◌, ◌+◌, ◌⊎◌, Bool, true, false, List, [], ◌∷◌, ◌++◌, length, Option, Ok, IsSome, if◌then◌else◌}
+use Rattle.std.specs.Prelude.{ℕ, ◌≡◌, ◌≤◌, ◌+◌, ◌⊎◌, Bool, true, [], ◌∷◌, ◌++◌, length, Option, Ok, IsSome, if◌then◌else◌}
 use Rattle.ha_clock.specs.Local.{last_moment}
 use Rattle.ha_clock.specs.Zone.{zone_of}
 use Rattle.ha_model.specs.declared.config.Config.{Config}

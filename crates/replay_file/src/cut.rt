@@ -1,5 +1,5 @@
 //! A text cut at its line feeds.
-ghost use Rattle.std.specs.Prelude.{◌≡◌, ◌<◌, ◌∷◌, ◌+◌, None, IfSome, IsNone, true, length, take, drop};
+ghost use Rattle.std.specs.Prelude.{◌≡◌, ◌<◌, ◌∷◌, ◌+◌, None, IfSome, true, length, take, drop};
 ghost use Rattle.replay_file.specs.Lines.{Cuts, is_one_line};
 
 /// The first line of a text without its LF, and what stands behind the LF.

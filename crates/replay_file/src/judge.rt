@@ -1,7 +1,5 @@
 //! The lines of a trace, judged one after the other.
-ghost use Rattle.std.specs.Prelude.{◌≡◌, ◌<◌, ◌≤◌, ◌+◌, ◌^◌, ◌++◌, ◌∷◌, ℕ, Option, Ok, Err, None, Some, IfOk, IfErr, OnOk, Bool, false, true, length};
-ghost use Rattle.ha_io.specs.Counts.{Rose};
-ghost use Rattle.ha_io.specs.Told.{Takes};
+ghost use Rattle.std.specs.Prelude.{◌≡◌, ◌<◌, ◌≤◌, ◌+◌, ◌^◌, ◌++◌, ◌∷◌, Option, IfOk, IfErr, OnOk, false, true, length};
 ghost use Rattle.ha_model.specs.declared.journal.Entry.{Entry};
 ghost use Rattle.ha_model.specs.Words.{Text};
 ghost use Rattle.ha_model.specs.Journal.{Journal};
@@ -9,7 +7,6 @@ ghost use Rattle.ha_model.specs.RecordSteps.{more};
 ghost use Rattle.ha_model.specs.Texts.{call_text_of, error_text_of};
 ghost use Rattle.bus_turn.specs.States.{sink_of};
 ghost use Rattle.bus_turn.specs.Writes.{fault_of};
-ghost use Rattle.bus_turn.specs.declared.fault.BusFault.{BusFault as Unwritten};
 ghost use Rattle.ha_status.specs.Causes.{NeverFall, OneRose, WriteCause};
 ghost use Rattle.ha_replay.specs.Traces.{reached};
 ghost use Rattle.replay_file.specs.declared.front.FrontEnd.{FrontEnd as End};

@@ -1,9 +1,7 @@
-use Rattle.std.proofs.Common.{◌≡◌, ◌∙◌, refl, rules, true, false, sym, arith}
-use Rattle.bus_turn.specs.States.{sink_of}
+use Rattle.std.proofs.Common.{refl, rules, true}
 use Rattle.ha_model.proofs.LawfulLaws.{has-entry}
 use Rattle.ha_replay.specs.Traces.{reached}
-use Rattle.replay_file.proofs.TakeLemmas.{at_same, end_of, end_taken, entry_cut, entry_of, entry_taken, not_taken, ready_ended, ready_more}
-use Rattle.replay_file.proofs.WriteLemmas.{both_counts, write_causes}
+use Rattle.replay_file.proofs.TakeLemmas.{at_same, end_of, end_taken, entry_cut, entry_of, entry_taken, not_taken, ready_ended}
 use Rattle.replay_file.proofs.judge.take_line.Goals as goal
 
 pub returns-in-Ok-true-clause-goes_on : goal.returns-in-Ok-true-clause-goes_on

@@ -1,5 +1,4 @@
 use Rattle.std.proofs.Common.{◌∙◌, ap, sym}
-use Rattle.std.specs.Prelude.{None, Some}
 use Rattle.std.specs.Option.{option_copied}
 use Rattle.bus_turn.specs.States.{sink_of}
 use Rattle.replay_file.proofs.WriteLemmas.{call_unwritten, call_written, has_last}

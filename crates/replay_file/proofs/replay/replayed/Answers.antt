@@ -1,4 +1,3 @@
-use Rattle.std.proofs.Common.{ap}
 use Rattle.ha_status.proofs.CauseLemmas.{unread_alone}
 use Rattle.replay_file.proofs.ReplayLemmas.{read_causes, read_replay}
 use Rattle.replay_file.proofs.replay.replayed.Goals as goal

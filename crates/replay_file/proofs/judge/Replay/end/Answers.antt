@@ -1,6 +1,6 @@
 use Rattle.std.proofs.Common.{◌∙◌, ap, length, refl, sym}
 use Rattle.ha_model.proofs.RecordGrowth.{true-false}
-use Rattle.replay_file.proofs.TakeLemmas.{empty_is, finished, full_at_end, refused_at_end}
+use Rattle.replay_file.proofs.TakeLemmas.{empty_is, finished, full_at_end, read_failed, refused_at_end, too_long}
 use Rattle.replay_file.proofs.judge.Replay.end.Goals as goal
 
 pub returns-then-is_empty-clause-judged : goal.returns-then-is_empty-clause-judged
@@ -20,3 +20,13 @@ returns-else-journal-eq-MOST_ENTRIES-clause-judged g c = λ text o o' e e' at.
     refused_at_end text c.args.end (g.E.Core.entries s.core) (g.E.Core.runs s.core) s.ended c.args.left.now o o' e e' at s.lines c.in-Whole.is
     (λ closed. absurd (true-false (sym closed ∙ c.if-self.false))) (λ _ full. c.if-journal-eq-MOST_ENTRIES.false (ap length c.journal.ensures.value ∙ full)) c.requires.no_line c.requires.ready.counted
     c.status_of-in-Whole.result (c.status_of-in-Whole.ensures.refused refl)
+
+pub returns-in-Failed-clause-judged : goal.returns-in-Failed-clause-judged
+returns-in-Failed-clause-judged g c = λ text o o' e e' at.
+    let s = c.args.self.now in
+    read_failed text c.args.end (g.E.Core.entries s.core) (g.E.Core.runs s.core) s.ended c.args.left.now o o' e e' at c.in-Failed.is c.requires.no_line
+
+pub returns-in-TooLong-clause-judged : goal.returns-in-TooLong-clause-judged
+returns-in-TooLong-clause-judged g c = λ text o o' e e' at.
+    let s = c.args.self.now in
+    too_long text c.args.end (g.E.Core.entries s.core) (g.E.Core.runs s.core) s.ended c.args.left.now o o' e e' at c.in-TooLong.is c.requires.no_line

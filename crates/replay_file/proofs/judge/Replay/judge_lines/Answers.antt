@@ -1,7 +1,6 @@
-use Rattle.std.proofs.Common.{◌≤◌, ◌++◌, ◌∷◌, arith, length, refl, subst, sym}
+use Rattle.std.proofs.Common.{◌≤◌, arith, length}
 use Rattle.ha_status.proofs.CauseLemmas.{falls_never}
 use Rattle.replay_file.specs.Fronts.{most_bytes}
-use Rattle.replay_file.specs.Judged.{IsAt}
 use Rattle.replay_file.proofs.TakeLemmas.{left_as, line_within, no_longer}
 use Rattle.replay_file.proofs.WriteLemmas.{cause_later, cause_none}
 use Rattle.replay_file.proofs.judge.Replay.judge_lines.Goals as goal
