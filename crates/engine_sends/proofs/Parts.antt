@@ -33,7 +33,7 @@ attached_send : IsSend Attached.the_row
 attached_send = search (spot_send, queue.the_send, crosses, entries) depth 60 fits 20000
 
 triggers_field : IsSend TrigSet.the_field.row
-triggers_field = search (attached_send, index.the_field_send, zone.the_send, numbers.the_field_send, crosses, entries) depth 60 fits 20000
+triggers_field = search (attached_send, index.the_field_send, queue.the_send, zone.the_send, numbers.the_field_send, crosses, entries) depth 60 fits 20000
 
 states_field : IsSend StateTable.the_field.row
 states_field = search (map.the_send, string.the_send, heap.the_send, allocator.the_frees, crosses, entries) depth 60 fits 20000
