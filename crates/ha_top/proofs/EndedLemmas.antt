@@ -1,5 +1,5 @@
 -- What the program answers for where memory ran out before it began: whatever its words ask for.
-use Rattle.std.proofs.Common.{◌≡◌, ◌⊎◌, inl, inr, ◌∙◌, ◌≤◌, List, [], ◌∷◌, map, Option, Some, None, ap, sym, subst}
+use Rattle.std.proofs.Common.{◌≡◌, ◌⊎◌, inl, inr, ◌∙◌, ◌≤◌, ℕ, List, [], ◌∷◌, map, Option, Some, None, ap, sym, subst}
 use Rattle.std.proofs.Math.Nat.{le_refl}
 use Rattle.std.specs.Prelude.{is_some}
 use Rattle.ha_io.specs.declared.place.Opening.{Opening}
@@ -16,11 +16,12 @@ use Rattle.ha_run.specs.Served.{AreOpened}
 use Rattle.ha_run.specs.Stands.{StandsAt}
 use Rattle.ha_check.specs.Checked.{IsAnswerOf, IsCheckStatus, IsOutput}
 use Rattle.ha_check.specs.Configured.{RefusedCause}
+use Rattle.ha_rehearse.specs.Rehearsed.{IsCounted, IsRehearseStatus}
 use Rattle.ha_io.proofs.AskedLemmas.{asked_none}
 use Rattle.ha_top.specs.Views.{After, Before}
 use Rattle.ha_top.specs.Written.{AreTheSame, LineBehind, NoneWritten, written}
 use Rattle.ha_top.specs.Answered.{Answered, IsBooted, IsStore, IsStoreFault, IsTaken, IsTraceOf, RunOpenCause, StoreCause, WriteFailed, WriteTookNone, opens, scene}
-use Rattle.ha_top.specs.Program.{AnsweredBy, Checked, HasNoJournal, Unplanned}
+use Rattle.ha_top.specs.Program.{AnsweredBy, Checked, HasNoJournal, Rehearsed, Unplanned}
 use Rattle.ha_top.proofs.AskedLemmas.{asked_early}
 use Rattle.ha_top.proofs.EarlyLemmas.{if_all, sink_same}
 use Rattle.ha_top.proofs.ToldLemmas.{still_told}
@@ -114,6 +115,17 @@ module _ (b : Before) (a : After) (l : IsLeft b a) where
     unwritten = at (λ s. WriteCause (Rose b.out.faults a.out.faults) (Rose b.out.zeros a.out.zeros) s) tt;
   }
 
+  unrehearsed : (lines : ℕ) → Rehearsed lines b a
+  unrehearsed lines = record {
+    answer = at (λ s. IsRehearseStatus lines s) tt;
+    output = at (λ s. IsCounted lines s b.out.took a.out.took) (inl (ap (λ s. s.took) l.same_out));
+    line = l.line;
+    nothing = nothing;
+    no_source = l.no_source;
+    same_place = l.same_place;
+    unwritten = at (λ s. WriteCause (Rose b.out.faults a.out.faults) (Rose b.out.zeros a.out.zeros) s) tt;
+  }
+
   unplanned : Unplanned b a
   unplanned = record { status_is = inr (one l.status_is); nothing = nothing; written = none; no_source = l.no_source; same_place = l.same_place }
 
@@ -122,4 +134,4 @@ module _ (b : Before) (a : After) (l : IsLeft b a) where
   unanswered (Some (Plan.Run words)) = unread words
   unanswered (Some (Plan.Check name)) = unchecked name
   unanswered (Some (Plan.Replay name)) = unplanned
-  unanswered (Some (Plan.Rehearse lines)) = unplanned
+  unanswered (Some (Plan.Rehearse lines)) = unrehearsed lines

@@ -1,5 +1,5 @@
 -- What the program answers for, by its words.
-use Rattle.std.specs.Prelude.{◌≡◌, ◌⊎◌, ◌∷◌, [], map, Option, Some, None, IfSome, IsSome}
+use Rattle.std.specs.Prelude.{ℕ, ◌≡◌, ◌⊎◌, ◌∷◌, [], map, Option, Some, None, IfSome, IsSome}
 use Rattle.ha_model.specs.Words.{Text}
 use Rattle.ha_status.specs.declared.status.Status.{Status}
 use Rattle.ha_status.specs.Causes.{OpenCause, ReadCause, WriteCause}
@@ -8,6 +8,7 @@ use Rattle.ha_words.specs.declared.plan.Plan.{Plan}
 use Rattle.ha_words.specs.declared.plan.Plan.TheVariants.{Run, Check, Replay, Rehearse}
 use Rattle.ha_check.specs.Checked.{IsAnswerOf, IsCheckStatus, IsOutput}
 use Rattle.ha_io.specs.declared.place.Opening.{Opening}
+use Rattle.ha_rehearse.specs.Rehearsed.{IsCounted, IsRehearseStatus}
 use Rattle.ha_io.specs.Counts.{Rose}
 use Rattle.ha_io.specs.Told.{IsAskedSome}
 use Rattle.ha_top.specs.Views.{After, Before}
@@ -43,10 +44,20 @@ pub record Checked (name : Text) (b : Before) (a : After) : Type 0 where
   pub unread : ReadCause name [] (map (λ s. s.faults) a.sources) (map (λ s. s.name) a.sources) a.status
   pub unwritten : WriteCause (Rose b.out.faults a.out.faults) (Rose b.out.zeros a.out.zeros) a.status
 
--- what the program answers for, by the plan of its words; it takes none yet that ask for a replay or a rehearsal
+-- `rehearse` of so many lines: nothing was asked of the place
+pub record Rehearsed (lines : ℕ) (b : Before) (a : After) : Type 0 where
+  pub answer : IsRehearseStatus lines a.status
+  pub output : IsCounted lines a.status b.out.took a.out.took
+  pub line : LineBehind b a b.err.took
+  pub nothing : HasNoJournal b a
+  pub no_source : a.sources ≡ []
+  pub same_place : a.place ≡ b.place
+  pub unwritten : WriteCause (Rose b.out.faults a.out.faults) (Rose b.out.zeros a.out.zeros) a.status
+
+-- what the program answers for, by the plan of its words; it takes none yet that ask for a replay
 abbrev pub AnsweredBy : Option Plan → Before → After → Type 0
 AnsweredBy None b a = Unplanned b a
 AnsweredBy (Some (Run words)) b a = Answered words b a
 AnsweredBy (Some (Check name)) b a = Checked name b a
 AnsweredBy (Some (Replay name)) b a = Unplanned b a
-AnsweredBy (Some (Rehearse lines)) b a = Unplanned b a
+AnsweredBy (Some (Rehearse lines)) b a = Rehearsed lines b a

@@ -1,10 +1,12 @@
 //! The program: what its words ask for.
-ghost use Rattle.std.specs.Prelude.{◌≡◌, ◌<◌, ◌⊎◌, [], IfSome, None, map, option_map, option_to_list, string_bytes, vec_capacity, vec_len};
+ghost use Rattle.std.specs.Prelude.{◌≡◌, ◌<◌, ◌≤◌, ◌⊎◌, [], IfSome, None, map, option_map, option_to_list, string_bytes, vec_capacity, vec_len};
 ghost use Rattle.bus_turn.specs.States.{keeper_of, sink_of};
 ghost use Rattle.ha_worker.specs.Courses.{source_of};
-ghost use Rattle.ha_status.specs.Causes.{NeverFall, OneRose};
+ghost use Rattle.ha_io.specs.Counts.{Rose};
+ghost use Rattle.ha_status.specs.Causes.{NeverFall, OneRose, WriteCause};
 ghost use Rattle.ha_status.specs.Written.{TookLine};
 ghost use Rattle.ha_words.specs.PlanOf.{plan_of};
+ghost use Rattle.ha_rehearse.specs.Rehearsed.{IsCounted, IsRehearseStatus};
 ghost use Rattle.ha_top.specs.Program.{AnsweredBy, Checked};
 ghost use Rattle.ha_top.specs.Views.{after_run, before_run, place_state};
 
@@ -13,6 +15,7 @@ use crate::top::run_live;
 use ha_boot::Boots;
 use ha_check::check_call;
 use ha_io::{Gate, Keeper, Place, Source};
+use ha_rehearse::rehearse_call;
 use ha_status::{Status, told};
 use ha_value::{Many, Word};
 use ha_words::{Plan, WordsFault, read_words};
@@ -96,8 +99,42 @@ fn check<P: Place, Q: Keeper>(
     }
 }
 
-/// The program: what its words ask for, on the outside that it is handed. It takes no words yet that ask for a replay or a rehearsal. A run may
-/// wait for a worker's turn.
+/// `rehearse` of so many lines.
+fn rehearse<E: Boots, P: Place, Q: Keeper>(
+    alloc: Global,
+    lines: u32,
+    out: P::Sink,
+    err: P::Sink,
+    keep: Q,
+) -> Outcome<P, Q>
+    requires few { lines ≤ 100_000 }
+    ensures answer { IsRehearseStatus lines result.status }
+    ensures unwritten { WriteCause (Rose (P.Sink.faults out) (P.Sink.faults result.out)) (Rose (P.Sink.zeros out) (P.Sink.zeros result.out)) result.status }
+    ensures output { IsCounted lines result.status (P.Sink.written out) (P.Sink.written result.out) }
+    ensures line { TookLine (OneRose (P.Sink.faults err) (P.Sink.faults result.err) (P.Sink.zeros err) (P.Sink.zeros result.err)) result.status (P.Sink.written err) (P.Sink.written result.err) }
+    ensures journal { result.journal ≡ [] }
+    ensures records { result.records ≡ [] }
+    ensures sources { result.sources ≡ [] }
+    ensures trace { result.trace ≡ None }
+    ensures keep { result.keep ≡ keep }
+{
+    let mut out = out;
+    let mut err = err;
+    let status = rehearse_call::<E, P::Sink>(alloc, lines, &mut out, &mut err);
+    Outcome {
+        status,
+        journal: Many::make(alloc),
+        records: Many::make(alloc),
+        sources: Many::make(alloc),
+        out,
+        err,
+        trace: None,
+        keep,
+    }
+}
+
+/// The program: what its words ask for, on the outside that it is handed. It takes no words yet that ask for a replay. A run may wait for a
+/// worker's turn.
 pub fn hearth<R: Threads + Wait + Sync, E: Boots, P: Place, Q: Keeper, G: Gate>(
     rt: &R,
     alloc: Global,
@@ -123,7 +160,7 @@ pub fn hearth<R: Threads + Wait + Sync, E: Boots, P: Place, Q: Keeper, G: Gate>(
         ),
         Ok(Plan::Check(name)) => check(alloc, &name, place, out, err, keep),
         Ok(Plan::Replay(_)) => ended(alloc, Status::Usage, out, err, keep),
-        Ok(Plan::Rehearse(_)) => ended(alloc, Status::Usage, out, err, keep),
+        Ok(Plan::Rehearse(lines)) => rehearse::<E, P, Q>(alloc, lines, out, err, keep),
         Err(WordsFault::Usage) => ended(alloc, Status::Usage, out, err, keep),
         Err(WordsFault::Memory) => ended(alloc, Status::Memory, out, err, keep),
     }

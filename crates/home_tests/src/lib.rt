@@ -10,6 +10,8 @@ mod moments;
 #[cfg(test)]
 mod outside;
 #[cfg(test)]
+mod rehearsals;
+#[cfg(test)]
 mod runs;
 #[cfg(test)]
 mod scripts;
