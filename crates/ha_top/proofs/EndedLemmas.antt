@@ -4,10 +4,10 @@ use Rattle.std.proofs.Math.Nat.{le_refl}
 use Rattle.std.specs.Prelude.{is_some}
 use Rattle.ha_io.specs.declared.place.Opening.{Opening}
 use Rattle.ha_io.specs.Counts.{Rose}
-use Rattle.ha_io.specs.Told.{IsAskedSome}
+use Rattle.ha_io.specs.Told.{IsAskedSome, Takes}
 use Rattle.ha_model.specs.Words.{Text}
 use Rattle.ha_status.specs.declared.status.Status.{Status}
-use Rattle.ha_status.specs.Causes.{KeepCause, NeverFall, OpenCause, ReadCause, WriteCause}
+use Rattle.ha_status.specs.Causes.{KeepCause, NeverFall, OneRose, OpenCause, ReadCause, WriteCause}
 use Rattle.ha_status.specs.Files.{IsHandedBack, IsTextFault}
 use Rattle.ha_words.specs.declared.plan.Plan.{Plan}
 use Rattle.ha_words.specs.declared.plan.RunWords.{RunWords}
@@ -18,10 +18,13 @@ use Rattle.ha_check.specs.Checked.{IsAnswerOf, IsCheckStatus, IsOutput}
 use Rattle.ha_check.specs.Configured.{RefusedCause}
 use Rattle.ha_rehearse.specs.Rehearsed.{IsCounted, IsRehearseStatus}
 use Rattle.ha_io.proofs.AskedLemmas.{asked_none}
+use Rattle.ha_io.proofs.ToldLemmas.{Takes-nothing}
+use Rattle.replay_file.specs.Replays.{IsUnread}
+use Rattle.replay_file.proofs.TakeLemmas.{whole_taken}
 use Rattle.ha_top.specs.Views.{After, Before}
 use Rattle.ha_top.specs.Written.{AreTheSame, LineBehind, NoneWritten, written}
 use Rattle.ha_top.specs.Answered.{Answered, IsBooted, IsStore, IsStoreFault, IsTaken, IsTraceOf, RunOpenCause, StoreCause, WriteFailed, WriteTookNone, opens, scene}
-use Rattle.ha_top.specs.Program.{AnsweredBy, Checked, HasNoJournal, Rehearsed, Unplanned}
+use Rattle.ha_top.specs.Program.{AnsweredBy, Checked, HasNoJournal, Rehearsed, Replayed, Unplanned}
 use Rattle.ha_top.proofs.AskedLemmas.{asked_early}
 use Rattle.ha_top.proofs.EarlyLemmas.{if_all, sink_same}
 use Rattle.ha_top.proofs.ToldLemmas.{still_told}
@@ -126,6 +129,25 @@ module _ (b : Before) (a : After) (l : IsLeft b a) where
     unwritten = at (λ s. WriteCause (Rose b.out.faults a.out.faults) (Rose b.out.zeros a.out.zeros) s) tt;
   }
 
+  out_took : a.out.took ≡ b.out.took
+  out_took = ap (λ s. s.took) l.same_out
+
+  pub unreplayed : (name : Text) → Replayed name b a
+  unreplayed name = record {
+    replay = inl (
+      at IsUnread tt,
+      whole_taken a.status [] b.out.took a.out.took (subst (Takes b.out.took []) (sym out_took) (Takes-nothing b.out.took)),
+      record { between = b.err.took; errors_taken = whole_taken a.status [] b.err.took b.err.took (Takes-nothing b.err.took); line_taken = l.line },
+    );
+    asked = unasked ((name, Opening.Reading) ∷ []);
+    nothing = nothing;
+    handed_back = at (λ s. IsHandedBack name (map (λ x. x.name) a.sources) s) tt;
+    at_end = λ told ok. absurd (let clash : ◌≡◌ {A = Status} Status.Memory Status.Ok = sym (one l.status_is) ∙ ok in cc);
+    unopened = at (λ s. OpenCause (name ∷ []) b.place.faults a.place.faults a.place.last s) tt;
+    unread = at (λ s. ReadCause name (name ∷ []) (map (λ x. x.faults) a.sources) (map (λ x. x.name) a.sources) s) tt;
+    unwritten = at (λ s. WriteCause (OneRose b.out.faults a.out.faults b.err.faults a.err.faults) (OneRose b.out.zeros a.out.zeros b.err.zeros a.err.zeros) s) tt;
+  }
+
   unplanned : Unplanned b a
   unplanned = record { status_is = inr (one l.status_is); nothing = nothing; written = none; no_source = l.no_source; same_place = l.same_place }
 
@@ -133,5 +155,5 @@ module _ (b : Before) (a : After) (l : IsLeft b a) where
   unanswered None = unplanned
   unanswered (Some (Plan.Run words)) = unread words
   unanswered (Some (Plan.Check name)) = unchecked name
-  unanswered (Some (Plan.Replay name)) = unplanned
+  unanswered (Some (Plan.Replay name)) = unreplayed name
   unanswered (Some (Plan.Rehearse lines)) = unrehearsed lines

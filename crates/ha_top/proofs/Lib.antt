@@ -5,3 +5,4 @@ pub mod OpenLemmas
 pub mod RunLemmas
 pub mod StoreLemmas
 pub mod ToldLemmas
+pub mod SourceLemmas

@@ -7,7 +7,7 @@ ghost use Rattle.ha_status.specs.Causes.{NeverFall, OneRose, WriteCause};
 ghost use Rattle.ha_status.specs.Written.{TookLine};
 ghost use Rattle.ha_words.specs.PlanOf.{plan_of};
 ghost use Rattle.ha_rehearse.specs.Rehearsed.{IsCounted, IsRehearseStatus};
-ghost use Rattle.ha_top.specs.Program.{AnsweredBy, Checked};
+ghost use Rattle.ha_top.specs.Program.{AnsweredBy, Checked, Replayed};
 ghost use Rattle.ha_top.specs.Views.{after_run, before_run, place_state};
 
 use crate::outcome::Outcome;
@@ -19,6 +19,7 @@ use ha_rehearse::rehearse_call;
 use ha_status::{Status, told};
 use ha_value::{Many, Word};
 use ha_words::{Plan, WordsFault, read_words};
+use replay_file::replay_call;
 use std::alloc::Global;
 use std::sync::Wait;
 use std::thread::Threads;
@@ -99,6 +100,37 @@ fn check<P: Place, Q: Keeper>(
     }
 }
 
+/// `replay` of the trace in the file of this name.
+fn replay<E: Boots, P: Place, Q: Keeper>(
+    alloc: Global,
+    name: &Word,
+    place: &mut P,
+    out: P::Sink,
+    err: P::Sink,
+    keep: Q,
+) -> Outcome<P, Q>
+    ensures { let s = sink_of P.Sink.written P.Sink.faults P.Sink.zeros P.Sink.name in
+        let q = keeper_of Q.kept Q.faults in
+        Replayed name.now (before_run (place_state (P.holds place.old) (P.faults place.old) (P.last place.old) (P.asked place.old)) (s out) (s err) (q keep)) (after_run result.status result.journal result.records (map (source_of P.Source.faults P.Source.left P.Source.name) result.sources) (place_state (P.holds place.new) (P.faults place.new) (P.last place.new) (P.asked place.new)) (s result.out) (s result.err) (option_map s result.trace) (q result.keep)) }
+{
+    let Ok(sources) = Vec::with_capacity(alloc, 1) else {
+        return ended(alloc, Status::Memory, out, err, keep);
+    };
+    let mut out = out;
+    let mut err = err;
+    let (status, source) = replay_call::<E, P>(alloc, name.as_str(), place, &mut out, &mut err);
+    Outcome {
+        status,
+        journal: Many::make(alloc),
+        records: Many::make(alloc),
+        sources: listed(sources, source),
+        out,
+        err,
+        trace: None,
+        keep,
+    }
+}
+
 /// `rehearse` of so many lines.
 fn rehearse<E: Boots, P: Place, Q: Keeper>(
     alloc: Global,
@@ -133,8 +165,7 @@ fn rehearse<E: Boots, P: Place, Q: Keeper>(
     }
 }
 
-/// The program: what its words ask for, on the outside that it is handed. It takes no words yet that ask for a replay. A run may wait for a
-/// worker's turn.
+/// The program: what its words ask for, on the outside that it is handed. A run may wait for a worker's turn.
 pub fn hearth<R: Threads + Wait + Sync, E: Boots, P: Place, Q: Keeper, G: Gate>(
     rt: &R,
     alloc: Global,
@@ -159,7 +190,7 @@ pub fn hearth<R: Threads + Wait + Sync, E: Boots, P: Place, Q: Keeper, G: Gate>(
             rt, alloc, &words, place, out, err, keep, gate,
         ),
         Ok(Plan::Check(name)) => check(alloc, &name, place, out, err, keep),
-        Ok(Plan::Replay(_)) => ended(alloc, Status::Usage, out, err, keep),
+        Ok(Plan::Replay(name)) => replay::<E, P, Q>(alloc, &name, place, out, err, keep),
         Ok(Plan::Rehearse(lines)) => rehearse::<E, P, Q>(alloc, lines, out, err, keep),
         Err(WordsFault::Usage) => ended(alloc, Status::Usage, out, err, keep),
         Err(WordsFault::Memory) => ended(alloc, Status::Memory, out, err, keep),

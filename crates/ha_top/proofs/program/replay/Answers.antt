@@ -1,0 +1,43 @@
+use Rattle.std.proofs.Common.{◌∙◌, ap, map, refl, rules}
+use Rattle.std.specs.Option.{option_map}
+use Rattle.bus_turn.specs.States.{keeper_of, sink_of}
+use Rattle.ha_worker.specs.Courses.{source_of}
+use Rattle.ha_top.proofs.EndedLemmas.{unreplayed}
+use Rattle.ha_top.proofs.SourceLemmas.{faults_are, handed_back_as, lefts_are, names_are, unread_as}
+use Rattle.ha_top.proofs.program.replay.Goals as goal
+
+pub returns-in_default : goal.returns-in_default
+returns-in_default g c =
+    let e = c.ended.ensures in
+    let sink = sink_of g.P.Sink.Sink.written g.P.Sink.Sink.faults g.P.Sink.Sink.zeros g.P.Sink.Sink.name in
+    unreplayed _ _ (record {
+      status_is = e.status;
+      no_entry = e.journal;
+      no_record = e.records;
+      no_source = ap (map (source_of g.P.Source.Source.faults g.P.Source.Source.left g.P.Source.Source.name)) e.sources;
+      no_trace = ap (option_map sink) e.trace;
+      same_out = ap sink e.out;
+      same_keep = ap (keeper_of g.Q.Keeper.kept g.Q.Keeper.faults) e.keep;
+      same_place = refl;
+      line = e.line;
+      counts = e.counts;
+      same_name = e.same_name;
+    }) c.args.name.now
+
+pub returns : goal.returns
+returns g c =
+    let e = c.replay_call-status.ensures in
+    let same = c.as_str.ensures.value in
+    let source = g.P.Source.Source in
+    let handed = c.replay_call-status.result.1 in
+    record {
+      replay = rw (← c.as_str.ensures.value) c.replay_call-status.ensures.replay;
+      asked = search rules;
+      nothing = search rules;
+      handed_back = handed_back_as _ _ _ _ _ same (names_are source.faults source.left source.name handed c.listed.result c.listed.ensures) e.handed_back;
+      at_end = λ told ok. lefts_are source.faults source.left source.name handed c.listed.result c.listed.ensures ∙ e.at_end told ok;
+      unopened = rw (← c.as_str.ensures.value) c.replay_call-status.ensures.unopened;
+      unread = unread_as _ _ _ _ _ _ _ same (faults_are source.faults source.left source.name handed c.listed.result c.listed.ensures)
+          (names_are source.faults source.left source.name handed c.listed.result c.listed.ensures) e.unread;
+      unwritten = e.unwritten;
+    }
