@@ -1,0 +1,222 @@
+//! Runs of one automation, as its mode admits, begins and ends them.
+ghost use Rattle.std.specs.Prelude.{◌≡◌, ◌&&◌, true, Some, None, is_none, is_some, nat_eq};
+ghost use Rattle.std.specs.Option.{option_copied};
+ghost use Rattle.ha_model.specs.declared.journal.Record.{Record as Run};
+ghost use Rattle.ha_model.specs.Lawful.{record_of};
+ghost use Rattle.run_modes.specs.Table.{HasBegun};
+
+use ha_model::{EndCause, Many, Mode, Record};
+use run_modes::{Admission, Runs};
+use std::alloc::{AllocError, Global};
+use std::test::Fail;
+
+/// An attempt of automation 0 at a place.
+fn attempt(
+    alloc: Global,
+    runs: &mut Runs,
+    mode: Mode,
+    max: u32,
+    place: u64,
+) -> Result<Admission, AllocError> {
+    runs.attempt(0, mode, max, place, 0, Many::make(alloc))
+}
+
+/// Whether the attempts at one entry are told these in turn.
+fn are_told(alloc: Global, mode: Mode, max: u32, wanted: &[Admission]) -> Result<bool, AllocError> {
+    let mut runs = Runs::make(alloc);
+    for want in wanted {
+        if attempt(alloc, &mut runs, mode, max, 1)? != *want {
+            return Ok(false);
+        }
+    }
+    Ok(true)
+}
+
+/// The runs after one attempt at each of these places.
+fn attempted(alloc: Global, mode: Mode, max: u32, places: &[u64]) -> Result<Runs, AllocError> {
+    let mut runs = Runs::make(alloc);
+    for place in places {
+        let _ = attempt(alloc, &mut runs, mode, max, *place)?;
+    }
+    Ok(runs)
+}
+
+/// The record with that serial.
+fn record_at(records: &[Record], serial: u64) -> Option<&Record>
+    ensures { option_copied result ≡ record_of records.now serial }
+{
+    records.get(serial.saturating_sub(1) as usize)
+}
+
+/// Whether the run with this serial has begun and is live.
+fn may_end(records: &[Record], serial: u64) -> bool
+    ensures { result ≡ true → (r : Run) × (record_of records.now serial ≡ Some r) × (r.serial ≡ serial) × HasBegun r.begin × (r.end ≡ None) }
+{
+    match record_at(records, serial) {
+        Some(found) => is_running(found, serial),
+        None => false,
+    }
+}
+
+/// Whether the run has this serial, has begun and is live.
+fn is_running(run: &Record, serial: u64) -> bool
+    ensures { result ≡ (nat_eq run.now.serial serial && is_some run.now.begin && is_none run.now.end) }
+{
+    run.serial == serial && run.begin.is_some() && run.end.is_none()
+}
+
+/// The run with this serial is done at a place. Whether it may end, and this one begins there.
+fn is_done(runs: &mut Runs, serial: u64, place: u64, begins: Option<u64>) -> bool {
+    if may_end(runs.list(), serial) {
+        runs.ended(serial, place, EndCause::Done) == begins
+    } else {
+        false
+    }
+}
+
+/// Whether the run with this serial has this number, and began and ended there.
+fn went(
+    runs: &Runs,
+    serial: u64,
+    number: u64,
+    begin: Option<u64>,
+    end: Option<(u64, EndCause)>,
+) -> bool {
+    match record_at(runs.list(), serial) {
+        Some(run) => run.number == number && run.begin == begin && run.end == end,
+        None => false,
+    }
+}
+
+#[test]
+fn single_admits_one_whatever_the_limit(rt: HostRuntime) -> Result<(), Fail> {
+    let wanted = [Admission::Begun(1), Admission::Refused, Admission::Refused];
+    assert!(rt; are_told(rt.alloc(), Mode::Single, 1, &wanted)?);
+    assert!(rt; are_told(rt.alloc(), Mode::Single, 2, &wanted)?);
+    assert!(rt; are_told(rt.alloc(), Mode::Single, 10, &wanted)?);
+    Ok(())
+}
+
+#[test]
+fn restart_admits_each_whatever_the_limit(rt: HostRuntime) -> Result<(), Fail> {
+    let wanted = [
+        Admission::Begun(1),
+        Admission::Replaces(2, 1),
+        Admission::Replaces(3, 2),
+    ];
+    assert!(rt; are_told(rt.alloc(), Mode::Restart, 1, &wanted)?);
+    assert!(rt; are_told(rt.alloc(), Mode::Restart, 2, &wanted)?);
+    assert!(rt; are_told(rt.alloc(), Mode::Restart, 10, &wanted)?);
+    Ok(())
+}
+
+#[test]
+fn queued_admits_up_to_the_limit(rt: HostRuntime) -> Result<(), Fail> {
+    let one = [Admission::Begun(1), Admission::Refused];
+    let two = [
+        Admission::Begun(1),
+        Admission::Queued(2),
+        Admission::Refused,
+    ];
+    let ten = [
+        Admission::Begun(1),
+        Admission::Queued(2),
+        Admission::Queued(3),
+        Admission::Queued(4),
+        Admission::Queued(5),
+        Admission::Queued(6),
+        Admission::Queued(7),
+        Admission::Queued(8),
+        Admission::Queued(9),
+        Admission::Queued(10),
+        Admission::Refused,
+    ];
+    assert!(rt; are_told(rt.alloc(), Mode::Queued, 1, &one)?);
+    assert!(rt; are_told(rt.alloc(), Mode::Queued, 2, &two)?);
+    assert!(rt; are_told(rt.alloc(), Mode::Queued, 10, &ten)?);
+    Ok(())
+}
+
+#[test]
+fn parallel_admits_up_to_the_limit(rt: HostRuntime) -> Result<(), Fail> {
+    let one = [Admission::Begun(1), Admission::Refused];
+    let two = [Admission::Begun(1), Admission::Begun(2), Admission::Refused];
+    let ten = [
+        Admission::Begun(1),
+        Admission::Begun(2),
+        Admission::Begun(3),
+        Admission::Begun(4),
+        Admission::Begun(5),
+        Admission::Begun(6),
+        Admission::Begun(7),
+        Admission::Begun(8),
+        Admission::Begun(9),
+        Admission::Begun(10),
+        Admission::Refused,
+    ];
+    assert!(rt; are_told(rt.alloc(), Mode::Parallel, 1, &one)?);
+    assert!(rt; are_told(rt.alloc(), Mode::Parallel, 2, &two)?);
+    assert!(rt; are_told(rt.alloc(), Mode::Parallel, 10, &ten)?);
+    Ok(())
+}
+
+#[test]
+fn a_refused_attempt_has_no_number(rt: HostRuntime) -> Result<(), Fail> {
+    let mut runs = attempted(rt.alloc(), Mode::Single, 10, &[1, 2])?;
+    assert!(rt; is_done(&mut runs, 1, 3, None));
+    let told = attempt(rt.alloc(), &mut runs, Mode::Single, 10, 3)?;
+    assert!(rt; told == Admission::Begun(2) && went(&runs, 2, 2, Some(3), None));
+    Ok(())
+}
+
+#[test]
+fn a_queue_begins_in_its_order(rt: HostRuntime) -> Result<(), Fail> {
+    let mut runs = attempted(rt.alloc(), Mode::Queued, 3, &[1, 2, 2])?;
+    assert!(rt; !is_done(&mut runs, 2, 5, None), "it waits");
+    assert!(rt; is_done(&mut runs, 1, 5, Some(2)));
+    assert!(rt; is_done(&mut runs, 2, 9, Some(3)));
+    assert!(rt;
+        went(&runs, 2, 2, Some(5), Some((9, EndCause::Done))) && went(&runs, 3, 3, Some(9), None)
+    );
+    Ok(())
+}
+
+#[test]
+fn a_waiting_run_that_is_stopped_never_begins(rt: HostRuntime) -> Result<(), Fail> {
+    let mut runs = attempted(rt.alloc(), Mode::Queued, 2, &[1, 2])?;
+    runs.stop_all(Some(0), 4, EndCause::SwitchedOff);
+    assert!(rt; went(&runs, 1, 1, Some(1), Some((4, EndCause::SwitchedOff))));
+    assert!(rt; went(&runs, 2, 2, None, Some((4, EndCause::SwitchedOff))));
+    let told = attempt(rt.alloc(), &mut runs, Mode::Queued, 2, 5)?;
+    assert!(rt; told == Admission::Begun(3));
+    Ok(())
+}
+
+#[test]
+fn a_stop_at_the_entry_of_an_end_begins_none(rt: HostRuntime) -> Result<(), Fail> {
+    let mut runs = attempted(rt.alloc(), Mode::Queued, 10, &[1, 2])?;
+    assert!(rt; is_done(&mut runs, 1, 4, Some(2)));
+    runs.stop_all(None, 4, EndCause::Restarted);
+    assert!(rt; went(&runs, 1, 1, Some(1), Some((4, EndCause::Done))));
+    assert!(rt; went(&runs, 2, 2, None, Some((4, EndCause::Restarted))));
+    Ok(())
+}
+
+#[test]
+fn a_run_that_is_replaced_where_it_began_has_begun(rt: HostRuntime) -> Result<(), Fail> {
+    let runs = attempted(rt.alloc(), Mode::Restart, 1, &[1, 2, 2])?;
+    assert!(rt; went(&runs, 1, 1, Some(1), Some((2, EndCause::Replaced))));
+    assert!(rt; went(&runs, 2, 2, Some(2), Some((2, EndCause::Replaced))));
+    assert!(rt; went(&runs, 3, 3, Some(2), None));
+    Ok(())
+}
+
+#[test]
+fn a_run_that_is_done_is_not_replaced(rt: HostRuntime) -> Result<(), Fail> {
+    let mut runs = attempted(rt.alloc(), Mode::Restart, 1, &[1])?;
+    assert!(rt; is_done(&mut runs, 1, 7, None));
+    let told = attempt(rt.alloc(), &mut runs, Mode::Restart, 1, 7)?;
+    assert!(rt; told == Admission::Begun(2));
+    assert!(rt; went(&runs, 1, 1, Some(1), Some((7, EndCause::Done))));
+    Ok(())
+}

@@ -1,0 +1,202 @@
+//! Switches, and the texts that store them.
+ghost use Rattle.std.specs.Prelude.{◌≡◌, true, IfOk};
+ghost use Rattle.ha_value.specs.Ids.{is_name};
+ghost use Rattle.ha_model.specs.Sound.{IsSoundConfig, is_sound_automation};
+
+use ha_model::{Automation, Config, Many, Mode, Word};
+use std::alloc::{AllocError, Global};
+use std::test::Fail;
+use store_text::{StoreFault, read_store};
+use switch_book::Switches;
+
+/// An automation without triggers, conditions and actions.
+fn automation(alloc: Global, name: &str, initial: Option<bool>) -> Result<Automation, AllocError>
+    ensures name { IfOk result (λ a. a.name ≡ name.now) }
+    ensures sound { IfOk result (λ a. is_name name.now ≡ true → is_sound_automation a ≡ true) }
+{
+    Ok(Automation {
+        name: Word::from_str(alloc, name)?,
+        triggers: Many::make(alloc),
+        tests: Many::make(alloc),
+        actions: Many::make(alloc),
+        mode: Mode::Single,
+        max: 10,
+        initial,
+    })
+}
+
+/// Automations `porch` and `attic`, of which the second may have an initial state.
+fn house(alloc: Global, initial: Option<bool>) -> Result<Config, AllocError>
+    ensures { IfOk result (λ c. IsSoundConfig c) }
+{
+    let porch = automation(alloc, "porch", None)?;
+    let attic = automation(alloc, "attic", initial)?;
+    let mut automations = Many::make(alloc);
+    automations.push(porch)?;
+    automations.push(attic)?;
+    Ok(Config { automations })
+}
+
+/// Whether a text is refused with this code.
+fn is_refused(alloc: Global, text: &[u8], code: u8) -> bool {
+    match read_store(alloc, text) {
+        Err(StoreFault::Refused(found)) => found == code,
+        _ => false,
+    }
+}
+
+/// Whether each of the texts is refused with this code.
+fn are_refused(alloc: Global, texts: &[&str], code: u8) -> bool {
+    for text in texts {
+        if !is_refused(alloc, text.as_bytes(), code) {
+            return false;
+        }
+    }
+    true
+}
+
+/// Whether each of the texts holds the switch `a`, off, and no other.
+fn are_read(alloc: Global, texts: &[&str]) -> bool {
+    for text in texts {
+        if !is_read(alloc, text) {
+            return false;
+        }
+    }
+    true
+}
+
+/// Whether a text holds the switch `a`, off, and no other.
+fn is_read(alloc: Global, text: &str) -> bool {
+    match read_store(alloc, text.as_bytes()) {
+        Ok(found) => found.len() == 1 && is_a_off(found.get(0)),
+        Err(_) => false,
+    }
+}
+
+/// Whether there is a switch, which is `a` and off.
+fn is_a_off(switch: Option<&(Word, bool)>) -> bool {
+    match switch {
+        Some(switch) => switch.0.as_str() == "a" && !switch.1,
+        None => false,
+    }
+}
+
+/// Whether what was stored is stored again as this text.
+fn is_stored_as(
+    alloc: Global,
+    text: &str,
+    initial: Option<bool>,
+    again: &str,
+) -> Result<bool, AllocError> {
+    let Ok(stored) = read_store(alloc, text.as_bytes()) else {
+        return Ok(false);
+    };
+    let switches = Switches::restore(alloc, &house(alloc, initial)?, Some(&stored))?;
+    Ok(switches.store_text(alloc)?.as_str() == again)
+}
+
+#[test]
+fn the_keys_of_a_store_come_in_any_order(rt: HostRuntime) {
+    let texts = [
+        "{\"switches\":{\"a\":false},\"version\":1}",
+        "{\"version\":1,\"switches\":{\"a\":false}}",
+        " {\n\"version\" : 1 ,\t\"switches\" : { \"a\" : false } } ",
+        "{\"\\u0073witches\":{\"\\u0061\":false},\"version\":1}",
+    ];
+    assert!(rt; are_read(rt.alloc(), &texts));
+}
+
+#[test]
+fn of_a_key_that_stands_twice_the_last_counts(rt: HostRuntime) {
+    let texts = [
+        "{\"switches\":{\"a\":true,\"a\":false},\"version\":1}",
+        "{\"switches\":{\"b\":true},\"switches\":{\"a\":false},\"version\":1}",
+        "{\"version\":1,\"switches\":7,\"switches\":{\"a\":false}}",
+        "{\"version\":2,\"switches\":{\"a\":false},\"version\":1}",
+    ];
+    assert!(rt; are_read(rt.alloc(), &texts));
+}
+
+#[test]
+fn no_json_is_s1(rt: HostRuntime) {
+    let texts = [
+        "{",
+        "",
+        "{\"switches\":{},\"version\":1}}",
+        "{\"switches\":{},\"version\":1,}",
+        "{\"version\":1e400}",
+        "{'switches':{},'version':1}",
+    ];
+    assert!(rt; are_refused(rt.alloc(), &texts, 1));
+    let bytes = b"{\"switches\":{\"\xff\":true},\"version\":1}";
+    assert!(rt; is_refused(rt.alloc(), bytes.as_slice(), 1));
+}
+
+#[test]
+fn a_text_a_million_deep_is_s1(rt: HostRuntime) -> Result<(), Fail> {
+    let mut text = Vec::new(rt.alloc());
+    for _ in 0..1_000_000 {
+        text.push(b'[')?;
+    }
+    assert!(rt; is_refused(rt.alloc(), text.as_slice(), 1));
+    Ok(())
+}
+
+#[test]
+fn other_kinds_are_s2(rt: HostRuntime) {
+    let texts = [
+        "[]",
+        "null",
+        "{\"version\":\"1\",\"switches\":{}}",
+        "{\"version\":true,\"switches\":{}}",
+        "{\"version\":1.0,\"switches\":{}}",
+        "{\"version\":-0,\"switches\":{}}",
+        "{\"version\":18446744073709551616,\"switches\":{}}",
+        "{\"version\":1,\"switches\":[]}",
+        "{\"version\":1,\"switches\":null}",
+        "{\"version\":1,\"switches\":{\"a\":1}}",
+        "{\"version\":1,\"switches\":{\"a\":\"on\"}}",
+    ];
+    assert!(rt; are_refused(rt.alloc(), &texts, 2));
+}
+
+#[test]
+fn other_keys_are_s2(rt: HostRuntime) {
+    let texts = [
+        "{\"version\":1}",
+        "{\"switches\":{\"a\":true}}",
+        "{}",
+        "{\"version\":1,\"switches\":{},\"last\":{}}",
+        "{\"version\":1,\"switch\":{}}",
+        "{\"version\":1,\"Switches\":{}}",
+    ];
+    assert!(rt; are_refused(rt.alloc(), &texts, 2));
+}
+
+#[test]
+fn another_version_is_s3(rt: HostRuntime) {
+    let texts = [
+        "{\"version\":2}",
+        "{\"version\":0,\"switches\":{}}",
+        "{\"version\":-1}",
+        "{\"version\":2,\"switches\":[],\"last\":{}}",
+        "{\"version\":18446744073709551615}",
+    ];
+    assert!(rt; are_refused(rt.alloc(), &texts, 3));
+}
+
+#[test]
+fn names_are_stored_in_byte_order(rt: HostRuntime) -> Result<(), Fail> {
+    let stored = "{\"switches\":{\"cellar\":true,\"porch\":false},\"version\":1}";
+    let again = "{\"switches\":{\"attic\":true,\"porch\":false},\"version\":1}";
+    assert!(rt; is_stored_as(rt.alloc(), stored, None, again)?);
+    Ok(())
+}
+
+#[test]
+fn an_initial_state_stands_over_the_store(rt: HostRuntime) -> Result<(), Fail> {
+    let stored = "{\"switches\":{\"attic\":true},\"version\":1}";
+    let again = "{\"switches\":{\"attic\":false,\"porch\":true},\"version\":1}";
+    assert!(rt; is_stored_as(rt.alloc(), stored, Some(false), again)?);
+    Ok(())
+}
