@@ -4,6 +4,7 @@
 #![tactic(auto)]
 
 mod cut;
+mod held;
 mod id;
 pub mod laws;
 mod many;

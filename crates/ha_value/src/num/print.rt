@@ -73,7 +73,10 @@ impl Num {
         ensures { IfOk result (λ w. w ≡ print_number self.now) }
     {
         match self {
-            Num::Whole(whole) => Ok(Word::from_string(format!(in alloc; "{whole}")?)),
+            Num::Whole(whole) => {
+                let word = Word::from_string(alloc, format!(in alloc; "{whole}")?)?;
+                Ok(word)
+            }
             Num::Fixed(fixed) => print_fixed(alloc, *fixed),
         }
     }
