@@ -24,7 +24,8 @@ fn numbered(alloc: Global, name: &Word, n: u64) -> Result<Word, AllocError>
     ensures { IfOk result (λ w. w ≡ names.numbered name.now n) }
 {
     let text = name.as_str();
-    Ok(Word::from_string(format!(in alloc; "{text}_{n}")?))
+    let word = Word::from_string(alloc, format!(in alloc; "{text}_{n}")?)?;
+    Ok(word)
 }
 
 /// The first of the names with a number from 2 on that is free.

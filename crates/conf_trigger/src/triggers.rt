@@ -36,7 +36,8 @@ fn rule(alloc: Global, kind: TriggerKind, line: u32, pairs: &[Pair]) -> Result<R
 fn digits(alloc: Global, idx: u32) -> Result<Word, AllocError>
     ensures { IfOk result (λ w. w ≡ decimal idx) }
 {
-    Ok(Word::from_string(format!(in alloc; "{idx}")?))
+    let word = Word::from_string(alloc, format!(in alloc; "{idx}")?)?;
+    Ok(word)
 }
 
 fn trigger_of(

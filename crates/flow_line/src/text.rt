@@ -201,7 +201,8 @@ impl<'a> FlowReader<'a> {
             let c = self.character()?;
             text.push(c)?;
         }
-        Ok(Word::from_string(text))
+        let word = Word::from_string(alloc, text)?;
+        Ok(word)
     }
 
     #[tactic(auto, unfolding(crate::specs::Text::string))]

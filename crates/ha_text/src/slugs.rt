@@ -56,5 +56,6 @@ pub fn slug(alloc: Global, text: &[u8]) -> Result<Word, AllocError>
             apart = true;
         }
     }
-    Ok(Word::from_string(named(alloc, slug)?))
+    let word = Word::from_string(alloc, named(alloc, slug)?)?;
+    Ok(word)
 }

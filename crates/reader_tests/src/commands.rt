@@ -143,7 +143,7 @@ fn printed(rt: &HostRuntime, text: &str) -> Result<String, Fail> {
         return Ok(String::new(rt.alloc()));
     }
     match read_value(rt.alloc(), text.as_bytes()) {
-        Ok(value) => Ok(print_value(rt.alloc(), &value)?.into_string()),
+        Ok(value) => Ok(print_value(rt.alloc(), &value)?.into_string(rt.alloc())?),
         Err(_) => Ok(String::new(rt.alloc())),
     }
 }

@@ -84,7 +84,9 @@ fn words(rt: HostRuntime) -> Result<(), Fail> {
     let read = Word::read(rt.alloc(), word.bytes())?;
     assert!(rt; read.same(&word));
     assert_eq!(rt;
-        Word::from_bytes(rt.alloc(), b"ab")?.into_string().as_str(),
+        Word::from_bytes(rt.alloc(), b"ab")?
+            .into_string(rt.alloc())?
+            .as_str(),
         "ab"
     );
     assert_eq!(rt;

@@ -37,8 +37,9 @@ fn moment_line(alloc: Global, at: Moment) -> Result<Word, AllocError>
 fn report_line(alloc: Global, sensor: u32, x: u32) -> Result<Word, AllocError>
     ensures { IfOk result (λ line. line ≡ report_line sensor x) }
 {
-    let line = format!(in alloc; "{{\"report\":\"sensor.s{sensor}\",\"state\":\"{x}\"}}")?;
-    Ok(Word::from_string(line))
+    let text = format!(in alloc; "{{\"report\":\"sensor.s{sensor}\",\"state\":\"{x}\"}}")?;
+    let line = Word::from_string(alloc, text)?;
+    Ok(line)
 }
 
 /// Line `i`, counted from 0, where `x` is the number at place `i + 1`: the moment `30 * (i + 1)` seconds after the start where `i` is 4 more

@@ -16,7 +16,8 @@ pub fn write_store(alloc: Global, switches: &[(Word, bool)]) -> Result<Word, All
 {
     let value = store_value(alloc, switches)?;
     let text = value.to_string(alloc)?;
-    Ok(Word::from_string(text))
+    let word = Word::from_string(alloc, text)?;
+    Ok(word)
 }
 
 /// The value whose text that is.

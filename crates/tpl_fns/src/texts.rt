@@ -92,20 +92,22 @@ pub fn printed(alloc: Global, value: &Value) -> Result<Word, TplFault>
     }
 }
 
-fn lowered(text: Word) -> Word
-    ensures { result ≡ lower text }
+fn lowered(alloc: Global, text: Word) -> Result<Word, AllocError>
+    ensures { IfOk result (λ made. made ≡ lower text) }
 {
-    let mut text = text.into_string();
+    let mut text = text.into_string(alloc)?;
     text.make_ascii_lowercase();
-    Word::from_string(text)
+    let word = Word::from_string(alloc, text)?;
+    Ok(word)
 }
 
-fn raised(text: Word) -> Word
-    ensures { result ≡ upper text }
+fn raised(alloc: Global, text: Word) -> Result<Word, AllocError>
+    ensures { IfOk result (λ made. made ≡ upper text) }
 {
-    let mut text = text.into_string();
+    let mut text = text.into_string(alloc)?;
     text.make_ascii_uppercase();
-    Word::from_string(text)
+    let word = Word::from_string(alloc, text)?;
+    Ok(word)
 }
 
 /// `lower`, of ASCII letters alone.
@@ -113,7 +115,10 @@ pub fn to_lower(alloc: Global, value: &Value) -> Result<Value, TplFault>
     ensures { Gives result (filters.printed_by lower value.now) }
 {
     match printed(alloc, value) {
-        Ok(text) => made(lowered(text)),
+        Ok(text) => match lowered(alloc, text) {
+            Ok(text) => made(text),
+            Err(_) => Err(TplFault::Memory),
+        },
         Err(fault) => Err(fault),
     }
 }
@@ -123,7 +128,10 @@ pub fn to_upper(alloc: Global, value: &Value) -> Result<Value, TplFault>
     ensures { Gives result (filters.printed_by upper value.now) }
 {
     match printed(alloc, value) {
-        Ok(text) => made(raised(text)),
+        Ok(text) => match raised(alloc, text) {
+            Ok(text) => made(text),
+            Err(_) => Err(TplFault::Memory),
+        },
         Err(fault) => Err(fault),
     }
 }
@@ -165,15 +173,14 @@ pub fn add(made: &mut Word, more: &str) -> Result<(), TplFault>
     }
 }
 
-/// The two texts, one behind the other, in one allocation.
+/// The two texts, one behind the other.
 fn both(alloc: Global, left: &str, right: &str) -> Result<Word, AllocError>
     requires { length left.now + length right.now ≤ 65_536 }
     ensures { IfOk result (λ made. made ≡ left.now ++ right.now) }
 {
-    let mut text = String::with_capacity(alloc, left.len() + right.len())?;
-    text.push_str(left)?;
+    let mut text = Word::from_str(alloc, left)?;
     text.push_str(right)?;
-    Ok(Word::from_string(text))
+    Ok(text)
 }
 
 /// Two texts joined; the whole has at most 65,536 bytes.

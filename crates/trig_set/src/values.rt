@@ -30,7 +30,8 @@ fn add(
 fn decimal(alloc: Global, number: u32) -> Result<Value, AllocError>
     ensures { IfOk result (λ v. v ≡ Value.Text (decimal number)) }
 {
-    Ok(Value::Text(Word::from_string(format!(in alloc; "{number}")?)))
+    let word = Word::from_string(alloc, format!(in alloc; "{number}")?)?;
+    Ok(Value::Text(word))
 }
 
 /// No pairs yet, and room for so many: the record of a run keeps the variables for good.

@@ -240,7 +240,7 @@ fn seen(alloc: Global, line: &RawLine) -> Result<YamlLine, AllocError>
     Ok(YamlLine {
         line: line.line,
         indent: line.indent,
-        content: Word::from_string(String::from_str(alloc, text)?),
+        content: Word::from_str(alloc, text)?,
     })
 }
 

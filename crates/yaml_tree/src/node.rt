@@ -31,7 +31,7 @@ pub(crate) fn null(alloc: Global, line: u32) -> Node
     Node {
         line,
         kind: NodeKind::Scalar {
-            text: Word::from_string(String::new(alloc)),
+            text: Word::new(alloc),
             plain: true,
         },
     }
@@ -41,7 +41,8 @@ pub(crate) fn null(alloc: Global, line: u32) -> Node
 pub(crate) fn word(alloc: Global, bytes: &[u8]) -> Result<Word, AllocError>
     ensures { IfOk result (λ w. w ≡ word bytes.now) }
 {
-    Ok(Word::from_string(String::from_utf8_lossy(alloc, bytes)?))
+    let word = Word::from_string(alloc, String::from_utf8_lossy(alloc, bytes)?)?;
+    Ok(word)
 }
 
 pub(crate) fn scalar_node(

@@ -27,4 +27,4 @@ returns c =
     let whole : string_bytes c.bytes.slug ≡ joined (runs [] text) =
     sym (append-nil (string_bytes c.bytes.slug)) ∙ ap (λ (t : List ℕ). string_bytes c.bytes.slug ++ t) (sym (no_more (not (nat_eq (string_len c.bytes.slug) 0)) c.bytes.apart))
     ∙ ap (λ (t : List ℕ). string_bytes c.bytes.slug ++ behind (not (nat_eq (string_len c.bytes.slug) 0)) c.bytes.apart t) (sym done) ∙ c.bytes.invariant ∙ from_start false text in
-    c.from_string.ensures ∙ c.in_ok-named.ensures ∙ ap named whole
+    c.in_ok-word.ensures ∙ c.in_ok-named.ensures ∙ ap named whole

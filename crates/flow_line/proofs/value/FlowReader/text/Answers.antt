@@ -19,4 +19,4 @@ characters-preserved c =
 
 pub returns : goal.returns
 returns c =
-    whole_text c.args.self.now c.characters.self c.eat.new.self c.characters.invariant.0 c.eat.result c.characters.invariant.2 c.eat.ensures.found c.eat.ensures.rest c.characters-test.false c.from_string.result (string_bytes c.characters.text) c.characters.invariant.1 c.from_string.ensures
+    whole_text c.args.self.now c.characters.self c.eat.new.self c.characters.invariant.0 c.eat.result c.characters.invariant.2 c.eat.ensures.found c.eat.ensures.rest c.characters-test.false c.in_ok-word.word (string_bytes c.characters.text) c.characters.invariant.1 c.in_ok-word.ensures
