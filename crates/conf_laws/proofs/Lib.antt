@@ -4,6 +4,7 @@ pub mod Distinct
 pub mod Down
 pub mod Exprs
 pub mod Joined
+pub mod KeyBytes
 pub mod KindLaws
 pub mod Parts
 pub mod Templates

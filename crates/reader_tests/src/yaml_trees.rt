@@ -132,6 +132,18 @@ fn nothing_but_a_comment_follows_a_colon(rt: HostRuntime) -> Result<(), Fail> {
 }
 
 #[test]
+fn keys_are_compared_as_they_stand(rt: HostRuntime) {
+    let alloc = rt.alloc();
+    for (text, line, code) in [
+        (b"{\xFF: 1, \xFE: 2}\n".as_slice(), 1, 13),
+        (b"{\xFF: 1, \xFF: 2}\n".as_slice(), 1, 4),
+        (b"\xEF\xBF\xBD: 1\n\xFF: 2\n".as_slice(), 2, 13),
+    ] {
+        assert_eq!(rt; refusal(alloc, &rt, text), Some((line, code)));
+    }
+}
+
+#[test]
 fn nothing_is_null(rt: HostRuntime) -> Result<(), Fail> {
     let tree = read_tree(rt.alloc(), b"")?;
     assert!(rt; tree.is_null());

@@ -6,7 +6,7 @@ use Rattle.yaml_scan.specs.Words.{is_blank, is_empty, is_some, has_colon, colon_
 use Rattle.yaml_scan.specs.Quoted.{State, opened, run as quoted_run}
 use Rattle.yaml_tree.specs.declared.node.Node.{Node}
 use Rattle.yaml_tree.specs.declared.flow.Frame.{Frame}
-use Rattle.yaml_tree.specs.Nodes.{null, word, scalar_node}
+use Rattle.yaml_tree.specs.Nodes.{null, scalar_node}
 use Rattle.yaml_tree.specs.Starts.{left_out, no_plain, is_merge}
 use Rattle.yaml_tree.specs.Flow.{Machine, Ended, Step, on, ended, fails, closing, wants_key, holding, closed, closes, behind, keyed, alone, colon_behind, quoted_by, word_end, plain_key, plain_by, scalar, after_step, item_step, step_by, ran, run}
 
@@ -46,11 +46,11 @@ quoted_grows : (m : Machine) (s : State) (end : Option (List ℕ)) → Grows m.h
 quoted_grows m s None = refused
 quoted_grows m s (Some rest) =
     either (is_some s.bad) _ _ refused
-    (either (not (wants_key m.frame)) _ _ (holds (behind m false rest) (scalar_node m.line s.text false)) (either (colon_behind rest) _ _ (keyed_grows (behind m false (drop 1 rest)) (word s.text)) (alone_grows (behind m false rest) (word s.text))))
+    (either (not (wants_key m.frame)) _ _ (holds (behind m false rest) (scalar_node m.line s.text false)) (either (colon_behind rest) _ _ (keyed_grows (behind m false (drop 1 rest)) s.text) (alone_grows (behind m false rest) s.text)))
 
 key_grows : (m : Machine) (w : List ℕ) (count : ℕ) (c : Option ℕ) → Grows m.height m.repeated (plain_key m w count c)
-key_grows m w count None = either (is_merge (trimmed w)) _ _ refused (alone_grows (behind m true (drop count m.rest)) (word (trimmed w)))
-key_grows m w count (Some at) = either (is_merge (trimmed (take at w))) _ _ refused (keyed_grows (behind m false (drop at m.rest)) (word (trimmed (take at w))))
+key_grows m w count None = either (is_merge (trimmed w)) _ _ refused (alone_grows (behind m true (drop count m.rest)) (trimmed w))
+key_grows m w count (Some at) = either (is_merge (trimmed (take at w))) _ _ refused (keyed_grows (behind m false (drop at m.rest)) (trimmed (take at w)))
 
 plain_grows : (m : Machine) (w : List ℕ) (count : ℕ) → Grows m.height m.repeated (plain_by m w count)
 plain_grows m w count = either (wants_key m.frame) _ _ (key_grows m w count (colon_at false 0 w)) (either (has_colon w) _ _ refused (holds (behind m true (drop count m.rest)) (scalar_node m.line (trimmed w) true)))

@@ -10,7 +10,7 @@ use Rattle.yaml_scan.specs.Quoted.{State, opened, run as quoted_run}
 use Rattle.yaml_tree.specs.declared.node.Node.{Node}
 use Rattle.yaml_tree.specs.declared.flow.Frame.{Frame}
 use Rattle.yaml_tree.specs.declared.starts.Start.TheVariants as starts
-use Rattle.yaml_tree.specs.Nodes.{Pair, null, word, scalar_node, listed, mapped, has_key}
+use Rattle.yaml_tree.specs.Nodes.{Pair, null, scalar_node, listed, mapped, has_key}
 use Rattle.yaml_tree.specs.Starts.{start, left_out, no_plain, is_merge}
 use Rattle.yaml_tree.specs.Brackets.{here, IsWord, ends_key, IsKey, plain_key as plain_key_is, quoted_key, IsFlow, plain as plain_is_flow, quoted as quoted_is, list as list_is, map as map_is, no_item, key_alone, IsPairs, no_pair}
 use Rattle.yaml_tree.specs.Flow.{Machine, Ended, Step, on, fails, held, wants_key, raised, kept, behind, holding, awaiting, keyed, alone, colon_behind, quoted_by, plain_key, plain_by, plain, scalar, step, ran, run, flow}
@@ -193,14 +193,14 @@ module _ (n : ℕ) (e : Ended) (once : e.repeated ≡ false) (low_enough : e.hei
       elim (tested (is_some s.bad)) [
         | inl x ↦ absurd (let z : Err Structure ≡ Ok e = rw x at q in cc)
         | inr x ↦
-            let key : is_empty (word s.text) ≡ false → IsKey (b ∷ r) (word s.text) rest = λ some. quoted_key (is_quote b r h) (inside_found b (quote_is b r (is_quote b r h)) r rest n s is (no_bad s.bad x)) some in
+            let key : is_empty s.text ≡ false → IsKey (b ∷ r) s.text rest = λ some. quoted_key (is_quote b r h) (inside_found b (quote_is b r (is_quote b r h)) r rest n s is (no_bad s.bad x)) some in
             elim (tested (colon_behind rest)) [
-              | inr c ↦ lone_found k ps fs low false (b ∷ r) (word s.text) rest key (rw (x, c) at q)
+              | inr c ↦ lone_found k ps fs low false (b ∷ r) s.text rest key (rw (x, c) at q)
               | inl c ↦
                   let p = colon_rest rest c in
-                  let q1 : ran (keyed (at n (map_frame ps None) fs false low false (drop 1 rest)) (word s.text)) (run k) ≡ Ok e = rw (x, c) at q in
-                  waits_found k ps fs low (b ∷ r) (word s.text) p.0 p.2 (λ some. subst (λ (y : List ℕ). IsKey (b ∷ r) (word s.text) y) p.1 (key some))
-                  (subst (λ (y : List ℕ). ran (keyed (at n (map_frame ps None) fs false low false y) (word s.text)) (run k) ≡ Ok e) (ap (drop 1) p.1) q1)
+                  let q1 : ran (keyed (at n (map_frame ps None) fs false low false (drop 1 rest)) s.text) (run k) ≡ Ok e = rw (x, c) at q in
+                  waits_found k ps fs low (b ∷ r) s.text p.0 p.2 (λ some. subst (λ (y : List ℕ). IsKey (b ∷ r) s.text y) p.1 (key some))
+                  (subst (λ (y : List ℕ). ran (keyed (at n (map_frame ps None) fs false low false y) s.text) (run k) ≡ Ok e) (ap (drop 1) p.1) q1)
             ]
       ]
 
@@ -209,17 +209,17 @@ module _ (n : ℕ) (e : Ended) (once : e.repeated ≡ false) (low_enough : e.hei
   plain_keyed k ps fs low b r w count None s (whole i) left q =
       elim (tested (is_merge (trimmed w))) [
         | inl h ↦ absurd (let z : Err LeftOut ≡ Ok e = rw h at q in cc)
-        | inr h ↦ lone_found k ps fs low true (b ∷ r) (word (trimmed w)) (drop count r) (λ some. subst (λ (x : List ℕ). IsKey (b ∷ r) (word (trimmed w)) x) left (plain_key_is s i h some)) (rw h at q)
+        | inr h ↦ lone_found k ps fs low true (b ∷ r) (trimmed w) (drop count r) (λ some. subst (λ (x : List ℕ). IsKey (b ∷ r) (trimmed w) x) left (plain_key_is s i h some)) (rw h at q)
       ]
   plain_keyed k ps fs low b r w count (Some p) s (keyed_cut {r = r'} j i d ends is) left q =
       let same : p ≡ j = omega (arith, is) in
       elim (tested (is_merge (trimmed (take p w)))) [
         | inl h ↦ absurd (let z : Err LeftOut ≡ Ok e = rw h at q in cc)
         | inr h ↦
-            let q1 : ran (keyed (at n (map_frame ps None) fs false low false (drop p r)) (word (trimmed (take p w)))) (run k) ≡ Ok e = rw h at q in
+            let q1 : ran (keyed (at n (map_frame ps None) fs false low false (drop p r)) (trimmed (take p w))) (run k) ≡ Ok e = rw h at q in
             let i' : IsWord false (b ∷ r) (take p w) (58 ∷ r') = subst (λ (x : ℕ). IsWord false (b ∷ r) (take x w) (58 ∷ r')) (sym same) i in
             let left_is : drop p r ≡ r' = next_of p b r r' (ap (λ (x : ℕ). drop x (b ∷ r)) same ∙ d) in
-            waits_found k ps fs low (b ∷ r) (word (trimmed (take p w))) r' ends (λ some. plain_key_is s i' h some) (subst (λ (x : List ℕ). ran (keyed (at n (map_frame ps None) fs false low false x) (word (trimmed (take p w)))) (run k) ≡ Ok e) left_is q1)
+            waits_found k ps fs low (b ∷ r) (trimmed (take p w)) r' ends (λ some. plain_key_is s i' h some) (subst (λ (x : List ℕ). ran (keyed (at n (map_frame ps None) fs false low false x) (trimmed (take p w))) (run k) ≡ Ok e) left_is q1)
       ]
 
   scalar_keyed : (k : ℕ) (ps : List Pair) (fs : List Frame) (low b : ℕ) (r : List ℕ) → is_blank b ≡ false → ran (scalar (at n (map_frame ps None) fs false low (b == 32) r) b) (run k) ≡ Ok e → Keyed (suc k) ps fs low (b ∷ r)

@@ -8,7 +8,7 @@ use Rattle.yaml_scan.specs.Quoted.{State}
 use Rattle.yaml_tree.specs.declared.node.Node.{Node}
 use Rattle.yaml_tree.specs.declared.flow.Frame.{Frame}
 use Rattle.yaml_tree.specs.declared.starts.Start.TheVariants as starts
-use Rattle.yaml_tree.specs.Nodes.{Pair, null, word, scalar_node, listed, mapped, has_key}
+use Rattle.yaml_tree.specs.Nodes.{Pair, null, scalar_node, listed, mapped, has_key}
 use Rattle.yaml_tree.specs.Starts.{start}
 use Rattle.yaml_tree.specs.Quotes.{IsInside}
 use Rattle.yaml_tree.specs.Brackets.{IsAfter, ends_key, IsKey, plain_key as plain_key_is, quoted_key, IsFlow, plain as plain_is_flow, quoted as quoted_is, list as list_is, map as map_is, IsItems, no_item, last_item, more_items, IsPair, key_alone, no_value, key_value, IsPairs, no_pair, last_pair, more_pairs}
@@ -60,14 +60,14 @@ pub alone_told : {bytes k rest : List ℕ} → IsKey bytes k rest → (n : ℕ) 
 alone_told (plain_key_is {b = b} {bytes = bytes} {w = w} {rest = rest} s i merge some) n ps fs height spaced no_blank no_colon new lt = at_end (word_told i 0)
   where
     at_end : Told false 0 (b ∷ bytes) w rest
-        → (spaced' : Bool) × (step (at n (map_frame ps None) fs false height spaced (b ∷ bytes)) ≡ on (at n (map_frame (ps ++ (word (trimmed w), n, null n) ∷ []) None) fs true (max height (length fs + 1 + 1)) spaced' rest)) × (length rest < suc (length bytes))
+        → (spaced' : Bool) × (step (at n (map_frame ps None) fs false height spaced (b ∷ bytes)) ≡ on (at n (map_frame (ps ++ (trimmed w, n, null n) ∷ []) None) fs true (max height (length fs + 1 + 1)) spaced' rest)) × (length rest < suc (length bytes))
     at_end (before is c t d) = absurd (let q : true ≡ false = sym (ap (sees 58) is) ∙ no_colon in cc)
     at_end (alone is none d end) =
         let whole = whole_of b bytes w rest (cut_is b bytes no_blank s) is none d in
         let m : Machine = at n (map_frame ps None) fs false height (b == 32) bytes in
-        let by_word : plain_key m w (length (cut false bytes)) None ≡ on (at n (map_frame (ps ++ (word (trimmed w), n, null n) ∷ []) None) fs true (max height (length fs + 1 + 1)) true rest) =
-        rw (merge, some, new) (ap (λ (x : List ℕ). on (at n (map_frame (ps ++ (word (trimmed w), n, null n) ∷ []) None) fs true (raised height (length fs)) true x)) whole.left
-        ∙ ap (λ (h : ℕ). on (at n (map_frame (ps ++ (word (trimmed w), n, null n) ∷ []) None) fs true h true rest)) (raised_is height (length fs) lt)) in
+        let by_word : plain_key m w (length (cut false bytes)) None ≡ on (at n (map_frame (ps ++ (trimmed w, n, null n) ∷ []) None) fs true (max height (length fs + 1 + 1)) true rest) =
+        rw (merge, some, new) (ap (λ (x : List ℕ). on (at n (map_frame (ps ++ (trimmed w, n, null n) ∷ []) None) fs true (raised height (length fs)) true x)) whole.left
+        ∙ ap (λ (h : ℕ). on (at n (map_frame (ps ++ (trimmed w, n, null n) ∷ []) None) fs true h true rest)) (raised_is height (length fs) lt)) in
         let shorter = drop_less (length (cut false bytes)) bytes rest whole.left in (
           true,
           plain_step n (map_frame ps None) fs height b spaced bytes no_blank s ∙ plain_is m b ∙ ap (λ (x : List ℕ). plain_key m x (length (cut false bytes)) (colon_at false 0 x)) whole.word_is
@@ -82,16 +82,16 @@ alone_told (quoted_key {b = b} {bytes = bytes} {s = s} {rest = rest} q i some) n
     inside_shorter_so two = let lt = inside_shorter b two i in omega arith
 
     by_rest : (rest : List ℕ) → sees 58 rest ≡ false
-        → quoted_by (at n (map_frame ps None) fs false height (b == 32) bytes) (at_last b n Quote s [] None) (Some rest) ≡ on (at n (map_frame (ps ++ (word s, n, null n) ∷ []) None) fs true (max height (length fs + 1 + 1)) false rest)
-    by_rest [] e = rw (some, new) (ap (λ (h : ℕ). on (at n (map_frame (ps ++ (word s, n, null n) ∷ []) None) fs true h false [])) (raised_is height (length fs) lt))
-    by_rest (c ∷ rest) e = rw (e, some, new) (ap (λ (h : ℕ). on (at n (map_frame (ps ++ (word s, n, null n) ∷ []) None) fs true h false (c ∷ rest))) (raised_is height (length fs) lt))
+        → quoted_by (at n (map_frame ps None) fs false height (b == 32) bytes) (at_last b n Quote s [] None) (Some rest) ≡ on (at n (map_frame (ps ++ (s, n, null n) ∷ []) None) fs true (max height (length fs + 1 + 1)) false rest)
+    by_rest [] e = rw (some, new) (ap (λ (h : ℕ). on (at n (map_frame (ps ++ (s, n, null n) ∷ []) None) fs true h false [])) (raised_is height (length fs) lt))
+    by_rest (c ∷ rest) e = rw (e, some, new) (ap (λ (h : ℕ). on (at n (map_frame (ps ++ (s, n, null n) ∷ []) None) fs true h false (c ∷ rest))) (raised_is height (length fs) lt))
 
 -- with a colon behind it, a key waits for its value
 pub colon_told : {bytes k rest : List ℕ} → IsKey bytes k rest → (n : ℕ) (ps : List Pair) (fs : List Frame) (height : ℕ) (spaced : Bool) (r : List ℕ) → is_spaced bytes ≡ false → rest ≡ 58 ∷ r → ends_key r ≡ true → has_key ps k ≡ false
     → (step (at n (map_frame ps None) fs false height spaced bytes) ≡ on (at n (map_frame ps (Some k)) fs false height false r)) × (length r < length bytes)
 colon_told (plain_key_is {b = b} {bytes = bytes} {w = w} {rest = rest} s i merge some) n ps fs height spaced r no_blank rest_is ends new = at_end (word_told i 0)
   where
-    at_end : Told false 0 (b ∷ bytes) w rest → (step (at n (map_frame ps None) fs false height spaced (b ∷ bytes)) ≡ on (at n (map_frame ps (Some (word (trimmed w)))) fs false height false r)) × (length r < suc (length bytes))
+    at_end : Told false 0 (b ∷ bytes) w rest → (step (at n (map_frame ps None) fs false height spaced (b ∷ bytes)) ≡ on (at n (map_frame ps (Some (trimmed w))) fs false height false r)) × (length r < suc (length bytes))
     at_end (alone is none d no_colon) = absurd (let q : true ≡ false = sym (ap (sees 58) rest_is) ∙ no_colon in cc)
     at_end (before is c t d) =
         let cuts = cut_is b bytes no_blank s in
@@ -100,8 +100,8 @@ colon_told (plain_key_is {b = b} {bytes = bytes} {w = w} {rest = rest} s i merge
         let colon : colon_at false 0 (b ∷ cut false bytes) ≡ Some (0 + length w) = ap (colon_at false 0) (sym cuts) ∙ c in
         let zero_add : 0 + length w ≡ length w = omega arith in
         let taken : take (length w) (b ∷ cut false bytes) ≡ w = ap (take (length w)) (sym cuts) ∙ t in
-        let by_word : plain_key m (b ∷ cut false bytes) (length (cut false bytes)) (Some (length w)) ≡ on (at n (map_frame ps (Some (word (trimmed w)))) fs false height false r) =
-        rw (taken, merge, some, new) (ap (λ (x : List ℕ). on (at n (map_frame ps (Some (word (trimmed w)))) fs false height false x)) left) in
+        let by_word : plain_key m (b ∷ cut false bytes) (length (cut false bytes)) (Some (length w)) ≡ on (at n (map_frame ps (Some (trimmed w))) fs false height false r) =
+        rw (taken, merge, some, new) (ap (λ (x : List ℕ). on (at n (map_frame ps (Some (trimmed w))) fs false height false x)) left) in
         let shorter = drop_less (length w) bytes r left in (
           plain_step n (map_frame ps None) fs height b spaced bytes no_blank s ∙ plain_is m b ∙ ap (plain_key m (b ∷ cut false bytes) (length (cut false bytes))) (colon ∙ ap Some zero_add) ∙ by_word,
           omega arith,
@@ -113,7 +113,7 @@ colon_told (quoted_key {b = b} {bytes = bytes} {s = s} {rest = rest} q i some) n
     inside_shorter_so : (b ≡ 39) ⊎ (b ≡ 34) → length r < suc (length bytes)
     inside_shorter_so two = let lt = inside_shorter b two i in omega (arith, ap length rest_is)
 
-    by_rest : (rest : List ℕ) → rest ≡ 58 ∷ r → quoted_by (at n (map_frame ps None) fs false height (b == 32) bytes) (at_last b n Quote s [] None) (Some rest) ≡ on (at n (map_frame ps (Some (word s))) fs false height false r)
+    by_rest : (rest : List ℕ) → rest ≡ 58 ∷ r → quoted_by (at n (map_frame ps None) fs false height (b == 32) bytes) (at_last b n Quote s [] None) (Some rest) ≡ on (at n (map_frame ps (Some s)) fs false height false r)
     by_rest rest e = rw (e, ends, some, new) refl
 
 -- ---- flow

@@ -11,7 +11,7 @@ use Rattle.yaml_tree.specs.declared.piece.What.{What}
 use Rattle.yaml_tree.specs.declared.piece.What.TheVariants.{Dash, Key, Leaf}
 use Rattle.yaml_tree.specs.declared.starts.Start.{Start}
 use Rattle.yaml_tree.specs.declared.starts.Start.TheVariants as starts
-use Rattle.yaml_tree.specs.Nodes.{Pair, word}
+use Rattle.yaml_tree.specs.Nodes.{Pair}
 use Rattle.yaml_tree.specs.Starts.{start, is_merge}
 use Rattle.yaml_tree.specs.Leaves.{Leafs, leaf_by, colon_behind}
 use Rattle.yaml_tree.specs.Pieces.{Found, floor, dash, key, leaf_found, leaf_at, value_at, keyed, plain_key, quoted_key, node_by, heads, is_spaced, line_heads, is_over, go_on, pieces}
@@ -95,7 +95,7 @@ low_value : (ps : List Piece) (n column : ℕ) (bytes : List ℕ) (ls : List Raw
 low_value ps n column bytes ls = either (nothing_left false bytes) _ _ (as_they_were ps _ _) (low_leaf_at ps n false _ (without_blanks bytes) ls)
 
 low_keyed : (ps : List Piece) (n column : ℕ) (text : List ℕ) (behind : ℕ) (bytes : List ℕ) (ls : List RawLine) → KeepsLow ps (keyed ps n column text behind bytes ls)
-low_keyed ps n column text behind bytes ls = either (is_empty text) _ _ (one_more ps _ _ _) (before_one ps (key n column (word text)) _ (low_value (ps ++ key n column (word text) ∷ []) n behind bytes ls))
+low_keyed ps n column text behind bytes ls = either (is_empty text) _ _ (one_more ps _ _ _) (before_one ps (key n column text) _ (low_value (ps ++ key n column text ∷ []) n behind bytes ls))
 
 low_plain_key : (ps : List Piece) (n column : ℕ) (bytes : List ℕ) (c : Option ℕ) (ls : List RawLine) → KeepsLow ps (plain_key ps n column bytes c ls)
 low_plain_key ps n column bytes None ls = low_leaf_at ps n true column bytes ls

@@ -10,7 +10,7 @@ use Rattle.yaml_tree.specs.declared.node.Node.{Node}
 use Rattle.yaml_tree.specs.declared.piece.Piece.{Piece}
 use Rattle.yaml_tree.specs.declared.starts.Start.{Start}
 use Rattle.yaml_tree.specs.declared.starts.Start.TheVariants as starts
-use Rattle.yaml_tree.specs.Nodes.{word, scalar_node}
+use Rattle.yaml_tree.specs.Nodes.{scalar_node}
 use Rattle.yaml_tree.specs.Starts.{start, is_merge}
 use Rattle.yaml_tree.specs.Leaves.{Leafs, leaf_by, colon_behind}
 use Rattle.yaml_tree.specs.Keys.{IsKey}
@@ -123,14 +123,14 @@ pushed : (ps : List Piece) (p q : Piece) → (ps ++ p ∷ []) ++ q ∷ [] ≡ ps
 pushed ps p q = append_assoc ps (p ∷ []) (q ∷ [])
 
 behind_key : (ps : List Piece) (n right column at : ℕ) (spaced : Bool) (bytes rest k : List ℕ) (behind : ℕ) (after : List ℕ) (ls : List RawLine) (f : Found)
-    → IsAt column bytes at rest → is_dash rest ≡ false → IsKey at rest k behind after → Behind (ps ++ key n at (word k) ∷ []) n behind after ls f
+    → IsAt column bytes at rest → is_dash rest ≡ false → IsKey at rest k behind after → Behind (ps ++ key n at k ∷ []) n behind after ls f
     → Good f ps (λ qs ls'. IsHeads n right spaced column bytes ls qs ls')
-behind_key ps n right column at spaced bytes rest k behind after ls f a d is (empty h e) = (key n at (word k) ∷ [], ls, e, key_is a d is h)
+behind_key ps n right column at spaced bytes rest k behind after ls f a d is (empty h e) = (key n at k ∷ [], ls, e, key_is a d is h)
 behind_key ps n right column at spaced bytes rest k behind after ls f a d is (value {at = v} {height = height} {rest = bytes'} {x = x} {behind = ls'} p l e) = (
-  key n at (word k) ∷ leaf n v x height false ∷ [],
+  key n at k ∷ leaf n v x height false ∷ [],
   ls',
-  e ∙ ap (λ (qs : List Piece). found qs ls') (pushed ps (key n at (word k)) (leaf n v x height false)),
-  key_value a d is p (subst (λ (right : ℕ). IsLeaf right n bytes' ls x height ls') (floor_more ps (key n at (word k))) l),
+  e ∙ ap (λ (qs : List Piece). found qs ls') (pushed ps (key n at k) (leaf n v x height false)),
+  key_value a d is p (subst (λ (right : ℕ). IsLeaf right n bytes' ls x height ls') (floor_more ps (key n at k)) l),
 )
 
 key_found : (ps : List Piece) (n column b : ℕ) (spaced : Bool) (rest k : List ℕ) (behind : ℕ) (after : List ℕ) (ls : List RawLine)
@@ -139,8 +139,8 @@ key_found : (ps : List Piece) (n column b : ℕ) (spaced : Bool) (rest k : List 
 key_found ps n column b spaced rest k behind after ls no_blank no_dash is e =
     elim (tested (is_empty k)) [
       | inl h ↦ absurd (let q : Some (record { line = n; code = Structure }) ≡ None = rw h at e.0 in cc)
-      | inr h ↦ rw h (behind_key ps n (floor ps) column column spaced (b ∷ rest) (b ∷ rest) k behind after ls (value_at (ps ++ key n column (word k) ∷ []) n behind after ls) (here no_blank) no_dash (is h)
-          (value_found (ps ++ key n column (word k) ∷ []) n behind after ls (rw h at e)))
+      | inr h ↦ rw h (behind_key ps n (floor ps) column column spaced (b ∷ rest) (b ∷ rest) k behind after ls (value_at (ps ++ key n column k ∷ []) n behind after ls) (here no_blank) no_dash (is h)
+          (value_found (ps ++ key n column k ∷ []) n behind after ls (rw h at e)))
     ]
 
 plain_found : (ps : List Piece) (n column b : ℕ) (spaced : Bool) (rest : List ℕ) (ls : List RawLine) (c : Option ℕ) → start b rest ≡ starts.Plain → colon_at false 0 (b ∷ rest) ≡ c → is_blank b ≡ false → is_dash (b ∷ rest) ≡ false

@@ -13,7 +13,7 @@ use Rattle.yaml_tree.specs.declared.node.Node.{Node}
 use Rattle.yaml_tree.specs.declared.piece.Piece.{Piece}
 use Rattle.yaml_tree.specs.declared.starts.Start.{Start}
 use Rattle.yaml_tree.specs.declared.starts.Start.TheVariants as starts
-use Rattle.yaml_tree.specs.Nodes.{word, scalar_node}
+use Rattle.yaml_tree.specs.Nodes.{scalar_node}
 use Rattle.yaml_tree.specs.Starts.{start}
 use Rattle.yaml_tree.specs.Leaves.{Leafs, scalar, leaf_by, colon_behind}
 use Rattle.yaml_tree.specs.Keys.{IsKey, plain as plain_is, quoted as quoted_is}
@@ -142,15 +142,15 @@ key_no_comment (quoted_is {b = b} {bytes = rest} s i c some) =
     ]
 
 key_read : {column b : ℕ} {rest k after : List ℕ} {behind : ℕ} → IsKey column (b ∷ rest) k behind after → (n : ℕ) (ps : List Piece) (ls : List RawLine)
-    → node_by (start b rest) ps n column b rest ls ≡ value_at (ps ++ key n column (word k) ∷ []) n behind after ls
+    → node_by (start b rest) ps n column b rest ls ≡ value_at (ps ++ key n column k ∷ []) n behind after ls
 key_read {column = column} (plain_is {b = b} {behind = behind} {bytes = rest} {s = k} {rest = after} s i m some) n ps ls =
     let r = key_text_read i in
-    ap (λ (x : Start). node_by x ps n column b rest ls) s ∙ ap (λ (o : Option ℕ). plain_key ps n column (b ∷ rest) o ls) r.1 ∙ rw (r.2, m, some, r.4) (ap (λ (x : ℕ). value_at (ps ++ key n column (word k) ∷ []) n x after ls) r.3)
+    ap (λ (x : Start). node_by x ps n column b rest ls) s ∙ ap (λ (o : Option ℕ). plain_key ps n column (b ∷ rest) o ls) r.1 ∙ rw (r.2, m, some, r.4) (ap (λ (x : ℕ). value_at (ps ++ key n column k ∷ []) n x after ls) r.3)
 key_read {column = column} (quoted_is {b = b} {bytes = rest} {s = k} {rest = after} s i c some) n ps ls =
     let two = quote_is b rest s in
     let lt = inside_shorter b two i in
     let same : column + (length (b ∷ rest) - length (58 ∷ after)) + 1 ≡ column + (length (b ∷ rest) - length after) = omega arith in
-    ap (λ (x : Start). node_by x ps n column b rest ls) s ∙ ap (λ (x : State × Option (List ℕ)). quoted_key ps n column (b ∷ rest) x.0 x.1 ls) (inside_read b two rest k (58 ∷ after) n i) ∙ rw (c, some) (ap (λ (x : ℕ). value_at (ps ++ key n column (word k) ∷ []) n x after ls) same)
+    ap (λ (x : Start). node_by x ps n column b rest ls) s ∙ ap (λ (x : State × Option (List ℕ)). quoted_key ps n column (b ∷ rest) x.0 x.1 ls) (inside_read b two rest k (58 ∷ after) n i) ∙ rw (c, some) (ap (λ (x : ℕ). value_at (ps ++ key n column k ∷ []) n x after ls) same)
 
 value_read : (ps : List Piece) (n column at height : ℕ) (bytes rest : List ℕ) (x : Node) (ls behind : List RawLine) → IsAt column bytes at rest → height ≤ 64 → IsLeaf (floor ps) n rest ls x height behind
     → value_at ps n column bytes ls ≡ found (ps ++ leaf n at x height false ∷ []) behind
@@ -199,6 +199,6 @@ heads_read {n = n} {column = column} {spaced = spaced} {ls = ls} (key_is {at = a
 heads_read {n = n} {column = column} {spaced = spaced} {ls = ls} {ls' = ls'} (key_value {at = at} {behind = behind} {value = value} {height = height} {rest = rest} {k = k} {after = after} {bytes' = bytes'} {x = x} a d key' v l) ps f low =
     let r = front_of a in
     let key'' : IsKey at (r.0 ∷ r.1) k behind after = subst (λ (x : List ℕ). IsKey at x k behind after) r.2 key' in
-    let l' : IsLeaf (floor (ps ++ key n at (word k) ∷ [])) n bytes' ls x height ls' = subst (λ (right : ℕ). IsLeaf right n bytes' ls x height ls') (sym (floor_more ps (key n at (word k)))) l in
+    let l' : IsLeaf (floor (ps ++ key n at k ∷ [])) n bytes' ls x height ls' = subst (λ (right : ℕ). IsLeaf right n bytes' ls x height ls') (sym (floor_more ps (key n at k))) l in
     here_read a ps n spaced ls r.0 r.1 r.2 d (key_no_comment key'') ∙ key_read key'' n ps ls
-    ∙ value_read (ps ++ key n at (word k) ∷ []) n behind value height after bytes' x ls ls' v low.1.0 l' ∙ ap (λ (qs : List Piece). found qs ls') (pushed ps (key n at (word k)) (leaf n value x height false))
+    ∙ value_read (ps ++ key n at k ∷ []) n behind value height after bytes' x ls ls' v low.1.0 l' ∙ ap (λ (qs : List Piece). found qs ls') (pushed ps (key n at k) (leaf n value x height false))

@@ -4,7 +4,7 @@ use Rattle.std.specs.Prelude.{◌≡◌, ℕ, suc, max, Bool, true, false, ◌||
 use Rattle.yaml_scan.specs.Words.{sees, is_blank, is_empty, trimmed}
 use Rattle.yaml_tree.specs.declared.node.Node.{Node}
 use Rattle.yaml_tree.specs.declared.starts.Start.TheVariants as starts
-use Rattle.yaml_tree.specs.Nodes.{Pair, null, word, scalar_node, listed, mapped, has_key}
+use Rattle.yaml_tree.specs.Nodes.{Pair, null, scalar_node, listed, mapped, has_key}
 use Rattle.yaml_tree.specs.Starts.{start, is_merge}
 use Rattle.yaml_tree.specs.Quotes.{IsInside}
 
@@ -47,8 +47,8 @@ ends_key (b ∷ rest) = is_blank b || is_stop b
 -- A key is plain and not `<<`, or in quotes that are closed on this line: no line is behind it. It is not empty.
 pub data IsKey : List ℕ → List ℕ → List ℕ → Type 0 where
   plain_key : {b : ℕ} {bytes w rest : List ℕ}
-      → start b bytes ≡ starts.Plain → IsWord false (b ∷ bytes) w rest → is_merge (trimmed w) ≡ false → is_empty (word (trimmed w)) ≡ false → IsKey (b ∷ bytes) (word (trimmed w)) rest
-  quoted_key : {b : ℕ} {bytes s rest : List ℕ} → start b bytes ≡ starts.InQuotes → IsInside b 0 bytes [] s rest [] → is_empty (word s) ≡ false → IsKey (b ∷ bytes) (word s) rest
+      → start b bytes ≡ starts.Plain → IsWord false (b ∷ bytes) w rest → is_merge (trimmed w) ≡ false → is_empty (trimmed w) ≡ false → IsKey (b ∷ bytes) (trimmed w) rest
+  quoted_key : {b : ℕ} {bytes s rest : List ℕ} → start b bytes ≡ starts.InQuotes → IsInside b 0 bytes [] s rest [] → is_empty s ≡ false → IsKey (b ∷ bytes) s rest
 
 -- ---- flow
 

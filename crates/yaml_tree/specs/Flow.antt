@@ -8,7 +8,7 @@ use Rattle.yaml_tree.specs.declared.node.Node.{Node}
 use Rattle.yaml_tree.specs.declared.flow.Frame.{Frame}
 use Rattle.yaml_tree.specs.declared.flow.Turn.{Turn}
 use Rattle.yaml_tree.specs.declared.flow.Turn.TheVariants as turns
-use Rattle.yaml_tree.specs.Nodes.{null, word, scalar_node, listed, mapped, has_key}
+use Rattle.yaml_tree.specs.Nodes.{null, scalar_node, listed, mapped, has_key}
 use Rattle.yaml_tree.specs.Starts.{left_out, no_plain, is_merge}
 use Rattle.yaml_tree.specs.Brackets.{is_word_end, ends_key}
 
@@ -107,7 +107,7 @@ colon_behind (b ∷ rest) = b == 58 && ends_key rest
 abbrev pub quoted_here : Machine → List ℕ → Step
 quoted_here m text =
     if not (wants_key m.frame) then on (holding m (scalar_node m.line text false)) else
-    (if colon_behind m.rest then keyed (behind m false (drop 1 m.rest)) (word text) else alone m (word text))
+    (if colon_behind m.rest then keyed (behind m false (drop 1 m.rest)) text else alone m text)
 
 abbrev pub quoted_by : Machine → State → Option (List ℕ) → Step
 quoted_by m s None = fails Structure
@@ -123,8 +123,8 @@ word_end spaced at (b ∷ rest) = if is_word_end b spaced then at else word_end 
 
 -- a key of these bytes, whose first one was read before; so many more belong to it
 abbrev pub plain_key : Machine → List ℕ → ℕ → Option ℕ → Step
-plain_key m w count None = if is_merge (trimmed w) then fails LeftOut else alone (behind m true (drop count m.rest)) (word (trimmed w))
-plain_key m w count (Some at) = if is_merge (trimmed (take at w)) then fails LeftOut else keyed (behind m false (drop at m.rest)) (word (trimmed (take at w)))
+plain_key m w count None = if is_merge (trimmed w) then fails LeftOut else alone (behind m true (drop count m.rest)) (trimmed w)
+plain_key m w count (Some at) = if is_merge (trimmed (take at w)) then fails LeftOut else keyed (behind m false (drop at m.rest)) (trimmed (take at w))
 
 abbrev pub plain_by : Machine → List ℕ → ℕ → Step
 plain_by m w count =
@@ -202,3 +202,8 @@ abbrev pub IsRan : {E : Type 0} → Result Ended Code → Result (Result Node Co
 IsRan r (Err e) new = Unit {0}
 IsRan r (Ok (Ok node)) new = r ≡ Ok (record { node = node; height = new.height; repeated = new.repeated; rest = new.rest })
 IsRan r (Ok (Err code)) new = r ≡ Err code
+
+-- what reading gives, by its parts
+abbrev pub IsEnded : Result Ended Code → Result Node Code → List ℕ → Bool → ℕ → Type 0
+IsEnded meant (Ok node) rest repeated height = meant ≡ Ok (record { node = node; height = height; repeated = repeated; rest = rest })
+IsEnded meant (Err code) rest repeated height = meant ≡ Err code

@@ -1,11 +1,12 @@
 -- Nodes, and the pairs of a map.
-use Rattle.std.specs.Prelude.{ℕ, Bool, true, List, []}
+use Rattle.std.specs.Prelude.{ℕ, Bool, true, List, [], map}
 use Rattle.std.specs.List.{list_any}
 use Rattle.std.specs.Str.{bytes_eq}
 use Rattle.std.specs.Str.Lossy.{utf8_lossy}
 use Rattle.yaml_tree.specs.declared.node.Node.{Node}
 use Rattle.yaml_tree.specs.declared.node.NodeKind.TheVariants.{Scalar, List as ListNode, Map as MapNode}
 
+-- a key as it stands, its line, and the value
 abbrev pub Pair : Type 0
 Pair = List ℕ × ℕ × Node
 
@@ -22,8 +23,13 @@ scalar_node line bytes plain = record { line = line; kind = Scalar (word bytes) 
 abbrev pub listed : ℕ → List Node → Node
 listed line items = record { line = line; kind = ListNode items }
 
-abbrev pub mapped : ℕ → List Pair → Node
-mapped line pairs = record { line = line; kind = MapNode pairs }
+-- the same with the key's text
+abbrev pub worded : Pair → Pair
+worded p = (word p.0, p.1, p.2)
 
+abbrev pub mapped : ℕ → List Pair → Node
+mapped line pairs = record { line = line; kind = MapNode (map worded pairs) }
+
+-- Keys are compared as they stand.
 abbrev pub has_key : List Pair → List ℕ → Bool
 has_key pairs key = list_any (λ pair. bytes_eq pair.0 key) pairs

@@ -13,7 +13,7 @@ use Rattle.yaml_tree.specs.declared.piece.What.TheVariants.{Dash, Key, Leaf}
 use Rattle.yaml_tree.specs.declared.leaf.Wrong.{Wrong}
 use Rattle.yaml_tree.specs.declared.starts.Start.{Start}
 use Rattle.yaml_tree.specs.declared.starts.Start.TheVariants as starts
-use Rattle.yaml_tree.specs.Nodes.{null, word}
+use Rattle.yaml_tree.specs.Nodes.{null}
 use Rattle.yaml_tree.specs.Starts.{start, is_merge}
 use Rattle.yaml_tree.specs.Leaves.{Leafs, leaf_by, colon_behind}
 
@@ -77,7 +77,7 @@ spoiled_key pieces n column code out ls = spoiled pieces n column (record { faul
 abbrev pub keyed : List Piece → ℕ → ℕ → List ℕ → ℕ → List ℕ → List RawLine → Found
 keyed pieces n column text behind bytes ls =
     if is_empty text then spoiled_key pieces n column Structure false ls else
-    value_at (pieces ++ key n column (word text) ∷ []) n behind bytes ls
+    value_at (pieces ++ key n column text ∷ []) n behind bytes ls
 
 abbrev pub plain_key : List Piece → ℕ → ℕ → List ℕ → Option ℕ → List RawLine → Found
 plain_key pieces n column bytes None ls = leaf_at pieces n true column bytes ls

@@ -10,7 +10,7 @@ use Rattle.yaml_scan.specs.Words.{sees, is_blank, nothing_left, breaks}
 use Rattle.yaml_tree.specs.declared.node.Node.{Node}
 use Rattle.yaml_tree.specs.declared.piece.Piece.{Piece}
 use Rattle.yaml_tree.specs.declared.starts.Start.TheVariants as starts
-use Rattle.yaml_tree.specs.Nodes.{word, scalar_node}
+use Rattle.yaml_tree.specs.Nodes.{scalar_node}
 use Rattle.yaml_tree.specs.Starts.{start}
 use Rattle.yaml_tree.specs.Blocks.{IsBlock}
 use Rattle.yaml_tree.specs.Brackets.{IsFlow}
@@ -70,10 +70,10 @@ pub data IsHeads (n : ℕ) : ℕ → Bool → ℕ → List ℕ → List RawLine 
   leaf : {right column at height : ℕ} {spaced : Bool} {bytes rest : List ℕ} {x : Node} {ls ls' : List RawLine}
       → IsAt column bytes at rest → is_dash rest ≡ false → IsLeaf right n rest ls x height ls' → IsHeads n right spaced column bytes ls (leaf_piece n at x height false ∷ []) ls'
   key : {right column at behind : ℕ} {spaced : Bool} {bytes rest k after : List ℕ} {ls : List RawLine}
-      → IsAt column bytes at rest → is_dash rest ≡ false → IsKey at rest k behind after → nothing_left false after ≡ true → IsHeads n right spaced column bytes ls (key_piece n at (word k) ∷ []) ls
+      → IsAt column bytes at rest → is_dash rest ≡ false → IsKey at rest k behind after → nothing_left false after ≡ true → IsHeads n right spaced column bytes ls (key_piece n at k ∷ []) ls
   key_value : {right column at behind value height : ℕ} {spaced : Bool} {bytes rest k after bytes' : List ℕ} {x : Node} {ls ls' : List RawLine}
       → IsAt column bytes at rest → is_dash rest ≡ false → IsKey at rest k behind after → IsAt behind after value bytes' → IsLeaf (at + 1) n bytes' ls x height ls'
-      → IsHeads n right spaced column bytes ls (key_piece n at (word k) ∷ leaf_piece n value x height false ∷ []) ls'
+      → IsHeads n right spaced column bytes ls (key_piece n at k ∷ leaf_piece n value x height false ∷ []) ls'
 
 -- all lines and their pieces, behind those that were found
 pub data IsPieces : List Piece → List RawLine → List Piece → Type 0 where

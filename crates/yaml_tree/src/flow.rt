@@ -5,10 +5,11 @@ ghost use Rattle.yaml_tree.specs.Flow.{fresh, held, node_of, closing, wants_key,
 ghost use Rattle.yaml_tree.specs.Brackets.{ends_key, is_stop, is_word_end};
 ghost use Rattle.yaml_scan.specs.Words.{colon_at};
 
-use crate::node::{Node, NodeKind, null, scalar_node, word};
+use crate::key::Key;
+use crate::node::{Node, NodeKind, null, scalar_node};
 use crate::pairs::Pairs;
 use crate::starts::{is_merge, left_out, no_plain};
-use ha_value::{Many, Word};
+use ha_value::Many;
 use std::alloc::{AllocError, Global};
 use std::marker::Model;
 use std::mem;
@@ -20,7 +21,7 @@ pub struct Frame {
     pub is_map: bool,
     pub items: Many<Node>,
     pub pairs: Pairs,
-    pub key: Option<Word>,
+    pub key: Option<Key>,
 }
 
 impl Frame {
@@ -50,8 +51,8 @@ impl Frame {
         Ok(())
     }
 
-    fn into_node(self, line: u32) -> Node
-        ensures { result ≡ node_of self line }
+    fn into_node(self, alloc: Global, line: u32) -> Result<Node, AllocError>
+        ensures { IfOk result (λ node. node ≡ node_of self line) }
     {
         let Frame {
             is_map,
@@ -60,15 +61,15 @@ impl Frame {
             key: _,
         } = self;
         if is_map {
-            Node {
+            Ok(Node {
                 line,
-                kind: NodeKind::Map(pairs.into_list()),
-            }
+                kind: NodeKind::Map(pairs.into_list(alloc)?),
+            })
         } else {
-            Node {
+            Ok(Node {
                 line,
                 kind: NodeKind::List(items),
-            }
+            })
         }
     }
 
@@ -199,7 +200,7 @@ impl<'a> Flow<'a> {
         ensures shorter { length self.new.rest ≤ length self.old.rest }
     {
         let inner = mem::replace(&mut self.frame, Frame::new(alloc, false));
-        let node = inner.into_node(self.line);
+        let node = inner.into_node(alloc, self.line)?;
         let node = self.kept(alloc, node);
         let Some(outer) = self.frames.pop() else {
             return Ok(Turn::Ended(node));
@@ -219,7 +220,7 @@ impl<'a> Flow<'a> {
     }
 
     /// A key waits for its value.
-    fn wait(&mut self, key: Word)
+    fn wait(&mut self, key: Key)
         ensures { self.new ≡ awaiting self.old key }
     {
         if self.frame.pairs.has(&key) {
@@ -230,7 +231,7 @@ impl<'a> Flow<'a> {
     }
 
     /// A key with a colon behind it.
-    fn keyed(&mut self, key: Word) -> Turn
+    fn keyed(&mut self, key: Key) -> Turn
         ensures exact { IsTurn (keyed self.old key) result self.new }
         ensures shorter { length self.new.rest ≤ length self.old.rest }
     {
@@ -242,7 +243,7 @@ impl<'a> Flow<'a> {
     }
 
     /// A key alone, whose value is null.
-    fn alone(&mut self, alloc: Global, key: Word) -> Result<Turn, AllocError>
+    fn alone(&mut self, alloc: Global, key: Key) -> Result<Turn, AllocError>
         ensures exact { IsStep (alone self.old key) result self.new }
         ensures shorter { length self.new.rest ≤ length self.old.rest }
     {
@@ -263,7 +264,7 @@ impl<'a> Flow<'a> {
             self.hold(alloc, node)?;
             return Ok(Turn::On);
         }
-        let key = word(alloc, text)?;
+        let key = Key::of(alloc, text)?;
         if colon_behind(self.rest) {
             self.skip(false, 1);
             return Ok(self.keyed(key));
@@ -300,7 +301,7 @@ impl<'a> Flow<'a> {
                 return Ok(Turn::Fails(Code::LeftOut));
             }
             self.skip(true, count);
-            let text = word(alloc, text)?;
+            let text = Key::of(alloc, text)?;
             return self.alone(alloc, text);
         };
         let text = trimmed(&key[..at]);
@@ -308,7 +309,7 @@ impl<'a> Flow<'a> {
             return Ok(Turn::Fails(Code::LeftOut));
         }
         self.skip(false, at);
-        let text = word(alloc, text)?;
+        let text = Key::of(alloc, text)?;
         Ok(self.keyed(text))
     }
 

@@ -6,10 +6,11 @@ ghost use Rattle.yaml_scan.specs.declared.fault.YamlFault.{YamlFault};
 ghost use Rattle.yaml_scan.specs.declared.fault.Code.TheVariants.{Structure};
 ghost use Rattle.yaml_tree.specs.Layout.{Gives, IsTurn, front, is_dash, begins_with, list_on, map_on, value_floor, item, pair, list, map, leaf, head, node, document};
 
+use crate::key::Key;
 use crate::node::{Node, NodeKind, null};
 use crate::pairs::Pairs;
 use crate::piece::{Piece, What};
-use ha_value::{Many, Word};
+use ha_value::Many;
 use std::alloc::Global;
 use std::collections::VecDeque;
 use std::marker::Model;
@@ -153,19 +154,14 @@ impl Layout {
 
     #[cycle(read)]
     #[tactic(auto, unfolding(crate::specs::Layout::map, crate::specs::Layout::rows))]
-    fn map(
-        &mut self,
-        alloc: Global,
-        depth: u32,
-        column: u64,
-    ) -> Result<Many<(Word, u32, Node)>, YamlFault>
+    fn map(&mut self, alloc: Global, depth: u32, column: u64) -> Result<Pairs, YamlFault>
         ensures exact { Gives (map (node depth) column self.old) result self.new }
         ensures shorter { length self.new ≤ length self.old }
     {
         let mut pairs = Pairs::new(alloc);
         'pairs: loop {
             if !self.map_goes_on(column)? {
-                return Ok(pairs.into_list());
+                return Ok(pairs);
             }
             let pair = self.pair(alloc, depth, &pairs)?;
             pairs = pairs.push(alloc, pair)?;
@@ -179,7 +175,7 @@ impl Layout {
         alloc: Global,
         depth: u32,
         found: &Pairs,
-    ) -> Result<(Word, u32, Node), YamlFault>
+    ) -> Result<(Key, u32, Node), YamlFault>
         requires { 0 < length self.old }
         ensures exact { Gives (pair (node depth) found.now self.old) result self.new }
         ensures shorter { length self.new < length self.old }
@@ -222,7 +218,7 @@ impl Layout {
                 let pairs = self.map(alloc, depth - 1, column)?;
                 Ok(Node {
                     line: head.line,
-                    kind: NodeKind::Map(pairs),
+                    kind: NodeKind::Map(pairs.into_list(alloc)?),
                 })
             }
             Begins::Leaf => self.leaf(depth),

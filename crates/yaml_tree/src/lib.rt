@@ -3,6 +3,7 @@
 
 mod entities;
 mod flow;
+mod key;
 mod layout;
 mod leaf;
 mod node;
@@ -14,6 +15,7 @@ mod starts;
 mod tree;
 
 pub use flow::{Flow, Frame, Turn};
+pub use key::Key;
 pub use layout::{Begins, Head, Layout};
 pub use leaf::{Trouble, Wrong};
 pub use node::{Node, NodeKind};

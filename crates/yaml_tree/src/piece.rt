@@ -1,7 +1,7 @@
 //! Pieces of lines.
 
+use crate::key::Key;
 use crate::node::Node;
-use ha_value::Word;
 
 /// What stands at a column of a line. Columns count bytes from 0.
 #[derive(Drop)]
@@ -15,7 +15,7 @@ pub struct Piece {
 #[derive(Drop)]
 pub enum What {
     Dash,
-    Key(Word),
+    Key(Key),
     Leaf {
         node: Node,
         /// How many nodes stand in one another; a number past the limit may be less than it is.

@@ -1,15 +1,17 @@
 //! The pieces of lines.
 
-ghost use Rattle.std.specs.Prelude.{◌≡◌, ◌≤◌, ◌<◌, ◌+◌, ◌^◌, ◌∷◌, ◌++◌, ℕ, suc, [], length, drop, true, false, OnOk};
+ghost use Rattle.std.specs.Prelude.{◌≡◌, ◌≤◌, ◌<◌, ◌+◌, ◌^◌, ◌∷◌, ◌++◌, ℕ, List, Result, suc, [], length, drop, true, false, OnOk};
 ghost use Rattle.yaml_scan.specs.Words.{colon_at};
 ghost use Rattle.yaml_scan.specs.declared.fault.Code.{Code};
 ghost use Rattle.yaml_tree.specs.Leaves.{ReadsLeaf, leaf_of, flow_by, colon_behind};
-ghost use Rattle.yaml_tree.specs.Flow.{flow};
+ghost use Rattle.yaml_scan.specs.declared.line.RawLine.{RawLine};
+ghost use Rattle.yaml_tree.specs.Flow.{Ended, IsEnded, flow};
 ghost use Rattle.yaml_tree.specs.Pieces.{IsFound, AllFound, floor, leaf_at, spoiled, spoiled_key, value_at, keyed, plain_key, quoted_at, node_of, heads, is_spaced, line_heads, pieces, is_over};
 
 use crate::flow::Flow;
+use crate::key::Key;
 use crate::leaf::{Trouble, Wrong, refused, scalar_leaf, wrong_of};
-use crate::node::{Node, null, word};
+use crate::node::{Node, null};
 use crate::piece::{Piece, What};
 use crate::starts::{Start, is_merge, starts};
 use std::alloc::{AllocError, Global};
@@ -94,21 +96,15 @@ impl<'a> Pieces<'a> {
         ensures same { self.new ≡ self.old }
     {
         let mut flow = Flow::new(alloc, number, is_map, bytes);
-        let node = match flow.read(alloc)? {
-            Ok(node) => node,
-            Err(code) => return Err(refused(number, code, false)),
-        };
-        let rest = flow.rest();
-        if fresh && colon_behind(&rest[blanks(rest)..]) {
-            return Err(refused(number, Code::LeftOut, true));
-        }
-        if !nothing_left(false, rest) {
-            return Err(refused(number, Code::Structure, false));
-        }
-        if flow.is_repeated() {
-            return Err(refused(number, Code::RepeatedKey, false));
-        }
-        Ok((node, flow.height()))
+        let node = flow.read(alloc)?;
+        ended_flow(
+            fresh,
+            number,
+            node,
+            flow.rest(),
+            flow.is_repeated(),
+            flow.height(),
+        )
     }
 
     /// The scalar or flow at this column.
@@ -222,8 +218,8 @@ impl<'a> Pieces<'a> {
         if text.is_empty() {
             return self.spoil_key(alloc, number, column, Code::Structure, false);
         }
-        let text = word(alloc, text)?;
-        self.put(number, column, What::Key(text))?;
+        let key = Key::of(alloc, text)?;
+        self.put(number, column, What::Key(key))?;
         self.value(alloc, number, behind, bytes)
     }
 
@@ -410,6 +406,33 @@ fn is_spaced(bytes: &[u8]) -> bool
         spaced = *b == b' ';
     }
     spaced
+}
+
+/// The leaf of flow that was read, with what is behind it.
+fn ended_flow(
+    fresh: bool,
+    number: u32,
+    node: Result<Node, Code>,
+    rest: &[u8],
+    repeated: bool,
+    height: u32,
+) -> Result<(Node, u32), Trouble>
+    ensures { (meant : Result Ended Code) (behind : List RawLine) → IsEnded meant node rest.now repeated height → ReadsLeaf (flow_by fresh number meant behind) result behind }
+{
+    let node = match node {
+        Ok(node) => node,
+        Err(code) => return Err(refused(number, code, false)),
+    };
+    if fresh && colon_behind(&rest[blanks(rest)..]) {
+        return Err(refused(number, Code::LeftOut, true));
+    }
+    if !nothing_left(false, rest) {
+        return Err(refused(number, Code::Structure, false));
+    }
+    if repeated {
+        return Err(refused(number, Code::RepeatedKey, false));
+    }
+    Ok((node, height))
 }
 
 fn right_of(column: u64) -> u128

@@ -42,7 +42,7 @@ map-returns-in_err-map_goes_on-clause-exact t c =
 
 pub map-returns-then-not-branch-clause-exact : goal.map-returns-then-not-branch-clause-exact
 map-returns-then-not-branch-clause-exact t c =
-    rw c.into_list.ensures (ends (map_on c.args.column) (pair (node c.args.depth)) c.pairs.pairs c.pairs.self (map (node c.args.depth) c.args.column c.args.self.now) c.pairs.invariant.so_far (c.in_ok-map_goes_on.ensures ∙ ap Ok c.if-not-branch.true))
+    ends (map_on c.args.column) (pair (node c.args.depth)) c.pairs.pairs c.pairs.self (map (node c.args.depth) c.args.column c.args.self.now) c.pairs.invariant.so_far (c.in_ok-map_goes_on.ensures ∙ ap Ok c.if-not-branch.true)
 
 pub map-returns-in_err-pair-clause-exact : goal.map-returns-in_err-pair-clause-exact
 map-returns-in_err-pair-clause-exact t c =
