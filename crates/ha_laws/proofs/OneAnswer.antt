@@ -91,7 +91,7 @@ same-line d rs rs' k n k' n' cmd cmd' xs ys makers t t' cmds =
     = (λ i. if sym (equal-self k k refl) i then cmd ∷ cmds_of k xs else cmds_of k xs) ∙ cmds k ∙ (λ i. if equal-self k' k (sym ks) i then cmd' ∷ cmds_of k ys else cmds_of k ys) in
     (λ i. Line (ks i) (ns i) (ap (head_or cmd) cs i))
 
-same-step : (d : Journal) (rs rs' : Records) → HasEntry d → SameUpTo (length d) (records_of d) rs → SameUpTo (length d) (records_of d) rs' → (k s : ℕ) (b : Branch) (item : Item) (k' s' : ℕ) (b' : Branch) (item' : Item)
+pub same-step : (d : Journal) (rs rs' : Records) → HasEntry d → SameUpTo (length d) (records_of d) rs → SameUpTo (length d) (records_of d) rs' → (k s : ℕ) (b : Branch) (item : Item) (k' s' : ℕ) (b' : Branch) (item' : Item)
     → Worker k ≡ Worker k' → IsTurn rs d (Step k s b item) → IsTurn rs' d (Step k' s' b' item') → IsRightEntry rs d (Step k s b item) → IsRightEntry rs' d (Step k' s' b' item') → Step k s b item ≡ Step k' s' b' item'
 same-step d rs rs' h same same' k s b item k' s' b' item' makers t t' right right' =
     let ks : k ≡ k' = ap (worker_or 0) makers in
@@ -102,7 +102,7 @@ same-step d rs rs' h same same' k s b item k' s' b' item' makers t t' right righ
     let items : item ≡ item' = one-item d s' b' item item' (subst (λ p. GivesItem d p.0 p.1 item) pairs g) g' in
     (λ i. Step (ks i) (pairs i).0 (pairs i).1 (items i))
 
-abbrev NoBoots : ℕ → Journal → Type 0
+abbrev pub NoBoots : ℕ → Journal → Type 0
 NoBoots n xs = EachFrom (λ n x. ¬ IsBoot x) n xs
 
 abbrev IsEmptyList : {X : Type 0} → List X → Type 0
@@ -125,14 +125,14 @@ cmds-tail q x y xs ys e same = go x (same ∙ (λ i. cmds_of q (sym e i ∷ ys))
         by false h = h
 
 -- all that is known of what stands after a prefix
-record Rest (d : Journal) (xs : Journal) (rs : Records) : Type 0 where
-  records_are : rs ≡ records_of (d ++ xs)
-  turns : EachAfter (IsTurn rs) d xs
-  entries : EachAfter (IsRightEntry rs) d xs
-  place : ℕ
-  no_boots : NoBoots place xs
+pub record Rest (d : Journal) (xs : Journal) (rs : Records) : Type 0 where
+  pub records_are : rs ≡ records_of (d ++ xs)
+  pub turns : EachAfter (IsTurn rs) d xs
+  pub entries : EachAfter (IsRightEntry rs) d xs
+  pub place : ℕ
+  pub no_boots : NoBoots place xs
 
-rest-tail : (d : Journal) (x : Entry) (xs : Journal) (rs : Records) → Rest d (x ∷ xs) rs → Rest (more d x) xs rs
+pub rest-tail : (d : Journal) (x : Entry) (xs : Journal) (rs : Records) → Rest d (x ∷ xs) rs → Rest (more d x) xs rs
 rest-tail d x xs rs r = record {
   records_are = r.records_are ∙ (λ i. records_of (sym (append_assoc d (x ∷ []) xs) i));
   turns = r.turns.1;
@@ -141,7 +141,7 @@ rest-tail d x xs rs r = record {
   no_boots = r.no_boots.1;
 }
 
-rest-same : (d : Journal) (xs : Journal) (rs : Records) → HasEntry d → Rest d xs rs → SameUpTo (length d) (records_of d) rs
+pub rest-same : (d : Journal) (xs : Journal) (rs : Records) → HasEntry d → Rest d xs rs → SameUpTo (length d) (records_of d) rs
 rest-same d xs rs h r = subst (SameUpTo (length d) (records_of d)) (sym r.records_are) (records-prefix d xs h)
 
 same-entry : (d : Journal) (rs rs' : Records) → HasEntry d → (x y : Entry) (xs ys : Journal) → Rest d (x ∷ xs) rs → Rest d (y ∷ ys) rs' → maker x ≡ maker y → ((q : ℕ) → cmds_of q (x ∷ xs) ≡ cmds_of q (y ∷ ys)) → x ≡ y
@@ -166,7 +166,7 @@ one-rest (x ∷ xs) d rs rs' h (y ∷ ys) r r' all cmds =
 boot-entry : (boot : Entry) → HasEntry (boot ∷ [])
 boot-entry boot = tt
 
-whole-rest : (boot : Entry) (xs : Journal) (rs : Records) → Lawful (boot ∷ xs) rs → Rest (boot ∷ []) xs rs
+pub whole-rest : (boot : Entry) (xs : Journal) (rs : Records) → Lawful (boot ∷ xs) rs → Rest (boot ∷ []) xs rs
 whole-rest boot xs rs lawful = record {
   records_are = lawful.right.records_are;
   turns = lawful.turns.1;

@@ -31,7 +31,7 @@ no-boot [] x some h = absurd some
 no-boot (e ∷ es) x some h = from-last (λ y. IsBoot y → ⊥) 1 es x h.1
 
 -- what makes an entry right by the new records makes it so by the old ones
-right-back : (n : ℕ) (rs rs' : Records) → SameUpTo n rs rs' → (d : Journal) (y : Entry) → length d ≡ n → IsRightEntry rs' d y → IsRightEntry rs d y
+pub right-back : (n : ℕ) (rs rs' : Records) → SameUpTo n rs rs' → (d : Journal) (y : Entry) → length d ≡ n → IsRightEntry rs' d y → IsRightEntry rs d y
 right-back n rs rs' s d (Boot text config stored start zone) le h = tt
 right-back n rs rs' s d (Line source number cmd) le h = h
 right-back n rs rs' s d (Step worker serial branch item) le h =
