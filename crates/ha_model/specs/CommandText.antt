@@ -34,7 +34,9 @@ cmd_text (Cmd.Gone entity) = one_key (codes "gone") (id_text entity)
 cmd_text (Cmd.Event kind pairs) = map_text ((codes "event", quoted kind) ∷ (codes "data", print_pairs pairs) ∷ [])
 cmd_text (Cmd.Moment at) = one_key (codes "moment") (quoted (moment_text at))
 cmd_text (Cmd.Switch name on stop) =
-    map_text ((codes "switch", automation_text name) ∷ (codes "to", if on then quoted (codes "on") else quoted (codes "off")) ∷ (codes "stop_actions", flag_text stop) ∷ [])
+    map_text ((codes "switch", automation_text name)
+    ∷ (codes "to", if on then quoted (codes "on") else quoted (codes "off"))
+    ∷ (codes "stop_actions", flag_text stop) ∷ [])
 cmd_text (Cmd.Trigger name skip) = map_text ((codes "trigger", automation_text name) ∷ (codes "skip_condition", flag_text skip) ∷ [])
 cmd_text Cmd.Restart = one_key (codes "restart") (flag_text true)
 cmd_text (Cmd.Refused code) = one_key (codes "refused") (quoted (line_code code))
@@ -48,13 +50,16 @@ call_pairs service target fields =
 
 -- one automation that was switched, by its name
 abbrev pub switched_text : List Automation → ℕ × Bool × Bool → Text
-switched_text all s = map_text ((codes "automation", quoted (name_of all s.0)) ∷ (codes "on", flag_text s.1) ∷ (codes "stop", flag_text s.2) ∷ [])
+switched_text all s =
+    map_text ((codes "automation", quoted (name_of all s.0)) ∷ (codes "on", flag_text s.1) ∷ (codes "stop", flag_text s.2) ∷ [])
 
 abbrev pub item_text : List Automation → Item → Text
 item_text all Item.Nothing = one_key (codes "nothing") (flag_text true)
 item_text all (Item.Call service target fields) = one_key (codes "call") (map_text (call_pairs service target fields))
-item_text all (Item.Fired kind pairs) = one_key (codes "fired") (map_text ((codes "event", quoted kind) ∷ (codes "data", print_pairs pairs) ∷ []))
+item_text all (Item.Fired kind pairs) =
+    one_key (codes "fired") (map_text ((codes "event", quoted kind) ∷ (codes "data", print_pairs pairs) ∷ []))
 item_text all (Item.Switched targets) = one_key (codes "switched") (list_text (map (switched_text all) targets))
 item_text all (Item.Triggered automations skip) =
-    one_key (codes "triggered") (map_text ((codes "automations", list_text (map (λ a. quoted (name_of all a)) automations)) ∷ (codes "skip_condition", flag_text skip) ∷ []))
+    one_key (codes "triggered") (map_text ((codes "automations", list_text (map (λ a. quoted (name_of all a)) automations))
+    ∷ (codes "skip_condition", flag_text skip) ∷ []))
 item_text all (Item.Failed code) = one_key (codes "failed") (quoted (failure_code code))

@@ -1,5 +1,6 @@
 -- Commands: which a source may give, and what stands in the journal for one that was read.
-use Rattle.std.specs.Prelude.{ℕ, suc, ◌≡◌, ◌≢◌, ◌≤◌, IsTrue, Bool, true, not, ◌&&◌, List, [], ◌∷◌, ◌++◌, map, is_some, nat_eq, codes, if◌then◌else◌}
+use Rattle.std.specs.Prelude.{ℕ, suc, ◌≡◌, ◌≢◌, ◌≤◌, IsTrue, Bool, true, not, ◌&&◌, List, []}
+use Rattle.std.specs.Prelude.{◌∷◌, ◌++◌, map, is_some, nat_eq, codes, if◌then◌else◌}
 use Rattle.std.specs.List.{list_any, list_all, AllZip}
 use Rattle.std.specs.Option.{option_map_or}
 use Rattle.std.specs.Str.{is_utf8}
@@ -77,7 +78,8 @@ IsOfAutomation j name = IsTrue (is_name name) × IsTrue (has_automation j name)
 
 -- a command that a source may give; the codes of refused lines are 1 to 10
 abbrev pub IsFair : Journal → Cmd → Type 0
-IsFair j (Cmd.Report entity text attributes) = IsReportable entity × IsTrue (is_utf8 text) × (characters text ≤ 255) × AreFairPairs attributes
+IsFair j (Cmd.Report entity text attributes) =
+    IsReportable entity × IsTrue (is_utf8 text) × (characters text ≤ 255) × AreFairPairs attributes
 IsFair j (Cmd.Gone entity) = IsReportable entity
 IsFair j (Cmd.Event kind pairs) = IsTrue (is_utf8 kind) × AreFairPairs pairs
 IsFair j (Cmd.Moment at) = at ≤ last_moment

@@ -1,5 +1,6 @@
--- The filters and functions of templates, by their numbers. Another number, another count of arguments and another kind of one is a fault.
-use Rattle.std.specs.Prelude.{ℕ, Bool, true, false, not, ◌&&◌, nat_eq, nat_le, List, [], ◌∷◌, length, Option, Some, None, option_map, option_and_then, unwrap_or, is_some, codes, pos, if◌then◌else◌}
+-- The filters and functions of templates, a row each. Another number, another count of arguments and another kind of one is a fault.
+use Rattle.std.specs.Prelude.{ℕ, Bool, true, false, not, ◌&&◌, nat_eq, nat_le, List, [], ◌∷◌, length, Option, Some}
+use Rattle.std.specs.Prelude.{None, option_map, option_and_then, unwrap_or, is_some, codes, pos, if◌then◌else◌}
 use Rattle.std.specs.List.{list_any}
 use Rattle.std.specs.Option.{option_map_or}
 use Rattle.ha_value.specs.declared.value.Num.{Num}
@@ -9,8 +10,11 @@ use Rattle.ha_value.specs.declared.value.Value.TheViews.{out-Value}
 use Rattle.ha_value.specs.Truth.{truth}
 use Rattle.ha_value.specs.Ids.{read_entity}
 use Rattle.ha_model.specs.declared.journal.StateObject.{StateObject}
-use Rattle.ha_model.specs.Words.{Text, same, first_pair, last_of, first_of_list, lower, upper, without_breaks, characters, is_empty_text, replaced_all}
+use Rattle.ha_model.specs.Words.{Text, same, first_pair, last_of, first_of_list, lower, upper}
+use Rattle.ha_model.specs.Words.{without_breaks, characters, is_empty_text, replaced_all}
 use Rattle.ha_model.specs.Equal.{equal_value}
+use Rattle.ha_model.specs.FilterNumbers as filter
+use Rattle.ha_model.specs.FunctionNumbers as function
 use Rattle.ha_model.specs.Numbers.{read_number, less, absolute, as_whole, as_fixed, rounded_to, is_in_range}
 use Rattle.ha_model.specs.States.{Sight}
 use Rattle.ha_model.specs.Values.{Result, flag, made_text, printed, number_of, text_of, items_of, is_null}
@@ -114,37 +118,37 @@ replaced_in v old new = option_and_then (λ t. option_and_then (λ o. option_and
 -- those that take no argument
 abbrev pub bare_filter : ℕ → Value → Result
 bare_filter name v =
-    if nat_eq name 4 then option_map Value.Number (option_and_then absolute (number_of v))
-    else if nat_eq name 5 then printed_by lower v
-    else if nat_eq name 6 then printed_by upper v
-    else if nat_eq name 7 then text_by without_breaks v
-    else if nat_eq name 8 then option_map count_value (length_of (out-Value v))
-    else if nat_eq name 10 then option_map (λ vs. unwrap_or (first_of_list vs) Value.Null) (items_of v)
-    else if nat_eq name 11 then option_map (λ vs. unwrap_or (last_of vs) Value.Null) (items_of v)
-    else if nat_eq name 13 then printed_by (λ t. t) v
-    else if nat_eq name 14 then flag (is_number (out-Value v))
+    if nat_eq name filter.abs then option_map Value.Number (option_and_then absolute (number_of v))
+    else if nat_eq name filter.lower then printed_by lower v
+    else if nat_eq name filter.upper then printed_by upper v
+    else if nat_eq name filter.trim then text_by without_breaks v
+    else if nat_eq name filter.length then option_map count_value (length_of (out-Value v))
+    else if nat_eq name filter.first then option_map (λ vs. unwrap_or (first_of_list vs) Value.Null) (items_of v)
+    else if nat_eq name filter.last then option_map (λ vs. unwrap_or (last_of vs) Value.Null) (items_of v)
+    else if nat_eq name filter.string then printed_by (λ t. t) v
+    else if nat_eq name filter.is_number then flag (is_number (out-Value v))
     else None
 
 abbrev pub filter_without : ℕ → Value → Result
 filter_without name v =
-    if nat_eq name 1 then to_int v []
-    else if nat_eq name 2 then to_float v []
-    else if nat_eq name 3 then to_places v []
+    if nat_eq name filter.int then to_int v []
+    else if nat_eq name filter.float then to_float v []
+    else if nat_eq name filter.round then to_places v []
     else bare_filter name v
 
 abbrev pub filter_with : ℕ → Value → Value → Result
 filter_with name v arg =
-    if nat_eq name 1 then to_int v (arg ∷ [])
-    else if nat_eq name 2 then to_float v (arg ∷ [])
-    else if nat_eq name 3 then to_places v (arg ∷ [])
-    else if nat_eq name 9 then Some (if is_null v then arg else v)
+    if nat_eq name filter.int then to_int v (arg ∷ [])
+    else if nat_eq name filter.float then to_float v (arg ∷ [])
+    else if nat_eq name filter.round then to_places v (arg ∷ [])
+    else if nat_eq name filter.default then Some (if is_null v then arg else v)
     else None
 
--- 1 `int`, 2 `float`, 3 `round`, 4 `abs`, 5 `lower`, 6 `upper`, 7 `trim`, 8 `length`, 9 `default`, 10 `first`, 11 `last`, 12 `replace`, 13 `string`, 14 `is_number`
+-- a filter, by the number of its arguments
 abbrev pub filtered : ℕ → Value → List Value → Result
 filtered name v [] = filter_without name v
 filtered name v (arg ∷ []) = filter_with name v arg
-filtered name v (old ∷ new ∷ []) = if nat_eq name 12 then replaced_in v old new else None
+filtered name v (old ∷ new ∷ []) = if nat_eq name filter.replace then replaced_in v old new else None
 filtered name v (x ∷ y ∷ z ∷ more) = None
 
 -- ---- functions
@@ -161,6 +165,13 @@ module _ (sight : Sight) where
   abbrev pub attribute_of : Text → Text → Option Value
   attribute_of t name = option_and_then (λ o. first_pair name o.attributes) (state_named t)
 
+  abbrev pub attribute_or_null : Text → Text → Value
+  attribute_or_null t name = unwrap_or (attribute_of t name) Value.Null
+
+  -- there, and equal
+  abbrev pub attribute_is : Text → Text → Value → Bool
+  attribute_is t name v = option_map_or (equal_value v) (attribute_of t name) false
+
   -- there, and its text is this one, or one of the list
   abbrev pub text_is_one : Value-F Value → Text → Option Bool
   text_is_one (Value-F.Text s) t = Some (same s t)
@@ -168,32 +179,35 @@ module _ (sight : Sight) where
   text_is_one _ t = None
 
   abbrev pub is_state : Text → Value-F Value → Option Bool
-  is_state t wanted = option_and_then (λ one. Some (option_map_or (λ o. unwrap_or (text_is_one wanted o.text) false) (state_named t) false)) (text_is_one wanted [])
+  is_state t wanted = option_and_then
+      (λ one. Some (option_map_or (λ o. unwrap_or (text_is_one wanted o.text) false) (state_named t) false))
+      (text_is_one wanted [])
 
   abbrev pub has_value : Text → Bool
   has_value t = option_map_or (λ o. not (same o.text (codes "unknown")) && not (same o.text (codes "unavailable"))) (state_named t) false
 
   abbrev pub function_one : ℕ → Value → Result
   function_one name x =
-      if nat_eq name 1 then option_map (λ t. Value.Text (state_text t)) (text_of x)
-      else if nat_eq name 5 then option_map (λ t. Value.Flag (has_value t)) (text_of x)
-      else if nat_eq name 6 then to_int x []
-      else if nat_eq name 7 then to_float x []
-      else if nat_eq name 11 then flag (is_number (out-Value x))
+      if nat_eq name function.states then option_map (λ t. Value.Text (state_text t)) (text_of x)
+      else if nat_eq name function.has_value then option_map (λ t. Value.Flag (has_value t)) (text_of x)
+      else if nat_eq name function.int then to_int x []
+      else if nat_eq name function.float then to_float x []
+      else if nat_eq name function.is_number then flag (is_number (out-Value x))
       else None
 
   abbrev pub function_two : ℕ → Value → Value → Result
   function_two name x y =
-      if nat_eq name 2 then option_and_then (λ t. option_map (λ a. unwrap_or (attribute_of t a) Value.Null) (text_of y)) (text_of x)
-      else if nat_eq name 3 then option_and_then (λ t. option_and_then flag (is_state t (out-Value y))) (text_of x)
-      else if nat_eq name 6 then to_int x (y ∷ [])
-      else if nat_eq name 7 then to_float x (y ∷ [])
+      if nat_eq name function.state_attr then option_and_then (λ t. option_map (λ a. attribute_or_null t a) (text_of y)) (text_of x)
+      else if nat_eq name function.is_state then option_and_then (λ t. option_and_then flag (is_state t (out-Value y))) (text_of x)
+      else if nat_eq name function.int then to_int x (y ∷ [])
+      else if nat_eq name function.float then to_float x (y ∷ [])
       else None
 
   abbrev pub function_three : ℕ → Value → Value → Value → Result
   function_three name x y z =
-      if nat_eq name 4 then option_and_then (λ t. option_map (λ a. Value.Flag (option_map_or (equal_value z) (attribute_of t a) false)) (text_of y)) (text_of x)
-      else if nat_eq name 10 then Some (if truth x then y else z)
+      if nat_eq name function.is_state_attr
+      then option_and_then (λ t. option_map (λ a. Value.Flag (attribute_is t a z)) (text_of y)) (text_of x)
+      else if nat_eq name function.iif then Some (if truth x then y else z)
       else None
 
   abbrev pub by_count : ℕ → List Value → Result
@@ -203,9 +217,9 @@ module _ (sight : Sight) where
   by_count name (x ∷ y ∷ z ∷ []) = function_three name x y z
   by_count name (w ∷ x ∷ y ∷ z ∷ more) = None
 
-  -- 1 `states`, 2 `state_attr`, 3 `is_state`, 4 `is_state_attr`, 5 `has_value`, 6 `int`, 7 `float`, 8 `min`, 9 `max`, 10 `iif`, 11 `is_number`
+  -- a function: those of any number of arguments, then by that number
   abbrev pub applied : ℕ → List Value → Result
   applied name args =
-      if nat_eq name 8 then extreme (λ x n. less x n) args
-      else if nat_eq name 9 then extreme (λ x n. less n x) args
+      if nat_eq name function.min then extreme (λ x n. less x n) args
+      else if nat_eq name function.max then extreme (λ x n. less n x) args
       else by_count name args

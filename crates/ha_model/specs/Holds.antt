@@ -1,5 +1,6 @@
 -- Where a trigger fires: where it moves, or where what it watches has stayed as it was for as long as its `for` says.
-use Rattle.std.specs.Prelude.{ℕ, suc, ◌+◌, ◌-◌, Bool, false, not, ◌&&◌, ◌||◌, nat_eq, nat_le, nat_lt, List, [], Option, Some, None, take, slice_get, is_none, map, find, option_and_then}
+use Rattle.std.specs.Prelude.{ℕ, suc, ◌+◌, ◌-◌, Bool, false, not, ◌&&◌, ◌||◌, nat_eq, nat_le, nat_lt, List, []}
+use Rattle.std.specs.Prelude.{Option, Some, None, take, slice_get, is_none, map, find, option_and_then}
 use Rattle.std.specs.List.{list_all, list_any}
 use Rattle.std.specs.Option.{option_map_or}
 use Rattle.ha_value.specs.declared.value.EntityId.{EntityId}
@@ -14,16 +15,23 @@ use Rattle.ha_model.specs.Templates.{rendered, says}
 use Rattle.ha_model.specs.Moves.{same_optional, latest_number, after, moves, starts}
 
 module _ (j : Journal) where
-  -- what a hold watches after place p is what it is after place i: the state text, the attribute as written, whether the latest number is in the
-  -- bounds, or whether the template is true
+  -- what a hold watches after place p is what it is after place i: the state text, the attribute as written, whether the latest number is
+  -- in the bounds, or whether the template is true
   abbrev pub same_watched : TriggerRule → Option EntityId → ℕ → ℕ → Bool
   same_watched (TriggerRule.State entities (Some name) from to) (Some e) i p =
-      same_optional (option_and_then (λ s. first_pair name s.attributes) ((after j i).states e)) (option_and_then (λ s. first_pair name s.attributes) ((after j p).states e))
+      same_optional
+      (option_and_then (λ s. first_pair name s.attributes) ((after j i).states e))
+      (option_and_then (λ s. first_pair name s.attributes) ((after j p).states e))
   same_watched (TriggerRule.State entities None from to) (Some e) i p =
-      option_map_or (λ s. option_map_or (λ o. same o.text s.text) ((after j i).states e) false) ((after j p).states e) (is_none ((after j i).states e))
+      option_map_or
+      (λ s. option_map_or (λ o. same o.text s.text) ((after j i).states e) false)
+      ((after j p).states e)
+      (is_none ((after j i).states e))
   same_watched (TriggerRule.State entities attribute from to) None i p = false
   same_watched (TriggerRule.Numeric entities attribute above below) (Some e) i p =
-      same_flag (option_map_or (in_bounds above below) (latest_number e attribute (take (suc i) j)) false) (option_map_or (in_bounds above below) (latest_number e attribute (take (suc p) j)) false)
+      same_flag
+      (option_map_or (in_bounds above below) (latest_number e attribute (take (suc i) j)) false)
+      (option_map_or (in_bounds above below) (latest_number e attribute (take (suc p) j)) false)
   same_watched (TriggerRule.Numeric entities attribute above below) None i p = false
   same_watched (TriggerRule.Template t) (Some e) i p = false
   same_watched (TriggerRule.Template t) None i p = same_flag (says (rendered (after j i) t [])) (says (rendered (after j p) t []))
@@ -45,7 +53,9 @@ module _ (j : Journal) where
       of (Some d) =
           nat_lt since i && moves j t e i
           && option_map_or is_moment (slice_get j p) false && nat_le ((after j i).now + d) (after j p).now
-          && not (list_any (λ q. option_map_or is_moment (slice_get j q) false && nat_le ((after j i).now + d) (after j q).now) (between i (p - 1)))
+          && not (list_any
+          (λ q. option_map_or is_moment (slice_get j q) false && nat_le ((after j i).now + d) (after j q).now)
+          (between i (p - 1)))
           && list_all (same_watched t.rule e i) (between i p)
 
   -- the place at which a trigger that fires at p moved

@@ -1,5 +1,6 @@
 -- What moves a trigger at an entry.
-use Rattle.std.specs.Prelude.{ℕ, suc, ◌/◌, ◌%◌, Bool, true, false, not, ◌&&◌, ◌||◌, nat_eq, [], Option, Some, None, take, slice_get, is_some, is_none, filter_map, option_map, option_and_then, if◌then◌else◌}
+use Rattle.std.specs.Prelude.{ℕ, suc, ◌/◌, ◌%◌, Bool, true, false, not, ◌&&◌, ◌||◌, nat_eq, [], Option, Some, None, take}
+use Rattle.std.specs.Prelude.{slice_get, is_some, is_none, filter_map, option_map, option_and_then, if◌then◌else◌}
 use Rattle.std.specs.List.{list_all, list_any}
 use Rattle.std.specs.Option.{option_map_or}
 use Rattle.ha_value.specs.declared.value.EntityId.{EntityId}
@@ -51,12 +52,15 @@ state_moves (Some name) from to held old (Some s) =
     not (same_optional (option_and_then (λ o. first_pair name o.attributes) old) (first_pair name s.attributes))
     && matches from (option_and_then (watched_text (Some name)) old) && matches to (watched_text (Some name) s)
 state_moves None from to held old (Some s) =
-    option_map_or (λ o. not (same o.text s.text) || (is_absent from && is_absent to && not held && not (same_pairs o.attributes s.attributes))) old true
+    option_map_or
+    (λ o. not (same o.text s.text) || (is_absent from && is_absent to && not held && not (same_pairs o.attributes s.attributes)))
+    old true
     && matches from (option_map (λ o. o.text) old) && matches to (Some s.text)
 
 -- the number that a Report gives of e
 abbrev pub report_number : EntityId → Option Text → Entry → Option Num
-report_number e name x = option_and_then (λ r. if same_entity r.entity e then number_watched name r.text r.attributes else None) (report_in x)
+report_number e name x =
+    option_and_then (λ r. if same_entity r.entity e then number_watched name r.text r.attributes else None) (report_in x)
 
 -- after the last Restart, the latest number of e in a Report, whether or not e went in between
 abbrev pub latest_number : EntityId → Option Text → Journal → Option Num
@@ -76,7 +80,8 @@ second_fits (TriggerRule.State entities attribute from to) s = false
 second_fits (TriggerRule.Numeric entities attribute above below) s = false
 second_fits (TriggerRule.Event kinds pairs) s = false
 second_fits (TriggerRule.Time seconds) s = list_any (nat_eq s) seconds
-second_fits (TriggerRule.Pattern hours minutes seconds) s = fits_unit hours (s / 3600) && fits_unit minutes ((s / 60) % 60) && fits_unit seconds (s % 60)
+second_fits (TriggerRule.Pattern hours minutes seconds) s =
+    fits_unit hours (s / 3600) && fits_unit minutes ((s / 60) % 60) && fits_unit seconds (s % 60)
 second_fits (TriggerRule.Template t) s = false
 second_fits TriggerRule.Start s = false
 
@@ -93,16 +98,19 @@ module _ (j : Journal) where
 
   -- the rule of a trigger moves at place p, at which the entry is x; `held` says whether the trigger has a `for`
   abbrev pub rule_moves : TriggerRule → Bool → Option EntityId → ℕ → Entry → Bool
-  rule_moves (TriggerRule.State entities attribute from to) held (Some e) p x = state_moves attribute from to held ((before p).states e) ((after p).states e)
+  rule_moves (TriggerRule.State entities attribute from to) held (Some e) p x =
+      state_moves attribute from to held ((before p).states e) ((after p).states e)
   rule_moves (TriggerRule.State entities attribute from to) held None p x = false
   rule_moves (TriggerRule.Numeric entities attribute above below) held (Some e) p x =
       option_map_or (in_bounds above below) (report_number e attribute x) false
       && not (option_map_or (in_bounds above below) (latest_number e attribute (take p j)) false)
   rule_moves (TriggerRule.Numeric entities attribute above below) held None p x = false
   rule_moves (TriggerRule.Event kinds pairs) held (Some e) p x = false
-  rule_moves (TriggerRule.Event kinds pairs) held None p x = option_map_or (λ v. one_of v.0 kinds && list_all (pair_holds v.1) pairs) (event_in x) false
+  rule_moves (TriggerRule.Event kinds pairs) held None p x =
+      option_map_or (λ v. one_of v.0 kinds && list_all (pair_holds v.1) pairs) (event_in x) false
   rule_moves (TriggerRule.Time seconds) held (Some e) p x = false
-  rule_moves (TriggerRule.Time seconds) held None p x = is_moment x && passed (TriggerRule.Time seconds) (before p).zone (before p).now (after p).now
+  rule_moves (TriggerRule.Time seconds) held None p x =
+      is_moment x && passed (TriggerRule.Time seconds) (before p).zone (before p).now (after p).now
   rule_moves (TriggerRule.Pattern hours minutes seconds) held (Some e) p x = false
   rule_moves (TriggerRule.Pattern hours minutes seconds) held None p x =
       is_moment x && passed (TriggerRule.Pattern hours minutes seconds) (before p).zone (before p).now (after p).now

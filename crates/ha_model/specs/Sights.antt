@@ -16,4 +16,6 @@ switch_of j a = option_map (λ x. is_on j a) (unit_of (automations j) a)
 
 -- the last entry is the first, or it changed a switch
 abbrev pub changes_switch : Journal → Bool
-changes_switch j = nat_eq (length j) 1 || list_any (λ a. not (same_flag (is_on (take (length j - 1) j) a) (is_on j a))) (up_to (length (automations j)))
+changes_switch j =
+    nat_eq (length j) 1
+    || list_any (λ a. not (same_flag (is_on (take (length j - 1) j) a) (is_on j a))) (up_to (length (automations j)))

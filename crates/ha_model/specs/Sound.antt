@@ -128,7 +128,8 @@ is_sound_unit (unit.Unit.Each n) = nat_le 1 n
 
 abbrev pub is_sound_rule : TriggerRule → Bool
 is_sound_rule (TriggerRule.State entities attribute from to) = is_short entities && is_sound_match from && is_sound_match to
-is_sound_rule (TriggerRule.Numeric entities attribute above below) = is_short entities && if_there is_in_range above && if_there is_in_range below
+is_sound_rule (TriggerRule.Numeric entities attribute above below) =
+    is_short entities && if_there is_in_range above && if_there is_in_range below
 is_sound_rule (TriggerRule.Event kinds pairs) = is_short kinds && are_sound_pairs pairs && all_short (λ p. has_short_lists p.1) pairs
 is_sound_rule (TriggerRule.Time seconds) = all_short is_second_of_day seconds
 is_sound_rule (TriggerRule.Pattern hours minutes seconds) = is_sound_unit hours && is_sound_unit minutes && is_sound_unit seconds
@@ -156,9 +157,11 @@ sound_condition_step (Condition-F.And bs) = all_true bs
 sound_condition_step (Condition-F.Or bs) = all_true bs
 sound_condition_step (Condition-F.Not bs) = all_true bs
 sound_condition_step (Condition-F.State entities attribute texts hold) = is_short entities && is_short texts
-sound_condition_step (Condition-F.Numeric entities attribute above below) = is_short entities && if_there is_in_range above && if_there is_in_range below
+sound_condition_step (Condition-F.Numeric entities attribute above below) =
+    is_short entities && if_there is_in_range above && if_there is_in_range below
 sound_condition_step (Condition-F.Template t) = is_sound_template t
-sound_condition_step (Condition-F.Time after before weekdays) = if_there is_second_of_day after && if_there is_second_of_day before && if_there is_short weekdays
+sound_condition_step (Condition-F.Time after before weekdays) =
+    if_there is_second_of_day after && if_there is_second_of_day before && if_there is_short weekdays
 sound_condition_step (Condition-F.Trigger ids) = is_short ids
 
 abbrev pub is_sound_condition : Condition → Bool
@@ -176,11 +179,13 @@ is_sound_repeat (RepeatKind.Until cs) = are_sound_conditions cs
 is_sound_repeat (RepeatKind.Each fs) = all_short is_sound_form fs
 
 abbrev pub sound_kind_step : ActionKind-F Bool Bool → Bool
-sound_kind_step (ActionKind-F.Call service target fields) = is_sound_template service && all_short is_sound_template target && are_sound_fields fields
+sound_kind_step (ActionKind-F.Call service target fields) =
+    is_sound_template service && all_short is_sound_template target && are_sound_fields fields
 sound_kind_step (ActionKind-F.Delay form) = is_sound_span form
 sound_kind_step (ActionKind-F.WaitUntil test timeout go_on) = is_sound_template test && if_there is_sound_span timeout
 sound_kind_step (ActionKind-F.WaitFor triggers timeout go_on) = are_sound_triggers triggers && if_there is_sound_span timeout
-sound_kind_step (ActionKind-F.Choose options fallback) = all_short (λ x. are_sound_conditions x.0 && all_true x.1) options && all_true fallback
+sound_kind_step (ActionKind-F.Choose options fallback) =
+    all_short (λ x. are_sound_conditions x.0 && all_true x.1) options && all_true fallback
 sound_kind_step (ActionKind-F.If tests yes' no') = are_sound_conditions tests && all_true yes' && all_true no'
 sound_kind_step (ActionKind-F.Repeat kind body) = is_sound_repeat kind && all_true body
 sound_kind_step (ActionKind-F.Parallel lists) = all_short all_true lists

@@ -1,5 +1,6 @@
 -- The texts that are written of a journal: its calls, its errors, the store, the trace; and the lines of the other commands.
-use Rattle.std.specs.Prelude.{ℕ, suc, Bool, false, List, [], ◌∷◌, ◌++◌, length, map, count_by, Option, Some, None, is_some, option_map, decimal, codes, if◌then◌else◌}
+use Rattle.std.specs.Prelude.{ℕ, suc, Bool, false, List, [], ◌∷◌, ◌++◌, length, map, count_by, Option}
+use Rattle.std.specs.Prelude.{Some, None, is_some, option_map, decimal, codes, if◌then◌else◌}
 use Rattle.std.specs.List.{concat}
 use Rattle.std.specs.Option.{option_map_or}
 use Rattle.ha_clock.specs.Print.{moment_text}
@@ -33,12 +34,15 @@ texts_after gives before (x ∷ xs) = gives before x ++ texts_after gives (befor
 -- the line of call c of a run: its automation's name, and its number among the runs of that automation
 abbrev pub call_line : Text → ℕ → ℕ → Called → Text
 call_line name number c call =
-    as_line (map_text ((codes "run", quoted name) ∷ (codes "number", decimal number) ∷ (codes "call", decimal c) ∷ call_pairs call.service call.target call.fields))
+    as_line (map_text ((codes "run", quoted name) ∷ (codes "number", decimal number) ∷ (codes "call", decimal c)
+    ∷ call_pairs call.service call.target call.fields))
 
 -- the line of a Step that calls; the calls of its run count from 1
 abbrev pub call_of_step : Records → Journal → Stepped → Called → Text
 call_of_step records before s call =
-    option_map_or (λ r. call_line (name_of (automations before) r.automation) r.number (suc (calls_of before s.serial)) call) (record_of records s.serial) []
+    option_map_or
+    (λ r. call_line (name_of (automations before) r.automation) r.number (suc (calls_of before s.serial)) call)
+    (record_of records s.serial) []
 
 abbrev pub call_text_of : Records → Journal → Entry → Text
 call_text_of records before x = option_map_or (λ s. option_map_or (call_of_step records before s) (call_in s.item) []) (step_of x) []
@@ -66,7 +70,9 @@ refusal_text Cmd.TooLong = Some (codes "too long")
 abbrev pub error_line : Entry → Option Text
 error_line (Boot text config stored start zone) = None
 error_line (Line source number cmd) =
-    option_map (λ why. as_line (codes "source " ++ decimal source ++ codes " line " ++ decimal number ++ codes ": " ++ why)) (refusal_text cmd)
+    option_map
+    (λ why. as_line (codes "source " ++ decimal source ++ codes " line " ++ decimal number ++ codes ": " ++ why))
+    (refusal_text cmd)
 error_line (Step worker serial branch item) =
     option_map (λ code. as_line (codes "run " ++ decimal serial ++ codes " failed " ++ failure_code code)) (failure_in item)
 
@@ -107,11 +113,13 @@ stored_text (Some ps) = switches_text ps
 -- the trace line of an entry
 abbrev pub trace_line : List Automation → Entry → Text
 trace_line all (Boot text config stored start zone) =
-    as_line (one_key (codes "boot") (map_text ((codes "config", quoted text) ∷ (codes "stored", stored_text stored) ∷ (codes "start", quoted (moment_text start)) ∷ (codes "zone", quoted zone) ∷ [])))
+    as_line (one_key (codes "boot") (map_text ((codes "config", quoted text) ∷ (codes "stored", stored_text stored)
+    ∷ (codes "start", quoted (moment_text start)) ∷ (codes "zone", quoted zone) ∷ [])))
 trace_line all (Line source number cmd) =
     as_line (map_text ((codes "source", decimal source) ∷ (codes "number", decimal number) ∷ (codes "cmd", cmd_text cmd) ∷ []))
 trace_line all (Step worker serial branch item) =
-    as_line (map_text ((codes "worker", decimal worker) ∷ (codes "run", decimal serial) ∷ (codes "branch", list_text (map decimal branch)) ∷ (codes "item", item_text all item) ∷ []))
+    as_line (map_text ((codes "worker", decimal worker) ∷ (codes "run", decimal serial)
+    ∷ (codes "branch", list_text (map decimal branch)) ∷ (codes "item", item_text all item) ∷ []))
 
 abbrev pub end_line : ℕ → Text
 end_line n = as_line (one_key (codes "end") (decimal n))
@@ -130,7 +138,8 @@ mode_text Mode.Parallel = codes "parallel"
 
 abbrev pub check_line : Automation → Text
 check_line a = as_line (codes "automation." ++ a.name ++ codes " " ++ mode_text a.mode ++ codes " " ++ decimal a.max
-    ++ codes " triggers " ++ decimal (length a.triggers) ++ codes " conditions " ++ decimal (length a.tests) ++ codes " actions " ++ decimal (length a.actions))
+    ++ codes " triggers " ++ decimal (length a.triggers) ++ codes " conditions " ++ decimal (length a.tests)
+    ++ codes " actions " ++ decimal (length a.actions))
 
 -- a line for each automation, counted at the top level, and the count of automations
 abbrev pub check_text : Config → Text

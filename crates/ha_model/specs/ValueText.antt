@@ -7,7 +7,8 @@ use Rattle.ha_value.specs.declared.value.Value.TheFolds.{fold-Value}
 use Rattle.ha_model.specs.Words.{Text, Pairs}
 use Rattle.ha_model.specs.Numbers.{print_number}
 
--- in a string, `"` (34), `\` (92), LF, CR and tab have short forms, the other bytes under 20 hexadecimal have `\u00` and two digits, and all else stays
+-- in a string, `"` (34), `\` (92), LF (10), CR (13) and tab (9) have short forms, the other bytes under 20 hexadecimal have `\u00` and two
+-- digits, and all else stays
 abbrev pub escaped_byte : ℕ → Text
 escaped_byte c =
     if nat_eq c 34 then codes "\\\""

@@ -1,10 +1,13 @@
 -- The operators of templates, and their access to the parts of a value. A fault is None.
-use Rattle.std.specs.Prelude.{suc, ◌-◌, Bool, true, false, not, nat_le, List, ◌++◌, length, Option, Some, None, slice_get, option_map, option_and_then, unwrap_or, codes, pos, negsuc, if◌then◌else◌}
+use Rattle.std.specs.Prelude.{ℕ, suc, ◌-◌, Bool, true, false, not, nat_le, List, ◌++◌, length, sum, sum_by, Option, Some, None}
+use Rattle.std.specs.Prelude.{slice_get, option_map, option_and_then, unwrap_or, codes, pos, negsuc, if◌then◌else◌}
 use Rattle.std.specs.List.{list_any}
 use Rattle.std.specs.Option.{option_map_or}
 use Rattle.ha_value.specs.declared.value.Num.{Num}
 use Rattle.ha_value.specs.declared.value.Value.{Value}
 use Rattle.ha_value.specs.declared.value.Value.TheOpen.{Value-F}
+use Rattle.ha_value.specs.declared.value.Value.TheFolds.{fold-Value}
+use Rattle.ha_value.specs.declared.value.Value.TheVariants.{Items}
 use Rattle.ha_value.specs.declared.value.Value.TheViews.{out-Value}
 use Rattle.ha_value.specs.Truth.{truth}
 use Rattle.ha_model.specs.declared.template.Op.{Op}
@@ -16,7 +19,7 @@ use Rattle.ha_model.specs.Numbers.{print_number, read_number, less, plus, minus,
 abbrev pub Result : Type 0
 Result = Option Value
 
--- ---- texts that a template makes
+-- ---- texts and lists that a template makes
 
 -- a text made in a template has at most 65,536 bytes
 abbrev pub bounded : Text → Option Text
@@ -24,6 +27,26 @@ bounded t = if nat_le (length t) 65_536 then Some t else None
 
 abbrev pub made_text : Text → Result
 made_text t = option_map Value.Text (bounded t)
+
+-- how many values a value is: itself, and those inside it
+abbrev pub size_step : Value-F ℕ → ℕ
+size_step Value-F.Null = 1
+size_step (Value-F.Flag b) = 1
+size_step (Value-F.Number n) = 1
+size_step (Value-F.Text t) = 1
+size_step (Value-F.Items sizes) = suc (sum sizes)
+size_step (Value-F.Pairs ps) = suc (sum_by (λ p. p.1) ps)
+
+abbrev pub size_of : Value → ℕ
+size_of = fold-Value ℕ size_step
+
+-- the most values that a list in brackets has, those inside its items counted
+unfoldable pub most_values : ℕ
+most_values = 65_536
+
+-- a list in brackets; one of more values is a fault
+abbrev pub bounded_items : List Value → Result
+bounded_items vs = if nat_le (sum_by size_of vs) most_values then Some (Items vs) else None
 
 -- the printed text; a list or a map has none
 abbrev pub printed_by_kind : Value-F Value → Option Text
