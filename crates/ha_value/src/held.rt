@@ -56,6 +56,14 @@ pub fn far(alloc: Global, text: String) -> Result<Held, AllocError>
     Ok(Held::Far(held))
 }
 
+/// The text of bytes that are known to be UTF-8: they are not tested, since what the call requires is proved.
+pub fn text_of(bytes: &[u8]) -> &str
+    requires { IsUtf8 bytes.now }
+    ensures { result.now ≡ bytes.now }
+{
+    unsafe { str::from_utf8_unchecked(bytes) }
+}
+
 /// The bytes.
 pub fn bytes(held: &Held) -> &[u8]
     requires { IsText held.now }
@@ -90,10 +98,9 @@ pub fn string_of(alloc: Global, held: Held) -> Result<String, AllocError>
 {
     match held {
         Held::Far(text) => Ok(Box::into_inner(text)),
-        Held::Here { len, bytes } => match str::from_utf8(&bytes[..len as usize]) {
-            Ok(text) => Ok(String::from_str(alloc, text)?),
-            Err(_) => unreachable!(),
-        },
+        Held::Here { len, bytes } => {
+            Ok(String::from_str(alloc, text_of(&bytes[..len as usize]))?)
+        }
     }
 }
 
@@ -134,10 +141,8 @@ fn grown(alloc: Global, bytes: &[u8; 22], len: u8, more: &str) -> Result<Held, A
     if more.len() <= ROOM - len as usize {
         return Ok(joined(bytes, len, more.as_bytes()));
     }
-    match str::from_utf8(&bytes[..len as usize]) {
-        Ok(front) => far(alloc, both(alloc, front, more)?),
-        Err(_) => unreachable!(),
-    }
+    let front = text_of(&bytes[..len as usize]);
+    far(alloc, both(alloc, front, more)?)
 }
 
 /// A short text and more.
