@@ -8,4 +8,6 @@ use Rattle.bus_pass.specs.declared.hand.Hand.{Hand}
 
 -- a pass with this view keeps the rule when it puts the message, whatever the other passes did before
 abbrev pub MayPut : Hand → Message → Type 0
-MayPut v m = (n port : ℕ) → Pushes (Kept IsRestless journal_in first_in origin_in) n port v m (λ w. w ≡ gave v (journal_in m) (read_in m) (first_in m) (origin_in m))
+MayPut v m =
+    (n port : ℕ) → Pushes (Kept IsRestless journal_in first_in origin_in) n port v m
+    (λ w. w ≡ gave v (journal_in m) (read_in m) (first_in m) (origin_in m))

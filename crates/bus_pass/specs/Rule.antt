@@ -1,5 +1,6 @@
 -- The rule of the channel: what lies in it, and what each pass knows.
-use Rattle.std.specs.Prelude.{◌≡◌, ℕ, ◌+◌, ◌<◌, ◌≤◌, ◌⊎◌, Bool, true, false, cond, List, [], ◌∷◌, ◌++◌, length, take, drop, map, Option, Some, None, IsSome, Contains}
+use Rattle.std.specs.Prelude.{◌≡◌, ℕ, ◌+◌, ◌<◌, ◌≤◌, ◌⊎◌, Bool, true, false, cond, List, [], ◌∷◌, ◌++◌}
+use Rattle.std.specs.Prelude.{length, take, drop, map, Option, Some, None, IsSome, Contains}
 use mathlib.Core.Option.{some}
 use mathlib.Core.Option as maybe
 use lib.ListN.{get_elem?}
@@ -83,8 +84,8 @@ pub record Fits (lead made : ℕ) (seat : ℕ → ℕ) (now : Journal) (holder :
   pub stands : (k : ℕ) (l : List Given) → Stands v.stands k l → (k < made) × (seat k ≡ port) × IsList now k l
   pub sits : (k : ℕ) → k < made → seat k ≡ port → (l : List Given) × Stands v.stands k l
 
--- a message T holds a bus with this journal, this first fault and this origin; where it keeps `Full`, the journal can go on, or a command was
--- due
+-- a message T holds a bus with this journal, this first fault and this origin; where it keeps `Full`, the journal can go on, or a command
+-- was due
 module _ {T : Type 0} (GoesOn : Journal → Type 0) (journal : T → Journal) (first : T → Option BusFault) (origin : T → Origin) where
   -- the bus lies in the channel, or some pass holds it
   abbrev pub Lies : List T → List Hand → Journal → maybe.Option ℕ → Option BusFault → Option Origin → Type 0
@@ -138,7 +139,8 @@ dues_after v read first = cond (is_full first) (cond (is_full v.noted) v.dues (d
 -- the view that gave the bus with this journal, for the command that was read, with this first fault and this origin
 abbrev pub gave : Hand → Journal → Option Cmd → Option BusFault → Origin → Hand
 gave v j read first origin =
-    hand v.first v.made (grown (size_of v.taken) read (drop (size_of v.taken) j) v.stands) None first (dues_after v read first) (Some origin)
+    hand v.first v.made (grown (size_of v.taken) read (drop (size_of v.taken) j) v.stands) None first
+    (dues_after v read first) (Some origin)
 
 abbrev pub parent : Hand → Hand
 parent v = hand v.first (v.made + 1) v.stands v.taken v.noted v.dues v.origin
@@ -182,7 +184,8 @@ pub record OneMore (k : ℕ) (read : Option Cmd) (old new : Journal) : Type 0 wh
 -- A pass with this view holds the bus, and may give it back with this journal, for the command that was read, with this first fault and
 -- this origin: with one entry more, put where it kept no fault, or with none; a fault that was noted is still kept, and the origin is the
 -- same; where the bus is newly full, the journal can go on, or a command was due.
-pub record MayGive (GoesOn : Journal → Type 0) (v : Hand) (j : Journal) (read : Option Cmd) (first : Option BusFault) (origin : Origin) : Type 0 where
+pub record MayGive (GoesOn : Journal → Type 0) (v : Hand) (j : Journal)
+    (read : Option Cmd) (first : Option BusFault) (origin : Origin) : Type 0 where
   pub worker : ℕ
   pub list : List Given
   pub old : Journal

@@ -64,7 +64,8 @@ KeeperFailed BusFault.Memory k = ⊥
 
 -- the counts of one part tell that the outside failed so
 abbrev pub HasCause : BusFault → Outside → Type 0
-HasCause fault o = SinkFailed fault o.calls ⊎ (SinkFailed fault o.errors ⊎ (IsSomeAnd o.trace (SinkFailed fault) ⊎ KeeperFailed fault o.keep))
+HasCause fault o =
+    SinkFailed fault o.calls ⊎ (SinkFailed fault o.errors ⊎ (IsSomeAnd o.trace (SinkFailed fault) ⊎ KeeperFailed fault o.keep))
 
 -- how a bus stands by its first fault
 abbrev pub Stands : BusView → Option BusFault → Type 0

@@ -14,8 +14,8 @@ pub record Ends (j : Journal) (before : Outside) (first : Option BusFault) (afte
   pub trace : WritesIn (end_line (length j)) before.trace first after.trace
   pub keep : after.keep ≡ before.keep
 
--- The trace's sink took all of the trace with its end line. After a failed write, as its counts tell, or want of memory, a part of that line
--- may be missing. No other fault comes.
+-- The trace's sink took all of the trace with its end line. After a failed write, as its counts tell, or want of memory, a part of that
+-- line may be missing. No other fault comes.
 abbrev pub HasEnded : Journal → Option BusFault → Option SinkState → Type 0
 HasEnded j None trace = IfSome trace (HasTaken (trace_text j true))
 HasEnded j (Some (BusFault.Write zero)) trace =

@@ -16,4 +16,6 @@ abbrev pub text_in : Option Text → Text
 text_in line = option_map_or (λ t. t) line []
 
 abbrev pub called_line : List Automation → Records → Entry → Option Text
-called_line all records x = option_and_then (λ s. option_and_then (λ r. option_map (call_line (name_of all r.automation) r.number r.calls) (call_in s.item)) (record_of records s.serial)) (step_of x)
+called_line all records x =
+    option_and_then (λ s. option_and_then
+    (λ r. option_map (call_line (name_of all r.automation) r.number r.calls) (call_in s.item)) (record_of records s.serial)) (step_of x)

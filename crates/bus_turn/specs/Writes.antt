@@ -98,7 +98,11 @@ Shows texts before None after =
     Writes texts.calls before.calls None after.calls × Writes texts.errors before.errors None after.errors
     × WritesIn texts.trace before.trace None after.trace × Saves texts.store before.keep None after.keep
 Shows texts before (Some fault) after =
-    (Writes texts.calls before.calls (Some fault) after.calls × (after.errors ≡ before.errors) × (after.trace ≡ before.trace) × (after.keep ≡ before.keep))
-    ⊎ ((Writes texts.calls before.calls None after.calls × Writes texts.errors before.errors (Some fault) after.errors × (after.trace ≡ before.trace) × (after.keep ≡ before.keep))
-    ⊎ ((Writes texts.calls before.calls None after.calls × Writes texts.errors before.errors None after.errors × WritesIn texts.trace before.trace (Some fault) after.trace × (after.keep ≡ before.keep))
-    ⊎ (Writes texts.calls before.calls None after.calls × Writes texts.errors before.errors None after.errors × WritesIn texts.trace before.trace None after.trace × Saves texts.store before.keep (Some fault) after.keep)))
+    (Writes texts.calls before.calls (Some fault) after.calls
+    × (after.errors ≡ before.errors) × (after.trace ≡ before.trace) × (after.keep ≡ before.keep))
+    ⊎ ((Writes texts.calls before.calls None after.calls × Writes texts.errors before.errors (Some fault) after.errors
+    × (after.trace ≡ before.trace) × (after.keep ≡ before.keep))
+    ⊎ ((Writes texts.calls before.calls None after.calls × Writes texts.errors before.errors None after.errors
+    × WritesIn texts.trace before.trace (Some fault) after.trace × (after.keep ≡ before.keep))
+    ⊎ (Writes texts.calls before.calls None after.calls × Writes texts.errors before.errors None after.errors
+    × WritesIn texts.trace before.trace None after.trace × Saves texts.store before.keep (Some fault) after.keep)))

@@ -34,7 +34,8 @@ action_row = either key.Actions key.Action
 -- Four keys are accepted and ignored: a description, what happens past the most runs, and how runs are traced.
 abbrev pub rows : List Row
 rows =
-    row key.Id ∷ row key.Alias ∷ row key.Description ∷ trigger_row ∷ condition_row ∷ action_row ∷ row key.Mode ∷ row key.Max ∷ row key.MaxExceeded
+    row key.Id ∷ row key.Alias ∷ row key.Description ∷ trigger_row
+    ∷ condition_row ∷ action_row ∷ row key.Mode ∷ row key.Max ∷ row key.MaxExceeded
     ∷ row key.InitialState ∷ row key.Trace ∷ []
 
 abbrev pub mode_text : Mode → List ℕ

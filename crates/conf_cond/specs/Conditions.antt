@@ -1,5 +1,6 @@
 -- Conditions: what a node is as one condition, and as a list of them.
-use Rattle.std.specs.Prelude.{ℕ, ◌&&◌, ◌==◌, Bool, true, false, if◌then◌else◌, List, [], ◌∷◌, ◌++◌, map, Option, Some, None, Ok, Err, option_map, option_and_then, is_some, unwrap_or, bytes_eq, codes}
+use Rattle.std.specs.Prelude.{ℕ, ◌&&◌, ◌==◌, Bool, true, false, if◌then◌else◌, List, [], ◌∷◌, ◌++◌, map, Option, Some}
+use Rattle.std.specs.Prelude.{None, Ok, Err, option_map, option_and_then, is_some, unwrap_or, bytes_eq, codes}
 use Rattle.std.specs.List.{find}
 use Rattle.ha_value.specs.declared.value.EntityId.{EntityId}
 use Rattle.ha_value.specs.declared.value.Num.{Num}
@@ -35,7 +36,8 @@ kind_text ConditionKind.Trigger = codes "trigger"
 
 abbrev pub all_kinds : List ConditionKind
 all_kinds =
-    ConditionKind.And ∷ ConditionKind.Or ∷ ConditionKind.Not ∷ ConditionKind.State ∷ ConditionKind.Numeric ∷ ConditionKind.Template ∷ ConditionKind.Time ∷
+    ConditionKind.And ∷ ConditionKind.Or ∷ ConditionKind.Not ∷ ConditionKind.State
+    ∷ ConditionKind.Numeric ∷ ConditionKind.Template ∷ ConditionKind.Time ∷
     ConditionKind.Trigger ∷ []
 
 abbrev pub kind_named : List ℕ → Option ConditionKind
@@ -94,7 +96,8 @@ made_state x = conditions.State x.0 x.1.1.0 x.1.0 x.1.1.1
 abbrev pub state_rule : ℕ → List Pair → Read Condition
 state_rule line pairs =
     made made_state
-    (both (need key.EntityId line pairs entities) (both (need key.State line pairs texts) (both (get key.Attribute pairs text) (get key.For pairs span))))
+    (both (need key.EntityId line pairs entities)
+    (both (need key.State line pairs texts) (both (get key.Attribute pairs text) (get key.For pairs span))))
 
 abbrev pub made_numeric : Unit {0} × (List EntityId × (Option (List ℕ) × (Option Num × Option Num))) → Condition
 made_numeric x = conditions.Numeric x.1.0 x.1.1.0 x.1.1.1.0 x.1.1.1.1
@@ -158,7 +161,8 @@ made_condition x = if_enabled x.1.1.0 x.1.1.1
 -- a condition of these keys; one that is disabled is read, and then none
 abbrev pub with_keys : Bool → List Row → List Pair → Read Condition → Read (Option Condition)
 with_keys action own pairs condition =
-    made made_condition (both (keys (common_rows action ++ own) pairs) (both (goes_on action pairs) (both (get key.Enabled pairs flag) condition)))
+    made made_condition (both (keys (common_rows action ++ own) pairs)
+    (both (goes_on action pairs) (both (get key.Enabled pairs flag) condition)))
 
 -- Where `condition` is the kind key, its value names the kind; an unknown one is all that is looked at.
 abbrev pub kind_rows : ConditionKind → List Row
@@ -170,10 +174,13 @@ by_name action line pairs inside (Err f) = Err f
 
 abbrev pub by_key : Bool → ℕ → List Pair → Inside → Option KindKey → Read (Option Condition)
 by_key action line pairs inside None = bad line code.UnknownKind
-by_key action line pairs inside (Some KindKey.ByName) = by_name action line pairs inside (wanted code.UnknownKind named line (field (row key.Condition) pairs))
-by_key action line pairs inside (Some KindKey.ByAnd) = with_keys action (row key.And ∷ []) pairs (made conditions.And (inside (row key.And)))
+by_key action line pairs inside (Some KindKey.ByName) =
+    by_name action line pairs inside (wanted code.UnknownKind named line (field (row key.Condition) pairs))
+by_key action line pairs inside (Some KindKey.ByAnd) =
+    with_keys action (row key.And ∷ []) pairs (made conditions.And (inside (row key.And)))
 by_key action line pairs inside (Some KindKey.ByOr) = with_keys action (row key.Or ∷ []) pairs (made conditions.Or (inside (row key.Or)))
-by_key action line pairs inside (Some KindKey.ByNot) = with_keys action (row key.Not ∷ []) pairs (made conditions.Not (inside (row key.Not)))
+by_key action line pairs inside (Some KindKey.ByNot) =
+    with_keys action (row key.Not ∷ []) pairs (made conditions.Not (inside (row key.Not)))
 
 abbrev pub of_map : Bool → ℕ → List Pair → Inside → Read (Option Condition)
 of_map action line pairs inside = by_key action line pairs inside (kind_key pairs)

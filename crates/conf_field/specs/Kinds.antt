@@ -1,6 +1,7 @@
 -- The kinds of values. Each says what a node is read as, with the code of all that is not of the kind; a fault of the node
 -- stands at the given line, a fault of a list's item at the item's.
-use Rattle.std.specs.Prelude.{ℕ, ◌*◌, ◌+◌, ◌-◌, ◌==◌, ◌&&◌, ◌||◌, Bool, true, false, nat_le, nat_lt, if◌then◌else◌, List, [], ◌∷◌, map, Option, Some, None, Ok, Err, option_and_then, option_map, min, bytes_eq, codes, length}
+use Rattle.std.specs.Prelude.{ℕ, ◌*◌, ◌+◌, ◌-◌, ◌==◌, ◌&&◌, ◌||◌, Bool, true, false, nat_le, nat_lt, if◌then◌else◌, List, [], ◌∷◌}
+use Rattle.std.specs.Prelude.{map, Option, Some, None, Ok, Err, option_and_then, option_map, min, bytes_eq, codes, length}
 use Rattle.std.specs.List.{list_any}
 use Rattle.std.specs.Char.{is_ascii_digit, to_ascii_lowercase}
 use Rattle.ha_value.specs.declared.value.EntityId.{EntityId}

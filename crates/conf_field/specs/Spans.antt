@@ -42,7 +42,8 @@ none_there line (p ∷ ps) = None
 abbrev pub parts : ℕ → Read ℕ → Read ℕ → Read ℕ → Read ℕ → Read ℕ → Read ℕ
 parts line d h m s ms =
     made (λ x. total x.1.0 x.1.1.0 x.1.1.1.0 x.1.1.1.1.0 x.1.1.1.1.1)
-    (both (unless (too_long line (total (or_zero d) (or_zero h) (or_zero m) (or_zero s) (or_zero ms)))) (both d (both h (both m (both s ms)))))
+    (both (unless (too_long line (total (or_zero d) (or_zero h) (or_zero m) (or_zero s) (or_zero ms))))
+    (both d (both h (both m (both s ms)))))
 
 abbrev pub all_parts : ℕ → List Pair → Read ℕ
 all_parts line pairs =

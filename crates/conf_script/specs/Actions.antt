@@ -1,5 +1,6 @@
 -- Actions: what a node is as one action, as a list of them, and as each part of an action in which actions stand.
-use Rattle.std.specs.Prelude.{ℕ, ◌&&◌, Bool, true, false, if◌then◌else◌, List, [], ◌∷◌, ◌++◌, map, Option, Some, None, Ok, option_map, unwrap_or}
+use Rattle.std.specs.Prelude.{ℕ, ◌&&◌, Bool, true, false, if◌then◌else◌, List, [], ◌∷◌, ◌++◌}
+use Rattle.std.specs.Prelude.{map, Option, Some, None, Ok, option_map, unwrap_or}
 use Rattle.std.specs.List.{find}
 use Rattle.ha_model.specs.declared.config.Action.{Action}
 use Rattle.ha_model.specs.declared.config.ActionKind.{ActionKind}
@@ -51,7 +52,8 @@ row_of ActionName.OfNot = row key.Not
 abbrev pub all_names : List ActionName
 all_names =
     ActionName.OfCall ∷ ActionName.OfDelay ∷ ActionName.OfWaitTemplate ∷ ActionName.OfWaitForTrigger ∷ ActionName.OfChoose ∷
-    ActionName.OfIf ∷ ActionName.OfRepeat ∷ ActionName.OfParallel ∷ ActionName.OfSequence ∷ ActionName.OfVariables ∷ ActionName.OfEvent ∷ ActionName.OfStop ∷
+    ActionName.OfIf ∷ ActionName.OfRepeat ∷ ActionName.OfParallel ∷ ActionName.OfSequence
+    ∷ ActionName.OfVariables ∷ ActionName.OfEvent ∷ ActionName.OfStop ∷
     ActionName.OfCondition ∷ ActionName.OfAnd ∷ ActionName.OfOr ∷ ActionName.OfNot ∷ []
 
 -- the first key that is a kind key

@@ -1,5 +1,7 @@
 -- Triggers: each kind with its table of keys, and what its fields are.
-use Rattle.std.specs.Prelude.{ℕ, suc, ◌+◌, ◌-◌, ◌==◌, ◌&&◌, ◌||◌, Bool, true, false, not, nat_lt, nat_le, if◌then◌else◌, List, [], ◌∷◌, ◌++◌, map, Option, Some, None, Ok, Err, option_map, option_and_then, is_some, unwrap_or, bytes_eq, codes, decimal}
+use Rattle.std.specs.Prelude.{ℕ, suc, ◌+◌, ◌-◌, ◌==◌, ◌&&◌, ◌||◌, Bool, true, false, not, nat_lt, nat_le}
+use Rattle.std.specs.Prelude.{if◌then◌else◌, List, [], ◌∷◌, ◌++◌, map, Option, Some, None, Ok, Err}
+use Rattle.std.specs.Prelude.{option_map, option_and_then, is_some, unwrap_or, bytes_eq, codes, decimal}
 use Rattle.std.specs.List.{find, list_any, slice_get}
 use Rattle.ha_value.specs.declared.value.EntityId.{EntityId}
 use Rattle.ha_value.specs.declared.value.Num.{Num}
@@ -39,7 +41,8 @@ kind_text TriggerKind.Start = codes "homeassistant"
 
 abbrev pub all_kinds : List TriggerKind
 all_kinds =
-    TriggerKind.State ∷ TriggerKind.Numeric ∷ TriggerKind.Event ∷ TriggerKind.Time ∷ TriggerKind.Pattern ∷ TriggerKind.Template ∷ TriggerKind.Start ∷ []
+    TriggerKind.State ∷ TriggerKind.Numeric ∷ TriggerKind.Event ∷ TriggerKind.Time
+    ∷ TriggerKind.Pattern ∷ TriggerKind.Template ∷ TriggerKind.Start ∷ []
 
 abbrev pub kind_named : List ℕ → Option TriggerKind
 kind_named t = find (λ k. bytes_eq (kind_text k) t) all_kinds
@@ -115,7 +118,8 @@ hold pairs = made some_span (get key.For pairs span)
 abbrev pub small_number : ℕ → List ℕ → Option ℕ
 small_number most [] = None
 small_number most (a ∷ []) = number_of (a ∷ [])
-small_number most (a ∷ b ∷ []) = if a == 48 then None else option_and_then (λ n. if nat_lt n most then Some n else None) (number_of (a ∷ b ∷ []))
+small_number most (a ∷ b ∷ []) =
+    if a == 48 then None else option_and_then (λ n. if nat_lt n most then Some n else None) (number_of (a ∷ b ∷ []))
 small_number most (a ∷ b ∷ c ∷ rest) = None
 
 -- digits that do not begin with 0, below 2^32

@@ -1,5 +1,6 @@
 -- The stages of the work on a step.
-use Rattle.std.specs.Prelude.{◌≡◌, ◌≢◌, ℕ, suc, ◌+◌, ◌-◌, ◌<◌, ◌≤◌, Bool, ◌&&◌, not, false, true, IsTrue, is_none, nat_eq, List, [], ◌∷◌, ◌++◌, length, set, slice_get, Option, Some, None, option_map, option_and_then, if◌then◌else◌}
+use Rattle.std.specs.Prelude.{◌≡◌, ◌≢◌, ℕ, suc, ◌+◌, ◌-◌, ◌<◌, ◌≤◌, Bool, ◌&&◌, not, false, true, IsTrue, is_none, nat_eq, List, [], ◌∷◌}
+use Rattle.std.specs.Prelude.{◌++◌, length, set, slice_get, Option, Some, None, option_map, option_and_then, if◌then◌else◌}
 use Rattle.std.specs.List.{list_any}
 use Rattle.timer_queue.specs.Timers.{Timer}
 use Rattle.ha_model.specs.declared.journal.EndCause.{EndCause}
@@ -52,7 +53,9 @@ pub record Stepping (j : Journal) (rs : Records) (p : Parts) : Type 0 where
 
 -- the journal has the step that the worker picks
 abbrev pub IsStepped : ℕ → Records → Journal → Journal → Type 0
-IsStepped worker rs j k = (serial : ℕ) × (branch : Branch) × (item : Item) × (pick worker (ready rs j) ≡ Some (serial, branch)) × (k ≡ more j (Step worker serial branch item))
+IsStepped worker rs j k =
+    (serial : ℕ) × (branch : Branch) × (item : Item)
+    × (pick worker (ready rs j) ≡ Some (serial, branch)) × (k ≡ more j (Step worker serial branch item))
 
 -- the run in a slot may step in a branch, at a moment, where the branch's wait ended so
 pub record MaySlot (s : ℕ) (b : Branch) (at : ℕ) (wait : Option WaitEnd) (os : List (Option Frames)) : Type 0 where
@@ -63,13 +66,15 @@ pub record MaySlot (s : ℕ) (b : Branch) (at : ℕ) (wait : Option WaitEnd) (os
 -- the frames behind a step from those before it, and what it gave
 pub record IsRunStep (sight : Sight) (b : Branch) (wait : Option WaitEnd) (old new : Frames) (out : StepOut) : Type 0 where
   pub steps : Steps sight b wait old out.item new
-  pub told : (began : Began) (place : ℕ) → AreTold old.serial place sight.now b (fronts_of old began) (fronts_of new (placed b place began)) out
+  pub told : (began : Began) (place : ℕ)
+      → AreTold old.serial place sight.now b (fronts_of old began) (fronts_of new (placed b place began)) out
   pub progress : out.progress ≡ run.progress_of new
   pub wait_is : out.wait ≡ option_map (asked_by old.serial b sight.now) (ask_of new b)
   pub serial : new.serial ≡ old.serial
 
 -- the run in a slot made a step, and its branch is in a delay of this due, if it is in one
-pub record SlotStep (sight : Sight) (s : ℕ) (b : Branch) (wait : Option WaitEnd) (os os' : List (Option Frames)) (out : StepOut) (due : Option ℕ) : Type 0 where
+pub record SlotStep (sight : Sight) (s : ℕ) (b : Branch) (wait : Option WaitEnd)
+    (os os' : List (Option Frames)) (out : StepOut) (due : Option ℕ) : Type 0 where
   pub old : Frames
   pub new : Frames
   pub there : slice_get os (s - 1) ≡ Some (Some old)
@@ -123,7 +128,8 @@ pub record StepEnds (k : Journal) (rs : Records) (serial : ℕ) : Type 0 where
 -- ---- what is known of the runs once the step was pushed
 
 -- the last entry is a step of this run, whose frames stand behind it; nothing else knows of it yet
-pub record StepRuns (k : Journal) (rs : Records) (progress : Progress) (wait : Option WaitAsk) (due : Option ℕ) (w : Waits) (delays : List Timer) (os' : List (Option Frames)) (pairs : List (ℕ × Branch)) : Type 0 where
+pub record StepRuns (k : Journal) (rs : Records) (progress : Progress) (wait : Option WaitAsk) (due : Option ℕ)
+    (w : Waits) (delays : List Timer) (os' : List (Option Frames)) (pairs : List (ℕ × Branch)) : Type 0 where
   pub j : Journal
   pub worker : ℕ
   pub serial : ℕ
@@ -145,11 +151,14 @@ pub record StepRuns (k : Journal) (rs : Records) (progress : Progress) (wait : O
   pub slots : os' ≡ set os (serial - 1) (Some new)
   pub serial_is : new.serial ≡ old.serial
   pub stands : Stands new (actions_of (automations j) picked.run.automation) picked.run.env (spots j serial ++ (next_spot j branch ∷ []))
-  pub told : AreTold serial (length j) (now j) branch (fronts old (spots j serial)) (fronts new (spots j serial ++ (next_spot j branch ∷ []))) out
+  pub told : AreTold serial (length j) (now j) branch (fronts old (spots j serial))
+      (fronts new (spots j serial ++ (next_spot j branch ∷ []))) out
   pub due_is : due ≡ option_and_then due_of (gate_at branch (fronts new (spots j serial ++ (next_spot j branch ∷ []))))
   pub wait_is : wait ≡ out.wait
-  pub asked : (ask : WaitAsk) → wait ≡ Some ask → (ask.serial ≡ serial) × (ask.branch ≡ branch) × IsWait (gate_at branch (fronts new (spots j serial ++ (next_spot j branch ∷ []))))
-  pub others : (c : Branch) → c ≢ branch → IsWait (gate_at c (fronts old (spots j serial))) → IsWait (gate_at c (fronts new (spots j serial ++ (next_spot j branch ∷ []))))
+  pub asked : (ask : WaitAsk) → wait ≡ Some ask
+      → (ask.serial ≡ serial) × (ask.branch ≡ branch) × IsWait (gate_at branch (fronts new (spots j serial ++ (next_spot j branch ∷ []))))
+  pub others : (c : Branch) → c ≢ branch → IsWait (gate_at c (fronts old (spots j serial)))
+      → IsWait (gate_at c (fronts new (spots j serial ++ (next_spot j branch ∷ []))))
   pub free : list_any (λ a. is_of serial branch a && is_none a.end) w.asks ≡ false
   pub end_is : cause_of progress ≡ next_end j picked.run branch
 
@@ -197,7 +206,8 @@ pub record SwitchedHere (k : Journal) (p : Parts) (targets : List (ℕ × Bool �
   pub here : StepHere k p
   pub item_is : here.item ≡ Item.Switched targets
 
--- the states, the switches and the triggers of the automations are those behind it; the wait and the delay that began are still to be taken in
+-- the states, the switches and the triggers of the automations are those behind it; the wait and the delay that began are still to be taken
+-- in
 pub record StepEntered (k : Journal) (p : Parts) (before : Listed) (wait : Option WaitAsk) : Type 0 where
   pub entered : Entered k p before
   pub here : length k ≡ suc (length entered.untold.j)

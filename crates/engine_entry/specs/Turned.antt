@@ -1,5 +1,6 @@
 -- Automations that an entry turns on or off, one after the other: what stands for the journal before it, and what for the one behind it.
-use Rattle.std.specs.Prelude.{◌≡◌, ℕ, ◌<◌, Bool, true, false, not, ◌&&◌, nat_eq, List, [], ◌∷◌, length, Option, None, MatchOption, flat_map, filter, slice_get, codes, if◌then◌else◌}
+use Rattle.std.specs.Prelude.{◌≡◌, ℕ, ◌<◌, Bool, true, false, not, ◌&&◌, nat_eq, List, [], ◌∷◌, length, Option}
+use Rattle.std.specs.Prelude.{None, MatchOption, flat_map, filter, slice_get, codes, if◌then◌else◌}
 use Rattle.std.specs.List.{list_any, enumerate_from}
 use Rattle.std.specs.Option.{option_map_or}
 use Rattle.ha_value.specs.declared.value.EntityId.{EntityId}
@@ -84,7 +85,8 @@ pub record FlagsBetween (j k : Journal) (left : ℕ → Bool) (s : Switches) (ch
 -- the states, and those that changed, as they were
 pub record StatesBetween (j k : Journal) (left : ℕ → Bool) (table : StateTable) (before : Listed) : Type 0 where
   pub stand : (e : EntityId) → at table e ≡ states (if is_left (automations j) left e then j else k) e
-  pub listed : (e : EntityId) → MatchOption (state_listed before e) (states (if is_left (automations j) left e then j else k) e ≡ states j e) (λ old. old ≡ states j e)
+  pub listed : (e : EntityId) → MatchOption (state_listed before e)
+      (states (if is_left (automations j) left e then j else k) e ≡ states j e) (λ old. old ≡ states j e)
 
 -- the owner that an automation is, where it is on
 abbrev pub owner_in : Journal → ℕ × Automation → List Owner

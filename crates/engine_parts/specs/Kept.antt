@@ -1,5 +1,6 @@
 -- What an engine keeps: each part stands for the journal.
-use Rattle.std.specs.Prelude.{◌≡◌, ℕ, ◌<◌, ◌≤◌, ◌+◌, ◌-◌, Bool, true, false, IsTrue, IsSome, List, [], ◌∷◌, filter, length, Option, Some, None}
+use Rattle.std.specs.Prelude.{◌≡◌, ℕ, ◌<◌, ◌≤◌, ◌+◌, ◌-◌, Bool, true, false, IsTrue, IsSome}
+use Rattle.std.specs.Prelude.{List, [], ◌∷◌, filter, length, Option, Some, None}
 use Rattle.timer_queue.specs.Timers.{Timer}
 use Rattle.ha_clock.specs.Zone as clock
 use Rattle.ha_clock.specs.Local.{last_moment}
@@ -95,8 +96,10 @@ left_if false rs k s = branches_at rs k s
 abbrev pub left_branches : Gone → Records → Journal → ℕ → List Branch
 left_branches gone rs k s = left_if (gone s) rs k s
 
--- each live run that did not go has its frames, the pairs are those that may step, and each pending wait is one of such a run, behind whose gate a branch is
-pub record RunsKept (gone : Gone) (k : Journal) (rs : Records) (delays : List Timer) (w : Waits) (os : List (Option Frames)) (pairs : List (ℕ × Branch)) : Type 0 where
+-- each live run that did not go has its frames, the pairs are those that may step, and each pending wait is one of such a run, behind whose
+-- gate a branch is
+pub record RunsKept (gone : Gone) (k : Journal) (rs : Records) (delays : List Timer)
+    (w : Waits) (os : List (Option Frames)) (pairs : List (ℕ × Branch)) : Type 0 where
   pub slots : SlotsWith (SlotBut gone k delays w) rs os
   pub pairs_are : pairs ≡ pairs_from 0 (length rs) (left_branches gone rs k)
   pub held : AreHeld k os w.asks

@@ -10,7 +10,8 @@ use Rattle.ha_past.specs.Firings.{Owner}
 
 -- an automation that is on after place p has its triggers attached under its number, since it is on
 abbrev pub owner_on : Journal → ℕ → ℕ × Automation → List Owner
-owner_on j p x = if is_on (take (suc p) j) x.0 then record { owner = x.0; triggers = x.1.triggers; since = since (take (suc p) j) x.0 } ∷ [] else []
+owner_on j p x =
+    if is_on (take (suc p) j) x.0 then record { owner = x.0; triggers = x.1.triggers; since = since (take (suc p) j) x.0 } ∷ [] else []
 
 abbrev pub owners_on : Journal → ℕ → List Owner
 owners_on j p = flat_map (owner_on j p) (enumerate_from 0 (automations j))

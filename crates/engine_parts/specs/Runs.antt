@@ -26,7 +26,8 @@ abbrev pub GateKept : Journal → List Timer → Waits → ℕ → Branch × Gat
 GateKept j delays w serial (b, Gate.Free) = Unit {0}
 GateKept j delays w serial (b, Gate.From due) = (due ≤ now j) ⊎ ((p : ℕ) × (due_of p delays ≡ Some due) × (step_at j serial p ≡ true))
 GateKept j delays w serial (b, Gate.Behind ask p) =
-    (a : Asked) × (asked_at w serial b ≡ Some a) × (a.place ≡ p) × (a.owner ≡ first_wait + p) × (p < length j) × (step_at j serial p ≡ true) × IsAsk (now (take (suc p) j)) ask a.ask
+    (a : Asked) × (asked_at w serial b ≡ Some a) × (a.place ≡ p) × (a.owner ≡ first_wait + p)
+    × (p < length j) × (step_at j serial p ≡ true) × IsAsk (now (take (suc p) j)) ask a.ask
 
 abbrev pub GatesKept : Journal → List Timer → Waits → ℕ → Fronts → Type 0
 GatesKept j delays w serial [] = Unit {0}
@@ -68,7 +69,8 @@ IsWait (Some (Gate.Behind ask p)) = Unit {0}
 -- a wait that has not ended is one of a run with frames, whose branch is behind a wait
 abbrev pub IsHeld : Journal → List (Option Frames) → wait.Asked → Type 0
 IsHeld j os a =
-    a.end ≡ None → (0 < a.ask.serial) × (f : Frames) × (slice_get os (a.ask.serial - 1) ≡ Some (Some f)) × IsWait (gate_at a.ask.branch (fronts f (spots j a.ask.serial)))
+    a.end ≡ None → (0 < a.ask.serial) × (f : Frames) × (slice_get os (a.ask.serial - 1) ≡ Some (Some f))
+    × IsWait (gate_at a.ask.branch (fronts f (spots j a.ask.serial)))
 
 -- all are, and no two are of one run and branch
 abbrev pub AreHeld : Journal → List (Option Frames) → List wait.Asked → Type 0
@@ -80,7 +82,8 @@ pub record Waking (rs : Records) (k : Journal) (w : Waits) (os : List (Option Fr
   pub delays : List Timer
   pub now_is : at ≡ now k
   pub numbered : (s p : ℕ) → step_at k s p ≡ true → (0 < s) × (s ≤ length rs)
-  pub running : (s p : ℕ) (r : Record) → step_at k s p ≡ true → record_of rs s ≡ Some r → r.end ≡ None → (r.serial ≡ s) × (is_running (length k) r ≡ true)
+  pub running : (s p : ℕ) (r : Record) → step_at k s p ≡ true → record_of rs s ≡ Some r
+      → r.end ≡ None → (r.serial ≡ s) × (is_running (length k) r ≡ true)
   pub resting : (s : ℕ) (r : Record) → record_of rs s ≡ Some r → HasEnd r.end → is_running (length k) r ≡ false
   pub stands : TellsEnds w k
   pub slots : SlotsKept k delays w rs os

@@ -10,7 +10,8 @@ pub record SlotTable (T : Type 0) : Type 0 where
 
 abbrev pub table_code : {T : Type 0} → Coded T → Coded (SlotTable T)
 table_code {T} code =
-    code_by (List (Option T) × ℕ) (coded× (coded_list (coded_option code)) coded_ℕ) (λ t. (t.items, t.spare)) (λ p. record { items = p.0; spare = p.1 }) (λ _. refl)
+    code_by (List (Option T) × ℕ) (coded× (coded_list (coded_option code)) coded_ℕ)
+    (λ t. (t.items, t.spare)) (λ p. record { items = p.0; spare = p.1 }) (λ _. refl)
 
 abbrev pub value_in : {T : Type 0} → Option (Box T) → Option T
 value_in = option_map (λ b. b.value)

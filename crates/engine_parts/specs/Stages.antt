@@ -64,8 +64,8 @@ IsOther (Cmd.Refused code) = Unit {0}
 IsOther Cmd.Lost = Unit {0}
 IsOther Cmd.TooLong = Unit {0}
 
--- the states, the switches and the triggers of the automations are those behind the entry; the triggers and the waits are still to be told of it,
--- with the states before it that it changes
+-- the states, the switches and the triggers of the automations are those behind the entry; the triggers and the waits are still to be told
+-- of it, with the states before it that it changes
 pub record Untold (k : Journal) (t : TrigSet) (w : Waits) (before : Listed) : Type 0 where
   pub j : Journal
   pub x : Entry
@@ -99,7 +99,8 @@ pub record Noted (k : Journal) (w : Waits) (p : Parts) : Type 0 where
   pub keys_early : KeysBelow (length k) p.delays
 
 -- the runs before a line
-pub record RunsBefore (k : Journal) (rs : Records) (w : Waits) (delays : List Timer) (os : List (Option Frames)) (pairs : List (ℕ × Branch)) : Type 0 where
+pub record RunsBefore (k : Journal) (rs : Records) (w : Waits) (delays : List Timer)
+    (os : List (Option Frames)) (pairs : List (ℕ × Branch)) : Type 0 where
   pub j : Journal
   pub source : ℕ
   pub number : ℕ
@@ -123,7 +124,8 @@ pub record LineTold (k : Journal) (rs : Records) (p : Parts) : Type 0 where
   pub going : Going nobody k rs p
   pub rested_is : RestedKept j rs p.rested.items
 
--- the calls of the last entry's step and its stops were made, and the parts stand for these records; its attempts, and the flags of the sources, are still to come
+-- the calls of the last entry's step and its stops were made, and the parts stand for these records; its attempts, and the flags of the
+-- sources, are still to come
 pub record Stopped (k : Journal) (rs : Records) (p : Parts) : Type 0 where
   pub j : Journal
   pub x : Entry

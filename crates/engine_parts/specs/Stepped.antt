@@ -14,7 +14,8 @@ DueTaken at p b new delays = (due : ℕ) → gate_at b new ≡ Some (Gate.From d
 
 -- the ask of a wait that began at place p was taken in
 abbrev pub AskTaken : ℕ → ℕ → Branch → StepOut → Waits → Type 0
-AskTaken p serial b out w = (ask : WaitAsk) → out.wait ≡ Some ask → asked_at w serial b ≡ Some (record { owner = 1024 + p; place = p; ask = ask })
+AskTaken p serial b out w =
+    (ask : WaitAsk) → out.wait ≡ Some ask → asked_at w serial b ≡ Some (record { owner = 1024 + p; place = p; ask = ask })
 
 -- the asks of the run's other branches are the same
 abbrev pub OthersKept : Waits → Waits → ℕ → Branch → Type 0

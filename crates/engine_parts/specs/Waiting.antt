@@ -33,7 +33,9 @@ fresh w = w.fresh
 
 -- the set tells how the waits of the journal ended
 abbrev pub TellsEnds : WaitTable → Journal → Type 0
-TellsEnds w j = (serial : ℕ) (branch : Branch) (a : Asked) (ask : Ask) → asked_at w serial branch ≡ Some a → IsAsk (now (take (suc a.place) j)) ask a.ask
+TellsEnds w j =
+    (serial : ℕ) (branch : Branch) (a : Asked) (ask : Ask)
+    → asked_at w serial branch ≡ Some a → IsAsk (now (take (suc a.place) j)) ask a.ask
     → ends w serial branch ≡ wait_end j ask a.place
 
 -- the asks of a run are the same
@@ -42,4 +44,6 @@ AsksKept w w' s = (b : Branch) → asked_at w' s b ≡ asked_at w s b
 
 -- whose waits ended at the entry
 abbrev pub EndsGrow : WaitTable → WaitTable → ℕ → Type 0
-EndsGrow w w' s = (b : Branch) (a : Asked) → asked_at w s b ≡ Some a → is_some (ends w' s b) ≡ (is_some (ends w s b) || list_any (nat_eq a.owner) (fresh w'))
+EndsGrow w w' s =
+    (b : Branch) (a : Asked) → asked_at w s b ≡ Some a
+    → is_some (ends w' s b) ≡ (is_some (ends w s b) || list_any (nat_eq a.owner) (fresh w'))

@@ -1,6 +1,7 @@
 -- The grammar of values. In each rule a text is a spelling of something, and then the rest of the text follows. `skip text` is the
 -- text without the blanks at its front.
-use Rattle.std.specs.Prelude.{◌≡◌, ◌<◌, ◌+◌, ◌*◌, ℕ, zero, suc, Bool, true, false, not, ◌||◌, ◌&&◌, ◌==◌, nat_le, List, [], ◌∷◌, ◌++◌, Option, Some, None}
+use Rattle.std.specs.Prelude.{◌≡◌, ◌<◌, ◌+◌, ◌*◌, ℕ, zero, suc, Bool, true, false, not, ◌||◌, ◌&&◌}
+use Rattle.std.specs.Prelude.{◌==◌, nat_le, List, [], ◌∷◌, ◌++◌, Option, Some, None}
 use Rattle.std.specs.Char.{IsScalar}
 use Rattle.std.specs.Char.Utf16.{is_high_surrogate, is_low_surrogate, surrogate_pair_char}
 use Rattle.std.specs.Prelude.{encode_utf8}
@@ -54,7 +55,8 @@ extends (Some places) (Some b) = is_digit b
 
 -- number text that does not go on, and a number that is allowed
 pub data IsNumber (Allowed : Num → Type 0) : List ℕ → Num → List ℕ → Type 0 where
-  number : (text : List ℕ) {rest : List ℕ} {n : Num} → number_of_text text ≡ Some n → extends (after_first 46 text) (front rest) ≡ false → Allowed n
+  number : (text : List ℕ) {rest : List ℕ} {n : Num} → number_of_text text ≡ Some n
+      → extends (after_first 46 text) (front rest) ≡ false → Allowed n
       → IsNumber Allowed (text ++ rest) n rest
 
 -- ---- values
@@ -66,7 +68,8 @@ pub data IsPair (Val : List ℕ → Value → List ℕ → Type 0) (found : List
       → IsPair Val found (34 ∷ text) (key, v) rest
 
 -- a value whose numbers, lists and maps are these
-pub data IsValueOver (Allowed : Num → Type 0) (List_ : List ℕ → List Value → List ℕ → Type 0) (Map : List ℕ → List (List ℕ × Value) → List ℕ → Type 0) : List ℕ → Value → List ℕ → Type 0 where
+pub data IsValueOver (Allowed : Num → Type 0) (List_ : List ℕ → List Value → List ℕ → Type 0)
+    (Map : List ℕ → List (List ℕ × Value) → List ℕ → Type 0) : List ℕ → Value → List ℕ → Type 0 where
   null : {rest : List ℕ} → IsValueOver Allowed List_ Map (110 ∷ 117 ∷ 108 ∷ 108 ∷ rest) Null rest
   yes : {rest : List ℕ} → IsValueOver Allowed List_ Map (116 ∷ 114 ∷ 117 ∷ 101 ∷ rest) (Flag true) rest
   no : {rest : List ℕ} → IsValueOver Allowed List_ Map (102 ∷ 97 ∷ 108 ∷ 115 ∷ 101 ∷ rest) (Flag false) rest
@@ -78,7 +81,8 @@ pub data IsValueOver (Allowed : Num → Type 0) (List_ : List ℕ → List Value
 -- a value with at most so many brackets in one another
 unfoldable pub IsValue : (Num → Type 0) → ℕ → List ℕ → Value → List ℕ → Type 0
 IsValue Allowed zero = IsValueOver Allowed Never Never
-IsValue Allowed (suc depth) = IsValueOver Allowed (IsClosed 93 (λ found. IsValue Allowed depth)) (IsClosed 125 (IsPair (IsValue Allowed depth)))
+IsValue Allowed (suc depth) =
+    IsValueOver Allowed (IsClosed 93 (λ found. IsValue Allowed depth)) (IsClosed 125 (IsPair (IsValue Allowed depth)))
 
 -- The whole text is the value, with no blanks around it: at most 32 brackets in one another, and numbers in range.
 abbrev pub IsDocument : List ℕ → Value → Type 0

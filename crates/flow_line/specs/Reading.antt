@@ -1,5 +1,6 @@
 -- Reading a value from left to right, with the first fault that is met.
-use Rattle.std.specs.Prelude.{ℕ, zero, suc, ◌-◌, Bool, true, false, ◌||◌, ◌==◌, if◌then◌else◌, List, [], ◌∷◌, length, take, drop, Option, Some, None, Ok, codes}
+use Rattle.std.specs.Prelude.{ℕ, zero, suc, ◌-◌, Bool, true, false, ◌||◌, ◌==◌, if◌then◌else◌, List}
+use Rattle.std.specs.Prelude.{[], ◌∷◌, length, take, drop, Option, Some, None, Ok, codes}
 use Rattle.std.specs.List.{list_any}
 use Rattle.std.specs.Str.{bytes_eq}
 use Rattle.ha_value.specs.declared.value.Num.{Num}
@@ -78,7 +79,11 @@ pub data Start : Type 0 where
 abbrev pub start_of : Option ℕ → Start
 start_of None = nothing
 start_of (Some b) =
-    if b == 110 then of_null else (if b == 116 then of_true else (if b == 102 then of_false else (if b == 34 then quote else (if b == 91 then bracket else (if b == 123 then brace else (if begins_number b then numeric else nothing))))))
+    if b == 110 then of_null else
+    (if b == 116 then of_true
+    else (if b == 102 then of_false
+    else (if b == 34 then quote
+    else (if b == 91 then bracket else (if b == 123 then brace else (if begins_number b then numeric else nothing))))))
 
 abbrev pub value_by : Start → Reads (List Value) → Reads (List (List ℕ × Value)) → Reads Value
 value_by of_null list map rest = made (λ _. Null) (expect Syntax (codes "null") rest)
@@ -93,7 +98,8 @@ value_by nothing list map rest = stop Syntax rest
 -- a value with so many brackets in one another
 unfoldable pub value : ℕ → Reads Value
 value zero rest = value_by (start_of (front rest)) (stop Depth) (stop Depth) rest
-value (suc depth) rest = value_by (start_of (front rest)) (λ rest. items (value depth) (drop 1 rest)) (λ rest. pairs (value depth) (drop 1 rest)) rest
+value (suc depth) rest =
+    value_by (start_of (front rest)) (λ rest. items (value depth) (drop 1 rest)) (λ rest. pairs (value depth) (drop 1 rest)) rest
 
 abbrev pub ended : Option ℕ → Bool
 ended None = true

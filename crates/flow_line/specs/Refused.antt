@@ -1,5 +1,6 @@
 -- What reading a whole text answers, and what its first fault is.
-use Rattle.std.specs.Prelude.{◌≡◌, ℕ, zero, suc, ◌+◌, ◌≤◌, ◌<◌, Bool, true, false, ◌||◌, ◌==◌, List, [], ◌∷◌, ◌++◌, length, take, drop, Option, Some, None, Result, Ok, Err}
+use Rattle.std.specs.Prelude.{◌≡◌, ℕ, zero, suc, ◌+◌, ◌≤◌, ◌<◌, Bool, true, false, ◌||◌, ◌==◌, List, []}
+use Rattle.std.specs.Prelude.{◌∷◌, ◌++◌, length, take, drop, Option, Some, None, Result, Ok, Err}
 use Rattle.ha_value.specs.declared.value.Num.{Num}
 use Rattle.ha_value.specs.declared.value.Value.{Value}
 use Rattle.ha_value.specs.Numbers.{is_in_range}
@@ -39,7 +40,8 @@ Tells text answer (Err (faults.Bad at code)) = (f : Bad Code) × (answer ≡ Err
 -- The notation alone: numbers of any size, keys that may stand again, and so many brackets in one another.
 unfoldable pub IsNotation : ℕ → List ℕ → Value → List ℕ → Type 0
 IsNotation zero = IsValueOver (λ n. Unit {0}) Never Never
-IsNotation (suc depth) = IsValueOver (λ n. Unit {0}) (IsClosed 93 (λ found. IsNotation depth)) (IsClosed 125 (λ found. IsPair (IsNotation depth) []))
+IsNotation (suc depth) =
+    IsValueOver (λ n. Unit {0}) (IsClosed 93 (λ found. IsNotation depth)) (IsClosed 125 (λ found. IsPair (IsNotation depth) []))
 
 -- both begin with the same key, however it is spelled
 pub record SameKey (a b : List ℕ) : Type 0 where
@@ -104,7 +106,9 @@ pub data AreTokens : List ℕ → List ℕ → Type 0 where
 
 -- each number that ends before the place is in range; `left` is what stands from the place on
 abbrev pub AreInRange : List ℕ → List ℕ → Type 0
-AreInRange text left = (t behind : List ℕ) (n : Num) → AreTokens text t → IsNumber (λ n. Unit {0}) t n behind → length left ≤ length behind → is_in_range n ≡ true
+AreInRange text left =
+    (t behind : List ℕ) (n : Num) → AreTokens text t
+    → IsNumber (λ n. Unit {0}) t n behind → length left ≤ length behind → is_in_range n ≡ true
 
 -- Where a fault may stand: one of the syntax inside no whole token, another where a token begins.
 abbrev pub IsPlace : Code → List ℕ → List ℕ → Type 0

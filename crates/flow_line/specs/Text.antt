@@ -1,5 +1,6 @@
 -- Strings, read from left to right.
-use Rattle.std.specs.Prelude.{ℕ, suc, ◌+◌, ◌-◌, ◌*◌, Bool, true, false, not, ◌&&◌, ◌==◌, if◌then◌else◌, List, [], length, drop, Option, Some, None, Ok, codes}
+use Rattle.std.specs.Prelude.{ℕ, suc, ◌+◌, ◌-◌, ◌*◌, Bool, true, false, not, ◌&&◌, ◌==◌}
+use Rattle.std.specs.Prelude.{if◌then◌else◌, List, [], length, drop, Option, Some, None, Ok, codes}
 use Rattle.std.specs.Char.Utf16.{surrogate_pair_char}
 use Rattle.std.specs.Str.{encode_utf8_all}
 use Rattle.reading.specs.declared.fault.Bad.{Bad}
@@ -42,7 +43,8 @@ abbrev pub sequence : ℕ → Reads ℕ
 sequence b rest =
     if is_in 194 223 b then next_bits 128 191 (b - 192) (drop 1 rest) else
     (if is_in 224 239 b then two_more (if b == 224 then 160 else 128) (if b == 237 then 159 else 191) (b - 224) (drop 1 rest) else
-    (if is_in 240 244 b then three_more (if b == 240 then 144 else 128) (if b == 244 then 143 else 191) (b - 240) (drop 1 rest) else stop Syntax rest))
+    (if is_in 240 244 b then three_more (if b == 240 then 144 else 128) (if b == 244 then 143 else 191) (b - 240) (drop 1 rest)
+    else stop Syntax rest))
 
 -- ---- escapes
 

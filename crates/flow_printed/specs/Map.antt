@@ -93,8 +93,10 @@ printed_moment text = moment_of text >>= λ at. if same (moment_text at) text th
 -- the code of a refused line
 abbrev pub code_in : Text → Option ℕ
 code_in t =
-    if same t (codes "L1") then Some 1 else (if same t (codes "L2") then Some 2 else (if same t (codes "L3") then Some 3 else (if same t (codes "L4") then Some 4 else
-    (if same t (codes "L5") then Some 5 else (if same t (codes "L6") then Some 6 else (if same t (codes "L7") then Some 7 else (if same t (codes "L8") then Some 8 else
+    if same t (codes "L1") then Some 1
+    else (if same t (codes "L2") then Some 2 else (if same t (codes "L3") then Some 3 else (if same t (codes "L4") then Some 4 else
+    (if same t (codes "L5") then Some 5
+    else (if same t (codes "L6") then Some 6 else (if same t (codes "L7") then Some 7 else (if same t (codes "L8") then Some 8 else
     (if same t (codes "L9") then Some 9 else (if same t (codes "L10") then Some 10 else None)))))))))
 
 -- ---- commands
@@ -164,9 +166,12 @@ alone key ps = do
 
 abbrev pub kind_of : Text → Option Kind
 kind_of key =
-    if same key (codes "report") then Some Report else (if same key (codes "gone") then Some Gone else (if same key (codes "event") then Some Event else
-    (if same key (codes "moment") then Some Moment else (if same key (codes "switch") then Some Switch else (if same key (codes "trigger") then Some Trigger else
-    (if same key (codes "restart") then Some Restart else (if same key (codes "refused") then Some Refused else (if same key (codes "lost") then Some Lost else
+    if same key (codes "report")
+    then Some Report else (if same key (codes "gone") then Some Gone else (if same key (codes "event") then Some Event else
+    (if same key (codes "moment")
+    then Some Moment else (if same key (codes "switch") then Some Switch else (if same key (codes "trigger") then Some Trigger else
+    (if same key (codes "restart")
+    then Some Restart else (if same key (codes "refused") then Some Refused else (if same key (codes "lost") then Some Lost else
     (if same key (codes "too_long") then Some TooLong else None)))))))))
 
 -- the kind that the first key names

@@ -9,4 +9,5 @@ line_head a = codes "automation." ++ (a.name ++ (codes " " ++ (mode_text a.mode 
 
 abbrev pub line_counts : Automation → Text
 line_counts a =
-    codes " triggers " ++ (decimal (length a.triggers) ++ (codes " conditions " ++ (decimal (length a.tests) ++ (codes " actions " ++ (decimal (length a.actions) ++ (10 ∷ []))))))
+    codes " triggers " ++ (decimal (length a.triggers)
+    ++ (codes " conditions " ++ (decimal (length a.tests) ++ (codes " actions " ++ (decimal (length a.actions) ++ (10 ∷ []))))))

@@ -95,7 +95,8 @@ branches_if false = []
 -- the same frames, but of the run with this serial
 pub record IsNumbered (number : ℕ) (f g : Frames) : Type 0 where
   pub serial : g.serial ≡ number
-  pub stands : (actions : List Action) (env : Pairs) (given : List Spot) (items : List Item) → run.Stands f actions env given items → run.Stands g actions env given items
+  pub stands : (actions : List Action) (env : Pairs) (given : List Spot) (items : List Item)
+      → run.Stands f actions env given items → run.Stands g actions env given items
   pub fronts : (began : Began) → fronts_of g began ≡ fronts_of f began
 
 -- these frames have a slot behind the others, under this serial

@@ -1,5 +1,6 @@
 -- What a line that ends nobody does to the records, where all automations are of mode single.
-use Rattle.std.specs.Prelude.{ℕ, ◌+◌, ◌≡◌, List, [], ◌∷◌, ◌++◌, length, Option, Some, option_map, option_and_then, nat_eq, cond, if◌then◌else◌}
+use Rattle.std.specs.Prelude.{ℕ, ◌+◌, ◌≡◌, List, [], ◌∷◌, ◌++◌, length, Option, Some}
+use Rattle.std.specs.Prelude.{option_map, option_and_then, nat_eq, cond, if◌then◌else◌}
 use Rattle.ha_model.specs.declared.config.Mode.{Mode}
 use Rattle.ha_model.specs.declared.journal.Record.{Record}
 use Rattle.ha_model.specs.Journal.{Journal, automations}
@@ -23,12 +24,19 @@ started r = record r { begin = Some r.place }
 
 abbrev pub admit_started : Journal → Records → List (ℕ × Attempt) → Records
 admit_started k rs [] = rs
-admit_started k rs (x ∷ xs) = admit_started k (if nat_eq (live_count x.1.automation rs) 0 then rs ++ (started (new_record k rs x) ∷ []) else rs) xs
+admit_started k rs (x ∷ xs) =
+    admit_started k (if nat_eq (live_count x.1.automation rs) 0 then rs ++ (started (new_record k rs x) ∷ []) else rs) xs
 
 -- the record of the run that makes a step
 abbrev pub with_step : Journal → Branch → Item → Record → Record
-with_step j branch item r = record r { end = or_else r.end (option_map {T = EndCause} (λ c. (length j, c)) (next_end j r branch)); calls = r.calls + cond (is_call item) 1 0 }
+with_step j branch item r =
+    record r {
+      end = or_else r.end
+          (option_map {T = EndCause} (λ c. (length j, c)) (next_end j r branch));
+      calls = r.calls + cond (is_call item) 1 0;
+    }
 
 abbrev pub step_all : Journal → ℕ → Branch → Item → Records → Records
 step_all j serial branch item [] = []
-step_all j serial branch item (r ∷ rs) = (if nat_eq serial r.serial then with_step j branch item r else r) ∷ step_all j serial branch item rs
+step_all j serial branch item (r ∷ rs) =
+    (if nat_eq serial r.serial then with_step j branch item r else r) ∷ step_all j serial branch item rs

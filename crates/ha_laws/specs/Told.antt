@@ -1,6 +1,7 @@
 -- What the records are, in the words of the rules: which attempts have one, where each begins, and how it ends. (`records_of` makes
 -- the same list in passes that each look at what stands before a place alone; a law says that the two agree.)
-use Rattle.std.specs.Prelude.{ℕ, zero, suc, ◌≡◌, ◌⊎◌, Bool, true, false, not, ◌&&◌, nat_eq, nat_lt, nat_le, List, [], ◌∷◌, ◌++◌, length, map, count_by, Option, Some, None, option_map, if◌then◌else◌}
+use Rattle.std.specs.Prelude.{ℕ, zero, suc, ◌≡◌, ◌⊎◌, Bool, true, false, not, ◌&&◌, nat_eq, nat_lt, nat_le, List, []}
+use Rattle.std.specs.Prelude.{◌∷◌, ◌++◌, length, map, count_by, Option, Some, None, option_map, if◌then◌else◌}
 use Rattle.std.specs.List.{list_any}
 use Rattle.std.specs.Option.{option_map_or}
 use Rattle.ha_model.specs.declared.config.Mode.{Mode}
@@ -9,7 +10,8 @@ use Rattle.ha_model.specs.declared.journal.EndCause.{EndCause}
 use Rattle.ha_model.specs.declared.journal.Record.{Record}
 use Rattle.ha_model.specs.Journal.{Journal, automations}
 use Rattle.ha_model.specs.Attempts.{Attempt}
-use Rattle.ha_model.specs.Records.{Records, through, passing, mode_of, max_of, lets_in, ended_by_script, stops, is_restart, last_is, is_restart_mode, next_place, or_else, begin_of, calls_of}
+use Rattle.ha_model.specs.Records.{Records, through, passing, mode_of, max_of, lets_in, ended_by_script, stops}
+use Rattle.ha_model.specs.Records.{is_restart, last_is, is_restart_mode, next_place, or_else, begin_of, calls_of}
 
 -- ---- which attempts have a record
 
@@ -75,7 +77,8 @@ outer_cause k r =
 abbrev pub cause_at : Journal → Record → Option ℕ → ℕ → Option EndCause
 cause_at j r next p = or_else (ended_by_script (through j p) r) (or_else
     (if nat_lt r.place p then outer_cause (through j p) r else None)
-    (if is_restart_mode (mode_of (automations j) r.automation) && option_map_or (λ q. nat_eq q p) next false then Some EndCause.Replaced else None))
+    (if is_restart_mode (mode_of (automations j) r.automation) && option_map_or (λ q. nat_eq q p) next false
+    then Some EndCause.Replaced else None))
 
 -- the first place below n at which there is something
 abbrev pub first_below : {X : Type 0} → (ℕ → Option X) → ℕ → Option (ℕ × X)

@@ -54,7 +54,8 @@ abbrev pub light : EntityId
 light = record { domain = codes "light"; object = codes "hall" }
 
 abbrev pub the_trigger : Trigger
-the_trigger = record { id = codes "0"; idx = 0; rule = TriggerRule.State (hall ∷ []) None Match.Any (Match.OneOf (codes "on" ∷ [])); hold = None }
+the_trigger =
+    record { id = codes "0"; idx = 0; rule = TriggerRule.State (hall ∷ []) None Match.Any (Match.OneOf (codes "on" ∷ [])); hold = None }
 
 abbrev pub the_number : Value
 the_number = roll-Value (Value-F.Number (Num.Whole (pos 128)))
@@ -64,7 +65,9 @@ hall_light = record {
   name = codes "hall_light";
   triggers = the_trigger ∷ [];
   tests = [];
-  actions = call (codes "light.turn_on") (codes "light.hall") ((codes "brightness", roll-Form (Form-F.Plain the_number)) ∷ []) ∷ act (ActionKind-F.Delay (SpanForm.Known 120000)) ∷ call (codes "light.turn_off") (codes "light.hall") [] ∷ [];
+  actions =
+      call (codes "light.turn_on") (codes "light.hall") ((codes "brightness", roll-Form (Form-F.Plain the_number)) ∷ [])
+      ∷ act (ActionKind-F.Delay (SpanForm.Known 120000)) ∷ call (codes "light.turn_off") (codes "light.hall") [] ∷ [];
   mode = Mode.Restart;
   max = 10;
   initial = None;
@@ -96,7 +99,19 @@ abbrev pub spot : ℕ → Spot
 spot n = next_spot (take n journal) []
 
 abbrev pub the_record : Record
-the_record = record { serial = 1; automation = 0; number = 1; place = 2; order = 0; env = env; begin = Some 2; end = Some (7, EndCause.Done); calls = 2 }
+the_record =
+    record {
+      serial = 1;
+      automation = 0;
+      number = 1;
+      place = 2;
+      order = 0;
+      env = env;
+      begin = Some 2;
+      end = Some
+          (7, EndCause.Done);
+      calls = 2;
+    }
 
 abbrev pub records : Records
 records = the_record ∷ []

@@ -37,7 +37,19 @@ abbrev pub held : TriggerRule → Trigger
 held rule = record { id = codes "0"; idx = 0; rule = rule; hold = Some 5000 }
 
 abbrev pub boot : TriggerRule → Entry
-boot rule = Entry.Boot [] (record { automations = record { name = codes "a"; triggers = held rule ∷ []; tests = []; actions = []; mode = Mode.Single; max = 10; initial = None } ∷ [] }) None start (codes "UTC")
+boot rule =
+    Entry.Boot [] (record {
+      automations = record {
+        name = codes "a";
+        triggers = held rule
+            ∷ [];
+        tests = [];
+        actions = [];
+        mode = Mode.Single;
+        max = 10;
+        initial = None;
+      } ∷ [];
+    }) None start (codes "UTC")
 
 abbrev pub report : Text → Pairs → Entry
 report t ps = Entry.Line 0 0 (Cmd.Report lamp t ps)
@@ -66,11 +78,14 @@ text_value t = roll-Expr (Expr-F.Plain (roll-Value (Value-F.Text t)))
 
 abbrev pub is_over_20 : Template
 is_over_20 =
-    show (roll-Expr (Expr-F.Pair Op.More (roll-Expr (Expr-F.Filter 1 (roll-Expr (Expr-F.Function 1 (text_value (codes "light.x") ∷ []))) []))
+    show (roll-Expr (Expr-F.Pair Op.More
+    (roll-Expr (Expr-F.Filter 1 (roll-Expr (Expr-F.Function 1 (text_value (codes "light.x") ∷ []))) []))
     (roll-Expr (Expr-F.Plain (roll-Value (Value-F.Number (Num.Whole (pos 20))))))))
 
 abbrev pub template_held : Journal
-template_held = boot (TriggerRule.Template is_over_20) ∷ report (codes "25") [] ∷ moment 3000 ∷ gone ∷ report (codes "25") [] ∷ moment 5000 ∷ moment 8000 ∷ []
+template_held =
+    boot (TriggerRule.Template is_over_20) ∷ report (codes "25") []
+    ∷ moment 3000 ∷ gone ∷ report (codes "25") [] ∷ moment 5000 ∷ moment 8000 ∷ []
 
 -- any change of the attribute `b`
 abbrev pub one : Value
@@ -80,7 +95,9 @@ abbrev pub attribute_changes : TriggerRule
 attribute_changes = TriggerRule.State (lamp ∷ []) (Some (codes "b")) Match.Absent Match.Absent
 
 abbrev pub attribute_held : Journal
-attribute_held = boot attribute_changes ∷ report (codes "on") ((codes "b", one) ∷ []) ∷ moment 2000 ∷ report (codes "on") [] ∷ gone ∷ moment 5000 ∷ moment 7000 ∷ []
+attribute_held =
+    boot attribute_changes ∷ report (codes "on") ((codes "b", one) ∷ [])
+    ∷ moment 2000 ∷ report (codes "on") [] ∷ gone ∷ moment 5000 ∷ moment 7000 ∷ []
 
 -- a door in mode queued that takes one run at a time
 abbrev pub queue : Automation
@@ -91,7 +108,8 @@ queue_boot = Entry.Boot [] (record { automations = queue ∷ [] }) None start (c
 
 -- it opens at 2, at 4 and at 7; its first run calls at 5, and is done
 abbrev pub queue_of_one : Journal
-queue_of_one = queue_boot ∷ door_report 0 (codes "off") ∷ door_report 1 (codes "on") ∷ door_report 2 (codes "off") ∷ door_report 3 (codes "on")
+queue_of_one =
+    queue_boot ∷ door_report 0 (codes "off") ∷ door_report 1 (codes "on") ∷ door_report 2 (codes "off") ∷ door_report 3 (codes "on")
     ∷ Entry.Step 0 1 [] turned_on ∷ door_report 4 (codes "off") ∷ door_report 5 (codes "on") ∷ []
 
 -- a record of it

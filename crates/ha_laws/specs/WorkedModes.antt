@@ -27,7 +27,8 @@ abbrev pub text_template : Text → Template
 text_template t = roll-Template (record { pieces = roll-Piece (Piece-F.Text t) ∷ [] })
 
 abbrev pub call : Text → Text → Action
-call service target = roll-Action (record { kind = roll-ActionKind (ActionKind-F.Call (text_template service) (text_template target ∷ []) []) })
+call service target =
+    roll-Action (record { kind = roll-ActionKind (ActionKind-F.Call (text_template service) (text_template target ∷ []) []) })
 
 abbrev pub door_sensor : EntityId
 door_sensor = record { domain = codes "binary_sensor"; object = codes "door" }
@@ -36,7 +37,14 @@ abbrev pub porch : EntityId
 porch = record { domain = codes "light"; object = codes "porch" }
 
 abbrev pub door_trigger : Trigger
-door_trigger = record { id = codes "0"; idx = 0; rule = TriggerRule.State (door_sensor ∷ []) None Match.Absent (Match.OneOf (codes "on" ∷ [])); hold = None }
+door_trigger =
+    record {
+      id = codes "0";
+      idx = 0;
+      rule = TriggerRule.State
+          (door_sensor ∷ []) None Match.Absent (Match.OneOf (codes "on" ∷ []));
+      hold = None;
+    }
 
 abbrev pub door : Mode → Automation
 door the_mode = record {
@@ -68,9 +76,21 @@ abbrev pub env_at : ℕ → Mode → Pairs
 env_at n m = (codes "trigger", variables (twice m) door_trigger (Some door_sensor) n) ∷ []
 
 abbrev pub then_done : Journal
-then_done = boot Mode.Queued ∷ report 0 (codes "off") ∷ report 1 (codes "on") ∷ report 2 (codes "off") ∷ report 3 (codes "on") ∷ Entry.Step 0 1 [] turned_on ∷ Entry.Line 0 4 (Cmd.Switch (codes "door") false true) ∷ []
+then_done =
+    boot Mode.Queued ∷ report 0 (codes "off") ∷ report 1 (codes "on") ∷ report 2 (codes "off")
+    ∷ report 3 (codes "on") ∷ Entry.Step 0 1 [] turned_on ∷ Entry.Line 0 4 (Cmd.Switch (codes "door") false true) ∷ []
 
 -- a record of the door's automation
 abbrev pub run : ℕ → ℕ → Mode → Option ℕ → Option (ℕ × EndCause) → ℕ → Record
 run n place m begin end calls =
-    record { serial = n; automation = 0; number = n; place = place; order = 0; env = env_at place m; begin = begin; end = end; calls = calls }
+    record {
+      serial = n;
+      automation = 0;
+      number = n;
+      place = place;
+      order = 0;
+      env = env_at place m;
+      begin = begin;
+      end = end;
+      calls = calls;
+    }

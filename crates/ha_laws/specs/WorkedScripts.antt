@@ -68,17 +68,22 @@ apart = set_n (said (literal 1))
 -- a loop over a list of two: the block's step, and two steps for each turn
 abbrev pub colours : List Action
 colours = act (ActionKind-F.Repeat (RepeatKind.Each (roll-Form (Form-F.Plain (number 7)) ∷ roll-Form (Form-F.Plain (number 8)) ∷ []))
-    (call (codes "notify.c") (codes "a.b") ((codes "n", roll-Form (Form-F.Text (show (roll-Expr (Expr-F.Field (roll-Expr (Expr-F.Name (codes "repeat"))) (codes "item")))))) ∷ []) ∷ [])) ∷ []
+    (call (codes "notify.c") (codes "a.b")
+    ((codes "n", roll-Form (Form-F.Text (show (roll-Expr (Expr-F.Field (roll-Expr (Expr-F.Name (codes "repeat"))) (codes "item"))))))
+    ∷ []) ∷ [])) ∷ []
 
 -- a list of two steps that is set, once raised and then told: the name that is set in a turn is the one that was there before the loop
 abbrev pub raised : List Action
 raised = set_n (said (literal 0))
-    ∷ act (ActionKind-F.Repeat (RepeatKind.Count (text_template (codes "1"))) (set_n (said (roll-Expr (Expr-F.Pair Op.Plus n_name (literal 5)))) ∷ []))
+    ∷ act (ActionKind-F.Repeat (RepeatKind.Count (text_template (codes "1")))
+    (set_n (said (roll-Expr (Expr-F.Pair Op.Plus n_name (literal 5)))) ∷ []))
     ∷ notify_n (codes "notify.x") ∷ []
 
 -- a false condition ends its block, and the script goes on behind it
 abbrev pub false_inside : List Action
-false_inside = act (ActionKind-F.Block (act (ActionKind-F.Test (roll-Condition (Condition-F.Or []))) ∷ act ActionKind-F.Stop ∷ [])) ∷ notify_n (codes "notify.x") ∷ []
+false_inside =
+    act (ActionKind-F.Block (act (ActionKind-F.Test (roll-Condition (Condition-F.Or []))) ∷ act ActionKind-F.Stop ∷ []))
+    ∷ notify_n (codes "notify.x") ∷ []
 
 -- a minute and a half, of a text and of parts; the second place is not allowed before
 abbrev pub delays : SpanForm → List Action

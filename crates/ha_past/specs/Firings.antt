@@ -1,5 +1,6 @@
 -- Who has triggers attached, and which of them fire at an entry.
-use Rattle.std.specs.Prelude.{ℕ, not, nat_eq, nat_lt, List, [], ◌∷◌, Option, find, filter, filter_map, flat_map, map, option_map, codes, if◌then◌else◌}
+use Rattle.std.specs.Prelude.{ℕ, not, nat_eq, nat_lt, List, [], ◌∷◌, Option, find, filter}
+use Rattle.std.specs.Prelude.{filter_map, flat_map, map, option_map, codes, if◌then◌else◌}
 use Rattle.ha_value.specs.declared.value.EntityId.{EntityId}
 use Rattle.ha_model.specs.declared.config.Trigger.{Trigger}
 use Rattle.ha_model.specs.declared.steps.Firing.{Firing}
@@ -38,7 +39,9 @@ module _ (j : Journal) (p : ℕ) where
 
   -- the same, of one trigger with its index: for an entity, and for all of its own
   abbrev pub firing_for : Owner → ℕ × Trigger → Option EntityId → Option Firing
-  firing_for o t e = option_map (λ i. record { owner = o.owner; trigger = t.0; entity = e; env = (codes "trigger", variables j t.1 e i) ∷ [] }) (fired_from j t.1 e o.since p)
+  firing_for o t e =
+      option_map (λ i. record { owner = o.owner; trigger = t.0; entity = e; env = (codes "trigger", variables j t.1 e i) ∷ [] })
+      (fired_from j t.1 e o.since p)
 
   abbrev pub firings_by : Owner → ℕ × Trigger → List Firing
   firings_by o t = filter_map (firing_for o t) (entities_of j t.1.rule)

@@ -1,5 +1,6 @@
 -- What an entry does to one trigger, by what is seen before it and after it alone.
-use Rattle.std.specs.Prelude.{ℕ, suc, ◌+◌, Bool, true, false, not, ◌&&◌, ◌||◌, nat_le, nat_lt, [], ◌∷◌, ◌++◌, length, take, Option, Some, None, is_some, is_none, option_map, option_and_then, codes, if◌then◌else◌}
+use Rattle.std.specs.Prelude.{ℕ, suc, ◌+◌, Bool, true, false, not, ◌&&◌, ◌||◌, nat_le, nat_lt, [], ◌∷◌, ◌++◌, length, take}
+use Rattle.std.specs.Prelude.{Option, Some, None, is_some, is_none, option_map, option_and_then, codes, if◌then◌else◌}
 use Rattle.std.specs.List.{list_all}
 use Rattle.std.specs.Option.{option_map_or}
 use Rattle.ha_value.specs.declared.value.EntityId.{EntityId}
@@ -18,7 +19,8 @@ use Rattle.ha_model.specs.States.{Sight}
 use Rattle.ha_model.specs.Templates.{rendered, says}
 use Rattle.ha_model.specs.RecordSteps.{more}
 pub use Rattle.ha_model.specs.Records.{or_else}
-use Rattle.ha_model.specs.Triggers.{sight, state_moves, same_optional, report_number, latest_number, pair_holds, passed, moves, starts, variables, head_pairs, state_value, text_or_null, number_or_null}
+use Rattle.ha_model.specs.Triggers.{sight, state_moves, same_optional, report_number, latest_number, pair_holds, passed}
+use Rattle.ha_model.specs.Triggers.{moves, starts, variables, head_pairs, state_value, text_or_null, number_or_null}
 use Rattle.ha_past.specs.Holds.{pending}
 
 -- the rule on what is seen before and after, and the journal before
@@ -26,14 +28,17 @@ abbrev pub looks : Sight → Sight → Journal → TriggerRule → Bool → Opti
 looks b a past (TriggerRule.State entities attribute from to) held (Some e) x = state_moves attribute from to held (b.states e) (a.states e)
 looks b a past (TriggerRule.State entities attribute from to) held None x = false
 looks b a past (TriggerRule.Numeric entities attribute above below) held (Some e) x =
-    option_map_or (in_bounds above below) (report_number e attribute x) false && not (option_map_or (in_bounds above below) (latest_number e attribute past) false)
+    option_map_or (in_bounds above below) (report_number e attribute x) false
+    && not (option_map_or (in_bounds above below) (latest_number e attribute past) false)
 looks b a past (TriggerRule.Numeric entities attribute above below) held None x = false
 looks b a past (TriggerRule.Event kinds pairs) held (Some e) x = false
-looks b a past (TriggerRule.Event kinds pairs) held None x = option_map_or (λ v. one_of v.0 kinds && list_all (pair_holds v.1) pairs) (event_in x) false
+looks b a past (TriggerRule.Event kinds pairs) held None x =
+    option_map_or (λ v. one_of v.0 kinds && list_all (pair_holds v.1) pairs) (event_in x) false
 looks b a past (TriggerRule.Time seconds) held (Some e) x = false
 looks b a past (TriggerRule.Time seconds) held None x = is_moment x && passed (TriggerRule.Time seconds) b.zone b.now a.now
 looks b a past (TriggerRule.Pattern hours minutes seconds) held (Some e) x = false
-looks b a past (TriggerRule.Pattern hours minutes seconds) held None x = is_moment x && passed (TriggerRule.Pattern hours minutes seconds) b.zone b.now a.now
+looks b a past (TriggerRule.Pattern hours minutes seconds) held None x =
+    is_moment x && passed (TriggerRule.Pattern hours minutes seconds) b.zone b.now a.now
 looks b a past (TriggerRule.Template t) held (Some e) x = false
 looks b a past (TriggerRule.Template t) held None x = says (rendered a t []) && not (says (rendered b t []))
 looks b a past TriggerRule.Start held e x = false
@@ -41,12 +46,14 @@ looks b a past TriggerRule.Start held e x = false
 -- what is watched is the same, by what is seen after two places, and the journals up to them
 abbrev pub watches : Sight → Sight → Journal → Journal → TriggerRule → Option EntityId → Bool
 watches one two first second (TriggerRule.State entities (Some name) from to) (Some e) =
-    same_optional (option_and_then (λ s. first_pair name s.attributes) (one.states e)) (option_and_then (λ s. first_pair name s.attributes) (two.states e))
+    same_optional (option_and_then (λ s. first_pair name s.attributes) (one.states e))
+    (option_and_then (λ s. first_pair name s.attributes) (two.states e))
 watches one two first second (TriggerRule.State entities None from to) (Some e) =
     option_map_or (λ s. option_map_or (λ o. same o.text s.text) (one.states e) false) (two.states e) (is_none (one.states e))
 watches one two first second (TriggerRule.State entities attribute from to) None = false
 watches one two first second (TriggerRule.Numeric entities attribute above below) (Some e) =
-    same_flag (option_map_or (in_bounds above below) (latest_number e attribute first) false) (option_map_or (in_bounds above below) (latest_number e attribute second) false)
+    same_flag (option_map_or (in_bounds above below) (latest_number e attribute first) false)
+    (option_map_or (in_bounds above below) (latest_number e attribute second) false)
 watches one two first second (TriggerRule.Numeric entities attribute above below) None = false
 watches one two first second (TriggerRule.Template t) (Some e) = false
 watches one two first second (TriggerRule.Template t) None = same_flag (says (rendered one t [])) (says (rendered two t []))
@@ -57,11 +64,24 @@ watches one two first second TriggerRule.Start e = false
 
 -- the variables of a trigger, by what is seen before and after the entry at which it moved
 abbrev pub given_by : Sight → Sight → Option Entry → Trigger → TriggerRule → Option EntityId → Pairs
-given_by b a y t (TriggerRule.State entities attribute from to) (Some x) = head_pairs [] (codes "state") t ++ ((codes "entity_id", Value.Text (entity_text x)) ∷ (codes "from_state", state_value [] x (b.states x)) ∷ (codes "to_state", state_value [] x (a.states x)) ∷ (codes "attribute", text_or_null [] attribute) ∷ [])
+given_by b a y t (TriggerRule.State entities attribute from to) (Some x) =
+    head_pairs [] (codes "state") t
+    ++ ((codes "entity_id", Value.Text (entity_text x)) ∷ (codes "from_state", state_value [] x (b.states x))
+    ∷ (codes "to_state", state_value [] x (a.states x)) ∷ (codes "attribute", text_or_null [] attribute) ∷ [])
 given_by b a y t (TriggerRule.State entities attribute from to) None = head_pairs [] (codes "state") t
-given_by b a y t (TriggerRule.Numeric entities attribute above below) (Some x) = head_pairs [] (codes "numeric_state") t ++ ((codes "entity_id", Value.Text (entity_text x)) ∷ (codes "from_state", state_value [] x (b.states x)) ∷ (codes "to_state", state_value [] x (a.states x)) ∷ (codes "above", number_or_null [] above) ∷ (codes "below", number_or_null [] below) ∷ [])
+given_by b a y t (TriggerRule.Numeric entities attribute above below) (Some x) =
+    head_pairs [] (codes "numeric_state") t
+    ++ ((codes "entity_id", Value.Text (entity_text x)) ∷ (codes "from_state", state_value [] x (b.states x))
+    ∷ (codes "to_state", state_value [] x (a.states x))
+    ∷ (codes "above", number_or_null [] above) ∷ (codes "below", number_or_null [] below) ∷ [])
 given_by b a y t (TriggerRule.Numeric entities attribute above below) None = head_pairs [] (codes "numeric_state") t
-given_by b a y t (TriggerRule.Event kinds pairs) o = head_pairs [] (codes "event") t ++ ((codes "event", option_map_or (λ v. Map ((codes "event_type", Value.Text v.0) ∷ (codes "data", Map v.1) ∷ [])) (option_and_then event_in y) Value.Null) ∷ [])
+given_by b a y t (TriggerRule.Event kinds pairs) o =
+    head_pairs [] (codes "event") t
+    ++ ((
+      codes "event",
+      option_map_or (λ v. Map ((codes "event_type", Value.Text v.0) ∷ (codes "data", Map v.1) ∷ []))
+          (option_and_then event_in y) Value.Null,
+    ) ∷ [])
 given_by b a y t (TriggerRule.Time seconds) o = head_pairs [] (codes "time") t
 given_by b a y t (TriggerRule.Pattern hours minutes seconds) o = head_pairs [] (codes "time_pattern") t
 given_by b a y t (TriggerRule.Template x) o = head_pairs [] (codes "template") t
@@ -105,7 +125,9 @@ module _ (j : Journal) (x : Entry) (t : Trigger) (e : Option EntityId) (since : 
 
   -- its hold once the entry has moved it, before the holds that are over fire
   abbrev pub arrived : Option Holding
-  arrived = option_and_then (λ d. or_else (if stays_watched then standing j t e since else None) (if moves_here then Some (holding_of (more j x) t e d (length j)) else None)) t.hold
+  arrived =
+      option_and_then (λ d. or_else (if stays_watched then standing j t e since else None)
+      (if moves_here then Some (holding_of (more j x) t e d (length j)) else None)) t.hold
 
   -- what a trigger without `for` gives at the entry
   abbrev pub at_once : Option Value

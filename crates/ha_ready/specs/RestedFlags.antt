@@ -1,5 +1,6 @@
 -- Who is rested behind one more entry.
-use Rattle.std.specs.Prelude.{◌≡◌, ℕ, suc, Bool, true, false, ◌||◌, ◌<◌, ◌≤◌, nat_eq, slice_get, length, List, [], ◌∷◌, Option, Some, None, option_map, if◌then◌else◌}
+use Rattle.std.specs.Prelude.{◌≡◌, ℕ, suc, Bool, true, false, ◌||◌, ◌<◌, ◌≤◌, nat_eq, slice_get, length}
+use Rattle.std.specs.Prelude.{List, [], ◌∷◌, Option, Some, None, option_map, if◌then◌else◌}
 use Rattle.std.specs.Option.{option_map_or}
 use Rattle.ha_model.specs.declared.journal.Entry.{Entry}
 use Rattle.ha_model.specs.Entries.{line_of}

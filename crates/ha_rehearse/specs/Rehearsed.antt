@@ -18,8 +18,8 @@ use Rattle.ha_rehearse.specs.Puts.{Closing, IsFull}
 abbrev pub boot_of : Config → Entry
 boot_of config = Boot config_text config None start (codes "UTC")
 
--- The journal is lawful with its records. It begins with the boot of the configuration that the generated text is, and its lines are the first n
--- generated ones, of source 0 alone.
+-- The journal is lawful with its records. It begins with the boot of the configuration that the generated text is, and its lines are the
+-- first n generated ones, of source 0 alone.
 pub record Rehearses (n : ℕ) (j : Journal) (records : Records) : Type 0 where
   pub config : Config
   pub reads : config_of config_text ≡ Ok config

@@ -1,5 +1,6 @@
 -- The first line of a trace.
-use Rattle.std.specs.Prelude.{ℕ, ◌≡◌, ◌≤◌, Bool, true, ◌&&◌, List, [], ◌∷◌, Option, None, Some, IsSome, Result, Ok, Err, option_map, option_and_then, codes}
+use Rattle.std.specs.Prelude.{ℕ, ◌≡◌, ◌≤◌, Bool, true, ◌&&◌, List, [], ◌∷◌, Option, None, Some}
+use Rattle.std.specs.Prelude.{IsSome, Result, Ok, Err, option_map, option_and_then, codes}
 use Rattle.std.specs.List.{list_all}
 use Rattle.std.specs.Option.{option_map_or}
 use Rattle.std.specs.Str.{is_utf8}
@@ -34,7 +35,8 @@ have_utf8_names stored = option_map_or (list_all (λ p. is_utf8 p.0)) stored tru
 
 -- the line, with its LF, is that of a Boot with these parts, whatever its configuration
 abbrev pub IsLineOf : Text → Text → Option Switches → ℕ → Text → Type 0
-IsLineOf line text stored start zone = (config : Config) → as_line line ≡ trace_line config.automations (Entry.Boot text config stored start zone)
+IsLineOf line text stored start zone =
+    (config : Config) → as_line line ≡ trace_line config.automations (Entry.Boot text config stored start zone)
 
 -- the line is the first of a trace with these parts: the moment and the zone are read, and the stored names stand in order, each once
 pub record IsBootLine (line : Text) (b : BootLine) : Type 0 where

@@ -1,5 +1,6 @@
 -- Who may put the next entry, and what a refused put comes to.
-use Rattle.std.specs.Prelude.{ℕ, ◌≡◌, ◌<◌, ◌^◌, ◌⊎◌, Bool, true, false, nat_eq, count_by, ◌∷◌, ◌++◌, Option, None, Some, codes, decimal, if◌then◌else◌}
+use Rattle.std.specs.Prelude.{ℕ, ◌≡◌, ◌<◌, ◌^◌, ◌⊎◌, Bool, true, false, nat_eq, count_by, ◌∷◌}
+use Rattle.std.specs.Prelude.{◌++◌, Option, None, Some, codes, decimal, if◌then◌else◌}
 use Rattle.std.specs.List.{list_any}
 use Rattle.ha_model.specs.declared.faults.CoreFault.{CoreFault}
 use Rattle.ha_model.specs.declared.journal.Cmd.{Cmd}

@@ -76,10 +76,12 @@ OutCause (Status.WriteFault zero) out = HasCause (BusFault.Write zero) out
 OutCause Status.KeepFault out = HasCause BusFault.Keep out
 OutCause status out = Unit {0}
 
--- A core that was booted so ran on sources that are these before: what stands at its status, whatever the files and the names are for which the
--- sources were opened.
-pub record CoreRan (boot : Entry) (before : Outside) (opened : List SourceState) (status : Status) (journal : List Entry) (records : Records) (sources : List SourceState) (after : Outside) : Type 0 where
+-- A core that was booted so ran on sources that are these before: what stands at its status, whatever the files and the names are for which
+-- the sources were opened.
+pub record CoreRan (boot : Entry) (before : Outside) (opened : List SourceState) (status : Status)
+    (journal : List Entry) (records : Records) (sources : List SourceState) (after : Outside) : Type 0 where
   pub stands : (files : Option Files) (names : List Text) → AreNew files names opened
-      → StandsAt (BeginsWith boot) (record { files = files; names = names; journal = journal; records = records; sources = sources }) (writings before (view_of journal records after)) status
+      → StandsAt (BeginsWith boot) (record { files = files; names = names; journal = journal; records = records; sources = sources })
+      (writings before (view_of journal records after)) status
   pub same : SameOutside before after
   pub cause : OutCause status after

@@ -22,15 +22,16 @@ pub record Feed : Type 0 where
   pub course : Course
   pub unput : List Cmd
 
--- the bytes that were read of a file: all of it at its end, its first bytes while it goes on and after a failure, and as many as it may give where it has more
+-- the bytes that were read of a file: all of it at its end, its first bytes while it goes on and after a failure, and as many as it may
+-- give where it has more
 abbrev pub IsReadOf : Course → Text → Text → Type 0
 IsReadOf Course.Goes bytes file = (rest : Text) × (file ≡ bytes ++ rest)
 IsReadOf Course.Ends bytes file = file ≡ bytes
 IsReadOf Course.Fails bytes file = (rest : Text) × (file ≡ bytes ++ rest)
 IsReadOf Course.Exceeds bytes file = (length bytes ≡ most_bytes) × ((next : ℕ) × (rest : Text) × (file ≡ bytes ++ next ∷ rest))
 
--- Of source k, which has this name, these bytes were read, within its bound; its lines in the journal are put from all their commands, in order,
--- each once, but for the last ones, which are not put. At its end nothing is left in it; where a read failed, its count tells.
+-- Of source k, which has this name, these bytes were read, within its bound; its lines in the journal are put from all their commands, in
+-- order, each once, but for the last ones, which are not put. At its end nothing is left in it; where a read failed, its count tells.
 pub record IsServed (files : Option Files) (journal : List Entry) (k : ℕ) (name : Text) (source : SourceState) (feed : Feed) : Type 0 where
   pub bytes : Text
   pub put : List Cmd

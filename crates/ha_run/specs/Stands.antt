@@ -19,8 +19,8 @@ pub record Scene : Type 0 where
 
 -- the journal begins as it must
 module _ (Begins : List Entry → Type 0) where
-  -- The journal is lawful with its records, and each entry is of a source that was named. The lines of each source are put from the commands of
-  -- the bytes that were read of it.
+  -- The journal is lawful with its records, and each entry is of a source that was named. The lines of each source are put from the
+  -- commands of the bytes that were read of it.
   pub record Ran (s : Scene) (feeds : List Feed) : Type 0 where
     pub begins : Begins s.journal
     pub lawful : Lawful s.journal s.records
@@ -57,8 +57,8 @@ pub record NotRead (s : Scene) : Type 0 where
   pub no_record : s.records ≡ []
   pub one : length s.sources ≡ 1
 
--- What was written of a journal: all that is due, with the end of the trace; all but that end; all but a part of what the last entry gives, or
--- of that end; nothing.
+-- What was written of a journal: all that is due, with the end of the trace; all but that end; all but a part of what the last entry gives,
+-- or of that end; nothing.
 pub record Writings : Type 1 where
   pub Ended : Type 0
   pub Whole : Type 0

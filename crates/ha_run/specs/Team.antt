@@ -124,7 +124,8 @@ IsOver WorkerEnd.Stopped feed = ⊥
 IsOver WorkerEnd.Memory feed = ⊥
 
 -- Source k was read, and its lines were put. Where the bus keeps no fault, its worker came to an end.
-pub record IsWorked (journal : Journal) (first : Option BusFault) (k : ℕ) (before after : SourceState) (end : Option WorkerEnd) (feed : Feed) : Type 0 where
+pub record IsWorked (journal : Journal) (first : Option BusFault) (k : ℕ)
+    (before after : SourceState) (end : Option WorkerEnd) (feed : Feed) : Type 0 where
   pub bytes : Text
   pub put : List Cmd
   pub given : HasGiven feed.course bytes before after
@@ -134,7 +135,8 @@ pub record IsWorked (journal : Journal) (first : Option BusFault) (k : ℕ) (bef
 
 abbrev pub AreWorked : Journal → Option BusFault → ℕ → List SourceState → List SourceState → List (Option WorkerEnd) → List Feed → Type 0
 AreWorked journal first k [] [] [] [] = Unit {0}
-AreWorked journal first k (s ∷ before) (t ∷ after) (e ∷ ends) (f ∷ feeds) = IsWorked journal first k s t e f × AreWorked journal first (suc k) before after ends feeds
+AreWorked journal first k (s ∷ before) (t ∷ after) (e ∷ ends) (f ∷ feeds) =
+    IsWorked journal first k s t e f × AreWorked journal first (suc k) before after ends feeds
 AreWorked journal first k before after ends feeds = ⊥
 
 -- the bus went round among the workers

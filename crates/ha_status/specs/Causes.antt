@@ -43,7 +43,8 @@ pub record IsUnread (name : Text) (place : ℕ) (faults : List ℕ) (names : Lis
 -- the source of the configuration, which is then the only one, or that source of the words
 abbrev pub ReadCause : Text → List Text → List ℕ → List (Option Text) → Status → Type 0
 ReadCause config sources faults names (Status.ReadFault None) = (length faults ≡ 1) × IsUnread config 0 faults names
-ReadCause config sources faults names (Status.ReadFault (Some k)) = (name : Text) × (slice_get sources k ≡ Some name) × IsUnread name k faults names
+ReadCause config sources faults names (Status.ReadFault (Some k)) =
+    (name : Text) × (slice_get sources k ≡ Some name) × IsUnread name k faults names
 ReadCause config sources faults names _ = Unit {0}
 
 -- ---- a text that was not written

@@ -26,7 +26,8 @@ IsTextFault name _ = ⊥
 -- A text that is refused before it was read whole: there is one with more bytes, which is this file's where files are told, and the fault
 -- is at line 1 with code 12.
 abbrev pub LongCause : Option Files → Text → Status → Type 0
-LongCause files name (Status.ConfigRefused line code) = (line ≡ 1) × (code ≡ 12) × ((text : Text) × HoldsText files name text × (most_config_bytes < length text))
+LongCause files name (Status.ConfigRefused line code) =
+    (line ≡ 1) × (code ≡ 12) × ((text : Text) × HoldsText files name text × (most_config_bytes < length text))
 LongCause files name _ = Unit {0}
 
 -- a file that was opened and not read is there, where files are told

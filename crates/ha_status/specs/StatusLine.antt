@@ -14,7 +14,8 @@ ended text = text ++ 10 ∷ []
 -- the line of a status; none where all went as wanted
 unfoldable pub status_line : Status → Text
 status_line Status.Ok = []
-status_line Status.Usage = ended (codes "hearth: usage: run --config F --start MOMENT [--zone Z] [--trace F] SOURCE.. | check F | replay F | rehearse N")
+status_line Status.Usage =
+    ended (codes "hearth: usage: run --config F --start MOMENT [--zone Z] [--trace F] SOURCE.. | check F | replay F | rehearse N")
 status_line (Status.ConfigRefused line code) = ended (codes "hearth: config line " ++ decimal line ++ codes ": C" ++ decimal code)
 status_line (Status.OpenFault name) = ended (codes "hearth: cannot open " ++ name)
 status_line (Status.ReadFault None) = ended (codes "hearth: config failed")

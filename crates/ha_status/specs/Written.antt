@@ -25,7 +25,8 @@ IsFront front line = (rest : Text) × (line ≡ front ++ rest)
 -- what was written of a status line: all of it, or a front where the sink faulted, or where memory ran out a front of any one
 abbrev pub IsLineOf : Type 0 → Status → Text → Type 0
 IsLineOf faulted status line =
-    (line ≡ status_line status) ⊎ ((faulted × IsFront line (status_line status)) ⊎ ((status ≡ Status.Memory) × ((other : Status) × IsFront line (status_line other))))
+    (line ≡ status_line status) ⊎
+    ((faulted × IsFront line (status_line status)) ⊎ ((status ≡ Status.Memory) × ((other : Status) × IsFront line (status_line other))))
 
 -- the sink took the status line
 pub record TookLine (faulted : Type 0) (status : Status) (before after : Option Text) : Type 0 where

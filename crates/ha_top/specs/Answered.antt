@@ -1,6 +1,7 @@
--- What a run answers for. Whoever wants to trust the program reads this page, what stands at each status (`ha_run`'s `Stands` and `Served`), what
--- was written (`Written`), and the meaning that they cite.
-use Rattle.std.specs.Prelude.{ℕ, ◌≡◌, ◌<◌, ◌⊎◌, List, [], ◌∷◌, ◌++◌, map, option_to_list, Option, Some, None, Ok, Err, IfSome, IsOk, IsSomeAnd, Contains}
+-- What a run answers for. Whoever wants to trust the program reads this page, what stands at each status (`ha_run`'s `Stands` and
+-- `Served`), what was written (`Written`), and the meaning that they cite.
+use Rattle.std.specs.Prelude.{ℕ, ◌≡◌, ◌<◌, ◌⊎◌, List, [], ◌∷◌, ◌++◌, map, option_to_list, Option}
+use Rattle.std.specs.Prelude.{Some, None, Ok, Err, IfSome, IsOk, IsSomeAnd, Contains}
 use Rattle.ha_io.specs.declared.place.Opening.{Opening}
 use Rattle.ha_io.specs.Told.{Call, IsAskedSome, and_asked}
 use Rattle.ha_model.specs.declared.config.Config.{Config}
@@ -26,8 +27,8 @@ abbrev pub AreStored : Option Text → Option Switches → Type 0
 AreStored None stored = stored ≡ None
 AreStored (Some text) stored = (switches : Switches) × (switches_in text ≡ Ok switches) × (stored ≡ Some switches)
 
--- the journal begins with the Boot of the bytes that the place holds under the configuration's name, the configuration of these bytes, the switches
--- that the keeper held, the start and the zone
+-- the journal begins with the Boot of the bytes that the place holds under the configuration's name, the configuration of these bytes, the
+-- switches that the keeper held, the start and the zone
 pub record IsBooted (words : RunWords) (b : Before) (journal : List Entry) : Type 0 where
   pub text : Text
   pub config : Config
@@ -113,7 +114,8 @@ pub record Answered (words : RunWords) (b : Before) (a : After) : Type 0 where
   pub traced : IsTraceOf words.trace a.journal a.trace
   pub asked : IsAskedFor (opens words) a.journal b.place.asked a.place.asked
   pub same : AreTheSame b a
-  -- A configuration is refused with the line and code of its text, and where none is taken, one of its answers comes first. A store likewise.
+  -- A configuration is refused with the line and code of its text, and where none is taken, one of its answers comes first. A store
+  -- likewise.
   pub refused : RefusedCause b.place.files words.config a.status
   pub config_first : IfSome b.place.files (λ f. (IsTaken (f words.config) → ⊥) → IsTextFault words.config a.status)
   pub store_refused : StoreCause b.keep.kept a.status

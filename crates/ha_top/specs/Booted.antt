@@ -8,7 +8,8 @@ use Rattle.ha_worker.specs.Courses.{SourceState}
 use Rattle.ha_run.specs.Core.{CoreRan}
 
 -- memory ran out before the boot; the sources are handed back, and no trace
-pub record IsUnbooted (old : Outside) (opened : List SourceState) (status : Status) (journal : List Entry) (records : Records) (sources : List SourceState) (out : Outside) : Type 0 where
+pub record IsUnbooted (old : Outside) (opened : List SourceState) (status : Status)
+    (journal : List Entry) (records : Records) (sources : List SourceState) (out : Outside) : Type 0 where
   pub status_is : status ≡ Status.Memory
   pub no_entry : journal ≡ []
   pub no_record : records ≡ []

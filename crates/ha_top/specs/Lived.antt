@@ -9,7 +9,8 @@ use Rattle.ha_run.specs.Stands.{StandsAt, Writings}
 use Rattle.ha_check.specs.Configured.{RefusedCause}
 use Rattle.ha_top.specs.Views.{After, Before}
 use Rattle.ha_top.specs.Written.{AreTheSame, handed, seen}
-use Rattle.ha_top.specs.Answered.{IsBooted, IsStore, IsStoreFault, IsTaken, IsTraceOf, RunOpenCause, StoreCause, WriteFailed, WriteTookNone, scene}
+use Rattle.ha_top.specs.Answered.{IsBooted, IsStore, IsStoreFault, IsTaken, IsTraceOf}
+use Rattle.ha_top.specs.Answered.{RunOpenCause, StoreCause, WriteFailed, WriteTookNone, scene}
 
 -- nothing was written, and the keeper holds what it held
 pub record Untouched (b : Before) (a : After) : Type 0 where
@@ -20,7 +21,14 @@ pub record Untouched (b : Before) (a : After) : Type 0 where
 
 -- what was written before the status line
 abbrev pub unlined : Before → After → Writings
-unlined b a = record { Ended = IsEndWritten (seen a a.err.took); Whole = IsWritten (seen a a.err.took); Part = IsPartWritten (handed b) (seen a a.err.took); Nothing = Untouched b a }
+unlined b a =
+    record {
+      Ended = IsEndWritten (seen a a.err.took);
+      Whole = IsWritten
+          (seen a a.err.took);
+      Part = IsPartWritten (handed b) (seen a a.err.took);
+      Nothing = Untouched b a;
+    }
 
 pub record Lived (words : RunWords) (b : Before) (a : After) : Type 0 where
   pub stands : StandsAt (IsBooted words b) (scene words b a) (unlined b a) a.status

@@ -57,7 +57,8 @@ pub record Replayed (name : Text) (b : Before) (a : After) : Type 0 where
   pub at_end : IsSome b.place.files → a.status ≡ Status.Ok → map (λ s. s.left) a.sources ≡ Some [] ∷ []
   pub unopened : OpenCause (name ∷ []) b.place.faults a.place.faults a.place.last a.status
   pub unread : ReadCause name (name ∷ []) (map (λ s. s.faults) a.sources) (map (λ s. s.name) a.sources) a.status
-  pub unwritten : WriteCause (OneRose b.out.faults a.out.faults b.err.faults a.err.faults) (OneRose b.out.zeros a.out.zeros b.err.zeros a.err.zeros) a.status
+  pub unwritten : WriteCause (OneRose b.out.faults a.out.faults b.err.faults a.err.faults)
+      (OneRose b.out.zeros a.out.zeros b.err.zeros a.err.zeros) a.status
 
 -- `rehearse` of so many lines: nothing was asked of the place
 pub record Rehearsed (lines : ℕ) (b : Before) (a : After) : Type 0 where

@@ -10,7 +10,8 @@ use Rattle.ha_status.specs.declared.status.Status.{Status}
 use Rattle.bus_turn.specs.States.{KeeperState, SinkState}
 use Rattle.ha_worker.specs.Courses.{SourceState}
 
--- The bytes of a place's files, how often it has failed, the name of its last failure, and all that it was asked for. But for the count, as far as it tells.
+-- The bytes of a place's files, how often it has failed, the name of its last failure, and all that it was asked for. But for the count, as
+-- far as it tells.
 pub record PlaceState : Type 0 where
   pub files : Option Files
   pub faults : ℕ
@@ -42,7 +43,8 @@ place_state files faults last asked = record { files = files; faults = faults; l
 abbrev pub before_run : PlaceState → SinkState → SinkState → KeeperState → Before
 before_run place out err keep = record { place = place; out = out; err = err; keep = keep }
 
-abbrev pub after_run : Status → List Entry → Records → List SourceState → PlaceState → SinkState → SinkState → Option SinkState → KeeperState → After
+abbrev pub after_run : Status → List Entry → Records → List SourceState
+    → PlaceState → SinkState → SinkState → Option SinkState → KeeperState → After
 after_run status journal records sources place out err trace keep = record {
   status = status;
   journal = journal;

@@ -22,7 +22,8 @@ handed b = outside b.out b.err None b.keep
 abbrev pub LineBehind : Before → After → Option Text → Type 0
 LineBehind b a errors = TookLine (OneRose b.err.faults a.err.faults b.err.zeros a.err.zeros) a.status errors a.err.took
 
--- the sinks took exactly the calls, the errors and the trace of the journal, with its end line, and the keeper holds the text of its switches
+-- the sinks took exactly the calls, the errors and the trace of the journal, with its end line, and the keeper holds the text of its
+-- switches
 pub record EndWritten (b : Before) (a : After) : Type 0 where
   pub errors : Option Text
   pub texts : IsEndWritten (seen a errors)
@@ -34,8 +35,8 @@ pub record AllWritten (b : Before) (a : After) : Type 0 where
   pub texts : IsWritten (seen a errors)
   pub line : LineBehind b a errors
 
--- They took that, but for a part of the end line, or for that line and a part of what the last entry gives, at most. At the boot alone the keeper
--- may hold what it held before.
+-- They took that, but for a part of the end line, or for that line and a part of what the last entry gives, at most. At the boot alone the
+-- keeper may hold what it held before.
 pub record SomeWritten (b : Before) (a : After) : Type 0 where
   pub errors : Option Text
   pub texts : IsPartWritten (handed b) (seen a errors)

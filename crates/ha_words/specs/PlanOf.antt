@@ -1,5 +1,6 @@
 -- What the words of the program ask for, or that they ask for nothing that it does.
-use Rattle.std.specs.Prelude.{ℕ, ◌≤◌, List, [], ◌∷◌, Option, Some, None, IsSome, IsUtf8, is_some, option_map, option_and_then, unwrap_or, codes, if◌then◌else◌}
+use Rattle.std.specs.Prelude.{ℕ, ◌≤◌, List, [], ◌∷◌, Option, Some, None, IsSome, IsUtf8, is_some}
+use Rattle.std.specs.Prelude.{option_map, option_and_then, unwrap_or, codes, if◌then◌else◌}
 use Rattle.std.specs.Str.{bytes_eq}
 use Rattle.clap.specs.Words.{Text, first_of, matches_of}
 use Rattle.ha_clock.specs.Local.{last_moment}
@@ -20,7 +21,8 @@ zone_text t = unwrap_or t.zone (codes "UTC")
 -- the start is a moment, and the zone is one
 abbrev pub run_at : RunTexts → ℕ → Option RunWords
 run_at t start =
-    if is_some (zone_of (zone_text t)) then Some (record { config = t.config; start = start; zone = zone_text t; trace = t.trace; sources = t.sources }) else None
+    if is_some (zone_of (zone_text t))
+    then Some (record { config = t.config; start = start; zone = zone_text t; trace = t.trace; sources = t.sources }) else None
 
 abbrev pub run_read : RunTexts → Option RunWords
 run_read t = option_and_then (run_at t) (moment_of t.start)

@@ -9,7 +9,8 @@ use Rattle.replay_file.specs.declared.front.FrontEnd.{FrontEnd}
 abbrev pub IsRead : ℕ → Option (List ℕ) → List ℕ → FrontEnd → Option (List ℕ) → Type 0
 IsRead bound before text FrontEnd.Whole after = Gives before text after × IsAtEnd after
 IsRead bound before text FrontEnd.Failed after = Gives before text after
-IsRead bound before text FrontEnd.TooLong after = (length text ≡ bound) × ((more : List ℕ) × (length more ≡ 1) × Gives before (text ++ more) after)
+IsRead bound before text FrontEnd.TooLong after =
+    (length text ≡ bound) × ((more : List ℕ) × (length more ≡ 1) × Gives before (text ++ more) after)
 
 -- One read put a piece behind what was read, up to so many bytes in all; or reading ended, at the end or by a fault, and there is no more.
 abbrev pub ReadsOn : ℕ → Option (List ℕ) → List ℕ → Option FrontEnd → Option (List ℕ) → List ℕ → Type 0

@@ -30,7 +30,8 @@ GoesNoFurther j rs ended left = (line behind : Text) → Cuts left line behind �
 abbrev pub HasNoEnd : Journal → Records → Text → Type 0
 HasNoEnd j rs left = (line behind : Text) → Cuts left line behind → IsEnd j rs line → ⊥
 
--- The line behind those that were taken is refused: it may not stand next, or there is none where one is due, and the journal has room for one.
+-- The line behind those that were taken is refused: it may not stand next, or there is none where one is due, and the journal has room for
+-- one.
 pub record IsRefused (end : FrontEnd) (j : Journal) (rs : Records) (ended : Bool) (left : Text) (line : ℕ) : Type 0 where
   pub line_is : line ≡ suc (line_count j ended)
   pub judged : IsJudged end left
@@ -86,7 +87,8 @@ pub record Judged (text : Text) (end : FrontEnd) (status : Status) (Calls Errors
 -- ---- between two lines
 
 -- the text begins so, and the calls and errors of that run are written
-pub record IsAt (text : Text) (j : Journal) (rs : Records) (ended : Bool) (left : Text) (calls calls' errors errors' : Option Text) : Type 0 where
+pub record IsAt (text : Text) (j : Journal) (rs : Records) (ended : Bool)
+    (left : Text) (calls calls' errors errors' : Option Text) : Type 0 where
   pub begins : Begins text j rs ended left
   pub calls_taken : Takes calls (call_text j rs) calls'
   pub errors_taken : Takes errors (error_text j) errors'

@@ -18,7 +18,8 @@ pub record IsReady (r : Reached) (is_spent ended : Bool) (lines : ℕ) : Type 0 
 -- a call's text and an error's are written, in this order; after a fault nothing further is
 abbrev pub WritesBoth : Text → Text → SinkState → SinkState → Option BusFault → SinkState → SinkState → Type 0
 WritesBoth calls errors o e None o' e' = Took calls o o' × Took errors e e'
-WritesBoth calls errors o e (Some fault) o' e' = TookFront calls o o' × TookFront errors e e' × (SinkCause fault o o' ⊎ SinkCause fault e e')
+WritesBoth calls errors o e (Some fault) o' e' =
+    TookFront calls o o' × TookFront errors e e' × (SinkCause fault o o' ⊎ SinkCause fault e e')
 
 -- a failed write is one of this kind
 abbrev pub IfWrite : Status → BusFault → Type 0

@@ -48,7 +48,8 @@ AreTurned j x turned = (a : ℕ) → stops (automations j) a x ≡ list_any (λ 
 
 -- an attempt of the last entry, with its order there
 abbrev pub tried : Journal → Records → ℕ × Attempt → Records
-tried k rs x = attempted x.1.automation (mode_of (automations k) x.1.automation) (max_of (automations k) x.1.automation) (last_place k) x.0 x.1.env rs
+tried k rs x =
+    attempted x.1.automation (mode_of (automations k) x.1.automation) (max_of (automations k) x.1.automation) (last_place k) x.0 x.1.env rs
 
 abbrev pub all_tried : Journal → Records → List (ℕ × Attempt) → Records
 all_tried k rs xs = fold (tried k) rs xs

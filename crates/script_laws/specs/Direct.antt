@@ -1,6 +1,7 @@
--- What a script means, said directly. `Scripts.exec` says it by what follows each part, as the frames of a run need it; here each part tells
--- the items that it gives, how it then stands, and the scopes and the places that it leaves. A law says that the two agree.
-use Rattle.std.specs.Prelude.{ℕ, zero, suc, ◌+◌, Bool, true, false, ◌||◌, nat_le, nat_lt, List, [], ◌∷◌, ◌++◌, length, map, Option, Some, None, Ok, Err, ok_or, codes, option_map, option_and_then, if◌then◌else◌, bytes_eq}
+-- What a script means, said directly. `Scripts.exec` says it by what follows each part, as the frames of a run need it; here each part
+-- tells the items that it gives, how it then stands, and the scopes and the places that it leaves. A law says that the two agree.
+use Rattle.std.specs.Prelude.{ℕ, zero, suc, ◌+◌, Bool, true, false, ◌||◌, nat_le, nat_lt, List, [], ◌∷◌, ◌++◌, length, map, Option}
+use Rattle.std.specs.Prelude.{Some, None, Ok, Err, ok_or, codes, option_map, option_and_then, if◌then◌else◌, bytes_eq}
 use Rattle.std.specs.List.{list_any, list_all}
 use Rattle.std.specs.Option.{option_map_or}
 use Rattle.ha_model.specs.declared.template.Template.{Template}
@@ -17,10 +18,11 @@ use Rattle.ha_model.specs.Words.{Pairs}
 use Rattle.ha_model.specs.States.{Sight}
 use Rattle.ha_model.specs.Conditions.{hold_all, holds}
 use Rattle.ha_model.specs.Calls.{Checked, template_fault, call_item, span_of, spans_of, count_of, forms_of, fields_of}
-use Rattle.ha_model.specs.Scripts.{Branch, Scopes, Ask, Spot, Status, Outcome, Loop, flat, outer, add_inside, set_all, wait_value, count_loop, each_loop, while_loop, until_loop, most_turns, front, past_front, side, on_side, woven}
+use Rattle.ha_model.specs.Scripts.{Branch, Scopes, Ask, Spot, Status, Outcome, Loop, flat, outer, add_inside, set_all, wait_value}
+use Rattle.ha_model.specs.Scripts.{count_loop, each_loop, while_loop, until_loop, most_turns, front, past_front, side, on_side, woven}
 
--- how a part of a script stands: what follows it in its list is next; a condition is false, so that its list is done at once; its next place
--- is not there yet; it stopped the run, or it failed
+-- how a part of a script stands: what follows it in its list is next; a condition is false, so that its list is done at once; its next
+-- place is not there yet; it stopped the run, or it failed
 pub data Standing : Type 0 where
   Done : Standing
   ListDone : Standing
@@ -54,8 +56,8 @@ abbrev pub items_then : List Item → Option Left → Option Left
 items_then items None = None
 items_then items (Some l) = Some (record l { items = items ++ l.items })
 
--- a part that is done goes on with the rest of its list, in the scopes and on the places that it leaves; behind a false condition the list is
--- done at once; else the list stands as the part
+-- a part that is done goes on with the rest of its list, in the scopes and on the places that it leaves; behind a false condition the list
+-- is done at once; else the list stands as the part
 abbrev pub by_standing : Standing → Left → (Scopes → List Spot → Option Left) → Option Left
 by_standing Standing.Done l rest = items_then l.items (rest l.scopes l.places)
 by_standing Standing.ListDone l rest = Some (record l { standing = Standing.Done })
@@ -107,7 +109,8 @@ waited_for e go_on scopes after =
     else leaves (Item.Nothing ∷ []) Standing.Stopped scopes after
 
 abbrev pub waits : Ask → Bool → ℕ → Effect
-waits ask go_on p scopes b rest = at_place b scopes rest (λ s after. option_map_or (λ e. waited_for e go_on scopes after) (s.wait_end ask p) None)
+waits ask go_on p scopes b rest =
+    at_place b scopes rest (λ s after. option_map_or (λ e. waited_for e go_on scopes after) (s.wait_end ask p) None)
 
 -- a wait with this template or these triggers, at its place p
 abbrev pub begins_wait : Option Template → List Trigger → Option SpanForm → Bool → Spot → Effect
@@ -130,8 +133,8 @@ chosen_list (x ∷ xs) other sight env = if hold_all sight x.0 env then x.1 else
 -- ---- repeats
 
 module _ (body : Effect) (loop : Loop) (b : Branch) where
-  -- place p enters turn i, if so many turns more may be entered, or ends the repeat; a turn is the list with the variables of the turn as one
-  -- block more, in the scopes that the turn before left, and behind it stands one place more
+  -- place p enters turn i, if so many turns more may be entered, or ends the repeat; a turn is the list with the variables of the turn as
+  -- one block more, in the scopes that the turn before left, and behind it stands one place more
   unfoldable pub turns_from : ℕ → ℕ → Scopes → Spot → List Spot → Option Left
   turns_from zero i scopes p rest = if loop.enters i scopes p.sight then does (Item.Failed 6) scopes rest else does Item.Nothing scopes rest
   turns_from (suc more) i scopes p rest =
@@ -204,7 +207,8 @@ beside lists scopes b rest =
 
 -- an action at its place p, with what it sees there, on the places behind it; lists of actions stand as what each action in them does
 abbrev pub kind_effect : ActionKind-F (Spot → Effect) Effect → Spot → Effect
-kind_effect (ActionKind-F.Call service target fields) p scopes b rest = does (call_item p.sight (flat scopes) service target fields) scopes rest
+kind_effect (ActionKind-F.Call service target fields) p scopes b rest =
+    does (call_item p.sight (flat scopes) service target fields) scopes rest
 kind_effect (ActionKind-F.Delay form) p scopes b rest =
     on_field (span_of p.sight (flat scopes) form) scopes rest (λ d. nothing_then (delays (p.sight.now + d) scopes b rest))
 kind_effect (ActionKind-F.WaitUntil test timeout go_on) p scopes b rest = begins_wait (Some test) [] timeout go_on p scopes b rest
@@ -219,7 +223,8 @@ kind_effect (ActionKind-F.Block body) p scopes b rest = nothing_then (in_block [
 kind_effect (ActionKind-F.Set pairs) p scopes b rest =
     on_field (ok_or (set_all pairs p.sight scopes) template_fault) scopes rest (λ new. does Item.Nothing new rest)
 kind_effect (ActionKind-F.Fire event fields) p scopes b rest =
-    on_field (ok_or (fields_of p.sight (flat scopes) fields) template_fault) scopes rest (λ pairs. does (Item.Fired event pairs) scopes rest)
+    on_field (ok_or (fields_of p.sight (flat scopes) fields) template_fault) scopes rest
+    (λ pairs. does (Item.Fired event pairs) scopes rest)
 kind_effect ActionKind-F.Stop p scopes b rest = leaves (Item.Nothing ∷ []) Standing.Stopped scopes rest
 kind_effect (ActionKind-F.Test c) p scopes b rest =
     leaves (Item.Nothing ∷ []) (if holds p.sight c (flat scopes) then Standing.Done else Standing.ListDone) scopes rest

@@ -1,5 +1,6 @@
 -- The branches of a run that are at a place of their own, in order, and when each may take it.
-use Rattle.std.specs.Prelude.{ℕ, suc, Bool, true, false, nat_le, bytes_eq, List, [], ◌∷◌, ◌++◌, map, filter, find, slice_get, Option, Some, None, is_some, option_map, if◌then◌else◌}
+use Rattle.std.specs.Prelude.{ℕ, suc, Bool, true, false, nat_le, bytes_eq, List, [], ◌∷◌, ◌++◌, map, filter}
+use Rattle.std.specs.Prelude.{find, slice_get, Option, Some, None, is_some, option_map, if◌then◌else◌}
 use Rattle.std.specs.Option.{option_map_or}
 use Rattle.ha_model.specs.declared.config.Action.{Action}
 use Rattle.ha_model.specs.declared.journal.WaitEnd.{WaitEnd}

@@ -83,7 +83,9 @@ stage_standing Stage-F.Ready list t = record { settled = has_next list t; over =
 stage_standing (Stage-F.Delay due) list t = record { settled = true; over = false }
 stage_standing (Stage-F.Wait timeout) list t = record { settled = true; over = false }
 stage_standing (Stage-F.Sides ms) list t = record {
-  settled = nat_eq (length ms) (length (lists_of (last_action list t))) && (all_settled 0 ms (lists_of (last_action list t)) && not (each_over ms));
+  settled =
+      nat_eq (length ms) (length (lists_of (last_action list t)))
+      && (all_settled 0 ms (lists_of (last_action list t)) && not (each_over ms));
   over = false;
 }
 stage_standing (Stage-F.Ended e) list t = record { settled = true; over = true }
@@ -94,11 +96,12 @@ standing = fold-Strand (List Action → Thread → Standing) Standings stage_sta
 abbrev pub is_settled : List Action → Strand → Bool
 is_settled list x = (standing x list).settled
 
--- ---- what holds of a stage that a step gives, before blocks of which nothing is left are left: a parallel block has as many lists as its action,
--- and each is settled
+-- ---- what holds of a stage that a step gives, before blocks of which nothing is left are left
 
+-- a parallel block has as many lists as its action, and each is settled
 abbrev pub whole_in : Stage-F Stage Strand → List Action → Thread → Bool
-whole_in (Stage-F.Sides xs) list t = nat_eq (length xs) (length (lists_of (last_action list t))) && all_settled 0 (map standing xs) (lists_of (last_action list t))
+whole_in (Stage-F.Sides xs) list t =
+    nat_eq (length xs) (length (lists_of (last_action list t))) && all_settled 0 (map standing xs) (lists_of (last_action list t))
 whole_in Stage-F.Ready list t = true
 whole_in (Stage-F.Delay due) list t = true
 whole_in (Stage-F.Wait timeout) list t = true
@@ -141,4 +144,5 @@ is_fresh k = fresh_in (out-Stage k)
 
 -- a thread in a stage is settled
 abbrev pub stage_settled : Stage → List Action → Thread → Bool
-stage_settled k list t = (fold-Stage (List Action → Thread → Standing) Standings stage_standing (λ x l. x.stage l x.thread) k list t).settled
+stage_settled k list t =
+    (fold-Stage (List Action → Thread → Standing) Standings stage_standing (λ x l. x.stage l x.thread) k list t).settled

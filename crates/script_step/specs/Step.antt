@@ -7,7 +7,8 @@ use Rattle.ha_model.specs.declared.config.ActionKind.TheFolds.{fold-ActionKind, 
 use Rattle.ha_model.specs.declared.journal.Item.{Item}
 use Rattle.ha_model.specs.declared.journal.WaitEnd.{WaitEnd}
 use Rattle.ha_model.specs.States.{Sight}
-use Rattle.ha_model.specs.Scripts.{Branch, Spot, Outcome, Ask, add_inside, side_by_side, wait_value, Meaning as ActionMeaning, Status, ends, exec, gives, goes_into, looped, kind_step, action_step, run_action}
+use Rattle.ha_model.specs.Scripts.{Branch, Spot, Outcome, Ask, add_inside, side_by_side, wait_value, Meaning as ActionMeaning}
+use Rattle.ha_model.specs.Scripts.{Status, ends, exec, gives, goes_into, looped, kind_step, action_step, run_action}
 use Rattle.script_step.specs.declared.fault.FieldFault.{FieldFault}
 use Rattle.script_step.specs.declared.thread.Rounds.{Rounds}
 use Rattle.script_step.specs.declared.thread.Frame.{Frame}
@@ -17,7 +18,8 @@ use Rattle.script_step.specs.declared.strand.Stage.{Stage}
 use Rattle.script_step.specs.declared.strand.Strand.{Strand}
 use Rattle.script_step.specs.declared.strand.Stage.TheFolds.{fold-Stage}
 use Rattle.script_step.specs.Parts.{kind_of, part_in, tests_in, before, loop_by}
-use Rattle.script_step.specs.Continuation.{Began, Meaning, StageMeaning, stage_step, strand_step, continuation, last_action, own_list, thread_next, asks, ask_side, may_go_on, sides_from, placed}
+use Rattle.script_step.specs.Continuation.{Began, Meaning, StageMeaning, stage_step, strand_step, continuation, last_action}
+use Rattle.script_step.specs.Continuation.{own_list, thread_next, asks, ask_side, may_go_on, sides_from, placed}
 
 -- what a stage means: the stage's part of the fold that `continuation` is
 abbrev pub stage_meaning : Stage → StageMeaning
@@ -37,7 +39,9 @@ IsTaken sight list before item new stage =
 
 -- on every list of places the two go on alike
 abbrev pub GoAlike : List Action → Thread → Thread → Type 0
-GoAlike list old new = (b : Branch) (ps : List Spot) → thread_next b list old.outer old.here old.scopes ps ≡ thread_next b list new.outer new.here new.scopes ps
+GoAlike list old new =
+    (b : Branch) (ps : List Spot)
+    → thread_next b list old.outer old.here old.scopes ps ≡ thread_next b list new.outer new.here new.scopes ps
 
 -- nothing is left
 abbrev pub GoesToEnd : List Action → Thread → Type 0
@@ -64,12 +68,14 @@ spot_at sight b p w = record { place = p; branch = b; sight = sight; wait_end = 
 abbrev pub IsDone : Sight → List Action → ActionKind-F ActionKind Action → Thread → Item → Thread → Stage → Type 0
 IsDone sight list k old item new stage =
     (b : Branch) (began : Began) (p : ℕ) (w : Ask → ℕ → Option WaitEnd) (rest : List Spot)
-    → kind_at k (spot_at sight b p w) (thread_next b list old.outer old.here) (thread_next b list old.outer (at_last list old)) old.scopes b rest
+    → kind_at k (spot_at sight b p w) (thread_next b list old.outer old.here)
+    (thread_next b list old.outer (at_last list old)) old.scopes b rest
     ≡ gives item (thread_on list new stage b (placed [] p began) rest)
 
 abbrev pub Does : Sight → ActionKind-F ActionKind Action → Thread → Item → Thread → Stage → Type 0
 Does sight k old item new stage =
-    (list : List Action) (a : Action) → before (own_list list old) old.here.at ≡ Some a → kind_of a ≡ k → IsDone sight list k old item new stage
+    (list : List Action) (a : Action) → before (own_list list old) old.here.at ≡ Some a
+    → kind_of a ≡ k → IsDone sight list k old item new stage
 
 -- the item and the stage of a run whose action's field failed
 abbrev pub IsFailure : FieldFault → Item → Stage → Type 0
@@ -84,13 +90,15 @@ IsFailure FieldFault.Memory item stage = ⊥
 abbrev pub IsInto : ℕ → Thread → Item → Thread → Stage → Type 0
 IsInto k old item new stage =
     (list : List Action) (a : Action) → before (own_list list old) old.here.at ≡ Some a → (b : Branch) (began : Began) (rest : List Spot)
-    → goes_into (exec (part_in (kind_of a) k)) (thread_next b list old.outer old.here) old.scopes b rest ≡ gives item (thread_on list new stage b began rest)
+    → goes_into (exec (part_in (kind_of a) k)) (thread_next b list old.outer old.here) old.scopes b rest
+    ≡ gives item (thread_on list new stage b began rest)
 
 -- the first turn of a loop
 abbrev pub IsFirst : Rounds → ℕ → Thread → Item → Thread → Stage → Type 0
 IsFirst rounds most old item new stage =
     (list : List Action) (a : Action) → before (own_list list old) old.here.at ≡ Some a → (b : Branch) (began : Began) (rest : List Spot)
-    → looped (exec (part_in (kind_of a) 0)) (loop_by rounds most (tests_in (kind_of a))) b (thread_next b list old.outer old.here) true (most - 1) old.scopes rest
+    → looped (exec (part_in (kind_of a) 0)) (loop_by rounds most (tests_in (kind_of a))) b
+    (thread_next b list old.outer old.here) true (most - 1) old.scopes rest
     ≡ gives item (thread_on list new stage b began rest)
 
 -- ---- one step
@@ -99,17 +107,20 @@ IsFirst rounds most old item new stage =
 abbrev pub Tells : Strand → List Action → Branch → ℕ → (Ask → ℕ → Option WaitEnd) → Option WaitEnd → Type 0
 Tells x list path p w end = (ask : Ask) → asks x list path ≡ Some ask → w ask p ≡ end
 
--- on every list of places: a place of the branch, which sees this and tells this end, gives the item, and then what the new strand goes on with
+-- on every list of places: a place of the branch, which sees this and tells this end, gives the item, and then what the new strand goes on
+-- with
 abbrev pub IsStep : Sight → List Action → Branch → Option WaitEnd → Strand → Item → Strand → Type 0
 IsStep sight list path end old item new =
-    (b : Branch) (began : Began) (s : Spot) (rest : List Spot) → s.sight ≡ sight → s.branch ≡ b ++ path → Tells old list path (began path) s.wait_end end
+    (b : Branch) (began : Began) (s : Spot) (rest : List Spot) → s.sight ≡ sight
+    → s.branch ≡ b ++ path → Tells old list path (began path) s.wait_end end
     → continuation old list b began (s ∷ rest) ≡ gives item (continuation new list b (placed path s.place began) rest)
 
 -- the second place of a wait, whose thread's last action asked for it, and which ended so
 abbrev pub IsWaited : List Action → WaitEnd → Thread → Thread → Stage → Type 0
 IsWaited list e old new stage =
     (b : Branch) (began : Began) (rest : List Spot)
-    → (if e.done || may_go_on (last_action list old) then thread_next b list old.outer old.here (add_inside (codes "wait", wait_value e) old.scopes) rest else ends Status.Stopped rest)
+    → (if e.done || may_go_on (last_action list old)
+    then thread_next b list old.outer old.here (add_inside (codes "wait", wait_value e) old.scopes) rest else ends Status.Stopped rest)
     ≡ thread_on list new stage b began rest
 
 -- one step in one list of a parallel block

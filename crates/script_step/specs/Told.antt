@@ -28,9 +28,11 @@ pub record IsAsk (now : ℕ) (ask : Ask) (w : WaitAsk) : Type 0 where
 -- a front whose gate is shut is an old one of another branch, or that of the branch that stepped, and the step told of it
 abbrev pub IsTold : ℕ → ℕ → ℕ → Branch → Fronts → Fronts → StepOut → Branch × Gate → Type 0
 IsTold serial place now b old new out (c, Gate.Free) = Unit {0}
-IsTold serial place now b old new out (c, Gate.From due) = (Stays b old (c, Gate.From due)) ⊎ ((c ≡ b) × (gate_at b new ≡ Some (Gate.From due)))
+IsTold serial place now b old new out (c, Gate.From due) =
+    (Stays b old (c, Gate.From due)) ⊎ ((c ≡ b) × (gate_at b new ≡ Some (Gate.From due)))
 IsTold serial place now b old new out (c, Gate.Behind ask p) =
-    (Stays b old (c, Gate.Behind ask p)) ⊎ ((c ≡ b) × (p ≡ place) × (w : WaitAsk) × (out.wait ≡ Some w) × (w.serial ≡ serial) × (w.branch ≡ b) × IsAsk now ask w)
+    (Stays b old (c, Gate.Behind ask p))
+    ⊎ ((c ≡ b) × (p ≡ place) × (w : WaitAsk) × (out.wait ≡ Some w) × (w.serial ≡ serial) × (w.branch ≡ b) × IsAsk now ask w)
 
 abbrev pub EachTold : ℕ → ℕ → ℕ → Branch → Fronts → Fronts → StepOut → Fronts → Type 0
 EachTold serial place now b old new out [] = Unit {0}

@@ -1,5 +1,6 @@
 -- The text of the store, version 1: `{"switches":{name:flag, ..},"version":1}`, as a text is read.
-use Rattle.std.specs.Prelude.{◌≡◌, ℕ, ◌==◌, Bool, true, false, List, [], ◌∷◌, Option, Some, None, Result, Ok, Err, is_some, option_map, option_and_then, codes, if◌then◌else◌}
+use Rattle.std.specs.Prelude.{◌≡◌, ℕ, ◌==◌, Bool, true, false, List, [], ◌∷◌, Option, Some, None, Result, Ok}
+use Rattle.std.specs.Prelude.{Err, is_some, option_map, option_and_then, codes, if◌then◌else◌}
 use Rattle.std.specs.List.{list_all}
 use Rattle.std.specs.Str.{is_utf8}
 use Rattle.serde_json.specs.Data.{Data, boolean, number, object, Members, no_members, member, Num, unsigned, negative, float, put}
@@ -50,7 +51,8 @@ abbrev pub of_data : Option Data → Result Switches ℕ
 of_data None = Err 1
 of_data (Some d) = of_object (as_object d)
 
--- the switches of a store text, or the code of its refusal: 1 where it is no JSON; else 2 where it is no object with a whole version; else 3 where that is not 1; else 2 where it is not of this form
+-- the switches of a store text, or the code of its refusal: 1 where it is no JSON; else 2 where it is no object with a whole version; else
+-- 3 where that is not 1; else 2 where it is not of this form
 unfoldable pub switches_in : Text → Result Switches ℕ
 switches_in text = if is_utf8 text then of_data (read text) else Err 1
 

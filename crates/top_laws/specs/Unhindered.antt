@@ -34,8 +34,8 @@ pub record IsUnhinderedCheck (name : Text) (b : Before) (a : After) : Type 0 whe
   pub out_well : IsWell b.out a.out
   pub read : Each IsRead a.sources
 
--- Likewise, and the keeper holds nothing or a store's text; neither it nor the errors nor the trace failed; each source keeps within its bound;
--- and there was room in the journal.
+-- Likewise, and the keeper holds nothing or a store's text; neither it nor the errors nor the trace failed; each source keeps within its
+-- bound; and there was room in the journal.
 pub record IsUnhinderedRun (words : RunWords) (b : Before) (a : After) : Type 0 where
   pub like_check : IsUnhinderedCheck words.config b a
   pub stored : IsSomeAnd b.keep.kept IsStore

@@ -15,4 +15,5 @@ paired sight op left right = pair_step sight op (λ env. left) (λ env. right) [
 abbrev pub Tells : Sight → Op → Option Value → Begun → Type 0
 Tells sight op left (Begun.Decided answer) = (right : Option Value) → Yields answer (paired sight op left right)
 Tells sight op left Begun.Passed = (right : Option Value) → paired sight op left right ≡ right
-Tells sight op left (Begun.Taken held) = (right : Option Value) → paired sight op left right ≡ option_and_then (operate op (held_value held)) right
+Tells sight op left (Begun.Taken held) =
+    (right : Option Value) → paired sight op left right ≡ option_and_then (operate op (held_value held)) right

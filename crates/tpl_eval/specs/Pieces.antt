@@ -1,5 +1,6 @@
 -- What pieces write, one after the other.
-use Rattle.std.specs.Prelude.{◌≡◌, ℕ, ◌<◌, ◌≤◌, List, [], ◌∷◌, ◌++◌, length, map, slice_get, Option, Some, None, option_map, unwrap_or, Result, Ok, Err}
+use Rattle.std.specs.Prelude.{◌≡◌, ℕ, ◌<◌, ◌≤◌, List, [], ◌∷◌, ◌++◌, length, map, slice_get}
+use Rattle.std.specs.Prelude.{Option, Some, None, option_map, unwrap_or, Result, Ok, Err}
 use Rattle.ha_value.specs.declared.value.Value.{Value}
 use Rattle.ha_model.specs.declared.faults.TplFault.{TplFault}
 use Rattle.ha_model.specs.declared.template.Expr.{Expr}
@@ -32,7 +33,8 @@ Extends old new given (Err TplFault.Memory) = Unit {0}
 
 -- the page grows by the text that is given, and has set what is left beyond the variables of the run
 abbrev pub Writes : {Y : Type 0} → Pairs → Page → Page → Option (Text × Pairs) → Result Y TplFault → Type 0
-Writes env old new given (Ok x) = (behind old.text given ≡ Some (new.text, env ++ new.set)) × (length old.text ≤ 65_536 → length new.text ≤ 65_536)
+Writes env old new given (Ok x) =
+    (behind old.text given ≡ Some (new.text, env ++ new.set)) × (length old.text ≤ 65_536 → length new.text ≤ 65_536)
 Writes env old new given (Err TplFault.Fault) = TooLong (option_map (λ r. r.0) (behind old.text given))
 Writes env old new given (Err TplFault.Memory) = Unit {0}
 
@@ -49,6 +51,8 @@ arms_of sight = map (λ a. (a.0, pieces_of sight a.1))
 -- the choice is the arm at this place, or the fallback where there is none
 abbrev pub Chooses : (sight : Sight) → List (Expr × Template) → Pairs → Result ℕ TplFault → Type 0
 Chooses sight arms env (Ok place) =
-    (fallback : TemplateMeaning sight) → choose_arm sight (arms_of sight arms) fallback env ≡ unwrap_or (option_map (λ a. pieces_of sight a.1) (slice_get arms place)) fallback env
+    (fallback : TemplateMeaning sight)
+    → choose_arm sight (arms_of sight arms) fallback env
+    ≡ unwrap_or (option_map (λ a. pieces_of sight a.1) (slice_get arms place)) fallback env
 Chooses sight arms env (Err TplFault.Fault) = (fallback : TemplateMeaning sight) → choose_arm sight (arms_of sight arms) fallback env ≡ None
 Chooses sight arms env (Err TplFault.Memory) = Unit {0}

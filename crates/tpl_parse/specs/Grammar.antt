@@ -1,6 +1,7 @@
 -- The grammar of templates. In each rule a text is a spelling of a tree, and then the rest of the text follows. A token stands next
 -- where it is the longest one behind blanks and breaks. A repetition may end anywhere: what stands behind it decides.
-use Rattle.std.specs.Prelude.{◌≡◌, ℕ, suc, Bool, true, false, ◌&&◌, ◌||◌, ◌==◌, nat_le, List, [], ◌∷◌, ◌++◌, length, drop, Option, Some, None, Result, Ok, Err, encode_utf8}
+use Rattle.std.specs.Prelude.{◌≡◌, ℕ, suc, Bool, true, false, ◌&&◌, ◌||◌, ◌==◌, nat_le, List, [], ◌∷◌, ◌++◌}
+use Rattle.std.specs.Prelude.{length, drop, Option, Some, None, Result, Ok, Err, encode_utf8}
 use Rattle.std.specs.Char.{IsScalar, is_ascii_digit}
 use Rattle.ha_value.specs.declared.value.Num.{Num}
 use Rattle.ha_value.specs.declared.value.Value.{Value}
@@ -39,9 +40,11 @@ pub data IsCharacter : List ℕ → List ℕ → List ℕ → Type 0 where
 -- What stands in a string up to its quote, which is taken too. A backslash that begins no escape is a character like others.
 pub data IsString (quote : ℕ) : List ℕ → List ℕ → List ℕ → Type 0 where
   close : {rest : List ℕ} → IsString quote (quote ∷ rest) [] rest
-  escape : {b meant : ℕ} {text s rest : List ℕ} → unescaped b ≡ Some meant → IsString quote text s rest → IsString quote (92 ∷ b ∷ text) (meant ∷ s) rest
+  escape : {b meant : ℕ} {text s rest : List ℕ} → unescaped b ≡ Some meant
+      → IsString quote text s rest → IsString quote (92 ∷ b ∷ text) (meant ∷ s) rest
   itself : {text c after s rest : List ℕ}
-      → sees quote text ≡ false → escape_at text ≡ None → IsCharacter text c after → IsString quote after s rest → IsString quote text (c ++ s) rest
+      → sees quote text ≡ false → escape_at text ≡ None → IsCharacter text c after
+      → IsString quote after s rest → IsString quote text (c ++ s) rest
 
 abbrev pub is_quote : ℕ → Bool
 is_quote b = b == 34 || b == 39
@@ -60,7 +63,8 @@ IsDigits = IsRun is_ascii_digit
 
 -- digits, and perhaps a dot with digits behind it; a dot with no digit behind it is not the number's
 pub data IsNumeral : List ℕ → List ℕ → List ℕ → Type 0 where
-  whole : {b : ℕ} {text digits rest : List ℕ} → is_ascii_digit b ≡ true → IsDigits (b ∷ text) digits rest → begins_places rest ≡ false → IsNumeral (b ∷ text) digits rest
+  whole : {b : ℕ} {text digits rest : List ℕ} → is_ascii_digit b ≡ true
+      → IsDigits (b ∷ text) digits rest → begins_places rest ≡ false → IsNumeral (b ∷ text) digits rest
   places : {b c : ℕ} {text digits behind places rest : List ℕ}
       → is_ascii_digit b ≡ true → IsDigits (b ∷ text) digits (46 ∷ c ∷ behind) → is_ascii_digit c ≡ true → IsDigits (c ∷ behind) places rest
       → IsNumeral (b ∷ text) (digits ++ 46 ∷ places) rest
@@ -70,7 +74,8 @@ pub data IsNumber : List ℕ → Num → List ℕ → Type 0 where
 
 -- a word that begins with a letter or `_` and is none of the grammar
 pub data IsName : List ℕ → List ℕ → List ℕ → Type 0 where
-  name : {b : ℕ} {text word rest : List ℕ} → begins_name b ≡ true → IsWord (b ∷ text) word rest → is_reserved word ≡ false → IsName (b ∷ text) word rest
+  name : {b : ℕ} {text word rest : List ℕ} → begins_name b ≡ true
+      → IsWord (b ∷ text) word rest → is_reserved word ≡ false → IsName (b ∷ text) word rest
 
 -- `states` without a call is no name of a variable
 abbrev pub is_variable : Option Function → Bool
@@ -109,7 +114,8 @@ pub data IsNoneToken : Token → Type 0 where
 pub data IsTest : Bool → List ℕ → List ℕ → Type 0 where
   is_none : {token : Token} {text rest : List ℕ} → IsNoneToken token → Takes token text rest → IsTest true text rest
   is_defined : {text rest : List ℕ} → Takes Token.Defined text rest → IsTest false text rest
-  is_not_none : {token : Token} {text behind rest : List ℕ} → Takes Token.Not text behind → IsNoneToken token → Takes token behind rest → IsTest false text rest
+  is_not_none : {token : Token} {text behind rest : List ℕ} → Takes Token.Not text behind
+      → IsNoneToken token → Takes token behind rest → IsTest false text rest
   is_not_defined : {text behind rest : List ℕ} → Takes Token.Not text behind → Takes Token.Defined behind rest → IsTest true text rest
 
 -- ---- what brackets hold
@@ -167,19 +173,23 @@ pub data Is : Phrase → ℕ → List ℕ → Expr → List ℕ → Type 0 where
   -- or [ "if" or [ "else" e ] ]
   chosen : {depth : ℕ} {text rest : List ℕ} {e : Expr} → Is (operands Level.Or) depth text e rest → Is an_expression depth text e rest
   chosen_if : {depth : ℕ} {text a b rest : List ℕ} {yes' test' : Expr}
-      → Is (operands Level.Or) depth text yes' a → Takes Token.If a b → Is (operands Level.Or) depth b test' rest → Is an_expression depth text (Expr.Pick test' yes' None) rest
+      → Is (operands Level.Or) depth text yes' a → Takes Token.If a b
+      → Is (operands Level.Or) depth b test' rest → Is an_expression depth text (Expr.Pick test' yes' None) rest
   chosen_else : {depth : ℕ} {text a b c d rest : List ℕ} {yes' test' other' : Expr}
-      → Is (operands Level.Or) (suc depth) text yes' a → Takes Token.If a b → Is (operands Level.Or) (suc depth) b test' c → Takes Token.Else c d
+      → Is (operands Level.Or) (suc depth) text yes' a → Takes Token.If a b
+      → Is (operands Level.Or) (suc depth) b test' c → Takes Token.Else c d
       → Is an_expression depth d other' rest → Is an_expression (suc depth) text (Expr.Pick test' yes' (Some other')) rest
   -- operand { operator operand }
   chain : {level : Level} {depth : ℕ} {text a rest : List ℕ} {left e : Expr}
       → Is (operand_of level) depth text left a → Is (more_operands level left) depth a e rest → Is (operands level) depth text e rest
   no_operand : {level : Level} {depth : ℕ} {text : List ℕ} {left : Expr} → Is (more_operands level left) depth text left text
   one_operand : {level : Level} {token : Token} {op : Op} {depth : ℕ} {text a b rest : List ℕ} {left right e : Expr}
-      → Joins level token op → Takes token text a → Is (operand_of level) depth a right b → Is (more_operands level (Expr.Pair op left right)) depth b e rest
+      → Joins level token op → Takes token text a → Is (operand_of level) depth a right b
+      → Is (more_operands level (Expr.Pair op left right)) depth b e rest
       → Is (more_operands level left) depth text e rest
   -- "not" not | comparison
-  negated : {depth : ℕ} {text a rest : List ℕ} {e : Expr} → Takes Token.Not text a → Is a_negation depth a e rest → Is a_negation (suc depth) text (Expr.Not e) rest
+  negated : {depth : ℕ} {text a rest : List ℕ} {e : Expr} → Takes Token.Not text a
+      → Is a_negation depth a e rest → Is a_negation (suc depth) text (Expr.Not e) rest
   compared : {depth : ℕ} {text rest : List ℕ} {e : Expr} → Is a_comparison depth text e rest → Is a_negation depth text e rest
   -- sum [ operator sum | "not" "in" sum | "is" test ]
   alone : {depth : ℕ} {text rest : List ℕ} {e : Expr} → Is (operands Level.Sum) depth text e rest → Is a_comparison depth text e rest
@@ -190,55 +200,70 @@ pub data Is : Phrase → ℕ → List ℕ → Expr → List ℕ → Type 0 where
       → Is (operands Level.Sum) depth text left a → Takes Token.Not a b → Takes Token.In b c → Is (operands Level.Sum) depth c right rest
       → Is a_comparison depth text (Expr.Pair Op.Outside left right) rest
   tested : {depth : ℕ} {text a b rest : List ℕ} {base : Expr} {holds : Bool}
-      → Is (operands Level.Sum) depth text base a → Takes Token.Is a b → IsTest holds b rest → Is a_comparison depth text (Expr.IsNone base holds) rest
+      → Is (operands Level.Sum) depth text base a → Takes Token.Is a b
+      → IsTest holds b rest → Is a_comparison depth text (Expr.IsNone base holds) rest
   -- sign { "|" name [ "(" arguments ")" ] }
-  filtered : {depth : ℕ} {text a rest : List ℕ} {base e : Expr} → Is with_sign depth text base a → Is (more_filters base) depth a e rest → Is with_filters depth text e rest
+  filtered : {depth : ℕ} {text a rest : List ℕ} {base e : Expr} → Is with_sign depth text base a
+      → Is (more_filters base) depth a e rest → Is with_filters depth text e rest
   no_filter : {depth : ℕ} {text : List ℕ} {base : Expr} → Is (more_filters base) depth text base text
   bare_filter : {depth : ℕ} {text a b word rest : List ℕ} {base e : Expr} {filter : Filter}
       → Takes Token.Bar text a → IsWord (spaces a) word b → filter_named word ≡ Some filter → allows (filter_row filter).counts 0 ≡ true
       → Is (more_filters (Expr.Filter (filter_row filter).number base [])) depth b e rest → Is (more_filters base) depth text e rest
   one_filter : {depth : ℕ} {text a b c d word rest : List ℕ} {base applied e : Expr} {filter : Filter}
       → Takes Token.Bar text a → IsWord (spaces a) word b → filter_named word ≡ Some filter → Takes Token.OpenGroup b c
-      → Is (in_brackets (of_filter filter base)) depth c applied d → Is (more_filters applied) depth d e rest → Is (more_filters base) depth text e rest
+      → Is (in_brackets (of_filter filter base)) depth c applied d
+      → Is (more_filters applied) depth d e rest → Is (more_filters base) depth text e rest
   -- "-" sign | parts
-  negative : {depth : ℕ} {text a rest : List ℕ} {e : Expr} → spaces text ≡ 45 ∷ a → Is with_sign depth a e rest → Is with_sign (suc depth) text (Expr.Negate e) rest
+  negative : {depth : ℕ} {text a rest : List ℕ} {e : Expr} → spaces text ≡ 45 ∷ a
+      → Is with_sign depth a e rest → Is with_sign (suc depth) text (Expr.Negate e) rest
   unsigned : {depth : ℕ} {text rest : List ℕ} {e : Expr} → Is with_parts depth text e rest → Is with_sign depth text e rest
   -- atom { "." name | "[" e "]" }
-  asked : {depth : ℕ} {text a rest : List ℕ} {base e : Expr} → Is an_atom depth text base a → Is (more_parts base) depth a e rest → Is with_parts depth text e rest
+  asked : {depth : ℕ} {text a rest : List ℕ} {base e : Expr} → Is an_atom depth text base a
+      → Is (more_parts base) depth a e rest → Is with_parts depth text e rest
   no_part : {depth : ℕ} {text : List ℕ} {base : Expr} → Is (more_parts base) depth text base text
   one_key : {depth : ℕ} {text a b word rest : List ℕ} {base e : Expr}
-      → Takes Token.Dot text a → IsName (spaces a) word b → Is (more_parts (Expr.Field base word)) depth b e rest → Is (more_parts base) depth text e rest
+      → Takes Token.Dot text a → IsName (spaces a) word b
+      → Is (more_parts (Expr.Field base word)) depth b e rest → Is (more_parts base) depth text e rest
   one_place : {depth : ℕ} {text a b c rest : List ℕ} {base index e : Expr}
-      → Takes Token.OpenList text a → Is an_expression depth a index b → Takes Token.CloseList b c → Is (more_parts (Expr.At base index)) (suc depth) c e rest
+      → Takes Token.OpenList text a → Is an_expression depth a index b
+      → Takes Token.CloseList b c → Is (more_parts (Expr.At base index)) (suc depth) c e rest
       → Is (more_parts base) (suc depth) text e rest
   -- number | string | constant | name | name "(" arguments ")" | "[" items "]" | "(" e ")"
-  of_number : {depth : ℕ} {text rest : List ℕ} {n : Num} → IsNumber (spaces text) n rest → Is an_atom depth text (Expr.Plain (Value.Number n)) rest
+  of_number : {depth : ℕ} {text rest : List ℕ} {n : Num} → IsNumber (spaces text) n rest
+      → Is an_atom depth text (Expr.Plain (Value.Number n)) rest
   of_string : {depth quote : ℕ} {text a s rest : List ℕ}
       → spaces text ≡ quote ∷ a → is_quote quote ≡ true → IsString quote a s rest → Is an_atom depth text (Expr.Plain (Value.Text s)) rest
-  of_constant : {depth : ℕ} {text word rest : List ℕ} {value : Value} → IsWord (spaces text) word rest → constant word ≡ Some value → Is an_atom depth text (Expr.Plain value) rest
-  of_name : {depth : ℕ} {text word rest : List ℕ} → IsName (spaces text) word rest → is_variable (function_named word) ≡ true → Is an_atom depth text (Expr.Name word) rest
+  of_constant : {depth : ℕ} {text word rest : List ℕ} {value : Value} → IsWord (spaces text) word rest
+      → constant word ≡ Some value → Is an_atom depth text (Expr.Plain value) rest
+  of_name : {depth : ℕ} {text word rest : List ℕ} → IsName (spaces text) word rest
+      → is_variable (function_named word) ≡ true → Is an_atom depth text (Expr.Name word) rest
   of_function : {depth : ℕ} {text a b word rest : List ℕ} {e : Expr} {function : Function}
-      → IsName (spaces text) word a → function_named word ≡ Some function → Takes Token.OpenGroup a b → Is (in_brackets (of_call function)) depth b e rest
+      → IsName (spaces text) word a → function_named word ≡ Some function
+      → Takes Token.OpenGroup a b → Is (in_brackets (of_call function)) depth b e rest
       → Is an_atom depth text e rest
-  of_items : {depth : ℕ} {text a rest : List ℕ} {e : Expr} → Takes Token.OpenList text a → Is (in_brackets of_list) depth a e rest → Is an_atom depth text e rest
+  of_items : {depth : ℕ} {text a rest : List ℕ} {e : Expr} → Takes Token.OpenList text a
+      → Is (in_brackets of_list) depth a e rest → Is an_atom depth text e rest
   of_group : {depth : ℕ} {text a b rest : List ℕ} {e : Expr}
       → Takes Token.OpenGroup text a → Is an_expression depth a e b → Takes Token.CloseGroup b rest → Is an_atom (suc depth) text e rest
   -- [ e { "," e } ], as many as may stand there, and the closing bracket
   no_items : {holder : Holder} {depth : ℕ} {text rest : List ℕ}
       → allows (counts_of holder) 0 ≡ true → Takes (closing holder) text rest → Is (in_brackets holder) depth text (made_of holder []) rest
-  some_items : {holder : Holder} {depth : ℕ} {text rest : List ℕ} {e : Expr} → Is (more_items holder []) depth text e rest → Is (in_brackets holder) (suc depth) text e rest
+  some_items : {holder : Holder} {depth : ℕ} {text rest : List ℕ} {e : Expr}
+      → Is (more_items holder []) depth text e rest → Is (in_brackets holder) (suc depth) text e rest
   last_item : {holder : Holder} {depth : ℕ} {found : List Expr} {text a rest : List ℕ} {e : Expr}
       → Is an_expression depth text e a → allows (counts_of holder) (length (found ++ e ∷ [])) ≡ true → Takes (closing holder) a rest
       → Is (more_items holder found) depth text (made_of holder (found ++ e ∷ [])) rest
   one_item : {holder : Holder} {depth : ℕ} {found : List Expr} {text a b rest : List ℕ} {e made' : Expr}
-      → Is an_expression depth text e a → Takes Token.Comma a b → Is (more_items holder (found ++ e ∷ [])) depth b made' rest → Is (more_items holder found) depth text made' rest
+      → Is an_expression depth text e a → Takes Token.Comma a b
+      → Is (more_items holder (found ++ e ∷ [])) depth b made' rest → Is (more_items holder found) depth text made' rest
 
 -- ---- pieces
 
 -- characters among which no tag begins
 pub data IsText : List ℕ → List ℕ → List ℕ → Type 0 where
   no_character : {rest : List ℕ} → IsText rest [] rest
-  one_character : {text c after t rest : List ℕ} → tag_at text ≡ None → IsCharacter text c after → IsText after t rest → IsText text (c ++ t) rest
+  one_character : {text c after t rest : List ℕ} → tag_at text ≡ None
+      → IsCharacter text c after → IsText after t rest → IsText text (c ++ t) rest
 
 -- the opening bytes of a tag, perhaps with a sign that takes away the blanks and breaks before the tag
 pub data Opens : Tag → Bool → List ℕ → List ℕ → Type 0 where
@@ -250,7 +275,8 @@ pub data IsComment : Bool → List ℕ → List ℕ → Type 0 where
   comment_end : {rest : List ℕ} → IsComment false (35 ∷ 125 ∷ rest) rest
   trimming_end : {rest : List ℕ} → IsComment true (45 ∷ 35 ∷ 125 ∷ rest) rest
   comment_more : {trims : Bool} {text c after rest : List ℕ}
-      → comment_ends text ≡ false → (sees 45 text && comment_ends (drop 1 text)) ≡ false → IsCharacter text c after → IsComment trims after rest → IsComment trims text rest
+      → comment_ends text ≡ false → (sees 45 text && comment_ends (drop 1 text)) ≡ false
+      → IsCharacter text c after → IsComment trims after rest → IsComment trims text rest
 
 -- the end of a tag, perhaps with a sign
 pub data IsEnd (end trimming : Token) : Bool → List ℕ → List ℕ → Type 0 where
@@ -262,7 +288,8 @@ IsTagEnd = IsEnd Token.TagEnd Token.TrimTagEnd
 
 -- an expression and the end of its tag
 pub data IsLast (end trimming : Token) : Expr → Bool → List ℕ → List ℕ → Type 0 where
-  last : {e : Expr} {trims : Bool} {text a rest : List ℕ} → Is an_expression tag_depth text e a → IsEnd end trimming trims a rest → IsLast end trimming e trims text rest
+  last : {e : Expr} {trims : Bool} {text a rest : List ℕ} → Is an_expression tag_depth text e a
+      → IsEnd end trimming trims a rest → IsLast end trimming e trims text rest
 
 abbrev pub IsTagExpression : Expr → Bool → List ℕ → List ℕ → Type 0
 IsTagExpression = IsLast Token.TagEnd Token.TrimTagEnd
@@ -279,17 +306,21 @@ pub data Stop : Type 0 where
   at_the_end at_a_statement : Stop
 
 pub data IsPieces : Place → Stop → List ℕ → List Piece → List ℕ → Type 0 where
-  last_text : {trims : Bool} {text t : List ℕ} → IsText text t [] → IsPieces (behind trims) at_the_end text (text_piece (trimmed trims false t)) []
+  last_text : {trims : Bool} {text t : List ℕ} → IsText text t []
+      → IsPieces (behind trims) at_the_end text (text_piece (trimmed trims false t)) []
   tag : {trims sign : Bool} {kind : Tag} {stop : Stop} {text t a b rest : List ℕ} {ps : List Piece}
-      → IsText text t a → Opens kind sign a b → IsPieces (inside_tag kind) stop b ps rest → IsPieces (behind trims) stop text (text_piece (trimmed trims sign t) ++ ps) rest
+      → IsText text t a → Opens kind sign a b → IsPieces (inside_tag kind) stop b ps rest
+      → IsPieces (behind trims) stop text (text_piece (trimmed trims sign t) ++ ps) rest
   comment : {trims : Bool} {stop : Stop} {text a rest : List ℕ} {ps : List Piece}
       → IsComment trims text a → IsPieces (behind trims) stop a ps rest → IsPieces (inside_tag Tag.Comment) stop text ps rest
   shown : {trims : Bool} {stop : Stop} {text a rest : List ℕ} {e : Expr} {ps : List Piece}
-      → IsLast Token.ShowEnd Token.TrimShowEnd e trims text a → IsPieces (behind trims) stop a ps rest → IsPieces (inside_tag Tag.Show) stop text (Piece.Show e ∷ ps) rest
+      → IsLast Token.ShowEnd Token.TrimShowEnd e trims text a → IsPieces (behind trims) stop a ps rest
+      → IsPieces (inside_tag Tag.Show) stop text (Piece.Show e ∷ ps) rest
   -- a statement ends the pieces of an arm
   stops : {text : List ℕ} → IsPieces (inside_tag Tag.Statement) at_a_statement text [] text
   set : {trims : Bool} {stop : Stop} {text a b c d word rest : List ℕ} {e : Expr} {ps : List Piece}
-      → Takes Token.Set text a → IsName (spaces a) word b → Takes Token.Assign b c → IsTagExpression e trims c d → IsPieces (behind trims) stop d ps rest
+      → Takes Token.Set text a → IsName (spaces a) word b → Takes Token.Assign b c
+      → IsTagExpression e trims c d → IsPieces (behind trims) stop d ps rest
       → IsPieces (inside_tag Tag.Statement) stop text (Piece.Assign word e ∷ ps) rest
   choice : {trims : Bool} {stop : Stop} {text a b c rest : List ℕ} {test' : Expr} {body ps : List Piece}
       → Takes Token.If text a → IsTagExpression test' trims a b → IsPieces (behind trims) at_a_statement b body c
@@ -298,10 +329,12 @@ pub data IsPieces : Place → Stop → List ℕ → List Piece → List ℕ → 
       → Takes Token.Elif text a → IsTagExpression test' trims a b → IsPieces (behind trims) at_a_statement b body c
       → IsPieces (after_arms (arms ++ (test', template_of body) ∷ [])) stop c ps rest → IsPieces (after_arms arms) stop text ps rest
   otherwise : {trims trims_end : Bool} {stop : Stop} {arms : List (Expr × Template)} {text a b c d f rest : List ℕ} {body ps : List Piece}
-      → Takes Token.Else text a → IsTagEnd trims a b → IsPieces (behind trims) at_a_statement b body c → Takes Token.Endif c d → IsTagEnd trims_end d f
+      → Takes Token.Else text a → IsTagEnd trims a b
+      → IsPieces (behind trims) at_a_statement b body c → Takes Token.Endif c d → IsTagEnd trims_end d f
       → IsPieces (behind trims_end) stop f ps rest → IsPieces (after_arms arms) stop text (Piece.Choice arms (template_of body) ∷ ps) rest
   endif : {trims : Bool} {stop : Stop} {arms : List (Expr × Template)} {text a b rest : List ℕ} {ps : List Piece}
-      → Takes Token.Endif text a → IsTagEnd trims a b → IsPieces (behind trims) stop b ps rest → IsPieces (after_arms arms) stop text (Piece.Choice arms (template_of []) ∷ ps) rest
+      → Takes Token.Endif text a → IsTagEnd trims a b → IsPieces (behind trims) stop b ps rest
+      → IsPieces (after_arms arms) stop text (Piece.Choice arms (template_of []) ∷ ps) rest
 
 -- the whole text
 pub data IsTemplate (text : List ℕ) : Template → Type 0 where

@@ -1,5 +1,6 @@
 -- Reading a template: texts and the tags between them.
-use Rattle.std.specs.Prelude.{ℕ, zero, suc, Bool, true, false, ◌&&◌, ◌==◌, if◌then◌else◌, List, [], ◌∷◌, ◌++◌, length, drop, reverse, Option, Some, None, Ok}
+use Rattle.std.specs.Prelude.{ℕ, zero, suc, Bool, true, false, ◌&&◌, ◌==◌, if◌then◌else◌, List, []}
+use Rattle.std.specs.Prelude.{◌∷◌, ◌++◌, length, drop, reverse, Option, Some, None, Ok}
 use Rattle.ha_model.specs.declared.template.Expr.{Expr}
 use Rattle.ha_model.specs.declared.template.Piece.{Piece}
 use Rattle.ha_model.specs.declared.template.Piece
@@ -102,15 +103,26 @@ fallback_of None pieces = template_of pieces
 fallback_of (Some test) pieces = template_of []
 
 abbrev pub begun : Found → Expr → Bool → Found
-begun found test trims = record { open' = record { before = found.pieces; arms = []; test = Some test } ∷ found.open'; pieces = []; trims = trims }
+begun found test trims =
+    record { open' = record { before = found.pieces; arms = []; test = Some test } ∷ found.open'; pieces = []; trims = trims }
 
 abbrev pub next_arm : Found → Choosing → List Choosing → Option Expr → Bool → Found
 next_arm found choosing outer test trims =
-    record { open' = record { before = choosing.before; arms = arms_with choosing found.pieces; test = test } ∷ outer; pieces = []; trims = trims }
+    record {
+      open' = record { before = choosing.before; arms = arms_with choosing found.pieces; test = test }
+          ∷ outer;
+      pieces = [];
+      trims = trims;
+    }
 
 abbrev pub closed : Found → Choosing → List Choosing → Bool → Found
 closed found choosing outer trims =
-    record { open' = outer; pieces = choosing.before ++ Piece.Choice (arms_with choosing found.pieces) (fallback_of choosing.test found.pieces) ∷ []; trims = trims }
+    record {
+      open' = outer;
+      pieces = choosing.before
+          ++ Piece.Choice (arms_with choosing found.pieces) (fallback_of choosing.test found.pieces) ∷ [];
+      trims = trims;
+    }
 
 abbrev pub with_piece : Found → Piece → Bool → Found
 with_piece found piece trims = record { open' = found.open'; pieces = found.pieces ++ piece ∷ []; trims = trims }
@@ -193,7 +205,8 @@ none_open [] = true
 none_open (choosing ∷ outer) = false
 
 abbrev pub with_text : Found → Bool → List ℕ → Found
-with_text found sign t = record { open' = found.open'; pieces = found.pieces ++ text_piece (trimmed found.trims sign t); trims = found.trims }
+with_text found sign t =
+    record { open' = found.open'; pieces = found.pieces ++ text_piece (trimmed found.trims sign t); trims = found.trims }
 
 abbrev pub finished : Found → List ℕ → Reads Template
 finished found t rest = if none_open found.open' then Ok (template_of (with_text found false t).pieces, rest) else stop tt rest

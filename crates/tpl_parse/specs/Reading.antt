@@ -1,5 +1,6 @@
 -- Reading an expression from left to right, with the first byte at which no reading goes on.
-use Rattle.std.specs.Prelude.{ℕ, zero, suc, max, Bool, true, false, not, ◌&&◌, ◌||◌, ◌==◌, nat_le, if◌then◌else◌, List, [], ◌∷◌, ◌++◌, length, drop, Option, Some, None, Ok, codes, is_some}
+use Rattle.std.specs.Prelude.{ℕ, zero, suc, max, Bool, true, false, not, ◌&&◌, ◌||◌, ◌==◌, nat_le, if◌then◌else◌}
+use Rattle.std.specs.Prelude.{List, [], ◌∷◌, ◌++◌, length, drop, Option, Some, None, Ok, codes, is_some}
 use Rattle.std.specs.Char.{is_ascii_digit}
 use Rattle.std.specs.List.{find}
 use Rattle.std.specs.Str.{bytes_eq}
@@ -41,7 +42,8 @@ operator rows rest = find (λ row. next_is row.0 rest) rows
 -- ---- what may go on behind an expression
 
 abbrev pub tokens_behind : Last → List Token
-tokens_behind Last.Operand = Token.Or ∷ Token.And ∷ Token.Minus ∷ Token.Modulo ∷ Token.Equal ∷ Token.Unequal ∷ Token.Is ∷ Token.In ∷ Token.Not ∷ []
+tokens_behind Last.Operand =
+    Token.Or ∷ Token.And ∷ Token.Minus ∷ Token.Modulo ∷ Token.Equal ∷ Token.Unequal ∷ Token.Is ∷ Token.In ∷ Token.Not ∷ []
 tokens_behind Last.Compared = Token.Or ∷ Token.And ∷ Token.Minus ∷ Token.Modulo ∷ []
 tokens_behind Last.Tested = Token.Or ∷ Token.And ∷ []
 
@@ -92,7 +94,8 @@ enclosed inner close rest = do
 abbrev pub after_item : Token → Counts → (List Expr → Reads (List Expr)) → List Expr → Part → Reads (List Expr)
 after_item close counts more items part rest =
     if nat_le counts.least (length items) && next_is close rest then Ok (items, behind close rest) else
-    (if takes_behind counts.most (length items) && next_is Token.Comma rest then more items (behind Token.Comma rest) else no_end part.last part.choice [] (spaces rest))
+    (if takes_behind counts.most (length items) && next_is Token.Comma rest
+    then more items (behind Token.Comma rest) else no_end part.last part.choice [] (spaces rest))
 
 -- items behind those that were found; a number bounds the turns
 unfoldable pub item_turns : ℕ → Reads Part → Token → Counts → List Expr → Reads (List Expr)
@@ -129,7 +132,8 @@ call_or_name None inner name rest = Ok (Expr.Name name, rest)
 call_or_name (Some function) None name rest = not_called function name rest
 call_or_name (Some function) (Some inner) name rest =
     if next_is Token.OpenGroup rest
-    then made (Expr.Function (function_row function).number) (arguments (Some inner) Token.CloseGroup (function_row function).counts (behind Token.OpenGroup rest))
+    then made (Expr.Function (function_row function).number)
+    (arguments (Some inner) Token.CloseGroup (function_row function).counts (behind Token.OpenGroup rest))
     else not_called function name (spaces rest)
 
 abbrev pub by_word : Option Value → Option Inner → List ℕ → Reads Expr
@@ -197,7 +201,8 @@ signed (Some inner) rest =
 -- the arguments of a filter, which has no brackets where it has none
 unfoldable pub filter_arguments : Option Inner → Counts → Reads (List Expr)
 filter_arguments inner counts rest =
-    if (counts.least == 0 || is_some inner) && next_is Token.OpenGroup rest then arguments inner Token.CloseGroup counts (behind Token.OpenGroup rest) else
+    if (counts.least == 0 || is_some inner) && next_is Token.OpenGroup rest
+    then arguments inner Token.CloseGroup counts (behind Token.OpenGroup rest) else
     (if counts.least == 0 then Ok ([], spaces rest) else stop tt (spaces rest))
 
 -- filters behind what was read, which apply in order; a number bounds the turns
@@ -249,10 +254,12 @@ test_tokens true = Token.None ∷ Token.PrintedNone ∷ Token.Defined ∷ []
 test_tokens false = Token.None ∷ Token.PrintedNone ∷ Token.Defined ∷ Token.Not ∷ []
 
 abbrev pub tested_last : Bool → Reads Bool
-tested_last turned rest = if next_is Token.Defined rest then Ok (turned, behind Token.Defined rest) else none_of (test_tokens turned) (spaces rest)
+tested_last turned rest =
+    if next_is Token.Defined rest then Ok (turned, behind Token.Defined rest) else none_of (test_tokens turned) (spaces rest)
 
 abbrev pub tested_printed : Bool → Reads Bool
-tested_printed turned rest = if next_is Token.PrintedNone rest then Ok (not turned, behind Token.PrintedNone rest) else tested_last turned (spaces rest)
+tested_printed turned rest =
+    if next_is Token.PrintedNone rest then Ok (not turned, behind Token.PrintedNone rest) else tested_last turned (spaces rest)
 
 -- a test behind `is`, and behind `not` where it is turned
 abbrev pub tested : Bool → Reads Bool
@@ -283,7 +290,8 @@ compared inner left rest = do
 unfoldable pub comparison : Option Inner → Reads Part
 comparison inner rest = do
   left ← sum inner rest
-  if next_is Token.Is left.1 then made (λ holds. ending (Expr.IsNone left.0.expr holds) Last.Tested) (none_test (behind Token.Is left.1)) else compared inner left.0 (spaces left.1)
+  if next_is Token.Is left.1 then made (λ holds. ending (Expr.IsNone left.0.expr holds) Last.Tested) (none_test (behind Token.Is left.1))
+      else compared inner left.0 (spaces left.1)
 
 -- ---- `not`, `and`, `or`
 

@@ -1,5 +1,6 @@
 -- The words and signs of the grammar, and which of them is read at a place: the longest.
-use Rattle.std.specs.Prelude.{ℕ, suc, max, Bool, true, false, not, ◌&&◌, ◌||◌, ◌==◌, nat_eq, if◌then◌else◌, List, [], ◌∷◌, length, drop, Option, Some, None, Ok, codes}
+use Rattle.std.specs.Prelude.{ℕ, suc, max, Bool, true, false, not, ◌&&◌, ◌||◌, ◌==◌, nat_eq}
+use Rattle.std.specs.Prelude.{if◌then◌else◌, List, [], ◌∷◌, length, drop, Option, Some, None, Ok, codes}
 use Rattle.std.specs.List.{fold, list_any}
 use Rattle.std.specs.Str.{bytes_eq}
 use Rattle.std.specs.Char.{is_ascii_alphabetic, is_ascii_digit}
@@ -115,7 +116,8 @@ ends_before token (Some b) = not (is_longer token b)
 
 -- the token is the one that is read at the front of the text
 unfoldable pub stands : Token → List ℕ → Bool
-stands token rest = nat_eq (common (text_of token) rest) (length (text_of token)) && ends_before token (front (drop (length (text_of token)) rest))
+stands token rest =
+    nat_eq (common (text_of token) rest) (length (text_of token)) && ends_before token (front (drop (length (text_of token)) rest))
 
 -- how far the text goes on as one of the tokens
 abbrev pub reach : List Token → List ℕ → ℕ

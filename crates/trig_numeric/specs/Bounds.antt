@@ -16,7 +16,8 @@ is_numeric TriggerRule.Start = false
 
 -- whether the number of a state is in the bounds, where there is a number
 abbrev pub rule_in : TriggerRule → Option StateObject → Option Bool
-rule_in (TriggerRule.Numeric entities attribute above below) state = option_map (in_bounds above below) (option_and_then (watched_number attribute) state)
+rule_in (TriggerRule.Numeric entities attribute above below) state =
+    option_map (in_bounds above below) (option_and_then (watched_number attribute) state)
 rule_in (TriggerRule.State entities attribute from to) state = None
 rule_in (TriggerRule.Event kinds pairs) state = None
 rule_in (TriggerRule.Time seconds) state = None

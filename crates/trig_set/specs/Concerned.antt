@@ -13,8 +13,8 @@ use Rattle.trig_set.specs.Order.{ascend}
 use Rattle.trig_set.specs.Queued.{IsLater}
 use Rattle.trig_set.specs.Stands.{AtOwner, owner_of}
 
--- no segment opens with the entry, and the index does not have the number for it: not for templates, not for its type of events, and not for an entity that it
--- changes; where it is a moment, neither for times, and the queue has no due of the number that comes by then
+-- no segment opens with the entry, and the index does not have the number for it: not for templates, not for its type of events, and not
+-- for an entity that it changes; where it is a moment, neither for times, and the queue has no due of the number that comes by then
 pub record IsAside (index : Index) (queue : List Timer) (to : ℕ) (shifts : List Shift) (x : Entry) (n : ℕ) : Type 0 where
   pub within : opens_segment x ≡ false
   pub entries : knows index Subject.Entries n ≡ false

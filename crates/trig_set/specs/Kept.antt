@@ -1,5 +1,6 @@
 -- What is kept for a trigger and an entity, and which journals it stands for.
-use Rattle.std.specs.Prelude.{◌≡◌, ℕ, ◌+◌, Bool, true, false, nat_lt, List, [], ◌∷◌, Option, Some, None, MatchOption, length, map, flat_map, slice_get, slice_set, nat_le, codes, is_some, option_map, option_and_then, if◌then◌else◌}
+use Rattle.std.specs.Prelude.{◌≡◌, ℕ, ◌+◌, Bool, true, false, nat_lt, List, [], ◌∷◌, Option, Some, None, MatchOption, length, map}
+use Rattle.std.specs.Prelude.{flat_map, slice_get, slice_set, nat_le, codes, is_some, option_map, option_and_then, if◌then◌else◌}
 use Rattle.std.specs.List.{enumerate_from}
 use Rattle.std.specs.Option.{option_map_or}
 use Rattle.ha_model.specs.declared.steps.Firing.{Firing}
@@ -57,11 +58,14 @@ pub record Fired (j : Journal) (x : Entry) (t : Trigger) (since : ℕ) (s : Spot
   pub was : s.was ≡ is_true (sight (more j x) (length (more j x))) t.rule
   pub fired : s.fired ≡ or_else (at_once j x t s.entity since) (ripe_value x (now (more j x)) (arrived j x t s.entity since))
 
--- what becomes of a spot: a trigger with a `for` keeps its hold where what it watches stayed, else begins one where it moved; one without fires where it moved
+-- what becomes of a spot: a trigger with a `for` keeps its hold where what it watches stayed, else begins one where it moved; one without
+-- fires where it moved
 abbrev pub Settles : Option ℕ → ℕ → Bool → Option Value → Spot → Spot → Type 0
 Settles None to stayed given old new = new ≡ record old { fired = given }
 Settles (Some d) to stayed given old new =
-    (option_map holding new.hold ≡ or_else (if stayed then option_map holding old.hold else None) (option_map {U = Holding} (λ v. record { due = to + d; value = v }) given))
+    (option_map holding new.hold
+    ≡ or_else (if stayed then option_map holding old.hold else None)
+    (option_map {U = Holding} (λ v. record { due = to + d; value = v }) given))
     × (new ≡ record old { hold = new.hold })
 
 -- the trigger of a spot is sound
@@ -130,7 +134,8 @@ ripened to s = ripened_by to s s.hold
 
 -- what a spot fires with, and the spot once that was taken out
 abbrev pub firing_in : ℕ → Spot → Option Firing
-firing_in owner s = option_map (λ v. record { owner = owner; trigger = s.trigger; entity = s.entity; env = (codes "trigger", v) ∷ [] }) s.fired
+firing_in owner s =
+    option_map (λ v. record { owner = owner; trigger = s.trigger; entity = s.entity; env = (codes "trigger", v) ∷ [] }) s.fired
 
 abbrev pub cleared : Spot → Spot
 cleared s = record s { fired = None }

@@ -28,14 +28,16 @@ reports e x = option_map_or (λ r. same_entity r.entity e) (report_in x) false
 
 -- the list has states before the entry, among them that of each entity that the entry reports or whose state it changes
 abbrev pub AreListed : Journal → Entry → Listed → Type 0
-AreListed j x before = (e : EntityId) → MatchOption (state_listed before e) ((states (more j x) e ≡ states j e) × (reports e x ≡ false)) (λ old. old ≡ states j e)
+AreListed j x before =
+    (e : EntityId) → MatchOption (state_listed before e)
+    ((states (more j x) e ≡ states j e) × (reports e x ≡ false)) (λ old. old ≡ states j e)
 
 -- an owner has triggers attached since before the entry
 abbrev pub has_earlier : ℕ → List Owner → Bool
 has_earlier place owners = list_any (λ o. nat_lt o.since place) owners
 
--- the entry goes on with the journal at that place; it is told with the states before it that it changes (where somebody asks: at a Boot, and at a Restart
--- at which all owners are attached anew, nobody does), and with what is seen after it
+-- the entry goes on with the journal at that place; it is told with the states before it that it changes (where somebody asks: at a Boot,
+-- and at a Restart at which all owners are attached anew, nobody does), and with what is seen after it
 pub record IsNext (j : Journal) (place : ℕ) (x : Entry) (before : Listed) (seen : Sight) (owners : List Owner) : Type 0 where
   pub at : place ≡ length j
   pub journal : IsJournal (more j x)

@@ -26,12 +26,15 @@ removes x e = is_restart x || option_map_or (λ g. same_entity g e) (gone_in x) 
 
 -- those of an entity that is no automation, from those before the entry
 abbrev pub next_face : Entry → EntityId → Option (Text × Pairs) → Option (Text × Pairs)
-next_face x e old = option_map_or (λ r. Some r) (option_and_then (λ r. if same_entity r.entity e then Some (r.text, r.attributes) else None) (report_in x)) (if removes x e then None else old)
+next_face x e old =
+    option_map_or (λ r. Some r) (option_and_then (λ r. if same_entity r.entity e then Some (r.text, r.attributes) else None) (report_in x))
+    (if removes x e then None else old)
 
 -- those of any entity
 abbrev pub face_after : Entry → Sight → EntityId → Option (Text × Pairs) → Option (Text × Pairs)
 face_after x seen e old =
-    if is_automation e then option_map face_of_switch (option_and_then (switch_seen seen) (automation_at seen.automations e)) else next_face x e old
+    if is_automation e then option_map face_of_switch (option_and_then (switch_seen seen) (automation_at seen.automations e))
+    else next_face x e old
 
 -- the change of a listed entity
 abbrev pub IsMade : Entry → Sight → EntityId × Option StateObject → Shift → Type 0

@@ -39,8 +39,8 @@ AllOwners owners P = (n : ℕ) → AtOwner owners n P
 abbrev pub firings_at : Journal → Entry → List Attached → ℕ → List Firing
 firings_at j x owners n = option_map_or (λ a. firings_of (more j x) (length j) (owner_of a)) (slice_get owners n) []
 
--- the set stands for a journal: for each owner its pending holds with their timers and the truth of its templates; the index of whom an entry concerns; the queue of the
--- owners by their earliest hold; the latest numbers, Now and the zone
+-- the set stands for a journal: for each owner its pending holds with their timers and the truth of its templates; the index of whom an
+-- entry concerns; the queue of the owners by their earliest hold; the latest numbers, Now and the zone
 pub record StandsFor (s : TrigSet) (j : Journal) : Type 0 where
   pub owners : AllOwners s.owners.items (OwnerStands j)
   pub known : AreKnown s.index (attached s)

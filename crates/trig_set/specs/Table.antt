@@ -20,10 +20,12 @@ numbers_in domain q name = option_and_then (number_of name) (get_by_text domain 
 
 -- the number of the entity, or of its attribute
 abbrev pub number_at : Numbers → EntityId → Option Text → Option Num
-number_at t e name = option_and_then (number_of name) (option_and_then (λ domain. get_by_text domain e.object) (get_by_text t.domains e.domain))
+number_at t e name =
+    option_and_then (number_of name) (option_and_then (λ domain. get_by_text domain e.object) (get_by_text t.domains e.domain))
 
 -- with the names of these pairs, and the numbers that they give over those before
-pub record SoFar {Y Z : Type 0} (seen : BTreeSet (String Z)) (numbers : BTreeMap (String Y) Num) (before : Text → Option Num) (ps : Pairs) : Type 0 where
+pub record SoFar {Y Z : Type 0} (seen : BTreeSet (String Z))
+    (numbers : BTreeMap (String Y) Num) (before : Text → Option Num) (ps : Pairs) : Type 0 where
   pub names : (q : Text) → contains_text seen q ≡ is_some (first_pair q ps)
   pub given : (q : Text) → get_by_text numbers q ≡ or_else (number_watched (Some q) [] ps) (before q)
 

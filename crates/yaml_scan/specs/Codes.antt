@@ -1,7 +1,8 @@
 -- The codes of the faults.
 use Rattle.std.specs.Prelude.{ℕ, List, ◌∷◌, decimal}
 use Rattle.yaml_scan.specs.declared.fault.Code.{Code}
-use Rattle.yaml_scan.specs.declared.fault.Code.TheVariants.{Tab, Structure, LeftOut, RepeatedKey, UnknownKey, MissingKey, Kind, EntityId, Time, Number, Template, Limit, NotUtf8, UnknownKind}
+use Rattle.yaml_scan.specs.declared.fault.Code.TheVariants.{Tab, Structure, LeftOut, RepeatedKey, UnknownKey, MissingKey, Kind}
+use Rattle.yaml_scan.specs.declared.fault.Code.TheVariants.{EntityId, Time, Number, Template, Limit, NotUtf8, UnknownKind}
 
 -- the number behind the letter C
 abbrev pub number_of : Code → ℕ

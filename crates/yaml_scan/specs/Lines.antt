@@ -1,5 +1,6 @@
 -- The lines of a text, and the faults that are seen on a line alone.
-use Rattle.std.specs.Prelude.{ℕ, ◌+◌, ◌-◌, Bool, false, not, ◌||◌, ◌&&◌, ◌==◌, nat_lt, nat_le, if◌then◌else◌, List, [], ◌∷◌, ◌++◌, length, take, drop, get_or, map, Option, Some, None, Result, Ok, Err}
+use Rattle.std.specs.Prelude.{ℕ, ◌+◌, ◌-◌, Bool, false, not, ◌||◌, ◌&&◌, ◌==◌, nat_lt, nat_le, if◌then◌else◌, List, []}
+use Rattle.std.specs.Prelude.{◌∷◌, ◌++◌, length, take, drop, get_or, map, Option, Some, None, Result, Ok, Err}
 use Rattle.std.specs.Str.{is_utf8}
 use Rattle.yaml_scan.specs.declared.line.RawLine.{RawLine}
 use Rattle.yaml_scan.specs.declared.line.YamlLine.{YamlLine}
@@ -33,7 +34,8 @@ lines_from n raw (b ∷ rest) = if b == 10 then line_of n (without_cr raw) ∷ l
 
 -- a byte order mark at the front is dropped
 abbrev pub without_mark : List ℕ → List ℕ
-without_mark text = if nat_le 3 (length text) && get_or text 0 0 == 239 && get_or text 1 0 == 187 && get_or text 2 0 == 191 then drop 3 text else text
+without_mark text =
+    if nat_le 3 (length text) && get_or text 0 0 == 239 && get_or text 1 0 == 187 && get_or text 2 0 == 191 then drop 3 text else text
 
 abbrev pub lines : List ℕ → List RawLine
 lines text = lines_from 1 [] (without_mark text)
@@ -47,7 +49,8 @@ fault line code = record { line = line; code = code }
 abbrev pub least : Option Fault → Option Fault → Option Fault
 least None g = g
 least (Some f) None = Some f
-least (Some f) (Some g) = if nat_lt g.line f.line || (g.line == f.line && nat_lt (number_of g.code) (number_of f.code)) then Some g else Some f
+least (Some f) (Some g) =
+    if nat_lt g.line f.line || (g.line == f.line && nat_lt (number_of g.code) (number_of f.code)) then Some g else Some f
 
 -- a tab among the leading blanks: the first one follows the leading spaces
 abbrev pub tab_fault : RawLine → Option Fault

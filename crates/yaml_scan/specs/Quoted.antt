@@ -1,5 +1,6 @@
 -- A quoted scalar, perhaps over several lines.
-use Rattle.std.specs.Prelude.{◌≡◌, ℕ, zero, suc, ◌+◌, ◌-◌, ◌*◌, Bool, true, false, not, ◌||◌, ◌&&◌, ◌==◌, nat_lt, nat_le, if◌then◌else◌, List, [], ◌∷◌, ◌++◌, drop, Option, Some, None, Result, Ok, Err, encode_utf8}
+use Rattle.std.specs.Prelude.{◌≡◌, ℕ, zero, suc, ◌+◌, ◌-◌, ◌*◌, Bool, true, false, not, ◌||◌, ◌&&◌, ◌==◌, nat_lt, nat_le}
+use Rattle.std.specs.Prelude.{if◌then◌else◌, List, [], ◌∷◌, ◌++◌, drop, Option, Some, None, Result, Ok, Err, encode_utf8}
 use Rattle.yaml_scan.specs.declared.line.RawLine.{RawLine}
 use Rattle.yaml_scan.specs.declared.fault.Code.TheVariants.{Structure}
 use Rattle.yaml_scan.specs.declared.quoted.Last.{Last}
@@ -27,14 +28,20 @@ opened quote n = record { quote = quote; line = n; last = Usual; text = []; blan
 abbrev pub escape : ℕ → Option ℕ
 escape b =
     if b == 92 || b == 34 || b == 47 || b == 32 then Some b else
-    (if b == 110 then Some 10 else (if b == 114 then Some 13 else (if b == 116 then Some 9 else (if b == 48 then Some 0 else (if b == 101 then Some 27 else (if b == 95 then Some 160 else None))))))
+    (if b == 110 then Some 10 else
+    (if b == 114 then Some 13
+    else (if b == 116 then Some 9
+    else (if b == 48 then Some 0 else (if b == 101 then Some 27 else (if b == 95 then Some 160 else None))))))
 
 -- how many digits of a character's number follow a byte behind a backslash: `x`, `u`, `U`, else none
 abbrev pub digits_behind : ℕ → ℕ
 digits_behind b = if b == 120 then 2 else (if b == 117 then 4 else (if b == 85 then 8 else 0))
 
 abbrev pub hex : ℕ → Option ℕ
-hex b = if nat_le 48 b && nat_le b 57 then Some (b - 48) else (if nat_le 65 b && nat_le b 70 then Some (b - 55) else (if nat_le 97 b && nat_le b 102 then Some (b - 87) else None))
+hex b =
+    if nat_le 48 b && nat_le b 57
+    then Some (b - 48) else (if nat_le 65 b && nat_le b 70
+    then Some (b - 55) else (if nat_le 97 b && nat_le b 102 then Some (b - 87) else None))
 
 -- one more digit; a number past the last character stays as it is
 abbrev pub shifted : ℕ → ℕ → ℕ
@@ -78,7 +85,8 @@ abbrev pub escape_step : State → ℕ → State
 escape_step s b = if digits_behind b == 0 then escaped s (escape b) else awaits s (Digits (digits_behind b) 0)
 
 abbrev pub digit_step : State → ℕ → ℕ → ℕ → Option ℕ → State
-digit_step s wanted value b (Some d) = if nat_le wanted 1 then character s (shifted value d) else awaits s (Digits (wanted - 1) (shifted value d))
+digit_step s wanted value b (Some d) =
+    if nat_le wanted 1 then character s (shifted value d) else awaits s (Digits (wanted - 1) (shifted value d))
 digit_step s wanted value b None = usual_step (spoiled s) b
 
 -- Behind a quote comes a second one, which makes one quote of the two.
@@ -131,7 +139,16 @@ break false zero = 32 ∷ []
 
 -- The line ends, and so many blank lines stand before the line n. The blanks before the break are dropped.
 abbrev pub next_line : State → ℕ → ℕ → State
-next_line s blanks n = record { quote = s.quote; line = n; last = Usual; text = s.text ++ break (is_backslash s.last) blanks; blanks = []; bad = if is_digits s.last then noted s.bad s.line else s.bad }
+next_line s blanks n =
+    record {
+      quote = s.quote;
+      line = n;
+      last = Usual;
+      text = s.text
+          ++ break (is_backslash s.last) blanks;
+      blanks = [];
+      bad = if is_digits s.last then noted s.bad s.line else s.bad;
+    }
 
 -- The quote is closed; the line of the first bad escape comes before what is behind the quote.
 abbrev pub finished_by : Option ℕ → State → List ℕ → List RawLine → Reading (List ℕ)

@@ -16,15 +16,18 @@ pub data IsAbsent (floor : ℕ) : List RawLine → List RawLine → Type 0 where
 
 -- so many blank lines, and then the first line of the content, at this column or right of it, and the lines behind it
 pub data IsFirst (floor : ℕ) : List RawLine → ℕ → RawLine → List RawLine → Type 0 where
-  blank : {l first : RawLine} {ls rest : List RawLine} {k : ℕ} → is_empty l.content ≡ true → IsFirst floor ls k first rest → IsFirst floor (l ∷ ls) (k + 1) first rest
+  blank : {l first : RawLine} {ls rest : List RawLine} {k : ℕ} → is_empty l.content ≡ true
+      → IsFirst floor ls k first rest → IsFirst floor (l ∷ ls) (k + 1) first rest
   here : {l : RawLine} {ls : List RawLine} → is_empty l.content ≡ false → floor ≤ l.indent → IsFirst floor (l ∷ ls) 0 l ls
 
 -- The content's further lines without its indent, up to a line left of that. A line of spaces is content too, and may be empty.
 pub data IsContent (indent : ℕ) : List RawLine → List (List ℕ) → List RawLine → Type 0 where
   none : IsContent indent [] [] []
   left : {l : RawLine} {ls : List RawLine} → is_empty l.content ≡ false → l.indent < indent → IsContent indent (l ∷ ls) [] (l ∷ ls)
-  spaces : {l : RawLine} {ls rest : List RawLine} {xs : List (List ℕ)} → is_empty l.content ≡ true → IsContent indent ls xs rest → IsContent indent (l ∷ ls) (times (l.indent - indent) 32 ∷ xs) rest
-  line : {l : RawLine} {ls rest : List RawLine} {xs : List (List ℕ)} → is_empty l.content ≡ false → indent ≤ l.indent → IsContent indent ls xs rest → IsContent indent (l ∷ ls) ((times (l.indent - indent) 32 ++ l.content) ∷ xs) rest
+  spaces : {l : RawLine} {ls rest : List RawLine} {xs : List (List ℕ)} → is_empty l.content ≡ true
+      → IsContent indent ls xs rest → IsContent indent (l ∷ ls) (times (l.indent - indent) 32 ∷ xs) rest
+  line : {l : RawLine} {ls rest : List RawLine} {xs : List (List ℕ)} → is_empty l.content ≡ false → indent ≤ l.indent
+      → IsContent indent ls xs rest → IsContent indent (l ∷ ls) ((times (l.indent - indent) 32 ++ l.content) ∷ xs) rest
 
 -- only empty lines
 pub data AreEmpty : List (List ℕ) → Type 0 where
@@ -44,13 +47,16 @@ between fold x y k = if fold && not (sees 32 x) && not (sees 32 y) then folded k
 -- The text of a line and of those behind it; empty ones at the end give nothing.
 pub data IsJoined (fold : Bool) : List ℕ → List (List ℕ) → List ℕ → Type 0 where
   last : {x : List ℕ} {xs : List (List ℕ)} → AreEmpty xs → IsJoined fold x xs x
-  next : {x y text : List ℕ} {xs rest : List (List ℕ)} {k : ℕ} → IsNext xs k y rest → IsJoined fold y rest text → IsJoined fold x xs (x ++ (between fold x y k ++ text))
+  next : {x y text : List ℕ} {xs rest : List (List ℕ)} {k : ℕ} → IsNext xs k y rest
+      → IsJoined fold y rest text → IsJoined fold x xs (x ++ (between fold x y k ++ text))
 
 abbrev pub at_end : Bool → List ℕ
 at_end strip = if strip then [] else 10 ∷ []
 
 -- The scalar behind `|`, or behind `>`, which folds, and the lines behind it. Blank lines before the content give line feeds.
 pub data IsBlock (floor : ℕ) (fold : Bool) : List ℕ → List RawLine → List ℕ → List RawLine → Type 0 where
-  absent : {bytes : List ℕ} {ls rest : List RawLine} {strip : Bool} → IsHead bytes strip → IsAbsent floor ls rest → IsBlock floor fold bytes ls [] rest
+  absent : {bytes : List ℕ} {ls rest : List RawLine} {strip : Bool}
+      → IsHead bytes strip → IsAbsent floor ls rest → IsBlock floor fold bytes ls [] rest
   content : {bytes text : List ℕ} {ls behind rest : List RawLine} {strip : Bool} {k : ℕ} {l : RawLine} {xs : List (List ℕ)}
-      → IsHead bytes strip → IsFirst floor ls k l behind → IsContent l.indent behind xs rest → IsJoined fold l.content xs text → IsBlock floor fold bytes ls ((times k 10 ++ text) ++ at_end strip) rest
+      → IsHead bytes strip → IsFirst floor ls k l behind → IsContent l.indent behind xs rest
+      → IsJoined fold l.content xs text → IsBlock floor fold bytes ls ((times k 10 ++ text) ++ at_end strip) rest

@@ -28,7 +28,8 @@ part_id line found part = with_id line found (read_entity (trimmed (without_blan
 -- the ids of a text that is split at commas, behind those that were found; these bytes of the next one were read
 unfoldable pub split_from : ℕ → List Id → List ℕ → List ℕ → Ids
 split_from line found part [] = part_id line found part
-split_from line found part (b ∷ rest) = if b == 44 then then_ids (part_id line found part) (λ ids. split_from line ids [] rest) else split_from line found (part ++ b ∷ []) rest
+split_from line found part (b ∷ rest) =
+    if b == 44 then then_ids (part_id line found part) (λ ids. split_from line ids [] rest) else split_from line found (part ++ b ∷ []) rest
 
 abbrev pub split_by : ℕ → List Id → Result (List ℕ) Fault → Ids
 split_by line found (Ok t) = split_from line found [] t

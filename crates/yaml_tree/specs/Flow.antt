@@ -1,5 +1,6 @@
 -- Flow on one line, token by token, with the brackets that are open.
-use Rattle.std.specs.Prelude.{◌≡◌, ℕ, zero, suc, ◌+◌, max, min, Bool, true, false, not, ◌||◌, ◌&&◌, ◌==◌, nat_lt, if◌then◌else◌, List, [], ◌∷◌, ◌++◌, length, take, drop, Option, Some, None, Result, Ok, Err}
+use Rattle.std.specs.Prelude.{◌≡◌, ℕ, zero, suc, ◌+◌, max, min, Bool, true, false, not, ◌||◌, ◌&&◌, ◌==◌, nat_lt}
+use Rattle.std.specs.Prelude.{if◌then◌else◌, List, [], ◌∷◌, ◌++◌, length, take, drop, Option, Some, None, Result, Ok, Err}
 use Rattle.yaml_scan.specs.declared.fault.Code.{Code}
 use Rattle.yaml_scan.specs.declared.fault.Code.TheVariants.{Structure, LeftOut}
 use Rattle.yaml_scan.specs.Words.{is_blank, is_empty, is_some, has_colon, colon_at, trimmed}
@@ -49,7 +50,8 @@ paired (Some key) f line node = record { is_map = f.is_map; items = f.items; pai
 paired None f line node = f
 
 abbrev pub held : Frame → ℕ → Node → Frame
-held f line node = if f.is_map then paired f.key f line node else record { is_map = f.is_map; items = f.items ++ node ∷ []; pairs = f.pairs; key = f.key }
+held f line node =
+    if f.is_map then paired f.key f line node else record { is_map = f.is_map; items = f.items ++ node ∷ []; pairs = f.pairs; key = f.key }
 
 abbrev pub node_of : Frame → ℕ → Node
 node_of f line = if f.is_map then mapped line f.pairs else listed line f.items
@@ -69,14 +71,46 @@ abbrev pub kept : ℕ → ℕ → Node → Node
 kept around line node = if nat_lt around 64 then node else null line
 
 abbrev pub holding : Machine → Node → Machine
-holding m node = record { line = m.line; frame = held m.frame m.line node; frames = m.frames; after = true; height = raised m.height (length m.frames); repeated = m.repeated; spaced = m.spaced; rest = m.rest }
+holding m node =
+    record {
+      line = m.line;
+      frame = held m.frame m.line node;
+      frames = m.frames;
+      after = true;
+      height = raised m.height
+          (length m.frames);
+      repeated = m.repeated;
+      spaced = m.spaced;
+      rest = m.rest;
+    }
 
 abbrev pub opens : Machine → Bool → Machine
-opens m is_map = record { line = m.line; frame = fresh is_map; frames = m.frame ∷ m.frames; after = false; height = raised m.height (length m.frames); repeated = m.repeated; spaced = m.spaced; rest = m.rest }
+opens m is_map =
+    record {
+      line = m.line;
+      frame = fresh is_map;
+      frames = m.frame
+          ∷ m.frames;
+      after = false;
+      height = raised m.height (length m.frames);
+      repeated = m.repeated;
+      spaced = m.spaced;
+      rest = m.rest;
+    }
 
 abbrev pub closed : Machine → Node → List Frame → Step
 closed m node [] = ended (record { node = node; height = m.height; repeated = m.repeated; rest = m.rest })
-closed m node (f ∷ fs) = on (record { line = m.line; frame = held f m.line node; frames = fs; after = true; height = m.height; repeated = m.repeated; spaced = m.spaced; rest = m.rest })
+closed m node (f ∷ fs) =
+    on (record {
+      line = m.line;
+      frame = held f m.line node;
+      frames = fs;
+      after = true;
+      height = m.height;
+      repeated = m.repeated;
+      spaced = m.spaced;
+      rest = m.rest;
+    })
 
 abbrev pub closes : Machine → Step
 closes m = closed m (kept (length m.frames) m.line (node_of m.frame m.line)) m.frames
@@ -85,11 +119,32 @@ closes m = closed m (kept (length m.frames) m.line (node_of m.frame m.line)) m.f
 
 -- behind a scalar: what is left, and whether a comment may begin there
 abbrev pub behind : Machine → Bool → List ℕ → Machine
-behind m spaced rest = record { line = m.line; frame = m.frame; frames = m.frames; after = m.after; height = m.height; repeated = m.repeated; spaced = spaced; rest = rest }
+behind m spaced rest =
+    record {
+      line = m.line;
+      frame = m.frame;
+      frames = m.frames;
+      after = m.after;
+      height = m.height;
+      repeated = m.repeated;
+      spaced = spaced;
+      rest = rest;
+    }
 
 -- a key that waits for its value; a repeated one is noted
 abbrev pub awaiting : Machine → List ℕ → Machine
-awaiting m key = record { line = m.line; frame = record { is_map = m.frame.is_map; items = m.frame.items; pairs = m.frame.pairs; key = Some key }; frames = m.frames; after = false; height = m.height; repeated = m.repeated || has_key m.frame.pairs key; spaced = m.spaced; rest = m.rest }
+awaiting m key =
+    record {
+      line = m.line;
+      frame = record { is_map = m.frame.is_map; items = m.frame.items; pairs = m.frame.pairs; key = Some key };
+      frames = m.frames;
+      after = false;
+      height = m.height;
+      repeated = m.repeated
+          || has_key m.frame.pairs key;
+      spaced = m.spaced;
+      rest = m.rest;
+    }
 
 -- a key that is not empty, with a colon behind it
 abbrev pub keyed : Machine → List ℕ → Step
@@ -124,7 +179,8 @@ word_end spaced at (b ∷ rest) = if is_word_end b spaced then at else word_end 
 -- a key of these bytes, whose first one was read before; so many more belong to it
 abbrev pub plain_key : Machine → List ℕ → ℕ → Option ℕ → Step
 plain_key m w count None = if is_merge (trimmed w) then fails LeftOut else alone (behind m true (drop count m.rest)) (trimmed w)
-plain_key m w count (Some at) = if is_merge (trimmed (take at w)) then fails LeftOut else keyed (behind m false (drop at m.rest)) (trimmed (take at w))
+plain_key m w count (Some at) =
+    if is_merge (trimmed (take at w)) then fails LeftOut else keyed (behind m false (drop at m.rest)) (trimmed (take at w))
 
 abbrev pub plain_by : Machine → List ℕ → ℕ → Step
 plain_by m w count =
@@ -145,7 +201,16 @@ scalar m b =
 -- where a comma or the end may come
 abbrev pub after_step : Machine → ℕ → Step
 after_step m b =
-    if b == 44 then on (record { line = m.line; frame = m.frame; frames = m.frames; after = false; height = m.height; repeated = m.repeated; spaced = m.spaced; rest = m.rest }) else
+    if b == 44 then on (record {
+      line = m.line;
+      frame = m.frame;
+      frames = m.frames;
+      after = false;
+      height = m.height;
+      repeated = m.repeated;
+      spaced = m.spaced;
+      rest = m.rest;
+    }) else
     (if b == closing m.frame then closes m else fails Structure)
 
 -- where an item, a key, a key's value or the end may come
@@ -180,7 +245,8 @@ run zero m = Err LeftOut
 run (suc n) m = ran (step m) (run n)
 
 abbrev pub start : ℕ → Bool → List ℕ → Machine
-start line is_map bytes = record { line = line; frame = fresh is_map; frames = []; after = false; height = 1; repeated = false; spaced = false; rest = bytes }
+start line is_map bytes =
+    record { line = line; frame = fresh is_map; frames = []; after = false; height = 1; repeated = false; spaced = false; rest = bytes }
 
 -- behind an opening bracket
 unfoldable pub flow : ℕ → Bool → List ℕ → Result Ended Code

@@ -21,27 +21,34 @@ pub data ListEnds (column : ℕ) : List Piece → Type 0 where
   other : {p : Piece} {ps : List Piece} → p.column ≡ column → is_dash p.what ≡ false → ListEnds column (p ∷ ps)
 
 -- items, as long as the block goes on
-pub data IsRows {A : Type 0} (Ends : List Piece → Type 0) (Item : List A → List Piece → A → List Piece → Type 0) : List A → List Piece → List A → List Piece → Type 0 where
+pub data IsRows {A : Type 0} (Ends : List Piece → Type 0) (Item : List A → List Piece → A → List Piece → Type 0) : List A
+    → List Piece → List A → List Piece → Type 0 where
   ends : {found : List A} {ps : List Piece} → Ends ps → IsRows Ends Item found ps found ps
-  more : {found all : List A} {x : A} {ps behind rest : List Piece} → Item found ps x behind → IsRows Ends Item (found ++ x ∷ []) behind all rest → IsRows Ends Item found ps all rest
+  more : {found all : List A} {x : A} {ps behind rest : List Piece} → Item found ps x behind
+      → IsRows Ends Item (found ++ x ∷ []) behind all rest → IsRows Ends Item found ps all rest
 
 -- a dash, and a node right of it
 pub data IsItem (Node' : Nodes) (column : ℕ) : List Node → List Piece → Node → List Piece → Type 0 where
-  item : {found : List Node} {p : Piece} {ps rest : List Piece} {x : Node} → p.column ≡ column → p.what ≡ Dash → Node' p.line (p.column + 1) ps x rest → IsItem Node' column found (p ∷ ps) x rest
+  item : {found : List Node} {p : Piece} {ps rest : List Piece} {x : Node} → p.column ≡ column
+      → p.what ≡ Dash → Node' p.line (p.column + 1) ps x rest → IsItem Node' column found (p ∷ ps) x rest
 
 -- a key that is not among those that were found, and a node right of it, or a list at its own column
 pub data IsPair (Node' : Nodes) (column : ℕ) : List Pair → List Piece → Pair → List Piece → Type 0 where
   pair : {found : List Pair} {p : Piece} {k : List ℕ} {ps rest : List Piece} {x : Node}
-      → p.column ≡ column → p.what ≡ Key k → has_key found k ≡ false → Node' p.line (value_floor p.column (front ps)) ps x rest → IsPair Node' column found (p ∷ ps) (k, p.line, x) rest
+      → p.column ≡ column → p.what ≡ Key k → has_key found k ≡ false
+      → Node' p.line (value_floor p.column (front ps)) ps x rest → IsPair Node' column found (p ∷ ps) (k, p.line, x) rest
 
 -- a node whose inner nodes are of a kind, and in which at most so many stand in one another
 pub data IsNodeOver (depth : ℕ) (Inner : Nodes) (line floor : ℕ) : List Piece → Node → List Piece → Type 0 where
   absent : {ps : List Piece} → IsLeft floor ps → IsNodeOver depth Inner line floor ps (null line) ps
-  leaf : {p : Piece} {ps : List Piece} {x : Node} {height : ℕ} {out : Bool} → floor ≤ p.column → p.what ≡ Leaf x height out → height ≤ depth → IsNodeOver depth Inner line floor (p ∷ ps) x ps
+  leaf : {p : Piece} {ps : List Piece} {x : Node} {height : ℕ} {out : Bool} → floor ≤ p.column
+      → p.what ≡ Leaf x height out → height ≤ depth → IsNodeOver depth Inner line floor (p ∷ ps) x ps
   list : {p : Piece} {ps rest : List Piece} {items : List Node}
-      → floor ≤ p.column → p.what ≡ Dash → IsRows (ListEnds p.column) (IsItem Inner p.column) [] (p ∷ ps) items rest → IsNodeOver depth Inner line floor (p ∷ ps) (listed p.line items) rest
+      → floor ≤ p.column → p.what ≡ Dash → IsRows (ListEnds p.column) (IsItem Inner p.column) [] (p ∷ ps) items rest
+      → IsNodeOver depth Inner line floor (p ∷ ps) (listed p.line items) rest
   map : {p : Piece} {k : List ℕ} {ps rest : List Piece} {pairs : List Pair}
-      → floor ≤ p.column → p.what ≡ Key k → IsRows (IsLeft p.column) (IsPair Inner p.column) [] (p ∷ ps) pairs rest → IsNodeOver depth Inner line floor (p ∷ ps) (mapped p.line pairs) rest
+      → floor ≤ p.column → p.what ≡ Key k → IsRows (IsLeft p.column) (IsPair Inner p.column) [] (p ∷ ps) pairs rest
+      → IsNodeOver depth Inner line floor (p ∷ ps) (mapped p.line pairs) rest
 
 unfoldable pub IsNode : ℕ → Nodes
 IsNode zero = λ line floor ps x rest. ⊥

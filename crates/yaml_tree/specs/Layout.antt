@@ -1,5 +1,6 @@
 -- The tree of a text's pieces, by their columns, with the first fault that is met.
-use Rattle.std.specs.Prelude.{◌≡◌, ℕ, zero, suc, ◌+◌, Bool, true, false, ◌&&◌, ◌==◌, nat_lt, if◌then◌else◌, List, [], ◌∷◌, ◌++◌, length, drop, Option, Some, None, Result, Ok, Err}
+use Rattle.std.specs.Prelude.{◌≡◌, ℕ, zero, suc, ◌+◌, Bool, true, false, ◌&&◌, ◌==◌, nat_lt, if◌then◌else◌}
+use Rattle.std.specs.Prelude.{List, [], ◌∷◌, ◌++◌, length, drop, Option, Some, None, Result, Ok, Err}
 use Rattle.yaml_scan.specs.declared.fault.Fault.{Fault}
 use Rattle.yaml_scan.specs.declared.fault.Code.{Code}
 use Rattle.yaml_scan.specs.declared.fault.Code.TheVariants.{Structure, LeftOut, RepeatedKey, Limit}
@@ -138,7 +139,9 @@ begins_with column (Leaf node height left_out) = begins.Leaf
 
 abbrev pub head : ℕ → ℕ → Option Piece → Head
 head line floor None = record { line = line; begins = begins.Null }
-head line floor (Some p) = if nat_lt p.column floor then record { line = line; begins = begins.Null } else record { line = p.line; begins = begins_with p.column p.what }
+head line floor (Some p) =
+    if nat_lt p.column floor
+    then record { line = line; begins = begins.Null } else record { line = p.line; begins = begins_with p.column p.what }
 
 abbrev pub leaf_of : ℕ → ℕ → What → Rule Node
 leaf_of depth line Dash ps = stop line Structure

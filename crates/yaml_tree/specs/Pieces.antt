@@ -1,5 +1,6 @@
 -- The pieces of lines: dashes, keys, and scalars or flow, up to the first one that cannot be read.
-use Rattle.std.specs.Prelude.{◌≡◌, ℕ, zero, suc, ◌+◌, Bool, true, false, not, ◌||◌, ◌&&◌, ◌==◌, ◌-◌, if◌then◌else◌, List, [], ◌∷◌, ◌++◌, length, take, drop, Option, Some, None, Result, Ok, Err}
+use Rattle.std.specs.Prelude.{◌≡◌, ℕ, zero, suc, ◌+◌, Bool, true, false, not, ◌||◌, ◌&&◌, ◌==◌, ◌-◌, if◌then◌else◌}
+use Rattle.std.specs.Prelude.{List, [], ◌∷◌, ◌++◌, length, take, drop, Option, Some, None, Result, Ok, Err}
 use Rattle.yaml_scan.specs.declared.fault.Fault.{Fault}
 use Rattle.yaml_scan.specs.declared.fault.Code.{Code}
 use Rattle.yaml_scan.specs.declared.fault.Code.TheVariants.{Structure, LeftOut}
@@ -95,7 +96,8 @@ quoted_key pieces n column bytes s (Some rest) ls =
 
 abbrev pub quoted_at : List Piece → ℕ → ℕ → List ℕ → List RawLine → Found
 quoted_at pieces n column [] ls = found pieces ls
-quoted_at pieces n column (b ∷ rest) ls = let r : State × Option (List ℕ) = run (opened b n) rest in quoted_key pieces n column (b ∷ rest) r.0 r.1 ls
+quoted_at pieces n column (b ∷ rest) ls =
+    let r : State × Option (List ℕ) = run (opened b n) rest in quoted_key pieces n column (b ∷ rest) r.0 r.1 ls
 
 abbrev pub node_by : Start → List Piece → ℕ → ℕ → ℕ → List ℕ → List RawLine → Found
 node_by starts.InQuotes pieces n column b rest ls = quoted_at pieces n column (b ∷ rest) ls

@@ -9,13 +9,16 @@ use Rattle.yaml_tree.specs.Leaves.{colon_behind}
 pub data IsLine : List ℕ → List ℕ → Bool → Type 0 where
   ends : {bytes : List ℕ} → only_blanks bytes ≡ true → IsLine bytes [] false
   comment : {bytes : List ℕ} → only_blanks bytes ≡ false → nothing_left false bytes ≡ true → IsLine bytes [] true
-  byte : {b : ℕ} {bytes s : List ℕ} {commented : Bool} → nothing_left false (b ∷ bytes) ≡ false → colon_behind (b ∷ bytes) ≡ false → IsLine bytes s commented → IsLine (b ∷ bytes) (b ∷ s) commented
+  byte : {b : ℕ} {bytes s : List ℕ} {commented : Bool} → nothing_left false (b ∷ bytes) ≡ false
+      → colon_behind (b ∷ bytes) ≡ false → IsLine bytes s commented → IsLine (b ∷ bytes) (b ∷ s) commented
 
 -- So many blank lines, and then one that goes on: it stands at this column or right of it, and is no comment. Its bytes, and the
 -- lines behind it.
 pub data IsNext (floor : ℕ) : List RawLine → ℕ → List ℕ → List RawLine → Type 0 where
-  blank : {l : RawLine} {ls rest : List RawLine} {k : ℕ} {bytes : List ℕ} → is_empty l.content ≡ true → IsNext floor ls k bytes rest → IsNext floor (l ∷ ls) (k + 1) bytes rest
-  here : {l : RawLine} {ls : List RawLine} → is_empty l.content ≡ false → sees 35 l.content ≡ false → floor ≤ l.indent → IsNext floor (l ∷ ls) 0 l.content ls
+  blank : {l : RawLine} {ls rest : List RawLine} {k : ℕ} {bytes : List ℕ}
+      → is_empty l.content ≡ true → IsNext floor ls k bytes rest → IsNext floor (l ∷ ls) (k + 1) bytes rest
+  here : {l : RawLine} {ls : List RawLine} → is_empty l.content ≡ false
+      → sees 35 l.content ≡ false → floor ≤ l.indent → IsNext floor (l ∷ ls) 0 l.content ls
 
 -- blank lines, and then no line, a comment, or a line left of this column, from which on the lines are not the scalar's
 pub data IsOver (floor : ℕ) : List RawLine → List RawLine → Type 0 where
@@ -29,4 +32,5 @@ pub data IsOver (floor : ℕ) : List RawLine → List RawLine → Type 0 where
 pub data IsPlain (floor : ℕ) : List ℕ → List RawLine → List ℕ → List RawLine → Type 0 where
   commented : {bytes s : List ℕ} {ls : List RawLine} → IsLine bytes s true → IsPlain floor bytes ls s ls
   last : {bytes s : List ℕ} {ls ls' : List RawLine} → IsLine bytes s false → IsOver floor ls ls' → IsPlain floor bytes ls s ls'
-  broken : {bytes s next t : List ℕ} {ls behind ls' : List RawLine} {k : ℕ} → IsLine bytes s false → IsNext floor ls k next behind → IsPlain floor next behind t ls' → IsPlain floor bytes ls (s ++ (folded k ++ t)) ls'
+  broken : {bytes s next t : List ℕ} {ls behind ls' : List RawLine} {k : ℕ} → IsLine bytes s false
+      → IsNext floor ls k next behind → IsPlain floor next behind t ls' → IsPlain floor bytes ls (s ++ (folded k ++ t)) ls'

@@ -10,12 +10,15 @@ left_out b rest = b == 38 || b == 42 || b == 33 || b == 37 || b == 64 || b == 96
 
 -- what no plain scalar begins with
 abbrev pub no_plain : ℕ → List ℕ → Bool
-no_plain b rest = b == 44 || b == 91 || b == 93 || b == 123 || b == 125 || b == 35 || b == 124 || b == 62 || b == 39 || b == 34 || ((b == 45 || b == 58) && sees 32 rest)
+no_plain b rest =
+    b == 44 || b == 91 || b == 93 || b == 123 || b == 125 || b == 35 || b == 124
+    || b == 62 || b == 39 || b == 34 || ((b == 45 || b == 58) && sees 32 rest)
 
 -- how a node begins that is no dash
 abbrev pub start : ℕ → List ℕ → Start
 start b rest =
-    if b == 34 || b == 39 then starts.InQuotes else (if b == 91 || b == 123 then starts.InBrackets else (if b == 124 || b == 62 then starts.InLines else
+    if b == 34 || b == 39 then starts.InQuotes
+    else (if b == 91 || b == 123 then starts.InBrackets else (if b == 124 || b == 62 then starts.InLines else
     (if left_out b rest then starts.LeftOut else (if no_plain b rest then starts.Refused else starts.Plain))))
 
 -- the key `<<`, which merges maps
