@@ -150,7 +150,7 @@ no-line-of rs before (Line q number cmd ∷ xs) k far h zero = other q k (omega 
     other q k lt = search (rules, lt)
 
 -- a worker that is not rested has a line, so it is one of the 16
-not-rested-known : (rs : Records) (k : ℕ) (j : Journal) → EachAfter (IsTurn rs) [] j → is_rested rs k j ≡ false → k < 16
+pub not-rested-known : (rs : Records) (k : ℕ) (j : Journal) → EachAfter (IsTurn rs) [] j → is_rested rs k j ≡ false → k < 16
 not-rested-known rs k j turns e = by (nat_lt k 16) refl
   where
     by : (b : Bool) → nat_lt k 16 ≡ b → k < 16
