@@ -15,7 +15,6 @@ ghost use Rattle.ha_model.specs.Texts.{store_text};
 
 use crate::advance::advance;
 use crate::follow::follow_line;
-use crate::prepare::fitted;
 use engine_parts::last::drop_last;
 use engine_parts::parts::Parts;
 use ha_model::{Automation, Cmd, Config, CoreFault, Entry, Many, Record, Word, same_text};
@@ -114,11 +113,11 @@ fn put_as(journal: &[Entry], cmd: Cmd) -> Cmd
         } => Cmd::Report {
             entity,
             text,
-            attributes: fitted(attributes),
+            attributes: attributes.fitted(),
         },
         Cmd::Event { kind, pairs } => Cmd::Event {
             kind,
-            pairs: fitted(pairs),
+            pairs: pairs.fitted(),
         },
         other => other,
     }

@@ -69,15 +69,6 @@ fn begin_frames(alloc: Global, actions: &Many<Action>, env: &Env) -> Result<Box<
     Ok(held)
 }
 
-/// The same pairs, in no more memory than they need: the journal or the record of a run keeps them for good.
-pub(crate) fn fitted(pairs: Many<(Word, Value)>) -> Many<(Word, Value)>
-    ensures { result ≡ pairs }
-{
-    let mut pairs = pairs.into_vec();
-    pairs.shrink_to_fit();
-    Many::from_vec(pairs)
-}
-
 /// An attempt of a script is put behind those that are prepared.
 fn put_script(
     alloc: Global,
@@ -94,7 +85,8 @@ fn put_script(
 {
     let frames = begin_frames(alloc, actions, &env)?;
     let acts = has_action(actions);
-    let env = fitted(env);
+    // the record of a run keeps it for good
+    let env = env.fitted();
     stack.push(Prepared {
         automation,
         mode,
@@ -250,9 +242,9 @@ fn prepare_fired<A: Answers>(
 fn env_by_hand(alloc: Global) -> Result<Env, AllocError>
     ensures { IfOk result (λ env. env ≡ by_hand) }
 {
-    let mut pairs = Many::make(alloc);
+    let mut pairs = Many::with_room(alloc, 1)?;
     pairs.push((Word::from_str(alloc, "platform")?, Value::Null))?;
-    let mut env = Many::make(alloc);
+    let mut env = Many::with_room(alloc, 1)?;
     env.push((Word::from_str(alloc, "trigger")?, Value::Pairs(pairs)))?;
     Ok(env)
 }

@@ -135,15 +135,6 @@ fn triggered<A: Answers>(
     })
 }
 
-/// The same list, in no more memory than it needs: the journal keeps it for good.
-fn fitted<T: Drop>(list: Many<T>) -> Many<T>
-    ensures { result ≡ list }
-{
-    let mut items = list.into_vec();
-    items.shrink_to_fit();
-    Many::from_vec(items)
-}
-
 /// The item of a call of this service.
 pub fn item_of<A: Answers>(
     alloc: Global,
@@ -178,9 +169,10 @@ pub fn item_of<A: Answers>(
     if service.bytes() == b"automation.trigger".as_slice() {
         return triggered(alloc, answers, targets.as_slice(), pairs.as_slice());
     }
+    // the journal keeps the lists for good
     Ok(Item::Call {
         service,
-        target: fitted(targets),
-        fields: fitted(pairs),
+        target: targets.fitted(),
+        fields: pairs.fitted(),
     })
 }

@@ -34,15 +34,7 @@ fn decimal(alloc: Global, number: u32) -> Result<Value, AllocError>
     Ok(Value::Text(word))
 }
 
-/// No pairs yet, and room for so many: the record of a run keeps the variables for good.
-fn with_room(alloc: Global, count: usize) -> Result<Many<(Word, Value)>, AllocError>
-    ensures { IfOk result (λ ps. ps ≡ []) }
-{
-    let pairs = Vec::with_capacity(alloc, count)?;
-    Ok(Many::from_vec(pairs))
-}
-
-/// The first variables of each trigger, and room for so many in all.
+/// The first variables of each trigger, and room for so many in all: the record of a run keeps them for good.
 fn head(
     alloc: Global,
     platform: &str,
@@ -51,7 +43,7 @@ fn head(
 ) -> Result<Many<(Word, Value)>, AllocError>
     ensures { IfOk result (λ ps. ps ≡ triggers.head_pairs [] platform.now trigger.now) }
 {
-    let mut pairs = with_room(alloc, count)?;
+    let mut pairs = Many::with_room(alloc, count)?;
     add(alloc, &mut pairs, "platform", text(alloc, platform)?)?;
     add(
         alloc,
@@ -71,7 +63,7 @@ fn object_pairs(
 ) -> Result<Many<(Word, Value)>, AllocError>
     ensures { IfOk result (λ ps. ps ≡ (codes "entity_id", Value.Text (entity_text entity.now)) ∷ (codes "domain", Value.Text entity.now.domain) ∷ (codes "object_id", Value.Text entity.now.object) ∷ (codes "state", Value.Text state.now.text) ∷ (codes "attributes", Map state.now.attributes) ∷ []) }
 {
-    let mut pairs = with_room(alloc, 5)?;
+    let mut pairs = Many::with_room(alloc, 5)?;
     add(
         alloc,
         &mut pairs,
@@ -134,7 +126,7 @@ fn states_pairs(
 ) -> Result<Many<(Word, Value)>, AllocError>
     ensures { IfOk result (λ ps. ps ≡ (codes "entity_id", Value.Text (entity_text entity.now)) ∷ (codes "from_state", triggers.state_value [] entity.now (option_copied old.entry)) ∷ (codes "to_state", triggers.state_value [] entity.now (option_copied new.entry)) ∷ []) }
 {
-    let mut pairs = Many::make(alloc);
+    let mut pairs = Many::with_room(alloc, 5)?;
     add(
         alloc,
         &mut pairs,
@@ -240,7 +232,7 @@ fn event_pairs(
 ) -> Result<Many<(Word, Value)>, AllocError>
     ensures { IfOk result (λ ps. ps ≡ (codes "event_type", Value.Text kind.now) ∷ (codes "data", Map pairs.now) ∷ []) }
 {
-    let mut event = with_room(alloc, 2)?;
+    let mut event = Many::with_room(alloc, 2)?;
     add(
         alloc,
         &mut event,
