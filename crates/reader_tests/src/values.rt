@@ -97,6 +97,21 @@ fn words(rt: HostRuntime) -> Result<(), Fail> {
 }
 
 #[test]
+fn short_and_long_words(rt: HostRuntime) -> Result<(), Fail> {
+    let mut word = Word::from_str(rt.alloc(), "abcdefghijklmnopqrstuv")?;
+    assert_eq!(rt; word.len(), 22);
+    word.push_str("wx")?;
+    assert_eq!(rt; word.as_str(), "abcdefghijklmnopqrstuvwx");
+    let copied = word.copy(rt.alloc())?;
+    assert!(rt; copied.same(&word));
+    assert_eq!(rt;
+        copied.into_string(rt.alloc())?.as_str(),
+        "abcdefghijklmnopqrstuvwx"
+    );
+    Ok(())
+}
+
+#[test]
 fn ids(rt: HostRuntime) -> Result<(), Fail> {
     let id = EntityId::read(rt.alloc(), b"light.hall_2")?;
     assert_eq!(rt; id.object.as_str(), "hall_2");
@@ -121,7 +136,7 @@ fn truths(rt: HostRuntime) -> Result<(), Fail> {
     assert!(rt; text.truth());
     assert!(rt; !text.says_yes());
     assert!(rt; Value::Number(Num::Whole(2)).says_yes());
-    let mut items = Many::make(rt.alloc());
+    let mut items = Many::with_room(rt.alloc(), 1)?;
     items.push(Value::Null)?;
     let list = Value::Items(items);
     assert!(rt; list.truth());
@@ -147,7 +162,7 @@ fn lists(rt: HostRuntime) -> Result<(), Fail> {
     list.truncate(2);
     assert_eq!(rt; list.get(1).copied(), Some(2));
     list.clear();
-    let list = Many::from_vec(list.into_vec());
+    let list = Many::from_vec(list.into_vec()).fitted();
     assert!(rt; list.is_empty());
     let held = Boxed::new(rt.alloc(), Some(true))?;
     assert!(rt; held.copy(rt.alloc())?.same(&held));
