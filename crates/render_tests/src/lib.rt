@@ -8,6 +8,8 @@ mod filters;
 #[cfg(test)]
 mod functions;
 #[cfg(test)]
+mod lists;
+#[cfg(test)]
 mod states;
 #[cfg(test)]
 mod texts;

@@ -1,6 +1,8 @@
 pub mod NameLemmas
 pub mod PairLemmas
 pub mod ListLemmas
+pub mod SizeLemmas
+pub mod ItemLemmas
 pub mod PartLemmas
 pub mod StepLemmas
 pub mod PieceLemmas

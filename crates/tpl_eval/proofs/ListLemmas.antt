@@ -17,7 +17,7 @@ module _ (sight : Sight) (env : Pairs) where
   abbrev pub values : List Expr → Option (List Value)
   values xs = all_of sight (map (value_of sight) xs) env
 
-  abbrev behind : List Value → Option (List Value) → Option (List Value)
+  abbrev pub behind : List Value → Option (List Value) → Option (List Value)
   behind vs = option_map (λ ws. vs ++ ws)
 
   -- the values so far, and those of the rest, are all
@@ -31,7 +31,7 @@ module _ (sight : Sight) (env : Pairs) where
       by None = refl
       by (Some vs) = refl
 
-  abbrev one_more : Option Value → Option (List Value) → Option (List Value)
+  abbrev pub one_more : Option Value → Option (List Value) → Option (List Value)
   one_more v rest = option_and_then (λ x. option_map (λ vs. x ∷ vs) rest) v
 
   next : (xs : List Expr) (i : ℕ) (x : Expr) → i < length xs → x ≡ get_or xs i x → values (drop i xs) ≡ one_more (value_of sight x env) (values (drop (i + 1) xs))
@@ -41,6 +41,9 @@ module _ (sight : Sight) (env : Pairs) where
       ∙ (let e : suc i ≡ i + 1 = omega arith in λ k. one_more (value_of sight x env) (values (drop (e k) xs)))
 
   module _ (xs : List Expr) (i : ℕ) (vs : List Value) (known : Continues xs i vs) where
+    pub continues-at : (x : Expr) → i < length xs → x ≡ get_or xs i x → values xs ≡ behind vs (one_more (value_of sight x env) (values (drop (i + 1) xs)))
+    continues-at x lt is = known ∙ ap (behind vs) (next xs i x lt is)
+
     pub continues-more : (x : Expr) (new : List Value) → i < length xs → x ≡ get_or xs i x → option_map (λ v. vs ++ (v ∷ [])) (value_of sight x env) ≡ Some new → Continues xs (i + 1) new
     continues-more x new lt is made = known ∙ ap (behind vs) (next xs i x lt is) ∙ by (value_of sight x env) (values (drop (i + 1) xs)) made
       where

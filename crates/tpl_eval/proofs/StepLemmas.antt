@@ -9,11 +9,11 @@ use Rattle.ha_model.specs.declared.template.Expr.{Expr}
 use Rattle.ha_model.specs.declared.template.Expr.TheOpen.{Expr-F}
 use Rattle.ha_model.specs.declared.template.Expr.TheViews.{out-Expr}
 use Rattle.ha_model.specs.declared.template.Expr.TheFolds.{map-Expr}
-use Rattle.ha_model.specs.declared.template.Expr.TheVariants.{Field, Filter, IsNone, Pair, Pick, outs-Field, outs-Filter, outs-IsNone, outs-Pair, outs-Pick}
+use Rattle.ha_model.specs.declared.template.Expr.TheVariants.{At, Field, Filter, IsNone, Pair, Pick, outs-At, outs-Field, outs-Filter, outs-IsNone, outs-Pair, outs-Pick}
 use Rattle.ha_model.specs.States.{Sight}
 use Rattle.ha_model.specs.Words.{Text, Pairs}
 use Rattle.ha_model.specs.Filters.{filtered}
-use Rattle.ha_model.specs.Values.{field_of, is_null}
+use Rattle.ha_model.specs.Values.{field_of, is_null, part_at}
 use Rattle.ha_model.specs.Templates.{all_of, else_value, expr_step, value_of, Meaning}
 use Rattle.ha_model.proofs.Rolls.{value_of-out}
 use Rattle.tpl_fns.specs.Outcome.{Gives}
@@ -36,6 +36,14 @@ module _ (sight : Sight) (env : Pairs) where
     value-none base b holds h e =
         ap value h ∙ at (IsNone base holds) (Expr-F.IsNone base holds) (simp outs-IsNone)
         ∙ (λ k. option_map (λ v. Value.Flag (if is_null v then holds else not holds)) (value (sym e k)))
+
+    -- a part of what has a value
+    pub value-part : (base b index i : Expr) (v : Value) → x ≡ At base index → b ≡ base → i ≡ index → value b ≡ Some v
+        → value x ≡ option_map (part_at v) (value i)
+    value-part base b index i v h e f known =
+        ap value h ∙ at (At base index) (Expr-F.At base index) (simp outs-At)
+        ∙ (λ k. option_and_then (λ w. option_map (part_at w) (value (sym f k))) (value (sym e k)))
+        ∙ ap (option_and_then (λ w. option_map (part_at w) (value i))) known
 
     -- a filter whose first operand has a value
     pub value-filter : (name : ℕ) (base b : Expr) (args more : List Expr) (v : Value) → x ≡ Filter name base args → b ≡ base → more ≡ args → value b ≡ Some v

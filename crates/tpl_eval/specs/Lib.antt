@@ -1,4 +1,5 @@
 pub mod Held
+pub mod Sizes
 pub mod Scope
 pub mod Pairs
 pub mod Kinds

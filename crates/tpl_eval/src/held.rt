@@ -6,8 +6,10 @@ ghost use Rattle.ha_value.specs.Truth.{truth};
 ghost use Rattle.ha_model.specs.Values.{field_of, part_at};
 ghost use Rattle.tpl_fns.specs.Outcome.{Gives};
 ghost use Rattle.tpl_eval.specs.Held.{held_value, Puts, Yields};
+ghost use Rattle.tpl_eval.specs.Sizes.{PutsWithin};
 
 use crate::parts::{field, part};
+use crate::sizes::take_size;
 use ha_model::{Many, TplFault, Value, Word};
 use std::alloc::Global;
 use tpl_fns::copied;
@@ -145,6 +147,33 @@ pub fn add(
                 Err(_) => Err(TplFault::Memory),
             },
             Err(fault) => Err(fault),
+        },
+        Err(fault) => Err(fault),
+    }
+}
+
+/// Appends a value to a list that may have so many values more, those inside them counted, and gives how many it may have then. A
+/// greater value is a fault, and is not copied.
+pub fn add_within(
+    alloc: Global,
+    all: &mut Many<Value>,
+    left: usize,
+    held: Result<Held<'_>, TplFault>,
+) -> Result<usize, TplFault>
+    ensures { (given : Option Value) → Yields held.entry given → PutsWithin left all.old all.new given result }
+{
+    let held = match held {
+        Ok(held) => held,
+        Err(fault) => return Err(fault),
+    };
+    let rest = match take_size(held.get(), left) {
+        Some(rest) => rest,
+        None => return Err(TplFault::Fault),
+    };
+    match held.into_value(alloc) {
+        Ok(value) => match all.push(value) {
+            Ok(()) => Ok(rest),
+            Err(_) => Err(TplFault::Memory),
         },
         Err(fault) => Err(fault),
     }

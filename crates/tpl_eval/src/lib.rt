@@ -10,6 +10,7 @@ mod parts;
 mod pieces;
 mod rendering;
 mod scope;
+mod sizes;
 mod states;
 mod steps;
 mod value;

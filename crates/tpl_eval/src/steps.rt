@@ -32,16 +32,6 @@ pub fn filter_with<'a>(
     }
 }
 
-/// A list of values.
-pub fn listed<'a>(values: Result<Many<Value>, TplFault>) -> Result<Held<'a>, TplFault>
-    ensures { (given : Option (List Value)) → Gives values given → Yields result (option_map Value.Items given) }
-{
-    match values {
-        Ok(values) => Ok(Held::Made(Value::Items(values))),
-        Err(fault) => Err(fault),
-    }
-}
-
 /// A function on its arguments.
 pub fn called<'a>(
     scope: &Scope<'a>,

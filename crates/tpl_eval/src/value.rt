@@ -1,8 +1,9 @@
 //! The value of an expression.
-ghost use Rattle.std.specs.Prelude.{◌≡◌, map, true, Option};
+ghost use Rattle.std.specs.Prelude.{◌≡◌, map, option_and_then, true, Option};
 ghost use Rattle.ha_value.specs.declared.value.Value.{Value};
 ghost use Rattle.ha_model.specs.States.{Sight};
 ghost use Rattle.ha_model.specs.Templates.{all_of, value_of as value_lem};
+ghost use Rattle.ha_model.specs.Values.{bounded_items};
 ghost use Rattle.ha_model.specs.declared.template.Expr.TheViews.{out-Expr};
 ghost use Rattle.tpl_fns.specs.Outcome.{Gives};
 ghost use Rattle.tpl_eval.specs.Held.{Yields};
@@ -11,10 +12,11 @@ ghost use Rattle.tpl_eval.specs.Pairs.{paired};
 ghost use Rattle.tpl_eval.specs.Scope.{variables};
 ghost use Rattle.tpl_eval.specs.Seen.{Sees};
 
-use crate::held::{Held, add, empty_text, field_in, part_in, truth_of};
+use crate::held::{Held, add, add_within, empty_text, field_in, made, part_in, truth_of};
 use crate::pairs::{Begun, begin, operate_on};
 use crate::scope::Scope;
-use crate::steps::{called, filter_with, inverted, listed, negated, none_tested};
+use crate::sizes::most_values;
+use crate::steps::{called, filter_with, inverted, negated, none_tested};
 use ha_model::{Expr, Many, Op, TplFault, Value};
 
 /// The value of an expression. A chain of operators is as deep as it is long, so what is done at one link stands in functions of its own,
@@ -48,13 +50,31 @@ fn other_value<'a>(scope: &Scope<'a>, expr: &'a Expr) -> Result<Held<'a>, TplFau
     ensures { (sight : Sight) → Sees sight scope.now.states.now → Yields result (value_lem sight expr.now (variables scope.now)) }
 {
     match expr {
-        Expr::List(items) => listed(values_of(scope, items.as_slice())),
+        Expr::List(items) => made(items_of(scope, items.as_slice())),
         Expr::Function { name, args } => called(scope, *name, values_of(scope, args.as_slice())),
         Expr::Negate(inner) => negated(value_of(scope, inner.get())),
         Expr::Not(inner) => inverted(value_of(scope, inner.get())),
         Expr::IsNone { base, holds } => none_tested(value_of(scope, base.get()), *holds),
         _ => unreachable!(),
     }
+}
+
+/// A list in brackets. It has at most 65,536 values, those inside its items counted, and more are a fault; each is counted before it is
+/// copied.
+#[cycle(value)]
+#[inline(never)]
+fn items_of<'a>(scope: &Scope<'a>, exprs: &'a [Expr]) -> Result<Value, TplFault>
+    ensures { (sight : Sight) → Sees sight scope.now.states.now → Gives result (option_and_then bounded_items (all_of sight (map (value_lem sight) exprs.now) (variables scope.now))) }
+{
+    let mut all = Many::make(scope.alloc);
+    let mut left = most_values();
+    for i in 0..exprs.len() {
+        match add_within(scope.alloc, &mut all, left, value_of(scope, &exprs[i])) {
+            Ok(rest) => left = rest,
+            Err(fault) => return Err(fault),
+        }
+    }
+    Ok(Value::Items(all))
 }
 
 /// The values of expressions.

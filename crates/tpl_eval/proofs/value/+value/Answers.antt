@@ -5,7 +5,8 @@ use Rattle.ha_model.specs.Templates.{value_of}
 use Rattle.tpl_eval.specs.Held.{held_value, Yields}
 use Rattle.tpl_eval.specs.Scope.{variables}
 use Rattle.tpl_eval.proofs.ListLemmas.{continues-more, continues-fault, values}
-use Rattle.tpl_eval.proofs.StepLemmas.{value-field, value-none, value-filter, value-pair, pick-first, pick-second, pick-none, list-fault}
+use Rattle.tpl_eval.proofs.ItemLemmas.{items-fault, items-more}
+use Rattle.tpl_eval.proofs.StepLemmas.{value-field, value-none, value-part, value-filter, value-pair, pick-first, pick-second, pick-none, list-fault}
 use Rattle.tpl_eval.proofs.value.+value.Goals as goal
 
 pub field_value-returns : goal.field_value-returns
@@ -19,6 +20,13 @@ other_value-returns-in-IsNone t c = λ sight h.
     let env = variables c.args.scope.now in
     let e = value-none sight env c.args.expr.now c.in-IsNone.base c.get-in-IsNone.result.now c.in-IsNone.holds c.in-IsNone.is c.get-in-IsNone.ensures in
     subst (λ (o : Option Value). Yields c.none_tested.result o) (sym e) (c.none_tested.ensures (value_of sight c.get-in-IsNone.result.now env) (c.value_of-in-IsNone.ensures sight h))
+
+pub part_value-returns-in-Ok : goal.part_value-returns-in-Ok
+part_value-returns-in-Ok t c = λ sight h.
+    let env = variables c.args.scope.now in
+    let known = rw c.in-Ok.is at (c.value_of.ensures sight h) in
+    let e = value-part sight env c.args.expr.now c.in-At.base c.get.result.now c.in-At.index c.get-in-Ok.result.now (held_value c.in-Ok.held) c.in-At.is c.get.ensures c.get-in-Ok.ensures known in
+    subst (λ (o : Option Value). Yields c.part_in.result o) (sym e) (c.part_in.ensures (value_of sight c.get-in-Ok.result.now env) (c.value_of-in-Ok.ensures sight h))
 
 pub filter_value-returns-in-Ok : goal.filter_value-returns-in-Ok
 filter_value-returns-in-Ok t c = λ sight h.
@@ -80,3 +88,17 @@ values_of-loop-i-preserved t c = λ sight h.
     let x = c.index-exprs-i.result in
     let put = rw c.in-Ok.is at (c.add.ensures (value_of sight x env) (c.value_of.ensures sight h)) in
     continues-more sight env c.args.exprs.now c.loop-i.i c.loop-i.all (c.loop-i.invariant sight h) x c.add.new.all c.loop-i-test.true c.index-exprs-i.is put
+
+pub items_of-returns-in-Err : goal.items_of-returns-in-Err
+items_of-returns-in-Err t c = λ sight h.
+    let env = variables c.args.scope.now in
+    let x = c.index-exprs-i.result in
+    let put = rw c.in-Err.is at (c.add_within.ensures (value_of sight x env) (c.value_of.ensures sight h)) in
+    items-fault sight env c.args.exprs.now c.loop-i.i c.loop-i.left c.loop-i.all (c.loop-i.invariant sight h) x c.add_within.new.all c.loop-i-test.true c.index-exprs-i.is c.in-Err.fault put
+
+pub items_of-loop-i-preserved : goal.items_of-loop-i-preserved
+items_of-loop-i-preserved t c = λ sight h.
+    let env = variables c.args.scope.now in
+    let x = c.index-exprs-i.result in
+    let put = rw c.in-Ok.is at (c.add_within.ensures (value_of sight x env) (c.value_of.ensures sight h)) in
+    items-more sight env c.args.exprs.now c.loop-i.i c.loop-i.left c.loop-i.all (c.loop-i.invariant sight h) x c.add_within.new.all c.loop-i-test.true c.index-exprs-i.is c.in-Ok.rest put

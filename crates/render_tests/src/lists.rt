@@ -1,0 +1,64 @@
+//! Lists in brackets, and how many values they may have.
+use ha_model::{Many, TplFault, Value};
+use state_table::StateTable;
+use std::alloc::{AllocError, Global};
+use std::test::Fail;
+use tpl_eval::render;
+use tpl_parse::parse;
+
+/// A text in which `a`, which is none at first, becomes the list of itself twice, so many times; then another text.
+fn doubled(alloc: Global, count: usize, behind: &[u8]) -> Result<Vec<u8>, AllocError> {
+    let mut all = Vec::new(alloc);
+    for _i in 0..count {
+        all.extend_from_slice(b"{%set a=[a,a]%}")?;
+    }
+    all.extend_from_slice(behind)?;
+    Ok(all)
+}
+
+/// What a text of at most 16,384 bytes is rendered as.
+fn rendered(alloc: Global, text: &[u8]) -> Option<Result<Value, TplFault>> {
+    if 16_384 < text.len() {
+        return None;
+    }
+    let states = StateTable::make(alloc);
+    match parse(alloc, text) {
+        Ok(template) => Some(render(alloc, &template, &states, &Many::make(alloc))),
+        Err(_) => None,
+    }
+}
+
+fn gives(alloc: Global, text: &[u8], wanted: &[u8]) -> bool {
+    match rendered(alloc, text) {
+        Some(Ok(Value::Text(found))) => found.bytes() == wanted,
+        _ => false,
+    }
+}
+
+fn faults(alloc: Global, text: &[u8]) -> bool {
+    matches!(rendered(alloc, text), Some(Err(TplFault::Fault)))
+}
+
+/// A list of two values of size s has 2 s values, and the size 2 s + 1: after 14 times `a` has the size 32,767.
+#[test]
+fn a_list_has_65_536_values(rt: HostRuntime) -> Result<(), Fail> {
+    let alloc = rt.alloc();
+    let most = doubled(alloc, 14, b"{{[a,a,1,2]|length}}")?;
+    assert!(rt; gives(alloc, most.as_slice(), b"4"));
+    let more = doubled(alloc, 14, b"{{[a,a,1,2,3]|length}}")?;
+    assert!(rt; faults(alloc, more.as_slice()));
+    Ok(())
+}
+
+/// Fifteen times gives 65,534 values, sixteen times would give 131,070.
+#[test]
+fn a_list_is_not_doubled_again_and_again(rt: HostRuntime) -> Result<(), Fail> {
+    let alloc = rt.alloc();
+    let fifteen = doubled(alloc, 15, b"{{a|length}}")?;
+    assert!(rt; gives(alloc, fifteen.as_slice(), b"2"));
+    let sixteen = doubled(alloc, 16, b"on")?;
+    assert!(rt; faults(alloc, sixteen.as_slice()));
+    let forty = doubled(alloc, 40, b"on")?;
+    assert!(rt; faults(alloc, forty.as_slice()));
+    Ok(())
+}
