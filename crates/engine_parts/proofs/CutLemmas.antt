@@ -1,13 +1,5 @@
 -- One item is taken out of a list.
-use Rattle.std.proofs.Common.{◌≡◌, ℕ, zero, suc, ◌+◌, ◌<◌, List, [], ◌∷◌, ◌++◌, length, take, drop, filter, get_or, Bool, true, false, refl, sym, ap, ◌∙◌, arith}
-use Rattle.std.specs.Prelude.{if◌then◌else◌}
-
--- LAW: where it does not pass, those that pass are the same
-pub cut-one : {X : Type 0} (p : X → Bool) (i : ℕ) (xs : List X) (y : X) → i < length xs → y ≡ get_or xs i y → p y ≡ false
-    → take i (take i xs ++ drop (suc i) xs) ++ filter p (drop i (take i xs ++ drop (suc i) xs)) ≡ take i xs ++ filter p (drop i xs)
-cut-one p i [] y lt is off = absurd (omega (arith, lt))
-cut-one p zero (x ∷ xs) y lt is off = (let e : p x ≡ false = ap p (sym is) ∙ off in λ k. if sym e k then x ∷ filter p xs else filter p xs)
-cut-one p (suc i) (x ∷ xs) y lt is off = ap (λ l. x ∷ l) (cut-one p i xs y (omega (arith, lt)) is off)
+use Rattle.std.proofs.Common.{◌≡◌, ℕ, zero, suc, ◌<◌, List, [], ◌∷◌, ◌++◌, length, take, drop, refl, ap, ◌∙◌, arith}
 
 pub cut-length : {X : Type 0} (i : ℕ) (xs : List X) → i < length xs → suc (length (take i xs ++ drop (suc i) xs)) ≡ length xs
 cut-length i [] lt = absurd (omega (arith, lt))

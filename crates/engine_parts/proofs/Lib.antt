@@ -26,4 +26,5 @@ pub mod FreshLemmas
 pub mod CutLemmas
 pub mod ForgetLemmas
 pub mod PutLemmas
+pub mod LowerLemmas
 pub mod SlotTables

@@ -4,7 +4,7 @@ use Rattle.std.specs.Prelude.{nat_eq, nat_lt, if◌then◌else◌}
 use Rattle.ha_model.specs.Scripts.{Branch}
 use Rattle.ha_ready.specs.ReadyPairs.{changed_at, pairs_of, pairs_from}
 use Rattle.ha_ready.proofs.ReadyLemmas.{pairs-same}
-use Rattle.engine_parts.specs.Lower.{lower}
+use Rattle.engine_parts.specs.Lower.{Ascends, lower}
 
 below : (a b : ℕ) → a < b → nat_lt a b ≡ true
 below a b lt = search (rules, lt)
@@ -21,13 +21,22 @@ none-lower s n (suc m) by le = one (by (suc n)) (none-lower s (suc n) m by (omeg
     one [] rec = rec
     one (b ∷ bs) rec = (λ i. if not-below (suc n) s (omega (arith, le)) i then suc (lower s (pairs_of (suc n) bs ++ pairs_from (suc n) m by)) else 0)
 
-pub lower-fits : (s : ℕ) (xs : List (ℕ × Branch)) → lower s xs ≤ length xs
-lower-fits s [] = omega arith
-lower-fits s (x ∷ xs) = by (nat_lt x.0 s) (lower-fits s xs)
-  where
-    by : (b : Bool) → lower s xs ≤ length xs → (if b then suc (lower s xs) else 0) ≤ suc (length xs)
-    by true h = omega (arith, h)
-    by false h = omega arith
+-- ---- the pairs of runs stand by their runs
+
+ascends-from : (n k : ℕ) (xs : List (ℕ × Branch)) → n ≤ k → Ascends k xs → Ascends n xs
+ascends-from n k [] le h = tt
+ascends-from n k (x ∷ xs) le h = (omega (arith, le, h.0), h.1)
+
+run-ascends : (n k : ℕ) (bs : List Branch) (rest : List (ℕ × Branch)) → n ≤ k → Ascends k rest → Ascends n (pairs_of k bs ++ rest)
+run-ascends n k [] rest le h = ascends-from n k rest le h
+run-ascends n k (b ∷ bs) rest le h = (le, run-ascends k k bs rest (omega arith) h)
+
+-- LAW
+pub pairs-ascend : (n m : ℕ) (by : ℕ → List Branch) → Ascends n (pairs_from n m by)
+pairs-ascend n zero by = tt
+pairs-ascend n (suc m) by = run-ascends n (suc n) (by (suc n)) (pairs_from (suc n) m by) (omega arith) (pairs-ascend (suc n) m by)
+
+-- ---- where they are put in
 
 -- an earlier run stands before the place
 pass-lower : (s q : ℕ) (bs : List Branch) (rest mine : List (ℕ × Branch)) → q < s

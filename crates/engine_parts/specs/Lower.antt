@@ -1,8 +1,18 @@
 -- Where the pairs of a run stand among the others.
-use Rattle.std.specs.Prelude.{ℕ, suc, nat_lt, List, [], ◌∷◌, if◌then◌else◌}
+use Rattle.std.specs.Prelude.{ℕ, suc, ◌≤◌, Bool, false, nat_eq, nat_lt, List, [], ◌∷◌, slice_get, if◌then◌else◌}
+use Rattle.std.specs.Option.{option_map_or}
 use Rattle.ha_model.specs.Scripts.{Branch}
 
 -- how many pairs stand at the front that are of earlier runs
 abbrev pub lower : ℕ → List (ℕ × Branch) → ℕ
 lower s [] = 0
 lower s (x ∷ xs) = if nat_lt x.0 s then suc (lower s xs) else 0
+
+-- the pairs stand by their runs, from run n on
+abbrev pub Ascends : ℕ → List (ℕ × Branch) → Type 0
+Ascends n [] = Unit {0}
+Ascends n (x ∷ xs) = (n ≤ x.0) × Ascends x.0 xs
+
+-- a pair of this run stands at that place
+abbrev pub stands_at : ℕ → ℕ → List (ℕ × Branch) → Bool
+stands_at s at xs = option_map_or (λ x. nat_eq x.0 s) (slice_get xs at) false

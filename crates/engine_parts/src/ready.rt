@@ -2,7 +2,7 @@
 ghost use Rattle.std.specs.Prelude.{◌≡◌, ◌++◌, ◌∷◌, ◌<◌, ◌≤◌, ℕ, suc, List, not, nat_eq, nat_lt, OnOk, length, take, drop, filter, vec_len, vec_capacity};
 ghost use Rattle.ha_model.specs.Scripts.{Branch as Path};
 ghost use Rattle.ha_ready.specs.ReadyPairs.{pairs_from, pairs_of, with_run};
-ghost use Rattle.engine_parts.specs.Lower.{lower};
+ghost use Rattle.engine_parts.specs.Lower.{Ascends, lower, stands_at};
 
 use ha_model::{Branch, Many};
 use std::alloc::AllocError;
@@ -29,22 +29,6 @@ fn is_of(pair: &(u64, Branch), serial: u64) -> bool
     pair.0 == serial
 }
 
-/// The pairs of a run are taken out.
-pub fn drop_pairs(ready: &mut Ready, serial: u64)
-    ensures rest { ready.new.pairs.items ≡ filter (λ x. not (nat_eq x.0 serial)) ready.old.pairs.items }
-    ensures len { vec_len ready.new.pairs ≤ vec_len ready.old.pairs }
-    ensures capacity { vec_capacity ready.new.pairs ≡ vec_capacity ready.old.pairs }
-{
-    let mut at = 0;
-    'pairs: while at < ready.pairs.len() {
-        if is_of(&ready.pairs[at], serial) {
-            cut(ready, at);
-        } else {
-            at += 1;
-        }
-    }
-}
-
 /// Whether a pair is of an earlier run.
 fn is_before(pair: &(u64, Branch), serial: u64) -> bool
     ensures { result ≡ nat_lt pair.now.0 serial }
@@ -52,16 +36,44 @@ fn is_before(pair: &(u64, Branch), serial: u64) -> bool
     pair.0 < serial
 }
 
-/// How many pairs stand at the front that are of earlier runs.
+/// How many pairs stand at the front that are of earlier runs, where the pairs stand by their runs.
 pub fn lower(pairs: &[(u64, Branch)], serial: u64) -> usize
-    ensures { result ≡ lower serial pairs.now }
+    ensures fits { result ≤ length pairs.now }
+    ensures lower { Ascends 0 pairs.now → result ≡ lower serial pairs.now }
 {
-    'front: for at in 0..pairs.len() {
-        if !is_before(&pairs[at], serial) {
-            return at;
+    let mut low = 0;
+    let mut high = pairs.len();
+    'halves: while low < high {
+        let at = low + (high - low) / 2;
+        if is_before(&pairs[at], serial) {
+            low = at + 1;
+        } else {
+            high = at;
         }
     }
-    pairs.len()
+    low
+}
+
+/// Whether a pair of this run stands at that place.
+fn stands_at(ready: &Ready, serial: u64, at: usize) -> bool
+    ensures { result ≡ stands_at serial at ready.now.pairs.items }
+{
+    match ready.pairs.get(at) {
+        Some(pair) => is_of(pair, serial),
+        None => false,
+    }
+}
+
+/// The pairs of a run are taken out, where the pairs stand by their runs.
+pub fn drop_pairs(ready: &mut Ready, serial: u64)
+    ensures rest { Ascends 0 ready.old.pairs.items → ready.new.pairs.items ≡ filter (λ x. not (nat_eq x.0 serial)) ready.old.pairs.items }
+    ensures len { vec_len ready.new.pairs ≤ vec_len ready.old.pairs }
+    ensures capacity { vec_capacity ready.new.pairs ≡ vec_capacity ready.old.pairs }
+{
+    let at = lower(ready.pairs.as_slice(), serial);
+    'pairs: while stands_at(ready, serial, at) {
+        cut(ready, at);
+    }
 }
 
 /// A pair is put in at a place.

@@ -4,9 +4,11 @@ use Rattle.ha_model.specs.Scripts.{Branch}
 use Rattle.script_step.specs.declared.frames.Frames.{Frames}
 use Rattle.trig_set.specs.Stands.{attached}
 use Rattle.wait_set.specs.Asked.{WaitTable, without_run}
-use Rattle.engine_parts.specs.Kept.{Owned, RunsKept, SlotBut}
+use Rattle.engine_parts.specs.Kept.{Owned, RunsKept, SlotBut, left_branches}
+use Rattle.engine_parts.specs.Lower.{Ascends}
 use Rattle.engine_parts.specs.Records.{also}
 use Rattle.engine_parts.proofs.HeldLemmas.{held-without}
+use Rattle.engine_parts.proofs.PutLemmas.{pairs-ascend}
 use Rattle.engine_parts.proofs.ForgetLemmas.{owners-apart, others-one, owned-left, asks-left, run-gone, slots-length}
 use Rattle.engine_parts.proofs.forget.forget.Goals as goal
 
@@ -18,6 +20,7 @@ returns-clause-going c gone k rs numbered low high going =
     let table : c.drop_run.new.self ≡ rest = (λ i. record { asks = c.drop_run.ensures.rest i; fresh = c.drop_run.ensures.fresh i }) in
     let owned = owned-left s k p.triggers p.waits going.owned in
     let size : length p.frames.items ≡ length rs = slots-length (SlotBut gone k p.delays p.waits) rs p.frames.items going.runs_kept.slots in
+    let by_runs : Ascends 0 p.ready.pairs.items = subst (Ascends 0) (sym going.runs_kept.pairs_are) (pairs-ascend 0 (length rs) (left_branches gone rs k)) in
     let slot = c.clear_slot.ensures.slot (omega (arith, size, low, high)) in
     let runs : RunsKept (also gone s) k rs p.delays rest (set p.frames.items (s - 1) None) (filter (λ (x : ℕ × Branch). not (nat_eq x.0 s)) p.ready.pairs.items)
     = run-gone gone s k rs numbered low p.delays p.waits rest p.frames.items p.ready.pairs.items (asks-left s p.waits) (held-without k p.frames.items s None low p.waits.asks) going.runs_kept in
@@ -30,7 +33,7 @@ returns-clause-going c gone k rs numbered low high going =
           (known.0, others-one o (without_run s p.waits.asks) known.1))) owned);
       keys_early = going.keys_early;
       runs_kept =
-          subst (λ (l : List (ℕ × Branch)). RunsKept (also gone s) k rs p.delays c.drop_run.new.self c.clear_slot.new.frames.items l) (sym c.drop_pairs.ensures.rest)
+          subst (λ (l : List (ℕ × Branch)). RunsKept (also gone s) k rs p.delays c.drop_run.new.self c.clear_slot.new.frames.items l) (sym (c.drop_pairs.ensures.rest by_runs))
           (subst (λ (os : List (Option Frames)). RunsKept (also gone s) k rs p.delays c.drop_run.new.self os (filter (λ (x : ℕ × Branch). not (nat_eq x.0 s)) p.ready.pairs.items)) (sym slot)
           (subst (λ (w : WaitTable). RunsKept (also gone s) k rs p.delays w (set p.frames.items (s - 1) None) (filter (λ (x : ℕ × Branch). not (nat_eq x.0 s)) p.ready.pairs.items)) (sym table) runs));
     }

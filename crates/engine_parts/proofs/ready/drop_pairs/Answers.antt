@@ -1,16 +1,37 @@
-use Rattle.std.proofs.Common.{ℕ, List, ◌<◌, length, take, drop, filter, ◌++◌, sym, ap, ◌∙◌, arith}
-use Rattle.std.specs.Prelude.{not, nat_eq}
-use Rattle.ha_model.specs.Scripts.{Branch}
-use Rattle.engine_parts.proofs.CutLemmas.{cut-length, cut-one}
+use Rattle.std.proofs.Common.{length, refl, sym, ap, subst, ◌∙◌, arith}
+use Rattle.engine_parts.specs.Lower.{Ascends, lower}
+use Rattle.engine_parts.proofs.CutLemmas.{cut-length}
+use Rattle.engine_parts.proofs.LowerLemmas.{CutTo, cut-begins, cut-ends, cut-goes-on, stands-within}
 use Rattle.engine_parts.proofs.ready.drop_pairs.Goals as goal
 
-pub pairs-preserved-then-is_of : goal.pairs-preserved-then-is_of
-pairs-preserved-then-is_of c =
-    let lt : c.pairs.at < length c.pairs.ready.pairs.items = omega (arith, c.pairs-test.true) in
+pub pairs-init : goal.pairs-init
+pairs-init c =
+    let old = c.args.ready.now.pairs.items in
+    let is = c.as_slice.ensures.value in
     record {
-      rest = (λ k. take c.pairs.at (c.cut.ensures.items k) ++ filter (λ x. not (nat_eq x.0 c.args.serial)) (drop c.pairs.at (c.cut.ensures.items k)))
-          ∙ cut-one (λ (x : ℕ × Branch). not (nat_eq x.0 c.args.serial)) c.pairs.at c.pairs.ready.pairs.items c.index.result.now lt c.index.ensures (ap not (sym c.is_of.ensures ∙ c.if-is_of.true)) ∙ c.pairs.invariant.rest;
-      len = omega (arith, lt, ap length c.cut.ensures.items, cut-length c.pairs.at c.pairs.ready.pairs.items lt, c.pairs.invariant.len, c.cut.new.ready.pairs.ok.0, c.pairs.ready.pairs.ok.0);
-      capacity = c.cut.ensures.capacity ∙ c.pairs.invariant.capacity;
-      fits = omega (arith, lt, ap length c.cut.ensures.items, cut-length c.pairs.at c.pairs.ready.pairs.items lt);
+      cut = λ h. subst (λ n. CutTo c.args.serial n old old) (sym (c.lower-at.ensures.lower (subst (Ascends 0) (sym is) h) ∙ ap (lower c.args.serial) is)) (cut-begins c.args.serial 0 old h);
+      len = omega arith;
+      capacity = refl;
     }
+
+pub cut-requires : goal.cut-requires
+cut-requires c = stands-within c.args.serial c.lower-at.result c.pairs.ready.pairs.items (sym c.stands_at.ensures ∙ c.pairs-test.true)
+
+pub pairs-smaller : goal.pairs-smaller
+pairs-smaller c =
+    let lt = stands-within c.args.serial c.lower-at.result c.pairs.ready.pairs.items (sym c.stands_at.ensures ∙ c.pairs-test.true) in
+    omega (arith, lt, ap length c.cut.ensures.items, cut-length c.lower-at.result c.pairs.ready.pairs.items lt)
+
+pub pairs-preserved : goal.pairs-preserved
+pairs-preserved c =
+    let old = c.args.ready.now.pairs.items in
+    let stands = sym c.stands_at.ensures ∙ c.pairs-test.true in
+    let lt = stands-within c.args.serial c.lower-at.result c.pairs.ready.pairs.items stands in
+    record {
+      cut = λ h. cut-goes-on c.args.serial c.lower-at.result old c.pairs.ready.pairs.items c.cut.new.ready.pairs.items stands c.cut.ensures.items (c.pairs.invariant.cut h);
+      len = omega (arith, lt, ap length c.cut.ensures.items, cut-length c.lower-at.result c.pairs.ready.pairs.items lt, c.pairs.invariant.len, c.cut.new.ready.pairs.ok.0, c.pairs.ready.pairs.ok.0);
+      capacity = c.cut.ensures.capacity ∙ c.pairs.invariant.capacity;
+    }
+
+pub returns-clause-rest : goal.returns-clause-rest
+returns-clause-rest c h = cut-ends c.args.serial c.lower-at.result c.args.ready.now.pairs.items c.pairs.ready.pairs.items (sym c.stands_at.ensures ∙ c.pairs-test.false) (c.pairs.invariant.cut h)

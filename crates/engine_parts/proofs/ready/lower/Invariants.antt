@@ -1,6 +1,13 @@
-use Rattle.std.proofs.Common.{◌≡◌, ◌+◌, drop}
-use Rattle.engine_parts.specs.Lower.{lower}
+use Rattle.std.proofs.Common.{◌≡◌, ◌-◌, ◌≤◌, length}
+use Rattle.engine_parts.specs.Lower.{Ascends, lower}
 use Rattle.engine_parts.proofs.ready.lower.Given as goal
 
-abbrev pub invariant-front : goal.invariant-front
-invariant-front l = lower l.serial l.pairs ≡ l.at + lower l.serial (drop l.at l.pairs)
+abbrev pub invariant-halves : goal.invariant-halves
+invariant-halves l = record {
+  between : l.low ≤ l.high;
+  within : l.high ≤ length l.pairs;
+  found : Ascends 0 l.pairs → (l.low ≤ lower l.serial l.pairs) × (lower l.serial l.pairs ≤ l.high);
+}
+
+abbrev pub decreases-halves : goal.decreases-halves
+decreases-halves l = l.high - l.low

@@ -3,8 +3,8 @@ use Rattle.std.specs.Prelude.{nat_eq, if◌then◌else◌}
 use Rattle.ha_model.specs.Scripts.{Branch}
 use Rattle.ha_ready.specs.ReadyPairs.{changed_at, pairs_from}
 use Rattle.ha_ready.proofs.ReadyLemmas.{pairs-same}
-use Rattle.engine_parts.specs.Lower.{lower}
-use Rattle.engine_parts.proofs.PutLemmas.{lower-fits, put-at}
+use Rattle.engine_parts.specs.Lower.{Ascends, lower}
+use Rattle.engine_parts.proofs.PutLemmas.{pairs-ascend, put-at}
 use Rattle.ha_engine.proofs.step_end.put_first.Goals as goal
 
 eq-of : (a b : ℕ) → nat_eq a b ≡ true → a ≡ b
@@ -20,13 +20,14 @@ unchanged s m by none = pairs-same 0 m by (changed_at s [] by) (λ q low high. o
 
 pub put_reserved-requires-clause-fits : goal.put_reserved-requires-clause-fits
 put_reserved-requires-clause-fits c =
-    (let old : List (ℕ × Branch) = c.args.ready.now.pairs.items in subst (λ n. n ≤ length old) (sym (c.lower-at.ensures ∙ ap (lower c.args.serial) c.as_slice.ensures.value)) (lower-fits c.args.serial old))
+    subst (λ (l : List (ℕ × Branch)). c.lower-at.result ≤ length l) c.as_slice.ensures.value c.lower-at.ensures.fits
 
 pub returns-clause-items : goal.returns-clause-items
 returns-clause-items c m by is none low high =
     let s : ℕ = c.args.serial in
     let old : List (ℕ × Branch) = c.args.ready.now.pairs.items in
-    let at = c.lower-at.ensures ∙ ap (lower s) c.as_slice.ensures.value in
+    let whole = c.as_slice.ensures.value in
+    let at = c.lower-at.ensures.lower (subst (Ascends 0) (sym (whole ∙ is)) (pairs-ascend 0 m by)) ∙ ap (lower s) whole in
     let rest : old ≡ pairs_from 0 m (changed_at s [] by) = is ∙ unchanged s m by none in
     c.put_reserved.ensures.items
     ∙ (λ i. take (at i) old ++ ((s, []) ∷ drop (at i) old))
