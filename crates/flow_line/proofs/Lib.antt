@@ -34,3 +34,4 @@ pub mod Places
 pub mod PrintedText
 pub mod PrintedRows
 pub mod PrintedValue
+pub mod PlainStrings

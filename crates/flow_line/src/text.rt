@@ -1,6 +1,9 @@
 //! Strings.
 
-ghost use Rattle.std.specs.Prelude.{◌≡◌, ◌+◌, ◌*◌, ◌≤◌, ◌<◌, ◌^◌, length, true, IfOk};
+ghost use Rattle.std.specs.Prelude.{◌≡◌, ◌+◌, ◌*◌, ◌≤◌, ◌<◌, ◌^◌, length, drop, not, true, Some, IfOk, IfSome};
+ghost use Rattle.std.specs.List.{position};
+ghost use Rattle.reading.specs.Bytes.{sees};
+ghost use Rattle.flow_line.specs.Bytes.{is_plain};
 ghost use Rattle.std.specs.Char.{IsScalar};
 ghost use Rattle.reading.specs.Answer.{Gives, front};
 ghost use Rattle.flow_line.specs.Text.{byte_in, character, character_at, escape, hex_in, high_digits, next_bits, sequence, string, text, three_more, two_more, unicode, unit};
@@ -8,6 +11,7 @@ ghost use Rattle.flow_line.specs.Text.{byte_in, character, character_at, escape,
 use crate::bytes::{hex_value, is_in, is_plain, unescaped};
 use crate::value::{FlowReader, Stopped};
 use ha_value::Word;
+use reading::Reader;
 use std::alloc::Global;
 
 /// The character of a code that is one.
@@ -18,6 +22,35 @@ fn scalar(code: u32) -> char
     match char::from_u32(code) {
         Some(c) => c,
         None => unreachable!(),
+    }
+}
+
+/// The place of the first byte that does not stand for itself.
+fn first_marked(bytes: &[u8]) -> Option<usize>
+    ensures place { result ≡ position (λ b. not (is_plain b)) bytes.now }
+    ensures bound { IfSome result (λ at. at < length bytes.now) }
+{
+    bytes.iter().position(|b| !is_plain(*b))
+}
+
+fn begins_with_quote(bytes: &[u8]) -> bool
+    ensures { result ≡ sees 34 bytes.now }
+{
+    match bytes.first() {
+        Some(b) => *b == b'"',
+        None => false,
+    }
+}
+
+/// The place of the closing quote, where all bytes before it stand for themselves.
+fn plain_end(bytes: &[u8]) -> Option<usize>
+    ensures bound { IfSome result (λ at. at < length bytes.now) }
+    ensures place { IfSome result (λ at. position (λ b. not (is_plain b)) bytes.now ≡ Some at) }
+    ensures closed { IfSome result (λ at. sees 34 (drop at bytes.now) ≡ true) }
+{
+    match first_marked(bytes) {
+        Some(at) if begins_with_quote(&bytes[at..]) => Some(at),
+        _ => None,
     }
 }
 
@@ -191,9 +224,9 @@ impl<'a> FlowReader<'a> {
         Ok(scalar(self.code()?))
     }
 
-    /// A string behind its opening quote.
+    /// A string behind its opening quote, character by character.
     #[tactic(auto, unfolding(crate::specs::Text::characters))]
-    pub fn text(&mut self, alloc: Global) -> Result<Word, Stopped>
+    fn any_text(&mut self, alloc: Global) -> Result<Word, Stopped>
         ensures { Gives (text self.old) result self.new }
     {
         let mut text = String::new(alloc);
@@ -203,6 +236,36 @@ impl<'a> FlowReader<'a> {
         }
         let word = Word::from_string(alloc, text)?;
         Ok(word)
+    }
+
+    /// Takes so many bytes.
+    fn skip(&mut self, count: usize)
+        requires { count ≤ length self.old }
+        ensures { self.new ≡ drop count self.old }
+    {
+        self.bytes = Reader::new(&self.bytes.rest()[count..]);
+    }
+
+    /// A string behind its opening quote, of so many bytes that stand for themselves: they are copied at once.
+    fn plain_text(&mut self, alloc: Global, at: usize) -> Result<Word, Stopped>
+        requires within { at < length self.old }
+        requires marked { position (λ b. not (is_plain b)) self.old ≡ Some at }
+        requires closed { sees 34 (drop at self.old) ≡ true }
+        ensures { Gives (text self.old) result self.new }
+    {
+        let rest = self.bytes.rest();
+        self.skip(at + 1);
+        Ok(Word::from_bytes(alloc, &rest[..at])?)
+    }
+
+    /// A string behind its opening quote.
+    pub fn text(&mut self, alloc: Global) -> Result<Word, Stopped>
+        ensures { Gives (text self.old) result self.new }
+    {
+        match plain_end(self.bytes.rest()) {
+            Some(at) => self.plain_text(alloc, at),
+            None => self.any_text(alloc),
+        }
     }
 
     #[tactic(auto, unfolding(crate::specs::Text::string))]

@@ -1,7 +1,7 @@
 use Rattle.std.proofs.Common.{string_bytes}
 use Rattle.std.proofs.lemmas.Result.{err_from_is_err_and}
 use Rattle.flow_line.proofs.Strings.{character_fails, shorter_now, one_further, whole_text}
-use Rattle.flow_line.proofs.value.FlowReader.text.Goals as goal
+use Rattle.flow_line.proofs.value.FlowReader.any_text.Goals as goal
 
 pub returns-in_err-c : goal.returns-in_err-c
 returns-in_err-c c =
