@@ -11,6 +11,7 @@ use Rattle.event_bus.proofs.index.Index.TheSendSync as index
 use Rattle.trig_set.specs.contracts.spot.Held as Held
 use Rattle.trig_set.specs.contracts.spot.Spot as Spot
 use Rattle.trig_set.specs.contracts.owners.Attached as Attached
+use Rattle.trig_set.specs.contracts.ordered.Owners as Owners
 use Rattle.trig_set.specs.contracts.set.TrigSet as TrigSet
 use Rattle.trig_set.proofs.numbers.Numbers.TheSendSync as numbers
 use Rattle.state_table.specs.contracts.table.StateTable as StateTable
@@ -32,8 +33,11 @@ spot_send = search (held_send, entries) depth 60 fits 20000
 attached_send : IsSend Attached.the_row
 attached_send = search (spot_send, queue.the_send, crosses, entries) depth 60 fits 20000
 
+owners_send : IsSend Owners.the_row
+owners_send = search (attached_send, crosses, entries) depth 60 fits 20000
+
 triggers_field : IsSend TrigSet.the_field.row
-triggers_field = search (attached_send, index.the_field_send, queue.the_send, zone.the_send, numbers.the_field_send, crosses, entries) depth 60 fits 20000
+triggers_field = search (owners_send, index.the_field_send, queue.the_send, zone.the_send, numbers.the_field_send, crosses, entries) depth 60 fits 20000
 
 states_field : IsSend StateTable.the_field.row
 states_field = search (map.the_send, string.the_send, heap.the_send, allocator.the_frees, crosses, entries) depth 60 fits 20000

@@ -1,6 +1,6 @@
 -- What an entry doesn't concern keeps what it keeps, and fires nothing.
 use Rattle.std.proofs.Common.{◌≡◌, ℕ, zero, suc, ◌<◌, List, [], ◌∷◌, length, map, Bool, true, false, refl, sym, ap, subst, ◌∙◌}
-use Rattle.std.specs.Prelude.{Option, Some, None, MatchOption, filter_map, is_some, nat_lt, not, option_and_then, option_map, slice_get, ◌&&◌, if◌then◌else◌}
+use Rattle.std.specs.Prelude.{Option, Some, None, MatchOption, filter_map, is_some, nat_lt, option_and_then, option_map, slice_get, ◌&&◌, if◌then◌else◌}
 use Rattle.std.specs.List.{cons_option, list_all}
 use Rattle.std.specs.Option.{option_map_or}
 use Rattle.timer_queue.specs.Timers.{Timer, due_of}
@@ -10,7 +10,6 @@ use Rattle.ha_value.specs.declared.value.Value.{Value}
 use Rattle.ha_model.specs.declared.config.Trigger.{Trigger}
 use Rattle.ha_model.specs.declared.config.TriggerRule.{TriggerRule}
 use Rattle.ha_model.specs.declared.journal.Entry.{Entry}
-use Rattle.ha_model.specs.declared.steps.Firing.{Firing}
 use Rattle.ha_model.specs.Conditions.{number_watched}
 use Rattle.ha_model.specs.Entries.{Reported, event_in, is_moment, report_in}
 use Rattle.ha_model.specs.Equal.{same_flag}
@@ -25,9 +24,8 @@ use Rattle.ha_model.specs.Words.{Text, Pairs, one_of, same_entity}
 use Rattle.ha_model.proofs.EqualLemmas.{same-refl}
 use Rattle.ha_model.proofs.HeldLaws.{latest-more}
 use Rattle.ha_past.specs.Firings.{firings_of}
-use Rattle.ha_past.specs.Looks.{given, looks, moves_with, or_else, stays_watched, watches}
+use Rattle.ha_past.specs.Looks.{given, looks, moves_with, or_else, watches}
 use Rattle.event_bus.specs.Subjects.{Subject, concerns}
-use Rattle.trig_state.specs.States as rule_of
 use Rattle.trig_set.specs.declared.spot.Spot.{Spot}
 use Rattle.trig_set.specs.Kept.{All, AreTimed, AreWell, Keeps, KeepsAt, Moved, MovedAt, Settles, SpotsStand, cleared, firing_in, holding, holds_well, is_template, is_true, ripened, ripened_if}
 use Rattle.trig_set.specs.Next.{reports}

@@ -22,13 +22,13 @@ use Rattle.trig_set.specs.declared.scene.Scene.{Scene}
 use Rattle.trig_set.specs.declared.scene.Shift.{Shift}
 use Rattle.trig_set.specs.declared.spot.Spot.{Spot}
 use Rattle.trig_set.specs.Concerned.{IsAside}
-use Rattle.trig_set.specs.Kept.{All, place_of, places_of}
+use Rattle.trig_set.specs.Kept.{All, place_of}
 use Rattle.trig_set.specs.Known.{AreKnown, HasAt, HasFor, HasSpot, IsListed}
 use Rattle.trig_set.specs.Next.{reports}
-use Rattle.trig_set.specs.Order.{ascend}
+use Rattle.trig_set.specs.Order.{ascend, owner_of}
 use Rattle.trig_set.specs.Queued.{HasDue}
 use Rattle.trig_set.specs.Scenes.{AreShifts, Shows, face, shift_of}
-use Rattle.trig_set.specs.Stands.{AllOwners, AtOwner, OwnerStands, firings_at, owner_of}
+use Rattle.trig_set.specs.Stands.{AllOwners, AtOwner, OwnerStands, firings_at}
 use Rattle.trig_set.proofs.CalmLemmas.{CalmAt, IsCalm, calm-quiet, calm-stand, never}
 use Rattle.trig_set.proofs.MovedLemmas.{has-past}
 use Rattle.trig_set.proofs.NoteLemmas.{places-alike}

@@ -1,11 +1,11 @@
 -- Places put into a set, and taken out, the least first.
-use Rattle.std.proofs.Common.{◌≡◌, ℕ, zero, suc, ◌+◌, ◌<◌, ◌≤◌, List, [], ◌∷◌, ◌++◌, length, get_or, Bool, true, false, refl, sym, ap, subst, ◌∙◌, arith, nat_cmp, inl, inr}
+use Rattle.std.proofs.Common.{◌≡◌, ℕ, zero, suc, ◌+◌, ◌<◌, ◌≤◌, List, [], ◌∷◌, ◌++◌, length, get_or, Bool, true, false, refl, sym, subst, ◌∙◌, arith, nat_cmp, inl, inr}
 use Rattle.std.specs.Prelude.{All, IsSome, IsTrue, ◌↔◌, MatchOption, None, Option, Some, flat_map, map, nat_eq, nat_le, slice_get, ◌||◌, if◌then◌else◌}
 use Rattle.std.specs.List.{list_any}
 use Rattle.std.specs.BTreeMap.{is_at}
 use Rattle.std.specs.BTreeSet.{BTreeSet, IsLowerBound, Updates}
 use Rattle.std.specs.Ordering.{is_gt}
-use Rattle.std.proofs.lemmas.Bool.Decides.{eqb_tells, leb_tells, nat_tests}
+use Rattle.std.proofs.lemmas.Bool.Decides.{eqb_tells, nat_tests}
 use Rattle.ha_model.specs.Words.{up_to}
 use Rattle.event_bus.specs.Lists.{has}
 use Rattle.timer_queue.specs.Timers.{Timer, after_due, due_of, first_due}
@@ -14,9 +14,9 @@ use Rattle.event_bus.specs.declared.index.Index.{Index}
 use Rattle.event_bus.specs.Subjects.{Subject, knows}
 use Rattle.trig_set.specs.declared.scene.Shift.{Shift}
 use Rattle.trig_set.specs.Concerned.{OfOthers}
-use Rattle.trig_set.specs.Order.{ascend}
+use Rattle.trig_set.specs.Order.{ascend, owner_of}
 use Rattle.trig_set.specs.Queued.{IsLater}
-use Rattle.trig_set.specs.Stands.{AtOwner, owner_of}
+use Rattle.trig_set.specs.Stands.{AtOwner}
 use Rattle.trig_set.proofs.OwnersLemmas.{at-beyond, flat-up}
 use Rattle.trig_set.proofs.RipeLemmas.{none-due}
 use Rattle.trig_set.proofs.SpotLemmas.{get-at}

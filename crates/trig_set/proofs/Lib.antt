@@ -9,7 +9,8 @@ pub mod NoteLemmas
 pub mod CalmLemmas
 pub mod ConcernLemmas
 pub mod LeftLemmas
-pub mod FoundLemmas
+pub mod ListedLemmas
+pub mod HalvesLemmas
 pub mod OwnersLemmas
 pub mod SetLemmas
 pub mod PlaceLemmas

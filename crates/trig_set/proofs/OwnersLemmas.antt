@@ -10,7 +10,8 @@ use Rattle.ha_model.specs.Words.{numbers_from, up_to}
 use Rattle.ha_model.specs.RecordSteps.{more}
 use Rattle.trig_set.specs.declared.owners.Attached.{Attached}
 use Rattle.ha_past.specs.Firings.{firings_of, firings}
-use Rattle.trig_set.specs.Stands.{AtOwner, firings_at, owner_of}
+use Rattle.trig_set.specs.Order.{owner_of}
+use Rattle.trig_set.specs.Stands.{AtOwner, firings_at}
 use Rattle.ha_past.proofs.ListLemmas.{up_to-snoc}
 
 pub at-along : (P : Attached → Type 0) (xs ys : List Attached) (n : ℕ) → slice_get xs n ≡ slice_get ys n → AtOwner ys n P → AtOwner xs n P

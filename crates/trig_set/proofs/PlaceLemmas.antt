@@ -1,17 +1,12 @@
 -- Owners put in and taken out.
-use Rattle.std.proofs.Common.{◌≡◌, ℕ, zero, suc, ◌+◌, ◌<◌, ◌≤◌, List, [], ◌∷◌, length, map, filter, get_or, Bool, true, false, refl, sym, ap, subst, ◌∙◌, arith}
-use Rattle.std.specs.Prelude.{MatchOption, insert, not, nat_eq, nat_lt, slice_get, if◌then◌else◌}
-use Rattle.std.proofs.lemmas.Bool.Decides.{eqb_tells, nat_tests}
-use Rattle.std.proofs.Common.{inl, inr}
-use Rattle.trig_set.proofs.SpotLemmas.{get-at}
-use Rattle.trig_set.proofs.OwnersLemmas.{at-beyond}
+use Rattle.std.proofs.Common.{get_or, ◌≡◌, ℕ, zero, suc, ◌<◌, ◌≤◌, List, [], ◌∷◌, ◌++◌, length, map, filter, take, drop, Bool, true, false, refl, sym, ap, subst, ◌∙◌, arith}
+use Rattle.std.specs.Prelude.{IsNone, MatchOption, Option, Some, None, insert, not, nat_eq, nat_lt, slice_get, if◌then◌else◌}
+use Rattle.std.proofs.lemmas.Bool.Decides.{nat_tests}
 use Rattle.trig_set.specs.declared.owners.Attached.{Attached}
-use Rattle.ha_past.specs.Firings.{Owner, placed, without_owner}
-use Rattle.trig_set.specs.Stands.{AtOwner, AllOwners, owner_of}
-
--- the owners before a place come before a number
-pub record ComeBefore (owners : List Attached) (place owner : ℕ) : Type 0 where
-  pub each : (k : ℕ) → k < place → MatchOption (slice_get owners k) (Unit {0}) (λ a. nat_lt owner a.owner ≡ false)
+use Rattle.ha_past.specs.Firings.{Owner, owner_named, placed, without_owner}
+use Rattle.trig_set.specs.Order.{ascend, owner_of}
+use Rattle.trig_set.specs.Stands.{AtOwner, AllOwners}
+use Rattle.trig_set.proofs.SpotLemmas.{get-at}
 
 -- LAW: where those before come before it, and it comes before the one that stands there, an owner is at its place
 pub insert-placed : (owners : List Attached) (place : ℕ) (o : Owner) → place ≤ length owners → ((k : ℕ) → k < place → MatchOption (slice_get owners k) (Unit {0}) (λ a. nat_lt o.owner a.owner ≡ false))
@@ -40,6 +35,39 @@ all-insert P (x ∷ xs) zero v all here (suc m) = all m
 all-insert P (x ∷ xs) (suc n) v all here zero = all zero
 all-insert P (x ∷ xs) (suc n) v all here (suc m) = all-insert P xs n v (λ k. all (suc k)) here m
 
+-- nobody has the number
+pub none-named : (owners : List Attached) (owner n : ℕ) → IsNone (owner_named owner (map owner_of owners)) → AtOwner owners n (λ a. nat_eq a.owner owner ≡ false)
+none-named [] owner n none = tt
+none-named (x ∷ xs) owner n none = by (nat_eq x.owner owner) refl (λ h. none-named xs owner) none n
+  where
+    by : (b : Bool) → nat_eq x.owner owner ≡ b → (IsNone (owner_named owner (map owner_of xs)) → (k : ℕ) → IsNone (owner_named owner (map owner_of xs)) → AtOwner xs k (λ a. nat_eq a.owner owner ≡ false))
+        → IsNone (if b then Some (owner_of x) else owner_named owner (map owner_of xs)) → (n : ℕ) → AtOwner (x ∷ xs) n (λ a. nat_eq a.owner owner ≡ false)
+    by true e rest h n = absurd (let bad : ◌≡◌ {A = Bool} true false = h in cc)
+    by false e rest h zero = e
+    by false e rest h (suc n) = rest h n h
+
+not-before : (a owner n place : ℕ) → nat_lt a owner ≡ nat_lt n place → n < place → nat_lt owner a ≡ false
+not-before a owner n place h lt = grind (arith, nat_tests, h, lt)
+
+comes-before : (a owner place : ℕ) → nat_lt a owner ≡ nat_lt place place → nat_eq a owner ≡ false → nat_lt owner a ≡ true
+comes-before a owner place h apart = grind (arith, nat_tests, h, apart)
+
+-- LAW: behind those of lesser numbers a new owner is at its place
+pub behind-placed : (owners : List Attached) (place : ℕ) (o : Owner) → place ≤ length owners → ((n : ℕ) → AtOwner owners n (λ a. nat_lt a.owner o.owner ≡ nat_lt n place))
+    → IsNone (owner_named o.owner (map owner_of owners)) → insert (map owner_of owners) place o ≡ placed o (map owner_of owners)
+behind-placed owners place o fits behind none =
+    insert-placed owners place o fits
+    (λ k lt. before k lt (slice_get owners k) (behind k))
+    (here (slice_get owners place) (behind place) (none-named owners o.owner place none))
+  where
+    before : (k : ℕ) → k < place → (q : Option Attached) → MatchOption q (Unit {0}) (λ a. nat_lt a.owner o.owner ≡ nat_lt k place) → MatchOption q (Unit {0}) (λ a. nat_lt o.owner a.owner ≡ false)
+    before k lt None h = tt
+    before k lt (Some a) h = not-before a.owner o.owner k place h lt
+
+    here : (q : Option Attached) → MatchOption q (Unit {0}) (λ a. nat_lt a.owner o.owner ≡ nat_lt place place) → MatchOption q (Unit {0}) (λ a. nat_eq a.owner o.owner ≡ false) → MatchOption q (Unit {0}) (λ a. nat_lt o.owner a.owner ≡ true)
+    here None h apart = tt
+    here (Some a) h apart = comes-before a.owner o.owner place h apart
+
 -- those that are left
 abbrev pub is_other : ℕ → Attached → Bool
 is_other n a = not (nat_eq a.owner n)
@@ -64,31 +92,58 @@ all-left P n (x ∷ xs) all m = by (is_other n x) (all-left P n xs (λ k. all (s
     by true h m = cons (filter (is_other n) xs) h m
     by false h m = h m
 
-abbrev pub Before : List Attached → ℕ → ℕ → Type 0
-Before owners place owner = (k : ℕ) → k < place → MatchOption (slice_get owners k) (Unit {0}) (λ a. nat_lt owner a.owner ≡ false)
+kept-other : (owner : ℕ) (x : Attached) (ys zs : List Attached) → nat_eq x.owner owner ≡ false → ys ≡ zs → x ∷ ys ≡ (if is_other owner x then x ∷ zs else zs)
+kept-other owner x ys zs e same = (λ i. x ∷ same i) ∙ (λ i. if not (sym e i) then x ∷ zs else zs)
 
-lt-true : (a b : ℕ) → a < b → nat_lt a b ≡ true
-lt-true a b h = grind (arith, nat_tests, h)
+differs : (a owner n m : ℕ) → (a ≡ owner → n ≡ m) → nat_eq n m ≡ false → nat_eq a owner ≡ false
+differs a owner n m f h = by (nat_eq a owner) refl
+  where
+    by : (b : Bool) → nat_eq a owner ≡ b → b ≡ false
+    by true e = (let q : a ≡ owner = grind (arith, nat_tests, e) in let w = f q in grind (arith, nat_tests, w, h))
+    by false e = refl
 
-lt-false : (a b : ℕ) → b ≤ a → nat_lt a b ≡ false
-lt-false a b h = grind (arith, nat_tests, h)
+-- LAW: where nobody stands at the one place where an owner may, nobody goes
+pub none-left-out : (xs : List Attached) (owner : ℕ) → ((n : ℕ) → AtOwner xs n (λ a. nat_eq a.owner owner ≡ false)) → xs ≡ filter (is_other owner) xs
+none-left-out [] owner apart = refl
+none-left-out (x ∷ xs) owner apart = kept-other owner x xs (filter (is_other owner) xs) (apart 0) (none-left-out xs owner (λ n. apart (suc n)))
 
-pub placed-here : (owners : List Attached) (place owner : ℕ) (d : Attached) (o : Owner) → o.owner ≡ owner → place < length owners → Before owners place owner → owner < (get_or owners place d).owner
-    → insert (map owner_of owners) place o ≡ placed o (map owner_of owners)
-placed-here owners place owner d o is lt before less =
-    insert-placed owners place o (omega (arith, lt))
-    (λ k below. subst (λ n. MatchOption (slice_get owners k) (Unit {0}) (λ a. nat_lt n a.owner ≡ false)) (sym is) (before k below))
-    (subst (λ q. MatchOption q (Unit {0}) (λ a. nat_lt o.owner a.owner ≡ true)) (sym (get-at owners place d lt)) (ap (λ n. nat_lt n (get_or owners place d).owner) is ∙ lt-true owner (get_or owners place d).owner less))
+each-apart : (xs : List Attached) (place owner : ℕ) → ((n : ℕ) → AtOwner xs n (λ a. a.owner ≡ owner → place ≡ n)) → ((n : ℕ) → nat_eq place n ≡ false → AtOwner xs n (λ a. nat_eq a.owner owner ≡ false))
+each-apart xs place owner there n other = by (slice_get xs n) (there n)
+  where
+    by : (o : Option Attached) → MatchOption o (Unit {0}) (λ a. a.owner ≡ owner → place ≡ n) → MatchOption o (Unit {0}) (λ a. nat_eq a.owner owner ≡ false)
+    by None h = tt
+    by (Some a) h = differs a.owner owner place n h other
 
-pub before-more : (owners : List Attached) (place owner : ℕ) (d : Attached) → place < length owners → Before owners place owner → (get_or owners place d).owner ≤ owner → (k : ℕ) → k < place + 1 → MatchOption (slice_get owners k) (Unit {0}) (λ a. nat_lt owner a.owner ≡ false)
-before-more owners place owner d lt before more k below = elim (eqb_tells place k) [
-  | inl same ↦ subst (λ n. MatchOption (slice_get owners n) (Unit {0}) (λ a. nat_lt owner a.owner ≡ false)) same.1
-      (subst (λ q. MatchOption q (Unit {0}) (λ a. nat_lt owner a.owner ≡ false)) (sym (get-at owners place d lt)) (lt-false owner (get_or owners place d).owner more))
-  | inr other ↦ (let apart = other.1 in before k (omega (arith, below, apart)))
-]
+-- LAW: where it is not there, nobody goes
+pub left-absent : (xs : List Attached) (place owner : ℕ) → ((n : ℕ) → AtOwner xs n (λ a. a.owner ≡ owner → place ≡ n)) → AtOwner xs place (λ a. nat_eq a.owner owner ≡ false) → xs ≡ filter (is_other owner) xs
+left-absent xs place owner there here = none-left-out xs owner (λ n. by n (nat_eq place n) refl)
+  where
+    by : (n : ℕ) (b : Bool) → nat_eq place n ≡ b → AtOwner xs n (λ a. nat_eq a.owner owner ≡ false)
+    by n true e = (let q : place ≡ n = grind (arith, nat_tests, e) in subst (λ m. AtOwner xs m (λ a. nat_eq a.owner owner ≡ false)) q here)
+    by n false e = each-apart xs place owner there n e
 
-pub placed-end : (owners : List Attached) (place owner : ℕ) (o : Owner) → o.owner ≡ owner → length owners ≤ place → Before owners place owner → insert (map owner_of owners) (length owners) o ≡ placed o (map owner_of owners)
-placed-end owners place owner o is le before =
-    insert-placed owners (length owners) o (omega arith)
-    (λ k below. subst (λ n. MatchOption (slice_get owners k) (Unit {0}) (λ a. nat_lt n a.owner ≡ false)) (sym is) (before k (omega (arith, below, le))))
-    (at-beyond (λ a. nat_lt o.owner a.owner ≡ true) owners (length owners) (omega arith))
+-- LAW: where it is, it alone goes
+pub left-present : (xs : List Attached) (place owner : ℕ) (b : Attached) → ((n : ℕ) → AtOwner xs n (λ a. a.owner ≡ owner → place ≡ n)) → slice_get xs place ≡ Some b → b.owner ≡ owner
+    → take place xs ++ drop (suc place) xs ≡ filter (is_other owner) xs
+left-present [] place owner b there at is = absurd (let bad : ◌≡◌ {A = Option Attached} None (Some b) = at in cc)
+left-present (x ∷ xs) zero owner b there at is =
+    let same : x ≡ b = cc in
+    let e : nat_eq x.owner owner ≡ true = (λ i. nat_eq ((same i).owner) owner) ∙ (grind (arith, nat_tests, is)) in
+    none-left-out xs owner (λ n. each-apart (x ∷ xs) zero owner there (suc n) (grind (arith, nat_tests)))
+    ∙ (λ i. if not (sym e i) then x ∷ filter (is_other owner) xs else filter (is_other owner) xs)
+left-present (x ∷ xs) (suc p) owner b there at is =
+    kept-other owner x (take p xs ++ drop (suc p) xs) (filter (is_other owner) xs)
+    (each-apart (x ∷ xs) (suc p) owner there zero (grind (arith, nat_tests)))
+    (left-present xs p owner b (λ n. fewer n (slice_get xs n) (there (suc n))) at is)
+  where
+    fewer : (n : ℕ) (o : Option Attached) → MatchOption o (Unit {0}) (λ a. a.owner ≡ owner → suc p ≡ suc n) → MatchOption o (Unit {0}) (λ a. a.owner ≡ owner → p ≡ n)
+    fewer n None h = tt
+    fewer n (Some a) h = λ q. (let w = h q in omega (arith, w))
+
+-- LAW: the one that stands where an owner may is taken out
+pub taken-out : (xs seen new : List Attached) (place owner : ℕ) (b : Attached) → seen ≡ xs → (ascend (map owner_of seen) ≡ true → (n : ℕ) → AtOwner seen n (λ a. a.owner ≡ owner → place ≡ n))
+    → ascend (map owner_of xs) ≡ true → place < length xs → b ≡ get_or xs place b → b.owner ≡ owner → new ≡ take place xs ++ drop (suc place) xs → new ≡ filter (is_other owner) xs
+taken-out xs seen new place owner b v there asc lt at is rest =
+    rest ∙ left-present xs place owner b
+    (subst (λ l. (n : ℕ) → AtOwner l n (λ a. a.owner ≡ owner → place ≡ n)) v (there (ap (λ l. ascend (map owner_of l)) v ∙ asc)))
+    (get-at xs place b lt ∙ ap Some (sym at)) is

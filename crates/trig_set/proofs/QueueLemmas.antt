@@ -5,10 +5,10 @@ use Rattle.std.proofs.lemmas.Bool.Decides.{leb_tells, nat_tests}
 use Rattle.timer_queue.specs.Timers.{IsLeast, Timer, due_of, removed}
 use Rattle.timer_queue.proofs.TimerLemmas.{due_of-removed}
 use Rattle.trig_set.specs.declared.owners.Attached.{Attached}
-use Rattle.trig_set.specs.Order.{ascend}
+use Rattle.trig_set.specs.Order.{ascend, owner_of}
 use Rattle.trig_set.specs.Queued.{HasDue}
-use Rattle.trig_set.specs.Stands.{AllOwners, AtOwner, owner_of}
-use Rattle.trig_set.proofs.FoundLemmas.{ascends-at}
+use Rattle.trig_set.specs.Stands.{AllOwners, AtOwner}
+use Rattle.trig_set.proofs.HalvesLemmas.{ascends-at}
 use Rattle.trig_set.proofs.PlaceLemmas.{is_other}
 
 eq-self : (n : ℕ) → nat_eq n n ≡ true

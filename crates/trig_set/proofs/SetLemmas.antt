@@ -12,7 +12,8 @@ use Rattle.ha_model.specs.RecordSteps.{more}
 use Rattle.ha_model.specs.Triggers.{sight}
 use Rattle.trig_set.specs.declared.owners.Attached.{Attached}
 use Rattle.trig_set.specs.Next.{has_earlier}
-use Rattle.trig_set.specs.Stands.{AllOwners, owner_of}
+use Rattle.trig_set.specs.Order.{owner_of}
+use Rattle.trig_set.specs.Stands.{AllOwners}
 
 -- the last entry of a journal that has others is no Boot
 each-last : (n : ℕ) (xs : List Entry) (x : Entry) → EachFrom (λ n x. ¬ IsBoot x) n (xs ++ (x ∷ [])) → IsBoot x → ⊥

@@ -9,9 +9,9 @@ use Rattle.event_bus.specs.Lists.{has}
 use Rattle.event_bus.specs.Subjects.{Subject, knows}
 use Rattle.trig_set.specs.declared.owners.Attached.{Attached}
 use Rattle.trig_set.specs.declared.scene.Shift.{Shift}
-use Rattle.trig_set.specs.Order.{ascend}
+use Rattle.trig_set.specs.Order.{ascend, owner_of}
 use Rattle.trig_set.specs.Queued.{IsLater}
-use Rattle.trig_set.specs.Stands.{AtOwner, owner_of}
+use Rattle.trig_set.specs.Stands.{AtOwner}
 
 -- no segment opens with the entry, and the index does not have the number for it: not for templates, not for its type of events, and not
 -- for an entity that it changes; where it is a moment, neither for times, and the queue has no due of the number that comes by then

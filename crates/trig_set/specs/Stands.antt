@@ -13,15 +13,13 @@ use Rattle.trig_set.specs.declared.set.TrigSet.{TrigSet}
 use Rattle.ha_past.specs.Firings.{Owner, firings_of}
 use Rattle.trig_set.specs.Kept.{AreWell, SpotsStand}
 use Rattle.trig_set.specs.Known.{AreKnown}
+use Rattle.trig_set.specs.Order.{owner_of}
 use Rattle.trig_set.specs.Queued.{HasDue}
 use Rattle.trig_set.specs.Table.{number_at}
 
-abbrev pub owner_of : Attached → Owner
-owner_of a = record { owner = a.owner; triggers = a.triggers; since = a.since }
-
 -- who has triggers attached
 abbrev pub attached : TrigSet → List Owner
-attached s = map owner_of s.owners.items
+attached s = map owner_of s.owners
 
 -- what is kept for an owner stands for a journal
 pub record OwnerStands (j : Journal) (a : Attached) : Type 0 where
@@ -42,9 +40,9 @@ firings_at j x owners n = option_map_or (λ a. firings_of (more j x) (length j) 
 -- the set stands for a journal: for each owner its pending holds with their timers and the truth of its templates; the index of whom an
 -- entry concerns; the queue of the owners by their earliest hold; the latest numbers, Now and the zone
 pub record StandsFor (s : TrigSet) (j : Journal) : Type 0 where
-  pub owners : AllOwners s.owners.items (OwnerStands j)
+  pub owners : AllOwners s.owners (OwnerStands j)
   pub known : AreKnown s.index (attached s)
-  pub queued : AllOwners s.owners.items (HasDue s.queue)
+  pub queued : AllOwners s.owners (HasDue s.queue)
   pub at : s.now ≡ now j
   pub zone : HasEntry j → MatchOption s.zone ⊥ (λ z. z ≡ zone_of j)
   pub numbers : (e : EntityId) (name : Option Text) → number_at s.numbers e name ≡ latest_number e name j

@@ -1,5 +1,5 @@
 //! Whom an entry concerns, told by an index of the owners.
-ghost use Rattle.std.specs.Prelude.{◌≡◌, ◌≤◌, ℕ, OnOk, IfOk, MatchOption, false, length, map, nat_eq, option_map, slice_get, true};
+ghost use Rattle.std.specs.Prelude.{◌≡◌, ◌≤◌, ℕ, OnOk, IfOk, MatchOption, false, length, map, nat_eq, nat_lt, option_map, slice_get, true};
 ghost use Rattle.std.specs.Option.{option_copied, option_map_or};
 ghost use Rattle.event_bus.specs.Lists.{has};
 ghost use Rattle.event_bus.specs.Subjects.{Subject, knows};
@@ -8,9 +8,9 @@ ghost use Rattle.timer_queue.specs.Timers.{due_of};
 ghost use Rattle.trig_set.specs.Concerned.{IsAside, OfOthers};
 ghost use Rattle.trig_set.specs.Kept.{All};
 ghost use Rattle.trig_set.specs.Known.{HasSpot};
-ghost use Rattle.trig_set.specs.Order.{ascend};
+ghost use Rattle.trig_set.specs.Order.{ascend, owner_of};
 ghost use Rattle.trig_set.specs.Queued.{IsLater};
-ghost use Rattle.trig_set.specs.Stands.{AtOwner, owner_of};
+ghost use Rattle.trig_set.specs.Stands.{AtOwner};
 
 use crate::attached::is_moment;
 use crate::event::kind_in;
@@ -77,9 +77,11 @@ pub fn unlist(index: &mut Index, owner: u64, triggers: &Many<Trigger>, spots: &[
     }
 }
 
-/// Where an owner stands, if it is there.
+/// Where an owner stands, or would stand: behind those of lesser numbers.
 pub fn place_of(owners: &[Attached], owner: u64) -> usize
-    ensures { ascend (map owner_of owners.now) ≡ true → (n : ℕ) → AtOwner owners.now n (λ a. a.owner ≡ owner → result ≡ n) }
+    ensures within { result ≤ length owners.now }
+    ensures behind { ascend (map owner_of owners.now) ≡ true → (n : ℕ) → AtOwner owners.now n (λ a. nat_lt a.owner owner ≡ nat_lt n result) }
+    ensures there { ascend (map owner_of owners.now) ≡ true → (n : ℕ) → AtOwner owners.now n (λ a. a.owner ≡ owner → result ≡ n) }
 {
     let mut low = 0;
     let mut high = owners.len();

@@ -12,6 +12,7 @@ mod moved;
 mod moving;
 mod noted;
 mod numbers;
+mod ordered;
 mod owners;
 mod scene;
 mod set;

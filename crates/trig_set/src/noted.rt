@@ -9,10 +9,10 @@ ghost use Rattle.ha_model.specs.Triggers.{sight};
 ghost use Rattle.timer_queue.specs.Timers.{due_of};
 ghost use Rattle.ha_past.specs.Firings.{firings};
 ghost use Rattle.trig_set.specs.Known.{AreKnown};
-ghost use Rattle.trig_set.specs.Order.{ascend};
+ghost use Rattle.trig_set.specs.Order.{ascend, owner_of};
 ghost use Rattle.trig_set.specs.Queued.{HasDue};
 ghost use Rattle.trig_set.specs.Scenes.{Shows};
-ghost use Rattle.trig_set.specs.Stands.{AllOwners, AtOwner, OwnerStands, firings_at, owner_of};
+ghost use Rattle.trig_set.specs.Stands.{AllOwners, AtOwner, OwnerStands, firings_at};
 
 use crate::attached::retime;
 use crate::concerned::concerned;
@@ -39,7 +39,7 @@ fn note_there<A: Answers>(
     ensures fired { OnOk result ((j : Journal) → AtOwner owners.old place (λ a. Shows scene.now j a.since) → A.sight answers.now ≡ sight (more j scene.now.entry.now) (length (more j scene.now.entry.now))
         → AtOwner owners.old place (OwnerStands j) → fired.new ≡ fired.old ++ firings_at j scene.now.entry.now owners.old place) }
     ensures elsewhere { OnOk result ((n : ℕ) → nat_eq place n ≡ false → slice_get owners.new n ≡ slice_get owners.old n) }
-    ensures owners { OnOk result (map owner_of owners.new ≡ map owner_of owners.old) }
+    ensures owners { map owner_of owners.new ≡ map owner_of owners.old }
 {
     if place < owners.len() {
         note_at(alloc, scene, answers, place, owners, fired)
@@ -90,7 +90,7 @@ fn note_some<A: Answers>(
         → fired.new ≡ fired.old ++ flat_map (firings_at j scene.now.entry.now owners.old) (up_to (length owners.old))) }
     ensures queued { OnOk result (ascend (map owner_of owners.old) ≡ true → ((n : ℕ) → has places n ≡ false → AtOwner owners.old n (HasDue queue.old))
         → AllOwners owners.new (HasDue queue.new)) }
-    ensures owners { OnOk result (map owner_of owners.new ≡ map owner_of owners.old) }
+    ensures owners { map owner_of owners.new ≡ map owner_of owners.old }
 {
     let mut left = places;
     'places: while let Some(place) = left.pop_first() {
@@ -117,7 +117,7 @@ fn note_list<A: Answers>(
         → AllOwners owners.old (OwnerStands j) → AreKnown index.now (map owner_of owners.old) → AllOwners owners.old (HasDue queue.old)
         → fired.new ≡ fired.old ++ flat_map (firings_at j scene.now.entry.now owners.old) (up_to (length owners.old))) }
     ensures queued { OnOk result (ascend (map owner_of owners.old) ≡ true → AllOwners owners.old (HasDue queue.old) → AllOwners owners.new (HasDue queue.new)) }
-    ensures owners { OnOk result (map owner_of owners.new ≡ map owner_of owners.old) }
+    ensures owners { map owner_of owners.new ≡ map owner_of owners.old }
 {
     let places = concerned(
         alloc,
@@ -149,7 +149,7 @@ pub fn note_owners<A: Answers>(
         → AllOwners owners.old.items (OwnerStands j) → AreKnown index.now (map owner_of owners.old.items) → AllOwners owners.old.items (HasDue queue.old)
         → fired.new ≡ fired.old ++ firings (more j scene.now.entry.now) (length j) (map owner_of owners.old.items)) }
     ensures queued { OnOk result (ascend (map owner_of owners.old.items) ≡ true → AllOwners owners.old.items (HasDue queue.old) → AllOwners owners.new.items (HasDue queue.new)) }
-    ensures owners { OnOk result (map owner_of owners.new.items ≡ map owner_of owners.old.items) }
+    ensures owners { map owner_of owners.new.items ≡ map owner_of owners.old.items }
 {
     note_list(
         alloc,

@@ -1,17 +1,18 @@
-//! The owners, in the order of their numbers.
-ghost use Rattle.std.specs.Prelude.{◌≡◌, ◌≤◌, ◌<◌, ◌++◌, ℕ, List, IfOk, IsTrue, OnOk, OnErr, insert, length, map, false, nat_eq, slice_get};
+//! One owner of triggers, with what is kept for it.
+ghost use Rattle.std.specs.Prelude.{◌≡◌, ◌≤◌, ◌<◌, ◌++◌, ℕ, List, IfOk, IsTrue, OnOk, length, map, false, nat_eq, slice_get};
 ghost use Rattle.ha_clock.specs.Local.{last_moment};
 ghost use Rattle.ha_model.specs.Journal.{Journal};
 ghost use Rattle.ha_model.specs.RecordSteps.{more};
 ghost use Rattle.ha_model.specs.Sound.{are_sound_triggers};
 ghost use Rattle.ha_model.specs.Triggers.{sight};
-ghost use Rattle.timer_queue.specs.Timers.{Timer, removed};
-ghost use Rattle.ha_past.specs.Firings.{Owner, firings_of, placed, without_owner};
+ghost use Rattle.timer_queue.specs.Timers.{Timer};
+ghost use Rattle.ha_past.specs.Firings.{firings_of};
 ghost use Rattle.event_bus.specs.Subjects.{Subject, knows};
 ghost use Rattle.trig_set.specs.Kept.{All};
 ghost use Rattle.trig_set.specs.Known.{HasSpot};
 ghost use Rattle.trig_set.specs.Queued.{HasDue};
-ghost use Rattle.trig_set.specs.Stands.{AllOwners, AtOwner, OwnerStands, firings_at, owner_of};
+ghost use Rattle.trig_set.specs.Order.{owner_of};
+ghost use Rattle.trig_set.specs.Stands.{AtOwner, OwnerStands, firings_at};
 ghost use Rattle.trig_set.specs.Scenes.{Shows};
 
 use crate::attached::note_spots;
@@ -49,7 +50,7 @@ fn note_one<A: Answers>(
         → OwnerStands j attached.old → OwnerStands (more j scene.now.entry.now) attached.new) }
     ensures fired { OnOk result ((j : Journal) → Shows scene.now j attached.old.since → A.sight answers.now ≡ sight (more j scene.now.entry.now) (length (more j scene.now.entry.now))
         → OwnerStands j attached.old → fired.new ≡ fired.old ++ firings_of (more j scene.now.entry.now) (length j) (owner_of attached.old)) }
-    ensures same { OnOk result (owner_of attached.new ≡ owner_of attached.old) }
+    ensures same { owner_of attached.new ≡ owner_of attached.old }
 {
     note_spots(
         alloc,
@@ -80,7 +81,7 @@ pub fn note_at<A: Answers>(
     ensures fired { OnOk result ((j : Journal) → AtOwner owners.old place (λ a. Shows scene.now j a.since) → A.sight answers.now ≡ sight (more j scene.now.entry.now) (length (more j scene.now.entry.now))
         → AtOwner owners.old place (OwnerStands j) → fired.new ≡ fired.old ++ firings_at j scene.now.entry.now owners.old place) }
     ensures elsewhere { OnOk result ((n : ℕ) → nat_eq place n ≡ false → slice_get owners.new n ≡ slice_get owners.old n) }
-    ensures owners { OnOk result (map owner_of owners.new ≡ map owner_of owners.old) }
+    ensures owners { map owner_of owners.new ≡ map owner_of owners.old }
 {
     note_one(alloc, scene, answers, &mut owners[place], fired)
 }
@@ -108,31 +109,6 @@ pub fn fresh(
     })
 }
 
-/// Where an owner stands.
-fn place_for(owners: &[Attached], owner: u64) -> usize
-    ensures within { result ≤ length owners.now }
-    ensures place { (o : Owner) → o.owner ≡ owner → insert (map owner_of owners.now) result o ≡ placed o (map owner_of owners.now) }
-{
-    for place in 0..owners.len() {
-        if owner < owners[place].owner {
-            return place;
-        }
-    }
-    owners.len()
-}
-
-/// Puts an owner in at its place. After an error the owners are as before.
-pub fn put_in(owners: &mut Vec<Attached>, attached: Attached) -> Result<(), AllocError>
-    ensures ok { OnOk result (map owner_of owners.new.items ≡ placed (owner_of attached) (map owner_of owners.old.items)) }
-    ensures stands { OnOk result ((j : Journal) → AllOwners owners.old.items (OwnerStands j) → OwnerStands j attached → AllOwners owners.new.items (OwnerStands j)) }
-    ensures queued { OnOk result ((queue : List Timer) → AllOwners owners.old.items (HasDue queue) → HasDue queue attached → AllOwners owners.new.items (HasDue queue)) }
-    ensures err { OnErr result (owners.new.items ≡ owners.old.items) }
-{
-    let place = place_for(owners.as_slice(), attached.owner);
-    owners.insert(place, attached)?;
-    Ok(())
-}
-
 /// Lists an owner in an index, for what concerns its triggers. After an error the others are listed as before.
 pub fn list_owner(alloc: Global, index: &mut Index, attached: &Attached) -> Result<(), AllocError>
     ensures here { OnOk result (All attached.now.spots.items (HasSpot index.new attached.now.owner attached.now.triggers)) }
@@ -156,13 +132,4 @@ pub fn unlist_owner(index: &mut Index, owners: &[Attached], owner: u64)
         let attached = &owners[place];
         unlist(index, owner, &attached.triggers, attached.spots.as_slice());
     }
-}
-
-/// Takes an owner out, if it is there.
-pub fn take_out(owners: &mut Vec<Attached>, owner: u64)
-    ensures rest { map owner_of owners.new.items ≡ without_owner owner (map owner_of owners.old.items) }
-    ensures stands { (j : Journal) → AllOwners owners.old.items (OwnerStands j) → AllOwners owners.new.items (OwnerStands j) }
-    ensures queued { (queue : List Timer) → AllOwners owners.old.items (HasDue queue) → AllOwners owners.new.items (HasDue (removed owner queue)) }
-{
-    owners.retain(|attached| attached.owner != owner);
 }

@@ -10,9 +10,9 @@ ghost use Rattle.ha_past.specs.Firings.{Owner, owner_named, placed, without_owne
 ghost use Rattle.trig_set.specs.Next.{IsNext};
 ghost use Rattle.trig_set.specs.Stands.{attached, StandsFor};
 
-use crate::noted::note_owners;
 use crate::numbers::Numbers;
-use crate::owners::{Attached, fresh, list_owner, put_in, take_out, unlist_owner};
+use crate::ordered::Owners;
+use crate::owners::{fresh, list_owner};
 use crate::scene::Scene;
 use crate::shifts::shifts_of;
 use event_bus::Index;
@@ -25,8 +25,7 @@ use timer_queue::TimerQueue;
 /// Triggers that are attached under owners, with what has to be known of the journal so far to tell what fires at its next entry.
 #[derive(Drop)]
 pub struct TrigSet {
-    /// In the order of their numbers.
-    owners: Vec<Attached>,
+    owners: Owners,
     /// Which owners each entity and each type of events concerns.
     index: Index,
     /// The earliest due of the holds of each owner that has some, under its number.
@@ -45,7 +44,7 @@ impl TrigSet {
         ensures stands { StandsFor result [] }
     {
         TrigSet {
-            owners: Vec::new(alloc),
+            owners: Owners::make(alloc),
             index: Index::make(alloc),
             queue: TimerQueue::make(alloc),
             now: Moment::at(0),
@@ -73,7 +72,7 @@ impl TrigSet {
     {
         let attached = fresh(alloc, owner, triggers, place)?;
         list_owner(alloc, &mut self.index, &attached)?;
-        put_in(&mut self.owners, attached)
+        self.owners.put_in(attached)
     }
 
     /// Detaches the triggers of an owner, with their holds; of an owner that has none, nothing changes.
@@ -81,8 +80,8 @@ impl TrigSet {
         ensures rest { attached self.new ≡ without_owner owner (attached self.old) }
         ensures stands { (j : Journal) → StandsFor self.old j → StandsFor self.new j }
     {
-        unlist_owner(&mut self.index, self.owners.as_slice(), owner);
-        take_out(&mut self.owners, owner);
+        self.owners.unlist(&mut self.index, owner);
+        self.owners.take_out(owner);
         self.queue.remove(owner);
     }
 
@@ -142,12 +141,11 @@ impl TrigSet {
             from: self.now,
             to,
         };
-        note_owners(
+        self.owners.note(
             alloc,
             &scene,
             answers,
             &self.index,
-            &mut self.owners,
             &mut self.queue,
             &mut fired,
         )?;

@@ -1,9 +1,9 @@
-use Rattle.std.proofs.Common.{◌∙◌, ap, sym, subst, arith, inl, inr, length}
+use Rattle.std.proofs.Common.{◌∙◌, sym, subst, arith, inl, inr, length}
 use Rattle.std.specs.Prelude.{MatchOption}
 use Rattle.std.proofs.lemmas.Bool.Decides.{eqb_tells, leb_tells}
 use Rattle.trig_set.specs.Kept.{At}
 use Rattle.trig_set.specs.Known.{HasSpot}
-use Rattle.trig_set.proofs.FoundLemmas.{has-more, spot-beyond}
+use Rattle.trig_set.proofs.ListedLemmas.{has-more, spot-beyond}
 use Rattle.trig_set.proofs.SpotLemmas.{get-at}
 use Rattle.trig_set.proofs.concerned.list.Goals as goal
 

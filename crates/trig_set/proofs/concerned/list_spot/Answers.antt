@@ -1,10 +1,10 @@
-use Rattle.std.proofs.Common.{◌∙◌, ap, sym, subst, true}
+use Rattle.std.proofs.Common.{◌∙◌, ap, sym, subst}
 use Rattle.std.specs.Prelude.{MatchOption, ◌||◌}
 use Rattle.std.specs.Option.{option_copied}
 use Rattle.event_bus.specs.Subjects.{concerns, knows}
 use Rattle.trig_set.specs.Known.{HasFor}
 use Rattle.trig_set.proofs.OnLemmas.{on-then}
-use Rattle.trig_set.proofs.FoundLemmas.{or-true}
+use Rattle.trig_set.proofs.ListedLemmas.{or-true}
 use Rattle.trig_set.proofs.concerned.list_spot.Goals as goal
 
 pub returns-in-Some-clause-here : goal.returns-in-Some-clause-here

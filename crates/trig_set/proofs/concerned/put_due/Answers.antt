@@ -21,7 +21,7 @@ dues-preserved c =
       kept = λ n none. c.dues.invariant.kept n (put-kept old new c.place_of.result updates n none);
       same = λ n none.
           due-aside c.args.owners.now old new c.place_of.result updates n none c.args.to c.in-Some.owner c.args.queue.now c.dues.queue c.pop_due.new.self
-          (sym c.pop_due.ensures.first ∙ c.in-Some.is) c.pop_due.ensures.rest (λ asc. c.place_of.ensures asc n) (c.dues.invariant.same n (put-kept old new c.place_of.result updates n none));
+          (sym c.pop_due.ensures.first ∙ c.in-Some.is) c.pop_due.ensures.rest (λ asc. c.place_of.ensures.there asc n) (c.dues.invariant.same n (put-kept old new c.place_of.result updates n none));
     }
 
 pub returns-clause-later : goal.returns-clause-later

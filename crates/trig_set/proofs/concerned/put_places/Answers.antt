@@ -13,7 +13,7 @@ owners-preserved c =
       aside = λ n none.
           put-aside old new c.place_of.result updates n none c.args.owners.now c.args.listed.now c.in-Some.owner.now c.owners.owner-iterator c.next.new.self
           (rest_more deref _ _ _ c.in-Some.owner c.in-Some.is c.next.ensures.steps)
-          (λ asc. c.place_of.ensures asc n) (c.owners.invariant.aside n (put-kept old new c.place_of.result updates n none));
+          (λ asc. c.place_of.ensures.there asc n) (c.owners.invariant.aside n (put-kept old new c.place_of.result updates n none));
     }
 
 pub returns-clause-aside : goal.returns-clause-aside

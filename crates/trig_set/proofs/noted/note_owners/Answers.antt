@@ -1,10 +1,10 @@
 use Rattle.std.proofs.Common.{◌≡◌, ◌∙◌, ◌++◌, ap, sym, subst, length, map, true}
 use Rattle.trig_set.specs.Known.{AreKnown}
-use Rattle.trig_set.specs.Order.{ascend}
+use Rattle.trig_set.specs.Order.{ascend, owner_of}
 use Rattle.trig_set.specs.Queued.{HasDue}
 use Rattle.trig_set.specs.Scenes.{Shows}
 use Rattle.ha_past.specs.Firings.{firings}
-use Rattle.trig_set.specs.Stands.{AllOwners, OwnerStands, owner_of}
+use Rattle.trig_set.specs.Stands.{AllOwners, OwnerStands}
 use Rattle.ha_model.specs.RecordSteps.{more}
 use Rattle.trig_set.proofs.OnLemmas.{on-then}
 use Rattle.trig_set.proofs.OwnersLemmas.{owners-fire, written}

@@ -1,4 +1,4 @@
-use Rattle.std.proofs.Common.{◌≡◌, ◌∙◌, ◌+◌, ◌++◌, ℕ, zero, [], refl, sym, ap, subst, arith, append_assoc, inl, inr, length, Bool, true, false}
+use Rattle.std.proofs.Common.{◌≡◌, ◌∙◌, ◌+◌, ◌++◌, zero, refl, sym, ap, subst, arith, append_assoc, inl, inr, length, false}
 use Rattle.std.specs.Prelude.{flat_map}
 use Rattle.std.proofs.lemmas.Bool.Decides.{eqb_tells, leb_tells}
 use Rattle.event_bus.specs.Lists.{has}
@@ -52,10 +52,10 @@ places-preserved g c =
       queued = λ asc calm n none. elim (eqb_tells p n) [
         | inl same ↦ subst (λ m. AtOwner new m (HasDue c.enqueue.new.queue)) same.1 c.in_ok-enqueue.ensures.here
         | inr other ↦
-            c.in_ok-enqueue.ensures.elsewhere (ap ascend (c.in_ok-note_there.ensures.owners ∙ inv.owners) ∙ asc) n other.0
+            c.in_ok-enqueue.ensures.elsewhere (ap ascend (c.note_there.ensures.owners ∙ inv.owners) ∙ asc) n other.0
             (at-along (HasDue c.places.queue) new now n (c.in_ok-note_there.ensures.elsewhere n other.0) (inv.queued asc calm n (sym (left-else old rest p updates least n other.0) ∙ none)))
       ];
-      owners = c.in_ok-note_there.ensures.owners ∙ inv.owners;
+      owners = c.note_there.ensures.owners ∙ inv.owners;
       next = p + 1;
       ahead = λ n there. left-from old rest p updates least n there;
       behind = λ n le. left-else old rest p updates least n (apart p n le) ∙ inv.behind n (omega (arith, from, le));
@@ -92,3 +92,9 @@ returns-clause-fired g c j shows sees all calm =
       | inr under ↦ (let below = under.1 in sym (flat-skip f inv.next (length init) (omega (arith, below)) (λ n le lt. calm n (sym (inv.behind n le) ∙ none-left c.places.left (c.in_default.ensures.variant) n))))
     ] in
     inv.fired j shows sees all calm ∙ (λ i. c.args.fired.now ++ whole i)
+
+pub returns-in_err-note_there-clause-owners : goal.returns-in_err-note_there-clause-owners
+returns-in_err-note_there-clause-owners g c = c.note_there.ensures.owners ∙ c.places.invariant.owners
+
+pub returns-in_err-enqueue-clause-owners : goal.returns-in_err-enqueue-clause-owners
+returns-in_err-enqueue-clause-owners g c = c.note_there.ensures.owners ∙ c.places.invariant.owners

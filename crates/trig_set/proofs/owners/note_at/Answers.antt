@@ -1,12 +1,9 @@
 use Rattle.std.proofs.Common.{get_or}
-use Rattle.trig_set.specs.Stands.{owner_of}
-use Rattle.trig_set.proofs.OnLemmas.{on-then}
+use Rattle.trig_set.specs.Order.{owner_of}
 use Rattle.trig_set.proofs.SpotLemmas.{get-at, map-set}
 use Rattle.trig_set.proofs.owners.note_at.Goals as goal
 
 pub returns-clause-owners : goal.returns-clause-owners
 returns-clause-owners g c =
-    on-then _ _ c.note_one.result
-    (λ e. map-set owner_of c.args.owners.now c.args.place c.note_one.new.attached (get_or c.args.owners.now c.args.place c.index-owners-place.result)
-    (get-at c.args.owners.now c.args.place c.index-owners-place.result c.requires.within) e)
-    c.note_one.ensures.same
+    map-set owner_of c.args.owners.now c.args.place c.note_one.new.attached (get_or c.args.owners.now c.args.place c.index-owners-place.result)
+    (get-at c.args.owners.now c.args.place c.index-owners-place.result c.requires.within) c.note_one.ensures.same

@@ -1,10 +1,11 @@
-use Rattle.std.proofs.Common.{◌≡◌, ◌∙◌, ◌≤◌, zero, [], ap, arith, refl, sym, subst, length, map}
+use Rattle.std.proofs.Common.{[], ap, arith, refl, sym, subst, map}
 use Rattle.std.specs.Prelude.{IsNone}
-use Rattle.ha_past.specs.Firings.{owner_named, placed}
-use Rattle.trig_set.specs.Known.{AreKnown, IsListed}
+use Rattle.ha_past.specs.Firings.{owner_named}
+use Rattle.trig_set.specs.Known.{AreKnown}
 use Rattle.trig_set.specs.Queued.{HasDue}
-use Rattle.trig_set.specs.Stands.{AllOwners, OwnerStands, attached, owner_of}
-use Rattle.trig_set.proofs.FoundLemmas.{known-fresh, known-placed, spots-listed}
+use Rattle.trig_set.specs.Order.{owner_of}
+use Rattle.trig_set.specs.Stands.{AllOwners, OwnerStands, attached}
+use Rattle.trig_set.proofs.ListedLemmas.{known-fresh, known-placed, spots-listed}
 use Rattle.trig_set.proofs.OnLemmas.{err-then, on-any-err, on-three}
 use Rattle.trig_set.proofs.set.TrigSet.attach.Goals as goal
 
@@ -23,6 +24,9 @@ returns-in_err-list_owner-clause-err c =
         numbers = stands.numbers;
       },
     )
+
+pub put_in-requires : goal.put_in-requires
+put_in-requires c = subst (λ n. IsNone (owner_named n (attached c.args.self.now))) (sym (ap (λ o. o.owner) c.in_ok-attached.ensures.owner)) c.requires.fresh
 
 pub returns-clause-stands : goal.returns-clause-stands
 returns-clause-stands c =

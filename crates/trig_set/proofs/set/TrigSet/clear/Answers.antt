@@ -1,14 +1,15 @@
 use Rattle.std.proofs.Common.{refl, sym, subst, map}
 use Rattle.trig_set.specs.Known.{AreKnown}
 use Rattle.trig_set.specs.Queued.{HasDue}
-use Rattle.trig_set.specs.Stands.{AllOwners, OwnerStands, owner_of}
+use Rattle.trig_set.specs.Order.{owner_of}
+use Rattle.trig_set.specs.Stands.{AllOwners, OwnerStands}
 use Rattle.trig_set.proofs.set.TrigSet.clear.Goals as goal
 
 pub returns-clause-stands : goal.returns-clause-stands
 returns-clause-stands c j stands = record {
-  owners = subst (λ l. AllOwners l (OwnerStands j)) (sym c.clear.ensures.items) (λ n. tt);
-  known = subst (λ l. AreKnown c.clear-2.new.self (map owner_of l)) (sym c.clear.ensures.items) (record { ascend = refl; listed = λ n. tt });
-  queued = subst (λ l. AllOwners l (HasDue c.clear-3.new.self)) (sym c.clear.ensures.items) (λ n. tt);
+  owners = subst (λ l. AllOwners l (OwnerStands j)) (sym c.clear.ensures) (λ n. tt);
+  known = subst (λ l. AreKnown c.clear-2.new.self (map owner_of l)) (sym c.clear.ensures) (record { ascend = refl; listed = λ n. tt });
+  queued = subst (λ l. AllOwners l (HasDue c.clear-3.new.self)) (sym c.clear.ensures) (λ n. tt);
   at = stands.at;
   zone = stands.zone;
   numbers = stands.numbers;

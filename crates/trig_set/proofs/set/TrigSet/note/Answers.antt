@@ -10,7 +10,8 @@ use Rattle.ha_past.specs.Firings.{firings}
 use Rattle.trig_set.specs.Known.{AreKnown}
 use Rattle.trig_set.specs.Queued.{HasDue}
 use Rattle.trig_set.specs.Table.{number_at}
-use Rattle.trig_set.specs.Stands.{AllOwners, OwnerStands, attached, owner_of}
+use Rattle.trig_set.specs.Order.{owner_of}
+use Rattle.trig_set.specs.Stands.{AllOwners, OwnerStands, attached}
 use Rattle.ha_model.proofs.HeldLaws.{latest-more}
 use Rattle.trig_set.proofs.SetLemmas.{zone-next, any-at, each-owner, now-seen}
 use Rattle.trig_set.proofs.set.TrigSet.note.Goals as goal
@@ -18,29 +19,29 @@ use Rattle.trig_set.proofs.set.TrigSet.note.Goals as goal
 pub returns-clause-stands : goal.returns-clause-stands
 returns-clause-stands g c j stands next =
     let r = c.open.ensures.rest in
-    let items = ap (λ s. s.owners.items) r in
+    let items = ap (λ s. s.owners) r in
     let known = subst (λ s. AreKnown s.index (attached s)) (sym r) stands.known in
-    let queued = subst (λ s. AllOwners s.owners.items (HasDue s.queue)) (sym r) stands.queued in
+    let queued = subst (λ s. AllOwners s.owners (HasDue s.queue)) (sym r) stands.queued in
     let to-is = c.now-to.ensures ∙ (λ i. (next.sees i).now) ∙ now-seen (more j c.args.entry.now) in
     let zone = zone-next j c.args.entry.now c.args.self.now.zone c.open.new.self.zone next.journal next.zone stands.zone c.in_ok-open.ensures.boot in
     record {
-      owners = c.in_ok-note_owners.ensures.stands j
+      owners = c.in_ok-note.ensures.stands j
           (each-owner _ _ (λ a n at. record {
             at = next.at;
             journal = next.journal;
             shifts = λ lt. subst (λ l. AreShifts l j c.args.entry.now) (sym c.as_slice.ensures)
-                (c.in_ok-shifts.ensures j next.sees (next.listed (any-at c.args.place c.args.self.now.owners.items n a (ap (λ l. slice_get l n) (sym items) ∙ at) (ap (nat_lt a.since) next.at ∙ lt))));
+                (c.in_ok-shifts.ensures j next.sees (next.listed (any-at c.args.place c.args.self.now.owners n a (ap (λ l. slice_get l n) (sym items) ∙ at) (ap (nat_lt a.since) next.at ∙ lt))));
             zone = subst (λ o. MatchOption o ⊥ (λ z. z ≡ zone_of (more j c.args.entry.now))) (sym c.as_ref.ensures.value) zone;
             from = ap (λ s. s.now) r ∙ stands.at;
             to = to-is;
             numbers = λ e name. ap (λ s. number_at s.numbers e name) r ∙ stands.numbers e name;
           })) next.sees (subst (λ l. AllOwners l (OwnerStands j)) (sym items) stands.owners) known queued;
-      known = subst (AreKnown c.open.new.self.index) (sym c.in_ok-note_owners.ensures.owners) known;
-      queued = c.in_ok-note_owners.ensures.queued known.ascend queued;
+      known = subst (AreKnown c.open.new.self.index) (sym c.note.ensures.owners) known;
+      queued = c.in_ok-note.ensures.queued known.ascend queued;
       at = to-is;
       zone = λ h. zone;
       numbers = λ e name.
-          c.in_ok-note.ensures e name
+          c.in_ok-note-2.ensures e name
           ∙ (λ i. if opens_segment c.args.entry.now then None else or_else (report_number e name c.args.entry.now) ((ap (λ s. number_at s.numbers e name) r ∙ stands.numbers e name) i))
           ∙ sym (latest-more j c.args.entry.now e name);
     }
@@ -48,17 +49,17 @@ returns-clause-stands g c j stands next =
 pub returns-clause-fired : goal.returns-clause-fired
 returns-clause-fired g c j stands next =
     let r = c.open.ensures.rest in
-    let items = ap (λ s. s.owners.items) r in
+    let items = ap (λ s. s.owners) r in
     let known = subst (λ s. AreKnown s.index (attached s)) (sym r) stands.known in
-    let queued = subst (λ s. AllOwners s.owners.items (HasDue s.queue)) (sym r) stands.queued in
+    let queued = subst (λ s. AllOwners s.owners (HasDue s.queue)) (sym r) stands.queued in
     let to-is = c.now-to.ensures ∙ (λ i. (next.sees i).now) ∙ now-seen (more j c.args.entry.now) in
     let zone = zone-next j c.args.entry.now c.args.self.now.zone c.open.new.self.zone next.journal next.zone stands.zone c.in_ok-open.ensures.boot in
-    c.in_ok-note_owners.ensures.fired j
+    c.in_ok-note.ensures.fired j
     (each-owner _ _ (λ a n at. record {
       at = next.at;
       journal = next.journal;
       shifts = λ lt. subst (λ l. AreShifts l j c.args.entry.now) (sym c.as_slice.ensures)
-          (c.in_ok-shifts.ensures j next.sees (next.listed (any-at c.args.place c.args.self.now.owners.items n a (ap (λ l. slice_get l n) (sym items) ∙ at) (ap (nat_lt a.since) next.at ∙ lt))));
+          (c.in_ok-shifts.ensures j next.sees (next.listed (any-at c.args.place c.args.self.now.owners n a (ap (λ l. slice_get l n) (sym items) ∙ at) (ap (nat_lt a.since) next.at ∙ lt))));
       zone = subst (λ o. MatchOption o ⊥ (λ z. z ≡ zone_of (more j c.args.entry.now))) (sym c.as_ref.ensures.value) zone;
       from = ap (λ s. s.now) r ∙ stands.at;
       to = to-is;

@@ -1,9 +1,7 @@
--- Where an owner stands among owners that ascend.
-use Rattle.std.proofs.Common.{◌≡◌, ℕ, zero, suc, ◌+◌, ◌<◌, ◌≤◌, List, [], ◌∷◌, length, map, get_or, Bool, true, false, refl, sym, ap, subst, ◌∙◌, arith, nat_cmp, inl, inr}
+-- Owners that an index lists, with one more and without one.
+use Rattle.std.proofs.Common.{◌≡◌, ℕ, zero, suc, ◌≤◌, List, [], ◌∷◌, length, map, Bool, true, false, refl, sym, subst, ◌∙◌, arith}
 use Rattle.std.specs.Prelude.{Option, Some, None, IsNone, MatchOption, not, nat_eq, nat_lt, slice_get, ◌||◌, if◌then◌else◌}
-use Rattle.std.specs.List.{list_all}
-use Rattle.std.proofs.lemmas.Bool.Decides.{eqb_tells, leb_tells, nat_tests}
-use Rattle.ha_model.proofs.EqualLemmas.{and_left, and_right}
+use Rattle.std.proofs.lemmas.Bool.Decides.{nat_tests}
 use Rattle.ha_value.specs.declared.value.EntityId.{EntityId}
 use Rattle.ha_model.specs.declared.config.Trigger.{Trigger}
 use Rattle.ha_past.specs.Firings.{Owner, owner_named, placed, without_owner}
@@ -14,64 +12,7 @@ use Rattle.trig_set.specs.declared.spot.Spot.{Spot}
 use Rattle.trig_set.specs.Kept.{All, At, place_of, places_of}
 use Rattle.trig_set.specs.Known.{AreKnown, HasAt, HasFor, HasSpot, IsListed}
 use Rattle.trig_set.proofs.OrderLemmas.{placed-ascend, without-ascend}
-use Rattle.trig_set.specs.Order.{ascend}
-use Rattle.trig_set.specs.Stands.{AtOwner, owner_of}
-use Rattle.trig_set.proofs.SpotLemmas.{get-at}
-
-lt-of : (a b : ℕ) → nat_lt a b ≡ true → a < b
-lt-of a b h = grind (arith, nat_tests, h)
-
-above-at : (m : ℕ) (xs : List Attached) (k : ℕ) (b : Attached) → list_all (λ y. nat_lt m y.owner) (map owner_of xs) ≡ true → slice_get xs k ≡ Some b → m < b.owner
-above-at m [] k b h at = cc
-above-at m (x ∷ xs) zero b h at = (let e : x ≡ b = cc in subst (λ (y : Attached). m < y.owner) e (lt-of m x.owner (and_left (nat_lt m x.owner) _ h)))
-above-at m (x ∷ xs) (suc k) b h at = above-at m xs k b (and_right (nat_lt m x.owner) _ h) at
-
--- LAW: owners that ascend have lesser numbers before greater ones
-pub ascends-at : (xs : List Attached) (i k : ℕ) (a b : Attached) → ascend (map owner_of xs) ≡ true → slice_get xs i ≡ Some a → slice_get xs k ≡ Some b → i < k → a.owner < b.owner
-ascends-at [] i k a b h at bt lt = cc
-ascends-at (x ∷ xs) zero zero a b h at bt lt = absurd (omega (arith, lt))
-ascends-at (x ∷ xs) zero (suc k) a b h at bt lt =
-    (let e : x ≡ a = cc in subst (λ (y : Attached). y.owner < b.owner) e (above-at x.owner xs k b (and_left (list_all (λ y. nat_lt x.owner y.owner) (map owner_of xs)) _ h) bt))
-ascends-at (x ∷ xs) (suc i) zero a b h at bt lt = absurd (omega (arith, lt))
-ascends-at (x ∷ xs) (suc i) (suc k) a b h at bt lt = ascends-at xs i k a b (and_right (list_all (λ y. nat_lt x.owner y.owner) (map owner_of xs)) _ h) at bt (omega (arith, lt))
-
-module _ (xs : List Attached) (low high middle owner : ℕ) (d : Attached) (within : middle < length xs) (asc : ascend (map owner_of xs) ≡ true) (n : ℕ) where
-  at-middle : slice_get xs middle ≡ Some (get_or xs middle d)
-  at-middle = get-at xs middle d within
-
-  -- LAW: where the number in the middle is less, it stands above
-  pub found-above : (get_or xs middle d).owner < owner → AtOwner xs n (λ a. a.owner ≡ owner → (low ≤ n) × (n ≤ high)) → AtOwner xs n (λ a. a.owner ≡ owner → (middle + 1 ≤ n) × (n ≤ high))
-  found-above less = by (slice_get xs n) refl
-    where
-      by : (o : Option Attached) → slice_get xs n ≡ o → MatchOption o (Unit {0}) (λ a. a.owner ≡ owner → (low ≤ n) × (n ≤ high)) → MatchOption o (Unit {0}) (λ a. a.owner ≡ owner → (middle + 1 ≤ n) × (n ≤ high))
-      by None at f = tt
-      by (Some a) at f = λ is. elim (leb_tells (middle + 1) n) [
-        | inl le ↦ (le.1, (f is).1)
-        | inr gt ↦ (let over = gt.1 in elim (eqb_tells n middle) [
-          | inl same ↦ (let e : Some a ≡ Some (get_or xs middle d) = sym at ∙ (λ i. slice_get xs (same.1 i)) ∙ at-middle in
-              let q : a ≡ get_or xs middle d = cc in let w = ap (λ (y : Attached). y.owner) q in absurd (omega (arith, less, is, w)))
-          | inr other ↦ (let apart = other.1 in let below = ascends-at xs n middle a (get_or xs middle d) asc at at-middle (omega (arith, over, apart)) in absurd (omega (arith, below, less, is)))
-        ])
-      ]
-
-  -- LAW: and where it is not, not above
-  pub found-below : owner ≤ (get_or xs middle d).owner → AtOwner xs n (λ a. a.owner ≡ owner → (low ≤ n) × (n ≤ high)) → AtOwner xs n (λ a. a.owner ≡ owner → (low ≤ n) × (n ≤ middle))
-  found-below more = by (slice_get xs n) refl
-    where
-      by : (o : Option Attached) → slice_get xs n ≡ o → MatchOption o (Unit {0}) (λ a. a.owner ≡ owner → (low ≤ n) × (n ≤ high)) → MatchOption o (Unit {0}) (λ a. a.owner ≡ owner → (low ≤ n) × (n ≤ middle))
-      by None at f = tt
-      by (Some a) at f = λ is. elim (leb_tells n middle) [
-        | inl le ↦ ((f is).0, le.1)
-        | inr gt ↦ (let over = gt.1 in let above = ascends-at xs middle n (get_or xs middle d) a asc at-middle at (omega (arith, over)) in absurd (omega (arith, above, more, is)))
-      ]
-
--- LAW: between two places that are one it stands there
-pub found-end : (xs : List Attached) (low high owner n : ℕ) → high ≤ low → AtOwner xs n (λ a. a.owner ≡ owner → (low ≤ n) × (n ≤ high)) → AtOwner xs n (λ a. a.owner ≡ owner → low ≡ n)
-found-end xs low high owner n le = by (slice_get xs n)
-  where
-    by : (o : Option Attached) → MatchOption o (Unit {0}) (λ a. a.owner ≡ owner → (low ≤ n) × (n ≤ high)) → MatchOption o (Unit {0}) (λ a. a.owner ≡ owner → low ≡ n)
-    by None f = tt
-    by (Some a) f = λ is. (let above = (f is).0 in let below = (f is).1 in omega (arith, le, above, below))
+use Rattle.trig_set.specs.Order.{owner_of}
 
 -- ---- spots that are listed
 

@@ -1,0 +1,146 @@
+//! The owners, in the order of their numbers.
+ghost use Rattle.std.specs.Prelude.{◌≡◌, ◌≤◌, ◌++◌, ℕ, [], IsNone, List, OnErr, OnOk, false, length, map, nat_eq, true};
+ghost use Rattle.ha_clock.specs.Local.{last_moment};
+ghost use Rattle.event_bus.specs.Subjects.{Subject, knows};
+ghost use Rattle.ha_model.specs.Journal.{Journal};
+ghost use Rattle.ha_model.specs.RecordSteps.{more};
+ghost use Rattle.ha_model.specs.Triggers.{sight};
+ghost use Rattle.ha_past.specs.Firings.{firings, owner_named, placed, without_owner};
+ghost use Rattle.timer_queue.specs.Timers.{Timer, removed};
+ghost use Rattle.trig_set.specs.Known.{AreKnown};
+ghost use Rattle.trig_set.specs.Order.{ascend, owner_of};
+ghost use Rattle.trig_set.specs.Queued.{HasDue};
+ghost use Rattle.trig_set.specs.Scenes.{Shows};
+ghost use Rattle.trig_set.specs.Stands.{AllOwners, OwnerStands};
+
+use crate::concerned::place_of;
+use crate::noted::note_owners;
+use crate::owners::{Attached, unlist_owner};
+use crate::scene::Scene;
+use event_bus::Index;
+use ha_model::{Answers, Firing, Many};
+use std::alloc::{AllocError, Global};
+use std::marker::Model;
+use timer_queue::TimerQueue;
+
+/// Owners, each of another number, in the order of their numbers: where one stands is found by halves.
+#[derive(Drop)]
+pub struct Owners {
+    list: Vec<Attached>,
+}
+
+impl Model for Owners {
+    ghost use Rattle.std.specs.Coded.{codes};
+    ghost use Rattle.std.specs.Prelude.{◌≡◌, List, map, true};
+    ghost use Rattle.ha_value.specs.contracts.value.Value as value;
+    ghost use Rattle.ha_model.specs.contracts.template.Expr as expr;
+    ghost use Rattle.ha_model.specs.contracts.template.Piece as piece;
+    ghost use Rattle.ha_model.specs.contracts.template.Template as template;
+    ghost use Rattle.trig_set.specs.declared.owners.Attached.{Attached};
+    ghost use Rattle.trig_set.specs.Order.{ascend, owner_of};
+
+    ghost Value = { List Attached };
+
+    ghost coded = { Prim.hlevel (codes, value.the_row.coded, expr.the_row.coded, piece.the_row.coded, template.the_row.coded) };
+
+    ghost view = { λ o. o.list.items };
+
+    ghost invariant = { λ o. ascend (map owner_of o.list.items) ≡ true };
+}
+
+impl Owners {
+    /// No owners.
+    pub fn make(alloc: Global) -> Owners
+        ensures { result ≡ [] }
+    {
+        Owners {
+            list: Vec::new(alloc),
+        }
+    }
+
+    /// Puts an owner in at its place. After an error the owners are as before.
+    pub fn put_in(&mut self, attached: Attached) -> Result<(), AllocError>
+        requires { IsNone (owner_named attached.owner (map owner_of self.old)) }
+        ensures ok { OnOk result (map owner_of self.new ≡ placed (owner_of attached) (map owner_of self.old)) }
+        ensures stands { OnOk result ((j : Journal) → AllOwners self.old (OwnerStands j) → OwnerStands j attached → AllOwners self.new (OwnerStands j)) }
+        ensures queued { OnOk result ((queue : List Timer) → AllOwners self.old (HasDue queue) → HasDue queue attached → AllOwners self.new (HasDue queue)) }
+        ensures err { OnErr result (self.new ≡ self.old) }
+    {
+        insert(&mut self.list, attached)
+    }
+
+    /// Takes an owner out, if it is there.
+    pub fn take_out(&mut self, owner: u64)
+        ensures rest { map owner_of self.new ≡ without_owner owner (map owner_of self.old) }
+        ensures stands { (j : Journal) → AllOwners self.old (OwnerStands j) → AllOwners self.new (OwnerStands j) }
+        ensures queued { (queue : List Timer) → AllOwners self.old (HasDue queue) → AllOwners self.new (HasDue (removed owner queue)) }
+    {
+        remove(&mut self.list, owner);
+    }
+
+    /// An owner, if it is there, is listed in an index no more; the others are as before.
+    pub fn unlist(&self, index: &mut Index, owner: u64)
+        ensures { (s : Subject) (n : ℕ) → nat_eq owner n ≡ false → knows index.new s n ≡ knows index.old s n }
+    {
+        unlist_owner(index, self.list.as_slice(), owner);
+    }
+
+    /// What an entry makes of the owners whom it concerns; what fires is appended.
+    pub fn note<A: Answers>(
+        &mut self,
+        alloc: Global,
+        scene: &Scene<'_>,
+        answers: &A,
+        index: &Index,
+        queue: &mut TimerQueue,
+        fired: &mut Many<Firing>,
+    ) -> Result<(), AllocError>
+        requires { scene.now.to ≤ last_moment }
+        ensures stands { OnOk result ((j : Journal) → AllOwners self.old (λ a. Shows scene.now j a.since) → A.sight answers.now ≡ sight (more j scene.now.entry.now) (length (more j scene.now.entry.now))
+            → AllOwners self.old (OwnerStands j) → AreKnown index.now (map owner_of self.old) → AllOwners self.old (HasDue queue.old)
+            → AllOwners self.new (OwnerStands (more j scene.now.entry.now))) }
+        ensures fired { OnOk result ((j : Journal) → AllOwners self.old (λ a. Shows scene.now j a.since) → A.sight answers.now ≡ sight (more j scene.now.entry.now) (length (more j scene.now.entry.now))
+            → AllOwners self.old (OwnerStands j) → AreKnown index.now (map owner_of self.old) → AllOwners self.old (HasDue queue.old)
+            → fired.new ≡ fired.old ++ firings (more j scene.now.entry.now) (length j) (map owner_of self.old)) }
+        ensures queued { OnOk result (ascend (map owner_of self.old) ≡ true → AllOwners self.old (HasDue queue.old) → AllOwners self.new (HasDue queue.new)) }
+        ensures owners { map owner_of self.new ≡ map owner_of self.old }
+    {
+        note_owners(alloc, scene, answers, index, &mut self.list, queue, fired)
+    }
+
+    /// Takes all owners out.
+    pub fn clear(&mut self)
+        ensures { self.new ≡ [] }
+    {
+        self.list.clear();
+    }
+}
+
+/// Puts an owner in at its place. After an error the owners are as before.
+fn insert(owners: &mut Vec<Attached>, attached: Attached) -> Result<(), AllocError>
+    requires order { ascend (map owner_of owners.old.items) ≡ true }
+    requires fresh { IsNone (owner_named attached.owner (map owner_of owners.old.items)) }
+    ensures ok { OnOk result (map owner_of owners.new.items ≡ placed (owner_of attached) (map owner_of owners.old.items)) }
+    ensures stands { OnOk result ((j : Journal) → AllOwners owners.old.items (OwnerStands j) → OwnerStands j attached → AllOwners owners.new.items (OwnerStands j)) }
+    ensures queued { OnOk result ((queue : List Timer) → AllOwners owners.old.items (HasDue queue) → HasDue queue attached → AllOwners owners.new.items (HasDue queue)) }
+    ensures err { OnErr result (owners.new.items ≡ owners.old.items) }
+    ensures order { ascend (map owner_of owners.new.items) ≡ true }
+{
+    let place = place_of(owners.as_slice(), attached.owner);
+    owners.insert(place, attached)?;
+    Ok(())
+}
+
+/// Takes an owner out, if it is there.
+fn remove(owners: &mut Vec<Attached>, owner: u64)
+    requires { ascend (map owner_of owners.old.items) ≡ true }
+    ensures rest { map owner_of owners.new.items ≡ without_owner owner (map owner_of owners.old.items) }
+    ensures stands { (j : Journal) → AllOwners owners.old.items (OwnerStands j) → AllOwners owners.new.items (OwnerStands j) }
+    ensures queued { (queue : List Timer) → AllOwners owners.old.items (HasDue queue) → AllOwners owners.new.items (HasDue (removed owner queue)) }
+    ensures order { ascend (map owner_of owners.new.items) ≡ true }
+{
+    let place = place_of(owners.as_slice(), owner);
+    if place < owners.len() && owners[place].owner == owner {
+        owners.remove(place);
+    }
+}
