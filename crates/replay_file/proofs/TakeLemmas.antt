@@ -1,7 +1,7 @@
 -- What a line that is taken, or refused, makes of what was found so far.
-use Rattle.std.proofs.Common.{◌≡◌, ◌≢◌, ◌∙◌, ap, sym, subst, refl, ℕ, ◌+◌, ◌<◌, ◌≤◌, inl, inr, [], ◌∷◌, ◌++◌, take, drop, length, Bool, true, false, arith, append_assoc, append-nil, length-append}
+use Rattle.std.proofs.Common.{◌≡◌, ◌≢◌, ◌∙◌, ap, sym, subst, refl, ℕ, suc, ◌+◌, ◌<◌, ◌≤◌, inl, inr, [], ◌∷◌, ◌++◌, take, drop, length, Bool, true, false, arith, append_assoc, append-nil, length-append}
 use Rattle.std.proofs.lemmas.Bool.Decides.{nat_tests}
-use Rattle.std.specs.Prelude.{◌&&◌, ◌==◌, not, Ok, Err, Option, Some}
+use Rattle.std.specs.Prelude.{◌&&◌, ◌==◌, Ok, Err, Option, Some}
 use Rattle.std.specs.List.{list_all}
 use Rattle.std.proofs.lemmas.List.{nil_from_length, take-append-drop}
 use Rattle.std.proofs.lemmas.List.Folds.{list_all-append}
@@ -16,7 +16,6 @@ use Rattle.ha_model.specs.Records.{Records}
 use Rattle.ha_model.specs.RecordSteps.{more}
 use Rattle.ha_model.specs.Lawful.{Lawful, Right}
 use Rattle.ha_model.specs.Texts.{as_line, call_text, call_text_of, end_line, error_text, error_text_of, texts_after, trace_line, trace_text}
-
 use Rattle.ha_model.proofs.LawfulLaws.{has-entry}
 use Rattle.ha_model.proofs.RecordGrowth.{automations-more, true-false}
 use Rattle.ha_laws.proofs.CallGrowth.{calls-same}
@@ -28,12 +27,13 @@ use Rattle.ha_replay.specs.Traces.{Answers, IsEnd, IsNoNext, Reached, Stands, Ta
 use Rattle.replay_file.specs.declared.front.FrontEnd.{FrontEnd}
 use Rattle.trace_laws.specs.Lines.{Cuts, is_one_line}
 use Rattle.trace_laws.specs.Runs.{Begins, IsFirst, IsRun, MayFollow, line_count}
-use Rattle.trace_laws.specs.Tells.{HasNoEnd, IsFarthest}
+use Rattle.trace_laws.specs.Tells.{GoesNoFurther, HasNoEnd, IsFarthest, IsNoTrace}
 use Rattle.trace_laws.proofs.CutLemmas.{no_feed, one_cut}
 use Rattle.trace_laws.proofs.RunLemmas.{full_further, no_further, no_trace}
 use Rattle.replay_file.specs.Boot.{IsBooted, IsUnbooted}
 use Rattle.replay_file.specs.Steps.{IsReady}
-use Rattle.replay_file.specs.Judged.{IsAt, IsCutShort, IsFull, IsJudged, IsStatusOf, IsTaken, Judged}
+use Rattle.replay_file.specs.Fronts.{IsFrontOf}
+use Rattle.replay_file.specs.Judged.{IsAt, IsCutShort, IsFull, IsJudged, IsRefused, IsStatusOf, IsTaken, Judged, OfFile}
 
 -- ---- lines
 
@@ -96,22 +96,69 @@ front_taken s t u a b c cut took front = record {
   all = inl cut;
 }
 
--- a full journal, behind which the end line is not left
-full_so : (text : Text) (end : FrontEnd) (j : Journal) (rs : Records) (ended : Bool) (left : Text) → Begins text j rs ended left → ended ≡ false → length j ≡ most_entries → HasNoEnd j rs left → IsJudged end left
-    → IsFull text end j ended left
-full_so text end j rs ended left begins open_run full no_end judged =
-    let far = full_further text j rs ended left begins full no_end in
-    record {
-      unended = open_run;
-      full = full;
-      judged = judged;
-      farthest = subst (IsFarthest text) (lines ended open_run) far;
-      no_trace = no_trace text j rs ended left begins (λ bad. absurd (true-false (sym bad ∙ open_run))) far;
-    }
-  where
-    lines : (e : Bool) → e ≡ false → line_count j e ≡ most_entries
-    lines true h = absurd (true-false h)
-    lines false h = omega (arith, full)
+-- ---- a text that goes no further
+
+-- what a file has behind what was read of it: nothing, where it was read whole
+front_rest : (text : Text) (end : FrontEnd) (bytes : Text) → IsFrontOf text end bytes → (rest : Text) × (bytes ≡ text ++ rest) × (end ≡ FrontEnd.Whole → rest ≡ [])
+front_rest text FrontEnd.Whole bytes is = ([], is ∙ sym (append-nil text), λ _. refl)
+front_rest text FrontEnd.Failed bytes is = (is.0, is.1, λ bad. absurd cc)
+front_rest text FrontEnd.TooLong bytes is = (is.1.0, is.1.2, λ bad. absurd cc)
+
+begins_more : (text rest bytes : Text) (j : Journal) (rs : Records) (ended : Bool) (left : Text) → bytes ≡ text ++ rest → Begins text j rs ended left → Begins bytes j rs ended (left ++ rest)
+begins_more text rest bytes j rs ended left e b = record {
+  run = b.run;
+  room = b.room;
+  ends = b.ends;
+  text_is = e ∙ ap (λ z. z ++ rest) b.text_is ∙ append_assoc (trace_text j ended) left rest;
+}
+
+module _ (text : Text) (end : FrontEnd) (j : Journal) (rs : Records) (ended : Bool) (left : Text) (begins : Begins text j rs ended left) where
+  -- what is left, whatever the file has behind it
+  abbrev OfRest : (Text → Type 0) → Type 0
+  OfRest P = (rest : Text) → (end ≡ FrontEnd.Whole → rest ≡ []) → P (left ++ rest)
+
+  stops_there : OfRest (GoesNoFurther j rs ended) → OfFile text end (λ bytes. IsFarthest bytes (line_count j ended))
+  stops_there stops bytes is =
+      let f = front_rest text end bytes is in
+      no_further bytes j rs ended (left ++ f.0) (begins_more text f.0 bytes j rs ended left f.1 begins) (stops f.0 f.2)
+
+  is_full_there : length j ≡ most_entries → OfRest (HasNoEnd j rs) → OfFile text end (λ bytes. IsFarthest bytes (line_count j ended))
+  is_full_there full no_end bytes is =
+      let f = front_rest text end bytes is in
+      full_further bytes j rs ended (left ++ f.0) (begins_more text f.0 bytes j rs ended left f.1 begins) full (no_end f.0 f.2)
+
+  is_none : OfRest (λ after. ended ≡ true → after ≢ []) → OfFile text end (λ bytes. IsFarthest bytes (line_count j ended)) → OfFile text end IsNoTrace
+  is_none unfinished far bytes is =
+      let f = front_rest text end bytes is in
+      no_trace bytes j rs ended (left ++ f.0) (begins_more text f.0 bytes j rs ended left f.1 begins) (unfinished f.0 f.2) (far bytes is)
+
+  refused_there : (line : ℕ) → line ≡ suc (line_count j ended) → IsJudged end left → (ended ≡ false → length j ≢ most_entries) → OfRest (λ after. ended ≡ true → after ≢ []) → OfRest (GoesNoFurther j rs ended)
+      → IsRefused text end j rs ended left line
+  refused_there line is judged room unfinished stops = (let far = stops_there stops in record { line_is = is; judged = judged; room = room; farthest = far; no_trace = is_none unfinished far })
+
+  -- a full journal, behind which the end line is not left
+  full_there : ended ≡ false → length j ≡ most_entries → OfRest (HasNoEnd j rs) → IsJudged end left → IsFull text end j ended left
+  full_there open_run full no_end judged =
+      let far = is_full_there full no_end in
+      record {
+        unended = open_run;
+        full = full;
+        judged = judged;
+        farthest = λ bytes is. subst (IsFarthest bytes) (lines ended open_run) (far bytes is);
+        no_trace = is_none (λ rest nothing bad. absurd (true-false (sym bad ∙ open_run))) far;
+      }
+    where
+      lines : (e : Bool) → e ≡ false → line_count j e ≡ most_entries
+      lines true h = absurd (true-false h)
+      lines false h = omega (arith, full)
+
+-- where a whole text has no whole line left, none is left with what the file has behind it
+no_cut_behind : (left rest line behind : Text) → rest ≡ [] → is_one_line left ≡ true → Cuts (left ++ rest) line behind → ⊥
+no_cut_behind left rest line behind nothing one cuts = no_cut left line behind one (subst (λ z. Cuts z line behind) (ap (λ z. left ++ z) nothing ∙ append-nil left) cuts)
+
+-- a line that is left is so with what the file has behind it
+same_cut_behind : (line behind rest line' behind' : Text) → is_one_line line ≡ true → Cuts ((line ++ (10 ∷ behind)) ++ rest) line' behind' → line ≡ line'
+same_cut_behind line behind rest line' behind' one cuts = same_cut line (behind ++ rest) line' behind' one (subst (λ z. Cuts z line' behind') (append_assoc line (10 ∷ behind) rest) cuts)
 
 -- the text as it stands, for a status
 module _ (text : Text) (end : FrontEnd) (j : Journal) (rs : Records) (ended : Bool) (left : Text) (o o' e e' : Option Text) (at : IsAt text j rs ended left o o' e e') where
@@ -140,17 +187,15 @@ module _ (text : Text) (end : FrontEnd) (j : Journal) (rs : Records) (ended : Bo
 
   pub full_at_end : end ≡ FrontEnd.Whole → ended ≡ false → length j ≡ most_entries → is_one_line left ≡ true
       → Judged text end Status.JournalFull (λ t. IsTaken Status.JournalFull t o o') (λ t. IsTaken Status.JournalFull t e e')
-  full_at_end is unended full one = judged_here Status.JournalFull (full_so text end j rs ended left at.begins unended full (λ line behind cuts. absurd (no_cut left line behind one cuts)) (inr is))
+  full_at_end is unended full one = judged_here Status.JournalFull
+      (full_there text end j rs ended left at.begins unended full (λ rest nothing line behind cuts. absurd (no_cut_behind left rest line behind (nothing is) one cuts)) (inr is))
 
   pub refused_at_end : (lines : ℕ) → end ≡ FrontEnd.Whole → (ended ≡ true → left ≢ []) → (ended ≡ false → length j ≢ most_entries) → is_one_line left ≡ true → lines ≡ line_count j ended
       → (s : Status) → s ≡ Status.TraceRefused (lines + 1) → Judged text end s (λ t. IsTaken s t o o') (λ t. IsTaken s t e e')
-  refused_at_end lines is unfinished room one counted s same = judged_here s (subst (IsStatusOf text end j rs ended left) (sym same) (let far = no_further text j rs ended left at.begins (λ line behind cuts. absurd (no_cut left line behind one cuts)) in record {
-    line_is = omega (arith, counted);
-    judged = inr is;
-    room = room;
-    farthest = far;
-    no_trace = no_trace text j rs ended left at.begins unfinished far;
-  }))
+  refused_at_end lines is unfinished room one counted s same = judged_here s (subst (IsStatusOf text end j rs ended left) (sym same)
+      (refused_there text end j rs ended left at.begins (lines + 1) (omega (arith, counted)) (inr is) room
+      (λ rest nothing closed none. unfinished closed (sym (ap (λ z. left ++ z) (nothing is) ∙ append-nil left) ∙ none))
+      (λ rest nothing line behind cuts. absurd (no_cut_behind left rest line behind (nothing is) one cuts))))
 
 -- ---- a line that is not taken
 
@@ -160,28 +205,21 @@ module _ (text line behind : Text) (end : FrontEnd) (j : Journal) (rs : Records)
 
   pub line_refused : IsAt text j rs false left o o' e e' → lines ≡ line_count j false → length j ≢ most_entries → (MayFollow j rs line → ⊥)
       → (s : Status) → s ≡ Status.TraceRefused (lines + 1) → Judged text end s (λ t. IsTaken s t o o') (λ t. IsTaken s t e e')
-  line_refused at counted room never s same = judged_here text end j rs false left o o' e e' at s (subst (IsStatusOf text end j rs false left) (sym same) (let far = no_further text j rs false left at.begins (λ line' behind' cuts. inr (λ m. never (subst (MayFollow j rs) (sym (same_cut line behind line' behind' one cuts)) m))) in record {
-    line_is = omega (arith, counted);
-    judged = inl (has_line line behind);
-    room = λ _. room;
-    farthest = far;
-    no_trace = no_trace text j rs false left at.begins (λ bad. absurd (true-false (sym bad))) far;
-  }))
+  line_refused at counted room never s same = judged_here text end j rs false left o o' e e' at s (subst (IsStatusOf text end j rs false left) (sym same)
+      (refused_there text end j rs false left at.begins (lines + 1) (omega (arith, counted)) (inl (has_line line behind)) (λ _. room) (λ rest nothing bad. absurd (true-false (sym bad)))
+      (λ rest nothing line' behind' cuts. inr (λ m. never (subst (MayFollow j rs) (sym (same_cut_behind line behind rest line' behind' one cuts)) m)))))
 
   pub behind_end : IsAt text j rs true left o o' e e' → lines ≡ line_count j true
       → (s : Status) → s ≡ Status.TraceRefused (lines + 1) → Judged text end s (λ t. IsTaken s t o o') (λ t. IsTaken s t e e')
-  behind_end at counted s same = judged_here text end j rs true left o o' e e' at s (subst (IsStatusOf text end j rs true left) (sym same) (let far = no_further text j rs true left at.begins (λ line' behind' cuts. inl refl) in record {
-    line_is = omega (arith, counted);
-    judged = inl (has_line line behind);
-    room = λ bad. absurd (true-false bad);
-    farthest = far;
-    no_trace = no_trace text j rs true left at.begins (λ _. is_left line behind) far;
-  }))
+  behind_end at counted s same = judged_here text end j rs true left o o' e e' at s (subst (IsStatusOf text end j rs true left) (sym same)
+      (refused_there text end j rs true left at.begins (lines + 1) (omega (arith, counted)) (inl (has_line line behind)) (λ bad. absurd (true-false bad))
+      (λ rest nothing _ none. is_left line (behind ++ rest) (sym (append_assoc line (10 ∷ behind) rest) ∙ none)) (λ rest nothing line' behind' cuts. inl refl)))
 
   pub journal_full : IsAt text j rs false left o o' e e' → length j ≡ most_entries → (IsEnd j rs line → ⊥)
       → (s : Status) → s ≡ Status.JournalFull → Judged text end s (λ t. IsTaken s t o o') (λ t. IsTaken s t e e')
   journal_full at full no_end s same = judged_here text end j rs false left o o' e e' at s (subst (IsStatusOf text end j rs false left) (sym same)
-      (full_so text end j rs false left at.begins refl full (λ line' behind' cuts is. no_end (subst (IsEnd j rs) (sym (same_cut line behind line' behind' one cuts)) is)) (inl (has_line line behind))))
+      (full_there text end j rs false left at.begins refl full (λ rest nothing line' behind' cuts is. no_end (subst (IsEnd j rs) (sym (same_cut_behind line behind rest line' behind' one cuts)) is))
+      (inl (has_line line behind))))
 
 -- nothing was taken yet
 pub nothing_at : (text : Text) (o e : Option Text) → IsAt text [] [] false text o o e e

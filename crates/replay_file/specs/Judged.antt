@@ -9,6 +9,7 @@ use Rattle.ha_status.specs.declared.status.Status.{Status}
 use Rattle.ha_status.specs.Written.{TookBut, TookLine}
 use Rattle.ha_replay.specs.Traces.{most_entries}
 use Rattle.replay_file.specs.declared.front.FrontEnd.{FrontEnd}
+use Rattle.replay_file.specs.Fronts.{IsFrontOf}
 use Rattle.trace_laws.specs.Lines.{is_one_line}
 use Rattle.trace_laws.specs.Runs.{Begins, line_count}
 use Rattle.trace_laws.specs.Tells.{IsFarthest, IsNoTrace}
@@ -23,22 +24,26 @@ HasLine left = is_one_line left ≡ false
 abbrev pub IsJudged : FrontEnd → Text → Type 0
 IsJudged end left = HasLine left ⊎ (end ≡ FrontEnd.Whole)
 
--- The line, counted from 1, is the first at which the bytes depart from every trace: the lines before it are those of a run, but the bytes
--- begin with the trace of no run that has more lines, and are the whole trace of no finished run.
+-- the fact holds of the bytes of each file of which this was read so
+abbrev pub OfFile : Text → FrontEnd → (Text → Type 0) → Type 0
+OfFile text end P = (bytes : Text) → IsFrontOf text end bytes → P bytes
+
+-- The line, counted from 1, is the first at which the file departs from every trace: the lines before it are those of a run, but the file
+-- begins with the trace of no run that has more lines, and is the whole trace of no finished run.
 pub record IsRefused (text : Text) (end : FrontEnd) (j : Journal) (rs : Records) (ended : Bool) (left : Text) (line : ℕ) : Type 0 where
   pub line_is : line ≡ suc (line_count j ended)
   pub judged : IsJudged end left
   pub room : ended ≡ false → length j ≢ most_entries
-  pub farthest : IsFarthest text (line_count j ended)
-  pub no_trace : IsNoTrace text
+  pub farthest : OfFile text end (λ bytes. IsFarthest bytes (line_count j ended))
+  pub no_trace : OfFile text end IsNoTrace
 
--- The journal of the run is full, and the bytes are the trace of no run that goes on within the limit.
+-- The journal of the run is full, and the file begins with the trace of no run that has more lines.
 pub record IsFull (text : Text) (end : FrontEnd) (j : Journal) (ended : Bool) (left : Text) : Type 0 where
   pub unended : ended ≡ false
   pub full : length j ≡ most_entries
   pub judged : IsJudged end left
-  pub farthest : IsFarthest text most_entries
-  pub no_trace : IsNoTrace text
+  pub farthest : OfFile text end (λ bytes. IsFarthest bytes most_entries)
+  pub no_trace : OfFile text end IsNoTrace
 
 -- The status where the bytes begin with the trace of this run, and this is left. A failed read and too many bytes come only where no whole
 -- line is left. Failed writes and want of memory may come at each line.

@@ -1,5 +1,5 @@
 -- Behind the same entries, a line is that of one entry at most, and never that of an entry and the end.
-use Rattle.std.proofs.Common.{◌≡◌, ◌∙◌, ap, sym, refl, ℕ, ◌<◌, ◌^◌, List, ◌∷◌, drop, length, arith}
+use Rattle.std.proofs.Common.{◌≡◌, ◌∙◌, ap, sym, refl, ℕ, ◌<◌, ◌^◌, List, ◌∷◌, drop, get_or, length, arith}
 use Rattle.std.proofs.lemmas.List.Sums.{count_by-le-length}
 use Rattle.std.specs.Prelude.{count_by}
 use Rattle.ha_model.specs.declared.config.Automation.{Automation}
@@ -24,11 +24,14 @@ use Rattle.flow_printed.proofs.PrintedLines.{one_line}
 use Rattle.ha_replay.specs.Digits.{number_before_comma}
 use Rattle.ha_replay.proofs.AnswerLemmas.{number-found}
 use Rattle.ha_replay.proofs.CmdLemmas.{fair-but}
-use Rattle.ha_replay.proofs.TextLemmas.{same-line, step-is-of, third}
+use Rattle.ha_replay.proofs.TextLemmas.{same-line, step-is-of}
 use Rattle.trace_laws.proofs.FeedLemmas.{entry_feed}
 use Rattle.trace_laws.proofs.FrontLemmas.{AllKnown}
 
 -- ---- by the third byte
+
+abbrev third : Text → ℕ
+third t = get_or t 2 0
 
 -- the end line is that of no entry
 pub no_end : (all : List Automation) (x : Entry) (n : ℕ) → trace_line all x ≡ end_line n → ⊥

@@ -106,8 +106,8 @@ number_line : (n : Num) → IsLine (print_number n)
 unfolding print_number
 number_line (Num.Whole z) = signed_line z
 number_line (Num.Fixed z) =
-    joined (sign_text z) (decimal (unsigned_abs z / 1_000_000) ++ 46 ∷ places_text (unsigned_abs z % 1_000_000)) (sign_line z)
-    (joined (decimal (unsigned_abs z / 1_000_000)) (46 ∷ places_text (unsigned_abs z % 1_000_000)) (decimal_line (unsigned_abs z / 1_000_000)) (places_line (unsigned_abs z % 1_000_000)))
+    joined (sign_text z ++ decimal (unsigned_abs z / 1_000_000)) (46 ∷ places_text (unsigned_abs z % 1_000_000))
+    (joined (sign_text z) (decimal (unsigned_abs z / 1_000_000)) (sign_line z) (decimal_line (unsigned_abs z / 1_000_000))) (places_line (unsigned_abs z % 1_000_000))
 
 -- ---- texts in quotes
 
