@@ -160,7 +160,7 @@ fn the_read_fails(rt: HostRuntime) -> Result<(), Fail> {
     };
     assert!(rt; given == 4);
     assert!(rt; out.bytes().is_empty());
-    assert!(rt; err.bytes() == b"hearth: source 0 failed\n");
+    assert!(rt; err.bytes() == "hearth: source 0 failed\n".as_bytes());
     Ok(())
 }
 

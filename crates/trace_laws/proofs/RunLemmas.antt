@@ -184,7 +184,9 @@ goes_on j ended left j' [] false left' open_run journal is =
 
 compared : (j : Journal) (ended : Bool) (left : Text) (j' : Journal) (ended' : Bool) (left' : Text) → IsFrontRun j ended left j' ended' left' ⊎ IsFrontRun j' ended' left' j ended left → Compared j ended left j' ended' left'
 compared j ended left j' ended' left' (inl (inl f)) = inl (both_ended (length j') (length j) ended ended' f.0 f.1 (ap length f.2))
-compared j ended left j' ended' left' (inl (inr f)) = goes_on j ended left j' f.1.0 ended' left' f.0 f.1.1 f.1.2
+compared j ended left j' ended' left' (inl (inr f)) =
+    let count : 0 + length j ≡ length j = omega arith in
+    goes_on j ended left j' f.1.0 ended' left' f.0 f.1.1 (f.1.2 ∙ (λ i. told (automations j') (count i) f.1.0 ended' left'))
 compared j ended left j' ended' left' (inr (inl f)) = inl (both_ended (length j') (length j) ended ended' f.1 f.0 (sym (ap length f.2)))
 compared j ended left j' ended' left' (inr (inr f)) = inl (let n = ap length f.1.1 in one_open (length j') (length j) ended ended' f.0 (omega (arith, n, length-append j' f.1.0)))
 
