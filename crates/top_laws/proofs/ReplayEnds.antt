@@ -1,5 +1,5 @@
 -- So it is of a replay and of a rehearsal.
-use Rattle.std.proofs.Common.{◌≡◌, ◌∙◌, ap, sym, subst, refl, ℕ, ◌<◌, ◌≤◌, ◌⊎◌, inl, inr, true, false, Bool, List, [], ◌∷◌, ◌++◌, length, map, arith, length-append}
+use Rattle.std.proofs.Common.{◌≡◌, ap, subst, refl, ℕ, inl, inr, true, false, Bool, [], ◌∷◌, length, map, arith, length-append}
 use Rattle.std.specs.Prelude.{Option, Some, None, IsSomeAnd}
 use Rattle.ha_io.specs.Counts.{Rose}
 use Rattle.ha_model.specs.Words.{Text}
@@ -9,14 +9,14 @@ use Rattle.ha_status.specs.declared.status.Status.{Status}
 use Rattle.ha_status.specs.Causes.{OneRose, OpenCause, ReadCause, WriteCause}
 use Rattle.ha_status.specs.Files.{Files}
 use Rattle.replay_file.specs.declared.front.FrontEnd.{FrontEnd}
-use Rattle.replay_file.specs.Fronts.{IsFrontOf, IsReadOf, most_bytes}
+use Rattle.replay_file.specs.Fronts.{IsFrontOf, IsReadOf}
 use Rattle.replay_file.specs.Judged.{IsStatusOf, OfFile}
 use Rattle.replay_file.specs.Replays.{IsReplay, IsUnread}
 use Rattle.trace_laws.specs.Tells.{IsNoTrace}
 use Rattle.ha_rehearse.specs.Rehearsed.{IsRehearseStatus}
 use Rattle.ha_top.specs.Views.{After, Before}
 use Rattle.ha_top.specs.Program.{Rehearsed, Replayed}
-use Rattle.top_laws.specs.Unhindered.{IsRead, IsUnhinderedRehearsal, IsUnhinderedReplay, IsWell, IsWholeTrace}
+use Rattle.top_laws.specs.Unhindered.{IsUnhinderedRehearsal, IsUnhinderedReplay, IsWholeTrace}
 use Rattle.top_laws.proofs.Completeness.{Good, none-unread, one-well}
 
 -- ---- the file
