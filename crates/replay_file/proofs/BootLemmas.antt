@@ -14,23 +14,14 @@ use Rattle.ha_model.specs.Words.{Text}
 use Rattle.ha_model.specs.Journal.{Journal}
 use Rattle.ha_model.specs.Lawful.{Right}
 use Rattle.ha_model.specs.Records.{Records}
-use Rattle.ha_model.proofs.LawfulLaws.{some-same}
-use Rattle.flow_line.proofs.Whole.{document_read, same_value}
 use Rattle.conf_auto.specs.Config.{config_of}
 use Rattle.ha_replay.specs.declared.boot.BootLine.{BootLine}
 use Rattle.ha_replay.specs.declared.boot.Parts.{Parts}
 use Rattle.ha_replay.specs.declared.fault.TraceFault.{TraceFault}
-use Rattle.ha_replay.specs.Boots.{HasUtf8, IsBootLine, Reads, Switches, have_utf8_names, parts, parts_in}
-use Rattle.ha_replay.proofs.BootLemmas.{boot-parts, boot-spelled, value_of}
+use Rattle.ha_replay.specs.Boots.{HasUtf8, IsBootLine, Reads, Switches, have_utf8_names}
 use Rattle.replay_file.specs.Boot.{IsBooted, IsUnbooted}
-use Rattle.replay_file.specs.Runs.{GoesOn, IsConfigured, MayFollow, boot_line}
-
--- LAW: a line is that of one first entry at most
-pub one_parts : (line : Text) (b b' : BootLine) → IsBootLine line b → HasUtf8 b → IsBootLine line b' → HasUtf8 b'
-    → ◌≡◌ {A = Parts} (parts b.text b.stored b.start b.zone) (parts b'.text b'.stored b'.start b'.zone)
-one_parts line b b' is u is' u' =
-    let same : value_of b ≡ value_of b' = same_value line (value_of b) (value_of b') (document_read line (value_of b) (boot-spelled line b is u)) (boot-spelled line b' is' u') in
-    some-same _ _ (sym (boot-parts b.text b.stored b.start b.zone is.start) ∙ ap parts_in same ∙ boot-parts b'.text b'.stored b'.start b'.zone is'.start)
+use Rattle.trace_laws.specs.Runs.{GoesOn, IsConfigured, MayFollow, boot_line}
+use Rattle.trace_laws.proofs.FirstLemmas.{one_parts}
 
 -- what may stand first is the line of a first entry whose configuration is read
 pub first_follows : (line : Text) → MayFollow [] [] line → (b : BootLine) × (config : Config) × IsConfigured b config × IsBootLine line b

@@ -5,7 +5,7 @@ use Rattle.std.proofs.Math.Seq.{drop-cons}
 use Rattle.std.proofs.lemmas.List.{take-append-drop}
 use Rattle.std.proofs.lemmas.List.Folds.{list_all_more}
 use Rattle.std.proofs.lemmas.Bool.Decides.{nat_tests}
-use Rattle.replay_file.specs.Lines.{Cuts, is_one_line}
+use Rattle.trace_laws.specs.Lines.{Cuts, is_one_line}
 
 no_feed : (c : ℕ) → (c ≡ 10 → ⊥) → not (nat_eq c 10) ≡ true
 no_feed c ne = grind (arith, nat_tests)

@@ -60,9 +60,9 @@ read_replay files name text text' end before after s C E has r low same j = inr 
 -- a failed read is that of the one source
 pub read_causes : (name text : Text) (end : FrontEnd) (s : Status) (C E : Text → Type 0) (faults : List ℕ) (names : List (Option Text)) → Judged text end s C E → (end ≡ FrontEnd.Failed → IsUnreadSource name 0 faults names)
     → ReadCause name (name ∷ []) faults names s
-read_causes name text end s C E faults names j failed = read_cause name (name ∷ []) faults names s (λ k e. by k (subst (IsStatusOf end j.journal j.records j.ended j.left) e j.status_is))
+read_causes name text end s C E faults names j failed = read_cause name (name ∷ []) faults names s (λ k e. by k (subst (IsStatusOf text end j.journal j.records j.ended j.left) e j.status_is))
   where
-    by : (k : Option ℕ) → IsStatusOf end j.journal j.records j.ended j.left (Status.ReadFault k) → ReadCause name (name ∷ []) faults names (Status.ReadFault k)
+    by : (k : Option ℕ) → IsStatusOf text end j.journal j.records j.ended j.left (Status.ReadFault k) → ReadCause name (name ∷ []) faults names (Status.ReadFault k)
     by None is = absurd is
     by (Some n) is = subst (λ (z : ℕ). ReadCause name (name ∷ []) faults names (Status.ReadFault (Some z))) (sym is.0) (name, refl, failed is.1)
 
@@ -90,7 +90,7 @@ module _ (files : Option Files) (name : Text) (s r : Status) (told : (r ≡ s) �
           ended = j.ended;
           left = j.left;
           begins = j.begins;
-          status_is = told_status (IsStatusOf h.end j.journal j.records j.ended j.left) s r told j.status_is tt;
+          status_is = told_status (IsStatusOf h.text h.end j.journal j.records j.ended j.left) s r told j.status_is tt;
           calls = taken_told s r _ o o' told j.calls;
           errors = errors_told _ j.errors;
         };

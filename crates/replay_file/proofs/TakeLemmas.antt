@@ -1,7 +1,7 @@
 -- What a line that is taken, or refused, makes of what was found so far.
-use Rattle.std.proofs.Common.{◌≡◌, ◌≢◌, ◌∙◌, ap, sym, subst, refl, ℕ, ◌+◌, ◌<◌, ◌≤◌, inl, inr, [], ◌∷◌, ◌++◌, take, drop, length, Bool, true, false, arith, append_assoc, append-nil, length-append}
+use Rattle.std.proofs.Common.{◌≡◌, ◌≢◌, ◌∙◌, ap, sym, subst, refl, ℕ, suc, ◌+◌, ◌<◌, ◌≤◌, inl, inr, [], ◌∷◌, ◌++◌, take, drop, length, Bool, true, false, arith, append_assoc, append-nil, length-append}
 use Rattle.std.proofs.lemmas.Bool.Decides.{nat_tests}
-use Rattle.std.specs.Prelude.{◌&&◌, ◌==◌, not, nat_eq, Ok, Err, Option, Some}
+use Rattle.std.specs.Prelude.{◌&&◌, ◌==◌, Ok, Err, Option, Some}
 use Rattle.std.specs.List.{list_all}
 use Rattle.std.proofs.lemmas.List.{nil_from_length, take-append-drop}
 use Rattle.std.proofs.lemmas.List.Folds.{list_all-append}
@@ -16,7 +16,6 @@ use Rattle.ha_model.specs.Records.{Records}
 use Rattle.ha_model.specs.RecordSteps.{more}
 use Rattle.ha_model.specs.Lawful.{Lawful, Right}
 use Rattle.ha_model.specs.Texts.{as_line, call_text, call_text_of, end_line, error_text, error_text_of, texts_after, trace_line, trace_text}
-use Rattle.ha_model.proofs.EqualLemmas.{and_right}
 use Rattle.ha_model.proofs.LawfulLaws.{has-entry}
 use Rattle.ha_model.proofs.RecordGrowth.{automations-more, true-false}
 use Rattle.ha_laws.proofs.CallGrowth.{calls-same}
@@ -26,11 +25,15 @@ use Rattle.ha_status.specs.declared.status.Status.{Status}
 use Rattle.ha_replay.specs.declared.fault.TraceFault.{TraceFault}
 use Rattle.ha_replay.specs.Traces.{Answers, IsEnd, IsNoNext, Reached, Stands, Takes as TakesEntry, most_entries, reached}
 use Rattle.replay_file.specs.declared.front.FrontEnd.{FrontEnd}
-use Rattle.replay_file.specs.Lines.{Cuts, is_one_line}
-use Rattle.replay_file.specs.Runs.{Begins, IsFirst, IsRun, MayFollow, line_count}
+use Rattle.trace_laws.specs.Lines.{Cuts, is_one_line}
+use Rattle.trace_laws.specs.Runs.{Begins, IsFirst, IsRun, MayFollow, line_count}
+use Rattle.trace_laws.specs.Tells.{GoesNoFurther, HasNoEnd, IsFarthest, IsNoTrace}
+use Rattle.trace_laws.proofs.CutLemmas.{no_feed, one_cut}
+use Rattle.trace_laws.proofs.RunLemmas.{full_further, no_further, no_trace}
 use Rattle.replay_file.specs.Boot.{IsBooted, IsUnbooted}
 use Rattle.replay_file.specs.Steps.{IsReady}
-use Rattle.replay_file.specs.Judged.{IsAt, IsCutShort, IsStatusOf, IsTaken, Judged}
+use Rattle.replay_file.specs.Fronts.{IsFrontOf}
+use Rattle.replay_file.specs.Judged.{IsAt, IsCutShort, IsFull, IsJudged, IsRefused, IsStatusOf, IsTaken, Judged, OfFile}
 
 -- ---- lines
 
@@ -38,36 +41,14 @@ and_false : (b : Bool) → (b && false) ≡ false
 and_false true = refl
 and_false false = refl
 
-abbrev no_feed : ℕ → Bool
-no_feed c = not (nat_eq c 10)
-
 pub has_line : (line behind : Text) → is_one_line (line ++ (10 ∷ behind)) ≡ false
 has_line line behind = list_all-append no_feed line (10 ∷ behind) ∙ and_false (list_all no_feed line)
 
 pub is_left : (line behind : Text) → line ++ (10 ∷ behind) ≢ []
 is_left line behind e = true-false (sym (ap is_one_line e) ∙ has_line line behind)
 
-feed_ends : (c : ℕ) (rest : Bool) → c ≡ 10 → (no_feed c && rest) ≡ true → ⊥
-feed_ends c rest e h = true-false (sym h ∙ (λ i. no_feed (e i) && rest))
-
-abbrev head_or : ℕ → Text → ℕ
-head_or d [] = d
-head_or d (c ∷ cs) = c
-
-abbrev tail_of : Text → Text
-tail_of [] = []
-tail_of (c ∷ cs) = cs
-
-one_cut : (line behind line' behind' : Text) → is_one_line line ≡ true → is_one_line line' ≡ true → line ++ (10 ∷ behind) ≡ line' ++ (10 ∷ behind') → line ≡ line'
-one_cut [] behind [] behind' h h' e = refl
-one_cut [] behind (c ∷ line') behind' h h' e = absurd (feed_ends c (is_one_line line') (sym (ap (head_or 0) e)) h')
-one_cut (c ∷ line) behind [] behind' h h' e = absurd (feed_ends c (is_one_line line) (ap (head_or 0) e) h)
-one_cut (c ∷ line) behind (d ∷ line') behind' h h' e =
-    let rest = one_cut line behind line' behind' (and_right (no_feed c) (is_one_line line) h) (and_right (no_feed d) (is_one_line line') h') (ap tail_of e) in
-    (λ i. ap (head_or 0) e i ∷ rest i)
-
 pub same_cut : (line behind line' behind' : Text) → is_one_line line ≡ true → Cuts (line ++ (10 ∷ behind)) line' behind' → line ≡ line'
-same_cut line behind line' behind' one cuts = one_cut line behind line' behind' one cuts.one_line cuts.text_is
+same_cut line behind line' behind' one cuts = (one_cut line behind line' behind' one cuts.one_line cuts.text_is).0
 
 pub empty_is : (text : Text) (r : Bool) → r ≡ (length text == 0) → r ≡ true → text ≡ []
 empty_is text r is yes_it_is = nil_from_length text (let none : (length text == 0) ≡ true = sym is ∙ yes_it_is in grind (arith, nat_tests))
@@ -115,9 +96,73 @@ front_taken s t u a b c cut took front = record {
   all = inl cut;
 }
 
+-- ---- a text that goes no further
+
+-- what a file has behind what was read of it: nothing, where it was read whole
+front_rest : (text : Text) (end : FrontEnd) (bytes : Text) → IsFrontOf text end bytes → (rest : Text) × (bytes ≡ text ++ rest) × (end ≡ FrontEnd.Whole → rest ≡ [])
+front_rest text FrontEnd.Whole bytes is = ([], is ∙ sym (append-nil text), λ _. refl)
+front_rest text FrontEnd.Failed bytes is = (is.0, is.1, λ bad. absurd cc)
+front_rest text FrontEnd.TooLong bytes is = (is.1.0, is.1.2, λ bad. absurd cc)
+
+begins_more : (text rest bytes : Text) (j : Journal) (rs : Records) (ended : Bool) (left : Text) → bytes ≡ text ++ rest → Begins text j rs ended left → Begins bytes j rs ended (left ++ rest)
+begins_more text rest bytes j rs ended left e b = record {
+  run = b.run;
+  room = b.room;
+  ends = b.ends;
+  text_is = e ∙ ap (λ z. z ++ rest) b.text_is ∙ append_assoc (trace_text j ended) left rest;
+}
+
+module _ (text : Text) (end : FrontEnd) (j : Journal) (rs : Records) (ended : Bool) (left : Text) (begins : Begins text j rs ended left) where
+  -- what is left, whatever the file has behind it
+  abbrev OfRest : (Text → Type 0) → Type 0
+  OfRest P = (rest : Text) → (end ≡ FrontEnd.Whole → rest ≡ []) → P (left ++ rest)
+
+  stops_there : OfRest (GoesNoFurther j rs ended) → OfFile text end (λ bytes. IsFarthest bytes (line_count j ended))
+  stops_there stops bytes is =
+      let f = front_rest text end bytes is in
+      no_further bytes j rs ended (left ++ f.0) (begins_more text f.0 bytes j rs ended left f.1 begins) (stops f.0 f.2)
+
+  is_full_there : length j ≡ most_entries → OfRest (HasNoEnd j rs) → OfFile text end (λ bytes. IsFarthest bytes (line_count j ended))
+  is_full_there full no_end bytes is =
+      let f = front_rest text end bytes is in
+      full_further bytes j rs ended (left ++ f.0) (begins_more text f.0 bytes j rs ended left f.1 begins) full (no_end f.0 f.2)
+
+  is_none : OfRest (λ after. ended ≡ true → after ≢ []) → OfFile text end (λ bytes. IsFarthest bytes (line_count j ended)) → OfFile text end IsNoTrace
+  is_none unfinished far bytes is =
+      let f = front_rest text end bytes is in
+      no_trace bytes j rs ended (left ++ f.0) (begins_more text f.0 bytes j rs ended left f.1 begins) (unfinished f.0 f.2) (far bytes is)
+
+  refused_there : (line : ℕ) → line ≡ suc (line_count j ended) → IsJudged end left → (ended ≡ false → length j ≢ most_entries) → OfRest (λ after. ended ≡ true → after ≢ []) → OfRest (GoesNoFurther j rs ended)
+      → IsRefused text end j rs ended left line
+  refused_there line is judged room unfinished stops = (let far = stops_there stops in record { line_is = is; judged = judged; room = room; farthest = far; no_trace = is_none unfinished far })
+
+  -- a full journal, behind which the end line is not left
+  full_there : ended ≡ false → length j ≡ most_entries → OfRest (HasNoEnd j rs) → IsJudged end left → IsFull text end j ended left
+  full_there open_run full no_end judged =
+      let far = is_full_there full no_end in
+      record {
+        unended = open_run;
+        full = full;
+        judged = judged;
+        farthest = λ bytes is. subst (IsFarthest bytes) (lines ended open_run) (far bytes is);
+        no_trace = is_none (λ rest nothing bad. absurd (true-false (sym bad ∙ open_run))) far;
+      }
+    where
+      lines : (e : Bool) → e ≡ false → line_count j e ≡ most_entries
+      lines true h = absurd (true-false h)
+      lines false h = omega (arith, full)
+
+-- where a whole text has no whole line left, none is left with what the file has behind it
+no_cut_behind : (left rest line behind : Text) → rest ≡ [] → is_one_line left ≡ true → Cuts (left ++ rest) line behind → ⊥
+no_cut_behind left rest line behind nothing one cuts = no_cut left line behind one (subst (λ z. Cuts z line behind) (ap (λ z. left ++ z) nothing ∙ append-nil left) cuts)
+
+-- a line that is left is so with what the file has behind it
+same_cut_behind : (line behind rest line' behind' : Text) → is_one_line line ≡ true → Cuts ((line ++ (10 ∷ behind)) ++ rest) line' behind' → line ≡ line'
+same_cut_behind line behind rest line' behind' one cuts = same_cut line (behind ++ rest) line' behind' one (subst (λ z. Cuts z line' behind') (append_assoc line (10 ∷ behind) rest) cuts)
+
 -- the text as it stands, for a status
 module _ (text : Text) (end : FrontEnd) (j : Journal) (rs : Records) (ended : Bool) (left : Text) (o o' e e' : Option Text) (at : IsAt text j rs ended left o o' e e') where
-  pub judged_here : (s : Status) → IsStatusOf end j rs ended left s → Judged text end s (λ t. IsTaken s t o o') (λ t. IsTaken s t e e')
+  pub judged_here : (s : Status) → IsStatusOf text end j rs ended left s → Judged text end s (λ t. IsTaken s t o o') (λ t. IsTaken s t e e')
   judged_here s is = record {
     journal = j;
     records = rs;
@@ -142,17 +187,15 @@ module _ (text : Text) (end : FrontEnd) (j : Journal) (rs : Records) (ended : Bo
 
   pub full_at_end : end ≡ FrontEnd.Whole → ended ≡ false → length j ≡ most_entries → is_one_line left ≡ true
       → Judged text end Status.JournalFull (λ t. IsTaken Status.JournalFull t o o') (λ t. IsTaken Status.JournalFull t e e')
-  full_at_end is unended full one = judged_here Status.JournalFull (unended, full, (λ line behind cuts. absurd (no_cut left line behind one cuts)), inr is)
+  full_at_end is unended full one = judged_here Status.JournalFull
+      (full_there text end j rs ended left at.begins unended full (λ rest nothing line behind cuts. absurd (no_cut_behind left rest line behind (nothing is) one cuts)) (inr is))
 
   pub refused_at_end : (lines : ℕ) → end ≡ FrontEnd.Whole → (ended ≡ true → left ≢ []) → (ended ≡ false → length j ≢ most_entries) → is_one_line left ≡ true → lines ≡ line_count j ended
       → (s : Status) → s ≡ Status.TraceRefused (lines + 1) → Judged text end s (λ t. IsTaken s t o o') (λ t. IsTaken s t e e')
-  refused_at_end lines is unfinished room one counted s same = judged_here s (subst (IsStatusOf end j rs ended left) (sym same) (record {
-    line_is = omega (arith, counted);
-    judged = inr is;
-    unfinished = unfinished;
-    room = room;
-    no_further = λ line behind cuts. absurd (no_cut left line behind one cuts);
-  }))
+  refused_at_end lines is unfinished room one counted s same = judged_here s (subst (IsStatusOf text end j rs ended left) (sym same)
+      (refused_there text end j rs ended left at.begins (lines + 1) (omega (arith, counted)) (inr is) room
+      (λ rest nothing closed none. unfinished closed (sym (ap (λ z. left ++ z) (nothing is) ∙ append-nil left) ∙ none))
+      (λ rest nothing line behind cuts. absurd (no_cut_behind left rest line behind (nothing is) one cuts))))
 
 -- ---- a line that is not taken
 
@@ -162,32 +205,21 @@ module _ (text line behind : Text) (end : FrontEnd) (j : Journal) (rs : Records)
 
   pub line_refused : IsAt text j rs false left o o' e e' → lines ≡ line_count j false → length j ≢ most_entries → (MayFollow j rs line → ⊥)
       → (s : Status) → s ≡ Status.TraceRefused (lines + 1) → Judged text end s (λ t. IsTaken s t o o') (λ t. IsTaken s t e e')
-  line_refused at counted room never s same = judged_here text end j rs false left o o' e e' at s (subst (IsStatusOf end j rs false left) (sym same) (record {
-    line_is = omega (arith, counted);
-    judged = inl (has_line line behind);
-    unfinished = λ bad. absurd (true-false (sym bad));
-    room = λ _. room;
-    no_further = λ line' behind' cuts. inr (λ m. never (subst (MayFollow j rs) (sym (same_cut line behind line' behind' one cuts)) m));
-  }))
+  line_refused at counted room never s same = judged_here text end j rs false left o o' e e' at s (subst (IsStatusOf text end j rs false left) (sym same)
+      (refused_there text end j rs false left at.begins (lines + 1) (omega (arith, counted)) (inl (has_line line behind)) (λ _. room) (λ rest nothing bad. absurd (true-false (sym bad)))
+      (λ rest nothing line' behind' cuts. inr (λ m. never (subst (MayFollow j rs) (sym (same_cut_behind line behind rest line' behind' one cuts)) m)))))
 
   pub behind_end : IsAt text j rs true left o o' e e' → lines ≡ line_count j true
       → (s : Status) → s ≡ Status.TraceRefused (lines + 1) → Judged text end s (λ t. IsTaken s t o o') (λ t. IsTaken s t e e')
-  behind_end at counted s same = judged_here text end j rs true left o o' e e' at s (subst (IsStatusOf end j rs true left) (sym same) (record {
-    line_is = omega (arith, counted);
-    judged = inl (has_line line behind);
-    unfinished = λ _. is_left line behind;
-    room = λ bad. absurd (true-false bad);
-    no_further = λ line' behind' cuts. inl refl;
-  }))
+  behind_end at counted s same = judged_here text end j rs true left o o' e e' at s (subst (IsStatusOf text end j rs true left) (sym same)
+      (refused_there text end j rs true left at.begins (lines + 1) (omega (arith, counted)) (inl (has_line line behind)) (λ bad. absurd (true-false bad))
+      (λ rest nothing _ none. is_left line (behind ++ rest) (sym (append_assoc line (10 ∷ behind) rest) ∙ none)) (λ rest nothing line' behind' cuts. inl refl)))
 
   pub journal_full : IsAt text j rs false left o o' e e' → length j ≡ most_entries → (IsEnd j rs line → ⊥)
       → (s : Status) → s ≡ Status.JournalFull → Judged text end s (λ t. IsTaken s t o o') (λ t. IsTaken s t e e')
-  journal_full at full no_end s same = judged_here text end j rs false left o o' e e' at s (subst (IsStatusOf end j rs false left) (sym same) (
-    refl,
-    full,
-    (λ line' behind' cuts is. no_end (subst (IsEnd j rs) (sym (same_cut line behind line' behind' one cuts)) is)),
-    inl (has_line line behind),
-  ))
+  journal_full at full no_end s same = judged_here text end j rs false left o o' e e' at s (subst (IsStatusOf text end j rs false left) (sym same)
+      (full_there text end j rs false left at.begins refl full (λ rest nothing line' behind' cuts is. no_end (subst (IsEnd j rs) (sym (same_cut_behind line behind rest line' behind' one cuts)) is))
+      (inl (has_line line behind))))
 
 -- nothing was taken yet
 pub nothing_at : (text : Text) (o e : Option Text) → IsAt text [] [] false text o o e e
@@ -198,19 +230,19 @@ nothing_at text o e = record {
 }
 
 -- a command that was cut short may end so at any line
-pub cut_status : (end : FrontEnd) (j : Journal) (rs : Records) (ended : Bool) (rest : Text) (s : Status) → IsCutShort s → IsStatusOf end j rs ended rest s
-cut_status end j rs ended rest (Status.WriteFault zero) cut = tt
-cut_status end j rs ended rest Status.Memory cut = tt
-cut_status end j rs ended rest Status.Ok cut = absurd cut
-cut_status end j rs ended rest Status.Usage cut = absurd cut
-cut_status end j rs ended rest (Status.ConfigRefused line code) cut = absurd cut
-cut_status end j rs ended rest (Status.OpenFault name) cut = absurd cut
-cut_status end j rs ended rest (Status.ReadFault source) cut = absurd cut
-cut_status end j rs ended rest Status.KeepFault cut = absurd cut
-cut_status end j rs ended rest Status.JournalFull cut = absurd cut
-cut_status end j rs ended rest (Status.SourceTooLong source) cut = absurd cut
-cut_status end j rs ended rest (Status.StoreRefused code) cut = absurd cut
-cut_status end j rs ended rest (Status.TraceRefused line) cut = absurd cut
+pub cut_status : (text : Text) (end : FrontEnd) (j : Journal) (rs : Records) (ended : Bool) (rest : Text) (s : Status) → IsCutShort s → IsStatusOf text end j rs ended rest s
+cut_status text end j rs ended rest (Status.WriteFault zero) cut = tt
+cut_status text end j rs ended rest Status.Memory cut = tt
+cut_status text end j rs ended rest Status.Ok cut = absurd cut
+cut_status text end j rs ended rest Status.Usage cut = absurd cut
+cut_status text end j rs ended rest (Status.ConfigRefused line code) cut = absurd cut
+cut_status text end j rs ended rest (Status.OpenFault name) cut = absurd cut
+cut_status text end j rs ended rest (Status.ReadFault source) cut = absurd cut
+cut_status text end j rs ended rest Status.KeepFault cut = absurd cut
+cut_status text end j rs ended rest Status.JournalFull cut = absurd cut
+cut_status text end j rs ended rest (Status.SourceTooLong source) cut = absurd cut
+cut_status text end j rs ended rest (Status.StoreRefused code) cut = absurd cut
+cut_status text end j rs ended rest (Status.TraceRefused line) cut = absurd cut
 
 -- ---- a line that is taken
 
@@ -275,7 +307,7 @@ module _ (text line behind : Text) (r r' : Reached) (t : TakesEntry line r r') (
       ended = false;
       left = behind;
       begins = begins_now at.begins;
-      status_is = cut_status end r'.journal r'.records false behind s cut;
+      status_is = cut_status text end r'.journal r'.records false behind s cut;
       calls = subst (λ z. IsTaken s z o o'') (sym calls_now) (front_taken s _ _ o o' o'' cut at.calls_taken calls);
       errors = subst (λ z. IsTaken s z e e'') (sym errors_now) (front_taken s _ _ e e' e'' cut at.errors_taken errors);
     }
@@ -313,7 +345,7 @@ module _ (text line behind : Text) (end : FrontEnd) (r r' : Reached) (lines : �
   not_taken one at stands counted TraceFault.Full never s refused full memory =
       journal_full text line behind end r.journal r.records lines o o' e e' one at never.0 never.1 s (full refl)
   not_taken one at stands counted TraceFault.Memory never s refused full memory =
-      judged_here text end r.journal r.records false (line ++ (10 ∷ behind)) o o' e e' at s (cut_status end r.journal r.records false (line ++ (10 ∷ behind)) s (subst IsCutShort (sym (memory refl)) tt))
+      judged_here text end r.journal r.records false (line ++ (10 ∷ behind)) o o' e e' at s (cut_status text end r.journal r.records false (line ++ (10 ∷ behind)) s (subst IsCutShort (sym (memory refl)) tt))
 
 -- ---- the first line
 
@@ -375,7 +407,7 @@ unbooted_judged text line behind end o e cuts TraceFault.Refused never s refused
     (line_refused all line behind end [] [] 0 o o e e cuts.one_line (nothing_at all o e) refl (λ full. omega (arith, full)) never s (refused refl))
 unbooted_judged text line behind end o e cuts TraceFault.Full never s refused memory = absurd never
 unbooted_judged text line behind end o e cuts TraceFault.Memory never s refused memory =
-    judged_here text end [] [] false text o o e e (nothing_at text o e) s (cut_status end [] [] false text s (subst IsCutShort (sym (memory refl)) tt))
+    judged_here text end [] [] false text o o e e (nothing_at text o e) s (cut_status text end [] [] false text s (subst IsCutShort (sym (memory refl)) tt))
 
 pub left_as : (text left left' : Text) (j : Journal) (rs : Records) (ended : Bool) (o o' e e' : Option Text) → left ≡ left' → IsAt text j rs ended left o o' e e' → IsAt text j rs ended left' o o' e e'
 left_as text left left' j rs ended o o' e e' same at = subst (λ z. IsAt text j rs ended z o o' e e') same at

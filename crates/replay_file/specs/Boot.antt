@@ -7,7 +7,7 @@ use Rattle.ha_model.specs.Records.{Records}
 use Rattle.ha_model.specs.Lawful.{Right}
 use Rattle.ha_model.specs.Texts.{as_line, trace_line}
 use Rattle.ha_replay.specs.declared.fault.TraceFault.{TraceFault}
-use Rattle.replay_file.specs.Runs.{IsFirst, MayFollow}
+use Rattle.trace_laws.specs.Runs.{IsFirst, MayFollow}
 
 -- the journal is a first entry alone, whose line this is
 pub record IsBooted (line : Text) (j : Journal) (rs : Records) : Type 0 where

@@ -7,10 +7,12 @@ use Rattle.ha_model.specs.Texts.{call_text, error_text}
 use Rattle.ha_io.specs.Told.{Takes}
 use Rattle.ha_status.specs.declared.status.Status.{Status}
 use Rattle.ha_status.specs.Written.{TookBut, TookLine}
-use Rattle.ha_replay.specs.Traces.{IsEnd, most_entries}
+use Rattle.ha_replay.specs.Traces.{most_entries}
 use Rattle.replay_file.specs.declared.front.FrontEnd.{FrontEnd}
-use Rattle.replay_file.specs.Lines.{Cuts, is_one_line}
-use Rattle.replay_file.specs.Runs.{Begins, MayFollow, line_count}
+use Rattle.replay_file.specs.Fronts.{IsFrontOf}
+use Rattle.trace_laws.specs.Lines.{is_one_line}
+use Rattle.trace_laws.specs.Runs.{Begins, line_count}
+use Rattle.trace_laws.specs.Tells.{IsFarthest, IsNoTrace}
 
 -- ---- the status
 
@@ -22,34 +24,38 @@ HasLine left = is_one_line left ≡ false
 abbrev pub IsJudged : FrontEnd → Text → Type 0
 IsJudged end left = HasLine left ⊎ (end ≡ FrontEnd.Whole)
 
--- the line that is left, if one is, may not stand next; nothing may behind the end
-abbrev pub GoesNoFurther : Journal → Records → Bool → Text → Type 0
-GoesNoFurther j rs ended left = (line behind : Text) → Cuts left line behind → (ended ≡ true) ⊎ (MayFollow j rs line → ⊥)
+-- the fact holds of the bytes of each file of which this was read so
+abbrev pub OfFile : Text → FrontEnd → (Text → Type 0) → Type 0
+OfFile text end P = (bytes : Text) → IsFrontOf text end bytes → P bytes
 
--- and it is not the end line
-abbrev pub HasNoEnd : Journal → Records → Text → Type 0
-HasNoEnd j rs left = (line behind : Text) → Cuts left line behind → IsEnd j rs line → ⊥
-
--- The line behind those that were taken is refused: it may not stand next, or there is none where one is due, and the journal has room for
--- one.
-pub record IsRefused (end : FrontEnd) (j : Journal) (rs : Records) (ended : Bool) (left : Text) (line : ℕ) : Type 0 where
+-- The line, counted from 1, is the first at which the file departs from every trace: the lines before it are those of a run, but the file
+-- begins with the trace of no run that has more lines, and is the whole trace of no finished run.
+pub record IsRefused (text : Text) (end : FrontEnd) (j : Journal) (rs : Records) (ended : Bool) (left : Text) (line : ℕ) : Type 0 where
   pub line_is : line ≡ suc (line_count j ended)
   pub judged : IsJudged end left
-  pub unfinished : ended ≡ true → left ≢ []
   pub room : ended ≡ false → length j ≢ most_entries
-  pub no_further : GoesNoFurther j rs ended left
+  pub farthest : OfFile text end (λ bytes. IsFarthest bytes (line_count j ended))
+  pub no_trace : OfFile text end IsNoTrace
+
+-- The journal of the run is full, and the file begins with the trace of no run that has more lines.
+pub record IsFull (text : Text) (end : FrontEnd) (j : Journal) (ended : Bool) (left : Text) : Type 0 where
+  pub unended : ended ≡ false
+  pub full : length j ≡ most_entries
+  pub judged : IsJudged end left
+  pub farthest : OfFile text end (λ bytes. IsFarthest bytes most_entries)
+  pub no_trace : OfFile text end IsNoTrace
 
 -- The status where the bytes begin with the trace of this run, and this is left. A failed read and too many bytes come only where no whole
 -- line is left. Failed writes and want of memory may come at each line.
-abbrev pub IsStatusOf : FrontEnd → Journal → Records → Bool → Text → Status → Type 0
-IsStatusOf end j rs ended left Status.Ok = (end ≡ FrontEnd.Whole) × (ended ≡ true) × (left ≡ [])
-IsStatusOf end j rs ended left (Status.TraceRefused line) = IsRefused end j rs ended left line
-IsStatusOf end j rs ended left Status.JournalFull = (ended ≡ false) × (length j ≡ most_entries) × HasNoEnd j rs left × IsJudged end left
-IsStatusOf end j rs ended left (Status.SourceTooLong source) = (source ≡ 0) × (end ≡ FrontEnd.TooLong) × (is_one_line left ≡ true)
-IsStatusOf end j rs ended left (Status.ReadFault (Some source)) = (source ≡ 0) × (end ≡ FrontEnd.Failed) × (is_one_line left ≡ true)
-IsStatusOf end j rs ended left (Status.WriteFault zero) = Unit {0}
-IsStatusOf end j rs ended left Status.Memory = Unit {0}
-IsStatusOf end j rs ended left _ = ⊥
+abbrev pub IsStatusOf : Text → FrontEnd → Journal → Records → Bool → Text → Status → Type 0
+IsStatusOf text end j rs ended left Status.Ok = (end ≡ FrontEnd.Whole) × (ended ≡ true) × (left ≡ [])
+IsStatusOf text end j rs ended left (Status.TraceRefused line) = IsRefused text end j rs ended left line
+IsStatusOf text end j rs ended left Status.JournalFull = IsFull text end j ended left
+IsStatusOf text end j rs ended left (Status.SourceTooLong n) = (n ≡ 0) × (end ≡ FrontEnd.TooLong) × (is_one_line left ≡ true)
+IsStatusOf text end j rs ended left (Status.ReadFault (Some n)) = (n ≡ 0) × (end ≡ FrontEnd.Failed) × (is_one_line left ≡ true)
+IsStatusOf text end j rs ended left (Status.WriteFault zero) = Unit {0}
+IsStatusOf text end j rs ended left Status.Memory = Unit {0}
+IsStatusOf text end j rs ended left _ = ⊥
 
 -- ---- what is written
 
@@ -80,7 +86,7 @@ pub record Judged (text : Text) (end : FrontEnd) (status : Status) (Calls Errors
   pub ended : Bool
   pub left : Text
   pub begins : Begins text journal records ended left
-  pub status_is : IsStatusOf end journal records ended left status
+  pub status_is : IsStatusOf text end journal records ended left status
   pub calls : Calls (call_text journal records)
   pub errors : Errors (error_text journal)
 

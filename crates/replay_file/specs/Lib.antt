@@ -1,6 +1,4 @@
-pub mod Lines
 pub mod Fronts
-pub mod Runs
 pub mod Boot
 pub mod Judged
 pub mod Steps

@@ -6,7 +6,7 @@ use Rattle.bus_turn.specs.States.{SinkState}
 use Rattle.bus_turn.specs.Writes.{SinkCause, Took, TookFront}
 use Rattle.ha_status.specs.declared.status.Status.{Status}
 use Rattle.ha_replay.specs.Traces.{Reached, Stands, most_entries}
-use Rattle.replay_file.specs.Runs.{line_count}
+use Rattle.trace_laws.specs.Runs.{line_count}
 
 -- the core takes a further line, and it is known how many were taken
 pub record IsReady (r : Reached) (is_spent ended : Bool) (lines : ℕ) : Type 0 where

@@ -7,7 +7,7 @@ ghost use Rattle.ha_clock.specs.Zone.{zone_of};
 ghost use Rattle.ha_model.specs.Sound.{IsSoundConfig};
 ghost use Rattle.ha_model.specs.Words.{Text};
 ghost use Rattle.ha_replay.specs.Boots.{IsBootLine, are_stored, have_utf8_names};
-ghost use Rattle.replay_file.specs.Runs.{IsConfigured, boot_line};
+ghost use Rattle.trace_laws.specs.Runs.{IsConfigured, boot_line};
 ghost use Rattle.replay_file.specs.Boot.{IsBooted, IsUnbooted};
 
 use conf_auto::read_config;

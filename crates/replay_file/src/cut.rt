@@ -1,6 +1,6 @@
 //! A text cut at its line feeds.
 ghost use Rattle.std.specs.Prelude.{◌≡◌, ◌<◌, ◌∷◌, ◌+◌, None, IfSome, true, length, take, drop};
-ghost use Rattle.replay_file.specs.Lines.{Cuts, is_one_line};
+ghost use Rattle.trace_laws.specs.Lines.{Cuts, is_one_line};
 
 /// The first line of a text without its LF, and what stands behind the LF.
 #[derive(Clone, Copy)]

@@ -11,7 +11,7 @@ ghost use Rattle.ha_status.specs.Causes.{NeverFall, OneRose, WriteCause};
 ghost use Rattle.ha_replay.specs.Traces.{reached};
 ghost use Rattle.replay_file.specs.declared.front.FrontEnd.{FrontEnd as End};
 ghost use Rattle.replay_file.specs.Fronts.{most_bytes};
-ghost use Rattle.replay_file.specs.Lines.{is_one_line};
+ghost use Rattle.trace_laws.specs.Lines.{is_one_line};
 ghost use Rattle.replay_file.specs.Judged.{IsAt, IsCutShort, IsTaken, Judged};
 ghost use Rattle.replay_file.specs.Steps.{IfWrite, IsReady, WritesBoth};
 

@@ -49,7 +49,7 @@ not-store-refused (Some kept) code h r = by kept h.0 h.1 r.1
 -- ---- sources
 
 -- of sources none of whose reads failed, none was not read
-none-unread : (sources : List SourceState) → Each IsRead sources → (k : ℕ) (name : Text) (names : List (Option Text)) → IsUnread name k (map (λ s. s.faults) sources) names → ⊥
+pub none-unread : (sources : List SourceState) → Each IsRead sources → (k : ℕ) (name : Text) (names : List (Option Text)) → IsUnread name k (map (λ s. s.faults) sources) names → ⊥
 none-unread sources h k name names u = by sources h k u.count_is
   where
     by : (sources : List SourceState) → Each IsRead sources → (k : ℕ) → slice_get (map (λ s. s.faults) sources) k ≡ Some u.count → ⊥
@@ -80,7 +80,7 @@ none-exceeds f journal n (name ∷ names) (source ∷ sources) (feed ∷ feeds) 
 
 -- ---- counts
 
-one-well : (b b' a a' : ℕ) → (Rose b a → ⊥) → (Rose b' a' → ⊥) → OneRose b a b' a' → ⊥
+pub one-well : (b b' a a' : ℕ) → (Rose b a → ⊥) → (Rose b' a' → ⊥) → OneRose b a b' a' → ⊥
 one-well b b' a a' h k (inl r) = h r
 one-well b b' a a' h k (inr r) = k r
 
@@ -94,7 +94,7 @@ no-trace-zero (Some s) h r = omega (arith, h.no_zero, r)
 
 -- ---- both commands
 
-abbrev Good : Status → Type 0
+abbrev pub Good : Status → Type 0
 Good status = (status ≡ Status.Ok) ⊎ (status ≡ Status.Memory)
 
 pub run-ends-well : (words : RunWords) (b : Before) (a : After) → Answered words b a → IsUnhinderedRun words b a → Good a.status

@@ -1,1 +1,2 @@
 pub mod Unhindered
+pub mod Traced

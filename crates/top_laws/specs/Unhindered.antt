@@ -1,11 +1,16 @@
 -- What hinders a command: none of this.
-use Rattle.std.specs.Prelude.{◌≡◌, ◌≤◌, ◌<◌, length, Option, IfSome, IsSomeAnd}
+use Rattle.std.specs.Prelude.{ℕ, ◌≡◌, ◌≤◌, ◌<◌, length, Option, IfSome, IsSomeAnd}
 use Rattle.ha_io.specs.Counts.{Rose}
 use Rattle.ha_model.specs.Words.{Text}
+use Rattle.ha_model.specs.Journal.{Journal}
+use Rattle.ha_model.specs.Records.{Records}
 use Rattle.ha_words.specs.declared.plan.RunWords.{RunWords}
 use Rattle.bus_turn.specs.States.{SinkState}
 use Rattle.ha_worker.specs.Courses.{SourceState, most_bytes}
 use Rattle.ha_run.specs.Served.{Each}
+use Rattle.trace_laws.specs.Tells.{IsTraceOf}
+use Rattle.replay_file.specs.Fronts.{most_bytes as most_trace_bytes}
+use Rattle.ha_rehearse.specs.Rehearsed.{RehearsedFull}
 use Rattle.ha_top.specs.Views.{After, Before}
 use Rattle.ha_top.specs.Answered.{IsStore, IsTaken}
 
@@ -44,3 +49,23 @@ pub record IsUnhinderedRun (words : RunWords) (b : Before) (a : After) : Type 0 
   pub trace_well : IfSome a.trace IsNewWell
   pub within : IfSome b.place.files (λ f. Each (λ name. IsWithin (f name)) words.sources)
   pub room : length a.journal < 1_048_576
+
+-- the trace of a finished run, within the bound on a trace's bytes
+pub record IsWholeTrace (text : Text) : Type 0 where
+  pub journal : Journal
+  pub records : Records
+  pub trace : IsTraceOf text journal records
+  pub within : length text ≤ most_trace_bytes
+
+-- The file is the trace of a finished run, the place tells its files and did not fail, and neither did the outputs and the source.
+pub record IsUnhinderedReplay (name : Text) (b : Before) (a : After) : Type 0 where
+  pub traced : IsSomeAnd b.place.files (λ f. IsSomeAnd (f name) IsWholeTrace)
+  pub opened : Rose b.place.faults a.place.faults → ⊥
+  pub out_well : IsWell b.out a.out
+  pub err_well : IsWell b.err a.err
+  pub read : Each IsRead a.sources
+
+-- There is room for the journal of so many lines, and the output did not fail.
+pub record IsUnhinderedRehearsal (lines : ℕ) (b : Before) (a : After) : Type 0 where
+  pub room : RehearsedFull lines → ⊥
+  pub out_well : IsWell b.out a.out

@@ -2,7 +2,7 @@ use Rattle.std.proofs.Common.{◌∙◌, ap, sym}
 use Rattle.std.specs.Str.{is_utf8}
 use Rattle.std.proofs.lemmas.Str.{is_utf8-from_IsUtf8}
 use Rattle.conf_auto.specs.Config.{config_of}
-use Rattle.replay_file.specs.Runs.{boot_line}
+use Rattle.trace_laws.specs.Runs.{boot_line}
 use Rattle.replay_file.proofs.BootLemmas.{are_utf8, refused_config, unconfigured}
 use Rattle.replay_file.proofs.boot.with_config.Goals as goal
 

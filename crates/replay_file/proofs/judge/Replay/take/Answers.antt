@@ -1,6 +1,6 @@
 use Rattle.std.proofs.Common.{◌∙◌, ap, false, refl, sym, true}
 use Rattle.ha_replay.specs.Traces.{reached}
-use Rattle.replay_file.specs.Runs.{line_count}
+use Rattle.trace_laws.specs.Runs.{line_count}
 use Rattle.replay_file.proofs.TakeLemmas.{at_same, behind_end}
 use Rattle.replay_file.proofs.judge.Replay.take.Goals as goal
 

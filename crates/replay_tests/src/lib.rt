@@ -1,0 +1,5 @@
+//! Tests of `replay`. What is wanted stands in the format's own words, and was worked out by hand.
+#![tactic(auto)]
+
+#[cfg(test)]
+mod traces;

@@ -1,0 +1,195 @@
+//! Traces that are replayed: a finished one, and those that depart from every trace at some line.
+use ha_engine::Engine;
+use ha_io::{MemFile, MemPlace, MemSink, have_distinct_names};
+use replay_file::replay_call;
+use std::alloc::{AllocError, Global};
+use std::test::Fail;
+
+const BOOT: &str = "{\"boot\":{\"config\":\"[]\\n\",\"stored\":null,\"start\":\"2024-05-01T20:00:00.000Z\",\"zone\":\"UTC\"}}\n";
+const BLANK: &str = "{\"boot\": {\"config\":\"[]\\n\",\"stored\":null,\"start\":\"2024-05-01T20:00:00.000Z\",\"zone\":\"UTC\"}}\n";
+const ORDERED: &str = "{\"boot\":{\"config\":\"[]\\n\",\"stored\":{\"a\":true,\"b\":true},\"start\":\"2024-05-01T20:00:00.000Z\",\"zone\":\"UTC\"}}\n";
+const UNORDERED: &str = "{\"boot\":{\"config\":\"[]\\n\",\"stored\":{\"b\":true,\"a\":true},\"start\":\"2024-05-01T20:00:00.000Z\",\"zone\":\"UTC\"}}\n";
+const FIRST: &str = "{\"source\":0,\"number\":0,\"cmd\":{\"moment\":\"2024-05-01T20:00:01.000Z\"}}\n";
+const SECOND: &str = "{\"source\":0,\"number\":1,\"cmd\":{\"moment\":\"2024-05-01T20:00:01.000Z\"}}\n";
+
+/// A home that notifies, waits a second and notifies again, up to its last step.
+const HOME: &str = "{\"boot\":{\"config\":\"- alias: a\\n  triggers:\\n    - trigger: event\\n      event_type: go\\n  actions:\\n    - action: notify.x\\n    - delay: 1\\n    - action: notify.y\\n\",\"stored\":null,\"start\":\"2024-05-01T20:00:00.000Z\",\"zone\":\"UTC\"}}\n{\"source\":0,\"number\":0,\"cmd\":{\"event\":\"go\",\"data\":{}}}\n";
+const STEPS: &str = "{\"worker\":0,\"run\":1,\"branch\":[],\"item\":{\"call\":{\"service\":\"notify.x\",\"target\":[],\"data\":{}}}}\n{\"worker\":0,\"run\":1,\"branch\":[],\"item\":{\"nothing\":true}}\n";
+const LATER: &str = "{\"source\":1,\"number\":0,\"cmd\":{\"moment\":\"2024-05-01T20:00:01.000Z\"}}\n{\"source\":0,\"number\":1,\"cmd\":{\"refused\":\"L2\"}}\n";
+const LAST: &str = "{\"worker\":0,\"run\":1,\"branch\":[],\"item\":{\"nothing\":true}}\n{\"worker\":0,\"run\":1,\"branch\":[],\"item\":{\"call\":{\"service\":\"notify.y\",\"target\":[],\"data\":{}}}}\n{\"end\":8}\n";
+const CALLS: &str = "{\"run\":\"a\",\"number\":1,\"call\":1,\"service\":\"notify.x\",\"target\":[],\"data\":{}}\n{\"run\":\"a\",\"number\":1,\"call\":2,\"service\":\"notify.y\",\"target\":[],\"data\":{}}\n";
+
+/// The texts, one behind the other.
+fn joined(alloc: Global, parts: &[&str]) -> Result<Vec<u8>, AllocError> {
+    let mut text = Vec::new(alloc);
+    for part in parts {
+        text.extend_from_slice(part.as_bytes())?;
+    }
+    Ok(text)
+}
+
+/// The number of the status that a trace is given, and what is written to the two sinks, where these reads of it fail.
+fn replayed(
+    alloc: Global,
+    text: Vec<u8>,
+    fails: Vec<u64>,
+) -> Result<Option<(u8, MemSink, MemSink)>, AllocError> {
+    let mut files = Vec::new(alloc);
+    files.push(MemFile {
+        name: String::from_str(alloc, "t")?,
+        bytes: Some(text),
+        read_fails: fails,
+        write_fails: Vec::new(alloc),
+        write_zeros: Vec::new(alloc),
+    })?;
+    if !have_distinct_names(&files) {
+        return Ok(None);
+    }
+    let mut place = MemPlace::make(alloc, files, Vec::new(alloc));
+    let mut out = MemSink::make(Vec::new(alloc), Vec::new(alloc), Vec::new(alloc));
+    let mut err = MemSink::make(Vec::new(alloc), Vec::new(alloc), Vec::new(alloc));
+    let (status, _) = replay_call::<Engine, MemPlace>(alloc, "t", &mut place, &mut out, &mut err);
+    Ok(Some((status.number(), out, err)))
+}
+
+/// Whether the trace of these parts is given this status, with these calls and errors.
+fn is_given(
+    alloc: Global,
+    parts: &[&str],
+    number: u8,
+    calls: &str,
+    errors: &str,
+) -> Result<bool, AllocError> {
+    match replayed(alloc, joined(alloc, parts)?, Vec::new(alloc))? {
+        Some((given, out, err)) => Ok(given == number
+            && out.bytes() == calls.as_bytes()
+            && err.bytes() == errors.as_bytes()),
+        None => Ok(false),
+    }
+}
+
+/// Whether it is refused.
+fn is_refused(alloc: Global, text: Vec<u8>) -> Result<bool, AllocError> {
+    match replayed(alloc, text, Vec::new(alloc))? {
+        Some((given, _, _)) => Ok(given == 11),
+        None => Ok(false),
+    }
+}
+
+/// Whether each front of the trace is refused, but the whole.
+fn are_fronts_refused(alloc: Global, trace: &[u8]) -> Result<bool, AllocError> {
+    for count in 0..trace.len() {
+        if !is_refused(alloc, Vec::from_slice(alloc, &trace[..count])?)? {
+            return Ok(false);
+        }
+    }
+    Ok(true)
+}
+
+/// Whether the trace is refused whichever byte of its middle part is another.
+fn is_each_byte_told(
+    alloc: Global,
+    before: &str,
+    part: &str,
+    behind: &str,
+) -> Result<bool, AllocError> {
+    let bytes = part.as_bytes();
+    for at in 0..bytes.len() {
+        let mut text = joined(alloc, &[before])?;
+        text.extend_from_slice(&bytes[..at])?;
+        text.push(if bytes[at] == b'7' { b'8' } else { b'7' })?;
+        text.extend_from_slice(&bytes[at + 1..])?;
+        text.extend_from_slice(behind.as_bytes())?;
+        if !is_refused(alloc, text)? {
+            return Ok(false);
+        }
+    }
+    Ok(true)
+}
+
+#[test]
+fn a_finished_trace(rt: HostRuntime) -> Result<(), Fail> {
+    assert!(rt; is_given(rt.alloc(), &[BOOT, FIRST, "{\"end\":2}\n"], 0, "", "")?);
+    Ok(())
+}
+
+#[test]
+fn a_wrong_number(rt: HostRuntime) -> Result<(), Fail> {
+    assert!(rt; is_given(rt.alloc(), &[BOOT, SECOND, "{\"end\":2}\n"], 11, "", "hearth: trace line 2: T\n")?);
+    Ok(())
+}
+
+#[test]
+fn no_end_line(rt: HostRuntime) -> Result<(), Fail> {
+    assert!(rt; is_given(rt.alloc(), &[BOOT, FIRST], 11, "", "hearth: trace line 3: T\n")?);
+    Ok(())
+}
+
+#[test]
+fn behind_the_end(rt: HostRuntime) -> Result<(), Fail> {
+    assert!(rt; is_given(rt.alloc(), &[BOOT, FIRST, "{\"end\":2}\n", "{\"end\":2}\n"], 11, "", "hearth: trace line 4: T\n")?);
+    assert!(rt; is_given(rt.alloc(), &[BOOT, FIRST, "{\"end\":2}\n", "{"], 11, "", "hearth: trace line 4: T\n")?);
+    Ok(())
+}
+
+#[test]
+fn a_wrong_count(rt: HostRuntime) -> Result<(), Fail> {
+    assert!(rt; is_given(rt.alloc(), &[BOOT, FIRST, "{\"end\":3}\n"], 11, "", "hearth: trace line 3: T\n")?);
+    Ok(())
+}
+
+#[test]
+fn a_boot_with_a_blank(rt: HostRuntime) -> Result<(), Fail> {
+    assert!(rt; is_given(rt.alloc(), &[BLANK, FIRST, "{\"end\":2}\n"], 11, "", "hearth: trace line 1: T\n")?);
+    Ok(())
+}
+
+#[test]
+fn stored_switches_in_their_order(rt: HostRuntime) -> Result<(), Fail> {
+    assert!(rt; is_given(rt.alloc(), &[ORDERED, "{\"end\":1}\n"], 0, "", "")?);
+    assert!(rt; is_given(rt.alloc(), &[UNORDERED, "{\"end\":1}\n"], 11, "", "hearth: trace line 1: T\n")?);
+    Ok(())
+}
+
+#[test]
+fn the_read_fails(rt: HostRuntime) -> Result<(), Fail> {
+    let mut fails = Vec::new(rt.alloc());
+    fails.push(1)?;
+    let Some((given, out, err)) = replayed(rt.alloc(), joined(rt.alloc(), &[BOOT, FIRST, "{\"end\":2}\n"])?, fails)? else {
+        return Err(Fail::from("names"));
+    };
+    assert!(rt; given == 4);
+    assert!(rt; out.bytes().is_empty());
+    assert!(rt; err.bytes() == "hearth: source 0 failed\n".as_bytes());
+    Ok(())
+}
+
+#[test]
+fn a_home_is_replayed(rt: HostRuntime) -> Result<(), Fail> {
+    assert!(rt; is_given(rt.alloc(), &[HOME, STEPS, LATER, LAST], 0, CALLS, "source 0 line 1: L2\n")?);
+    Ok(())
+}
+
+#[test]
+fn each_front_is_refused(rt: HostRuntime) -> Result<(), Fail> {
+    let trace = joined(rt.alloc(), &[HOME, STEPS, LATER, LAST])?;
+    assert!(rt; are_fronts_refused(rt.alloc(), trace.as_slice())?);
+    Ok(())
+}
+
+#[test]
+fn each_changed_byte_of_a_step_is_refused(rt: HostRuntime) -> Result<(), Fail> {
+    let mut behind = String::from_str(rt.alloc(), LATER)?;
+    behind.push_str(LAST)?;
+    assert!(rt; is_each_byte_told(rt.alloc(), HOME, STEPS, behind.as_str())?);
+    Ok(())
+}
+
+#[test]
+fn each_changed_byte_of_the_last_lines_is_refused(rt: HostRuntime) -> Result<(), Fail> {
+    let mut before = String::from_str(rt.alloc(), HOME)?;
+    before.push_str(STEPS)?;
+    before.push_str(LATER)?;
+    assert!(rt; is_each_byte_told(rt.alloc(), before.as_str(), LAST, "")?);
+    Ok(())
+}

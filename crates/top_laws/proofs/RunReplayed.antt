@@ -1,0 +1,92 @@
+-- The trace of a run is what a replay takes, and its calls are the run's.
+use Rattle.std.proofs.Common.{◌≡◌, ◌∙◌, ap, sym, subst, inl, inr, true, Bool, [], ◌∷◌, append-nil}
+use Rattle.std.specs.Prelude.{Option, Some, None, IfSome, IsSomeAnd}
+use Rattle.ha_model.specs.Words.{Text, first_of_list}
+use Rattle.ha_model.specs.Journal.{HasEntry, Journal}
+use Rattle.ha_model.specs.Lawful.{Lawful}
+use Rattle.ha_model.specs.Records.{Records}
+use Rattle.ha_model.specs.Texts.{call_text, error_text, trace_text}
+use Rattle.bus_turn.specs.Buses.{HasTaken}
+use Rattle.bus_turn.specs.States.{SinkState}
+use Rattle.ha_status.specs.declared.status.Status.{Status}
+use Rattle.ha_status.specs.Causes.{OneRose}
+use Rattle.ha_status.specs.Files.{Files}
+use Rattle.ha_words.specs.declared.plan.RunWords.{RunWords}
+use Rattle.ha_run.specs.Stands.{StandsAt}
+use Rattle.trace_laws.specs.Runs.{Begins, IsFirst, IsRun}
+use Rattle.trace_laws.specs.Tells.{IsTraceOf}
+use Rattle.trace_laws.proofs.RunLemmas.{one_run}
+use Rattle.replay_file.specs.declared.front.FrontEnd.{FrontEnd}
+use Rattle.replay_file.specs.Fronts.{IsFrontOf, IsReadOf}
+use Rattle.replay_file.specs.Judged.{AreErrorsTaken, IsStatusOf, IsTaken}
+use Rattle.replay_file.specs.Replays.{IsReplay, Replayed as ReplayedFile}
+use Rattle.ha_top.specs.Views.{After, Before}
+use Rattle.ha_top.specs.Written.{written}
+use Rattle.ha_top.specs.Answered.{Answered, IsBooted, scene}
+use Rattle.ha_top.specs.Program.{Replayed}
+use Rattle.top_laws.specs.Traced.{IsHeld, IsTraced}
+
+-- ---- the trace of a run
+
+some_same : (a b : Text) → ◌≡◌ {A = Option Text} (Some a) (Some b) → a ≡ b
+some_same a b e = cc
+
+-- what the sink of the trace took
+took_is : (trace : Option SinkState) (whole text : Text) → IfSome trace (HasTaken whole) → IsSomeAnd trace (λ s. s.took ≡ Some text) → text ≡ whole
+took_is None whole text all told = absurd told
+took_is (Some s) whole text all told = by s.took told all
+  where
+    by : (took : Option Text) → took ≡ Some text → IfSome took (λ t. t ≡ whole) → text ≡ whole
+    by None told all = absurd cc
+    by (Some t) told all = sym (some_same t text told) ∙ all
+
+run_of : (j : Journal) (rs : Records) → IsSomeAnd (first_of_list j) IsFirst → Lawful j rs → HasEntry j × IsRun j rs
+run_of [] rs first lawful = absurd first
+run_of (x ∷ xs) rs first lawful = (tt, (first, lawful))
+
+pub run-traced : (words : RunWords) (b : Before) (a : After) (text : Text) → Answered words b a → IsTraced a text → IsTraceOf text a.journal a.records
+run-traced words b a text x t =
+    let stands : StandsAt (IsBooted words b) (scene words b a) (written b a) Status.Ok = subst (StandsAt (IsBooted words b) (scene words b a) (written b a)) t.ended x.stands in
+    let through = stands.1.1 in
+    let run = run_of a.journal a.records t.first through.ran.lawful in
+    record {
+      run = run.1;
+      room = t.room;
+      ends = λ _. (run.0, through.quiet);
+      text_is = took_is a.trace (trace_text a.journal true) text stands.0.texts.trace t.told ∙ sym (append-nil (trace_text a.journal true));
+    }
+
+-- ---- a replay of it
+
+held_text : (files : Option Files) (name text text' : Text) → IsSomeAnd files (λ f. f name ≡ Some text) → IsReadOf files name text' FrontEnd.Whole → text ≡ text'
+held_text None name text text' held read = absurd held
+held_text (Some f) name text text' held read = by (f name) held read
+  where
+    by : (file : Option Text) → file ≡ Some text → IsSomeAnd file (IsFrontOf text' FrontEnd.Whole) → text ≡ text'
+    by None held read = absurd read
+    by (Some bytes) held read = sym (some_same bytes text held) ∙ read
+
+-- the bytes that were judged well are the trace of the journal that was found
+judged_trace : (text : Text) (end : FrontEnd) (j : Journal) (rs : Records) (ended : Bool) (left : Text) → Begins text j rs ended left → IsStatusOf text end j rs ended left Status.Ok → IsTraceOf text j rs
+judged_trace text end j rs ended left begins is =
+    subst (λ (z : Bool). Begins text j rs z []) is.1 (subst (λ (z : Text). Begins text j rs ended z) is.2 begins)
+
+module _ (files : Option Files) (name text : Text) (C E : Text → Type 0) (j : Journal) (rs : Records) (held : IsSomeAnd files (λ f. f name ≡ Some text)) (trace : IsTraceOf text j rs) where
+  same_run : (h : ReplayedFile files name Status.Ok C E) → C (call_text j rs) × E (error_text j)
+  same_run h =
+      let read : IsReadOf files name h.text FrontEnd.Whole = subst (IsReadOf files name h.text) h.judged.status_is.0 h.read in
+      let found = judged_trace h.text h.end h.judged.journal h.judged.records h.judged.ended h.judged.left h.judged.begins h.judged.status_is in
+      let moved : IsTraceOf text h.judged.journal h.judged.records = subst (λ (z : Text). IsTraceOf z h.judged.journal h.judged.records) (sym (held_text files name text h.text held read)) found in
+      let same = one_run text h.judged.journal j h.judged.records rs moved trace in
+      (subst C (λ i. call_text (same.0 i) (same.1 i)) h.judged.calls, subst E (ap error_text same.0) h.judged.errors)
+
+  replayed_well : IsReplay files name Status.Ok C E → C (call_text j rs) × E (error_text j)
+  replayed_well (inl none) = absurd none.0
+  replayed_well (inr h) = same_run h
+
+pub trace-replayed : (name text : Text) (b : Before) (a : After) (j : Journal) (rs : Records) → Replayed name b a → IsHeld b name text → IsTraceOf text j rs → a.status ≡ Status.Ok
+    → IsTaken a.status (call_text j rs) b.out.took a.out.took
+    × AreErrorsTaken (OneRose b.err.faults a.err.faults b.err.zeros a.err.zeros) a.status (error_text j) b.err.took a.err.took
+trace-replayed name text b a j rs x held trace ok =
+    replayed_well b.place.files name text (λ t. IsTaken a.status t b.out.took a.out.took) (λ t. AreErrorsTaken (OneRose b.err.faults a.err.faults b.err.zeros a.err.zeros) a.status t b.err.took a.err.took) j rs held trace
+    (subst (λ (s : Status). IsReplay b.place.files name s (λ t. IsTaken a.status t b.out.took a.out.took) (λ t. AreErrorsTaken (OneRose b.err.faults a.err.faults b.err.zeros a.err.zeros) a.status t b.err.took a.err.took)) ok x.replay)

@@ -1,0 +1,91 @@
+-- Behind the same entries, a line is that of one entry at most, and never that of an entry and the end.
+use Rattle.std.proofs.Common.{◌≡◌, ◌∙◌, ap, sym, refl, ℕ, ◌<◌, ◌^◌, List, ◌∷◌, drop, get_or, length, arith}
+use Rattle.std.proofs.lemmas.List.Sums.{count_by-le-length}
+use Rattle.std.specs.Prelude.{count_by}
+use Rattle.ha_model.specs.declared.config.Automation.{Automation}
+use Rattle.ha_model.specs.declared.journal.Cmd.{Cmd}
+use Rattle.ha_model.specs.declared.journal.Item.{Item}
+use Rattle.ha_model.specs.declared.journal.Entry.{Entry}
+use Rattle.ha_model.specs.declared.journal.Entry.TheVariants.{Boot, Line, Step}
+use Rattle.ha_model.specs.Words.{Text}
+use Rattle.ha_model.specs.Journal.{HasEntry, Journal}
+use Rattle.ha_model.specs.Commands.{IsFair}
+use Rattle.ha_model.specs.CommandText.{cmd_text}
+use Rattle.ha_model.specs.Lawful.{is_line_of}
+use Rattle.ha_model.specs.Records.{Records}
+use Rattle.ha_model.specs.Scripts.{Branch}
+use Rattle.ha_model.specs.Texts.{end_line, trace_line}
+use Rattle.ha_model.proofs.LawfulLaws.{some-same}
+use Rattle.ha_laws.specs.Makers.{Worker}
+use Rattle.ha_laws.proofs.OneAnswer.{Rest, rest-same, same-step}
+use Rattle.flow_printed.specs.declared.line.PrintedLine.{PrintedLine}
+use Rattle.flow_printed.specs.Printed.{line_text}
+use Rattle.flow_printed.proofs.PrintedLines.{one_line}
+use Rattle.ha_replay.specs.Digits.{number_before_comma}
+use Rattle.ha_replay.proofs.AnswerLemmas.{number-found}
+use Rattle.ha_replay.proofs.CmdLemmas.{fair-but}
+use Rattle.ha_replay.proofs.TextLemmas.{same-line, step-is-of}
+use Rattle.trace_laws.proofs.FeedLemmas.{entry_feed}
+use Rattle.trace_laws.proofs.FrontLemmas.{AllKnown}
+
+-- ---- by the third byte
+
+abbrev third : Text → ℕ
+third t = get_or t 2 0
+
+-- the end line is that of no entry
+pub no_end : (all : List Automation) (x : Entry) (n : ℕ) → trace_line all x ≡ end_line n → ⊥
+no_end all (Boot text config stored start zone) n e = (let same : 98 ≡ 101 = ap third e in omega (arith, same))
+no_end all (Line source number cmd) n e = (let same : 115 ≡ 101 = ap third e in omega (arith, same))
+no_end all (Step worker serial branch item) n e = (let same : 119 ≡ 101 = ap third e in omega (arith, same))
+
+no_mix : (all : List Automation) (worker serial : ℕ) (branch : Branch) (item : Item) (source number : ℕ) (cmd : Cmd) → trace_line all (Step worker serial branch item) ≡ trace_line all (Line source number cmd) → ⊥
+no_mix all worker serial branch item source number cmd e = (let same : 119 ≡ 115 = ap third e in omega (arith, same))
+
+-- ---- lines of sources
+
+module _ (d : Journal) (all : List Automation) (short : length d < 2 ^ 64) where
+  counted : (k n : ℕ) → n ≡ count_by (is_line_of k) d → n < 2 ^ 64
+  counted k n e = (let most = count_by-le-length (is_line_of k) d in omega (arith, e, most, short))
+
+  same_source : (k n k' n' : ℕ) (cmd cmd' : Cmd) → k < 16 → k' < 16 → n ≡ count_by (is_line_of k) d → n' ≡ count_by (is_line_of k') d → IsFair d cmd → IsFair d cmd'
+      → trace_line all (Line k n cmd) ≡ trace_line all (Line k' n' cmd') → Line k n cmd ≡ Line k' n' cmd'
+  same_source k n k' n' cmd cmd' known known' next next' fair fair' e =
+      let l : PrintedLine = record { source = k; number = n; cmd = cmd } in
+      let m : PrintedLine = record { source = k'; number = n'; cmd = cmd' } in
+      let text : Text = line_text k n (cmd_text cmd) in
+      let same : l ≡ m = one_line text l m (record { source = omega (arith, known); number = counted k n next }) (record { source = omega (arith, known'); number = counted k' n' next' })
+          (record { fair = fair-but d cmd fair; text_is = refl }) (record { fair = fair-but d cmd' fair'; text_is = same-line text (line_text k' n' (cmd_text cmd')) e }) in
+      (λ i. Line (same i).source (same i).number (same i).cmd)
+
+-- ---- steps
+
+same_worker : (all : List Automation) (k s : ℕ) (b : Branch) (item : Item) (k' s' : ℕ) (b' : Branch) (item' : Item) → k < 16 → k' < 16
+    → trace_line all (Step k s b item) ≡ trace_line all (Step k' s' b' item') → k ≡ k'
+same_worker all k s b item k' s' b' item' known known' e =
+    let feed = entry_feed all (Step k s b item) in
+    let of = step-is-of all feed.line k s b item feed.shown_is in
+    let of' = step-is-of all feed.line k' s' b' item' (feed.shown_is ∙ e) in
+    some-same k k' (sym (number-found k of.0 known) ∙ ap (λ t. number_before_comma (drop 10 t)) (sym of.1 ∙ of'.1) ∙ number-found k' of'.0 known')
+
+-- ---- entries
+
+pub known_tail : (x : Entry) (xs : Journal) → AllKnown (x ∷ xs) → AllKnown xs
+known_tail (Boot text config stored start zone) xs h = h
+known_tail (Line source number cmd) xs h = h
+known_tail (Step worker serial branch item) xs h = h.1
+
+module _ (d : Journal) (all : List Automation) (rs rs' : Records) (has : HasEntry d) (short : length d < 2 ^ 64) where
+  -- LAW: entries behind the same ones that have the same line are the same
+  pub same_entry : (x y : Entry) (xs ys : Journal) → Rest d (x ∷ xs) rs → Rest d (y ∷ ys) rs' → AllKnown (x ∷ xs) → AllKnown (y ∷ ys) → trace_line all x ≡ trace_line all y → x ≡ y
+  same_entry (Boot text config stored start zone) y xs ys r r' known known' e = absurd (r.no_boots.0 tt)
+  same_entry (Line k n cmd) (Boot text config stored start zone) xs ys r r' known known' e = absurd (r'.no_boots.0 tt)
+  same_entry (Step k s b item) (Boot text config stored start zone) xs ys r r' known known' e = absurd (r'.no_boots.0 tt)
+  same_entry (Line k n cmd) (Step k' s' b' item') xs ys r r' known known' e = absurd (no_mix all k' s' b' item' k n cmd (sym e))
+  same_entry (Step k s b item) (Line k' n' cmd') xs ys r r' known known' e = absurd (no_mix all k s b item k' n' cmd' e)
+  same_entry (Line k n cmd) (Line k' n' cmd') xs ys r r' known known' e =
+      same_source d all short k n k' n' cmd cmd' r.turns.0.0 r'.turns.0.0 r.turns.0.2 r'.turns.0.2 r.entries.0 r'.entries.0 e
+  same_entry (Step k s b item) (Step k' s' b' item') xs ys r r' known known' e =
+      let one = same_worker all k s b item k' s' b' item' known.0 known'.0 e in
+      same-step d rs rs' has (rest-same d (Step k s b item ∷ xs) rs has r) (rest-same d (Step k' s' b' item' ∷ ys) rs' has r') k s b item k' s' b' item' (ap Worker one)
+      r.turns.0 r'.turns.0 r.entries.0 r'.entries.0

@@ -1,0 +1,47 @@
+-- A line is that of one first entry at most.
+use Rattle.std.proofs.Common.{◌≡◌, ◌∙◌, ap, sym, List}
+use Rattle.std.specs.Prelude.{Ok, Result}
+use Rattle.yaml_scan.specs.declared.fault.Fault.{Fault}
+use Rattle.ha_model.specs.declared.config.Automation.{Automation}
+use Rattle.ha_model.specs.declared.config.Config.{Config}
+use Rattle.ha_model.specs.declared.journal.Entry.{Entry}
+use Rattle.ha_model.specs.declared.journal.Entry.TheVariants.{Boot, Line, Step}
+use Rattle.ha_model.specs.Words.{Text}
+use Rattle.ha_model.specs.Texts.{as_line, trace_line}
+use Rattle.ha_model.proofs.LawfulLaws.{some-same}
+use Rattle.flow_line.proofs.Whole.{document_read, same_value}
+use Rattle.conf_auto.specs.Config.{config_of}
+use Rattle.ha_replay.specs.declared.boot.BootLine.{BootLine}
+use Rattle.ha_replay.specs.declared.boot.Parts.{Parts}
+use Rattle.ha_replay.specs.Boots.{HasUtf8, IsBootLine, parts, parts_in}
+use Rattle.ha_replay.proofs.BootLemmas.{boot-parts, boot-spelled, value_of}
+use Rattle.trace_laws.specs.Runs.{IsConfigured, IsFirst, boot_line}
+use Rattle.trace_laws.proofs.FeedLemmas.{entry_feed}
+
+-- LAW: a line is that of one first entry at most
+pub one_parts : (line : Text) (b b' : BootLine) → IsBootLine line b → HasUtf8 b → IsBootLine line b' → HasUtf8 b'
+    → ◌≡◌ {A = Parts} (parts b.text b.stored b.start b.zone) (parts b'.text b'.stored b'.start b'.zone)
+one_parts line b b' is u is' u' =
+    let same : value_of b ≡ value_of b' = same_value line (value_of b) (value_of b') (document_read line (value_of b) (boot-spelled line b is u)) (boot-spelled line b' is' u') in
+    some-same _ _ (sym (boot-parts b.text b.stored b.start b.zone is.start) ∙ ap parts_in same ∙ boot-parts b'.text b'.stored b'.start b'.zone is'.start)
+
+-- a configured first entry's line is that of its parts
+pub first_line : (line : Text) (b : BootLine) (config : Config) → IsConfigured b config → ((other : Config) → as_line line ≡ trace_line other.automations (Boot b.text other b.stored b.start b.zone)) → IsBootLine line b
+first_line line b config f is = record { line_is = is; start = f.start; zone = f.zone; ordered = f.ordered }
+
+ok_same : (config config' : Config) → ◌≡◌ {A = Result Config Fault} (Ok config) (Ok config') → config ≡ config'
+ok_same config config' e = cc
+
+-- LAW: two first entries with one line are the same
+pub one_first : (all all' : List Automation) (x y : Entry) → IsFirst x → IsFirst y → trace_line all x ≡ trace_line all' y → x ≡ y
+one_first all all' (Line source number cmd) y f g e = absurd f
+one_first all all' (Step worker serial branch item) y f g e = absurd f
+one_first all all' (Boot text config stored start zone) (Line source number cmd) f g e = absurd g
+one_first all all' (Boot text config stored start zone) (Step worker serial branch item) f g e = absurd g
+one_first all all' (Boot text config stored start zone) (Boot text' config' stored' start' zone') f g e =
+    let feed = entry_feed all (Boot text config stored start zone) in
+    let same = one_parts feed.line (boot_line text stored start zone) (boot_line text' stored' start' zone')
+        (first_line feed.line (boot_line text stored start zone) config f (λ other. feed.shown_is)) f.utf8
+        (first_line feed.line (boot_line text' stored' start' zone') config' g (λ other. feed.shown_is ∙ e)) g.utf8 in
+    let configs = ok_same config config' (sym f.config_is ∙ (λ i. config_of (same i).text) ∙ g.config_is) in
+    (λ i. Boot (same i).text (configs i) (same i).stored (same i).start (same i).zone)

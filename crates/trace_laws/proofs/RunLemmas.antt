@@ -1,0 +1,241 @@
+-- What a text begins with tells the run.
+use Rattle.std.proofs.Common.{◌≡◌, ◌≢◌, ◌∙◌, ap, sym, subst, refl, ℕ, suc, ◌+◌, ◌≤◌, inl, inr, List, [], ◌∷◌, ◌++◌, length, Bool, true, false, arith, append_assoc, append-nil, length-append}
+use Rattle.std.specs.Prelude.{◌⊎◌, if◌then◌else◌}
+use Rattle.ha_model.specs.declared.config.Automation.{Automation}
+use Rattle.ha_model.specs.declared.journal.Entry.{Entry}
+use Rattle.ha_model.specs.Words.{Text}
+use Rattle.ha_model.specs.Journal.{HasEntry, Journal, automations}
+use Rattle.ha_model.specs.Lawful.{Lawful, is_quiet}
+use Rattle.ha_model.specs.Records.{Records, records_of}
+use Rattle.ha_model.specs.RecordSteps.{more}
+use Rattle.ha_model.specs.Texts.{end_line, trace_line}
+use Rattle.ha_model.proofs.RecordGrowth.{true-false}
+use Rattle.ha_laws.proofs.OneAnswer.{Rest, whole-rest}
+use Rattle.ha_replay.specs.Traces.{IsEnd, most_entries}
+use Rattle.trace_laws.specs.Lines.{Cuts}
+use Rattle.trace_laws.specs.Runs.{Begins, IsFirst, IsRun, MayFollow, line_count}
+use Rattle.trace_laws.specs.Tells.{GoesNoFurther, HasNoEnd, IsFarthest, IsNoTrace, IsTraceOf}
+use Rattle.trace_laws.proofs.CutLemmas.{line_front, one_front}
+use Rattle.trace_laws.proofs.FeedLemmas.{end_feed, entry_feed}
+use Rattle.trace_laws.proofs.FirstLemmas.{one_first}
+use Rattle.trace_laws.proofs.EntryLemmas.{known_tail}
+use Rattle.trace_laws.proofs.FrontLemmas.{AllKnown, all_known, front_lawful}
+use Rattle.trace_laws.proofs.WalkLemmas.{IsFront, either_way, told, told_is, walk}
+
+-- ---- two runs with whose traces one text begins
+
+-- a run, ended or not, with what is left behind its trace, is a front of another
+abbrev pub IsFrontRun : Journal → Bool → Text → Journal → Bool → Text → Type 0
+IsFrontRun j ended left j' ended' left' = IsFront (automations j') 0 j ended left j' ended' left'
+
+text_told : (text : Text) (j : Journal) (rs : Records) (ended : Bool) (left : Text) → Begins text j rs ended left → text ≡ told (automations j) 0 j ended left
+text_told text j rs ended left b = b.text_is ∙ told_is (automations j) [] j ended left
+
+first_of : (x : Entry) (xs : Journal) (rs : Records) → IsRun (x ∷ xs) rs → IsFirst x
+first_of x xs rs run = run.0
+
+lawful_run : (x : Entry) (xs : Journal) (rs : Records) → IsRun (x ∷ xs) rs → Lawful (x ∷ xs) rs
+lawful_run x xs rs run = run.1
+
+known_behind : (x : Entry) (xs : Journal) (rs : Records) → IsRun (x ∷ xs) rs → AllKnown xs
+known_behind x xs rs run = known_tail x xs (all_known (x ∷ xs) rs run.1)
+
+-- LAW: of two runs with whose traces a text begins, one is a front of the other
+pub fronts : (text : Text) (j j' : Journal) (rs rs' : Records) (ended ended' : Bool) (left left' : Text) → Begins text j rs ended left → Begins text j' rs' ended' left'
+    → IsFrontRun j ended left j' ended' left' ⊎ IsFrontRun j' ended' left' j ended left
+fronts text [] j' rs rs' true ended' left left' b b' = absurd ((b.ends refl).0)
+fronts text [] j' rs rs' false ended' left left' b b' = inl (inr (refl, (j', refl, sym b.text_is ∙ text_told text j' rs' ended' left' b')))
+fronts text (x ∷ xs) [] rs rs' ended true left left' b b' = absurd ((b'.ends refl).0)
+fronts text (x ∷ xs) [] rs rs' ended false left left' b b' = inr (inr (refl, (x ∷ xs, refl, sym b'.text_is ∙ text_told text (x ∷ xs) rs ended left b)))
+fronts text (x ∷ xs) (y ∷ ys) rs rs' ended ended' left left' b b' =
+    let all : List Automation = automations (x ∷ xs) in
+    let all' : List Automation = automations (y ∷ ys) in
+    let whole : told all 0 (x ∷ xs) ended left ≡ told all' 0 (y ∷ ys) ended' left' = sym (text_told text (x ∷ xs) rs ended left b) ∙ text_told text (y ∷ ys) rs' ended' left' b' in
+    let cut = one_front (trace_line all x) (told all 1 xs ended left) (trace_line all' y) (told all' 1 ys ended' left') (entry_feed all x) (entry_feed all' y) whole in
+    let same : x ≡ y = one_first all all' x y b.run.0 b'.run.0 cut.0 in
+    let alls : all ≡ all' = (λ i. automations (same i ∷ xs)) in
+    let behind : told all 1 xs ended left ≡ told all 1 ys ended' left' = cut.1 ∙ (λ i. told (sym alls i) 1 ys ended' left') in
+    let rest : Rest (x ∷ []) ys rs' = subst (λ z. Rest (z ∷ []) ys rs') (sym same) (whole-rest y ys rs' b'.run.1) in
+    let low = b.room in
+    let way = walk xs ended ys ended' all (x ∷ []) 1 rs rs' left left' tt (omega (arith, low)) (whole-rest x xs rs b.run.1) rest (known_behind x xs rs b.run) (known_behind y ys rs' b'.run) behind in
+    by alls (either_way all 0 x y xs ys ended ended' left left' same way)
+  where
+    by : {all all' : List Automation} → all ≡ all' → IsFront all 0 (x ∷ xs) ended left (y ∷ ys) ended' left' ⊎ IsFront all 0 (y ∷ ys) ended' left' (x ∷ xs) ended left
+        → IsFront all' 0 (x ∷ xs) ended left (y ∷ ys) ended' left' ⊎ IsFront all 0 (y ∷ ys) ended' left' (x ∷ xs) ended left
+    by e (inl f) = inl (subst (λ z. IsFront z 0 (x ∷ xs) ended left (y ∷ ys) ended' left') e f)
+    by e (inr f) = inr f
+
+-- ---- finished runs
+
+run_records : (j : Journal) (rs : Records) → IsRun j rs → rs ≡ records_of j
+run_records [] rs run = run
+run_records (first ∷ behind) rs run = run.1.right.records_are
+
+same_records : (j j' : Journal) (rs rs' : Records) → j ≡ j' → IsRun j rs → IsRun j' rs' → rs ≡ rs'
+same_records j j' rs rs' e run run' = run_records j rs run ∙ (λ i. records_of (e i)) ∙ sym (run_records j' rs' run')
+
+-- LAW: a text is the trace of one finished run at most
+pub one_run : (text : Text) (j j' : Journal) (rs rs' : Records) → IsTraceOf text j rs → IsTraceOf text j' rs' → (j ≡ j') × (rs ≡ rs')
+one_run text j j' rs rs' b b' = by (fronts text j j' rs rs' true true [] [] b b')
+  where
+    both : j ≡ j' → (j ≡ j') × (rs ≡ rs')
+    both e = (e, same_records j j' rs rs' e b.run b'.run)
+
+    by : IsFrontRun j true [] j' true [] ⊎ IsFrontRun j' true [] j true [] → (j ≡ j') × (rs ≡ rs')
+    by (inl (inl f)) = both (sym f.2)
+    by (inl (inr f)) = absurd (true-false f.0)
+    by (inr (inl f)) = both f.2
+    by (inr (inr f)) = absurd (true-false f.0)
+
+-- LAW: the shorter of two runs with whose traces a text begins is what the longer one begins with
+pub shorter_front : (text : Text) (j j' : Journal) (rs rs' : Records) (ended ended' : Bool) (left left' : Text) → Begins text j rs ended left → Begins text j' rs' ended' left' → length j ≤ length j'
+    → (behind : Journal) × (j' ≡ j ++ behind)
+shorter_front text j j' rs rs' ended ended' left left' b b' le = by (fronts text j j' rs rs' ended ended' left left' b b')
+  where
+    none_more : (behind : Journal) → j ≡ j' ++ behind → (more : Journal) × (j' ≡ j ++ more)
+    none_more [] e = ([], sym (append-nil j ∙ e ∙ append-nil j'))
+    none_more (x ∷ xs) e = absurd (let n = ap length e in omega (arith, n, le, length-append j' (x ∷ xs)))
+
+    by : IsFrontRun j ended left j' ended' left' ⊎ IsFrontRun j' ended' left' j ended left → (behind : Journal) × (j' ≡ j ++ behind)
+    by (inl (inl f)) = ([], f.2 ∙ sym (append-nil j))
+    by (inl (inr f)) = (f.1.0, f.1.1)
+    by (inr (inl f)) = ([], sym f.2 ∙ sym (append-nil j))
+    by (inr (inr f)) = none_more f.1.0 f.1.1
+
+-- ---- where a text goes no further
+
+-- the line that is left begins with a line of a longer run
+cut_entry : (all : List Automation) (x : Entry) (left behind : Text) → left ≡ trace_line all x ++ behind → Cuts left (entry_feed all x).line behind
+cut_entry all x left behind e = (let feed = entry_feed all x in record { text_is = e ∙ sym (line_front feed.line (trace_line all x) behind feed.shown_is); one_line = feed.one_line })
+
+cut_end : (n : ℕ) (left behind : Text) → left ≡ end_line n ++ behind → Cuts left (end_feed n).line behind
+cut_end n left behind e = (let feed = end_feed n in record { text_is = e ∙ sym (line_front feed.line (end_line n) behind feed.shown_is); one_line = feed.one_line })
+
+pub run_front : (j behind : Journal) (rs : Records) → HasEntry j → IsRun (j ++ behind) rs → IsRun j (records_of j)
+run_front [] behind rs has run = absurd has
+run_front (x ∷ xs) behind rs has run = (run.0, front_lawful (x ∷ xs) behind rs tt run.1)
+
+has_more : (j : Journal) (x : Entry) → HasEntry (more j x)
+has_more [] x = tt
+has_more (first ∷ behind) x = tt
+
+automations_front : (j behind : Journal) → HasEntry j → automations (j ++ behind) ≡ automations j
+automations_front [] behind has = absurd has
+automations_front (first ∷ xs) behind has = refl
+
+-- an entry with which a longer run goes on may follow
+entry_follows : (j j' : Journal) (rs rs' : Records) (x : Entry) (xs : Journal) → j' ≡ j ++ (x ∷ xs) → IsRun j' rs' → MayFollow j rs (entry_feed (automations j') x).line
+entry_follows j j' rs rs' x xs e run =
+    let long : j' ≡ more j x ++ xs = e ∙ sym (append_assoc j (x ∷ []) xs) in
+    let moved : IsRun (more j x ++ xs) rs' = subst (λ z. IsRun z rs') long run in
+    inr (x, records_of (more j x), record {
+      run = run_front (more j x) xs rs' (has_more j x) moved;
+      line_is = (entry_feed (automations j') x).shown_is ∙ (λ i. trace_line (automations (long i)) x) ∙ (λ i. trace_line (automations_front (more j x) xs (has_more j x) i) x);
+    })
+
+-- the end of a run that ended may follow
+end_is : (j j' : Journal) (rs rs' : Records) → j' ≡ j → IsRun j rs → IsRun j' rs' → is_quiet rs' j' ≡ true → IsEnd j rs (end_feed (length j)).line
+end_is j j' rs rs' e run run' quiet = record {
+  quiet = (λ i. is_quiet (sym (same_records j' j rs' rs e run' run) i) (sym e i)) ∙ quiet;
+  line_is = (end_feed (length j)).shown_is;
+}
+
+-- ---- how another run with whose trace the text begins may be longer
+
+-- by a further entry, whose line is left
+record ByEntry (j : Journal) (ended : Bool) (left : Text) (j' : Journal) : Type 0 where
+  entry : Entry
+  more_behind : Journal
+  behind : Text
+  unended : ended ≡ false
+  journal : j' ≡ j ++ (entry ∷ more_behind)
+  left_is : left ≡ trace_line (automations j') entry ++ behind
+
+-- by the end line, which is left
+record ByEnd (j : Journal) (ended : Bool) (left : Text) (j' : Journal) (ended' : Bool) (left' : Text) : Type 0 where
+  unended : ended ≡ false
+  ends : ended' ≡ true
+  journal : j' ≡ j
+  left_is : left ≡ end_line (length j) ++ left'
+
+abbrev IsLonger : Journal → Bool → Text → Journal → Bool → Text → Type 0
+IsLonger j ended left j' ended' left' = ByEntry j ended left j' ⊎ ByEnd j ended left j' ended' left'
+
+abbrev Compared : Journal → Bool → Text → Journal → Bool → Text → Type 0
+Compared j ended left j' ended' left' = (line_count j' ended' ≤ line_count j ended) ⊎ IsLonger j ended left j' ended' left'
+
+both_ended : (m n : ℕ) (e e' : Bool) → e ≡ true → e' ≡ true → m ≡ n → m + (if e' then 1 else 0) ≤ n + (if e then 1 else 0)
+both_ended m n false e' h h' same = absurd (true-false (sym h))
+both_ended m n true false h h' same = absurd (true-false (sym h'))
+both_ended m n true true h h' same = omega (arith, same)
+
+one_open : (m n : ℕ) (e e' : Bool) → e' ≡ false → m ≤ n → m + (if e' then 1 else 0) ≤ n + (if e then 1 else 0)
+one_open m n e true h le = absurd (true-false h)
+one_open m n true false h le = omega (arith, le)
+one_open m n false false h le = omega (arith, le)
+
+goes_on : (j : Journal) (ended : Bool) (left : Text) (j' : Journal) (behind : Journal) (ended' : Bool) (left' : Text) → ended ≡ false → j' ≡ j ++ behind → left ≡ told (automations j') (length j) behind ended' left'
+    → Compared j ended left j' ended' left'
+goes_on j ended left j' (x ∷ xs) ended' left' open_run journal is =
+    inr (inl (record { entry = x; more_behind = xs; behind = told (automations j') (suc (length j)) xs ended' left'; unended = open_run; journal = journal; left_is = is }))
+goes_on j ended left j' [] true left' open_run journal is = inr (inr (record { unended = open_run; ends = refl; journal = journal ∙ append-nil j; left_is = is }))
+goes_on j ended left j' [] false left' open_run journal is =
+    inl (let n = ap length (journal ∙ append-nil j) in one_open (length j') (length j) ended false refl (omega (arith, n)))
+
+compared : (j : Journal) (ended : Bool) (left : Text) (j' : Journal) (ended' : Bool) (left' : Text) → IsFrontRun j ended left j' ended' left' ⊎ IsFrontRun j' ended' left' j ended left → Compared j ended left j' ended' left'
+compared j ended left j' ended' left' (inl (inl f)) = inl (both_ended (length j') (length j) ended ended' f.0 f.1 (ap length f.2))
+compared j ended left j' ended' left' (inl (inr f)) =
+    let count : 0 + length j ≡ length j = omega arith in
+    goes_on j ended left j' f.1.0 ended' left' f.0 f.1.1 (f.1.2 ∙ (λ i. told (automations j') (count i) f.1.0 ended' left'))
+compared j ended left j' ended' left' (inr (inl f)) = inl (both_ended (length j') (length j) ended ended' f.1 f.0 (sym (ap length f.2)))
+compared j ended left j' ended' left' (inr (inr f)) = inl (let n = ap length f.1.1 in one_open (length j') (length j) ended ended' f.0 (omega (arith, n, length-append j' f.1.0)))
+
+module _ (text : Text) (j : Journal) (rs : Records) (ended : Bool) (left : Text) (b : Begins text j rs ended left) where
+  no_longer : ((j' : Journal) (rs' : Records) (ended' : Bool) (left' : Text) → Begins text j' rs' ended' left' → IsLonger j ended left j' ended' left' → ⊥) → IsFarthest text (line_count j ended)
+  no_longer none j' rs' ended' left' b' = by (compared j ended left j' ended' left' (fronts text j j' rs rs' ended ended' left left' b b'))
+    where
+      by : Compared j ended left j' ended' left' → line_count j' ended' ≤ line_count j ended
+      by (inl le) = le
+      by (inr longer) = absurd (none j' rs' ended' left' b' longer)
+
+  -- LAW: where the line that is left may not stand next, the text begins with the trace of no longer run
+  pub no_further : GoesNoFurther j rs ended left → IsFarthest text (line_count j ended)
+  no_further stops = no_longer by
+    where
+      open_stops : (line behind : Text) → ended ≡ false → (ended ≡ true) ⊎ (MayFollow j rs line → ⊥) → MayFollow j rs line → ⊥
+      open_stops line behind open_run (inl closed) follows = true-false (sym closed ∙ open_run)
+      open_stops line behind open_run (inr never) follows = never follows
+
+      by : (j' : Journal) (rs' : Records) (ended' : Bool) (left' : Text) → Begins text j' rs' ended' left' → IsLonger j ended left j' ended' left' → ⊥
+      by j' rs' ended' left' b' (inl e) =
+          let line : Text = (entry_feed (automations j') e.entry).line in
+          open_stops line e.behind e.unended (stops line e.behind (cut_entry (automations j') e.entry left e.behind e.left_is)) (entry_follows j j' rs rs' e.entry e.more_behind e.journal b'.run)
+      by j' rs' ended' left' b' (inr e) =
+          let line : Text = (end_feed (length j)).line in
+          let ends = b'.ends e.ends in
+          open_stops line left' e.unended (stops line left' (cut_end (length j) left left' e.left_is)) (inl (subst HasEntry e.journal ends.0, end_is j j' rs rs' e.journal b.run b'.run ends.1))
+
+  -- LAW: so it is where the journal is full and the end line is not left
+  pub full_further : length j ≡ most_entries → HasNoEnd j rs left → IsFarthest text (line_count j ended)
+  full_further full no_end_line = no_longer by
+    where
+      by : (j' : Journal) (rs' : Records) (ended' : Bool) (left' : Text) → Begins text j' rs' ended' left' → IsLonger j ended left j' ended' left' → ⊥
+      by j' rs' ended' left' b' (inl e) = (let n = ap length e.journal in let low = b'.room in omega (arith, n, low, full, length-append j (e.entry ∷ e.more_behind)))
+      by j' rs' ended' left' b' (inr e) = no_end_line (end_feed (length j)).line left' (cut_end (length j) left left' e.left_is) (end_is j j' rs rs' e.journal b.run b'.run (b'.ends e.ends).1)
+
+  -- LAW: a text that begins with the trace of no longer run, and is not that of this one, is the trace of no finished run
+  pub no_trace : (ended ≡ true → left ≢ []) → IsFarthest text (line_count j ended) → IsNoTrace text
+  no_trace unfinished farthest j' rs' b' = by (fronts text j j' rs rs' ended true left [] b b')
+    where
+      most : line_count j' true ≤ line_count j ended
+      most = farthest j' rs' true [] b'
+
+      none : (e : Bool) → e ≡ false → length j ≤ length j' → length j' + 1 ≤ length j + (if e then 1 else 0) → ⊥
+      none true h le low = true-false h
+      none false h le low = omega (arith, le, low)
+
+      by : IsFrontRun j ended left j' true [] ⊎ IsFrontRun j' true [] j ended left → ⊥
+      by (inl (inl f)) = unfinished f.0 f.3
+      by (inl (inr f)) = none ended f.0 (let n = ap length f.1.1 in omega (arith, n, length-append j f.1.0)) most
+      by (inr (inl f)) = unfinished f.1 (sym f.3)
+      by (inr (inr f)) = true-false f.0

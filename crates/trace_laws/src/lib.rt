@@ -1,0 +1,4 @@
+//! Laws on what the bytes of a trace tell.
+#![tactic(auto)]
+
+pub mod laws;
