@@ -9,6 +9,8 @@ mod commands;
 #[cfg(test)]
 mod flow;
 #[cfg(test)]
+mod long_templates;
+#[cfg(test)]
 mod printed;
 #[cfg(test)]
 mod templates;

@@ -1,7 +1,6 @@
 //! Expressions, from the weakest operators to the strongest.
 
-ghost use Rattle.std.specs.Prelude.{◌≡◌, ◌≤◌, Some, IfSome, length, drop, max, IfOk};
-ghost use Rattle.ha_model.specs.declared.template.Expr.{Expr};
+ghost use Rattle.std.specs.Prelude.{◌≡◌, ◌≤◌, Some, IfSome, length, drop, max};
 ghost use Rattle.reading.specs.Answer.{Gives, made};
 ghost use Rattle.ha_model.specs.declared.template.Op.{Op};
 ghost use Rattle.tpl_parse.specs.declared.token.Token.{Token};
@@ -12,8 +11,9 @@ ghost use Rattle.tpl_parse.specs.Reading.{behind_operator, chain, comparator, co
 
 use crate::parser::{Parser, Stopped};
 use crate::token::{Token, reach, stands};
-use ha_model::{Boxed, Expr, Op};
-use std::alloc::{AllocError, Global};
+use crate::tree::{Tree, none_test_of, pair, pick, turned};
+use ha_model::Op;
+use std::alloc::Global;
 
 /// The levels of operators that group from the left, the weakest first. `not` and the comparisons stand between `And` and `Sum`.
 #[derive(Clone, Copy, Debug, PartialEq, Eq)]
@@ -103,13 +103,13 @@ impl Last {
 /// An expression that was read, and what may go on behind it: by its last part, and perhaps an `if` or an `else`.
 #[derive(Drop)]
 pub struct Part {
-    pub expr: Boxed<Expr>,
+    pub expr: Tree,
     pub last: Last,
     pub choice: Option<Token>,
 }
 
 impl Part {
-    pub fn ending(expr: Boxed<Expr>, last: Last) -> Part
+    pub fn ending(expr: Tree, last: Last) -> Part
         ensures { result ≡ ending expr last }
     {
         Part {
@@ -158,28 +158,6 @@ impl Open {
             None => far,
         }
     }
-}
-
-fn pair(
-    alloc: Global,
-    op: Op,
-    left: Boxed<Expr>,
-    right: Boxed<Expr>,
-) -> Result<Boxed<Expr>, AllocError>
-    ensures { IfOk result (λ made. made ≡ Expr.Pair op left right) }
-{
-    Boxed::new(alloc, Expr::Pair { op, left, right })
-}
-
-fn pick(
-    alloc: Global,
-    test: Boxed<Expr>,
-    yes: Boxed<Expr>,
-    no: Option<Boxed<Expr>>,
-) -> Result<Boxed<Expr>, AllocError>
-    ensures { IfOk result (λ made. made ≡ Expr.Pick test yes no) }
-{
-    Boxed::new(alloc, Expr::Pick { test, yes, no })
 }
 
 /// The first of the operators that stands at the front of the text.
@@ -300,7 +278,7 @@ impl<'a> Parser<'a> {
         }
         let inner = self.negation(alloc, depth - 1)?;
         let last = inner.last;
-        Ok(Part::ending(Boxed::new(alloc, Expr::Not(inner.expr))?, last))
+        Ok(Part::ending(turned(alloc, inner.expr)?, last))
     }
 
     /// A sum, two that are compared, or one with a test behind `is`.
@@ -312,11 +290,8 @@ impl<'a> Parser<'a> {
         let left = self.chain(alloc, Level::Sum, depth)?;
         if self.take(Token::Is) {
             let holds = self.test()?;
-            let expr = Expr::IsNone {
-                base: left.expr,
-                holds,
-            };
-            return Ok(Part::ending(Boxed::new(alloc, expr)?, Last::Tested));
+            let expr = none_test_of(alloc, left.expr, holds)?;
+            return Ok(Part::ending(expr, Last::Tested));
         }
         let Some(op) = self.comparator()? else {
             return Ok(left);

@@ -7,6 +7,7 @@ ghost use Rattle.tpl_parse.specs.Token.{spaces};
 
 use crate::parser::{Parser, is_space};
 use crate::token::Token;
+use crate::tree::{discard, discard_arms, discard_pieces};
 use ha_model::{Boxed, Expr, Many, Piece, Template, Word};
 use std::alloc::{AllocError, Global};
 use std::marker::Model;
@@ -36,7 +37,6 @@ impl Model for Choosing {
 
 /// What has been read: the choices that are open, the pieces of the innermost arm, and whether the last tag takes the blanks
 /// and breaks behind it.
-#[derive(Drop)]
 pub struct Found {
     open: Many<Choosing>,
     pieces: Many<Piece>,
@@ -58,7 +58,34 @@ impl Model for Found {
     ghost view = { λ f. record { open' = reverse f.«open»; pieces = f.pieces; trims = f.trims } };
 }
 
+impl Drop for Found {
+    fn drop(self) {
+        let Found {
+            open,
+            pieces,
+            trims: _,
+        } = self;
+        discard_pieces(pieces);
+        let mut open = open;
+        for _turn in 0..u64::MAX {
+            let Some(choosing) = open.pop() else {
+                return;
+            };
+            choosing.let_go();
+        }
+    }
+}
+
 impl Choosing {
+    /// Lets go of what was read of a choice.
+    fn let_go(self) {
+        discard_pieces(self.before);
+        discard_arms(self.arms);
+        if let Some(test) = self.test {
+            discard(test.into_inner());
+        }
+    }
+
     /// The words that may begin a statement in the arm that is being read.
     fn statements(&self) -> &'static [Token]
         ensures { (outer : List Choosing) → result.now ≡ statements (self.now ∷ outer) }
@@ -217,9 +244,12 @@ impl Found {
     pub fn into_template(self) -> Template
         ensures { result ≡ template_of self.pieces }
     {
-        Template {
-            pieces: self.pieces,
-        }
+        let Found {
+            open: _,
+            pieces,
+            trims: _,
+        } = self;
+        Template { pieces }
     }
 }
 

@@ -15,6 +15,8 @@ mod pieces;
 mod read;
 mod table;
 mod token;
+mod tree;
 
 pub use fault::ParseFault;
 pub use read::parse;
+pub use tree::discard_template;

@@ -10,7 +10,8 @@ use crate::expression::Open;
 use crate::parser::{Parser, Stopped};
 use crate::table::{Counts, Function, function_named};
 use crate::token::{Token, begins_name, is_reserved};
-use ha_model::{Boxed, Expr, Many, Value, Word};
+use crate::tree::{Tree, Trees, call_of, field, filter_of, list, named, negative, part_at, plain};
+use ha_model::{Value, Word};
 use std::alloc::{AllocError, Global};
 
 /// The value of a word that stands for one.
@@ -28,12 +29,12 @@ fn constant(word: &[u8]) -> Option<Value>
     }
 }
 
-fn named(alloc: Global, word: &[u8]) -> Result<Boxed<Expr>, AllocError>
+fn name_of(alloc: Global, word: &[u8]) -> Result<Tree, AllocError>
     requires { IsUtf8 word.now }
     ensures { IfOk result (λ made. made ≡ Expr.Name word.now) }
 {
     let name = Word::from_bytes(alloc, word)?;
-    Boxed::new(alloc, Expr::Name(name))
+    named(alloc, name)
 }
 
 /// Whether an expression may be opened.
@@ -68,21 +69,14 @@ impl<'a> Parser<'a> {
     /// An operand with filters behind it, which apply in order.
     #[cycle(read)]
     #[tactic(auto, unfolding(crate::specs::Reading::filtered))]
-    pub fn filtered(&mut self, alloc: Global, depth: usize) -> Result<Boxed<Expr>, Stopped>
+    pub fn filtered(&mut self, alloc: Global, depth: usize) -> Result<Tree, Stopped>
         ensures { Gives (filtered (opened depth) self.old) result self.new }
     {
         let mut base = self.signed(alloc, depth)?;
         'filters: while self.take(Token::Bar) {
             let filter = self.filter_name(may_open(depth))?;
             let args = self.filter_arguments(alloc, depth, filter.counts())?;
-            base = Boxed::new(
-                alloc,
-                Expr::Filter {
-                    name: filter.number(),
-                    base,
-                    args,
-                },
-            )?;
+            base = filter_of(alloc, filter.number(), base, args)?;
         }
         Ok(base)
     }
@@ -95,14 +89,14 @@ impl<'a> Parser<'a> {
         alloc: Global,
         depth: usize,
         counts: Counts,
-    ) -> Result<Many<Expr>, Stopped>
+    ) -> Result<Trees, Stopped>
         ensures { Gives (filter_arguments (opened depth) counts self.old) result self.new }
     {
         if self.take_allowed(Token::OpenGroup, may_have_arguments(depth, counts)) {
             return self.arguments(alloc, depth, Token::CloseGroup, counts);
         }
         if counts.least == 0 {
-            return Ok(Many::make(alloc));
+            return Ok(Trees::make(alloc));
         }
         Err(self.wrong())
     }
@@ -110,7 +104,7 @@ impl<'a> Parser<'a> {
     /// A `-` and an operand, or an operand with no sign.
     #[cycle(read)]
     #[tactic(auto, unfolding(crate::specs::Reading::signed, crate::specs::Reading::opened))]
-    fn signed(&mut self, alloc: Global, depth: usize) -> Result<Boxed<Expr>, Stopped>
+    fn signed(&mut self, alloc: Global, depth: usize) -> Result<Tree, Stopped>
         ensures { Gives (signed (opened depth) self.old) result self.new }
     {
         self.skip_spaces();
@@ -119,23 +113,23 @@ impl<'a> Parser<'a> {
         }
         self.bump();
         let inner = self.signed(alloc, depth - 1)?;
-        Ok(Boxed::new(alloc, Expr::Negate(inner))?)
+        Ok(negative(alloc, inner)?)
     }
 
     /// An atom, with keys and places that are asked of it.
     #[cycle(read)]
     #[tactic(auto, unfolding(crate::specs::Reading::reached, crate::specs::Reading::opened))]
-    fn reached(&mut self, alloc: Global, depth: usize) -> Result<Boxed<Expr>, Stopped>
+    fn reached(&mut self, alloc: Global, depth: usize) -> Result<Tree, Stopped>
         ensures { Gives (reached (opened depth) self.old) result self.new }
     {
         let mut base = self.atom(alloc, depth)?;
         'parts: loop {
             if self.take(Token::Dot) {
                 let name = self.name(alloc)?;
-                base = Boxed::new(alloc, Expr::Field { base, name })?;
+                base = field(alloc, base, name)?;
             } else if self.take_allowed(Token::OpenList, 0 < depth) {
                 let index = self.enclosed(alloc, depth - 1, Token::CloseList)?;
-                base = Boxed::new(alloc, Expr::At { base, index })?;
+                base = part_at(alloc, base, index)?;
             } else {
                 return Ok(base);
             }
@@ -145,12 +139,7 @@ impl<'a> Parser<'a> {
     /// An expression and its closing bracket.
     #[cycle(read)]
     #[tactic(auto, unfolding(crate::specs::Reading::enclosed))]
-    fn enclosed(
-        &mut self,
-        alloc: Global,
-        depth: usize,
-        close: Token,
-    ) -> Result<Boxed<Expr>, Stopped>
+    fn enclosed(&mut self, alloc: Global, depth: usize, close: Token) -> Result<Tree, Stopped>
         ensures { Gives (enclosed (inside (opened depth)) close self.old) result self.new }
     {
         let part = self.expression(alloc, depth)?;
@@ -163,24 +152,24 @@ impl<'a> Parser<'a> {
     /// A number, a string, a word, a list or an expression in brackets.
     #[cycle(read)]
     #[tactic(auto, unfolding(crate::specs::Reading::atom, crate::specs::Reading::opened))]
-    fn atom(&mut self, alloc: Global, depth: usize) -> Result<Boxed<Expr>, Stopped>
+    fn atom(&mut self, alloc: Global, depth: usize) -> Result<Tree, Stopped>
         ensures { Gives (atom (opened depth) self.old) result self.new }
     {
         self.skip_spaces();
         match self.peek() {
             Some(b'0'..=b'9') => {
                 let number = self.number()?;
-                Ok(Boxed::new(alloc, Expr::Plain(Value::Number(number)))?)
+                Ok(plain(alloc, Value::Number(number))?)
             }
             Some(quote) if quote == b'"' || quote == b'\'' => {
                 self.bump();
                 let text = self.string(alloc, quote)?;
-                Ok(Boxed::new(alloc, Expr::Plain(Value::Text(text)))?)
+                Ok(plain(alloc, Value::Text(text))?)
             }
             Some(b'[') => {
                 self.bump();
                 let items = self.arguments(alloc, depth, Token::CloseList, Counts::any_from(0))?;
-                Ok(Boxed::new(alloc, Expr::List(items))?)
+                Ok(list(alloc, items)?)
             }
             Some(b'(') if 0 < depth => {
                 self.bump();
@@ -194,19 +183,19 @@ impl<'a> Parser<'a> {
     /// A constant, a call or a name.
     #[cycle(read)]
     #[tactic(auto, unfolding(crate::specs::Reading::word_atom, crate::specs::Reading::opened))]
-    fn word_atom(&mut self, alloc: Global, depth: usize) -> Result<Boxed<Expr>, Stopped>
+    fn word_atom(&mut self, alloc: Global, depth: usize) -> Result<Tree, Stopped>
         ensures { Gives (word_atom (opened depth) self.old) result self.new }
     {
         let word = self.word();
         if let Some(value) = constant(word) {
-            return Ok(Boxed::new(alloc, Expr::Plain(value))?);
+            return Ok(plain(alloc, value)?);
         }
         if is_reserved(word) {
             return Err(self.wrong());
         }
         match function_named(word) {
             Some(function) => self.called(alloc, depth, function, word),
-            None => Ok(named(alloc, word)?),
+            None => Ok(name_of(alloc, word)?),
         }
     }
 
@@ -219,7 +208,7 @@ impl<'a> Parser<'a> {
         depth: usize,
         function: Function,
         name: &[u8],
-    ) -> Result<Boxed<Expr>, Stopped>
+    ) -> Result<Tree, Stopped>
         requires { IsUtf8 name.now }
         ensures { Gives (call_or_name (Some function) (opened depth) name.now self.old) result self.new }
     {
@@ -227,13 +216,7 @@ impl<'a> Parser<'a> {
             return self.not_called(alloc, function, name);
         }
         let args = self.arguments(alloc, depth, Token::CloseGroup, function.counts())?;
-        Ok(Boxed::new(
-            alloc,
-            Expr::Function {
-                name: function.number(),
-                args,
-            },
-        )?)
+        Ok(call_of(alloc, function.number(), args)?)
     }
 
     /// The name of a function where no call stands. `states` is no name of a variable.
@@ -242,14 +225,14 @@ impl<'a> Parser<'a> {
         alloc: Global,
         function: Function,
         name: &[u8],
-    ) -> Result<Boxed<Expr>, Stopped>
+    ) -> Result<Tree, Stopped>
         requires { IsUtf8 name.now }
         ensures { Gives (not_called function name.now self.old) result self.new }
     {
         if function == Function::States {
             return Err(self.wrong());
         }
-        Ok(named(alloc, name)?)
+        Ok(name_of(alloc, name)?)
     }
 
     /// Expressions with commas between them and the closing bracket behind them, as many as may stand there.
@@ -261,10 +244,10 @@ impl<'a> Parser<'a> {
         depth: usize,
         close: Token,
         counts: Counts,
-    ) -> Result<Many<Expr>, Stopped>
+    ) -> Result<Trees, Stopped>
         ensures { Gives (arguments (opened depth) close counts self.old) result self.new }
     {
-        let mut items = Many::make(alloc);
+        let mut items = Trees::make(alloc);
         if self.take_allowed(close, counts.least == 0) {
             return Ok(items);
         }

@@ -13,7 +13,8 @@ use crate::expression::Open;
 use crate::found::Found;
 use crate::parser::{Parser, Stopped};
 use crate::token::{Token, stands};
-use ha_model::{Boxed, Expr, Piece, Template};
+use crate::tree::Tree;
+use ha_model::{Piece, Template};
 use std::alloc::Global;
 
 /// How many expressions, `not`s and signs may be opened in a tag's expression: 64 with itself.
@@ -220,7 +221,7 @@ impl<'a> Parser<'a> {
         ensures { Leaves (statement_by Token.If found.old self.old) result found.new self.new }
     {
         let (test, trims) = self.tag_expression(alloc)?;
-        found.begin_choice(alloc, test, trims)?;
+        found.begin_choice(alloc, test.into_boxed(), trims)?;
         Ok(())
     }
 
@@ -234,7 +235,7 @@ impl<'a> Parser<'a> {
         match token {
             Token::Elif => {
                 let (test, trims) = self.tag_expression(alloc)?;
-                found.next_arm(alloc, Some(test), trims)?;
+                found.next_arm(alloc, Some(test.into_boxed()), trims)?;
             }
             Token::Else => {
                 let trims = self.end(Token::TagEnd, Token::TrimTagEnd)?;
@@ -275,7 +276,7 @@ impl<'a> Parser<'a> {
         Err(self.none_of(&[end, trimming]))
     }
 
-    fn tag_expression(&mut self, alloc: Global) -> Result<(Boxed<Expr>, bool), Stopped>
+    fn tag_expression(&mut self, alloc: Global) -> Result<(Tree, bool), Stopped>
         ensures { Gives (tag_expression self.old) result self.new }
     {
         self.last_expression(alloc, Token::TagEnd, Token::TrimTagEnd)
@@ -288,7 +289,7 @@ impl<'a> Parser<'a> {
         alloc: Global,
         end: Token,
         trimming: Token,
-    ) -> Result<(Boxed<Expr>, bool), Stopped>
+    ) -> Result<(Tree, bool), Stopped>
         ensures { Gives (last_expression end trimming self.old) result self.new }
     {
         let part = self.expression(alloc, DEPTH)?;
