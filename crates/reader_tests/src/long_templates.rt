@@ -1,84 +1,88 @@
-//! Templates whose text is longer than is allowed, up to a megabyte: their chains are far deeper than a stack.
+//! Templates of up to a megabyte, whose chains are far deeper than a stack.
 use conf_field::template_text;
 use std::alloc::{AllocError, Global};
-use std::test::Fail;
 use yaml_scan::{Code, YamlFault};
 
-/// The first bytes, a part so often that a megabyte is full, another part as often, and the last bytes.
-fn long(
+/// A text, a part so many times, another text, and as often what closes the part.
+fn chain(
     alloc: Global,
     first: &[u8],
     part: &[u8],
-    other: &[u8],
+    count: usize,
+    close: &[u8],
     last: &[u8],
 ) -> Result<Vec<u8>, AllocError> {
-    let count = (1_048_576 - first.len() - last.len()) / (part.len() + other.len());
     let mut all = Vec::new(alloc);
     all.extend_from_slice(first)?;
     for _i in 0..count {
         all.extend_from_slice(part)?;
     }
     for _i in 0..count {
-        all.extend_from_slice(other)?;
+        all.extend_from_slice(close)?;
     }
     all.extend_from_slice(last)?;
     Ok(all)
 }
 
-/// The code of the fault of a template's text.
-fn code_of(alloc: Global, text: &[u8]) -> Option<u8> {
-    match template_text(alloc, 1, text) {
-        Err(YamlFault::Bad { line: _, code }) => Some(code.number()),
-        _ => None,
+/// Whether the text is refused with this code.
+fn is_refused(
+    alloc: Global,
+    first: &[u8],
+    part: &[u8],
+    count: usize,
+    close: &[u8],
+    last: &[u8],
+    wanted: Code,
+) -> bool {
+    match chain(alloc, first, part, count, close, last) {
+        Ok(text) => match template_text(alloc, 7, text.as_slice()) {
+            Err(YamlFault::Bad { line, code }) => line == 7 && code == wanted,
+            _ => false,
+        },
+        Err(_) => false,
     }
 }
 
 #[test]
-fn long_chains_are_over_the_limit(rt: HostRuntime) -> Result<(), Fail> {
+fn long_chains_are_over_the_limit(rt: HostRuntime) {
     let alloc = rt.alloc();
-    for (first, part, other, last) in [
-        (
-            b"{{1".as_slice(),
-            b"+1".as_slice(),
-            b"".as_slice(),
-            b"}}".as_slice(),
-        ),
-        (b"{{1 or 1", b" and 1", b"", b"}}"),
-        (b"{{[2, 1", b"~1", b"", b"]}}"),
-        (b"{{a", b".a", b"", b"}}"),
-        (b"{{a", b"[0]", b"", b"}}"),
-        (b"{{1", b"|abs", b"", b"}}"),
-        (b"", b"{%if 1%}", b"{%endif%}", b""),
-        (b"", b"{%if 1%}{%else%}", b"{%endif%}", b""),
-        (b"", b"{{1}}", b"", b""),
-    ] {
-        let text = long(alloc, first, part, other, last)?;
-        assert_eq!(rt; code_of(alloc, text.as_slice()), Some(12));
-    }
-    Ok(())
+    let over = Code::Limit;
+    assert!(rt; is_refused(alloc, b"{{1", b"+1", 524_000, b"", b"}}", over));
+    assert!(rt; is_refused(alloc, b"{{1 or 1", b" and 1", 174_000, b"", b"}}", over));
+    assert!(rt; is_refused(alloc, b"{{[2, a", b".a", 524_000, b"", b"]}}", over));
+    assert!(rt; is_refused(alloc, b"{{1", b"|abs", 262_000, b"", b"}}", over));
+    assert!(rt; is_refused(alloc, b"", b"{%if 1%}", 61_000, b"{%endif%}", b"", over));
+    assert!(rt; is_refused(alloc, b"", b"{{1}}", 200_000, b"", b"", over));
 }
 
 #[test]
-fn long_texts_outside_the_grammar_are_no_templates(rt: HostRuntime) -> Result<(), Fail> {
+fn long_texts_outside_the_grammar_are_no_templates(rt: HostRuntime) {
     let alloc = rt.alloc();
-    for (first, part, other, last) in [
-        (
-            b"{{1".as_slice(),
-            b"+1".as_slice(),
-            b"".as_slice(),
-            b"+}}".as_slice(),
-        ),
-        (b"{{1 or 1", b" and 1", b"", b" and }}"),
-        (b"{{[2, 1", b"~1", b"", b",}}"),
-        (b"{{a", b".a", b"", b".}}"),
-        (b"{{a", b"[0]", b"", b"[}}"),
-        (b"{{1", b"|abs", b"", b"|}}"),
-        (b"", b"{%if 1%}", b"{%endif%}", b"{%endif%}"),
-        (b"{%if 1%}", b"{%if 1%}{%else%}", b"{%endif%}", b""),
-        (b"", b"{{1}}", b"", b"{{1}"),
-    ] {
-        let text = long(alloc, first, part, other, last)?;
-        assert_eq!(rt; code_of(alloc, text.as_slice()), Some(11));
-    }
-    Ok(())
+    let none = Code::Template;
+    assert!(rt; is_refused(alloc, b"{{1", b"+1", 524_000, b"", b"+}}", none));
+    assert!(rt;
+        is_refused(
+            alloc,
+            b"{{1 or 1",
+            b" and 1",
+            174_000,
+            b"",
+            b" and }}",
+            none
+        )
+    );
+    assert!(rt; is_refused(alloc, b"{{[2, a", b".a", 524_000, b"", b",}}", none));
+    assert!(rt; is_refused(alloc, b"{{1", b"|abs", 262_000, b"", b"|}}", none));
+    assert!(rt;
+        is_refused(
+            alloc,
+            b"{%if 1%}",
+            b"{%if 1%}",
+            61_000,
+            b"{%endif%}",
+            b"",
+            none
+        )
+    );
+    assert!(rt; is_refused(alloc, b"", b"{{1}}", 200_000, b"", b"{{1}", none));
 }
