@@ -5,19 +5,39 @@ use replay_file::replay_call;
 use std::alloc::{AllocError, Global};
 use std::test::Fail;
 
-const BOOT: &str = "{\"boot\":{\"config\":\"[]\\n\",\"stored\":null,\"start\":\"2024-05-01T20:00:00.000Z\",\"zone\":\"UTC\"}}\n";
-const BLANK: &str = "{\"boot\": {\"config\":\"[]\\n\",\"stored\":null,\"start\":\"2024-05-01T20:00:00.000Z\",\"zone\":\"UTC\"}}\n";
-const ORDERED: &str = "{\"boot\":{\"config\":\"[]\\n\",\"stored\":{\"a\":true,\"b\":true},\"start\":\"2024-05-01T20:00:00.000Z\",\"zone\":\"UTC\"}}\n";
-const UNORDERED: &str = "{\"boot\":{\"config\":\"[]\\n\",\"stored\":{\"b\":true,\"a\":true},\"start\":\"2024-05-01T20:00:00.000Z\",\"zone\":\"UTC\"}}\n";
-const FIRST: &str = "{\"source\":0,\"number\":0,\"cmd\":{\"moment\":\"2024-05-01T20:00:01.000Z\"}}\n";
-const SECOND: &str = "{\"source\":0,\"number\":1,\"cmd\":{\"moment\":\"2024-05-01T20:00:01.000Z\"}}\n";
+const BOOT: &str =
+    "{\"boot\":{\"config\":\"[]\\n\",\"stored\":null,\"start\":\"2024-05-01T20:00:00.000Z\",\"zone\":\"UTC\"}}\n";
+
+const BLANK: &str =
+    "{\"boot\": {\"config\":\"[]\\n\",\"stored\":null,\"start\":\"2024-05-01T20:00:00.000Z\",\"zone\":\"UTC\"}}\n";
+
+const ORDERED: &str =
+    "{\"boot\":{\"config\":\"[]\\n\",\"stored\":{\"a\":true,\"b\":true},\"start\":\"2024-05-01T20:00:00.000Z\",\"zone\":\"UTC\"}}\n";
+
+const UNORDERED: &str =
+    "{\"boot\":{\"config\":\"[]\\n\",\"stored\":{\"b\":true,\"a\":true},\"start\":\"2024-05-01T20:00:00.000Z\",\"zone\":\"UTC\"}}\n";
+
+const FIRST: &str =
+    "{\"source\":0,\"number\":0,\"cmd\":{\"moment\":\"2024-05-01T20:00:01.000Z\"}}\n";
+
+const SECOND: &str =
+    "{\"source\":0,\"number\":1,\"cmd\":{\"moment\":\"2024-05-01T20:00:01.000Z\"}}\n";
 
 /// A home that notifies, waits a second and notifies again, up to its last step.
-const HOME: &str = "{\"boot\":{\"config\":\"- alias: a\\n  triggers:\\n    - trigger: event\\n      event_type: go\\n  actions:\\n    - action: notify.x\\n    - delay: 1\\n    - action: notify.y\\n\",\"stored\":null,\"start\":\"2024-05-01T20:00:00.000Z\",\"zone\":\"UTC\"}}\n{\"source\":0,\"number\":0,\"cmd\":{\"event\":\"go\",\"data\":{}}}\n";
-const STEPS: &str = "{\"worker\":0,\"run\":1,\"branch\":[],\"item\":{\"call\":{\"service\":\"notify.x\",\"target\":[],\"data\":{}}}}\n{\"worker\":0,\"run\":1,\"branch\":[],\"item\":{\"nothing\":true}}\n";
-const LATER: &str = "{\"source\":1,\"number\":0,\"cmd\":{\"moment\":\"2024-05-01T20:00:01.000Z\"}}\n{\"source\":0,\"number\":1,\"cmd\":{\"refused\":\"L2\"}}\n";
-const LAST: &str = "{\"worker\":0,\"run\":1,\"branch\":[],\"item\":{\"nothing\":true}}\n{\"worker\":0,\"run\":1,\"branch\":[],\"item\":{\"call\":{\"service\":\"notify.y\",\"target\":[],\"data\":{}}}}\n{\"end\":8}\n";
-const CALLS: &str = "{\"run\":\"a\",\"number\":1,\"call\":1,\"service\":\"notify.x\",\"target\":[],\"data\":{}}\n{\"run\":\"a\",\"number\":1,\"call\":2,\"service\":\"notify.y\",\"target\":[],\"data\":{}}\n";
+const HOME: &str =
+    "{\"boot\":{\"config\":\"- alias: a\\n  triggers:\\n    - trigger: event\\n      event_type: go\\n  actions:\\n    - action: notify.x\\n    - delay: 1\\n    - action: notify.y\\n\",\"stored\":null,\"start\":\"2024-05-01T20:00:00.000Z\",\"zone\":\"UTC\"}}\n{\"source\":0,\"number\":0,\"cmd\":{\"event\":\"go\",\"data\":{}}}\n";
+
+const STEPS: &str =
+    "{\"worker\":0,\"run\":1,\"branch\":[],\"item\":{\"call\":{\"service\":\"notify.x\",\"target\":[],\"data\":{}}}}\n{\"worker\":0,\"run\":1,\"branch\":[],\"item\":{\"nothing\":true}}\n";
+
+const LATER: &str =
+    "{\"source\":1,\"number\":0,\"cmd\":{\"moment\":\"2024-05-01T20:00:01.000Z\"}}\n{\"source\":0,\"number\":1,\"cmd\":{\"refused\":\"L2\"}}\n";
+
+const LAST: &str =
+    "{\"worker\":0,\"run\":1,\"branch\":[],\"item\":{\"nothing\":true}}\n{\"worker\":0,\"run\":1,\"branch\":[],\"item\":{\"call\":{\"service\":\"notify.y\",\"target\":[],\"data\":{}}}}\n{\"end\":8}\n";
+
+const CALLS: &str =
+    "{\"run\":\"a\",\"number\":1,\"call\":1,\"service\":\"notify.x\",\"target\":[],\"data\":{}}\n{\"run\":\"a\",\"number\":1,\"call\":2,\"service\":\"notify.y\",\"target\":[],\"data\":{}}\n";
 
 /// The texts, one behind the other.
 fn joined(alloc: Global, parts: &[&str]) -> Result<Vec<u8>, AllocError> {
@@ -61,9 +81,9 @@ fn is_given(
     errors: &str,
 ) -> Result<bool, AllocError> {
     match replayed(alloc, joined(alloc, parts)?, Vec::new(alloc))? {
-        Some((given, out, err)) => Ok(given == number
-            && out.bytes() == calls.as_bytes()
-            && err.bytes() == errors.as_bytes()),
+        Some((given, out, err)) => Ok(
+            given == number && out.bytes() == calls.as_bytes() && err.bytes() == errors.as_bytes(),
+        ),
         None => Ok(false),
     }
 }
@@ -115,39 +135,95 @@ fn a_finished_trace(rt: HostRuntime) -> Result<(), Fail> {
 
 #[test]
 fn a_wrong_number(rt: HostRuntime) -> Result<(), Fail> {
-    assert!(rt; is_given(rt.alloc(), &[BOOT, SECOND, "{\"end\":2}\n"], 11, "", "hearth: trace line 2: T\n")?);
+    assert!(rt;
+        is_given(
+            rt.alloc(),
+            &[BOOT, SECOND, "{\"end\":2}\n"],
+            11,
+            "",
+            "hearth: trace line 2: T\n"
+        )?
+    );
     Ok(())
 }
 
 #[test]
 fn no_end_line(rt: HostRuntime) -> Result<(), Fail> {
-    assert!(rt; is_given(rt.alloc(), &[BOOT, FIRST], 11, "", "hearth: trace line 3: T\n")?);
+    assert!(rt;
+        is_given(
+            rt.alloc(),
+            &[BOOT, FIRST],
+            11,
+            "",
+            "hearth: trace line 3: T\n"
+        )?
+    );
     Ok(())
 }
 
 #[test]
 fn behind_the_end(rt: HostRuntime) -> Result<(), Fail> {
-    assert!(rt; is_given(rt.alloc(), &[BOOT, FIRST, "{\"end\":2}\n", "{\"end\":2}\n"], 11, "", "hearth: trace line 4: T\n")?);
-    assert!(rt; is_given(rt.alloc(), &[BOOT, FIRST, "{\"end\":2}\n", "{"], 11, "", "hearth: trace line 4: T\n")?);
+    assert!(rt;
+        is_given(
+            rt.alloc(),
+            &[BOOT, FIRST, "{\"end\":2}\n", "{\"end\":2}\n"],
+            11,
+            "",
+            "hearth: trace line 4: T\n"
+        )?
+    );
+    assert!(rt;
+        is_given(
+            rt.alloc(),
+            &[BOOT, FIRST, "{\"end\":2}\n", "{"],
+            11,
+            "",
+            "hearth: trace line 4: T\n"
+        )?
+    );
     Ok(())
 }
 
 #[test]
 fn a_wrong_count(rt: HostRuntime) -> Result<(), Fail> {
-    assert!(rt; is_given(rt.alloc(), &[BOOT, FIRST, "{\"end\":3}\n"], 11, "", "hearth: trace line 3: T\n")?);
+    assert!(rt;
+        is_given(
+            rt.alloc(),
+            &[BOOT, FIRST, "{\"end\":3}\n"],
+            11,
+            "",
+            "hearth: trace line 3: T\n"
+        )?
+    );
     Ok(())
 }
 
 #[test]
 fn a_boot_with_a_blank(rt: HostRuntime) -> Result<(), Fail> {
-    assert!(rt; is_given(rt.alloc(), &[BLANK, FIRST, "{\"end\":2}\n"], 11, "", "hearth: trace line 1: T\n")?);
+    assert!(rt;
+        is_given(
+            rt.alloc(),
+            &[BLANK, FIRST, "{\"end\":2}\n"],
+            11,
+            "",
+            "hearth: trace line 1: T\n"
+        )?
+    );
     Ok(())
 }
 
 #[test]
 fn stored_switches_in_their_order(rt: HostRuntime) -> Result<(), Fail> {
     assert!(rt; is_given(rt.alloc(), &[ORDERED, "{\"end\":1}\n"], 0, "", "")?);
-    assert!(rt; is_given(rt.alloc(), &[UNORDERED, "{\"end\":1}\n"], 11, "", "hearth: trace line 1: T\n")?);
+    assert!(rt;
+        is_given(
+            rt.alloc(),
+            &[UNORDERED, "{\"end\":1}\n"],
+            11,
+            "",
+            "hearth: trace line 1: T\n"
+        )?
+    );
     Ok(())
 }
 
@@ -155,7 +231,12 @@ fn stored_switches_in_their_order(rt: HostRuntime) -> Result<(), Fail> {
 fn the_read_fails(rt: HostRuntime) -> Result<(), Fail> {
     let mut fails = Vec::new(rt.alloc());
     fails.push(1)?;
-    let Some((given, out, err)) = replayed(rt.alloc(), joined(rt.alloc(), &[BOOT, FIRST, "{\"end\":2}\n"])?, fails)? else {
+    let Some((given, out, err)) = replayed(
+        rt.alloc(),
+        joined(rt.alloc(), &[BOOT, FIRST, "{\"end\":2}\n"])?,
+        fails,
+    )?
+    else {
         return Err(Fail::from("names"));
     };
     assert!(rt; given == 4);
@@ -166,7 +247,15 @@ fn the_read_fails(rt: HostRuntime) -> Result<(), Fail> {
 
 #[test]
 fn a_home_is_replayed(rt: HostRuntime) -> Result<(), Fail> {
-    assert!(rt; is_given(rt.alloc(), &[HOME, STEPS, LATER, LAST], 0, CALLS, "source 0 line 1: L2\n")?);
+    assert!(rt;
+        is_given(
+            rt.alloc(),
+            &[HOME, STEPS, LATER, LAST],
+            0,
+            CALLS,
+            "source 0 line 1: L2\n"
+        )?
+    );
     Ok(())
 }
 

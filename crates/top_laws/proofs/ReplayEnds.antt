@@ -48,54 +48,55 @@ not_longer text end o e =
 
 -- ---- the commands
 
+module _ (name : Text) (b : Before) (a : After) (u : IsUnhinderedReplay name b a) where
+  abbrev Opens : Status → Type 0
+  Opens s = OpenCause (name ∷ []) b.place.faults a.place.faults a.place.last s
+
+  abbrev Reads : Status → Type 0
+  Reads s = ReadCause name (name ∷ []) (map (λ y. y.faults) a.sources) (map (λ y. y.name) a.sources) s
+
+  abbrev Writes : Status → Type 0
+  Writes s = WriteCause (OneRose b.out.faults a.out.faults b.err.faults a.err.faults) (OneRose b.out.zeros a.out.zeros b.err.zeros a.err.zeros) s
+
+  unread : (s : Status) → IsUnread s → Opens s → Good s
+  unread (Status.OpenFault other) is unopened = absurd (u.opened unopened.1.rose)
+  unread Status.Memory is unopened = inr refl
+  unread Status.Ok is unopened = absurd is
+  unread Status.Usage is unopened = absurd is
+  unread (Status.ConfigRefused line code) is unopened = absurd is
+  unread (Status.ReadFault source) is unopened = absurd is
+  unread (Status.WriteFault zero) is unopened = absurd is
+  unread Status.KeepFault is unopened = absurd is
+  unread Status.JournalFull is unopened = absurd is
+  unread (Status.SourceTooLong source) is unopened = absurd is
+  unread (Status.StoreRefused code) is unopened = absurd is
+  unread (Status.TraceRefused line) is unopened = absurd is
+
+  judged : (text : Text) (end : FrontEnd) (j : Journal) (rs : Records) (ended : Bool) (left : Text) → OfTrace text end → (s : Status) → IsStatusOf text end j rs ended left s → Reads s → Writes s → Good s
+  judged text end j rs ended left o Status.Ok is read written = inl refl
+  judged text end j rs ended left o Status.Memory is read written = inr refl
+  judged text end j rs ended left o (Status.TraceRefused line) is read written = absurd (not_none text end o is.no_trace)
+  judged text end j rs ended left o Status.JournalFull is read written = absurd (not_none text end o is.no_trace)
+  judged text end j rs ended left o (Status.SourceTooLong source) is read written = absurd (not_longer text end o is.1)
+  judged text end j rs ended left o (Status.ReadFault None) is read written = absurd is
+  judged text end j rs ended left o (Status.ReadFault (Some k)) is read written = absurd (none-unread a.sources u.read k read.0 (map (λ y. y.name) a.sources) read.2)
+  judged text end j rs ended left o (Status.WriteFault false) is read written =
+      absurd (one-well b.out.faults b.err.faults a.out.faults a.err.faults u.out_well.no_fault u.err_well.no_fault written)
+  judged text end j rs ended left o (Status.WriteFault true) is read written =
+      absurd (one-well b.out.zeros b.err.zeros a.out.zeros a.err.zeros u.out_well.no_zero u.err_well.no_zero written)
+  judged text end j rs ended left o Status.Usage is read written = absurd is
+  judged text end j rs ended left o (Status.ConfigRefused line code) is read written = absurd is
+  judged text end j rs ended left o (Status.OpenFault other) is read written = absurd is
+  judged text end j rs ended left o Status.KeepFault is read written = absurd is
+  judged text end j rs ended left o (Status.StoreRefused code) is read written = absurd is
+
+  by_status : (s : Status) (C E : Text → Type 0) → IsReplay b.place.files name s C E → Opens s → Reads s → Writes s → Good s
+  by_status s C E (inl none) unopened read written = unread s none.0 unopened
+  by_status s C E (inr h) unopened read written =
+      judged h.text h.end h.judged.journal h.judged.records h.judged.ended h.judged.left (of_trace b.place.files name h.text h.end u.traced h.read) s h.judged.status_is read written
+
 pub replay-ends-well : (name : Text) (b : Before) (a : After) → Replayed name b a → IsUnhinderedReplay name b a → Good a.status
-replay-ends-well name b a x u = by a.status _ _ x.replay x.unopened x.unread x.unwritten
-  where
-    abbrev Opens : Status → Type 0
-    Opens s = OpenCause (name ∷ []) b.place.faults a.place.faults a.place.last s
-
-    abbrev Reads : Status → Type 0
-    Reads s = ReadCause name (name ∷ []) (map (λ y. y.faults) a.sources) (map (λ y. y.name) a.sources) s
-
-    abbrev Writes : Status → Type 0
-    Writes s = WriteCause (OneRose b.out.faults a.out.faults b.err.faults a.err.faults) (OneRose b.out.zeros a.out.zeros b.err.zeros a.err.zeros) s
-
-    unread : (s : Status) → IsUnread s → Opens s → Good s
-    unread (Status.OpenFault other) is unopened = absurd (u.opened unopened.1.rose)
-    unread Status.Memory is unopened = inr refl
-    unread Status.Ok is unopened = absurd is
-    unread Status.Usage is unopened = absurd is
-    unread (Status.ConfigRefused line code) is unopened = absurd is
-    unread (Status.ReadFault source) is unopened = absurd is
-    unread (Status.WriteFault zero) is unopened = absurd is
-    unread Status.KeepFault is unopened = absurd is
-    unread Status.JournalFull is unopened = absurd is
-    unread (Status.SourceTooLong source) is unopened = absurd is
-    unread (Status.StoreRefused code) is unopened = absurd is
-    unread (Status.TraceRefused line) is unopened = absurd is
-
-    judged : (text : Text) (end : FrontEnd) (j : Journal) (rs : Records) (ended : Bool) (left : Text) → OfTrace text end → (s : Status) → IsStatusOf text end j rs ended left s → Reads s → Writes s → Good s
-    judged text end j rs ended left o Status.Ok is read written = inl refl
-    judged text end j rs ended left o Status.Memory is read written = inr refl
-    judged text end j rs ended left o (Status.TraceRefused line) is read written = absurd (not_none text end o is.no_trace)
-    judged text end j rs ended left o Status.JournalFull is read written = absurd (not_none text end o is.no_trace)
-    judged text end j rs ended left o (Status.SourceTooLong source) is read written = absurd (not_longer text end o is.1)
-    judged text end j rs ended left o (Status.ReadFault None) is read written = absurd is
-    judged text end j rs ended left o (Status.ReadFault (Some k)) is read written = absurd (none-unread a.sources u.read k read.0 (map (λ y. y.name) a.sources) read.2)
-    judged text end j rs ended left o (Status.WriteFault false) is read written =
-        absurd (one-well b.out.faults b.err.faults a.out.faults a.err.faults u.out_well.no_fault u.err_well.no_fault written)
-    judged text end j rs ended left o (Status.WriteFault true) is read written =
-        absurd (one-well b.out.zeros b.err.zeros a.out.zeros a.err.zeros u.out_well.no_zero u.err_well.no_zero written)
-    judged text end j rs ended left o Status.Usage is read written = absurd is
-    judged text end j rs ended left o (Status.ConfigRefused line code) is read written = absurd is
-    judged text end j rs ended left o (Status.OpenFault other) is read written = absurd is
-    judged text end j rs ended left o Status.KeepFault is read written = absurd is
-    judged text end j rs ended left o (Status.StoreRefused code) is read written = absurd is
-
-    by : (s : Status) (C E : Text → Type 0) → IsReplay b.place.files name s C E → Opens s → Reads s → Writes s → Good s
-    by s C E (inl none) unopened read written = unread s none.0 unopened
-    by s C E (inr h) unopened read written =
-        judged h.text h.end h.judged.journal h.judged.records h.judged.ended h.judged.left (of_trace b.place.files name h.text h.end u.traced h.read) s h.judged.status_is read written
+replay-ends-well name b a x u = by_status name b a u a.status _ _ x.replay x.unopened x.unread x.unwritten
 
 pub rehearse-ends-well : (lines : ℕ) (b : Before) (a : After) → Rehearsed lines b a → IsUnhinderedRehearsal lines b a → Good a.status
 rehearse-ends-well lines b a x u = by a.status x.answer x.unwritten

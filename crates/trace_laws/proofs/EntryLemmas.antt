@@ -55,7 +55,7 @@ module _ (d : Journal) (all : List Automation) (short : length d < 2 ^ 64) where
       let m : PrintedLine = record { source = k'; number = n'; cmd = cmd' } in
       let text : Text = line_text k n (cmd_text cmd) in
       let same : l ≡ m = one_line text l m (record { source = omega (arith, known); number = counted k n next }) (record { source = omega (arith, known'); number = counted k' n' next' })
-          (record { fair = fair-but d cmd fair; text_is = refl }) (record { fair = fair-but d cmd' fair'; text_is = same-line text (line_text k' n' (cmd_text cmd')) e }) in
+      (record { fair = fair-but d cmd fair; text_is = refl }) (record { fair = fair-but d cmd' fair'; text_is = same-line text (line_text k' n' (cmd_text cmd')) e }) in
       (λ i. Line (same i).source (same i).number (same i).cmd)
 
 -- ---- steps

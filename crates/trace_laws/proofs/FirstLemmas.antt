@@ -41,7 +41,7 @@ one_first all all' (Boot text config stored start zone) (Step worker serial bran
 one_first all all' (Boot text config stored start zone) (Boot text' config' stored' start' zone') f g e =
     let feed = entry_feed all (Boot text config stored start zone) in
     let same = one_parts feed.line (boot_line text stored start zone) (boot_line text' stored' start' zone')
-        (first_line feed.line (boot_line text stored start zone) config f (λ other. feed.shown_is)) f.utf8
-        (first_line feed.line (boot_line text' stored' start' zone') config' g (λ other. feed.shown_is ∙ e)) g.utf8 in
+    (first_line feed.line (boot_line text stored start zone) config f (λ other. feed.shown_is)) f.utf8
+    (first_line feed.line (boot_line text' stored' start' zone') config' g (λ other. feed.shown_is ∙ e)) g.utf8 in
     let configs = ok_same config config' (sym f.config_is ∙ (λ i. config_of (same i).text) ∙ g.config_is) in
     (λ i. Boot (same i).text (configs i) (same i).stored (same i).start (same i).zone)

@@ -128,10 +128,14 @@ entry_follows : (j j' : Journal) (rs rs' : Records) (x : Entry) (xs : Journal) �
 entry_follows j j' rs rs' x xs e run =
     let long : j' ≡ more j x ++ xs = e ∙ sym (append_assoc j (x ∷ []) xs) in
     let moved : IsRun (more j x ++ xs) rs' = subst (λ z. IsRun z rs') long run in
-    inr (x, records_of (more j x), record {
-      run = run_front (more j x) xs rs' (has_more j x) moved;
-      line_is = (entry_feed (automations j') x).shown_is ∙ (λ i. trace_line (automations (long i)) x) ∙ (λ i. trace_line (automations_front (more j x) xs (has_more j x) i) x);
-    })
+    inr (
+      x,
+      records_of (more j x),
+      record {
+        run = run_front (more j x) xs rs' (has_more j x) moved;
+        line_is = (entry_feed (automations j') x).shown_is ∙ (λ i. trace_line (automations (long i)) x) ∙ (λ i. trace_line (automations_front (more j x) xs (has_more j x) i) x);
+      },
+    )
 
 -- the end of a run that ended may follow
 end_is : (j j' : Journal) (rs rs' : Records) → j' ≡ j → IsRun j rs → IsRun j' rs' → is_quiet rs' j' ≡ true → IsEnd j rs (end_feed (length j)).line
