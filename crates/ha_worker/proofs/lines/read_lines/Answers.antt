@@ -1,4 +1,4 @@
-use Rattle.std.proofs.Common.{[], ◌∷◌, ◌++◌, ◌∙◌, ap}
+use Rattle.std.proofs.Common.{[], ◌∷◌, ◌++◌, ◌∙◌}
 use Rattle.ha_worker.proofs.LineLemmas.{took_more}
 use Rattle.ha_worker.proofs.ReadLemmas.{cmds_more}
 use Rattle.ha_worker.proofs.lines.read_lines.Goals as goal
