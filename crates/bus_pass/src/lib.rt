@@ -2,11 +2,13 @@
 #![tactic(auto)]
 
 mod hand;
+mod held;
 mod seal;
 mod steps;
 mod turn;
 
 pub use hand::{Given, Hand, Origin, SinkMark, Stood};
+pub use held::Held;
 pub use seal::Sealed;
 pub use steps::{Gives, Law, Parts, Takes};
 pub use turn::{Ends, Pass, Turn};

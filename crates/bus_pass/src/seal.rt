@@ -3,7 +3,7 @@ ghost use Rattle.std.specs.Prelude.{◌≡◌, Option};
 ghost use Rattle.ha_model.specs.Lawful.{Running};
 ghost use Rattle.bus_pass.specs.Origins.{IsStored};
 
-use bus_turn::Bus;
+use crate::held::Held;
 use ha_io::{Keeper, Sink};
 use ha_model::{Cmd, Core};
 use std::marker::Model;
@@ -13,7 +13,7 @@ use std::snapshot::Snapshot;
 /// while the boot stands alone its keeper holds the boot's text.
 #[derive(Drop)]
 pub struct Sealed<C: Core + Drop, K: Sink, Q: Keeper> {
-    bus: Bus<C, K, Q>,
+    bus: Held<C, K, Q>,
     read: Snapshot<Option<Cmd>>,
 }
 
@@ -39,7 +39,7 @@ impl<C: Core + Drop, K: Sink, Q: Keeper> Model for Sealed<C, K, Q> {
 
 impl<C: Core + Drop, K: Sink, Q: Keeper> Sealed<C, K, Q> {
     /// The message of this bus.
-    pub fn close(bus: Bus<C, K, Q>, read: Snapshot<Option<Cmd>>) -> Sealed<C, K, Q>
+    pub fn close(bus: Held<C, K, Q>, read: Snapshot<Option<Cmd>>) -> Sealed<C, K, Q>
         requires running { Running bus.journal bus.records }
         requires stored { IsStored bus }
         ensures { result ≡ (bus, read.value) }
@@ -48,7 +48,7 @@ impl<C: Core + Drop, K: Sink, Q: Keeper> Sealed<C, K, Q> {
     }
 
     /// The bus of a message.
-    pub fn open(self) -> Bus<C, K, Q>
+    pub fn open(self) -> Held<C, K, Q>
         ensures bus { result ≡ self.0 }
         ensures running { Running result.journal result.records }
         ensures stored { IsStored result }

@@ -10,6 +10,7 @@ ghost use Rattle.bus_pass.specs.Origins.{IsStored, origin_of};
 ghost use Rattle.bus_pass.specs.Rule.{MayGive, StandsForAll, Tells, both, child, gave, hand, opening, parent, took};
 
 use crate::hand::Hand;
+use crate::held::Held;
 use crate::seal::Sealed;
 use crate::steps::{Gives, Law, Parts, Takes};
 use bus_turn::Bus;
@@ -18,16 +19,17 @@ use ha_io::{Keeper, Sink};
 use ha_model::{Cmd, Core};
 use std::alloc::Global;
 use std::snapshot::Snapshot;
-use std::sync::Wait;
+use std::sync::{Mutex, MutexGuard, Wait};
 
 /// A token of no bytes in which a thread carries what it knows of the turn.
 pub type Pass<C, K, Q> = crossbeam_channel::Pass<Sealed<C, K, Q>, Hand>;
 
-/// The two ends of a channel.
+/// The two ends of a channel, and the lock that a worker holds while it puts what it has at hand.
 #[derive(Drop)]
 pub struct Ends<S, R> {
     to: S,
     from: R,
+    floor: Mutex<()>,
 }
 
 /// The turn: a channel that holds the bus, or nothing while one pass holds it.
@@ -49,18 +51,26 @@ impl<C: Core + Drop, K: Sink, Q: Keeper> Turn<C, K, Q> {
         ensures view { IfOk result (λ r. view r.1 ≡ hand true 0 [] None bus.first [] (Some (origin_of bus))) }
         ensures back { IfErr result (λ b. b ≡ bus) }
     {
-        let _ = bus.first();
+        let held = match Held::make(alloc, bus) {
+            Ok(held) => held,
+            Err(bus) => return Err(bus),
+        };
+        let _ = held.first();
         let Ok((to, from, mut pass)) = bounded_with::<Sealed<C, K, Q>, Hand, Law, Global>(alloc, 1)
         else {
-            return Err(bus);
+            return Err(held.into_bus());
         };
-        let turn = Ends { to, from };
-        turn.put_first(rt, &mut pass, bus);
+        let turn = Ends {
+            to,
+            from,
+            floor: Mutex::new(()),
+        };
+        turn.put_first(rt, &mut pass, held);
         Ok((turn, pass))
     }
 
     /// Puts the bus into the channel for the first time.
-    fn put_first<W: Wait>(&self, rt: &W, pass: &mut Pass<C, K, Q>, bus: Bus<C, K, Q>)
+    fn put_first<W: Wait>(&self, rt: &W, pass: &mut Pass<C, K, Q>, bus: Held<C, K, Q>)
         requires turn { IsPassOf self.now pass.old }
         requires opening { view pass.old ≡ opening }
         requires boot { (boot : Entry) × (bus.journal ≡ boot ∷ []) }
@@ -91,7 +101,7 @@ impl<C: Core + Drop, K: Sink, Q: Keeper> Turn<C, K, Q> {
     }
 
     /// Takes the bus, as soon as the channel holds it.
-    pub fn take<W: Wait>(&self, rt: &W, pass: &mut Pass<C, K, Q>) -> Bus<C, K, Q>
+    pub fn take<W: Wait>(&self, rt: &W, pass: &mut Pass<C, K, Q>) -> Held<C, K, Q>
         requires turn { IsPassOf self.now pass.old }
         requires idle { (view pass.old).taken ≡ None }
         ensures turn { IsPassOf self.now pass.new }
@@ -123,7 +133,7 @@ impl<C: Core + Drop, K: Sink, Q: Keeper> Turn<C, K, Q> {
         &self,
         rt: &W,
         pass: &mut Pass<C, K, Q>,
-        bus: Bus<C, K, Q>,
+        bus: Held<C, K, Q>,
         read: Snapshot<Option<Cmd>>,
     )
         requires turn { IsPassOf self.now pass.old }
@@ -168,6 +178,12 @@ impl<C: Core + Drop, K: Sink, Q: Keeper> Turn<C, K, Q> {
         ensures running { Running result.journal result.records }
         ensures stored { IsStored result }
     {
-        self.take(rt, &mut pass)
+        self.take(rt, &mut pass).into_bus()
+    }
+
+    /// Waits until no other worker has the floor. A worker has it while it puts what it has at hand, one entry a turn, and neither while it
+    /// reads its source nor at the gate: the others then sleep here, and are woken once for all of it, not at each give.
+    pub fn floor<W: Wait>(&self, rt: &W) -> MutexGuard<'_, ()> {
+        self.floor.lock(rt)
     }
 }

@@ -2,6 +2,7 @@ pub mod ListLemmas
 pub mod GiveLemmas
 pub mod TurnLemmas
 pub mod LineLemmas
+pub mod ReadLemmas
 pub mod CmdLemmas
 pub mod CourseLemmas
 pub mod FeedLemmas

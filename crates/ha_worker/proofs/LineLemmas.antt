@@ -3,14 +3,14 @@ use Rattle.std.proofs.Common.{◌≡◌, ◌∙◌, inl, inr, ⊎_elim, ℕ, Lis
 use Rattle.std.proofs.lemmas.List.{append-nil, map-append}
 use Rattle.ha_model.specs.declared.journal.Cmd.{Cmd}
 use Rattle.ha_model.specs.Words.{Text}
-use Rattle.ha_text.specs.Lines.{IsNone, IsTaken, whole_lines}
+use Rattle.ha_text.specs.Lines.{IsTaken, whole_lines}
 use Rattle.flow_line.specs.Command.{cmd_of}
 use Rattle.bus_pass.specs.Rule.{Dues}
 use Rattle.bus_pass.specs.declared.hand.Hand.{Hand}
 use Rattle.ha_worker.specs.Puts.{NoLine, PutAll, PutSome}
-use Rattle.ha_worker.specs.Taken.{Took, TookAll}
+use Rattle.ha_worker.specs.Taken.{Took}
 use Rattle.ha_worker.specs.Views.{HasPut, list_of}
-use Rattle.ha_worker.proofs.CourseLemmas.{took_none, took_one, took_then, took_whole}
+use Rattle.ha_worker.proofs.CourseLemmas.{took_one, took_then, took_whole}
 
 -- ---- puts one behind the other
 
@@ -67,47 +67,16 @@ some_unput k c u v q = some_still k (c ∷ []) u u v (none_put k (c ∷ []) u) q
 
 -- ---- the lines that a cut holds
 
-mapped : (lines : List Text) (line : Text) → map cmd_of (lines ++ (line ∷ [])) ≡ map cmd_of lines ++ (cmd_of line ∷ [])
-mapped lines line = map-append cmd_of lines (line ∷ [])
-
--- one line more was taken, and put
+-- one line more was taken
 pub took_more : (old cut cut' line sliced : Text) (lines : List Text) → Took old lines cut → IsTaken cut line cut' → sliced ≡ line → Took old (lines ++ (sliced ∷ [])) cut'
 took_more old cut cut' line sliced lines p t e =
     let P : Text → Type 0 = λ z. Took old (lines ++ (z ∷ [])) cut' in subst P (sym e) (took_then old cut cut' lines (line ∷ []) p (took_one cut line cut' t))
 
-pub put_more : (k : ℕ) (lines : List Text) (line : Text) (u v w : Hand) → PutAll k (map cmd_of lines) u v → PutAll k (cmd_of line ∷ []) v w → PutAll k (map cmd_of (lines ++ (line ∷ []))) u w
-put_more k lines line u v w p q = subst (λ z. PutAll k z u w) (sym (mapped lines line)) (all_then k (map cmd_of lines) (cmd_of line ∷ []) u v w p q)
-
 whole_cmds : (old cut : Text) (lines : List Text) → Took old lines cut → map cmd_of (whole_lines old) ≡ map cmd_of lines ++ map cmd_of (whole_lines cut)
 whole_cmds old cut lines p = ap (map cmd_of) (took_whole old cut lines p) ∙ map-append cmd_of lines (whole_lines cut)
-
--- a line that was taken was not put
-pub some_taken : (k : ℕ) (old cut cut' line sliced : Text) (lines : List Text) (u v w : Hand) → Took old lines cut → IsTaken cut line cut' → sliced ≡ line
-    → PutAll k (map cmd_of lines) u v → PutSome k (cmd_of sliced ∷ []) v w → PutSome k (map cmd_of (whole_lines old)) u w
-some_taken k old cut cut' line sliced lines u v w p t e all some =
-    let q : PutSome k (map cmd_of lines ++ ((cmd_of sliced ∷ []) ++ map cmd_of (whole_lines cut'))) u w =
-    some_then k (map cmd_of lines) ((cmd_of sliced ∷ []) ++ map cmd_of (whole_lines cut')) u v w all (some_more k (cmd_of sliced ∷ []) (map cmd_of (whole_lines cut')) v w some) in
-    subst (λ z. PutSome k z u w)
-    (sym (whole_cmds old cut lines p ∙ ap (λ (z : List Text). map cmd_of lines ++ map cmd_of z) (t.whole ∙ ap (λ (z : Text). z ∷ whole_lines cut') (sym e)))) q
 
 -- no further line was taken
 pub some_held : (k : ℕ) (old cut : Text) (lines : List Text) (u v : Hand) → Took old lines cut → PutAll k (map cmd_of lines) u v → PutSome k (map cmd_of (whole_lines old)) u v
 some_held k old cut lines u v p all =
     subst (λ z. PutSome k z u v) (sym (whole_cmds old cut lines p))
     (some_then k (map cmd_of lines) (map cmd_of (whole_lines cut)) u v v all (none_put k (map cmd_of (whole_lines cut)) v))
-
--- all whole lines were taken
-pub took_last : (k : ℕ) (old cut cut' : Text) (lines : List Text) (u v : Hand) → Took old lines cut → IsNone cut cut' → PutAll k (map cmd_of lines) u v → TookAll k old cut' u v
-took_last k old cut cut' lines u v p none all = record {
-  lines = lines;
-  took = (let P : List Text → Type 0 = λ z. Took old z cut' in subst P (append-nil lines) (took_then old cut cut' lines [] p (took_none cut cut' none)));
-  none = none.still;
-  put = all;
-}
-
--- all whole lines were put, and then no line
-pub took_still : (k : ℕ) (old new : Text) (u v w : Hand) → TookAll k old new u v → NoLine v w → TookAll k old new u w
-took_still k old new u v w t q = record { lines = t.lines; took = t.took; none = t.none; put = all_still k (map cmd_of t.lines) u v w t.put q }
-
-pub took_some : (k : ℕ) (old new : Text) (u v w : Hand) → TookAll k old new u v → NoLine v w → PutSome k (map cmd_of (whole_lines old)) u w
-took_some k old new u v w t q = some_still k (map cmd_of (whole_lines old)) u v w (some_held k old new t.lines u v t.took t.put) q

@@ -4,6 +4,7 @@
 mod end;
 mod ending;
 mod halt;
+mod lines;
 mod pieces;
 mod steps;
 mod turns;

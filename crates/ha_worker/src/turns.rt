@@ -9,8 +9,7 @@ ghost use Rattle.ha_worker.specs.Views.{HoldsRested, IsOne, Sits, Takes};
 ghost use Rattle.ha_worker.specs.Puts.{NoLine, PutAll, PutSome};
 
 use crate::halt::Halt;
-use bus_pass::{Pass, Turn};
-use bus_turn::Bus;
+use bus_pass::{Held, Pass, Turn};
 use ha_io::{Keeper, Sink};
 use ha_model::{Cmd, Core};
 use std::alloc::Global;
@@ -32,7 +31,7 @@ pub(crate) fn take_rested<C: Core + Drop, K: Sink, Q: Keeper, W: Wait>(
     turn: &Turn<C, K, Q>,
     pass: &mut Pass<C, K, Q>,
     id: u32,
-) -> Option<Bus<C, K, Q>>
+) -> Option<Held<C, K, Q>>
     requires turn { IsPassOf turn.now pass.old }
     requires one { IsOne id (view pass.old) }
     ensures turn { IsPassOf turn.now pass.new }

@@ -11,12 +11,14 @@ ghost use Rattle.ha_worker.specs.Courses.{most_bytes, source_of};
 ghost use Rattle.ha_worker.specs.Ends.{ended_by, Halts, Notes};
 ghost use Rattle.ha_worker.specs.Views.{IsFresh, Sits, Takes};
 ghost use Rattle.ha_worker.specs.Puts.{NoLine, PutAll, PutSome};
+ghost use Rattle.ha_worker.specs.Read.{AreOpen};
 ghost use Rattle.ha_worker.specs.Taken.{AtBound, Fed, FedSome, TookAll, course_of, rest_by};
 ghost use Rattle.ha_worker.specs.Worked.{Worked};
 
 use crate::end::WorkerEnd;
 use crate::ending::Ending;
 use crate::halt::Halt;
+use crate::lines::read_lines;
 use crate::pieces::{NoPiece, has_more, pull};
 use crate::turns::{put_held, settle, unread};
 use bus_pass::{Pass, Turn};
@@ -25,6 +27,7 @@ use ha_io::{Gate, Keeper, Sink, Source};
 use ha_model::{Cmd, Core};
 use ha_text::LineCut;
 use std::alloc::Global;
+use std::collections::VecDeque;
 use std::sync::Wait;
 
 /// The bytes that one read asks for at most.
@@ -78,10 +81,11 @@ pub struct Worker<S: Source, C: Core + Drop, K: Sink, Q: Keeper> {
 }
 
 impl<S: Source, C: Core + Drop, K: Sink, Q: Keeper> Worker<S, C, K, Q> {
-    /// Reads its source to its end and puts each line, in order: a read is made while others may hold the bus, and the gate is called
-    /// before each line. In each turn it puts one step, where its source is not rested, else the line; what a line began is stepped before
-    /// the next piece of the source is asked for. A failed read puts Lost, more than 67,108,864 bytes put TooLong; a begun line is then
-    /// dropped. A first fault of the bus ends it, and so does want of memory, of which it tells the bus.
+    /// Reads its source to its end and puts each line, in order. A piece of at most 65,536 bytes is read, with the commands of its lines, and
+    /// the gate is called for each of them, while others may hold the bus. Then it waits for the floor, and puts them: in each turn one step,
+    /// where its source is not rested, else the line. What a line began is stepped before the next piece is asked for. A failed read puts
+    /// Lost, more than 67,108,864 bytes put TooLong; a begun line is then dropped. A first fault of the bus ends it, and so does want of
+    /// memory, of which it tells the bus.
     pub fn work<W: Wait, G: Gate>(
         &mut self,
         rt: &W,
@@ -158,7 +162,7 @@ impl<S: Source, C: Core + Drop, K: Sink, Q: Keeper> Worker<S, C, K, Q> {
         Ok(read_past(&mut self.source))
     }
 
-    /// Puts each whole line that is held, and then the steps that the last one began.
+    /// Reads the commands of all whole lines that are held, passes the gate with each of them, and puts them, with the steps that they begin.
     fn put_piece<W: Wait, G: Gate>(
         &mut self,
         rt: &W,
@@ -178,47 +182,83 @@ impl<S: Source, C: Core + Drop, K: Sink, Q: Keeper> Worker<S, C, K, Q> {
         ensures some { OnErr result (PutSome self.old.id (map cmd_of (whole_lines cut.old)) (view self.old.pass) (view self.new.pass)) }
         ensures halt { IfErr result (λ halt. Halts halt (view self.new.pass).noted) }
     {
-        match self.put_lines(rt, alloc, turn, gate, cut) {
+        let Ok(cmds) = read_lines(alloc, cut) else {
+            return Err(Halt::Memory);
+        };
+        if cmds.is_empty() {
+            return Ok(());
+        }
+        self.pass_gate(gate, cmds.len());
+        self.put_read(rt, alloc, turn, cmds)
+    }
+
+    /// Passes the gate with so many lines.
+    fn pass_gate<G: Gate>(&self, gate: &G, count: usize) {
+        for at in 0..count {
+            gate.before(self.id, self.next.saturating_add(at as u64));
+        }
+    }
+
+    /// Puts the lines with these commands while it has the floor, and then the steps that the last one began.
+    fn put_read<W: Wait>(
+        &mut self,
+        rt: &W,
+        alloc: Global,
+        turn: &Turn<C, K, Q>,
+        cmds: VecDeque<Cmd>,
+    ) -> Result<(), Halt>
+        requires turn { IsPassOf turn.now self.old.pass }
+        requires known { self.old.id < 16 }
+        requires takes { Takes self.old.next self.old.id (view self.old.pass) }
+        requires open { AreOpen cmds.items }
+        ensures turn { IsPassOf turn.now self.new.pass }
+        ensures same { (self.new.id ≡ self.old.id) × (self.new.source ≡ self.old.source) × (self.new.end ≡ self.old.end) }
+        ensures sits { Sits self.new.next self.old.id (view self.new.pass) }
+        ensures ok { OnOk result (PutAll self.old.id cmds.items (view self.old.pass) (view self.new.pass)) }
+        ensures takes { OnOk result (Takes self.new.next self.old.id (view self.new.pass)) }
+        ensures some { OnErr result (PutSome self.old.id cmds.items (view self.old.pass) (view self.new.pass)) }
+        ensures halt { IfErr result (λ halt. Halts halt (view self.new.pass).noted) }
+    {
+        let _floor = turn.floor(rt);
+        match self.put_cmds(rt, alloc, turn, cmds) {
             Ok(true) => settle(rt, alloc, turn, &mut self.pass, self.id),
             Ok(false) => Ok(()),
             Err(halt) => Err(halt),
         }
     }
 
-    /// Puts each whole line that is held. Gives whether another turn is due before the next read.
-    fn put_lines<W: Wait, G: Gate>(
+    /// Puts the lines with these commands, in order. Gives whether another turn is due before the next read.
+    fn put_cmds<W: Wait>(
         &mut self,
         rt: &W,
         alloc: Global,
         turn: &Turn<C, K, Q>,
-        gate: &G,
-        cut: &mut LineCut,
+        cmds: VecDeque<Cmd>,
     ) -> Result<bool, Halt>
         requires turn { IsPassOf turn.now self.old.pass }
         requires known { self.old.id < 16 }
         requires takes { Takes self.old.next self.old.id (view self.old.pass) }
+        requires open { AreOpen cmds.items }
         ensures turn { IsPassOf turn.now self.new.pass }
         ensures same { (self.new.id ≡ self.old.id) × (self.new.source ≡ self.old.source) × (self.new.end ≡ self.old.end) }
         ensures sits { Sits self.new.next self.old.id (view self.new.pass) }
-        ensures ok { OnOk result (TookAll self.old.id cut.old cut.new (view self.old.pass) (view self.new.pass)) }
+        ensures ok { OnOk result (PutAll self.old.id cmds.items (view self.old.pass) (view self.new.pass)) }
         ensures takes { OnOk result (Takes self.new.next self.old.id (view self.new.pass)) }
-        ensures some { OnErr result (PutSome self.old.id (map cmd_of (whole_lines cut.old)) (view self.old.pass) (view self.new.pass)) }
+        ensures some { OnErr result (PutSome self.old.id cmds.items (view self.old.pass) (view self.new.pass)) }
         ensures halt { IfErr result (λ halt. Halts halt (view self.new.pass).noted) }
     {
+        let mut cmds = cmds;
         let mut is_due = false;
-        'lines: loop {
-            match cut.take() {
-                Ok(Some(line)) => match self.put_line(rt, alloc, turn, gate, line.as_slice()) {
-                    Ok(due) => is_due = due,
-                    Err(halt) => return Err(halt),
-                },
-                Ok(None) => return Ok(is_due),
-                Err(_) => return Err(Halt::Memory),
+        'cmds: while let Some(cmd) = cmds.pop_front() {
+            match self.put_one(rt, alloc, turn, cmd) {
+                Ok(due) => is_due = due,
+                Err(halt) => return Err(halt),
             }
         }
+        Ok(is_due)
     }
 
-    /// Puts one line that was read.
+    /// Puts one line that was read, behind the gate.
     fn put_line<W: Wait, G: Gate>(
         &mut self,
         rt: &W,
@@ -244,7 +284,7 @@ impl<S: Source, C: Core + Drop, K: Sink, Q: Keeper> Worker<S, C, K, Q> {
         }
     }
 
-    /// Puts a line with this command, behind the gate.
+    /// Puts a line with this command, behind the gate, while it has the floor.
     fn put_cmd<W: Wait, G: Gate>(
         &mut self,
         rt: &W,
@@ -266,6 +306,30 @@ impl<S: Source, C: Core + Drop, K: Sink, Q: Keeper> Worker<S, C, K, Q> {
         ensures halt { IfErr result (λ halt. Halts halt (view self.new.pass).noted) }
     {
         gate.before(self.id, self.next);
+        let _floor = turn.floor(rt);
+        self.put_one(rt, alloc, turn, cmd)
+    }
+
+    /// Puts a line with this command.
+    fn put_one<W: Wait>(
+        &mut self,
+        rt: &W,
+        alloc: Global,
+        turn: &Turn<C, K, Q>,
+        cmd: Cmd,
+    ) -> Result<bool, Halt>
+        requires turn { IsPassOf turn.now self.old.pass }
+        requires known { self.old.id < 16 }
+        requires takes { Takes self.old.next self.old.id (view self.old.pass) }
+        requires fair { (j : Journal) → IsFair j (put_as j cmd) }
+        ensures turn { IsPassOf turn.now self.new.pass }
+        ensures same { (self.new.id ≡ self.old.id) × (self.new.source ≡ self.old.source) × (self.new.end ≡ self.old.end) }
+        ensures sits { Sits self.new.next self.old.id (view self.new.pass) }
+        ensures ok { OnOk result (PutAll self.old.id (cmd ∷ []) (view self.old.pass) (view self.new.pass)) }
+        ensures takes { OnOk result (shuts_source cmd ≡ false → Takes self.new.next self.old.id (view self.new.pass)) }
+        ensures some { OnErr result (PutSome self.old.id (cmd ∷ []) (view self.old.pass) (view self.new.pass)) }
+        ensures halt { IfErr result (λ halt. Halts halt (view self.new.pass).noted) }
+    {
         let mut held = Some(cmd);
         put_held(
             rt,

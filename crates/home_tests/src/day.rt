@@ -238,6 +238,24 @@ pub fn run_sources<R: Abort + Threads + Wait + Sync + Alloc<A = Global>, G: Gate
     run_files(rt, words.as_slice(), files, &PLAIN, gate)
 }
 
+/// Whether the trace of a run is that of a lawful journal, which gives the same calls and errors.
+pub fn replays<R: Abort + Threads + Wait + Sync + Alloc<A = Global>>(
+    rt: &R,
+    run: &Outcome<MemPlace, MemKeeper>,
+) -> Result<bool, AllocError> {
+    let Some(trace) = &run.trace else {
+        return Ok(false);
+    };
+    let mut files = Vec::new(rt.alloc());
+    files.push(file(rt.alloc(), "t", trace.bytes(), &[])?)?;
+    let outcome = run_files(rt, &["replay", "t"], files, &PLAIN, &OpenGate::make())?;
+    Ok(
+        matches!(outcome.status, Status::Ok)
+            && outcome.out.bytes() == run.out.bytes()
+            && outcome.err.bytes() == run.err.bytes(),
+    )
+}
+
 /// Runs the day.
 pub fn run<R: Abort + Threads + Wait + Sync + Alloc<A = Global>>(
     rt: &R,

@@ -1,8 +1,9 @@
 //! Several sources at once, and the trace.
-use crate::day::{Lines, run_sources};
+use crate::day::{Lines, replays, run_sources};
 use ha_io::{MeetGate, OpenGate};
 use ha_model::Entry;
 use ha_status::Status;
+use std::alloc::{AllocError, Global};
 use std::test::Fail;
 
 #[test]
@@ -112,5 +113,49 @@ fn sixteen_sources_have_each_their_lines_in_order(rt: HostRuntime) -> Result<(),
     for source in 0..16 {
         assert_eq!(rt; lines_in_order(outcome.journal.as_slice(), source), Some(3));
     }
+    Ok(())
+}
+
+/// 10,000 lines: reports, and an event and a moment in each twenty.
+fn many_lines(alloc: Global) -> Result<Vec<&'static str>, AllocError> {
+    let mut lines = Vec::new(alloc);
+    for _ in 0..500u32 {
+        for _ in 0..9u32 {
+            lines.push("r light.x on")?;
+            lines.push("r light.x off")?;
+        }
+        lines.push("e go")?;
+        lines.push("m 20:00:01")?;
+    }
+    Ok(lines)
+}
+
+/// Whether the journal has so many lines of each of the sixteen sources, each once and in order.
+fn has_all_lines(journal: &[Entry], count: u64) -> bool {
+    for source in 0..16 {
+        if lines_in_order(journal, source) != Some(count) {
+            return false;
+        }
+    }
+    true
+}
+
+/// The order of the sources is not told, so the run is judged behind it: its trace is that of a lawful journal, with the same calls.
+#[test]
+fn sixteen_sources_of_ten_thousand_lines(rt: HostRuntime) -> Result<(), Fail> {
+    let lines = many_lines(rt.alloc())?;
+    let mut sources = Vec::new(rt.alloc());
+    for name in NAMES {
+        sources.push(Lines {
+            name,
+            lines: lines.as_slice(),
+            failing_reads: &[],
+        })?;
+    }
+    let words = ["--trace", "t"];
+    let outcome = run_sources(&rt, BUSY, &words, sources.as_slice(), &OpenGate::make())?;
+    assert!(rt; matches!(outcome.status, Status::Ok));
+    assert!(rt; has_all_lines(outcome.journal.as_slice(), 10_000));
+    assert!(rt; replays(&rt, &outcome)?);
     Ok(())
 }

@@ -1,0 +1,57 @@
+-- The commands that are read of the lines that a cut holds, and those that are put of them.
+use Rattle.std.proofs.Common.{◌≡◌, ◌∙◌, ℕ, List, [], ◌∷◌, ◌++◌, ap, sym, subst, append_assoc, map}
+use Rattle.std.proofs.lemmas.List.{append-nil, map-append}
+use Rattle.ha_model.specs.declared.journal.Cmd.{Cmd}
+use Rattle.ha_model.specs.Words.{Text}
+use Rattle.ha_text.specs.Lines.{IsNone, whole_lines}
+use Rattle.flow_line.specs.Command.{cmd_of}
+use Rattle.bus_pass.specs.declared.hand.Hand.{Hand}
+use Rattle.ha_worker.specs.Puts.{PutAll, PutSome}
+use Rattle.ha_worker.specs.Read.{AreOpen, AreRead, IsOpen}
+use Rattle.ha_worker.specs.Taken.{Took, TookAll}
+use Rattle.ha_worker.proofs.CourseLemmas.{took_none, took_then, took_whole}
+use Rattle.ha_worker.proofs.LineLemmas.{all_then, some_more, some_then}
+
+-- ---- the commands are read from the first line on
+
+-- one command more may be put
+pub open_more : (cs : List Cmd) (c : Cmd) → AreOpen cs → IsOpen c → AreOpen (cs ++ (c ∷ []))
+open_more [] c h o = (o, tt)
+open_more (x ∷ cs) c h o = (h.0, open_more cs c h.1 o)
+
+-- one command more was read
+pub cmds_more : (lines : List Text) (line : Text) (cmds : List Cmd) → cmds ≡ map cmd_of lines → cmds ++ (cmd_of line ∷ []) ≡ map cmd_of (lines ++ (line ∷ []))
+cmds_more lines line cmds is = ap (λ (z : List Cmd). z ++ (cmd_of line ∷ [])) is ∙ sym (map-append cmd_of lines (line ∷ []))
+
+-- no further line was there
+pub read_all : (old cut cut' : Text) (lines : List Text) (cmds : List Cmd) → Took old lines cut → cmds ≡ map cmd_of lines → IsNone cut cut' → AreRead old cmds cut'
+read_all old cut cut' lines cmds p is none = record {
+  lines = lines;
+  took = (let P : List Text → Type 0 = λ z. Took old z cut' in subst P (append-nil lines) (took_then old cut cut' lines [] p (took_none cut cut' none)));
+  none = none.still;
+  cmds_are = is;
+}
+
+-- ---- the commands are put from the first one on
+
+-- one command more was put
+pub put_next : (k : ℕ) (all put rest : List Cmd) (c : Cmd) (u v w : Hand) → all ≡ put ++ c ∷ rest → PutAll k put u v → PutAll k (c ∷ []) v w
+    → (all ≡ (put ++ (c ∷ [])) ++ rest) × PutAll k (put ++ (c ∷ [])) u w
+put_next k all put rest c u v w parts p q = (parts ∙ sym (append_assoc put (c ∷ []) rest), all_then k put (c ∷ []) u v w p q)
+
+-- it was not put
+pub some_next : (k : ℕ) (all put rest : List Cmd) (c : Cmd) (u v w : Hand) → all ≡ put ++ c ∷ rest → PutAll k put u v → PutSome k (c ∷ []) v w → PutSome k all u w
+some_next k all put rest c u v w parts p q = subst (λ z. PutSome k z u w) (sym parts) (some_then k put (c ∷ rest) u v w p (some_more k (c ∷ []) rest v w q))
+
+-- none is left
+pub put_end : (k : ℕ) (all put rest : List Cmd) (u v : Hand) → all ≡ put ++ rest → rest ≡ [] → PutAll k put u v → PutAll k all u v
+put_end k all put rest u v parts none p = subst (λ z. PutAll k z u v) (sym (parts ∙ ap (λ (z : List Cmd). put ++ z) none ∙ append-nil put)) p
+
+-- all commands that were read were put
+pub all_read : (k : ℕ) (old new : Text) (cmds : List Cmd) (u v : Hand) → AreRead old cmds new → PutAll k cmds u v → TookAll k old new u v
+all_read k old new cmds u v r all = record { lines = r.lines; took = r.took; none = r.none; put = subst (λ z. PutAll k z u v) r.cmds_are all }
+
+-- some of them were
+pub some_read : (k : ℕ) (old new : Text) (cmds : List Cmd) (u v : Hand) → AreRead old cmds new → PutSome k cmds u v → PutSome k (map cmd_of (whole_lines old)) u v
+some_read k old new cmds u v r some =
+    subst (λ z. PutSome k z u v) (r.cmds_are ∙ sym (ap (map cmd_of) (took_whole old new r.lines r.took ∙ ap (λ (z : List Text). r.lines ++ z) r.none ∙ append-nil r.lines))) some

@@ -1,0 +1,10 @@
+use Rattle.std.proofs.Common.{◌∙◌, ap}
+use Rattle.ha_model.specs.Entries.{shuts_source}
+use Rattle.ha_worker.proofs.CmdLemmas.{read_open}
+use Rattle.ha_worker.proofs.ReadLemmas.{open_more}
+use Rattle.ha_worker.proofs.lines.push_cmd.Goals as goal
+
+pub returns-clause-open : goal.returns-clause-open
+returns-clause-open c =
+    rw c.in_ok-push_back.ensures.items
+    (open_more c.args.cmds.now.items c.in_ok-cmd.cmd c.requires.open (ap shuts_source c.in_ok-cmd.ensures.exact ∙ read_open c.args.line.now, c.in_ok-cmd.ensures.fair))

@@ -1,0 +1,33 @@
+//! The commands of the lines that are held.
+ghost use Rattle.std.specs.Prelude.{◌≡◌, ◌++◌, ◌∷◌, [], IfOk, OnOk};
+ghost use Rattle.flow_line.specs.Command.{cmd_of};
+ghost use Rattle.ha_worker.specs.Read.{AreOpen, AreRead};
+
+use flow_line::read_cmd;
+use ha_model::Cmd;
+use ha_text::LineCut;
+use std::alloc::{AllocError, Global};
+use std::collections::VecDeque;
+
+/// Reads the command of a line, and puts it behind these.
+fn push_cmd(alloc: Global, line: &[u8], cmds: &mut VecDeque<Cmd>) -> Result<(), AllocError>
+    requires open { AreOpen cmds.old.items }
+    ensures cmds { OnOk result (cmds.new.items ≡ cmds.old.items ++ cmd_of line.now ∷ []) }
+    ensures open { OnOk result (AreOpen cmds.new.items) }
+{
+    let cmd = read_cmd(alloc, line)?;
+    cmds.push_back(cmd)?;
+    Ok(())
+}
+
+/// The commands of all whole lines that are held, in order.
+pub(crate) fn read_lines(alloc: Global, cut: &mut LineCut) -> Result<VecDeque<Cmd>, AllocError>
+    ensures read { IfOk result (λ cmds. AreRead cut.old cmds.items cut.new) }
+    ensures open { IfOk result (λ cmds. AreOpen cmds.items) }
+{
+    let mut cmds = VecDeque::new(alloc);
+    'lines: while let Some(line) = cut.take()? {
+        push_cmd(alloc, line.as_slice(), &mut cmds)?;
+    }
+    Ok(cmds)
+}
