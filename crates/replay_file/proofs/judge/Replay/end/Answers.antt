@@ -1,4 +1,5 @@
 use Rattle.std.proofs.Common.{◌∙◌, ap, length, refl, sym}
+use Rattle.std.specs.Prelude.{◌==◌}
 use Rattle.ha_model.proofs.RecordGrowth.{true-false}
 use Rattle.replay_file.proofs.TakeLemmas.{empty_is, finished, full_at_end, read_failed, refused_at_end, too_long}
 use Rattle.replay_file.proofs.judge.Replay.end.Goals as goal
@@ -7,6 +8,13 @@ pub returns-then-is_empty-clause-judged : goal.returns-then-is_empty-clause-judg
 returns-then-is_empty-clause-judged g c = λ text o o' e e' at.
     let s = c.args.self.now in
     finished text c.args.end (g.E.Core.entries s.core) (g.E.Core.runs s.core) s.ended c.args.left.now o o' e e' at c.in-Whole.is c.if-self.true (empty_is c.args.left.now c.is_empty.result c.is_empty.ensures c.if-is_empty.true)
+
+pub returns-then-self-clause-judged : goal.returns-then-self-clause-judged
+returns-then-self-clause-judged g c = λ text o o' e e' at.
+    let s = c.args.self.now in
+    refused_at_end text c.args.end (g.E.Core.entries s.core) (g.E.Core.runs s.core) s.ended c.args.left.now o o' e e' at s.lines c.in-Whole.is
+    (λ closed none. true-false (sym (c.is_empty.ensures ∙ (λ i. length (none i) == 0)) ∙ c.if-is_empty.false)) (λ running. absurd (true-false (sym c.if-self.true ∙ running))) c.requires.no_line
+    c.requires.ready.counted c.status_of.result (c.status_of.ensures.refused refl)
 
 pub returns-then-journal-eq-MOST_ENTRIES-clause-judged : goal.returns-then-journal-eq-MOST_ENTRIES-clause-judged
 returns-then-journal-eq-MOST_ENTRIES-clause-judged g c = λ text o o' e e' at.
