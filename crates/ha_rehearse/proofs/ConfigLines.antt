@@ -279,7 +279,7 @@ begins1 = plain_line found0 1 0 97 true (codes "utomation:") from2 refl refl ref
 
 keyed1 : plain_key found0 1 0 (codes "automation:") (colon_at false 0 (codes "automation:")) from2 ≡ value_at (found0 ++ key 1 0 (codes "automation") ∷ []) 1 11 (codes "") from2
 unfolding text_end is_utf8 chars encode
-keyed1 = key_line found0 1 0 from2 (codes "automation:") 10 (codes "automation") (codes "") colon1 refl refl refl refl refl
+keyed1 = key_line found0 1 0 from2 (codes "automation:") 10 (codes "automation") (codes "") colon1 refl refl refl refl
 
 value1 : value_at (found0 ++ key 1 0 (codes "automation") ∷ []) 1 11 (codes "") from2 ≡ found found1 from2
 unfolding nothing_left
@@ -297,7 +297,7 @@ begins2 = dash_line found1 2 2 true (codes "alias: Even") from3 ∙ plain_line (
 
 keyed2 : plain_key (found1 ++ dash 2 2 ∷ []) 2 4 (codes "alias: Even") (colon_at false 0 (codes "alias: Even")) from3 ≡ value_at ((found1 ++ dash 2 2 ∷ []) ++ key 2 4 (codes "alias") ∷ []) 2 10 (codes " Even") from3
 unfolding text_end is_utf8 chars encode
-keyed2 = key_line (found1 ++ dash 2 2 ∷ []) 2 4 from3 (codes "alias: Even") 5 (codes "alias") (codes " Even") colon2 refl refl refl refl refl
+keyed2 = key_line (found1 ++ dash 2 2 ∷ []) 2 4 from3 (codes "alias: Even") 5 (codes "alias") (codes " Even") colon2 refl refl refl refl
 
 valued2 : value_at ((found1 ++ dash 2 2 ∷ []) ++ key 2 4 (codes "alias") ∷ []) 2 10 (codes " Even") from3 ≡ leaf_at ((found1 ++ dash 2 2 ∷ []) ++ key 2 4 (codes "alias") ∷ []) 2 false 11 (codes "Even") from3
 unfolding nothing_left without_blanks
@@ -319,7 +319,7 @@ begins3 = plain_line found2 3 4 116 true (codes "riggers:") from4 refl refl refl
 
 keyed3 : plain_key found2 3 4 (codes "triggers:") (colon_at false 0 (codes "triggers:")) from4 ≡ value_at (found2 ++ key 3 4 (codes "triggers") ∷ []) 3 13 (codes "") from4
 unfolding text_end is_utf8 chars encode
-keyed3 = key_line found2 3 4 from4 (codes "triggers:") 8 (codes "triggers") (codes "") colon3 refl refl refl refl refl
+keyed3 = key_line found2 3 4 from4 (codes "triggers:") 8 (codes "triggers") (codes "") colon3 refl refl refl refl
 
 value3 : value_at (found2 ++ key 3 4 (codes "triggers") ∷ []) 3 13 (codes "") from4 ≡ found found3 from4
 unfolding nothing_left
@@ -337,7 +337,7 @@ begins4 = dash_line found3 4 6 true (codes "trigger: numeric_state") from5 ∙ p
 
 keyed4 : plain_key (found3 ++ dash 4 6 ∷ []) 4 8 (codes "trigger: numeric_state") (colon_at false 0 (codes "trigger: numeric_state")) from5 ≡ value_at ((found3 ++ dash 4 6 ∷ []) ++ key 4 8 (codes "trigger") ∷ []) 4 16 (codes " numeric_state") from5
 unfolding text_end is_utf8 chars encode
-keyed4 = key_line (found3 ++ dash 4 6 ∷ []) 4 8 from5 (codes "trigger: numeric_state") 7 (codes "trigger") (codes " numeric_state") colon4 refl refl refl refl refl
+keyed4 = key_line (found3 ++ dash 4 6 ∷ []) 4 8 from5 (codes "trigger: numeric_state") 7 (codes "trigger") (codes " numeric_state") colon4 refl refl refl refl
 
 valued4 : value_at ((found3 ++ dash 4 6 ∷ []) ++ key 4 8 (codes "trigger") ∷ []) 4 16 (codes " numeric_state") from5 ≡ leaf_at ((found3 ++ dash 4 6 ∷ []) ++ key 4 8 (codes "trigger") ∷ []) 4 false 17 (codes "numeric_state") from5
 unfolding nothing_left without_blanks
@@ -359,7 +359,7 @@ begins5 = plain_line found4 5 8 101 true (codes "ntity_id: sensor.s0") from6 ref
 
 keyed5 : plain_key found4 5 8 (codes "entity_id: sensor.s0") (colon_at false 0 (codes "entity_id: sensor.s0")) from6 ≡ value_at (found4 ++ key 5 8 (codes "entity_id") ∷ []) 5 18 (codes " sensor.s0") from6
 unfolding text_end is_utf8 chars encode
-keyed5 = key_line found4 5 8 from6 (codes "entity_id: sensor.s0") 9 (codes "entity_id") (codes " sensor.s0") colon5 refl refl refl refl refl
+keyed5 = key_line found4 5 8 from6 (codes "entity_id: sensor.s0") 9 (codes "entity_id") (codes " sensor.s0") colon5 refl refl refl refl
 
 valued5 : value_at (found4 ++ key 5 8 (codes "entity_id") ∷ []) 5 18 (codes " sensor.s0") from6 ≡ leaf_at (found4 ++ key 5 8 (codes "entity_id") ∷ []) 5 false 19 (codes "sensor.s0") from6
 unfolding nothing_left without_blanks
@@ -381,7 +381,7 @@ begins6 = plain_line found5 6 8 97 true (codes "bove: 50") from7 refl refl refl 
 
 keyed6 : plain_key found5 6 8 (codes "above: 50") (colon_at false 0 (codes "above: 50")) from7 ≡ value_at (found5 ++ key 6 8 (codes "above") ∷ []) 6 14 (codes " 50") from7
 unfolding text_end is_utf8 chars encode
-keyed6 = key_line found5 6 8 from7 (codes "above: 50") 5 (codes "above") (codes " 50") colon6 refl refl refl refl refl
+keyed6 = key_line found5 6 8 from7 (codes "above: 50") 5 (codes "above") (codes " 50") colon6 refl refl refl refl
 
 valued6 : value_at (found5 ++ key 6 8 (codes "above") ∷ []) 6 14 (codes " 50") from7 ≡ leaf_at (found5 ++ key 6 8 (codes "above") ∷ []) 6 false 15 (codes "50") from7
 unfolding nothing_left without_blanks
@@ -403,7 +403,7 @@ begins7 = plain_line found6 7 4 97 true (codes "ctions:") from8 refl refl refl r
 
 keyed7 : plain_key found6 7 4 (codes "actions:") (colon_at false 0 (codes "actions:")) from8 ≡ value_at (found6 ++ key 7 4 (codes "actions") ∷ []) 7 12 (codes "") from8
 unfolding text_end is_utf8 chars encode
-keyed7 = key_line found6 7 4 from8 (codes "actions:") 7 (codes "actions") (codes "") colon7 refl refl refl refl refl
+keyed7 = key_line found6 7 4 from8 (codes "actions:") 7 (codes "actions") (codes "") colon7 refl refl refl refl
 
 value7 : value_at (found6 ++ key 7 4 (codes "actions") ∷ []) 7 12 (codes "") from8 ≡ found found7 from8
 unfolding nothing_left
@@ -421,7 +421,7 @@ begins8 = dash_line found7 8 6 true (codes "action: fan.turn_on") from9 ∙ plai
 
 keyed8 : plain_key (found7 ++ dash 8 6 ∷ []) 8 8 (codes "action: fan.turn_on") (colon_at false 0 (codes "action: fan.turn_on")) from9 ≡ value_at ((found7 ++ dash 8 6 ∷ []) ++ key 8 8 (codes "action") ∷ []) 8 15 (codes " fan.turn_on") from9
 unfolding text_end is_utf8 chars encode
-keyed8 = key_line (found7 ++ dash 8 6 ∷ []) 8 8 from9 (codes "action: fan.turn_on") 6 (codes "action") (codes " fan.turn_on") colon8 refl refl refl refl refl
+keyed8 = key_line (found7 ++ dash 8 6 ∷ []) 8 8 from9 (codes "action: fan.turn_on") 6 (codes "action") (codes " fan.turn_on") colon8 refl refl refl refl
 
 valued8 : value_at ((found7 ++ dash 8 6 ∷ []) ++ key 8 8 (codes "action") ∷ []) 8 15 (codes " fan.turn_on") from9 ≡ leaf_at ((found7 ++ dash 8 6 ∷ []) ++ key 8 8 (codes "action") ∷ []) 8 false 16 (codes "fan.turn_on") from9
 unfolding nothing_left without_blanks
@@ -443,7 +443,7 @@ begins9 = plain_line found8 9 8 116 true (codes "arget:") from10 refl refl refl 
 
 keyed9 : plain_key found8 9 8 (codes "target:") (colon_at false 0 (codes "target:")) from10 ≡ value_at (found8 ++ key 9 8 (codes "target") ∷ []) 9 15 (codes "") from10
 unfolding text_end is_utf8 chars encode
-keyed9 = key_line found8 9 8 from10 (codes "target:") 6 (codes "target") (codes "") colon9 refl refl refl refl refl
+keyed9 = key_line found8 9 8 from10 (codes "target:") 6 (codes "target") (codes "") colon9 refl refl refl refl
 
 value9 : value_at (found8 ++ key 9 8 (codes "target") ∷ []) 9 15 (codes "") from10 ≡ found found9 from10
 unfolding nothing_left
@@ -461,7 +461,7 @@ begins10 = plain_line found9 10 10 101 true (codes "ntity_id: fan.f0") from11 re
 
 keyed10 : plain_key found9 10 10 (codes "entity_id: fan.f0") (colon_at false 0 (codes "entity_id: fan.f0")) from11 ≡ value_at (found9 ++ key 10 10 (codes "entity_id") ∷ []) 10 20 (codes " fan.f0") from11
 unfolding text_end is_utf8 chars encode
-keyed10 = key_line found9 10 10 from11 (codes "entity_id: fan.f0") 9 (codes "entity_id") (codes " fan.f0") colon10 refl refl refl refl refl
+keyed10 = key_line found9 10 10 from11 (codes "entity_id: fan.f0") 9 (codes "entity_id") (codes " fan.f0") colon10 refl refl refl refl
 
 valued10 : value_at (found9 ++ key 10 10 (codes "entity_id") ∷ []) 10 20 (codes " fan.f0") from11 ≡ leaf_at (found9 ++ key 10 10 (codes "entity_id") ∷ []) 10 false 21 (codes "fan.f0") from11
 unfolding nothing_left without_blanks
@@ -483,7 +483,7 @@ begins11 = dash_line found10 11 6 true (codes "delay: 60") from12 ∙ plain_line
 
 keyed11 : plain_key (found10 ++ dash 11 6 ∷ []) 11 8 (codes "delay: 60") (colon_at false 0 (codes "delay: 60")) from12 ≡ value_at ((found10 ++ dash 11 6 ∷ []) ++ key 11 8 (codes "delay") ∷ []) 11 14 (codes " 60") from12
 unfolding text_end is_utf8 chars encode
-keyed11 = key_line (found10 ++ dash 11 6 ∷ []) 11 8 from12 (codes "delay: 60") 5 (codes "delay") (codes " 60") colon11 refl refl refl refl refl
+keyed11 = key_line (found10 ++ dash 11 6 ∷ []) 11 8 from12 (codes "delay: 60") 5 (codes "delay") (codes " 60") colon11 refl refl refl refl
 
 valued11 : value_at ((found10 ++ dash 11 6 ∷ []) ++ key 11 8 (codes "delay") ∷ []) 11 14 (codes " 60") from12 ≡ leaf_at ((found10 ++ dash 11 6 ∷ []) ++ key 11 8 (codes "delay") ∷ []) 11 false 15 (codes "60") from12
 unfolding nothing_left without_blanks
@@ -505,7 +505,7 @@ begins12 = dash_line found11 12 6 true (codes "action: fan.turn_off") from13 ∙
 
 keyed12 : plain_key (found11 ++ dash 12 6 ∷ []) 12 8 (codes "action: fan.turn_off") (colon_at false 0 (codes "action: fan.turn_off")) from13 ≡ value_at ((found11 ++ dash 12 6 ∷ []) ++ key 12 8 (codes "action") ∷ []) 12 15 (codes " fan.turn_off") from13
 unfolding text_end is_utf8 chars encode
-keyed12 = key_line (found11 ++ dash 12 6 ∷ []) 12 8 from13 (codes "action: fan.turn_off") 6 (codes "action") (codes " fan.turn_off") colon12 refl refl refl refl refl
+keyed12 = key_line (found11 ++ dash 12 6 ∷ []) 12 8 from13 (codes "action: fan.turn_off") 6 (codes "action") (codes " fan.turn_off") colon12 refl refl refl refl
 
 valued12 : value_at ((found11 ++ dash 12 6 ∷ []) ++ key 12 8 (codes "action") ∷ []) 12 15 (codes " fan.turn_off") from13 ≡ leaf_at ((found11 ++ dash 12 6 ∷ []) ++ key 12 8 (codes "action") ∷ []) 12 false 16 (codes "fan.turn_off") from13
 unfolding nothing_left without_blanks
@@ -527,7 +527,7 @@ begins13 = plain_line found12 13 8 116 true (codes "arget:") from14 refl refl re
 
 keyed13 : plain_key found12 13 8 (codes "target:") (colon_at false 0 (codes "target:")) from14 ≡ value_at (found12 ++ key 13 8 (codes "target") ∷ []) 13 15 (codes "") from14
 unfolding text_end is_utf8 chars encode
-keyed13 = key_line found12 13 8 from14 (codes "target:") 6 (codes "target") (codes "") colon13 refl refl refl refl refl
+keyed13 = key_line found12 13 8 from14 (codes "target:") 6 (codes "target") (codes "") colon13 refl refl refl refl
 
 value13 : value_at (found12 ++ key 13 8 (codes "target") ∷ []) 13 15 (codes "") from14 ≡ found found13 from14
 unfolding nothing_left
@@ -545,7 +545,7 @@ begins14 = plain_line found13 14 10 101 true (codes "ntity_id: fan.f0") from15 r
 
 keyed14 : plain_key found13 14 10 (codes "entity_id: fan.f0") (colon_at false 0 (codes "entity_id: fan.f0")) from15 ≡ value_at (found13 ++ key 14 10 (codes "entity_id") ∷ []) 14 20 (codes " fan.f0") from15
 unfolding text_end is_utf8 chars encode
-keyed14 = key_line found13 14 10 from15 (codes "entity_id: fan.f0") 9 (codes "entity_id") (codes " fan.f0") colon14 refl refl refl refl refl
+keyed14 = key_line found13 14 10 from15 (codes "entity_id: fan.f0") 9 (codes "entity_id") (codes " fan.f0") colon14 refl refl refl refl
 
 valued14 : value_at (found13 ++ key 14 10 (codes "entity_id") ∷ []) 14 20 (codes " fan.f0") from15 ≡ leaf_at (found13 ++ key 14 10 (codes "entity_id") ∷ []) 14 false 21 (codes "fan.f0") from15
 unfolding nothing_left without_blanks
@@ -567,7 +567,7 @@ begins15 = plain_line found14 15 4 109 true (codes "ode: restart") from16 refl r
 
 keyed15 : plain_key found14 15 4 (codes "mode: restart") (colon_at false 0 (codes "mode: restart")) from16 ≡ value_at (found14 ++ key 15 4 (codes "mode") ∷ []) 15 9 (codes " restart") from16
 unfolding text_end is_utf8 chars encode
-keyed15 = key_line found14 15 4 from16 (codes "mode: restart") 4 (codes "mode") (codes " restart") colon15 refl refl refl refl refl
+keyed15 = key_line found14 15 4 from16 (codes "mode: restart") 4 (codes "mode") (codes " restart") colon15 refl refl refl refl
 
 valued15 : value_at (found14 ++ key 15 4 (codes "mode") ∷ []) 15 9 (codes " restart") from16 ≡ leaf_at (found14 ++ key 15 4 (codes "mode") ∷ []) 15 false 10 (codes "restart") from16
 unfolding nothing_left without_blanks
@@ -589,7 +589,7 @@ begins16 = dash_line found15 16 2 true (codes "alias: Odd") from17 ∙ plain_lin
 
 keyed16 : plain_key (found15 ++ dash 16 2 ∷ []) 16 4 (codes "alias: Odd") (colon_at false 0 (codes "alias: Odd")) from17 ≡ value_at ((found15 ++ dash 16 2 ∷ []) ++ key 16 4 (codes "alias") ∷ []) 16 10 (codes " Odd") from17
 unfolding text_end is_utf8 chars encode
-keyed16 = key_line (found15 ++ dash 16 2 ∷ []) 16 4 from17 (codes "alias: Odd") 5 (codes "alias") (codes " Odd") colon16 refl refl refl refl refl
+keyed16 = key_line (found15 ++ dash 16 2 ∷ []) 16 4 from17 (codes "alias: Odd") 5 (codes "alias") (codes " Odd") colon16 refl refl refl refl
 
 valued16 : value_at ((found15 ++ dash 16 2 ∷ []) ++ key 16 4 (codes "alias") ∷ []) 16 10 (codes " Odd") from17 ≡ leaf_at ((found15 ++ dash 16 2 ∷ []) ++ key 16 4 (codes "alias") ∷ []) 16 false 11 (codes "Odd") from17
 unfolding nothing_left without_blanks
@@ -611,7 +611,7 @@ begins17 = plain_line found16 17 4 116 true (codes "riggers:") from18 refl refl 
 
 keyed17 : plain_key found16 17 4 (codes "triggers:") (colon_at false 0 (codes "triggers:")) from18 ≡ value_at (found16 ++ key 17 4 (codes "triggers") ∷ []) 17 13 (codes "") from18
 unfolding text_end is_utf8 chars encode
-keyed17 = key_line found16 17 4 from18 (codes "triggers:") 8 (codes "triggers") (codes "") colon17 refl refl refl refl refl
+keyed17 = key_line found16 17 4 from18 (codes "triggers:") 8 (codes "triggers") (codes "") colon17 refl refl refl refl
 
 value17 : value_at (found16 ++ key 17 4 (codes "triggers") ∷ []) 17 13 (codes "") from18 ≡ found found17 from18
 unfolding nothing_left
@@ -629,7 +629,7 @@ begins18 = dash_line found17 18 6 true (codes "trigger: state") from19 ∙ plain
 
 keyed18 : plain_key (found17 ++ dash 18 6 ∷ []) 18 8 (codes "trigger: state") (colon_at false 0 (codes "trigger: state")) from19 ≡ value_at ((found17 ++ dash 18 6 ∷ []) ++ key 18 8 (codes "trigger") ∷ []) 18 16 (codes " state") from19
 unfolding text_end is_utf8 chars encode
-keyed18 = key_line (found17 ++ dash 18 6 ∷ []) 18 8 from19 (codes "trigger: state") 7 (codes "trigger") (codes " state") colon18 refl refl refl refl refl
+keyed18 = key_line (found17 ++ dash 18 6 ∷ []) 18 8 from19 (codes "trigger: state") 7 (codes "trigger") (codes " state") colon18 refl refl refl refl
 
 valued18 : value_at ((found17 ++ dash 18 6 ∷ []) ++ key 18 8 (codes "trigger") ∷ []) 18 16 (codes " state") from19 ≡ leaf_at ((found17 ++ dash 18 6 ∷ []) ++ key 18 8 (codes "trigger") ∷ []) 18 false 17 (codes "state") from19
 unfolding nothing_left without_blanks
@@ -651,7 +651,7 @@ begins19 = plain_line found18 19 8 101 true (codes "ntity_id: sensor.s1") from20
 
 keyed19 : plain_key found18 19 8 (codes "entity_id: sensor.s1") (colon_at false 0 (codes "entity_id: sensor.s1")) from20 ≡ value_at (found18 ++ key 19 8 (codes "entity_id") ∷ []) 19 18 (codes " sensor.s1") from20
 unfolding text_end is_utf8 chars encode
-keyed19 = key_line found18 19 8 from20 (codes "entity_id: sensor.s1") 9 (codes "entity_id") (codes " sensor.s1") colon19 refl refl refl refl refl
+keyed19 = key_line found18 19 8 from20 (codes "entity_id: sensor.s1") 9 (codes "entity_id") (codes " sensor.s1") colon19 refl refl refl refl
 
 valued19 : value_at (found18 ++ key 19 8 (codes "entity_id") ∷ []) 19 18 (codes " sensor.s1") from20 ≡ leaf_at (found18 ++ key 19 8 (codes "entity_id") ∷ []) 19 false 19 (codes "sensor.s1") from20
 unfolding nothing_left without_blanks
@@ -673,7 +673,7 @@ begins20 = plain_line found19 20 4 97 true (codes "ctions:") from21 refl refl re
 
 keyed20 : plain_key found19 20 4 (codes "actions:") (colon_at false 0 (codes "actions:")) from21 ≡ value_at (found19 ++ key 20 4 (codes "actions") ∷ []) 20 12 (codes "") from21
 unfolding text_end is_utf8 chars encode
-keyed20 = key_line found19 20 4 from21 (codes "actions:") 7 (codes "actions") (codes "") colon20 refl refl refl refl refl
+keyed20 = key_line found19 20 4 from21 (codes "actions:") 7 (codes "actions") (codes "") colon20 refl refl refl refl
 
 value20 : value_at (found19 ++ key 20 4 (codes "actions") ∷ []) 20 12 (codes "") from21 ≡ found found20 from21
 unfolding nothing_left
@@ -691,7 +691,7 @@ begins21 = dash_line found20 21 6 true (codes "repeat:") from22 ∙ plain_line (
 
 keyed21 : plain_key (found20 ++ dash 21 6 ∷ []) 21 8 (codes "repeat:") (colon_at false 0 (codes "repeat:")) from22 ≡ value_at ((found20 ++ dash 21 6 ∷ []) ++ key 21 8 (codes "repeat") ∷ []) 21 15 (codes "") from22
 unfolding text_end is_utf8 chars encode
-keyed21 = key_line (found20 ++ dash 21 6 ∷ []) 21 8 from22 (codes "repeat:") 6 (codes "repeat") (codes "") colon21 refl refl refl refl refl
+keyed21 = key_line (found20 ++ dash 21 6 ∷ []) 21 8 from22 (codes "repeat:") 6 (codes "repeat") (codes "") colon21 refl refl refl refl
 
 value21 : value_at ((found20 ++ dash 21 6 ∷ []) ++ key 21 8 (codes "repeat") ∷ []) 21 15 (codes "") from22 ≡ found found21 from22
 unfolding nothing_left
@@ -709,7 +709,7 @@ begins22 = plain_line found21 22 10 99 true (codes "ount: 2") from23 refl refl r
 
 keyed22 : plain_key found21 22 10 (codes "count: 2") (colon_at false 0 (codes "count: 2")) from23 ≡ value_at (found21 ++ key 22 10 (codes "count") ∷ []) 22 16 (codes " 2") from23
 unfolding text_end is_utf8 chars encode
-keyed22 = key_line found21 22 10 from23 (codes "count: 2") 5 (codes "count") (codes " 2") colon22 refl refl refl refl refl
+keyed22 = key_line found21 22 10 from23 (codes "count: 2") 5 (codes "count") (codes " 2") colon22 refl refl refl refl
 
 valued22 : value_at (found21 ++ key 22 10 (codes "count") ∷ []) 22 16 (codes " 2") from23 ≡ leaf_at (found21 ++ key 22 10 (codes "count") ∷ []) 22 false 17 (codes "2") from23
 unfolding nothing_left without_blanks
@@ -731,7 +731,7 @@ begins23 = plain_line found22 23 10 115 true (codes "equence:") from24 refl refl
 
 keyed23 : plain_key found22 23 10 (codes "sequence:") (colon_at false 0 (codes "sequence:")) from24 ≡ value_at (found22 ++ key 23 10 (codes "sequence") ∷ []) 23 19 (codes "") from24
 unfolding text_end is_utf8 chars encode
-keyed23 = key_line found22 23 10 from24 (codes "sequence:") 8 (codes "sequence") (codes "") colon23 refl refl refl refl refl
+keyed23 = key_line found22 23 10 from24 (codes "sequence:") 8 (codes "sequence") (codes "") colon23 refl refl refl refl
 
 value23 : value_at (found22 ++ key 23 10 (codes "sequence") ∷ []) 23 19 (codes "") from24 ≡ found found23 from24
 unfolding nothing_left
@@ -749,7 +749,7 @@ begins24 = dash_line found23 24 12 true (codes "action: notify.log") from25 ∙ 
 
 keyed24 : plain_key (found23 ++ dash 24 12 ∷ []) 24 14 (codes "action: notify.log") (colon_at false 0 (codes "action: notify.log")) from25 ≡ value_at ((found23 ++ dash 24 12 ∷ []) ++ key 24 14 (codes "action") ∷ []) 24 21 (codes " notify.log") from25
 unfolding text_end is_utf8 chars encode
-keyed24 = key_line (found23 ++ dash 24 12 ∷ []) 24 14 from25 (codes "action: notify.log") 6 (codes "action") (codes " notify.log") colon24 refl refl refl refl refl
+keyed24 = key_line (found23 ++ dash 24 12 ∷ []) 24 14 from25 (codes "action: notify.log") 6 (codes "action") (codes " notify.log") colon24 refl refl refl refl
 
 valued24 : value_at ((found23 ++ dash 24 12 ∷ []) ++ key 24 14 (codes "action") ∷ []) 24 21 (codes " notify.log") from25 ≡ leaf_at ((found23 ++ dash 24 12 ∷ []) ++ key 24 14 (codes "action") ∷ []) 24 false 22 (codes "notify.log") from25
 unfolding nothing_left without_blanks
@@ -771,7 +771,7 @@ begins25 = plain_line found24 25 14 100 true (codes "ata:") from26 refl refl ref
 
 keyed25 : plain_key found24 25 14 (codes "data:") (colon_at false 0 (codes "data:")) from26 ≡ value_at (found24 ++ key 25 14 (codes "data") ∷ []) 25 19 (codes "") from26
 unfolding text_end is_utf8 chars encode
-keyed25 = key_line found24 25 14 from26 (codes "data:") 4 (codes "data") (codes "") colon25 refl refl refl refl refl
+keyed25 = key_line found24 25 14 from26 (codes "data:") 4 (codes "data") (codes "") colon25 refl refl refl refl
 
 value25 : value_at (found24 ++ key 25 14 (codes "data") ∷ []) 25 19 (codes "") from26 ≡ found found25 from26
 unfolding nothing_left
@@ -789,7 +789,7 @@ begins26 = plain_line found25 26 16 118 true (codes "alue: \"{{ trigger.to_state
 
 keyed26 : plain_key found25 26 16 (codes "value: \"{{ trigger.to_state.state }}\"") (colon_at false 0 (codes "value: \"{{ trigger.to_state.state }}\"")) from27 ≡ value_at (found25 ++ key 26 16 (codes "value") ∷ []) 26 22 (codes " \"{{ trigger.to_state.state }}\"") from27
 unfolding text_end is_utf8 chars encode
-keyed26 = key_line found25 26 16 from27 (codes "value: \"{{ trigger.to_state.state }}\"") 5 (codes "value") (codes " \"{{ trigger.to_state.state }}\"") colon26 refl refl refl refl refl
+keyed26 = key_line found25 26 16 from27 (codes "value: \"{{ trigger.to_state.state }}\"") 5 (codes "value") (codes " \"{{ trigger.to_state.state }}\"") colon26 refl refl refl refl
 
 valued26 : value_at (found25 ++ key 26 16 (codes "value") ∷ []) 26 22 (codes " \"{{ trigger.to_state.state }}\"") from27 ≡ leaf_at (found25 ++ key 26 16 (codes "value") ∷ []) 26 false 23 (codes "\"{{ trigger.to_state.state }}\"") from27
 unfolding nothing_left without_blanks
@@ -811,7 +811,7 @@ begins27 = plain_line found26 27 4 109 true (codes "ode: queued") from28 refl re
 
 keyed27 : plain_key found26 27 4 (codes "mode: queued") (colon_at false 0 (codes "mode: queued")) from28 ≡ value_at (found26 ++ key 27 4 (codes "mode") ∷ []) 27 9 (codes " queued") from28
 unfolding text_end is_utf8 chars encode
-keyed27 = key_line found26 27 4 from28 (codes "mode: queued") 4 (codes "mode") (codes " queued") colon27 refl refl refl refl refl
+keyed27 = key_line found26 27 4 from28 (codes "mode: queued") 4 (codes "mode") (codes " queued") colon27 refl refl refl refl
 
 valued27 : value_at (found26 ++ key 27 4 (codes "mode") ∷ []) 27 9 (codes " queued") from28 ≡ leaf_at (found26 ++ key 27 4 (codes "mode") ∷ []) 27 false 10 (codes "queued") from28
 unfolding nothing_left without_blanks
@@ -833,7 +833,7 @@ begins28 = plain_line found27 28 4 109 true (codes "ax: 3") from29 refl refl ref
 
 keyed28 : plain_key found27 28 4 (codes "max: 3") (colon_at false 0 (codes "max: 3")) from29 ≡ value_at (found27 ++ key 28 4 (codes "max") ∷ []) 28 8 (codes " 3") from29
 unfolding text_end is_utf8 chars encode
-keyed28 = key_line found27 28 4 from29 (codes "max: 3") 3 (codes "max") (codes " 3") colon28 refl refl refl refl refl
+keyed28 = key_line found27 28 4 from29 (codes "max: 3") 3 (codes "max") (codes " 3") colon28 refl refl refl refl
 
 valued28 : value_at (found27 ++ key 28 4 (codes "max") ∷ []) 28 8 (codes " 3") from29 ≡ leaf_at (found27 ++ key 28 4 (codes "max") ∷ []) 28 false 9 (codes "3") from29
 unfolding nothing_left without_blanks

@@ -21,7 +21,7 @@ abbrev pub Text : Type 0
 Text = List ℕ
 
 -- a text that is UTF-8 is kept as it is
-word_is : (t : Text) → is_utf8 t ≡ true → word t ≡ t
+pub word_is : (t : Text) → is_utf8 t ≡ true → word t ≡ t
 word_is t h = utf8_lossy-IsUtf8 t (IsUtf8-from_is_utf8 t h)
 
 abbrev pub scalar_of : ℕ → Text → Bool → Node
@@ -35,14 +35,13 @@ module _ (ps : List Piece) (n col : ℕ) (ls : List RawLine) where
   keep_key bytes m k at behind = if m then spoiled_key ps n col LeftOut true ls else keyed ps n col k (col + at + 1) behind ls
 
   abbrev keep_text : Bool → Text → ℕ → Text → Found
-  keep_text m k at behind = if m then spoiled_key ps n col Structure false ls else value_at (ps ++ key n col (word k) ∷ []) n (col + at + 1) behind ls
+  keep_text m k at behind = if m then spoiled_key ps n col Structure false ls else value_at (ps ++ key n col k ∷ []) n (col + at + 1) behind ls
 
   pub key_line : (bytes : Text) (at : ℕ) (k behind : Text) → colon_at false 0 bytes ≡ Some at → trimmed (take at bytes) ≡ k → is_merge k ≡ false → is_empty k ≡ false
-      → drop (at + 1) bytes ≡ behind → is_utf8 k ≡ true → plain_key ps n col bytes (colon_at false 0 bytes) ls ≡ value_at (ps ++ key n col k ∷ []) n (col + at + 1) behind ls
-  key_line bytes at k behind h1 h2 h3 h4 h5 h6 =
+      → drop (at + 1) bytes ≡ behind → plain_key ps n col bytes (colon_at false 0 bytes) ls ≡ value_at (ps ++ key n col k ∷ []) n (col + at + 1) behind ls
+  key_line bytes at k behind h1 h2 h3 h4 h5 =
       ap (λ o. plain_key ps n col bytes o ls) h1 ∙ ap (λ t. keep_key bytes (is_merge t) t at (drop (at + 1) bytes)) h2 ∙ ap (λ m. keep_key bytes m k at (drop (at + 1) bytes)) h3
-      ∙ ap (λ m. keep_text m k at (drop (at + 1) bytes)) h4 ∙ ap (λ t. value_at (ps ++ key n col (word k) ∷ []) n (col + at + 1) t ls) h5
-      ∙ ap (λ t. value_at (ps ++ key n col t ∷ []) n (col + at + 1) behind ls) (word_is k h6)
+      ∙ ap (λ m. keep_text m k at (drop (at + 1) bytes)) h4 ∙ ap (λ t. value_at (ps ++ key n col k ∷ []) n (col + at + 1) t ls) h5
 
 -- a plain scalar that the next line does not go on with
 pub plain_ends : (f n : ℕ) (bytes text : Text) (l : RawLine) (ls : List RawLine) → has_colon bytes ≡ false → has_comment bytes ≡ false → text_of bytes ≡ text → is_empty l.content ≡ false

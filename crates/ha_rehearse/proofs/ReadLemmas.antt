@@ -16,7 +16,7 @@ use Rattle.yaml_tree.specs.declared.node.NodeKind.TheOpen.{NodeKind-F}
 use Rattle.yaml_tree.specs.declared.node.NodeKind.TheVariants as kinds
 use Rattle.yaml_tree.specs.declared.node.NodeKind.TheViews.{out-NodeKind}
 use Rattle.yaml_tree.specs.Entities.{ids_by, split_by, split_from}
-use Rattle.yaml_tree.specs.Nodes.{listed, mapped}
+use Rattle.yaml_tree.specs.Nodes.{listed}
 use Rattle.yaml_tree.specs.Readers.{Shape, is_null_word, null_by, shape_of, text_by}
 use Rattle.conf_field.specs.declared.key.Key.TheVariants as key
 use Rattle.conf_field.specs.declared.table.Row.{Row}
@@ -35,6 +35,7 @@ use Rattle.conf_script.specs.Calls as calls
 use Rattle.conf_script.specs.Forms as form
 use Rattle.conf_script.proofs.Opened as opened
 use Rattle.ha_rehearse.proofs.LineLemmas.{scalar_of}
+use Rattle.ha_rehearse.proofs.TreeLemmas.{with_pairs}
 
 abbrev pub Text : Type 0
 Text = List ℕ
@@ -76,7 +77,7 @@ scalar_shape n t plain = let e : out-NodeKind (kinds.Scalar t plain) ≡ NodeKin
 pub list_shape : (n : ℕ) (items : List Node) → shape_of (listed n items) ≡ NodeKind-F.List items
 list_shape n items = let e : out-NodeKind (kinds.List items) ≡ NodeKind-F.List items = simp kinds.outs-List in e
 
-pub map_shape : (n : ℕ) (pairs : List Pair) → shape_of (mapped n pairs) ≡ NodeKind-F.Map pairs
+pub map_shape : (n : ℕ) (pairs : List Pair) → shape_of (with_pairs n pairs) ≡ NodeKind-F.Map pairs
 map_shape n pairs = let e : out-NodeKind (kinds.Map pairs) ≡ NodeKind-F.Map pairs = simp kinds.outs-Map in e
 
 -- ---- scalars that are not null
@@ -140,13 +141,13 @@ module _ (n : ℕ) (t : Text) (plain : Bool) (some : (plain && is_null_word t) �
 
 -- ---- calls
 
-pub read_target : (n : ℕ) (pairs : List Pair) → keys_fault (row key.EntityId ∷ []) None [] pairs ≡ None → IsRead (get key.EntityId pairs calls.targets) → (l : ℕ) → IsRead (calls.target l (mapped n pairs))
+pub read_target : (n : ℕ) (pairs : List Pair) → keys_fault (row key.EntityId ∷ []) None [] pairs ≡ None → IsRead (get key.EntityId pairs calls.targets) → (l : ℕ) → IsRead (calls.target l (with_pairs n pairs))
 read_target n pairs h k l =
     read_as (ap (calls.target_by l) (map_shape n pairs))
     (read_made calls.made_target (both (keys (row key.EntityId ∷ []) pairs) (get key.EntityId pairs calls.targets)) (read_both (keys (row key.EntityId ∷ []) pairs) (get key.EntityId pairs calls.targets) (read_keys (row key.EntityId ∷ []) pairs h) k))
 
 -- data of one field
-pub read_fields : (n : ℕ) (p : Pair) → IsRead (form.form p.2) → (l : ℕ) → IsRead (form.fields l (mapped n (p ∷ [])))
+pub read_fields : (n : ℕ) (p : Pair) → IsRead (form.form p.2) → (l : ℕ) → IsRead (form.fields l (with_pairs n (p ∷ [])))
 unfolding each_behind
 read_fields n p h l =
     read_as (ap (λ s. form-by l s) (map_shape n (p ∷ [])))
@@ -158,13 +159,13 @@ read_fields n p h l =
 -- ---- actions
 
 pub read_action : (k : ActionName) (line : ℕ) (pairs : List Pair) → a.name_of pairs ≡ Some k → a.is_test k ≡ false → keys_fault (a.common_rows ++ a.kind_rows k) None [] pairs ≡ None
-    → field (row key.ContinueOnError) pairs ≡ None → field (row key.Enabled) pairs ≡ None → IsRead (a.body k line pairs (a.inside pairs)) → IsRead (a.one_action (mapped line pairs))
+    → field (row key.ContinueOnError) pairs ≡ None → field (row key.Enabled) pairs ≡ None → IsRead (a.body k line pairs (a.inside pairs)) → IsRead (a.one_action (with_pairs line pairs))
 read_action k line pairs name test known go enabled body =
     let rest = a.body k line pairs (a.inside pairs) in
     let two = both (get key.Enabled pairs flag) rest in
     let three = both (get key.ContinueOnError pairs flag) two in
     read_as
-    (opened.one_map (mapped line pairs) pairs pairs refl refl ∙ ap (a.by_name line pairs (a.inside pairs)) name
+    (opened.one_map (with_pairs line pairs) pairs pairs refl refl ∙ ap (a.by_name line pairs (a.inside pairs)) name
     ∙ ap (λ (b : Bool). if b then made a.tested (condition_map true line pairs) else a.with_keys k pairs rest) test)
     (read_made a.made_action (both (keys (a.common_rows ++ a.kind_rows k) pairs) three)
     (read_both (keys (a.common_rows ++ a.kind_rows k) pairs) three (read_keys (a.common_rows ++ a.kind_rows k) pairs known)
@@ -187,7 +188,7 @@ read_actions n items all = read_as (opened.all_list (listed n items) items items
 -- ---- triggers
 
 pub read_trigger : (k : TriggerKind) (idx line : ℕ) (pairs : List Pair) → trig.kind line pairs ≡ Ok k → keys_fault (trig.rows k) None [] pairs ≡ None
-    → field (row key.Id) pairs ≡ None → field (row key.Enabled) pairs ≡ None → IsRead (trig.rule k line pairs) → IsRead (trig.trigger idx (mapped line pairs))
+    → field (row key.Id) pairs ≡ None → field (row key.Enabled) pairs ≡ None → IsRead (trig.rule k line pairs) → IsRead (trig.trigger idx (with_pairs line pairs))
 read_trigger k idx line pairs named known id enabled rule =
     let two = both (get key.Enabled pairs flag) (trig.rule k line pairs) in
     let three = both (get key.Id pairs text) two in

@@ -1,14 +1,32 @@
 -- What the pieces of a simple text give: maps, lists and scalars, step by step.
-use Rattle.std.proofs.Common.{◌≡◌, ◌+◌, ℕ, suc, List, [], ◌∷◌, ◌++◌, Bool, false, refl, length, nat_lt}
-use Rattle.std.specs.Prelude.{Ok}
+use Rattle.std.proofs.Common.{◌≡◌, ◌∙◌, ◌+◌, ℕ, suc, List, [], ◌∷◌, ◌++◌, Bool, true, false, refl, ap, length, map, nat_lt}
+use Rattle.std.specs.Prelude.{◌&&◌, Ok}
+use Rattle.std.specs.Str.{is_utf8}
+use Rattle.std.proofs.lemmas.Bool.{and_parts}
 use Rattle.yaml_tree.specs.declared.node.Node.{Node}
 use Rattle.yaml_tree.specs.declared.piece.Piece.{Piece}
-use Rattle.yaml_tree.specs.Nodes.{Pair, has_key, listed, mapped}
+use Rattle.yaml_tree.specs.declared.node.NodeKind.TheVariants as kinds
+use Rattle.yaml_tree.specs.Nodes.{Pair, has_key, listed, mapped, worded}
 use Rattle.yaml_tree.specs.Pieces.{dash, key, leaf}
-use Rattle.yaml_tree.specs.Layout.{Answer, front, item, list, list_on, map, map_on, node, pair, row, rows, value_floor}
+use Rattle.yaml_tree.specs.Layout as layout
+use Rattle.yaml_tree.specs.Layout.{Answer, front, item, list, list_on, map_on, node, pair, row, rows, value_floor}
+use Rattle.ha_rehearse.proofs.LineLemmas.{word_is}
 
 abbrev pub Text : Type 0
 Text = List ℕ
+
+-- a map with these pairs
+abbrev pub with_pairs : ℕ → List Pair → Node
+with_pairs n pairs = record { line = n; kind = kinds.Map pairs }
+
+-- their keys are UTF-8, and so kept as they are
+abbrev pub are_utf8 : List Pair → Bool
+are_utf8 [] = true
+are_utf8 (p ∷ ps) = is_utf8 p.0 && are_utf8 ps
+
+worded_is : (ps : List Pair) → are_utf8 ps ≡ true → map worded ps ≡ ps
+worded_is [] h = refl
+worded_is (p ∷ ps) h = let two = and_parts (is_utf8 p.0) (are_utf8 ps) h in λ i. (word_is p.0 two.0 i, p.1, p.2) ∷ worded_is ps two.1 i
 
 pub leaf_node : (d line floor n col h : ℕ) (x : Node) (out : Bool) (ps : List Piece) → nat_lt col floor ≡ false → nat_lt (suc d) h ≡ false
     → node (suc d) line floor (leaf n col x h out ∷ ps) ≡ Ok (x, ps)
@@ -22,10 +40,15 @@ module _ (d n col : ℕ) where
   abbrev pub items_from : ℕ → List Node → List Piece → Answer (List Node)
   items_from m found ps = row (list_on col) (λ (f : List Node). item (node d)) m found ps
 
-  pub map_node : (line floor : ℕ) (k : Text) (ps rest : List Piece) (pairs : List Pair) → nat_lt col floor ≡ false
+  mapped_node : (line floor : ℕ) (k : Text) (ps rest : List Piece) (pairs : List Pair) → nat_lt col floor ≡ false
       → pairs_from (suc (suc (length ps))) [] (key n col k ∷ ps) ≡ Ok (pairs, rest) → node (suc d) line floor (key n col k ∷ ps) ≡ Ok (mapped n pairs, rest)
-  unfolding node map rows
-  map_node line floor k ps rest pairs h1 h2 = rw (h1, h2) refl
+  unfolding node layout.map rows
+  mapped_node line floor k ps rest pairs h1 h2 = rw (h1, h2) refl
+
+  pub map_node : (line floor : ℕ) (k : Text) (ps rest : List Piece) (pairs : List Pair) → nat_lt col floor ≡ false
+      → pairs_from (suc (suc (length ps))) [] (key n col k ∷ ps) ≡ Ok (pairs, rest) → are_utf8 pairs ≡ true
+      → node (suc d) line floor (key n col k ∷ ps) ≡ Ok (with_pairs n pairs, rest)
+  map_node line floor k ps rest pairs h1 h2 h3 = mapped_node line floor k ps rest pairs h1 h2 ∙ ap (λ (qs : List Pair). Ok (with_pairs n qs, rest)) (worded_is pairs h3)
 
   pub list_node : (line floor : ℕ) (ps rest : List Piece) (items : List Node) → nat_lt col floor ≡ false
       → items_from (suc (suc (length ps))) [] (dash n col ∷ ps) ≡ Ok (items, rest) → node (suc d) line floor (dash n col ∷ ps) ≡ Ok (listed n items, rest)
