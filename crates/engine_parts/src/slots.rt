@@ -6,8 +6,8 @@ ghost use Rattle.engine_parts.specs.Slots.{value_in, values_in};
 use std::alloc::{AllocError, Global};
 use std::marker::Model;
 
-/// An empty slot takes two words (16 bytes), as a full one does beside its box. Those at the front that are known to be empty are counted, so that clearing all slots
-/// again and again goes along each of them once.
+/// An empty slot takes two words (16 bytes), as a full one does beside its box. Those at the front that are known to be empty are
+/// counted, so that clearing all slots again and again goes along each of them once.
 #[derive(Drop)]
 pub struct Slots<T> {
     list: Vec<Option<Box<T>>>,
