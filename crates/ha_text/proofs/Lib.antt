@@ -1,3 +1,4 @@
+pub mod FirstPlace
 pub mod LineLemmas
 pub mod PieceLemmas
 pub mod Shorten

@@ -4,6 +4,7 @@ ghost use Rattle.std.specs.Prelude.{◌≡◌, ◌≤◌, ◌<◌, ◌^◌, ◌+
 ghost use Rattle.std.specs.List.{list_all, position};
 ghost use Rattle.ha_text.specs.Lines.{IsFront, IsNone, NoBreak, IsTaken, SameLines, counted, is_blank, is_open, kept_of, lines_of, longest, whole_lines, without_cr};
 
+use memchr::memchr;
 use std::alloc::{AllocError, Global};
 use std::marker::Model;
 
@@ -77,7 +78,7 @@ fn counted(alloc: Global, line: &[u8]) -> Result<Option<Vec<u8>>, AllocError>
 fn first_break(bytes: &[u8]) -> Option<usize>
     ensures { result ≡ position (λ b. b == 10) bytes.now }
 {
-    bytes.iter().position(|b| *b == b'\n')
+    memchr(b'\n', bytes)
 }
 
 /// A byte that stands for others: blank where all are, and no LF.
