@@ -47,7 +47,8 @@ id_without_a_domain =
     ∷ ((codes "entity_id"), 2, (at 2 (kinds.Scalar (codes "hall") true))) ∷ ((codes "from"), 3, (at 3 (kinds.Scalar [] true)))
     ∷ ((codes "bogus"), 4, (at 4 (kinds.Scalar (codes "1") true))) ∷ []))) ∷ []))) ≡ Err (record { line = 2; code = code.EntityId })
 
--- "- trigger: numeric_state\n  entity_id: sensor.t\n  above: 20\n  for:\n    minutes: 1\n    seconds: 30\n  id: warm\n- platform: time\n  at: ['07:00', '7:5', '23:59:59']\n"
+-- "- trigger: numeric_state\n  entity_id: sensor.t\n  above: 20\n  for:\n    minutes: 1\n    seconds: 30\n  id: warm\n"
+-- "- platform: time\n  at: ['07:00', '7:5', '23:59:59']\n"
 abbrev pub short_time_in_a_list : Type 0
 short_time_in_a_list =
     triggers (at 1 (kinds.List ((at 1
@@ -71,7 +72,8 @@ short_time_in_a_list =
           ∷ (at 9 (kinds.Scalar (codes "23:59:59") false)) ∷ []))),
     ) ∷ []))) ∷ []))) ≡ Err (record { line = 9; code = code.Time })
 
--- "- trigger: time\n  at: ['07:00', '23:59:59']\n- trigger: time_pattern\n  minutes: /5\n- trigger: homeassistant\n  event: start\n  enabled: no\n- trigger: event\n  event_type: [a, b]\n"
+-- "- trigger: time\n  at: ['07:00', '23:59:59']\n- trigger: time_pattern\n  minutes: /5\n"
+-- "- trigger: homeassistant\n  event: start\n  enabled: no\n- trigger: event\n  event_type: [a, b]\n"
 abbrev pub times_patterns_start_and_events : Type 0
 times_patterns_start_and_events =
     triggers (at 1 (kinds.List ((at 1

@@ -1,5 +1,6 @@
 -- The text of a span: whole seconds, `HH:MM` or `HH:MM:SS`, each part one or more digits.
-use Rattle.std.specs.Prelude.{ℕ, ◌+◌, ◌-◌, ◌*◌, ◌==◌, ◌&&◌, nat_le, Bool, List, [], ◌∷◌, take, drop, position, Option, Some, None, if◌then◌else◌}
+use Rattle.std.specs.Prelude.{ℕ, ◌+◌, ◌-◌, ◌*◌, ◌==◌, ◌&&◌, nat_le, Bool, List, []}
+use Rattle.std.specs.Prelude.{◌∷◌, take, drop, position, Option, Some, None, if◌then◌else◌}
 use Rattle.std.specs.Char.{is_ascii_digit}
 
 -- the number that digits give when they follow the digits of n

@@ -1,5 +1,6 @@
 -- What contracts see of a place in memory.
-use Rattle.std.specs.Prelude.{Contains, ◌&&◌, ℕ, Bool, true, is_none, List, [], ◌∷◌, ◌++◌, Option, None, Some, option_and_then, find, string_bytes}
+use Rattle.std.specs.Prelude.{Contains, ◌&&◌, ℕ, Bool, true, is_none, List, [], ◌∷◌, ◌++◌}
+use Rattle.std.specs.Prelude.{Option, None, Some, option_and_then, find, string_bytes}
 use Rattle.std.specs.Option.{option_map, option_map_or}
 use Rattle.std.specs.Str.{bytes_eq}
 use Rattle.ha_io.specs.declared.mem_place.MemFile.{MemFile}

@@ -1,5 +1,6 @@
 -- Arithmetic on numbers, by their exact values: a result out of range is refused, and so is a divisor that is zero.
-use Rattle.std.specs.Prelude.{ℕ, zero, suc, ◌-◌, ◌^◌, Result, Ok, Err, ℤ, pos, negsuc, ◌+ℤ◌, ◌-ℤ◌, ◌*ℤ◌, neg_ℤ, unsigned_abs, int_div, if◌then◌else◌}
+use Rattle.std.specs.Prelude.{ℕ, zero, suc, ◌-◌, ◌^◌, Result, Ok, Err, ℤ, pos, negsuc, ◌+ℤ◌}
+use Rattle.std.specs.Prelude.{◌-ℤ◌, ◌*ℤ◌, neg_ℤ, unsigned_abs, int_div, if◌then◌else◌}
 use Rattle.std.specs.Int.{int_div_euclid}
 use Rattle.ha_value.specs.declared.value.Num.{Num}
 use Rattle.ha_value.specs.declared.num.NumFault.{NumFault}

@@ -1,5 +1,7 @@
 -- Numbers, whole ones and fixed-point ones in millionths: their range, their order and their texts.
-use Rattle.std.specs.Prelude.{ℕ, suc, ◌+◌, ◌*◌, ◌/◌, ◌%◌, ◌^◌, Bool, true, false, ◌&&◌, ◌||◌, nat_eq, nat_le, nat_lt, List, [], ◌∷◌, ◌++◌, length, Option, Some, None, ℤ, pos, negsuc, ◌*ℤ◌, neg_ℤ, unsigned_abs, decimal, option_and_then, if◌then◌else◌}
+use Rattle.std.specs.Prelude.{ℕ, suc, ◌+◌, ◌*◌, ◌/◌, ◌%◌, ◌^◌, Bool, true, false, ◌&&◌, ◌||◌, nat_eq, nat_le, nat_lt}
+use Rattle.std.specs.Prelude.{List, [], ◌∷◌, ◌++◌, length, Option, Some, None}
+use Rattle.std.specs.Prelude.{ℤ, pos, negsuc, ◌*ℤ◌, neg_ℤ, unsigned_abs, decimal, option_and_then, if◌then◌else◌}
 use Rattle.std.specs.Char.{is_ascii_digit}
 use Rattle.std.specs.Fmt.{signed_decimal}
 use Rattle.std.specs.Ordering.{int_cmp}
@@ -30,7 +32,8 @@ compare a b = int_cmp (millionths a) (millionths b)
 
 -- ---- rounding
 
--- of a quotient and the next whole number the one that is nearer, by what is left over d, and the even one of the two where both are equally near
+-- of a quotient and the next whole number the one that is nearer, by what is left over d, and the even one of the two
+-- where both are equally near
 abbrev pub nearer : ℕ → ℕ → ℕ → ℕ
 nearer quotient left d =
     if nat_lt (2 * left) d then quotient

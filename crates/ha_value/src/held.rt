@@ -19,9 +19,7 @@ fn put(held: &mut [u8; 22], len: usize, more: &[u8])
     requires { len + length more.now ≤ 22 }
     ensures { take (len + length more.now) held.new ≡ take len held.old ++ more.now }
 {
-    'bytes: for i in 0..more.len() {
-        held[len + i] = more[i];
-    }
+    held[len..len + more.len()].copy_from_slice(more);
 }
 
 /// So many bytes and more of them.

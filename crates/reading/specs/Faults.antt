@@ -11,7 +11,8 @@ pub record ReadsAlike {T F A : Type 0} (rule : Rule T F A) (text : List T) (x : 
 
 -- A fault depends on what is before it and on what it is at, and on nothing after that. `Like` says when two texts begin
 -- alike, as far as a fault of this code at their front depends on them.
-pub record FailsAlike {T C A : Type 0} (Like : C → List T → List T → Type 0) (rule : Rule T (Bad C) A) (text : List T) (f : Bad C) : Type 0 where
+pub record FailsAlike {T C A : Type 0} (Like : C → List T → List T → Type 0) (rule : Rule T (Bad C) A) (text : List T) (f : Bad C)
+    : Type 0 where
   pub before : List T
   pub rest : List T
   pub parts : text ≡ before ++ rest

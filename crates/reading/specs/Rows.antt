@@ -30,4 +30,5 @@ row code end item (suc n) found rest = do
 
 -- items between brackets, behind the opening one
 unfoldable pub closed_by : {C A : Type 0} → C → ℕ → (List A → Rule ℕ (Bad C) A) → Rule ℕ (Bad C) (List A)
-closed_by code end item rest = if sees end (skip rest) then Ok ([], drop 1 (skip rest)) else row code end item (suc (length (skip rest))) [] (skip rest)
+closed_by code end item rest =
+    if sees end (skip rest) then Ok ([], drop 1 (skip rest)) else row code end item (suc (length (skip rest))) [] (skip rest)

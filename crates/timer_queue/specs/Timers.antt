@@ -1,5 +1,6 @@
 -- Timers, ordered by due, then key. A timer is a due, in milliseconds from 1970 on, and a key.
-use Rattle.std.specs.Prelude.{ℕ, ◌≤◌, ◌&&◌, ◌||◌, nat_eq, nat_le, nat_lt, not, Bool, true, List, [], ◌∷◌, Option, Some, None, is_some, MatchOption, if◌then◌else◌}
+use Rattle.std.specs.Prelude.{ℕ, ◌≤◌, ◌&&◌, ◌||◌, nat_eq, nat_le, nat_lt, not, Bool, true, List, []}
+use Rattle.std.specs.Prelude.{◌∷◌, Option, Some, None, is_some, MatchOption, if◌then◌else◌}
 
 abbrev pub Timer : Type 0
 Timer = ℕ × ℕ

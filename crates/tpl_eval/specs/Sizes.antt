@@ -17,8 +17,8 @@ items_size vs = sum (map size_of vs)
 abbrev pub pairs_size : Pairs → ℕ
 pairs_size ps = sum_by (λ (p : Text × ℕ). p.1) (map (λ p. (p.0, size_of p.1)) ps)
 
--- a list grows by the value that is given, and what is left is less by the size of that; a fault is answered where no value is given, or one
--- of a greater size than is left
+-- a list grows by the value that is given, and what is left is less by the size of that; a fault is answered where no
+-- value is given, or one of a greater size than is left
 abbrev pub PutsWithin : ℕ → List Value → List Value → Option Value → Result ℕ TplFault → Type 0
 PutsWithin left old new given (Ok rest) = (v : Value) × (given ≡ Some v) × (new ≡ old ++ (v ∷ [])) × (left_of left (size_of v) ≡ Some rest)
 PutsWithin left old new given (Err TplFault.Fault) = option_and_then (λ v. left_of left (size_of v)) given ≡ None
