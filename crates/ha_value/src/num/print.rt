@@ -5,6 +5,7 @@ ghost use Rattle.ha_value.specs.Numbers.{digit, is_digit_zero, places_text, prin
 
 use crate::value::Num;
 use crate::word::Word;
+use itoa::Buffer;
 use std::alloc::{AllocError, Global};
 
 /// The last digit.
@@ -52,8 +53,9 @@ fn print_parts(alloc: Global, sign: &str, units: u64, millionths: u64) -> Result
     ensures { IfOk result (λ w. w ≡ sign.now ++ decimal units ++ 46 ∷ places_text millionths) }
 {
     let mut text = Word::from_str(alloc, sign)?;
-    let units = format!(in alloc; "{units}.")?;
-    text.push_str(units.as_str())?;
+    let mut room = Buffer::new();
+    text.push_str(room.format(units))?;
+    text.push_byte(b'.')?;
     push_places(&mut text, millionths)?;
     Ok(text)
 }
@@ -74,7 +76,8 @@ impl Num {
     {
         match self {
             Num::Whole(whole) => {
-                let word = Word::from_string(alloc, format!(in alloc; "{whole}")?)?;
+                let mut room = Buffer::new();
+                let word = Word::from_str(alloc, room.format(*whole))?;
                 Ok(word)
             }
             Num::Fixed(fixed) => print_fixed(alloc, *fixed),
