@@ -30,23 +30,6 @@ high_char c h =
     (joined (224 + c / 4096) (next (c / 64) ∷ next c ∷ []) (omega arith) (joined (next (c / 64)) (next c ∷ []) (omega arith) (joined (next c) [] (omega arith) refl)))
     (joined (240 + c / 262144) (next (c / 4096) ∷ next (c / 64) ∷ next c ∷ []) (omega arith) (joined (next (c / 4096)) (next (c / 64) ∷ next c ∷ []) (omega arith) (joined (next (c / 64)) (next c ∷ []) (omega arith) (joined (next c) [] (omega arith) refl))))))
 
--- one character more was printed
-pub one_more : (old now new ys : List ℕ) (c : ℕ) → now ≡ old ++ flat_map escaped_byte (encode_utf8_all ys) → new ≡ now ++ flat_map escaped_byte (encode c)
-    → new ≡ old ++ flat_map escaped_byte (encode_utf8_all (ys ++ c ∷ []))
-one_more old now new ys c before after =
-    after ∙ ap (λ (r : List ℕ). r ++ flat_map escaped_byte (encode c)) before
-    ∙ append_assoc old (flat_map escaped_byte (encode_utf8_all ys)) (flat_map escaped_byte (encode c))
-    ∙ ap (λ (r : List ℕ). old ++ r) (sym (flat_map-append escaped_byte (encode_utf8_all ys) (encode c)) ∙ ap (flat_map escaped_byte) (sym (encodes-append ys (c ∷ []) ∙ ap (λ (r : List ℕ). encode_utf8_all ys ++ r) (append-nil (encode c)))))
-
-each_itself : (ys : List ℕ) → map (λ c. c) ys ≡ ys
-each_itself [] = refl
-each_itself (y ∷ ys) = ap (λ (r : List ℕ). y ∷ r) (each_itself ys)
-
--- all characters of the text were printed
-pub all_shown : (old now ys text : List ℕ) → IsUtf8 text → map (λ c. c) ys ≡ chars text → now ≡ old ++ flat_map escaped_byte (encode_utf8_all ys) → now ≡ old ++ flat_map escaped_byte text
-all_shown old now ys text utf8 same h =
-    h ∙ ap (λ (r : List ℕ). old ++ flat_map escaped_byte r) (ap encode_utf8_all (sym (each_itself ys) ∙ same) ∙ encodes-chars text utf8)
-
 -- what cannot be true is false
 pub unless_true : (b : Bool) → (b ≡ true → ⊥) → b ≡ false
 unless_true true h = absurd (h refl)

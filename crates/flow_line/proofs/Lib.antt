@@ -34,4 +34,5 @@ pub mod Places
 pub mod PrintedText
 pub mod PrintedRows
 pub mod PrintedValue
+mod PlainRuns
 pub mod PlainStrings

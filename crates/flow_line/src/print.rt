@@ -1,9 +1,10 @@
 //! Printing values, and the parts of lines that they have, into one buffer.
 
-ghost use Rattle.std.specs.Prelude.{◌≡◌, ◌++◌, ◌<◌, encode_utf8, flat_map, IfOk, OnOk};
+ghost use Rattle.std.specs.Prelude.{◌≡◌, ◌+◌, ◌++◌, ◌<◌, drop, length, flat_map, IfOk, IfSome, OnOk};
 ghost use Rattle.std.specs.Char.{digit_char};
+ghost use Rattle.std.specs.List.{position};
 ghost use Rattle.ha_model.specs.ValueText.{escaped_byte, print_pairs, print_value, quoted};
-ghost use Rattle.flow_line.specs.Print.{comma_at, print_items};
+ghost use Rattle.flow_line.specs.Print.{comma_at, is_escaped, print_items};
 
 use ha_value::{Value, Word};
 use std::alloc::{AllocError, Global};
@@ -41,26 +42,40 @@ pub fn push_ascii(text: &mut Word, byte: u8) -> Result<(), AllocError>
     }
 }
 
-/// Appends a character of a string.
-fn push_char(text: &mut Word, c: char) -> Result<(), AllocError>
-    ensures { OnOk result (text.new ≡ text.old ++ flat_map escaped_byte (encode_utf8 c)) }
+/// Whether a string has the byte in another form.
+fn is_escaped(byte: u8) -> bool
+    ensures { result ≡ is_escaped byte }
 {
-    let code = u32::from(c);
-    if code < 128 {
-        push_ascii(text, code as u8)
-    } else {
-        text.push(c)
-    }
+    byte == b'"' || (byte == b'\\' || byte < 0x20)
 }
 
-/// Appends the characters of a string.
+/// The place of the first byte that is not printed as it is.
+fn first_escaped(bytes: &[u8]) -> Option<usize>
+    ensures place { result ≡ position is_escaped bytes.now }
+    ensures bound { IfSome result (λ at. at < length bytes.now) }
+{
+    bytes.iter().position(|b| is_escaped(*b))
+}
+
+/// What stands behind the byte at a place.
+fn behind(bytes: &[u8], at: usize) -> &[u8]
+    requires { at < length bytes.now }
+    ensures { result.now ≡ drop (at + 1) bytes.now }
+{
+    &bytes[at + 1..]
+}
+
+/// Appends the characters of a string: what stands between two escapes at once.
 pub fn push_chars(text: &mut Word, shown: &str) -> Result<(), AllocError>
     ensures { OnOk result (text.new ≡ text.old ++ flat_map escaped_byte shown.now) }
 {
-    for c in shown.chars() {
-        push_char(text, c)?;
+    let mut rest = shown.as_bytes();
+    'runs: while let Some(at) = first_escaped(rest) {
+        text.push_bytes(&rest[..at])?;
+        push_ascii(text, rest[at])?;
+        rest = behind(rest, at);
     }
-    Ok(())
+    text.push_bytes(rest)
 }
 
 /// Appends a string, with its quotes.

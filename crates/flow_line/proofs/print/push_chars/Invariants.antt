@@ -1,7 +1,12 @@
-use Rattle.std.proofs.Common.{◌≡◌, ◌++◌, flat_map}
-use Rattle.std.specs.Str.{encode_utf8_all}
+use Rattle.std.proofs.Common.{◌≡◌, ◌++◌, flat_map, length, IsUtf8}
 use Rattle.ha_model.specs.ValueText.{escaped_byte}
 use Rattle.flow_line.proofs.print.push_chars.Given as goal
 
-abbrev pub invariant-loop-c : goal.invariant-loop-c
-invariant-loop-c l = l.text ≡ l.initial.text ++ flat_map escaped_byte (encode_utf8_all l.yielded)
+abbrev pub invariant-runs : goal.invariant-runs
+invariant-runs l = record {
+  utf8 : IsUtf8 l.rest;
+  shown : l.text ++ flat_map escaped_byte l.rest ≡ l.initial.text ++ flat_map escaped_byte l.fn.shown;
+}
+
+abbrev pub decreases-runs : goal.decreases-runs
+decreases-runs l = length l.rest
