@@ -20,5 +20,5 @@ mod value;
 
 pub use command::read_cmd;
 pub use fault::{Code, FlowFault};
-pub use print::{print_value, push_ascii, push_chars, push_comma, push_pairs, push_quoted};
+pub use print::{print_value, push_chars, push_comma, push_pairs, push_quoted};
 pub use read::read_value;

@@ -23,7 +23,7 @@ fn hex_digit(digit: u8) -> u8
 }
 
 /// Appends an ASCII character of a string.
-pub fn push_ascii(text: &mut Word, byte: u8) -> Result<(), AllocError>
+fn push_ascii(text: &mut Word, byte: u8) -> Result<(), AllocError>
     requires { byte < 128 }
     ensures { OnOk result (text.new ≡ text.old ++ escaped_byte byte) }
 {

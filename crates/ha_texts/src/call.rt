@@ -45,9 +45,9 @@ fn line_of_call(
     line.push_str("{\"run\":")?;
     push_quoted(&mut line, name.as_str())?;
     line.push_str(",\"number\":")?;
-    push_number(alloc, &mut line, number)?;
+    push_number(&mut line, number)?;
     line.push_str(",\"call\":")?;
-    push_number(alloc, &mut line, call)?;
+    push_number(&mut line, call)?;
     line.push_byte(b',')?;
     push_call(alloc, &mut line, service, target, fields)?;
     line.push_str("}\n")?;

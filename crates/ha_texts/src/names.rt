@@ -9,7 +9,7 @@ ghost use Rattle.ha_model.specs.Texts.{switches_text};
 ghost use Rattle.ha_model.specs.ValueText.{escaped_byte, flag_text, list_text, quoted};
 
 use crate::parts::push_number;
-use flow_line::{push_ascii, push_chars, push_comma, push_quoted};
+use flow_line::{push_chars, push_comma, push_quoted};
 use ha_clock::{Moment, print_moment};
 use ha_model::Automation;
 use ha_value::Word;
@@ -55,10 +55,10 @@ fn push_bytes(text: &mut Word, bytes: &[u8]) -> Result<(), AllocError>
     requires { IsAscii bytes.now }
     ensures { OnOk result (text.new ≡ text.old ++ flat_map escaped_byte bytes.now) }
 {
-    for i in 0..bytes.len() {
-        push_ascii(text, bytes[i])?;
+    match str::from_utf8(bytes) {
+        Ok(shown) => push_chars(text, shown),
+        Err(_) => unreachable!(),
     }
-    Ok(())
 }
 
 /// Appends a moment in double quotes.
@@ -93,18 +93,14 @@ pub(crate) fn push_failure_code(alloc: Global, text: &mut Word, code: u8) -> Res
 }
 
 /// Appends a list of numbers.
-pub(crate) fn push_numbers(
-    alloc: Global,
-    text: &mut Word,
-    numbers: &[u32],
-) -> Result<(), AllocError>
+pub(crate) fn push_numbers(text: &mut Word, numbers: &[u32]) -> Result<(), AllocError>
     ensures { OnOk result (text.new ≡ text.old ++ list_text (map decimal numbers.now)) }
 {
     text.push_byte(b'[')?;
     for i in 0..numbers.len() {
         push_comma(text, i)?;
         let number = &numbers[i];
-        push_number(alloc, text, u64::from(*number))?;
+        push_number(text, u64::from(*number))?;
     }
     text.push_byte(b']')
 }

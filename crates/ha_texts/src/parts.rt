@@ -5,7 +5,8 @@ ghost use Rattle.ha_model.specs.ValueText.{list_text};
 
 use flow_line::{push_chars, push_comma};
 use ha_value::{EntityId, Word};
-use std::alloc::{AllocError, Global};
+use itoa::Buffer;
+use std::alloc::AllocError;
 
 /// Appends an entity id in double quotes.
 pub(crate) fn push_id(text: &mut Word, id: &EntityId) -> Result<(), AllocError>
@@ -20,11 +21,11 @@ pub(crate) fn push_id(text: &mut Word, id: &EntityId) -> Result<(), AllocError>
 }
 
 /// Appends a number.
-pub(crate) fn push_number(alloc: Global, text: &mut Word, number: u64) -> Result<(), AllocError>
+pub(crate) fn push_number(text: &mut Word, number: u64) -> Result<(), AllocError>
     ensures { OnOk result (text.new ≡ text.old ++ decimal number) }
 {
-    let shown = format!(in alloc; "{number}")?;
-    text.push_str(shown.as_str())
+    let mut room = Buffer::new();
+    text.push_str(room.format(number))
 }
 
 /// Appends a list of entity ids.

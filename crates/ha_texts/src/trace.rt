@@ -63,9 +63,9 @@ fn push_line(
     ensures { OnOk result (text.new ≡ text.old ++ map_text ((codes "source", decimal source) ∷ (codes "number", decimal number) ∷ (codes "cmd", cmd_text cmd.now) ∷ [])) }
 {
     text.push_str("{\"source\":")?;
-    push_number(alloc, text, u64::from(source))?;
+    push_number(text, u64::from(source))?;
     text.push_str(",\"number\":")?;
-    push_number(alloc, text, number)?;
+    push_number(text, number)?;
     text.push_str(",\"cmd\":")?;
     push_cmd(alloc, text, cmd)?;
     text.push_byte(b'}')?;
@@ -84,11 +84,11 @@ fn push_step(
     ensures { OnOk result (text.new ≡ text.old ++ map_text ((codes "worker", decimal worker) ∷ (codes "run", decimal serial) ∷ (codes "branch", list_text (map decimal branch.now)) ∷ (codes "item", item_text all.now item.now) ∷ [])) }
 {
     text.push_str("{\"worker\":")?;
-    push_number(alloc, text, u64::from(worker))?;
+    push_number(text, u64::from(worker))?;
     text.push_str(",\"run\":")?;
-    push_number(alloc, text, serial)?;
+    push_number(text, serial)?;
     text.push_str(",\"branch\":")?;
-    push_numbers(alloc, text, branch)?;
+    push_numbers(text, branch)?;
     text.push_str(",\"item\":")?;
     push_item(alloc, text, all, item)?;
     text.push_byte(b'}')?;
