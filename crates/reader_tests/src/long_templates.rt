@@ -1,6 +1,7 @@
 //! Templates of up to a megabyte, whose chains are far deeper than a stack.
 use conf_field::template_text;
 use std::alloc::{AllocError, Global};
+use tpl_parse::{ParseFault, parse};
 use yaml_scan::{Code, YamlFault};
 
 /// A text, a part so many times, another text, and as often what closes the part.
@@ -85,4 +86,28 @@ fn long_texts_outside_the_grammar_are_no_templates(rt: HostRuntime) {
         )
     );
     assert!(rt; is_refused(alloc, b"", b"{{1}}", 200_000, b"", b"{{1}", none));
+}
+
+/// The place of the fault in a tag with so many zeros between these bytes.
+fn place_at_zeros(alloc: Global, before: &[u8], zeros: usize, behind: &[u8]) -> u32 {
+    match chain(alloc, before, b"0", zeros, b"", behind) {
+        Ok(text) => {
+            if 1_048_576 < text.len() {
+                return 0;
+            }
+            match parse(alloc, text.as_slice()) {
+                Err(ParseFault::At(at)) => at,
+                _ => 0,
+            }
+        }
+        Err(_) => 0,
+    }
+}
+
+#[test]
+fn zeros_of_a_number_out_of_range_are_passed_once(rt: HostRuntime) {
+    let alloc = rt.alloc();
+    let many = 1_000_000;
+    assert!(rt; place_at_zeros(alloc, b"{{", many, b"1000000000001}}") == 1_000_014);
+    assert!(rt; place_at_zeros(alloc, b"{{1000000000000.0000005", many, b"1}}") == 1_000_023);
 }

@@ -15,6 +15,8 @@ pub mod OnlyPieces
 pub mod OnlyTags
 pub mod Parsed
 pub mod PiecesShorter
+pub mod RangeEnds
+pub mod RangeWalks
 pub mod Runs
 pub mod Shorter
 pub mod Starts
@@ -26,3 +28,4 @@ pub mod Trims
 pub mod Utf8
 pub mod WholeText
 pub mod Words
+pub mod ZeroPlaces

@@ -2,8 +2,10 @@
 use Rattle.std.specs.Prelude.{ℕ, zero, suc, ◌-◌, Bool, false, not, ◌&&◌, ◌||◌, ◌==◌, nat_le, is_none}
 use Rattle.std.specs.Prelude.{if◌then◌else◌, List, [], ◌∷◌, ◌++◌, length, take, drop, Option, Some, None, Ok}
 use Rattle.std.specs.Char.{is_ascii_digit}
+use Rattle.std.specs.Option.{is_some}
 use Rattle.ha_value.specs.declared.value.Num.{Num}
-use Rattle.ha_value.specs.Numbers.{read_number}
+use Rattle.ha_value.specs.Lists.{after_first}
+use Rattle.ha_value.specs.Numbers.{read_number, without_sign}
 use Rattle.reading.specs.Answer.{◌>>=◌, front, stop}
 use Rattle.reading.specs.Bytes.{sees}
 use Rattle.tpl_parse.specs.declared.table.Filter.{Filter}
@@ -76,6 +78,14 @@ abbrev pub behind_number : List ℕ → List ℕ
 behind_number rest =
     let whole : List ℕ = skip_digits rest in
     if begins_places whole then skip_digits (drop 1 whole) else whole
+
+-- a zero with a digit behind it, which changes no number
+abbrev pub idle_zero : List ℕ → Bool
+idle_zero digits = sees 48 digits && is_digit (front (drop 1 digits))
+
+-- a dot stands in the text, behind its sign
+abbrev pub has_dot : List ℕ → Bool
+has_dot text = is_some (after_first 46 (without_sign text))
 
 -- how many bytes stand before the first digit with which the number is out of range, from so many on
 unfoldable pub before_range_end : ℕ → List ℕ → List ℕ → ℕ

@@ -12,6 +12,7 @@ mod names;
 mod operand;
 mod parser;
 mod pieces;
+mod range_end;
 mod read;
 mod table;
 mod token;

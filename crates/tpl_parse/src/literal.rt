@@ -2,10 +2,11 @@
 
 ghost use Rattle.std.specs.Prelude.{◌≡◌, ◌≢◌, ◌≤◌, ◌<◌, ◌++◌, length, None, IfSome};
 ghost use Rattle.reading.specs.Answer.{Gives, made};
-ghost use Rattle.tpl_parse.specs.Literal.{before_range_end, begins_places, behind_number, byte_in, character, escape, escape_at, further, is_digit, number, skip_digits, string, string_character, unescaped};
+ghost use Rattle.tpl_parse.specs.Literal.{begins_places, behind_number, byte_in, character, escape, escape_at, further, is_digit, number, skip_digits, string, string_character, unescaped};
 ghost use Rattle.tpl_parse.specs.Leaves.{Leaves};
 
 use crate::parser::{Parser, Stopped};
+use crate::range_end::before_range_end;
 use ha_value::{Num, Word};
 use std::alloc::Global;
 
@@ -45,24 +46,7 @@ fn escape(b: Option<u8>) -> Option<u8>
     }
 }
 
-/// How many bytes stand before the first digit with which the number is out of range. Only a text that is refused comes here.
-#[tactic(auto, unfolding(crate::specs::Literal::before_range_end))]
-fn before_range_end(digits: &[u8]) -> usize
-    ensures { result ≡ before_range_end 0 digits.now digits.now }
-{
-    let mut more = digits;
-    let mut count = 0;
-    'digits: while let Some(b) = more.first() {
-        if *b != b'.' && Num::read(&digits[..count + 1]).is_none() {
-            return count;
-        }
-        more = &more[1..];
-        count += 1;
-    }
-    count
-}
-
-fn is_digit(b: Option<u8>) -> bool
+pub(crate) fn is_digit(b: Option<u8>) -> bool
     ensures { result ≡ is_digit b }
 {
     match b {
