@@ -3,6 +3,8 @@
 #![tactic(auto)]
 
 #[cfg(test)]
+mod brackets;
+#[cfg(test)]
 mod clock;
 #[cfg(test)]
 mod commands;

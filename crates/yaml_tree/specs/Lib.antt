@@ -7,6 +7,7 @@ pub mod Keys
 pub mod Layout
 pub mod Leaves
 pub mod Nodes
+pub mod Outer
 pub mod Pieces
 pub mod Plains
 pub mod Quotes

@@ -1,12 +1,13 @@
 //! Flow on one line, token by token.
 
-ghost use Rattle.std.specs.Prelude.{◌≡◌, ◌<◌, ◌≤◌, ◌+◌, ◌∷◌, ℕ, suc, length, drop, take, false, OnOk, IfOk};
+ghost use Rattle.std.specs.Prelude.{◌≡◌, ◌<◌, ◌≤◌, ◌+◌, ◌∷◌, ℕ, suc, length, drop, take, true, false, OnOk, IfOk};
 ghost use Rattle.yaml_tree.specs.Flow.{fresh, held, node_of, closing, wants_key, kept, holding, opens, closes, behind, awaiting, keyed, alone, colon_behind, quoted_here, quoted, word_end, plain_key, plain_by, plain, scalar, after_step, item_step, token, step, start, run, raised, IsTurn, IsStep, IsRan};
 ghost use Rattle.yaml_tree.specs.Brackets.{ends_key, is_stop, is_word_end};
 ghost use Rattle.yaml_scan.specs.Words.{colon_at};
 
 use crate::key::Key;
 use crate::node::{Node, NodeKind, null, scalar_node};
+use crate::outer::Outer;
 use crate::pairs::Pairs;
 use crate::starts::{is_merge, left_out, no_plain};
 use ha_value::Many;
@@ -25,7 +26,7 @@ pub struct Frame {
 }
 
 impl Frame {
-    fn new(alloc: Global, is_map: bool) -> Frame
+    pub(crate) fn new(alloc: Global, is_map: bool) -> Frame
         ensures { result ≡ fresh is_map }
     {
         Frame {
@@ -73,6 +74,13 @@ impl Frame {
         }
     }
 
+    /// Whether nothing stands in it yet.
+    pub(crate) fn is_fresh(&self) -> bool
+        ensures { result ≡ true → self.now ≡ fresh self.now.is_map }
+    {
+        self.items.is_empty() && self.pairs.is_empty() && self.key.is_none()
+    }
+
     fn closing(&self) -> u8
         ensures { result ≡ closing self.now }
     {
@@ -99,7 +107,7 @@ pub enum Turn {
 pub struct Flow<'a> {
     line: u32,
     frame: Frame,
-    frames: Vec<Frame>,
+    frames: Vec<Outer>,
     after: bool,
     height: u32,
     repeated: bool,
@@ -180,7 +188,7 @@ impl<'a> Flow<'a> {
     {
         self.raise();
         let outer = mem::replace(&mut self.frame, Frame::new(alloc, is_map));
-        self.frames.push(outer)?;
+        self.frames.push(Outer::of(alloc, outer)?)?;
         self.after = false;
         Ok(())
     }
@@ -205,7 +213,7 @@ impl<'a> Flow<'a> {
         let Some(outer) = self.frames.pop() else {
             return Ok(Turn::Ended(node));
         };
-        self.frame = outer;
+        self.frame = outer.into_frame(alloc);
         self.frame.hold(alloc, self.line, node)?;
         self.after = true;
         Ok(Turn::On)

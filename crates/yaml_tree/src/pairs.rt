@@ -1,6 +1,6 @@
 //! The pairs of a map while it is read.
 
-ghost use Rattle.std.specs.Prelude.{◌≡◌, ◌++◌, ◌∷◌, [], map, IfOk};
+ghost use Rattle.std.specs.Prelude.{◌≡◌, ◌↔◌, ◌++◌, ◌∷◌, [], map, IfOk, IsTrue};
 ghost use Rattle.yaml_tree.specs.Nodes.{has_key, worded};
 
 use crate::key::Key;
@@ -53,6 +53,12 @@ impl Pairs {
             list: VecDeque::new(alloc),
             seen: BTreeSet::new(alloc),
         }
+    }
+
+    pub fn is_empty(&self) -> bool
+        ensures { IsTrue result ↔ (self.now ≡ []) }
+    {
+        self.list.is_empty()
     }
 
     pub fn has(&self, key: &Key) -> bool
