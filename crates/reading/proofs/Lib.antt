@@ -1,5 +1,6 @@
 pub mod Basics
 pub mod Bytes
+pub mod Characters
 pub mod Frames
 pub mod Local
 pub mod Opens

@@ -1,6 +1,6 @@
 -- Rules that look at nothing behind what they take, as those for a word or a character: whatever may follow what they took, a
 -- fault depends on the token that it is at alone, and what stands before it can be gone on with.
-use Rattle.std.proofs.Common.{◌≡◌, ℕ, Bool, true, false, cond, ◌⊎◌, List, [], ◌∷◌, ◌++◌, length, drop, Ok, Err, refl, sym, ap, subst, ◌∙◌, append_assoc, inl, inr}
+use Rattle.std.proofs.Common.{◌≡◌, ℕ, ◌≤◌, Bool, true, false, cond, ◌⊎◌, List, [], ◌∷◌, ◌++◌, length, drop, Ok, Err, refl, sym, ap, subst, ◌∙◌, append_assoc, length-append, arith, inl, inr}
 use Rattle.std.specs.Prelude.{◌==◌}
 use Rattle.std.proofs.lemmas.Bool.{eq-eqb}
 use Rattle.reading.specs.declared.fault.Bad.{Bad}
@@ -153,6 +153,63 @@ module _ {T C A : Type 0} (rule : Rule T (Bad C) A) (code : C) (more : List T) (
 pub only_of : {T C A : Type 0} (code : C) (rule : Rule T (Bad C) A) → Solid code rule → (t : List T) (f : Bad C) → rule t ≡ Err f → f.code ≡ code
 unfolding Solid
 only_of {T} {C} {A} code rule solid t f e = let h : Halted code rule t f = subst (λ (a : Answer T (Bad C) A). IsSolid code rule t a) e (solid t) in h.coded
+
+-- a fault stands within the text
+pub stops_within : {T C A : Type 0} (code : C) (rule : Rule T (Bad C) A) → Solid code rule → (t : List T) (f : Bad C) → rule t ≡ Err f → f.left ≤ length t
+unfolding Solid
+stops_within {T} {C} {A} code rule solid t f e =
+    let h : Halted code rule t f = subst (λ (a : Answer T (Bad C) A). IsSolid code rule t a) e (solid t) in
+    omega (arith, h.left, ap length h.parts, length-append h.before h.rest)
+
+-- ---- a rule that goes on as another does where this token is the first
+
+module _ {T C A : Type 0} (code : C) (p q : Rule T (Bad C) A) (b : T) (same : (u : List T) → q (b ∷ u) ≡ p (b ∷ u)) where
+  same_at : (d : T) (u : List T) → b ≡ d → q (d ∷ u) ≡ p (d ∷ u)
+  same_at d u e = subst (λ (c : T). q (c ∷ u) ≡ p (c ∷ u)) e (same u)
+
+  module _ (none : p [] ≡ stop code []) (more : List T) (x : A) (read : (other : List T) → q (more ++ other) ≡ Ok (x, other)) where
+    read_alike : (t : List T) (y : A) (rest taken : List T) → b ∷ t ≡ taken ++ rest → ((other : List T) → p (taken ++ other) ≡ Ok (y, other)) → Taken q (b ∷ t) y rest
+    read_alike t y rest [] parts again = absurd (let e : stop code [] ≡ Ok (y, []) = sym none ∙ again [] in cc)
+    read_alike t y rest (d ∷ taken) parts again = let first : b ≡ d = cc in record { taken = d ∷ taken; parts = parts; again = λ other. same_at d (taken ++ other) first ∙ again other }
+
+    halts_alike : (t : List T) (f : Bad C) (before : List T) (l : Halted code p (b ∷ t) f) → before ≡ l.before → Halted code q (b ∷ t) f
+    halts_alike t f [] l e =
+        let whole : b ∷ t ≡ l.rest = l.parts ∙ ap (λ (u : List T). u ++ l.rest) (sym e) in
+        record {
+          before = [];
+          rest = b ∷ t;
+          parts = refl;
+          left = l.left ∙ ap length (sym whole);
+          coded = l.coded;
+          again = λ other h.
+              let here : other ≡ b ∷ drop 1 other = token_at b other h in
+              let stops : p other ≡ Err (record { left = length other; code = f.code }) = ap (λ (u : List T). p (u ++ other)) e ∙ l.again other (h ∙ ap front whole) in
+              (ap q here ∙ same (drop 1 other) ∙ ap p (sym here)) ∙ stops;
+          more = more;
+          x = x;
+          goes_on = read;
+        }
+    halts_alike t f (d ∷ before) l e =
+        let first : b ≡ d = let w : b ∷ t ≡ d ∷ (before ++ l.rest) = l.parts ∙ ap (λ (u : List T). u ++ l.rest) (sym e) in cc in
+        record {
+          before = d ∷ before;
+          rest = l.rest;
+          parts = l.parts ∙ ap (λ (u : List T). u ++ l.rest) (sym e);
+          left = l.left;
+          coded = l.coded;
+          again = λ other h. same_at d (before ++ other) first ∙ ap (λ (u : List T). p (u ++ other)) e ∙ l.again other h;
+          more = l.more;
+          x = l.x;
+          goes_on = λ other. same_at d (before ++ (l.more ++ other)) first ∙ ap (λ (u : List T). p (u ++ (l.more ++ other))) e ∙ l.goes_on other;
+        }
+
+    by_answer : (t : List T) (a : Answer T (Bad C) A) → IsSolid code p (b ∷ t) a → IsSolid code q (b ∷ t) a
+    by_answer t (Ok y) l = read_alike t y.0 y.1 l.taken l.parts l.again
+    by_answer t (Err f) l = halts_alike t f l.before l refl
+
+    pub alike_solid : Solid code p → (t : List T) → IsSolid code q (b ∷ t) (p (b ∷ t))
+    unfolding Solid
+    alike_solid solid t = by_answer t (p (b ∷ t)) (solid (b ∷ t))
 
 -- ---- a word
 

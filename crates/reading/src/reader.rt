@@ -1,10 +1,12 @@
 //! The reader of bytes.
 
-ghost use Rattle.std.specs.Prelude.{◌≡◌, ◌<◌, ℕ, length, drop, if◌then◌else◌};
+ghost use Rattle.std.specs.Prelude.{◌≡◌, ◌<◌, ◌≤◌, ℕ, length, drop, if◌then◌else◌};
 ghost use Rattle.reading.specs.Answer.{Gives, front};
 ghost use Rattle.reading.specs.Bytes.{expect, is_blank, sees, skip};
+ghost use Rattle.reading.specs.Characters.{begins_character, character};
 
 use crate::fault::{Bad, Stop};
+use bstr::decode_utf8;
 use std::marker::Model;
 
 /// Clauses see the bytes that are still to be read.
@@ -26,6 +28,16 @@ fn is_blank(b: u8) -> bool
     ensures { result ≡ is_blank b }
 {
     b == b' ' || b == b'\t'
+}
+
+/// Whether a character begins with this byte: the others that are no ASCII go on with one, or stand in none.
+fn begins_character(b: Option<u8>) -> bool
+    ensures { result ≡ begins_character b }
+{
+    match b {
+        Some(b) => b < 0x80 || (0xC2 <= b && b < 0xF5),
+        None => false,
+    }
 }
 
 impl<'a> Reader<'a> {
@@ -110,5 +122,33 @@ impl<'a> Reader<'a> {
             self.bump();
         }
         Ok(())
+    }
+
+    /// Takes so many bytes.
+    pub fn skip(&mut self, count: usize)
+        requires { count ≤ length self.old }
+        ensures { self.new ≡ drop count self.old }
+    {
+        self.rest = &self.rest[count..];
+    }
+
+    /// Takes a character, or stops at the first byte with which none goes on.
+    #[tactic(auto, using(crate::proofs::Characters::decoded_within), unfolding(crate::specs::Characters::character))]
+    pub fn character<C: Copy + Drop>(&mut self, code: C) -> Result<char, Stop<Bad<C>>>
+        ensures { Gives (character code self.old) result self.new }
+    {
+        let (found, size) = decode_utf8(self.rest);
+        match found {
+            Some(c) => {
+                self.skip(size);
+                Ok(c)
+            }
+            None => {
+                if begins_character(self.peek()) {
+                    self.skip(size);
+                }
+                Err(self.stop(code))
+            }
+        }
     }
 }
