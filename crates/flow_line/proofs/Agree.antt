@@ -21,7 +21,7 @@ use Rattle.flow_line.specs.Text.{Reads, text}
 use Rattle.flow_line.specs.Reading.{numeral, in_range, key, pair, Start, of_null, of_true, of_false, quote, bracket, brace, numeric, nothing, start_of, ended}
 use Rattle.flow_line.specs.Grammar.{extends, IsNumber, number as number_of}
 use Rattle.flow_line.specs.Refused.{Like}
-use Rattle.flow_line.proofs.Utf8.{Fault}
+use Rattle.flow_line.proofs.ByteRanges.{Fault}
 use Rattle.flow_line.proofs.Shorter.{IsStart, is_start}
 use Rattle.flow_line.proofs.Numbers.{numeral_found, number_longer, places_of, front_of, number_by}
 use Rattle.flow_line.proofs.NumberLaws.{numeral_open, value_of}

@@ -3,19 +3,19 @@ use Rattle.std.proofs.Common.{◌≡◌, ℕ, suc, ◌+◌, ◌*◌, ◌≤◌, 
 use Rattle.std.specs.Prelude.{◌==◌, nat_le, nat_lt, codes, encode_utf8}
 use Rattle.std.specs.Char.{IsScalar}
 use Rattle.std.specs.Char.Utf16.{is_high_surrogate, is_low_surrogate, surrogate_pair_char}
-use Rattle.std.proofs.lemmas.Bool.{and_parts, leb-true, le-leb, eqb-true, eq-eqb}
-use Rattle.std.proofs.lemmas.Str.{encode_ascii}
+use Rattle.std.proofs.lemmas.Bool.{and_parts, cases_lt, leb-true, le-leb, eqb-true, eq-eqb}
 use Rattle.reading.specs.Answer.{◌>>=◌, front, stop}
 use Rattle.reading.specs.Bytes.{expect}
+use Rattle.reading.specs.Characters.{character as utf8_character}
 use Rattle.reading.proofs.Basics.{bind_ok, ok_parts, chosen, chosen_is}
 use Rattle.reading.proofs.Bytes.{expect_found}
+use Rattle.reading.proofs.Characters.{first_byte, character_found as utf8_found}
 use Rattle.flow_line.specs.declared.fault.Code.TheVariants.{Syntax}
-use Rattle.flow_line.specs.Bytes.{is_in, is_plain, hex_value, unescaped}
-use Rattle.flow_line.specs.Text.{hex_in, high_digits, unit, unicode, short_escape, escape, sequence, character}
-use Rattle.flow_line.specs.Grammar.{IsUnit, unit as unit_of, stands_as_is, IsCharacter, itself, short, whole, halves}
-use Rattle.flow_line.proofs.Utf8.{Fault, in_parts, sequence_found}
+use Rattle.flow_line.specs.Bytes.{is_in, stands_as_is, hex_value, unescaped}
+use Rattle.flow_line.specs.Text.{hex_in, high_digits, unit, unicode, short_escape, escape, character}
+use Rattle.flow_line.specs.Grammar.{IsUnit, unit as unit_of, IsCharacter, itself, short, whole, halves}
+use Rattle.flow_line.proofs.ByteRanges.{Fault, in_parts}
 use lib.Utf8.{low_scalar}
-use Rattle.flow_line.proofs.Utf8.{order}
 
 differ : (b : Bool) → b ≡ false → b ≡ true → ⊥
 differ b e h = let k : true ≡ false = sym h ∙ e in cc
@@ -103,7 +103,7 @@ whole_unit : (t : List ℕ) (u : ℕ) (rest : List ℕ) → Unit4 false t u rest
 whole_unit t u rest h = go (hex_value h.a) (hex_value h.b) (hex_value h.c) (hex_value h.d) (hex_value h.a == 13) refl h.most_a h.most_b h.most_c h.most_d h.value where
   go : (a b c d : ℕ) (s : Bool) → (a == 13) ≡ s → a ≤ 15 → b ≤ cond (s && true) 11 15 → c ≤ 15 → d ≤ 15 → u ≡ (a * 16 + b) * 256 + c * 16 + d → (u < 56320) ⊎ (57344 ≤ u)
   go a b c d true e p q r s v = let k : a ≡ 13 = eqb-true a 13 e in inl (omega arith)
-  go a b c d false e p q r s v = elim (order a 13) [ inl m ↦ inl (omega arith) | inr m ↦ (let n : ¬ (a ≡ 13) = λ w. differ (a == 13) e (eq-eqb a 13 w) in inr (omega arith)) ]
+  go a b c d false e p q r s v = elim (cases_lt a 13) [ inl m ↦ inl (omega arith) | inr m ↦ (let n : ¬ (a ≡ 13) = λ w. differ (a == 13) e (eq-eqb a 13 w) in inr (omega arith)) ]
 
 pub low_unit : (t : List ℕ) (u : ℕ) (rest : List ℕ) → Unit4 true t u rest → (56320 ≤ u) × (u < 57344)
 low_unit t u rest h =
@@ -122,9 +122,9 @@ low_unit t u rest h =
 -- ---- what is read is spelled so
 
 not_in : (low high u : ℕ) → is_in low high u ≡ false → (u < low) ⊎ (high < u)
-not_in low high u e = elim (order u low) [
+not_in low high u e = elim (cases_lt u low) [
   | inl m ↦ inl m
-  | inr m ↦ elim (order high u) [
+  | inr m ↦ elim (cases_lt high u) [
     | inl n ↦ inr n
     | inr n ↦ absurd (differ (is_in low high u) e (rw (le-leb low u m, le-leb u high n) refl))
   ]
@@ -192,34 +192,26 @@ escape_found (b ∷ t) c rest e =
       | inr h ↦ short_found (unescaped b) b t c rest refl h.1
     ]
 
-plain_as_is : (b : ℕ) → is_plain b ≡ true → (b < 128) × (stands_as_is b ≡ true)
-plain_as_is b e =
-    let p = and_parts (is_in 32 127 b && not (b == 34)) (not (b == 92)) e in
-    let q = and_parts (is_in 32 127 b) (not (b == 34)) p.0 in
-    let r = in_parts 32 127 b q.0 in
-    (omega (arith, r.1), rw (le-leb 32 b r.0, q.1, p.1) refl)
-
 high_as_is : (c : ℕ) → 128 ≤ c → stands_as_is c ≡ true
 high_as_is c h = rw (le-leb 32 c (omega arith), other c 34 (λ k. omega arith), other c 92 (λ k. omega arith)) refl where
   other : (c k : ℕ) → (c ≡ k → ⊥) → (c == k) ≡ false
   other c k h = elim (chosen_is (c == k)) [ inl e ↦ absurd (h (eqb-true c k e)) | inr e ↦ e ]
 
+-- a character and its first byte pass alike
+pub as_first : (c b : ℕ) (t rest : List ℕ) → b ∷ t ≡ encode_utf8 c ++ rest → stands_as_is b ≡ stands_as_is c
+as_first c b t rest e = elim (first_byte c b t rest e) [ inl h ↦ ap stands_as_is h.0 | inr h ↦ high_as_is b h.0 ∙ sym (high_as_is c h.1) ]
+
 pub character_found : (t : List ℕ) (c : ℕ) (rest : List ℕ) → character t ≡ Ok (c, rest) → IsCharacter t c rest
 unfolding character
 character_found [] c rest e = absurd cc
 character_found (b ∷ t) c rest e =
-    elim (chosen (b == 92) (escape (front t) t) (cond (is_plain b) (Ok (b, t)) (sequence b (b ∷ t))) (Ok (c, rest)) e) [
+    elim (chosen (b == 92) (escape (front t) t) (cond (stands_as_is b) (utf8_character Syntax (b ∷ t)) (stop Syntax (b ∷ t))) (Ok (c, rest)) e) [
       | inl h ↦ subst (λ (x : ℕ). IsCharacter (x ∷ t) c rest) (sym (eqb-true b 92 h.0)) (escape_found t c rest h.1)
-      | inr h ↦ elim (chosen (is_plain b) (Ok (b, t)) (sequence b (b ∷ t)) (Ok (c, rest)) h.1) [
+      | inr h ↦ elim (chosen (stands_as_is b) (utf8_character Syntax (b ∷ t)) (stop Syntax (b ∷ t)) (Ok (c, rest)) h.1) [
         | inl k ↦
-            let p = ok_parts {F = Fault} (b, t) (c, rest) k.1 in
-            let q = plain_as_is b k.0 in
-            let here : IsCharacter (encode_utf8 b ++ t) b t = itself (low_scalar b (let w = q.0 in omega arith)) q.1 in
-            let bytes : encode_utf8 b ++ t ≡ b ∷ t = ap (λ (v : List ℕ). v ++ t) (encode_ascii b q.0) in
-            subst (λ (v : List ℕ). IsCharacter (b ∷ t) c v) p.1 (subst (λ (v : ℕ). IsCharacter (b ∷ t) v t) p.0 (subst (λ (v : List ℕ). IsCharacter v b t) bytes here))
-        | inr k ↦
-            let q = sequence_found b t c rest k.1 in
-            subst (λ (v : List ℕ). IsCharacter v c rest) (sym q.2) (itself q.0 (high_as_is c q.1))
+            let q = utf8_found Syntax (b ∷ t) c rest k.1 in
+            subst (λ (v : List ℕ). IsCharacter v c rest) (sym q.1) (itself q.0 (sym (as_first c b t rest q.1) ∙ k.0))
+        | inr k ↦ absurd (let w = k.1 in cc)
       ]
     ]
 

@@ -1,20 +1,21 @@
 -- What is spelled as a character, or as a string, is read as it.
-use Rattle.std.proofs.Common.{◌≡◌, ℕ, suc, ◌+◌, ◌-◌, ◌*◌, ◌/◌, ◌≤◌, ◌<◌, Bool, true, false, cond, not, ◌&&◌, ◌⊎◌, List, ◌∷◌, ◌++◌, Option, Some, None, Ok, refl, sym, ap, ◌∙◌, arith, inl, inr}
+use Rattle.std.proofs.Common.{◌≡◌, ℕ, suc, ◌+◌, ◌*◌, ◌≤◌, ◌<◌, Bool, true, false, cond, not, ◌&&◌, ◌⊎◌, List, [], ◌∷◌, ◌++◌, Option, Some, None, Ok, refl, sym, ap, ◌∙◌, arith, inl, inr}
 use Rattle.std.specs.Prelude.{◌==◌, nat_le, nat_lt, codes, encode_utf8}
 use Rattle.std.specs.Char.{IsScalar}
 use Rattle.std.specs.Char.Utf16.{is_high_surrogate, is_low_surrogate, surrogate_pair_char}
-use Rattle.std.proofs.lemmas.Bool.{and_parts, and_left, and_right, cond-true, cond-false, cases_lt, leb-true, le-leb, lt-leb, eqb-true, ne_eqb, not-true}
-use Rattle.std.proofs.lemmas.Str.{encode_ascii}
+use Rattle.std.proofs.lemmas.Bool.{and_parts, and_left, and_right, cond-true, cond-false, leb-true, le-leb, lt-leb, eqb-true, not-true}
 use Rattle.reading.specs.Answer.{◌>>=◌, Answer, front}
 use Rattle.reading.specs.Bytes.{expect}
+use Rattle.reading.specs.Characters.{character as utf8_character}
 use Rattle.reading.proofs.Basics.{chosen_is}
+use Rattle.reading.proofs.Characters.{character_read as utf8_read}
 use Rattle.flow_line.specs.declared.fault.Code.TheVariants.{Syntax}
-use Rattle.flow_line.specs.Bytes.{is_in, is_plain, hex_value, unescaped}
-use Rattle.flow_line.specs.Text.{byte_in, next_bits, two_more, three_more, sequence, hex_in, high_digits, unit, unicode, short_escape, character}
-use Rattle.flow_line.specs.Grammar.{IsUnit, unit as unit_of, stands_as_is, IsCharacter, itself, short, whole, halves}
-use Rattle.flow_line.proofs.Utf8.{Fault, encode_two, encode_three, encode_four}
-use Rattle.flow_line.proofs.Characters.{Unit4}
-use lib.Utf8.{scalar_cases, next}
+use Rattle.flow_line.specs.Bytes.{is_in, stands_as_is, hex_value, unescaped}
+use Rattle.flow_line.specs.Text.{hex_in, high_digits, unit, unicode, short_escape, character}
+use Rattle.flow_line.specs.Grammar.{IsUnit, unit as unit_of, IsCharacter, itself, short, whole, halves}
+use Rattle.flow_line.proofs.ByteRanges.{Fault}
+use Rattle.flow_line.proofs.Characters.{Unit4, as_first}
+use lib.Utf8.{scalar_cases}
 
 -- the rule behind a step that did not fail
 after : {A B : Type 0} (r : Answer ℕ Fault A) (q : A × List ℕ → Answer ℕ Fault B) (x : A × List ℕ) → r ≡ Ok x → (r >>= q) ≡ q x
@@ -29,93 +30,15 @@ below low high x p = and_left (nat_le low x) (nat_le x high) (lt-leb low x p)
 above : (low high x : ℕ) → high < x → is_in low high x ≡ false
 above low high x p = and_right (nat_le low x) (nat_le x high) (lt-leb x high p)
 
-at_least : (s : Bool) (m n y : ℕ) → (s ≡ true → m ≤ y) → n ≤ y → cond s m n ≤ y
-at_least true m n y h k = h refl
-at_least false m n y h k = k
-
-at_most : (s : Bool) (m n y : ℕ) → (s ≡ true → y ≤ m) → y ≤ n → y ≤ cond s m n
-at_most true m n y h k = h refl
-at_most false m n y h k = k
-
--- ---- UTF-8
-
-pub byte_read : (low high y : ℕ) (rest : List ℕ) → low ≤ y → y ≤ high → byte_in low high (front (y ∷ rest)) (y ∷ rest) ≡ Ok (y, rest)
-byte_read low high y rest p q = cond-true (is_in low high y) _ _ (inside low high y p q)
-
-next_read : (low high bits y : ℕ) (rest : List ℕ) → low ≤ y → y ≤ high → next_bits low high bits (y ∷ rest) ≡ Ok (bits * 64 + (y - 128), rest)
-unfolding next_bits
-next_read low high bits y rest p q = after (byte_in low high (front (y ∷ rest)) (y ∷ rest)) (λ b. Ok (bits * 64 + (b.0 - 128), b.1)) (y, rest) (byte_read low high y rest p q)
-
-two_read : (low high bits y z : ℕ) (rest : List ℕ) → low ≤ y → y ≤ high → 128 ≤ z → z ≤ 191 → two_more low high bits (y ∷ z ∷ rest) ≡ Ok ((bits * 64 + (y - 128)) * 64 + (z - 128), rest)
-unfolding two_more
-two_read low high bits y z rest p q r s =
-    after (next_bits low high bits (y ∷ z ∷ rest)) (λ b. next_bits 128 191 b.0 b.1) (bits * 64 + (y - 128), z ∷ rest) (next_read low high bits y (z ∷ rest) p q) ∙ next_read 128 191 (bits * 64 + (y - 128)) z rest r s
-
-three_read : (low high bits y z w : ℕ) (rest : List ℕ) → low ≤ y → y ≤ high → 128 ≤ z → z ≤ 191 → 128 ≤ w → w ≤ 191
-    → three_more low high bits (y ∷ z ∷ w ∷ rest) ≡ Ok (((bits * 64 + (y - 128)) * 64 + (z - 128)) * 64 + (w - 128), rest)
-unfolding three_more
-three_read low high bits y z w rest p q r s u v =
-    after (next_bits low high bits (y ∷ z ∷ w ∷ rest)) (λ b. two_more 128 191 b.0 b.1) (bits * 64 + (y - 128), z ∷ w ∷ rest) (next_read low high bits y (z ∷ w ∷ rest) p q) ∙ two_read 128 191 (bits * 64 + (y - 128)) z w rest r s u v
-
--- a byte that is not ASCII begins a sequence
-lead : (b : ℕ) (t : List ℕ) → 128 ≤ b → character (b ∷ t) ≡ sequence b (b ∷ t)
-unfolding character
-lead b t h =
-    let no_plain : is_plain b ≡ false = and_left (is_in 32 127 b && not (b == 34)) (not (b == 92)) (and_left (is_in 32 127 b) (not (b == 34)) (above 32 127 b h)) in
-    cond-false (b == 92) _ _ (ne_eqb b 92 (λ e. omega arith)) ∙ cond-false (is_plain b) _ _ no_plain
-
-abbrev read_as : ℕ → List ℕ → Answer ℕ Fault ℕ
-read_as x rest = Ok (x, rest)
-
-same_code : (x c : ℕ) (rest : List ℕ) → x ≡ c → read_as x rest ≡ read_as c rest
-same_code x c rest e = ap (λ (y : ℕ). read_as y rest) e
-
-ascii_read : (c : ℕ) (rest : List ℕ) → stands_as_is c ≡ true → c < 128 → character (encode_utf8 c ++ rest) ≡ Ok (c, rest)
-unfolding character
-ascii_read c rest p h =
-    let a = and_parts (nat_le 32 c && not (c == 34)) (not (c == 92)) p in
-    let b = and_parts (nat_le 32 c) (not (c == 34)) a.0 in
-    let plain : is_plain c ≡ true = rw (b.0, le-leb c 127 (omega arith), b.1, a.1) refl in
-    ap (λ (v : List ℕ). character (v ++ rest)) (encode_ascii c h) ∙ cond-false (c == 92) _ _ (not-true (c == 92) a.1) ∙ cond-true (is_plain c) _ _ plain
-
-two_bytes_read : (c : ℕ) (rest : List ℕ) → 128 ≤ c → c < 2048 → character (encode_utf8 c ++ rest) ≡ Ok (c, rest)
-two_bytes_read c rest l h =
-    let b : ℕ = 192 + c / 64 in
-    let y : ℕ = next c in
-    ap (λ (v : List ℕ). character (v ++ rest)) (encode_two c l h) ∙ lead b (y ∷ rest) (omega arith) ∙ cond-true (is_in 194 223 b) _ _ (inside 194 223 b (omega arith) (omega arith)) ∙ next_read 128 191 (b - 192) y rest (omega arith) (omega arith)
-    ∙ same_code ((b - 192) * 64 + (y - 128)) c rest (omega arith)
-
-three_bytes_read : (c : ℕ) (rest : List ℕ) → IsScalar c → 2048 ≤ c → c < 65536 → character (encode_utf8 c ++ rest) ≡ Ok (c, rest)
-three_bytes_read c rest is l h =
-    let b : ℕ = 224 + c / 4096 in
-    let y : ℕ = next (c / 64) in
-    let z : ℕ = next c in
-    let low : cond (b == 224) 160 128 ≤ y = at_least (b == 224) 160 128 y (λ e. let k : b ≡ 224 = eqb-true b 224 e in omega arith) (omega arith) in
-    let no_half : b ≡ 237 → y ≤ 159 = λ k. elim (scalar_cases c is) [ inl m ↦ omega arith | inr m ↦ absurd (let n = m.0 in omega arith) ] in
-    let high : y ≤ cond (b == 237) 159 191 = at_most (b == 237) 159 191 y (λ e. no_half (eqb-true b 237 e)) (omega arith) in
-    ap (λ (v : List ℕ). character (v ++ rest)) (encode_three c l h) ∙ lead b (y ∷ z ∷ rest) (omega arith) ∙ cond-false (is_in 194 223 b) _ _ (above 194 223 b (omega arith)) ∙ cond-true (is_in 224 239 b) _ _ (inside 224 239 b (omega arith) (omega arith))
-    ∙ two_read (cond (b == 224) 160 128) (cond (b == 237) 159 191) (b - 224) y z rest low high (omega arith) (omega arith) ∙ same_code (((b - 224) * 64 + (y - 128)) * 64 + (z - 128)) c rest (omega arith)
-
-four_bytes_read : (c : ℕ) (rest : List ℕ) → 65536 ≤ c → c < 1114112 → character (encode_utf8 c ++ rest) ≡ Ok (c, rest)
-four_bytes_read c rest l h =
-    let b : ℕ = 240 + c / 262144 in
-    let y : ℕ = next (c / 4096) in
-    let z : ℕ = next (c / 64) in
-    let w : ℕ = next c in
-    let low : cond (b == 240) 144 128 ≤ y = at_least (b == 240) 144 128 y (λ e. let k : b ≡ 240 = eqb-true b 240 e in omega arith) (omega arith) in
-    let high : y ≤ cond (b == 244) 143 191 = at_most (b == 244) 143 191 y (λ e. let k : b ≡ 244 = eqb-true b 244 e in omega arith) (omega arith) in
-    ap (λ (v : List ℕ). character (v ++ rest)) (encode_four c l) ∙ lead b (y ∷ z ∷ w ∷ rest) (omega arith) ∙ cond-false (is_in 194 223 b) _ _ (above 194 223 b (omega arith)) ∙ cond-false (is_in 224 239 b) _ _ (above 224 239 b (omega arith))
-    ∙ cond-true (is_in 240 244 b) _ _ (inside 240 244 b (omega arith) (omega arith)) ∙ three_read (cond (b == 240) 144 128) (cond (b == 244) 143 191) (b - 240) y z w rest low high (omega arith) (omega arith) (omega arith) (omega arith)
-    ∙ same_code ((((b - 240) * 64 + (y - 128)) * 64 + (z - 128)) * 64 + (w - 128)) c rest (omega arith)
-
 itself_read : (c : ℕ) (rest : List ℕ) → IsScalar c → stands_as_is c ≡ true → character (encode_utf8 c ++ rest) ≡ Ok (c, rest)
-itself_read c rest is p = elim (cases_lt c 128) [
-  | inl a ↦ ascii_read c rest p a
-  | inr a ↦ elim (cases_lt c 2048) [
-    | inl b ↦ two_bytes_read c rest a b
-    | inr b ↦ elim (cases_lt c 65536) [ inl d ↦ three_bytes_read c rest is b d | inr d ↦ four_bytes_read c rest d (elim (scalar_cases c is) [ inl m ↦ omega arith | inr m ↦ m.1 ]) ]
-  ]
-]
+unfolding character utf8_character
+itself_read c rest is p = by_first (encode_utf8 c ++ rest) refl (utf8_read Syntax c rest is) where
+  by_first : (t : List ℕ) → t ≡ encode_utf8 c ++ rest → utf8_character Syntax t ≡ Ok (c, rest) → character t ≡ Ok (c, rest)
+  by_first [] e r = absurd cc
+  by_first (b ∷ t) e r =
+      let stands : stands_as_is b ≡ true = as_first c b t rest e ∙ p in
+      let no_backslash : (b == 92) ≡ false = not-true (b == 92) (and_parts (nat_le 32 b && not (b == 34)) (not (b == 92)) stands).1 in
+      cond-false (b == 92) _ _ no_backslash ∙ cond-true (stands_as_is b) _ _ stands ∙ r
 
 -- ---- escapes
 

@@ -1,35 +1,21 @@
 -- Characters look at nothing behind them, and one that was begun can be ended.
-use Rattle.std.proofs.Common.{◌≡◌, ℕ, ◌+◌, ◌-◌, ◌*◌, ◌≤◌, Bool, true, false, cond, not, ◌&&◌, List, [], ◌∷◌, ◌++◌, Option, Some, None, Ok, Err, refl, sym, ap, subst, ◌∙◌, arith, inl, inr}
+use Rattle.std.proofs.Common.{◌≡◌, ℕ, ◌+◌, ◌*◌, ◌≤◌, Bool, true, false, cond, not, ◌&&◌, List, [], ◌∷◌, ◌++◌, Option, Some, None, Ok, Err, refl, sym, ap, subst, ◌∙◌, arith, inl, inr}
 use Rattle.std.specs.Prelude.{◌==◌, codes}
 use Rattle.std.specs.Char.Utf16.{surrogate_pair_char}
-use Rattle.std.proofs.lemmas.Bool.{cond-true, cond-false, eqb-true}
+use Rattle.std.proofs.lemmas.Bool.{cond-true, cond-false}
 use Rattle.reading.specs.Answer.{◌>>=◌, Answer, front}
 use Rattle.reading.specs.Bytes.{expect}
+use Rattle.reading.specs.Characters.{character as utf8_character}
 use Rattle.reading.proofs.Basics.{chosen_is}
-use Rattle.reading.proofs.Solid.{Taken, Halted, IsSolid, Solid, bind_solid, ok_solid, chosen_solid, behind, halts_at, halts_at_end, one_solid, expect_solid}
+use Rattle.reading.proofs.Characters.{ascii_read, none_read, character_solid as utf8_solid}
+use Rattle.reading.proofs.Solid.{Taken, Halted, IsSolid, Solid, bind_solid, ok_solid, chosen_solid, behind, halts_at, halts_at_end, one_solid, expect_solid, alike_solid}
 use Rattle.flow_line.specs.declared.fault.Code.TheVariants.{Syntax}
-use Rattle.flow_line.specs.Bytes.{is_in, is_plain, hex_value, unescaped}
-use Rattle.flow_line.specs.Text.{Reads, byte_in, next_bits, two_more, three_more, sequence, hex_in, high_digits, unit, unicode, short_escape, escape, character}
+use Rattle.flow_line.specs.Bytes.{is_in, stands_as_is, hex_value, unescaped}
+use Rattle.flow_line.specs.Text.{Reads, hex_in, high_digits, unit, unicode, short_escape, escape, character}
 use Rattle.flow_line.specs.Grammar.{IsCharacter}
-use Rattle.flow_line.proofs.Utf8.{Fault}
+use Rattle.flow_line.proofs.ByteRanges.{Fault}
 use Rattle.flow_line.proofs.Characters.{character_found}
-use Rattle.flow_line.proofs.CharactersRead.{byte_read, hex_read, character_read}
-
-byte_solid : (low high : ℕ) → low ≤ high → Solid Syntax (λ t. byte_in low high (front t) t)
-byte_solid low high h = one_solid (λ t. byte_in low high (front t) t) Syntax (low ∷ []) low (λ other. byte_read low high low other (omega arith) h) refl
-    (λ b. elim (chosen_is (is_in low high b)) [ inl k ↦ inl (b, λ u. cond-true (is_in low high b) _ _ k) | inr k ↦ inr (λ u. cond-false (is_in low high b) _ _ k) ])
-
-next_solid : (low high bits : ℕ) → low ≤ high → Solid Syntax (next_bits low high bits)
-unfolding next_bits
-next_solid low high bits h = bind_solid Syntax (λ t. byte_in low high (front t) t) (λ b u. Ok (bits * 64 + (b - 128), u)) (byte_solid low high h) (λ b. ok_solid ℕ Syntax (bits * 64 + (b - 128)))
-
-two_solid : (low high bits : ℕ) → low ≤ high → Solid Syntax (two_more low high bits)
-unfolding two_more
-two_solid low high bits h = bind_solid Syntax (next_bits low high bits) (λ b u. next_bits 128 191 b u) (next_solid low high bits h) (λ b. next_solid 128 191 b (omega arith))
-
-three_solid : (low high bits : ℕ) → low ≤ high → Solid Syntax (three_more low high bits)
-unfolding three_more
-three_solid low high bits h = bind_solid Syntax (next_bits low high bits) (λ b u. two_more 128 191 b u) (next_solid low high bits h) (λ b. two_solid 128 191 b (omega arith))
+use Rattle.flow_line.proofs.CharactersRead.{hex_read, character_read}
 
 -- ---- escapes
 
@@ -103,43 +89,7 @@ escape_solid (b ∷ t) = elim (chosen_is (b == 117)) [
 
 pub letter : (other : List ℕ) → character (97 ∷ other) ≡ Ok (97, other)
 unfolding character
-letter other = refl
-
-apart : (c d : Bool) (m n : ℕ) → 128 ≤ n → m ≤ 191 → (c ≡ true → d ≡ true → ⊥) → cond c m 128 ≤ cond d n 191
-apart true true m n p q h = absurd (h refl refl)
-apart true false m n p q h = q
-apart false true m n p q h = p
-apart false false m n p q h = omega arith
-
-range_three : (b : ℕ) → cond (b == 224) 160 128 ≤ cond (b == 237) 159 191
-range_three b = apart (b == 224) (b == 237) 160 159 (omega arith) (omega arith) (λ e f. let x : b ≡ 224 = eqb-true b 224 e in let y : b ≡ 237 = eqb-true b 237 f in absurd (omega arith))
-
-range_four : (b : ℕ) → cond (b == 240) 144 128 ≤ cond (b == 244) 143 191
-range_four b = apart (b == 240) (b == 244) 144 143 (omega arith) (omega arith) (λ e f. let x : b ≡ 240 = eqb-true b 240 e in let y : b ≡ 244 = eqb-true b 244 f in absurd (omega arith))
-
-sequence_solid : (b : ℕ) (t : List ℕ) → ((u : List ℕ) → character (b ∷ u) ≡ sequence b (b ∷ u)) → IsSolid Syntax character (b ∷ t) (sequence b (b ∷ t))
-unfolding Solid
-sequence_solid b t same =
-    let So : Answer ℕ Fault ℕ → Type 0 = λ a. IsSolid Syntax character (b ∷ t) a in
-    elim (chosen_is (is_in 194 223 b)) [
-      | inl h ↦ subst So (sym (cond-true (is_in 194 223 b) _ _ h)) (behind Syntax (next_bits 128 191 (b - 192)) character b t (λ u. same u ∙ cond-true (is_in 194 223 b) _ _ h) (next_bits 128 191 (b - 192) t) (next_solid 128 191 (b - 192) (omega arith) t))
-      | inr h ↦ subst So (sym (cond-false (is_in 194 223 b) _ _ h)) (elim (chosen_is (is_in 224 239 b)) [
-        | inl k ↦
-            let low : ℕ = cond (b == 224) 160 128 in
-            let high : ℕ = cond (b == 237) 159 191 in
-            subst So (sym (cond-true (is_in 224 239 b) _ _ k))
-            (behind Syntax (two_more low high (b - 224)) character b t (λ u. same u ∙ cond-false (is_in 194 223 b) _ _ h ∙ cond-true (is_in 224 239 b) _ _ k) (two_more low high (b - 224) t) (two_solid low high (b - 224) (range_three b) t))
-        | inr k ↦ subst So (sym (cond-false (is_in 224 239 b) _ _ k)) (elim (chosen_is (is_in 240 244 b)) [
-          | inl l ↦
-              let low : ℕ = cond (b == 240) 144 128 in
-              let high : ℕ = cond (b == 244) 143 191 in
-              subst So (sym (cond-true (is_in 240 244 b) _ _ l))
-              (behind Syntax (three_more low high (b - 240)) character b t (λ u. same u ∙ cond-false (is_in 194 223 b) _ _ h ∙ cond-false (is_in 224 239 b) _ _ k ∙ cond-true (is_in 240 244 b) _ _ l) (three_more low high (b - 240) t) (three_solid low high (b - 240) (range_four b) t))
-          | inr l ↦ subst So (sym (cond-false (is_in 240 244 b) _ _ l))
-              (halts_at character Syntax (97 ∷ []) 97 letter b t (λ u. same u ∙ cond-false (is_in 194 223 b) _ _ h ∙ cond-false (is_in 224 239 b) _ _ k ∙ cond-false (is_in 240 244 b) _ _ l))
-        ])
-      ])
-    ]
+letter other = ascii_read Syntax 97 other (omega arith)
 
 pub character_solid : Solid Syntax character
 unfolding Solid character escaped
@@ -148,9 +98,10 @@ character_solid (b ∷ t) =
     let So : Answer ℕ Fault ℕ → Type 0 = λ a. IsSolid Syntax character (b ∷ t) a in
     elim (chosen_is (b == 92)) [
       | inl h ↦ subst So (sym (cond-true (b == 92) _ _ h)) (behind Syntax escaped character b t (λ u. cond-true (b == 92) _ _ h) (escaped t) (escape_solid t))
-      | inr h ↦ subst So (sym (cond-false (b == 92) _ _ h)) (elim (chosen_is (is_plain b)) [
-        | inl p ↦ subst So (sym (cond-true (is_plain b) _ _ p)) (record { taken = b ∷ []; parts = refl; again = λ other. cond-false (b == 92) _ _ h ∙ cond-true (is_plain b) _ _ p })
-        | inr p ↦ subst So (sym (cond-false (is_plain b) _ _ p)) (sequence_solid b t (λ u. cond-false (b == 92) _ _ h ∙ cond-false (is_plain b) _ _ p))
+      | inr h ↦ subst So (sym (cond-false (b == 92) _ _ h)) (elim (chosen_is (stands_as_is b)) [
+        | inl p ↦ subst So (sym (cond-true (stands_as_is b) _ _ p))
+            (alike_solid Syntax (utf8_character Syntax) character b (λ u. cond-false (b == 92) _ _ h ∙ cond-true (stands_as_is b) _ _ p) (none_read Syntax) (97 ∷ []) 97 letter (utf8_solid Syntax) t)
+        | inr p ↦ subst So (sym (cond-false (stands_as_is b) _ _ p)) (halts_at character Syntax (97 ∷ []) 97 letter b t (λ u. cond-false (b == 92) _ _ h ∙ cond-false (stands_as_is b) _ _ p))
       ])
     ]
 

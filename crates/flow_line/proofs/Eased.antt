@@ -14,7 +14,7 @@ use Rattle.flow_line.specs.Text.{Reads, string}
 use Rattle.flow_line.specs.Reading.{has_key, key, pair, items, ended}
 use Rattle.flow_line.specs.Grammar.{IsNumber}
 use Rattle.flow_line.specs.Refused.{Like, is_bracket}
-use Rattle.flow_line.proofs.Utf8.{Fault}
+use Rattle.flow_line.proofs.ByteRanges.{Fault}
 use Rattle.flow_line.proofs.Found.{string_found, string_longer}
 use Rattle.flow_line.proofs.Numbers.{number_found}
 use Rattle.flow_line.proofs.NumberLaws.{number_local}

@@ -15,7 +15,7 @@ use Rattle.flow_line.specs.Text.{Reads}
 use Rattle.flow_line.specs.Reading.{ended, document}
 use Rattle.flow_line.specs.Grammar.{IsNumber, IsDocument, IsUnbounded}
 use Rattle.flow_line.specs.Refused.{IsNotation, Like, IsNone, MayStand, IsNoSyntax, IsFirstFault}
-use Rattle.flow_line.proofs.Utf8.{Fault}
+use Rattle.flow_line.proofs.ByteRanges.{Fault}
 use Rattle.flow_line.proofs.Numbers.{number_is_read}
 use Rattle.flow_line.proofs.NumberLaws.{Free, number_local, number_open}
 use Rattle.flow_line.proofs.StringLaws.{IsLocal}

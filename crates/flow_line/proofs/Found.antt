@@ -13,7 +13,7 @@ use Rattle.flow_line.specs.declared.fault.Code.TheVariants.{Syntax}
 use Rattle.flow_line.specs.Text.{character, characters, goes_on, over, text, string}
 use Rattle.flow_line.specs.Grammar.{IsUnit, unit, IsCharacter, itself, short, whole, halves, IsCharacters, close, more, IsString, string as string_of}
 use Rattle.flow_line.proofs.Characters.{character_found}
-use Rattle.flow_line.proofs.Utf8.{Fault}
+use Rattle.flow_line.proofs.ByteRanges.{Fault}
 
 unit_longer : {t rest : List ℕ} {u : ℕ} → IsUnit t u rest → length rest < length t
 unit_longer (unit a b c d) = omega arith

@@ -15,7 +15,7 @@ pub mod Starts
 pub mod StringLaws
 pub mod Strings
 pub mod StringsRead
-pub mod Utf8
+pub mod ByteRanges
 pub mod ValueFrames
 pub mod ValueLocal
 pub mod ValueOpen

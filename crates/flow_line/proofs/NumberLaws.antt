@@ -25,7 +25,7 @@ use Rattle.flow_line.specs.Text.{Reads, byte_in}
 use Rattle.flow_line.specs.Reading.{skip_digits, skip_sign, digits, numeral, in_range}
 use Rattle.flow_line.specs.Grammar.{extends, IsNumber, number as number_of}
 use Rattle.flow_line.specs.Refused.{Like, SameNumber}
-use Rattle.flow_line.proofs.Utf8.{Fault}
+use Rattle.flow_line.proofs.ByteRanges.{Fault}
 use Rattle.flow_line.proofs.Numbers.{Run, run_end, run_digit, Digits, digits_of, Sign, bare, plus, minus, Numeral, whole, fixed, digits_found, sign_found, behind_sign, numeral_read, shape_of, front_of, no_byte, dot_not, digits_none, digits_some, number_by}
 use Rattle.flow_line.proofs.StringLaws.{like_front, IsLocal}
 

@@ -20,7 +20,7 @@ use Rattle.flow_line.specs.Reading.{skip_digits, skip_sign, digits, numeral, in_
 use Rattle.flow_line.specs.Grammar.{extends, IsNumber, number as number_of}
 use Rattle.flow_line.proofs.Shorter.{in_range_rest}
 use Rattle.flow_line.proofs.Starts.{starts_numeric}
-use Rattle.flow_line.proofs.Utf8.{Fault, byte_in_found}
+use Rattle.flow_line.proofs.ByteRanges.{Fault, byte_in_found}
 
 -- ---- number text
 

@@ -13,7 +13,7 @@ use Rattle.flow_line.specs.Text.{string}
 use Rattle.flow_line.specs.Reading.{numeral}
 use Rattle.flow_line.specs.Grammar.{IsNumber, number as number_of, IsUnbounded}
 use Rattle.flow_line.specs.Refused.{SameKey, SameNumber, is_bracket, IsToken, quoted, numeral as numeral_of, single, AreTokens, no_token, one_token, IsPlace, MayStand, IsFirstFault}
-use Rattle.flow_line.proofs.Utf8.{Fault}
+use Rattle.flow_line.proofs.ByteRanges.{Fault}
 use Rattle.flow_line.proofs.Found.{string_longer}
 use Rattle.flow_line.proofs.StringsRead.{string_read}
 use Rattle.flow_line.proofs.StringLaws.{string_framed}

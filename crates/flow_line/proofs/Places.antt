@@ -7,7 +7,7 @@ use Rattle.flow_line.specs.declared.fault.Code.{Code}
 use Rattle.flow_line.specs.declared.fault.Code.TheVariants.{Syntax, RepeatedKey, Depth, Range}
 use Rattle.flow_line.specs.Grammar.{IsNumber, number as number_of}
 use Rattle.flow_line.specs.Refused.{IsToken, quoted, numeral, single, AreTokens, no_token, one_token, AreInRange, IsPlace}
-use Rattle.flow_line.proofs.Utf8.{Fault}
+use Rattle.flow_line.proofs.ByteRanges.{Fault}
 use Rattle.flow_line.proofs.StringLaws.{string_framed}
 use Rattle.flow_line.proofs.Whole.{AnySize}
 use Rattle.flow_line.proofs.OneFault.{same_rest, token_longer, tokens_longer, in_order}

@@ -3,7 +3,7 @@ use Rattle.std.proofs.Common.{◌≡◌, ℕ, zero, suc, ◌+◌, ◌<◌, Bool,
 use Rattle.std.specs.Prelude.{◌==◌, ◌&&◌, IsAscii}
 use Rattle.std.specs.List.{position}
 use Rattle.std.specs.Str.{encode_utf8_all}
-use Rattle.std.proofs.lemmas.Bool.{and_parts, cond-true, cond-false}
+use Rattle.std.proofs.lemmas.Bool.{and_parts, cond-true, cond-false, le-leb}
 use Rattle.std.proofs.lemmas.List.{append-nil}
 use Rattle.std.proofs.lemmas.List.Quantifiers.{position-Some}
 use Rattle.std.proofs.lemmas.Str.{encode_ascii, IsUtf8-from_ascii}
@@ -11,9 +11,11 @@ use Rattle.std.proofs.lemmas.Str.Ascii.{IsAscii-nil, IsAscii-cons}
 use Rattle.reading.specs.Answer.{made}
 use Rattle.reading.specs.Bytes.{sees}
 use Rattle.reading.specs.Rows.{repeat}
-use Rattle.flow_line.specs.Bytes.{is_in, is_plain}
+use Rattle.reading.proofs.Characters.{ascii_read}
+use Rattle.flow_line.specs.declared.fault.Code.TheVariants.{Syntax}
+use Rattle.flow_line.specs.Bytes.{is_in, is_plain, stands_as_is}
 use Rattle.flow_line.specs.Text.{character, characters, goes_on, over, text}
-use Rattle.flow_line.proofs.Utf8.{in_parts}
+use Rattle.flow_line.proofs.ByteRanges.{in_parts}
 
 off : (x : Bool) → not x ≡ true → x ≡ false
 off true h = sym h
@@ -23,16 +25,18 @@ on : (x : Bool) → not x ≡ false → x ≡ true
 on true h = refl
 on false h = sym h
 
-plain_parts : (b : ℕ) → is_plain b ≡ true → (b < 128) × ((b == 34) ≡ false) × ((b == 92) ≡ false)
+plain_parts : (b : ℕ) → is_plain b ≡ true → (b < 128) × ((b == 34) ≡ false) × ((b == 92) ≡ false) × (stands_as_is b ≡ true)
 plain_parts b e =
     let p = and_parts (is_in 32 127 b && not (b == 34)) (not (b == 92)) e in
     let q = and_parts (is_in 32 127 b) (not (b == 34)) p.0 in
     let r = in_parts 32 127 b q.0 in
-    (omega (arith, r.1), off (b == 34) q.1, off (b == 92) p.1)
+    (omega (arith, r.1), off (b == 34) q.1, off (b == 92) p.1, rw (le-leb 32 b r.0, q.1, p.1) refl)
 
 itself : (b : ℕ) (rest : List ℕ) → is_plain b ≡ true → character (b ∷ rest) ≡ Ok (b, rest)
 unfolding character
-itself b rest p = cond-false (b == 92) _ _ (plain_parts b p).2 ∙ cond-true (is_plain b) _ _ p
+itself b rest p =
+    let parts = plain_parts b p in
+    cond-false (b == 92) _ _ parts.2 ∙ cond-true (stands_as_is b) _ _ parts.3 ∙ ascii_read Syntax b rest parts.0
 
 -- as many bytes at the front stand for themselves
 abbrev ArePlain : ℕ → List ℕ → Type 0

@@ -12,7 +12,7 @@ use Rattle.flow_line.specs.declared.fault.Code.TheVariants.{Syntax}
 use Rattle.flow_line.specs.Text.{Reads}
 use Rattle.flow_line.specs.Reading.{ended}
 use Rattle.flow_line.specs.Refused.{Like}
-use Rattle.flow_line.proofs.Utf8.{Fault}
+use Rattle.flow_line.proofs.ByteRanges.{Fault}
 use Rattle.flow_line.proofs.Shorter.{length-drop_one}
 use Rattle.flow_line.proofs.StringLaws.{like_front, IsLocal}
 

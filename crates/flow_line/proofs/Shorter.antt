@@ -17,7 +17,7 @@ use Rattle.flow_line.specs.Bytes.{is_digit, begins_number}
 use Rattle.flow_line.specs.Text.{Reads, byte_in, text, string}
 use Rattle.flow_line.specs.Reading.{skip_digits, skip_sign, digits, numeral, in_range, number, has_key, key, pair, items, pairs, Start, of_null, of_true, of_false, quote, bracket, brace, numeric, nothing, start_of, value_by, value}
 use Rattle.flow_line.proofs.Found.{text_found, string_found, string_longer}
-use Rattle.flow_line.proofs.Utf8.{Fault, byte_in_found}
+use Rattle.flow_line.proofs.ByteRanges.{Fault, byte_in_found}
 
 pub length-skip_digits : (t : List ℕ) → length (skip_digits t) ≤ length t
 unfolding skip_digits

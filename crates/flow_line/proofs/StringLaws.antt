@@ -19,7 +19,7 @@ use Rattle.flow_line.specs.Text.{Reads, character, characters, text, string}
 use Rattle.flow_line.specs.Reading.{has_key}
 use Rattle.flow_line.specs.Grammar.{IsCharacters, close, more, IsString, string as string_of}
 use Rattle.flow_line.specs.Refused.{Like}
-use Rattle.flow_line.proofs.Utf8.{Fault}
+use Rattle.flow_line.proofs.ByteRanges.{Fault}
 use Rattle.flow_line.proofs.Characters.{character_found}
 use Rattle.flow_line.proofs.CharactersSolid.{letter, character_framed, character_halted}
 use Rattle.flow_line.proofs.Found.{text_found}

@@ -12,7 +12,7 @@ use Rattle.reading.proofs.Rows.{Repeats, no_more, repeat_fails, one_more}
 use Rattle.flow_line.specs.Text.{character, characters, goes_on, over, text}
 use Rattle.flow_line.proofs.Found.{character_longer}
 use Rattle.flow_line.proofs.Characters.{character_found}
-use Rattle.flow_line.proofs.Utf8.{Fault}
+use Rattle.flow_line.proofs.ByteRanges.{Fault}
 
 abbrev So : List ℕ → List ℕ → Answer ℕ Fault (List ℕ) → Type 0
 So found rest total = Repeats over (λ _. goes_on) (λ _. character) found rest total

@@ -9,7 +9,7 @@ use Rattle.reading.proofs.Basics.{bind_err, made_err, chosen_is}
 use Rattle.reading.proofs.Bytes.{sees_front}
 use Rattle.flow_line.specs.Text.{character, characters, text, string}
 use Rattle.flow_line.specs.Grammar.{IsCharacter, IsCharacters, close, more, IsString, string as string_of}
-use Rattle.flow_line.proofs.Utf8.{Fault}
+use Rattle.flow_line.proofs.ByteRanges.{Fault}
 use Rattle.flow_line.proofs.Characters.{character_found}
 use Rattle.flow_line.proofs.CharactersRead.{character_read}
 use Rattle.flow_line.proofs.Found.{character_longer, Turns}

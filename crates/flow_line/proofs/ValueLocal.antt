@@ -15,7 +15,7 @@ use Rattle.flow_line.specs.Text.{Reads, text, string}
 use Rattle.flow_line.specs.Reading.{has_key, key, pair, items, Start, of_null, of_true, of_false, quote, bracket, brace, numeric, nothing, start_of, ended}
 use Rattle.flow_line.specs.Grammar.{IsNumber}
 use Rattle.flow_line.specs.Refused.{Like, SameKey}
-use Rattle.flow_line.proofs.Utf8.{Fault}
+use Rattle.flow_line.proofs.ByteRanges.{Fault}
 use Rattle.flow_line.proofs.StringsRead.{string_read}
 use Rattle.flow_line.proofs.StringLaws.{like_front, IsLocal, text_local, string_local}
 use Rattle.flow_line.proofs.Values.{value_over, maps_with, value_with, document_with, value_shorter, pair_shorter}

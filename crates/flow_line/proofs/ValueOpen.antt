@@ -16,7 +16,7 @@ use Rattle.flow_line.specs.declared.fault.Code.TheVariants.{Syntax, RepeatedKey,
 use Rattle.flow_line.specs.Text.{Reads, text, string}
 use Rattle.flow_line.specs.Reading.{has_key, key, pair, items, Start, of_null, of_true, of_false, quote, bracket, brace, numeric, nothing, start_of}
 use Rattle.flow_line.specs.Grammar.{IsString, IsNumber, IsPair, pair as pair_of, IsValueOver, null, yes, no, numeric as number_of, text as text_of, list, map}
-use Rattle.flow_line.proofs.Utf8.{Fault}
+use Rattle.flow_line.proofs.ByteRanges.{Fault}
 use Rattle.flow_line.proofs.Shorter.{IsStart, is_start}
 use Rattle.flow_line.proofs.NumberLaws.{Free, blank_free}
 use Rattle.flow_line.proofs.StringLaws.{OpenString, no_text, text_open, string_framed, fresh}

@@ -15,7 +15,7 @@ use Rattle.flow_line.specs.declared.fault.Code.TheVariants.{Syntax, RepeatedKey,
 use Rattle.flow_line.specs.Text.{Reads, text, string}
 use Rattle.flow_line.specs.Reading.{number, has_key, key, pair, items, pairs, Start, of_null, of_true, of_false, quote, bracket, brace, numeric, nothing, start_of, value_by, value, ended, document}
 use Rattle.flow_line.specs.Grammar.{IsString, IsNumber, IsPair, pair as pair_of, IsValueOver, null, yes, no, numeric as number_of, text as text_of, list, map, IsValue}
-use Rattle.flow_line.proofs.Utf8.{Fault}
+use Rattle.flow_line.proofs.ByteRanges.{Fault}
 use Rattle.flow_line.proofs.Found.{text_found, string_found, string_longer}
 use Rattle.flow_line.proofs.StringsRead.{text_read, string_read}
 use Rattle.flow_line.proofs.Shorter.{IsStart, is_start}

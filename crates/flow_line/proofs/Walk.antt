@@ -19,7 +19,7 @@ use Rattle.flow_line.specs.Text.{Reads, text, string}
 use Rattle.flow_line.specs.Reading.{numeral, has_key, key, pair, items, Start, of_null, of_true, of_false, quote, bracket, brace, numeric, nothing, start_of, ended}
 use Rattle.flow_line.specs.Grammar.{IsNumber, number as number_of}
 use Rattle.flow_line.specs.Refused.{IsToken, quoted, numeral as numeral_of, single}
-use Rattle.flow_line.proofs.Utf8.{Fault}
+use Rattle.flow_line.proofs.ByteRanges.{Fault}
 use Rattle.flow_line.proofs.Found.{string_found}
 use Rattle.flow_line.proofs.StringsRead.{string_read}
 use Rattle.flow_line.proofs.StringLaws.{text_syntax, text_local}

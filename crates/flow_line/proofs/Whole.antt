@@ -10,7 +10,7 @@ use Rattle.flow_line.specs.declared.fault.Code.TheVariants.{Syntax}
 use Rattle.flow_line.specs.Text.{Reads}
 use Rattle.flow_line.specs.Reading.{number, ended, document}
 use Rattle.flow_line.specs.Grammar.{IsNumber, IsDocument}
-use Rattle.flow_line.proofs.Utf8.{Fault}
+use Rattle.flow_line.proofs.ByteRanges.{Fault}
 use Rattle.flow_line.proofs.Within.{is_end}
 use Rattle.flow_line.proofs.Numbers.{number_by, number_found, number_is_read}
 use Rattle.flow_line.proofs.Values.{value_with, document_with, document_is, ValueBy, all_seen, is_value, value_found, value_read}

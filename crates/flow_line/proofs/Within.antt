@@ -1,7 +1,6 @@
 -- A fault stands within the text.
-use Rattle.std.proofs.Common.{◌≡◌, ℕ, zero, suc, ◌+◌, ◌-◌, ◌*◌, ◌≤◌, Bool, true, false, cond, not, ◌&&◌, List, [], ◌∷◌, ◌++◌, length, take, drop, Option, Some, None, Ok, Err, refl, sym, ap, ◌∙◌, arith, length-append, inl, inr}
-use Rattle.std.specs.Prelude.{codes, ◌==◌}
-use Rattle.std.specs.Char.Utf16.{surrogate_pair_char}
+use Rattle.std.proofs.Common.{◌≡◌, ℕ, zero, suc, ◌-◌, ◌≤◌, Bool, true, false, cond, List, [], ◌∷◌, ◌++◌, length, take, drop, Option, Some, None, Ok, Err, refl, sym, ap, ◌∙◌, arith, length-append, inl, inr}
+use Rattle.std.specs.Prelude.{codes}
 use Rattle.std.specs.Str.{encode_utf8_all}
 use Rattle.ha_value.specs.declared.value.Num.{Num}
 use Rattle.ha_value.specs.declared.value.Value.{Value}
@@ -11,14 +10,16 @@ use Rattle.reading.specs.Answer.{◌>>=◌, front, made, stop}
 use Rattle.reading.specs.Bytes.{sees, skip, expect}
 use Rattle.reading.specs.Rows.{repeat, after_item, row, closed_by}
 use Rattle.reading.proofs.Basics.{bad, bind_ok, bind_err, made_err, ok_parts, chosen, stop_left, IsShorter}
+use Rattle.reading.proofs.Solid.{stops_within}
 use Rattle.reading.proofs.Bytes.{expect_open, expect_longer, length-skip}
 use Rattle.flow_line.specs.declared.fault.Code.{Code}
 use Rattle.flow_line.specs.declared.fault.Code.TheVariants.{Syntax, RepeatedKey, Depth, Range}
-use Rattle.flow_line.specs.Bytes.{is_in, is_plain, hex_value, unescaped}
-use Rattle.flow_line.specs.Text.{Reads, byte_in, next_bits, two_more, three_more, sequence, hex_in, high_digits, unit, unicode, short_escape, escape, character_at, character, goes_on, over, characters, text, string}
+use Rattle.flow_line.specs.Bytes.{is_in}
+use Rattle.flow_line.specs.Text.{Reads, byte_in, character, goes_on, over, characters, text, string}
 use Rattle.flow_line.specs.Reading.{skip_digits, skip_sign, digits, numeral, in_range, number, has_key, key, pair, items, pairs, Start, of_null, of_true, of_false, quote, bracket, brace, numeric, nothing, start_of, value_by, value, ended, document}
-use Rattle.flow_line.proofs.Utf8.{Fault, byte_in_found, next_bits_found}
-use Rattle.flow_line.proofs.Characters.{hex_found, unit_found, character_found}
+use Rattle.flow_line.proofs.ByteRanges.{Fault, byte_in_found}
+use Rattle.flow_line.proofs.Characters.{character_found}
+use Rattle.flow_line.proofs.CharactersSolid.{character_solid}
 use Rattle.flow_line.proofs.Found.{character_longer}
 use Rattle.flow_line.proofs.Shorter.{length-drop_one, length-skip_sign, digits_shorter, key_shorter, value_shorter, pair_shorter}
 
@@ -75,85 +76,8 @@ byte_within low high = look_within (byte_in low high) each where
 byte_keeps : (low high : ℕ) → Keeps (λ t. byte_in low high (front t) t)
 byte_keeps low high t x rest e = omega (arith, ap length (byte_in_found low high t x rest e).0)
 
-next_within : (low high bits : ℕ) → Within (next_bits low high bits)
-unfolding next_bits
-next_within low high bits = bind_within (λ t. byte_in low high (front t) t) (λ b u. Ok (bits * 64 + (b - 128), u)) (byte_keeps low high) (byte_within low high) (λ b. ok_within (λ _. bits * 64 + (b - 128)) (λ u. u))
-
-next_keeps : (low high bits : ℕ) → Keeps (next_bits low high bits)
-next_keeps low high bits t x rest e = let n = next_bits_found low high bits t x rest e in omega (arith, ap length n.parts)
-
-two_within : (low high bits : ℕ) → Within (two_more low high bits)
-unfolding two_more
-two_within low high bits = bind_within (next_bits low high bits) (λ b u. next_bits 128 191 b u) (next_keeps low high bits) (next_within low high bits) (λ b. next_within 128 191 b)
-
-three_within : (low high bits : ℕ) → Within (three_more low high bits)
-unfolding three_more
-three_within low high bits = bind_within (next_bits low high bits) (λ b u. two_more 128 191 b u) (next_keeps low high bits) (next_within low high bits) (λ b. two_within 128 191 b)
-
-sequence_within : (b : ℕ) → Within (sequence b)
-sequence_within b =
-    cond_within (λ _. is_in 194 223 b) (λ t. next_bits 128 191 (b - 192) (drop 1 t)) _ (drop_within (next_bits 128 191 (b - 192)) (next_within 128 191 (b - 192)))
-    (cond_within (λ _. is_in 224 239 b) (λ t. two_more (cond (b == 224) 160 128) (cond (b == 237) 159 191) (b - 224) (drop 1 t)) _ (drop_within (two_more (cond (b == 224) 160 128) (cond (b == 237) 159 191) (b - 224)) (two_within (cond (b == 224) 160 128) (cond (b == 237) 159 191) (b - 224)))
-    (cond_within (λ _. is_in 240 244 b) (λ t. three_more (cond (b == 240) 144 128) (cond (b == 244) 143 191) (b - 240) (drop 1 t)) (stop Syntax)
-    (drop_within (three_more (cond (b == 240) 144 128) (cond (b == 244) 143 191) (b - 240)) (three_within (cond (b == 240) 144 128) (cond (b == 244) 143 191) (b - 240))) (stop_within Syntax)))
-
-hex_within : (low high : ℕ) → Within (λ t. hex_in low high (front t) t)
-hex_within low high = look_within (hex_in low high) each where
-  each : (o : Option ℕ) → Within (hex_in low high o)
-  each None = stop_within Syntax
-  each (Some b) = cond_within (λ _. is_in low high (hex_value b)) (λ t. Ok (hex_value b, drop 1 t)) (stop Syntax) (ok_within (λ _. hex_value b) (drop 1)) (stop_within Syntax)
-
-hex_keeps : (low high : ℕ) → Keeps (λ t. hex_in low high (front t) t)
-hex_keeps low high t x rest e = let d = hex_found low high t x rest e in omega (arith, ap length d.parts)
-
-high_within : (low : Bool) → Within (high_digits low)
-unfolding high_digits
-high_within low =
-    bind_within (λ t. hex_in (cond low 13 0) (cond low 13 15) (front t) t) (λ a u. hex_in (cond low 12 0) (cond (a == 13 && not low) 11 15) (front u) u >>= λ b. Ok (a * 16 + b.0, b.1)) (hex_keeps (cond low 13 0) (cond low 13 15)) (hex_within (cond low 13 0) (cond low 13 15))
-    (λ a. bind_within (λ t. hex_in (cond low 12 0) (cond (a == 13 && not low) 11 15) (front t) t) (λ b u. Ok (a * 16 + b, u)) (hex_keeps (cond low 12 0) (cond (a == 13 && not low) 11 15)) (hex_within (cond low 12 0) (cond (a == 13 && not low) 11 15)) (λ b. ok_within (λ _. a * 16 + b) (λ u. u)))
-
-high_keeps : (low : Bool) → Keeps (high_digits low)
-unfolding high_digits
-high_keeps low t x rest e =
-    let a = bind_ok (hex_in (cond low 13 0) (cond low 13 15) (front t) t) (λ a. hex_in (cond low 12 0) (cond (a.0 == 13 && not low) 11 15) (front a.1) a.1 >>= λ b. Ok (a.0 * 16 + b.0, b.1)) (x, rest) e in
-    let b = bind_ok (hex_in (cond low 12 0) (cond (a.0.0 == 13 && not low) 11 15) (front a.0.1) a.0.1) (λ b. Ok (a.0.0 * 16 + b.0, b.1)) (x, rest) a.2 in
-    let p = ok_parts {F = Fault} (a.0.0 * 16 + b.0.0, b.0.1) (x, rest) b.2 in
-    omega (arith, hex_keeps (cond low 13 0) (cond low 13 15) t a.0.0 a.0.1 a.1, hex_keeps (cond low 12 0) (cond (a.0.0 == 13 && not low) 11 15) a.0.1 b.0.0 b.0.1 b.1, ap length p.1)
-
-unit_within : (low : Bool) → Within (unit low)
-unfolding unit
-unit_within low =
-    bind_within (high_digits low) (λ h u. hex_in 0 15 (front u) u >>= λ c. hex_in 0 15 (front c.1) c.1 >>= λ d. Ok (h * 256 + c.0 * 16 + d.0, d.1)) (high_keeps low) (high_within low)
-    (λ h. bind_within (λ t. hex_in 0 15 (front t) t) (λ c u. hex_in 0 15 (front u) u >>= λ d. Ok (h * 256 + c * 16 + d.0, d.1)) (hex_keeps 0 15) (hex_within 0 15)
-    (λ c. bind_within (λ t. hex_in 0 15 (front t) t) (λ d u. Ok (h * 256 + c * 16 + d, u)) (hex_keeps 0 15) (hex_within 0 15) (λ d. ok_within (λ _. h * 256 + c * 16 + d) (λ u. u))))
-
-unit_keeps : (low : Bool) → Keeps (unit low)
-unit_keeps low t x rest e = let u = unit_found low t x rest e in omega (arith, ap length u.parts)
-
-unicode_within : Within unicode
-unfolding unicode
-unicode_within =
-    bind_within (unit false) (λ u r. cond (is_in 0xD800 0xDBFF u) (expect Syntax (codes "\\u") r >>= λ mark. unit true mark.1 >>= λ half. Ok (surrogate_pair_char u half.0, half.1)) (Ok (u, r))) (unit_keeps false) (unit_within false)
-    (λ u. cond_within (λ _. is_in 0xD800 0xDBFF u) (λ r. expect Syntax (codes "\\u") r >>= λ mark. unit true mark.1 >>= λ half. Ok (surrogate_pair_char u half.0, half.1)) (λ r. Ok (u, r))
-    (bind_within (expect Syntax (codes "\\u")) (λ _ r. unit true r >>= λ half. Ok (surrogate_pair_char u half.0, half.1)) (expect_keeps (codes "\\u")) (expect_within (codes "\\u"))
-    (λ _. bind_within (unit true) (λ half r. Ok (surrogate_pair_char u half, r)) (unit_keeps true) (unit_within true) (λ half. ok_within (λ _. surrogate_pair_char u half) (λ r. r))))
-    (ok_within (λ _. u) (λ r. r)))
-
-escape_within : (o : Option ℕ) → Within (escape o)
-escape_within None = stop_within Syntax
-escape_within (Some b) = cond_within (λ _. b == 117) (λ t. unicode (drop 1 t)) (short_escape (unescaped b)) (drop_within unicode unicode_within) (by_short (unescaped b)) where
-  by_short : (o : Option ℕ) → Within (short_escape o)
-  by_short None = stop_within Syntax
-  by_short (Some c) = ok_within (λ _. c) (drop 1)
-
 character_within : Within character
-unfolding character
-character_within = look_within character_at each where
-  each : (o : Option ℕ) → Within (character_at o)
-  each None = stop_within Syntax
-  each (Some b) =
-      cond_within (λ _. b == 92) (λ t. escape (front (drop 1 t)) (drop 1 t)) (λ t. cond (is_plain b) (Ok (b, drop 1 t)) (sequence b t)) (drop_within (λ t. escape (front t) t) (look_within escape escape_within))
-      (cond_within (λ _. is_plain b) (λ t. Ok (b, drop 1 t)) (sequence b) (ok_within (λ _. b) (drop 1)) (sequence_within b))
+character_within = stops_within Syntax character character_solid
 
 character_keeps : Keeps character
 character_keeps t c rest e = let l = character_longer (character_found t c rest e) in omega arith

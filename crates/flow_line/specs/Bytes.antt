@@ -10,6 +10,10 @@ is_digit b = is_in 48 57 b
 abbrev pub begins_number : ℕ → Bool
 begins_number b = is_digit b || b == 45 || b == 43
 
+-- a character, or its first byte, that may stand in a string as it is: no control character below 32, no quote and no backslash
+abbrev pub stands_as_is : ℕ → Bool
+stands_as_is c = nat_le 32 c && not (c == 34) && not (c == 92)
+
 -- an ASCII byte that stands for itself in a string
 abbrev pub is_plain : ℕ → Bool
 is_plain b = is_in 32 127 b && not (b == 34) && not (b == 92)

@@ -1,7 +1,7 @@
 -- The grammar of values. In each rule a text is a spelling of something, and then the rest of the text follows. `skip text` is the
 -- text without the blanks at its front.
-use Rattle.std.specs.Prelude.{◌≡◌, ◌<◌, ◌+◌, ◌*◌, ℕ, zero, suc, Bool, true, false, not, ◌||◌, ◌&&◌}
-use Rattle.std.specs.Prelude.{◌==◌, nat_le, List, [], ◌∷◌, ◌++◌, Option, Some, None}
+use Rattle.std.specs.Prelude.{◌≡◌, ◌<◌, ◌+◌, ◌*◌, ℕ, zero, suc, Bool, true, false, ◌||◌}
+use Rattle.std.specs.Prelude.{◌==◌, List, [], ◌∷◌, ◌++◌, Option, Some, None}
 use Rattle.std.specs.Char.{IsScalar}
 use Rattle.std.specs.Char.Utf16.{is_high_surrogate, is_low_surrogate, surrogate_pair_char}
 use Rattle.std.specs.Prelude.{encode_utf8}
@@ -15,6 +15,7 @@ use Rattle.reading.specs.Answer.{front}
 use Rattle.reading.specs.Bytes.{skip}
 use Rattle.reading.specs.Spelling.{Never, IsClosed}
 use Rattle.flow_line.specs.Bytes.{hex_value, is_digit, unescaped}
+pub use Rattle.flow_line.specs.Bytes.{stands_as_is}
 use Rattle.flow_line.specs.Reading.{has_key}
 
 -- ---- strings
@@ -23,10 +24,6 @@ use Rattle.flow_line.specs.Reading.{has_key}
 pub data IsUnit : List ℕ → ℕ → List ℕ → Type 0 where
   unit : {a b c d : ℕ} {rest : List ℕ} → hex_value a < 16 → hex_value b < 16 → hex_value c < 16 → hex_value d < 16
       → IsUnit (a ∷ b ∷ c ∷ d ∷ rest) ((hex_value a * 16 + hex_value b) * 256 + hex_value c * 16 + hex_value d) rest
-
--- a character that may stand in a string as it is: no control character below 32, no quote and no backslash
-abbrev pub stands_as_is : ℕ → Bool
-stands_as_is c = nat_le 32 c && not (c == 34) && not (c == 92)
 
 -- A character of a string, by its code: its UTF-8, an escape by one letter or sign, a unit that is no half of a pair, or a pair.
 pub data IsCharacter : List ℕ → ℕ → List ℕ → Type 0 where

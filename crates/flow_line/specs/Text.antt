@@ -1,15 +1,16 @@
 -- Strings, read from left to right.
-use Rattle.std.specs.Prelude.{ℕ, suc, ◌+◌, ◌-◌, ◌*◌, Bool, true, false, not, ◌&&◌, ◌==◌}
+use Rattle.std.specs.Prelude.{ℕ, suc, ◌+◌, ◌*◌, Bool, true, false, not, ◌&&◌, ◌==◌}
 use Rattle.std.specs.Prelude.{if◌then◌else◌, List, [], length, drop, Option, Some, None, Ok, codes}
 use Rattle.std.specs.Char.Utf16.{surrogate_pair_char}
 use Rattle.std.specs.Str.{encode_utf8_all}
 use Rattle.reading.specs.declared.fault.Bad.{Bad}
 use Rattle.reading.specs.Answer.{◌>>=◌, Rule, front, made, stop}
 use Rattle.reading.specs.Bytes.{sees, expect}
+use Rattle.reading.specs.Characters.{character as utf8_character}
 use Rattle.reading.specs.Rows.{repeat}
 use Rattle.flow_line.specs.declared.fault.Code.{Code}
 use Rattle.flow_line.specs.declared.fault.Code.TheVariants.{Syntax}
-use Rattle.flow_line.specs.Bytes.{is_in, is_plain, hex_value, unescaped}
+use Rattle.flow_line.specs.Bytes.{is_in, stands_as_is, hex_value, unescaped}
 
 -- what reads an A from bytes
 abbrev pub Reads : Type 0 → Type 0
@@ -18,33 +19,6 @@ Reads A = Rule ℕ (Bad Code) A
 abbrev pub byte_in : ℕ → ℕ → Option ℕ → Reads ℕ
 byte_in low high None rest = stop Syntax rest
 byte_in low high (Some b) rest = if is_in low high b then Ok (b, drop 1 rest) else stop Syntax rest
-
--- ---- characters that are their own UTF-8
-
--- one more byte of a character: the bits so far, and six more
-unfoldable pub next_bits : ℕ → ℕ → ℕ → Reads ℕ
-next_bits low high bits rest = do
-  b ← byte_in low high (front rest) rest
-  Ok (bits * 64 + (b.0 - 128), b.1)
-
-unfoldable pub two_more : ℕ → ℕ → ℕ → Reads ℕ
-two_more low high bits rest = do
-  b ← next_bits low high bits rest
-  next_bits 128 191 b.0 b.1
-
-unfoldable pub three_more : ℕ → ℕ → ℕ → Reads ℕ
-three_more low high bits rest = do
-  b ← next_bits low high bits rest
-  two_more 128 191 b.0 b.1
-
--- A character that begins with the byte b, of at least two bytes. The second byte's range leaves out what has a shorter form,
--- the surrogates and what is over the last character.
-abbrev pub sequence : ℕ → Reads ℕ
-sequence b rest =
-    if is_in 194 223 b then next_bits 128 191 (b - 192) (drop 1 rest) else
-    (if is_in 224 239 b then two_more (if b == 224 then 160 else 128) (if b == 237 then 159 else 191) (b - 224) (drop 1 rest) else
-    (if is_in 240 244 b then three_more (if b == 240 then 144 else 128) (if b == 244 then 143 else 191) (b - 240) (drop 1 rest)
-    else stop Syntax rest))
 
 -- ---- escapes
 
@@ -91,7 +65,8 @@ escape (Some b) rest = if b == 117 then unicode (drop 1 rest) else short_escape 
 abbrev pub character_at : Option ℕ → Reads ℕ
 character_at None rest = stop Syntax rest
 character_at (Some b) rest =
-    if b == 92 then escape (front (drop 1 rest)) (drop 1 rest) else (if is_plain b then Ok (b, drop 1 rest) else sequence b rest)
+    if b == 92 then escape (front (drop 1 rest)) (drop 1 rest) else
+    (if stands_as_is b then utf8_character Syntax rest else stop Syntax rest)
 
 -- the code of a character
 unfoldable pub character : Reads ℕ

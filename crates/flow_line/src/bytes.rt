@@ -1,7 +1,7 @@
 //! Single bytes of the notation.
 
 ghost use Rattle.std.specs.Prelude.{◌≡◌, ◌≤◌, ◌<◌, true};
-ghost use Rattle.flow_line.specs.Bytes.{begins_number, hex_value, is_digit, is_in, is_plain, unescaped};
+ghost use Rattle.flow_line.specs.Bytes.{begins_number, hex_value, is_digit, is_in, is_plain, stands_as_is, unescaped};
 
 /// Whether the byte is from `low` to `high`, both included.
 pub fn is_in(low: u8, high: u8, b: u8) -> bool
@@ -20,6 +20,13 @@ pub fn begins_number(b: u8) -> bool
     ensures { result ≡ begins_number b }
 {
     is_digit(b) || b == b'-' || b == b'+'
+}
+
+/// Whether a character that begins with this byte may stand in a string as it is.
+pub fn stands_as_is(b: u8) -> bool
+    ensures { result ≡ stands_as_is b }
+{
+    0x20 <= b && b != b'"' && b != b'\\'
 }
 
 /// An ASCII byte that stands for itself in a string.

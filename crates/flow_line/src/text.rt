@@ -6,12 +6,12 @@ ghost use Rattle.reading.specs.Bytes.{sees};
 ghost use Rattle.flow_line.specs.Bytes.{is_plain};
 ghost use Rattle.std.specs.Char.{IsScalar};
 ghost use Rattle.reading.specs.Answer.{Gives, front};
-ghost use Rattle.flow_line.specs.Text.{byte_in, character, character_at, escape, hex_in, high_digits, next_bits, sequence, string, text, three_more, two_more, unicode, unit};
+ghost use Rattle.flow_line.specs.Text.{byte_in, character, escape, hex_in, high_digits, string, text, unicode, unit};
 
-use crate::bytes::{hex_value, is_in, is_plain, unescaped};
+use crate::bytes::{hex_value, is_in, is_plain, stands_as_is, unescaped};
+use crate::fault::Code;
 use crate::value::{FlowReader, Stopped};
 use ha_value::Word;
-use reading::Reader;
 use std::alloc::Global;
 
 /// The character of a code that is one.
@@ -65,62 +65,6 @@ impl<'a> FlowReader<'a> {
                 Ok(b)
             }
             _ => Err(self.wrong()),
-        }
-    }
-
-    /// One more byte of a character: the bits so far, and six more.
-    #[tactic(auto, unfolding(crate::specs::Text::next_bits))]
-    fn next_bits(&mut self, low: u8, high: u8, bits: u32) -> Result<u32, Stopped>
-        requires few { bits < 2 ^ 24 }
-        requires continues { 128 ≤ low }
-        ensures exact { Gives (next_bits low high bits self.old) result self.new }
-        ensures few { IfOk result (λ code. code < bits * 64 + 128) }
-    {
-        let b = self.byte_in(low, high)?;
-        Ok(bits * 64 + u32::from(b - 0x80))
-    }
-
-    #[tactic(auto, unfolding(crate::specs::Text::two_more))]
-    fn two_more(&mut self, low: u8, high: u8, bits: u32) -> Result<u32, Stopped>
-        requires few { bits < 2 ^ 16 }
-        requires continues { 128 ≤ low }
-        ensures exact { Gives (two_more low high bits self.old) result self.new }
-    {
-        let code = self.next_bits(low, high, bits)?;
-        self.next_bits(0x80, 0xBF, code)
-    }
-
-    #[tactic(auto, unfolding(crate::specs::Text::three_more))]
-    fn three_more(&mut self, low: u8, high: u8, bits: u32) -> Result<u32, Stopped>
-        requires few { bits < 2 ^ 8 }
-        requires continues { 128 ≤ low }
-        ensures exact { Gives (three_more low high bits self.old) result self.new }
-    {
-        let code = self.next_bits(low, high, bits)?;
-        self.two_more(0x80, 0xBF, code)
-    }
-
-    /// A character of two bytes or more that begins with this one. The second byte's range leaves out what has a shorter form,
-    /// the surrogates and what is over the last character (Unicode, "Well-Formed UTF-8 Byte Sequences").
-    fn sequence(&mut self, b: u8) -> Result<u32, Stopped>
-        requires { 0 < length self.old }
-        ensures { Gives (sequence b self.old) result self.new }
-    {
-        if is_in(0xC2, 0xDF, b) {
-            self.bump();
-            self.next_bits(0x80, 0xBF, u32::from(b - 0xC0))
-        } else if is_in(0xE0, 0xEF, b) {
-            self.bump();
-            let low = if b == 0xE0 { 0xA0 } else { 0x80 };
-            let high = if b == 0xED { 0x9F } else { 0xBF };
-            self.two_more(low, high, u32::from(b - 0xE0))
-        } else if is_in(0xF0, 0xF4, b) {
-            self.bump();
-            let low = if b == 0xF0 { 0x90 } else { 0x80 };
-            let high = if b == 0xF4 { 0x8F } else { 0xBF };
-            self.three_more(low, high, u32::from(b - 0xF0))
-        } else {
-            Err(self.wrong())
         }
     }
 
@@ -183,7 +127,7 @@ impl<'a> FlowReader<'a> {
     }
 
     /// What stands behind a backslash.
-    fn escape(&mut self) -> Result<u32, Stopped>
+    fn escape(&mut self) -> Result<char, Stopped>
         ensures { Gives (escape (front self.old) self.old) result self.new }
     {
         let Some(b) = self.peek() else {
@@ -191,17 +135,17 @@ impl<'a> FlowReader<'a> {
         };
         if b == b'u' {
             self.bump();
-            return self.unicode();
+            return Ok(scalar(self.unicode()?));
         }
         let Some(c) = unescaped(b) else {
             return Err(self.wrong());
         };
         self.bump();
-        Ok(u32::from(c))
+        Ok(c)
     }
 
     #[tactic(auto, unfolding(crate::specs::Text::character))]
-    fn code(&mut self) -> Result<u32, Stopped>
+    fn character(&mut self) -> Result<char, Stopped>
         ensures { Gives (character self.old) result self.new }
     {
         let Some(b) = self.peek() else {
@@ -211,17 +155,10 @@ impl<'a> FlowReader<'a> {
             self.bump();
             return self.escape();
         }
-        if is_plain(b) {
-            self.bump();
-            return Ok(u32::from(b));
+        if !stands_as_is(b) {
+            return Err(self.wrong());
         }
-        self.sequence(b)
-    }
-
-    fn character(&mut self) -> Result<char, Stopped>
-        ensures { Gives (character self.old) result self.new }
-    {
-        Ok(scalar(self.code()?))
+        self.bytes.character(Code::Syntax)
     }
 
     /// A string behind its opening quote, character by character.
@@ -238,14 +175,6 @@ impl<'a> FlowReader<'a> {
         Ok(word)
     }
 
-    /// Takes so many bytes.
-    fn skip(&mut self, count: usize)
-        requires { count ≤ length self.old }
-        ensures { self.new ≡ drop count self.old }
-    {
-        self.bytes = Reader::new(&self.bytes.rest()[count..]);
-    }
-
     /// A string behind its opening quote, of so many bytes that stand for themselves: they are copied at once.
     fn plain_text(&mut self, alloc: Global, at: usize) -> Result<Word, Stopped>
         requires within { at < length self.old }
@@ -254,7 +183,7 @@ impl<'a> FlowReader<'a> {
         ensures { Gives (text self.old) result self.new }
     {
         let rest = self.bytes.rest();
-        self.skip(at + 1);
+        self.bytes.skip(at + 1);
         Ok(Word::from_bytes(alloc, &rest[..at])?)
     }
 

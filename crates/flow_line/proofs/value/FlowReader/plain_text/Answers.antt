@@ -8,4 +8,4 @@ from_bytes-requires c = subst (λ (t : List ℕ). IsUtf8 (take c.args.at t)) (sy
 pub returns : goal.returns
 returns c =
     let word : c.in_ok-from_bytes.field-0 ≡ take c.args.at c.args.self.now = c.in_ok-from_bytes.ensures ∙ ap (take c.args.at) (c.rest-rest.ensures ∙ c.self.view_is) in
-    plain_read c.args.self.now c.args.at c.requires.marked c.requires.closed ∙ ap (λ (w : List ℕ). Ok (w, drop (c.args.at + 1) c.args.self.now)) (sym word) ∙ ap (λ (t : List ℕ). Ok (c.in_ok-from_bytes.field-0, t)) (sym c.skip.ensures)
+    plain_read c.args.self.now c.args.at c.requires.marked c.requires.closed ∙ ap (λ (w : List ℕ). Ok (w, drop (c.args.at + 1) c.args.self.now)) (sym word) ∙ ap (λ (t : List ℕ). Ok (c.in_ok-from_bytes.field-0, t)) (ap (drop (c.args.at + 1)) (sym c.self.view_is) ∙ sym c.skip.ensures)
