@@ -5,8 +5,8 @@ use Rattle.std.specs.Option.{option_map_or}
 use Rattle.ha_value.specs.declared.value.EntityId.{EntityId}
 use Rattle.ha_model.specs.declared.config.Trigger.{Trigger}
 use Rattle.ha_model.specs.declared.journal.Entry.{Entry}
-use Rattle.ha_model.specs.Entries.{event_in, is_moment}
-use Rattle.ha_model.specs.Journal.{Journal, now}
+use Rattle.ha_model.specs.Entries.{event_in, is_moment, opens_segment}
+use Rattle.ha_model.specs.Journal.{Journal, IsJournal, now}
 use Rattle.ha_model.specs.RecordSteps.{more}
 use Rattle.ha_model.specs.States.{states}
 use Rattle.timer_queue.specs.Timers.{Timer, due_of}
@@ -55,81 +55,123 @@ unshifted index n e (c ∷ cs) aside h = by (same_entity c.entity e) refl (unshi
         absurd (never (knows index (Subject.Entity e) n) h (sym (λ i. has_in index.entities (d i) (o i) n) ∙ aside 0))
     by false s rest = rest
 
-has-calm : (j : Journal) (x : Entry) (since : ℕ) (index : Index) (queue : List Timer) (to : ℕ) (shifts : List Shift) (n : ℕ) (t : Trigger) (e : Option EntityId) → (nat_lt since (length j) ≡ true → AreShifts shifts j x)
-    → IsAside index queue to shifts x n → HasFor index n t e → IsCalm j x since t.rule e
-has-calm j x since index queue to shifts n t e are aside has = record {
-  apart = λ f named lt.
-      subst (λ o. MatchOption o ((states (more j x) f ≡ states j f) × (reports f x ≡ false)) (λ c. (face c.old ≡ face (states j f)) × (face c.new ≡ face (states (more j x) f))))
-      (unshifted index n f shifts aside.entities (has (Subject.Entity f) named)) (are lt f);
-  unnamed = by (option_map (λ v. v.0) (event_in x)) aside.events;
-  plain = not-true (concerns t.rule e Subject.Entries) (knows index Subject.Entries n) (has Subject.Entries) aside.entries;
-  untimed = λ moment. not-true (concerns t.rule e Subject.Moments) (knows index Subject.Moments n) (has Subject.Moments) (aside.times moment);
+-- an entry doesn't concern an owner: no segment opens with it, and the index doesn't have the owner for it; of the entities for which the
+-- index has the owner it changes and reports none, since the owner was attached
+pub record IsApart (index : Index) (queue : List Timer) (j : Journal) (x : Entry) (a : Attached) : Type 0 where
+  pub within : opens_segment x ≡ false
+  pub journal : IsJournal (more j x)
+  pub entries : knows index Subject.Entries a.owner ≡ false
+  pub events : MatchOption (option_map (λ v. v.0) (event_in x)) (Unit {0}) (λ q. knows index (Subject.Event q) a.owner ≡ false)
+  pub entities : (f : EntityId) → knows index (Subject.Entity f) a.owner ≡ true → nat_lt a.since (length j) ≡ true → (states (more j x) f ≡ states j f) × (reports f x ≡ false)
+  pub times : is_moment x ≡ true → knows index Subject.Moments a.owner ≡ false
+  pub later : is_moment x ≡ true → MatchOption (due_of a.owner queue) (Unit {0}) (λ d. now (more j x) < d)
+
+has-calm : (j : Journal) (x : Entry) (index : Index) (queue : List Timer) (a : Attached) (t : Trigger) (e : Option EntityId) → IsApart index queue j x a → HasFor index a.owner t e → IsCalm j x a.since t.rule e
+has-calm j x index queue a t e apart has = record {
+  apart = λ f named lt. apart.entities f (has (Subject.Entity f) named) lt;
+  unnamed = by (option_map (λ v. v.0) (event_in x)) apart.events;
+  plain = not-true (concerns t.rule e Subject.Entries) (knows index Subject.Entries a.owner) (has Subject.Entries) apart.entries;
+  untimed = λ moment. not-true (concerns t.rule e Subject.Moments) (knows index Subject.Moments a.owner) (has Subject.Moments) (apart.times moment);
 }
   where
-    by : (o : Option Text) → MatchOption o (Unit {0}) (λ q. knows index (Subject.Event q) n ≡ false) → MatchOption o (Unit {0}) (λ q. concerns t.rule e (Subject.Event q) ≡ false)
+    by : (o : Option Text) → MatchOption o (Unit {0}) (λ q. knows index (Subject.Event q) a.owner ≡ false) → MatchOption o (Unit {0}) (λ q. concerns t.rule e (Subject.Event q) ≡ false)
     by None k = tt
-    by (Some q) k = not-true (concerns t.rule e (Subject.Event q)) (knows index (Subject.Event q) n) (has (Subject.Event q)) k
+    by (Some q) k = not-true (concerns t.rule e (Subject.Event q)) (knows index (Subject.Event q) a.owner) (has (Subject.Event q)) k
 
-module _ (scene : Scene) (index : Index) (queue : List Timer) (j : Journal) where
-  abbrev x : Entry
-  x = scene.entry.now
-
-  spot-calm : (a : Attached) (s : Spot) → Shows scene j a.since → IsAside index queue scene.to scene.shifts.now x a.owner → HasSpot index a.owner a.triggers s → CalmAt j x a.triggers a.since s
-  spot-calm a s shows aside = by (slice_get a.triggers s.trigger)
+module _ (index : Index) (queue : List Timer) (j : Journal) (x : Entry) where
+  spot-calm : (a : Attached) (s : Spot) → IsApart index queue j x a → HasSpot index a.owner a.triggers s → CalmAt j x a.triggers a.since s
+  spot-calm a s apart = by (slice_get a.triggers s.trigger)
     where
       by : (o : Option Trigger) → MatchOption o (Unit {0}) (λ t. HasFor index a.owner t s.entity) → MatchOption o (Unit {0}) (λ t. IsCalm j x a.since t.rule s.entity)
       by None h = tt
-      by (Some t) h = has-calm j x a.since index queue scene.to scene.shifts.now a.owner t s.entity shows.shifts aside h
+      by (Some t) h = has-calm j x index queue a t s.entity apart h
 
-  all-calm : (a : Attached) → Shows scene j a.since → OwnerStands j a → IsListed index (owner_of a) → IsAside index queue scene.to scene.shifts.now x a.owner → All a.spots.items (CalmAt j x a.triggers a.since)
-  all-calm a shows stand listed aside m = by (slice_get a.spots.items m) refl
+  all-calm : (a : Attached) → OwnerStands j a → IsListed index (owner_of a) → IsApart index queue j x a → All a.spots.items (CalmAt j x a.triggers a.since)
+  all-calm a stand listed apart m = by (slice_get a.spots.items m) refl
     where
       by : (o : Option Spot) → slice_get a.spots.items m ≡ o → MatchOption o (Unit {0}) (CalmAt j x a.triggers a.since)
       by None at = tt
       by (Some s) at =
-          spot-calm a s shows aside
+          spot-calm a s apart
           (subst (λ o. MatchOption o (Unit {0}) (HasAt index a.owner a.triggers))
           (ap (λ l. slice_get l m) (sym (stand.spots.places ∙ places-alike j [] a.triggers)) ∙ get-map place_of a.spots.items m ∙ ap (option_map place_of) at) (listed m))
 
   -- its holds are over later
-  all-later : (a : Attached) → Shows scene j a.since → HasDue queue a → IsAside index queue scene.to scene.shifts.now x a.owner → is_moment x ≡ true → (n d : ℕ) → due_of n a.timers ≡ Some d → now (more j x) < d
-  all-later a shows due aside moment n d is =
-      subst (λ to. to < d) shows.to (subst (λ o. MatchOption o (Unit {0}) (λ due. scene.to < due)) is (later_than scene.to (due_of a.owner queue) a.timers due (aside.later moment) n))
+  all-later : (a : Attached) → HasDue queue a → IsApart index queue j x a → is_moment x ≡ true → (n d : ℕ) → due_of n a.timers ≡ Some d → now (more j x) < d
+  all-later a due apart moment n d is =
+      subst (λ o. MatchOption o (Unit {0}) (λ due. now (more j x) < due)) is (later_than (now (more j x)) (due_of a.owner queue) a.timers due (apart.later moment) n)
 
-  -- LAW: an owner that the index leaves aside stands for the journal with the entry, and fires nothing
-  pub owner-calm : (a : Attached) → Shows scene j a.since → OwnerStands j a → IsListed index (owner_of a) → HasDue queue a → IsAside index queue scene.to scene.shifts.now x a.owner
+  -- LAW: an owner that the entry doesn't concern stands for the journal with the entry, and fires nothing
+  pub owner-calm : (a : Attached) → OwnerStands j a → IsListed index (owner_of a) → HasDue queue a → IsApart index queue j x a
       → OwnerStands (more j x) a × (firings_of (more j x) (length j) (owner_of a) ≡ [])
-  owner-calm a shows stand listed due aside =
-      let h = has-past j x shows.journal aside.within in
-      let later = all-later a shows due aside in
-      let calm = all-calm a shows stand listed aside in (
-        record { well = stand.well; spots = calm-stand j x a.triggers a.since h aside.within stand.well a.spots.items a.timers stand.spots calm later },
-        calm-quiet j x a.triggers a.since h aside.within stand.well a.spots.items a.timers stand.spots calm later a.owner,
+  owner-calm a stand listed due apart =
+      let h = has-past j x apart.journal apart.within in
+      let later = all-later a due apart in
+      let calm = all-calm a stand listed apart in (
+        record { well = stand.well; spots = calm-stand j x a.triggers a.since h apart.within stand.well a.spots.items a.timers stand.spots calm later },
+        calm-quiet j x a.triggers a.since h apart.within stand.well a.spots.items a.timers stand.spots calm later a.owner,
       )
 
-  module _ (owners : List Attached) (known : AreKnown index (map owner_of owners)) (shows : AllOwners owners (λ a. Shows scene j a.since)) (stand : AllOwners owners (OwnerStands j))
-      (queued : AllOwners owners (HasDue queue)) (n : ℕ)
-      (aside : AtOwner owners n (λ a. ascend (map owner_of owners) ≡ true → IsAside index queue scene.to scene.shifts.now x a.owner)) where
-    both-at : AtOwner owners n (λ a. OwnerStands (more j x) a × (firings_of (more j x) (length j) (owner_of a) ≡ []))
-    both-at = by (slice_get owners n) (shows n) (stand n) (queued n) (subst (λ o. MatchOption o (Unit {0}) (IsListed index)) (get-map owner_of owners n) (known.listed n)) aside
+  module _ (owners : List Attached) (known : AreKnown index (map owner_of owners)) (stand : AllOwners owners (OwnerStands j)) (queued : AllOwners owners (HasDue queue)) (n : ℕ)
+      (apart : AtOwner owners n (IsApart index queue j x)) where
+    pub both-at : AtOwner owners n (λ a. OwnerStands (more j x) a × (firings_of (more j x) (length j) (owner_of a) ≡ []))
+    both-at = by (slice_get owners n) (stand n) (queued n) (subst (λ o. MatchOption o (Unit {0}) (IsListed index)) (get-map owner_of owners n) (known.listed n)) apart
       where
-        by : (o : Option Attached) → MatchOption o (Unit {0}) (λ a. Shows scene j a.since) → MatchOption o (Unit {0}) (OwnerStands j) → MatchOption o (Unit {0}) (HasDue queue) → MatchOption (option_map owner_of o) (Unit {0}) (IsListed index)
-            → MatchOption o (Unit {0}) (λ a. ascend (map owner_of owners) ≡ true → IsAside index queue scene.to scene.shifts.now x a.owner)
+        by : (o : Option Attached) → MatchOption o (Unit {0}) (OwnerStands j) → MatchOption o (Unit {0}) (HasDue queue) → MatchOption (option_map owner_of o) (Unit {0}) (IsListed index)
+            → MatchOption o (Unit {0}) (IsApart index queue j x)
             → MatchOption o (Unit {0}) (λ a. OwnerStands (more j x) a × (firings_of (more j x) (length j) (owner_of a) ≡ []))
-        by None s t q l i = tt
-        by (Some a) s t q l i = owner-calm a s t l q (i known.ascend)
+        by None t q l i = tt
+        by (Some a) t q l i = owner-calm a t l q i
 
-    pub calm-stands : AtOwner owners n (OwnerStands (more j x))
-    calm-stands = by (slice_get owners n) both-at
+    -- LAW: the owner at a place stands
+    pub apart-stands : AtOwner owners n (OwnerStands (more j x))
+    apart-stands = by (slice_get owners n) both-at
       where
         by : (o : Option Attached) → MatchOption o (Unit {0}) (λ a. OwnerStands (more j x) a × (firings_of (more j x) (length j) (owner_of a) ≡ [])) → MatchOption o (Unit {0}) (OwnerStands (more j x))
         by None b = tt
         by (Some a) b = b.0
 
-    pub calm-fires : firings_at j x owners n ≡ []
-    calm-fires = by (slice_get owners n) both-at
+    -- LAW: and fires nothing
+    pub apart-fires : firings_at j x owners n ≡ []
+    apart-fires = by (slice_get owners n) both-at
       where
         by : (o : Option Attached) → MatchOption o (Unit {0}) (λ a. OwnerStands (more j x) a × (firings_of (more j x) (length j) (owner_of a) ≡ []))
             → option_map_or (λ a. firings_of (more j x) (length j) (owner_of a)) o [] ≡ []
         by None b = refl
         by (Some a) b = b.1
+
+-- ---- whom the index leaves aside
+
+module _ (scene : Scene) (index : Index) (queue : List Timer) (j : Journal) where
+  abbrev x : Entry
+  x = scene.entry.now
+
+  aside-apart : (a : Attached) → Shows scene j a.since → IsAside index queue scene.to scene.shifts.now x a.owner → IsApart index queue j x a
+  aside-apart a shows aside = record {
+    within = aside.within;
+    journal = shows.journal;
+    entries = aside.entries;
+    events = aside.events;
+    entities = λ f has lt.
+        subst (λ o. MatchOption o ((states (more j x) f ≡ states j f) × (reports f x ≡ false)) (λ c. (face c.old ≡ face (states j f)) × (face c.new ≡ face (states (more j x) f))))
+        (unshifted index a.owner f scene.shifts.now aside.entities has) (shows.shifts lt f);
+    times = aside.times;
+    later = λ moment. subst (λ to. MatchOption (due_of a.owner queue) (Unit {0}) (λ d. to < d)) shows.to (aside.later moment);
+  }
+
+  module _ (owners : List Attached) (known : AreKnown index (map owner_of owners)) (shows : AllOwners owners (λ a. Shows scene j a.since)) (stand : AllOwners owners (OwnerStands j))
+      (queued : AllOwners owners (HasDue queue)) (n : ℕ)
+      (aside : AtOwner owners n (λ a. ascend (map owner_of owners) ≡ true → IsAside index queue scene.to scene.shifts.now x a.owner)) where
+    apart-at : AtOwner owners n (IsApart index queue j x)
+    apart-at = by (slice_get owners n) (shows n) aside
+      where
+        by : (o : Option Attached) → MatchOption o (Unit {0}) (λ a. Shows scene j a.since) → MatchOption o (Unit {0}) (λ a. ascend (map owner_of owners) ≡ true → IsAside index queue scene.to scene.shifts.now x a.owner)
+            → MatchOption o (Unit {0}) (IsApart index queue j x)
+        by None s i = tt
+        by (Some a) s i = aside-apart a s (i known.ascend)
+
+    pub calm-stands : AtOwner owners n (OwnerStands (more j x))
+    calm-stands = apart-stands index queue j x owners known stand queued n apart-at
+
+    pub calm-fires : firings_at j x owners n ≡ []
+    calm-fires = apart-fires index queue j x owners known stand queued n apart-at

@@ -8,6 +8,7 @@ pub mod OwnerLemmas
 pub mod NoteLemmas
 pub mod CalmLemmas
 pub mod ConcernLemmas
+pub mod AloneLemmas
 pub mod LeftLemmas
 pub mod ListedLemmas
 pub mod HalvesLemmas

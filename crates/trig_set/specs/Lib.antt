@@ -10,3 +10,4 @@ pub mod Order
 pub mod Known
 pub mod Queued
 pub mod Concerned
+pub mod Left

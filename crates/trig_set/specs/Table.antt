@@ -23,6 +23,11 @@ abbrev pub number_at : Numbers → EntityId → Option Text → Option Num
 number_at t e name =
     option_and_then (number_of name) (option_and_then (λ domain. get_by_text domain e.object) (get_by_text t.domains e.domain))
 
+-- the number that a report gives, where its state text gives this one
+abbrev pub number_given : Option Num → Pairs → Option Text → Option Num
+number_given own ps None = own
+number_given own ps (Some name) = number_watched (Some name) [] ps
+
 -- with the names of these pairs, and the numbers that they give over those before
 pub record SoFar {Y Z : Type 0} (seen : BTreeSet (String Z))
     (numbers : BTreeMap (String Y) Num) (before : Text → Option Num) (ps : Pairs) : Type 0 where

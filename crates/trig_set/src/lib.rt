@@ -8,6 +8,7 @@ mod concerned;
 mod equal;
 mod event;
 pub mod laws;
+mod left;
 mod moved;
 mod moving;
 mod noted;

@@ -7,7 +7,7 @@ ghost use Rattle.ha_model.specs.Conditions.{number_watched};
 ghost use Rattle.ha_model.specs.Entries.{opens_segment};
 ghost use Rattle.ha_model.specs.Triggers.{report_number};
 ghost use Rattle.ha_past.specs.Looks.{or_else};
-ghost use Rattle.trig_set.specs.Table.{number_at, number_of, numbers_in};
+ghost use Rattle.trig_set.specs.Table.{number_at, number_given, number_of, numbers_in};
 
 use crate::attributes::put_attributes;
 use crate::moved::opens;
@@ -67,7 +67,7 @@ impl Numbers {
     }
 
     /// The numbers of a report; where it gives none, the latest one stays.
-    fn report(
+    pub fn report(
         &mut self,
         alloc: Global,
         entity: &EntityId,
@@ -77,12 +77,30 @@ impl Numbers {
         ensures { OnOk result ((e : Entity) (name : Option Text)
             → number_at self.new e name ≡ or_else (if same_entity entity.now e then number_watched name text.now attributes.now else None) (number_at self.old e name)) }
     {
+        let own = Num::read(text.bytes());
+        if own.is_none() && attributes.is_empty() {
+            return Ok(());
+        }
+        self.put(alloc, entity, own, attributes)
+    }
+
+    /// The numbers of the entity's state text and its attributes.
+    fn put(
+        &mut self,
+        alloc: Global,
+        entity: &EntityId,
+        own: Option<Num>,
+        attributes: &Many<(Word, Value)>,
+    ) -> Result<(), AllocError>
+        ensures { OnOk result ((e : Entity) (name : Option Text)
+            → number_at self.new e name ≡ or_else (if same_entity entity.now e then number_given own attributes.now name else None) (number_at self.old e name)) }
+    {
         match self.domains.get_mut(entity.domain.as_str()) {
-            Some(domain) => put_in(alloc, domain, &entity.object, text, attributes),
+            Some(domain) => put_in(alloc, domain, &entity.object, own, attributes),
             None => {
                 let key = key_of(alloc, &entity.domain)?;
                 let mut domain = BTreeMap::new(alloc);
-                put_in(alloc, &mut domain, &entity.object, text, attributes)?;
+                put_in(alloc, &mut domain, &entity.object, own, attributes)?;
                 self.domains.insert(key, domain)?;
                 Ok(())
             }
@@ -102,14 +120,14 @@ fn put_in(
     alloc: Global,
     domain: &mut BTreeMap<String, Latest>,
     object: &Word,
-    text: &Word,
+    own: Option<Num>,
     attributes: &Many<(Word, Value)>,
 ) -> Result<(), AllocError>
     ensures { OnOk result ((q : Text) (name : Option Text)
-        → numbers_in domain.new q name ≡ or_else (if same object.now q then number_watched name text.now attributes.now else None) (numbers_in domain.old q name)) }
+        → numbers_in domain.new q name ≡ or_else (if same object.now q then number_given own attributes.now name else None) (numbers_in domain.old q name)) }
 {
     match domain.get_mut(object.as_str()) {
-        Some(latest) => put_numbers(alloc, latest, text, attributes),
+        Some(latest) => put_numbers(alloc, latest, own, attributes),
         None => {
             let key = key_of(alloc, object)?;
             let fresh = BTreeMap::new(alloc);
@@ -117,7 +135,7 @@ fn put_in(
                 own: None,
                 attributes: fresh,
             };
-            put_numbers(alloc, &mut latest, text, attributes)?;
+            put_numbers(alloc, &mut latest, own, attributes)?;
             domain.insert(key, latest)?;
             Ok(())
         }
@@ -128,13 +146,13 @@ fn put_in(
 fn put_numbers(
     alloc: Global,
     latest: &mut Latest,
-    text: &Word,
+    own: Option<Num>,
     attributes: &Many<(Word, Value)>,
 ) -> Result<(), AllocError>
     ensures { OnOk result ((name : Option Text)
-        → number_of name latest.new ≡ or_else (number_watched name text.now attributes.now) (number_of name latest.old)) }
+        → number_of name latest.new ≡ or_else (number_given own attributes.now name) (number_of name latest.old)) }
 {
-    if let Some(number) = Num::read(text.bytes()) {
+    if let Some(number) = own {
         latest.own = Some(number);
     }
     put_attributes(alloc, &mut latest.attributes, attributes.as_slice())

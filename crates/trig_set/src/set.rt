@@ -1,15 +1,21 @@
 //! The set of attached triggers.
-ghost use Rattle.std.specs.Prelude.{◌≡◌, ◌≤◌, ◌<◌, [], ◌∷◌, IsNone, IsTrue, IfOk, OnOk, OnErr, Some, IsSome, MatchOption, length};
+ghost use Rattle.std.specs.Prelude.{◌≡◌, ◌≤◌, ◌<◌, ℕ, [], ◌∷◌, Option, IsNone, IsTrue, IfOk, OnOk, OnErr, Some, IsSome, MatchOption, length, true};
 ghost use Rattle.ha_clock.specs.Local.{last_moment};
 ghost use Rattle.ha_clock.specs.Zone.{zone_of};
 ghost use Rattle.ha_model.specs.Entries.{boot_of};
-ghost use Rattle.ha_model.specs.Journal.{Journal};
+ghost use Rattle.ha_model.specs.declared.journal.Cmd.TheVariants.{Report};
+ghost use Rattle.ha_model.specs.declared.journal.Entry.TheVariants.{Line};
+ghost use Rattle.ha_model.specs.declared.journal.StateObject.{StateObject as State};
+ghost use Rattle.ha_model.specs.Journal.{Journal, now as now_of};
+ghost use Rattle.ha_model.specs.States.{Sight};
 ghost use Rattle.ha_model.specs.Sound.{are_sound_triggers};
 ghost use Rattle.ha_model.specs.RecordSteps.{more};
 ghost use Rattle.ha_past.specs.Firings.{Owner, owner_named, placed, without_owner, firings};
+ghost use Rattle.trig_set.specs.Left.{Leaves};
 ghost use Rattle.trig_set.specs.Next.{IsNext};
 ghost use Rattle.trig_set.specs.Stands.{attached, StandsFor};
 
+use crate::left::leaves;
 use crate::numbers::Numbers;
 use crate::ordered::Owners;
 use crate::owners::{fresh, list_owner};
@@ -17,7 +23,7 @@ use crate::scene::Scene;
 use crate::shifts::shifts_of;
 use event_bus::Index;
 use ha_clock::{ClockFault, Zone};
-use ha_model::{Answers, EntityId, Entry, Firing, Many, Moment, StateObject, Trigger};
+use ha_model::{Answers, EntityId, Entry, Firing, Many, Moment, StateObject, Trigger, Value, Word};
 use std::alloc::{AllocError, Global};
 use std::collections::BTreeMap;
 use timer_queue::TimerQueue;
@@ -107,6 +113,38 @@ impl TrigSet {
                 Err(ClockFault::Memory) => return Err(AllocError),
             };
         }
+        Ok(())
+    }
+
+    /// Whether the entity concerns nobody: no trigger is on it, and no trigger asks a template at each entry.
+    pub fn leaves(&self, entity: &EntityId) -> bool
+        ensures { result ≡ true → Leaves self.entry.now entity.now }
+    {
+        leaves(&self.index, entity)
+    }
+
+    /// Notes the next entry, a report of an entity that concerns nobody, after which Now is `to`: nothing fires. It needs no states. After an
+    /// error the set may only be dropped.
+    pub fn note_left(
+        &mut self,
+        alloc: Global,
+        entity: &EntityId,
+        text: &Word,
+        attributes: &Many<(Word, Value)>,
+        to: Moment,
+    ) -> Result<(), AllocError>
+        requires left { Leaves self.old entity.now }
+        ensures kept { attached self.new ≡ attached self.old }
+        ensures fired { (j : Journal) (k n place : ℕ) (old : Option State) (seen : Sight) → StandsFor self.old j
+            → IsNext j place (Line k n (Report entity.now text.now attributes.now)) ((entity.now, old) ∷ []) seen (attached self.old)
+            → firings (more j (Line k n (Report entity.now text.now attributes.now))) place (attached self.old) ≡ [] }
+        ensures stands { OnOk result ((j : Journal) (k n place : ℕ) (old : Option State) (seen : Sight) → StandsFor self.old j
+            → IsNext j place (Line k n (Report entity.now text.now attributes.now)) ((entity.now, old) ∷ []) seen (attached self.old)
+            → to ≡ now_of (more j (Line k n (Report entity.now text.now attributes.now)))
+            → StandsFor self.new (more j (Line k n (Report entity.now text.now attributes.now)))) }
+    {
+        self.numbers.report(alloc, entity, text, attributes)?;
+        self.now = to;
         Ok(())
     }
 

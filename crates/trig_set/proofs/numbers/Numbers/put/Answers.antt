@@ -1,7 +1,7 @@
 use Rattle.std.proofs.Common.{rules}
 use Rattle.trig_set.proofs.OnLemmas.{on-then}
 use Rattle.trig_set.proofs.TableLemmas.{changes-name, inserts-name, domain-there, domain-new, deep-put}
-use Rattle.trig_set.proofs.numbers.Numbers.report.Goals as goal
+use Rattle.trig_set.proofs.numbers.Numbers.put.Goals as goal
 
 pub returns-in-Some : goal.returns-in-Some
 returns-in-Some c =

@@ -1,0 +1,94 @@
+-- A report of an entity that concerns nobody.
+use Rattle.std.proofs.Common.{◌≡◌, ℕ, zero, suc, List, [], ◌∷◌, ◌++◌, length, map, Bool, true, false, refl, sym, ap, subst, ◌∙◌}
+use Rattle.std.specs.Prelude.{Option, Some, None, MatchOption, flat_map, nat_lt, option_map, slice_get, if◌then◌else◌}
+use Rattle.ha_value.specs.declared.value.EntityId.{EntityId}
+use Rattle.ha_model.specs.declared.journal.Cmd.{Cmd}
+use Rattle.ha_model.specs.declared.journal.Entry.{Entry}
+use Rattle.ha_model.specs.declared.journal.Entry.TheVariants.{Line}
+use Rattle.ha_model.specs.declared.journal.StateObject.{StateObject}
+use Rattle.ha_model.specs.Conditions.{number_watched}
+use Rattle.ha_model.specs.Journal.{Journal, now, zone_of}
+use Rattle.ha_model.specs.RecordSteps.{more}
+use Rattle.ha_model.specs.States.{Sight, states}
+use Rattle.ha_model.specs.Triggers.{latest_number}
+use Rattle.ha_model.specs.Words.{Text, Pairs, same_entity}
+use Rattle.ha_model.proofs.EqualLemmas.{entity-sound}
+use Rattle.ha_model.proofs.HeldLaws.{latest-more}
+use Rattle.ha_past.specs.Firings.{firings, firings_of}
+use Rattle.ha_past.specs.Looks.{or_else}
+use Rattle.event_bus.specs.Subjects.{Subject, knows}
+use Rattle.trig_set.specs.declared.owners.Attached.{Attached}
+use Rattle.trig_set.specs.declared.set.TrigSet.{TrigSet}
+use Rattle.trig_set.specs.Known.{AreKnown}
+use Rattle.trig_set.specs.Left.{Leaves}
+use Rattle.trig_set.specs.Next.{AreListed, IsNext, reports}
+use Rattle.trig_set.specs.Order.{owner_of}
+use Rattle.trig_set.specs.Queued.{HasDue}
+use Rattle.trig_set.specs.Stands.{AllOwners, AtOwner, OwnerStands, StandsFor, attached}
+use Rattle.trig_set.specs.Table.{number_at}
+use Rattle.trig_set.proofs.CalmLemmas.{never}
+use Rattle.trig_set.proofs.ConcernLemmas.{IsApart, apart-stands, both-at}
+use Rattle.trig_set.proofs.SetLemmas.{any-at, each-owner, zone-next}
+
+-- where no owner fires, nothing does
+none-fire : (k : Journal) (p : ℕ) (owners : List Attached) → AllOwners owners (λ a. firings_of k p (owner_of a) ≡ []) → firings k p (map owner_of owners) ≡ []
+none-fire k p [] f = refl
+none-fire k p (a ∷ rest) f = (λ i. f zero i ++ flat_map (firings_of k p) (map owner_of rest)) ∙ none-fire k p rest (λ n. f (suc n))
+
+module _ (s : TrigSet) (e : EntityId) (text : Text) (attributes : Pairs) (left : Leaves s e) (j : Journal) (k n place : ℕ) (old : Option StateObject) (seen : Sight) (stands : StandsFor s j)
+    (next : IsNext j place (Line k n (Cmd.Report e text attributes)) ((e, old) ∷ []) seen (attached s)) where
+  abbrev x : Entry
+  x = Line k n (Cmd.Report e text attributes)
+
+  -- another entity that concerns somebody is as before, and not reported
+  others : (m : ℕ) (f : EntityId) → knows s.index (Subject.Entity f) m ≡ true → AreListed j x ((e, old) ∷ []) → (states (more j x) f ≡ states j f) × (reports f x ≡ false)
+  others m f has listed = by (same_entity e f) refl (listed f)
+    where
+      by : (b : Bool) → same_entity e f ≡ b
+          → MatchOption (option_map {T = EntityId × Option StateObject} {U = Option StateObject} (λ p. p.1) (if b then Some (e, old) else None)) ((states (more j x) f ≡ states j f) × (reports f x ≡ false)) (λ was. was ≡ states j f)
+          → (states (more j x) f ≡ states j f) × (reports f x ≡ false)
+      by true same h = absurd (never (knows s.index (Subject.Entity f) m) has (subst (λ g. knows s.index (Subject.Entity g) m ≡ false) (entity-sound e f same) (left.entity m)))
+      by false other h = h
+
+  apart : (a : Attached) (m : ℕ) → slice_get s.owners m ≡ Some a → IsApart s.index s.queue j x a
+  apart a m at = record {
+    within = refl;
+    journal = next.journal;
+    entries = left.entries a.owner;
+    events = tt;
+    entities = λ f has lt. others a.owner f has (next.listed (any-at place s.owners m a at (ap (nat_lt a.since) next.at ∙ lt)));
+    times = λ moment. absurd (never false moment refl);
+    later = λ moment. absurd (never false moment refl);
+  }
+
+  all-apart : AllOwners s.owners (IsApart s.index s.queue j x)
+  all-apart = each-owner s.owners (IsApart s.index s.queue j x) apart
+
+  -- LAW: nothing fires
+  pub left-fires : firings (more j x) place (attached s) ≡ []
+  left-fires = (λ i. firings (more j x) (next.at i) (attached s)) ∙ none-fire (more j x) (length j) s.owners quiet
+    where
+      quiet : AllOwners s.owners (λ a. firings_of (more j x) (length j) (owner_of a) ≡ [])
+      quiet m = by (slice_get s.owners m) (both-at s.index s.queue j x s.owners stands.known stands.owners stands.queued m (all-apart m))
+        where
+          by : (o : Option Attached) → MatchOption o (Unit {0}) (λ a. OwnerStands (more j x) a × (firings_of (more j x) (length j) (owner_of a) ≡ []))
+              → MatchOption o (Unit {0}) (λ a. firings_of (more j x) (length j) (owner_of a) ≡ [])
+          by None b = tt
+          by (Some a) b = b.1
+
+  -- LAW: with the numbers of the report, and Now, the set stands for the journal with it
+  pub left-stands : (s' : TrigSet) → s'.owners ≡ s.owners → s'.index ≡ s.index → s'.queue ≡ s.queue → s'.zone ≡ s.zone → s'.now ≡ now (more j x)
+      → ((f : EntityId) (name : Option Text) → number_at s'.numbers f name ≡ or_else (if same_entity e f then number_watched name text attributes else None) (number_at s.numbers f name))
+      → StandsFor s' (more j x)
+  left-stands s' owners index queue zone at numbers = record {
+    owners = subst (λ l. AllOwners l (OwnerStands (more j x))) (sym owners)
+        (λ m. apart-stands s.index s.queue j x s.owners stands.known stands.owners stands.queued m (all-apart m));
+    known = subst (λ i. AreKnown i (attached s')) (sym index) (subst (λ l. AreKnown s.index (map owner_of l)) (sym owners) stands.known);
+    queued = subst (λ q. AllOwners s'.owners (HasDue q)) (sym queue) (subst (λ l. AllOwners l (HasDue s.queue)) (sym owners) stands.queued);
+    at = at;
+    zone = λ h. subst (λ o. MatchOption o ⊥ (λ z. z ≡ zone_of (more j x))) (sym zone) (zone-next j x s.zone s.zone next.journal next.zone stands.zone refl);
+    numbers = λ f name.
+        numbers f name
+        ∙ (λ i. or_else (if same_entity e f then number_watched name text attributes else None) (stands.numbers f name i))
+        ∙ sym (latest-more j x f name);
+  }
