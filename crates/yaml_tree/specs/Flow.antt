@@ -77,8 +77,7 @@ holding m node =
       frame = held m.frame m.line node;
       frames = m.frames;
       after = true;
-      height = raised m.height
-          (length m.frames);
+      height = raised m.height (length m.frames);
       repeated = m.repeated;
       spaced = m.spaced;
       rest = m.rest;
@@ -89,8 +88,7 @@ opens m is_map =
     record {
       line = m.line;
       frame = fresh is_map;
-      frames = m.frame
-          ∷ m.frames;
+      frames = m.frame ∷ m.frames;
       after = false;
       height = raised m.height (length m.frames);
       repeated = m.repeated;
@@ -140,8 +138,7 @@ awaiting m key =
       frames = m.frames;
       after = false;
       height = m.height;
-      repeated = m.repeated
-          || has_key m.frame.pairs key;
+      repeated = m.repeated || has_key m.frame.pairs key;
       spaced = m.spaced;
       rest = m.rest;
     }
