@@ -1,6 +1,6 @@
 -- What is read as a text, a comment, a tag or its end is in the grammar.
 use Rattle.std.proofs.Common.{◌≡◌, ℕ, suc, zero, Bool, true, false, cond, inl, inr, List, [], ◌∷◌, ◌++◌, length, drop, Option, Some, None, Ok, refl, sym, ap, ◌∙◌, subst}
-use Rattle.std.specs.Prelude.{◌==◌, ◌&&◌}
+use Rattle.std.specs.Prelude.{◌==◌, ◌&&◌, encode_utf8}
 use Rattle.std.proofs.lemmas.Bool.{and_parts, eqb-true}
 use Rattle.ha_model.specs.declared.template.Expr.{Expr}
 use Rattle.reading.specs.Answer.{◌>>=◌}
@@ -10,7 +10,7 @@ use Rattle.reading.proofs.Bytes.{sees_front}
 use Rattle.tpl_parse.specs.declared.token.Token.{Token}
 use Rattle.tpl_parse.specs.declared.pieces.Tag.{Tag}
 use Rattle.tpl_parse.specs.Token.{spaces, next_is, behind}
-use Rattle.tpl_parse.specs.Literal.{before, character}
+use Rattle.tpl_parse.specs.Literal.{character}
 use Rattle.tpl_parse.specs.Reading.{expression, opened, tag_depth}
 use Rattle.tpl_parse.specs.Pieces.{tag_of, tag_at, ended, after_text, text_turns, text, comment_ends, comment_turns, comment, plain_end, end_of, plain_last, last_expression, sign_of, behind_sign, one_of}
 use Rattle.tpl_parse.specs.Grammar.{Takes, Is, an_expression, IsText, no_character, one_character, Opens, plain, trimming, IsComment, comment_end, trimming_end, comment_more, IsEnd, ends, ends_trimming, IsLast, last}
@@ -48,7 +48,7 @@ text_by n t None o left at again e = elim (chosen_of (ended t) (Ok (None, t)) (c
   | inr k ↦
       let b = bind_ok (character t) (λ c. text_turns n c.1) (o, left) k.1 in
       let r = again b.0.1 b.2 in
-      record { s = before t b.0.1 ++ r.s; is = one_character at (character_found t b.0.0 b.0.1 b.1) r.is; tag = r.tag; end = r.end }
+      record { s = encode_utf8 b.0.0 ++ r.s; is = one_character at (character_found t b.0.0 b.0.1 b.1) r.is; tag = r.tag; end = r.end }
 ]
 
 turns_found : (n : ℕ) (t : List ℕ) (o : Option Tag) (left : List ℕ) → text_turns n t ≡ Ok (o, left) → TextFound t o left

@@ -36,7 +36,7 @@ text_read {a = a} o (one_character {text = t} {after = u} no_tag c more) stops (
     let some : ended t ≡ false = not_ended t (omega (arith, character_shorter c)) in
     ap (λ (k : Option Tag). after_text k (text_turns n) t) no_tag
     ∙ cond-false (ended t) (Ok (None, t)) (character t >>= λ x. text_turns n x.1) some
-    ∙ ap (λ (w : Answer ℕ Fault (Unit {0})). w >>= λ x. text_turns n x.1) r.reads
+    ∙ ap (λ (w : Answer ℕ Fault ℕ). w >>= λ x. text_turns n x.1) r.reads
     ∙ text_read o more stops n (omega (arith, character_shorter c))
 
 pub text_parts : {t s a : List ℕ} → IsText t s a → t ≡ s ++ a
@@ -87,7 +87,7 @@ comment_turns_read comment_end (suc n) lt = refl
 comment_turns_read trimming_end (suc n) lt = refl
 comment_turns_read (comment_more {text = t} {after = u} no_end no_sign c more) (suc n) lt =
     cond-false (comment_ends t) _ _ no_end ∙ cond-false (sees 45 t && comment_ends (drop 1 t)) _ _ no_sign
-    ∙ ap (λ (w : Answer ℕ Fault (Unit {0})). w >>= λ x. comment_turns n x.1) (character_read c).reads
+    ∙ ap (λ (w : Answer ℕ Fault ℕ). w >>= λ x. comment_turns n x.1) (character_read c).reads
     ∙ comment_turns_read more n (omega (arith, character_shorter c))
 
 pub comment_read : {trims : Bool} {t rest : List ℕ} → IsComment trims t rest → comment t ≡ Ok (trims, rest)

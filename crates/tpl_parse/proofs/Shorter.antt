@@ -13,6 +13,8 @@ use Rattle.reading.specs.declared.fault.Bad.{Bad}
 use Rattle.reading.specs.Answer.{Answer, front, made}
 use Rattle.reading.specs.Bytes.{sees}
 use Rattle.reading.proofs.Basics.{chosen_is}
+use Rattle.reading.proofs.Characters.{character_shorter as utf8_shorter, character_solid as utf8_solid}
+use Rattle.reading.proofs.Solid.{stops_within}
 use Rattle.tpl_parse.specs.declared.token.Token.{Token}
 use Rattle.tpl_parse.specs.declared.table.Counts.{Counts}
 use Rattle.tpl_parse.specs.declared.table.Filter.{Filter}
@@ -22,7 +24,7 @@ use Rattle.tpl_parse.specs.declared.expression.Level.{Level}
 use Rattle.tpl_parse.specs.declared.expression.Part.{Part}
 use Rattle.tpl_parse.specs.Token.{Reads, text_of, is_space, spaces, reach, next_is, past, behind, in_name, is_reserved, want}
 use Rattle.tpl_parse.specs.Names.{any_from, filter_named, filter_row, filters_reach, function_named, function_row, takes_behind}
-use Rattle.tpl_parse.specs.Literal.{before, before_range_end, begins_places, behind_number, byte_in, character, escape_at, filter_name, filter_or, standing, further, in_range, is_in, name, number, plain_or, second, sequence, skip_digits, skip_word, starts_name, string, string_character, string_turns, unreserved, word}
+use Rattle.tpl_parse.specs.Literal.{before, before_range_end, begins_places, behind_number, character, escape_at, filter_name, filter_or, standing, in_range, name, number, plain_or, skip_digits, skip_word, starts_name, string, string_character, string_turns, unreserved, word}
 use Rattle.tpl_parse.specs.Reading.{Inner, Start, numeric, quoted, bracket, group, letter, nothing, after_item, after_operator, arguments, at_place, atom, atom_by, behind_operator, by_word, call_or_name, chain, chosen, comparator, compared, comparison, comparisons, conjunction, constant, disjunction, enclosed, ending, expression, filter_arguments, filter_turns, filtered, in_group, inside, item_turns, items_in, joined, negation, not_called, opened, operand, operand_turns, operator, operators, pair, part_of, part_turns, product, reached, signed, start_of, sum, none_test, tested, with_else, with_right, word_atom}
 
 abbrev pub Read : Type 0 → Type 0
@@ -69,28 +71,11 @@ length-behind token t = elim (chosen_is (next_is token t)) [ inl h ↦ rw h (len
 
 -- ---- literals
 
-byte_in_keeps : (low high : ℕ) → Keeps (byte_in low high)
-byte_in_keeps low high [] = omega arith
-byte_in_keeps low high (b ∷ t) = elim (chosen_is (is_in low high b)) [ inl h ↦ rw h (omega arith) | inr h ↦ rw h (omega arith) ]
-
-further_keeps : (n : ℕ) → Keeps (further n)
-unfolding further
-further_keeps zero t = omega arith
-further_keeps (suc n) t =
-    elim (outcome (length t) (byte_in 128 191 t) (byte_in_keeps 128 191 t)) [ inl x ↦ rw x.1 (later (further n) (further_keeps n) x.0.1 (length t) x.2) | inr f ↦ rw f.1 f.2 ]
-
-sequence_keeps : (s : Option (ℕ × ℕ × ℕ)) → Keeps (sequence s)
-sequence_keeps None t = omega arith
-sequence_keeps (Some s) t =
-    elim (outcome (length t) (byte_in s.0 s.1 (drop 1 t)) (later (byte_in s.0 s.1) (byte_in_keeps s.0 s.1) (drop 1 t) (length t) (length-drop_some 1 t))) [
-      | inl x ↦ rw x.1 (later (further s.2) (further_keeps s.2) x.0.1 (length t) x.2)
-      | inr f ↦ rw f.1 f.2
-    ]
-
 pub character_keeps : Keeps character
-unfolding character
-character_keeps [] = omega arith
-character_keeps (b ∷ t) = elim (chosen_is (nat_le b 127)) [ inl h ↦ rw h (omega arith) | inr h ↦ rw h (sequence_keeps (second b) (b ∷ t)) ]
+character_keeps t = by_answer (character t) refl where
+  by_answer : (a : Read ℕ) → character t ≡ a → Within (length t) a
+  by_answer (Ok x) e = let l = utf8_shorter tt t x.0 x.1 e in omega arith
+  by_answer (Err f) e = stops_within tt character (utf8_solid tt) t f e
 
 plain_or_keeps : (o : Option ℕ) → Keeps (plain_or o)
 plain_or_keeps (Some meant) t = length-drop_some 2 t

@@ -1,13 +1,13 @@
 -- Strings: what is read is in the grammar, and what is in the grammar is read.
 use Rattle.std.proofs.Common.{◌≡◌, ℕ, suc, zero, ◌≤◌, ◌<◌, Bool, true, false, cond, inl, inr, List, [], ◌∷◌, ◌++◌, length, drop, Option, Some, None, Ok, refl, sym, ap, ◌∙◌, subst, arith, append_assoc, append-nil}
-use Rattle.std.specs.Prelude.{◌==◌}
+use Rattle.std.specs.Prelude.{◌==◌, encode_utf8}
 use Rattle.std.proofs.lemmas.Bool.{cond-true, cond-false, eq-eqb}
 use Rattle.reading.specs.Answer.{◌>>=◌, Answer}
 use Rattle.reading.specs.Bytes.{sees}
 use Rattle.reading.proofs.Basics.{bind_ok, chosen, ok_parts}
 use Rattle.reading.proofs.Bytes.{sees_front}
 use Rattle.tpl_parse.specs.Token.{Reads}
-use Rattle.tpl_parse.specs.Literal.{before, unescaped, escape_at, character, plain_or, string_character, string_turns, string}
+use Rattle.tpl_parse.specs.Literal.{unescaped, escape_at, character, plain_or, string_character, string_turns, string}
 use Rattle.tpl_parse.specs.Grammar.{IsCharacter, IsString, close, escape, itself}
 use Rattle.tpl_parse.proofs.Next.{Fault}
 use Rattle.tpl_parse.proofs.Characters.{character_found, character_read, character_shorter}
@@ -25,7 +25,7 @@ itself_read : (t c after : List ℕ) → escape_at t ≡ None → IsCharacter t 
 unfolding string_character
 itself_read t c after bare here =
     let r = character_read here in
-    ap (λ (o : Option ℕ). plain_or o t) bare ∙ ap (λ (a : Answer ℕ Fault (Unit {0})). a >>= λ x. Ok (before t x.1, x.1)) r.reads ∙ ap (λ (w : List ℕ). Ok (w, after)) r.is
+    ap (λ (o : Option ℕ). plain_or o t) bare ∙ ap (λ (a : Answer ℕ Fault ℕ). a >>= λ x. Ok (encode_utf8 x.0, x.1)) r.reads ∙ ap (λ (w : List ℕ). Ok (w, after)) r.is
 
 escaped_read : (b meant : ℕ) (t : List ℕ) → unescaped b ≡ Some meant → string_character (92 ∷ b ∷ t) ≡ Ok (meant ∷ [], t)
 unfolding string_character
@@ -75,8 +75,8 @@ found_by quote t (Some meant) at no_end c e s rest more =
     let here : IsString quote f.1 s rest = subst (λ (u : List ℕ). IsString quote u s rest) (sym p.1 ∙ ap (λ (u : List ℕ). drop 2 u) f.2) more in
     subst (λ (w : List ℕ). IsString quote t (w ++ s) rest) p.0 (subst (λ (u : List ℕ). IsString quote u (meant ∷ s) rest) (sym f.2) (escape f.3 here))
 found_by quote t None at no_end c e s rest more =
-    let b = bind_ok (character t) (λ x. Ok (before t x.1, x.1)) c e in
-    let p = ok_parts {F = Fault} (before t b.0.1, b.0.1) c b.2 in
+    let b = bind_ok (character t) (λ x. Ok (encode_utf8 x.0, x.1)) c e in
+    let p = ok_parts {F = Fault} (encode_utf8 b.0.0, b.0.1) c b.2 in
     let here : IsString quote b.0.1 s rest = subst (λ (u : List ℕ). IsString quote u s rest) (sym p.1) more in
     subst (λ (w : List ℕ). IsString quote t (w ++ s) rest) p.0 (itself no_end at (character_found t b.0.0 b.0.1 b.1) here)
 

@@ -1,5 +1,6 @@
 -- Characters and strings, as their methods read them.
 use Rattle.std.proofs.Common.{◌≡◌, ℕ, zero, suc, ◌-◌, ◌<◌, Bool, true, false, cond, List, [], ◌∷◌, ◌++◌, length, drop, Option, Some, None, Result, Ok, Err, refl, sym, ap, subst, ◌∙◌, arith, IsUtf8}
+use Rattle.std.specs.Prelude.{encode_utf8}
 use Rattle.reading.specs.declared.fault.Stop.{Stop}
 use Rattle.reading.specs.declared.fault.Stop.TheVariants as stops
 use Rattle.reading.specs.Answer.{◌>>=◌, Answer, Gives, made}
@@ -7,26 +8,13 @@ use Rattle.reading.specs.Bytes.{sees}
 use Rattle.reading.proofs.Basics.{bind_ok, ok_parts, made_ok, made_err}
 use Rattle.tpl_parse.specs.Leaves.{Leaves}
 use Rattle.tpl_parse.specs.Token.{Reads}
-use Rattle.tpl_parse.specs.Literal.{before, byte_in, further, character, escape_at, plain_or, string_character, string_turns, string}
+use Rattle.tpl_parse.specs.Literal.{character, escape_at, plain_or, string_character, string_turns, string}
 use Rattle.tpl_parse.proofs.Loops.{Continues, begins, ends, goes_on}
-use Rattle.tpl_parse.proofs.Utf8.{Fault, character_found, chars_between}
+use Rattle.tpl_parse.proofs.Utf8.{Fault, character_found}
 
 -- a step that went well
 pub then_gives : {A B : Type 0} (step : Answer ℕ Fault A) (x : A × List ℕ) (next : A × List ℕ → Answer ℕ Fault B) (r : Result B (Stop Fault)) (new : List ℕ) → step ≡ Ok x → Gives (next x) r new → Gives (step >>= next) r new
 then_gives step x next r new e given = rw e given
-
-pub further_gives : (count : ℕ) (rest after : List ℕ) (u : Unit {0}) (r : Result (Unit {0}) (Stop Fault)) (new : List ℕ) → 0 < count → byte_in 128 191 rest ≡ Ok (u, after) → Gives (further (count - 1) after) r new → Gives (further count rest) r new
-unfolding further
-further_gives zero rest after u r new some e given = absurd (omega arith)
-further_gives (suc n) rest after u r new some e given =
-    let back : suc n - 1 ≡ n = omega arith in
-    rw e (subst (λ (n : ℕ). Gives (further n after) r new) back given)
-
-pub character_utf8 : (text : List ℕ) (u : Unit {0}) (rest : List ℕ) → character text ≡ Ok (u, rest) → IsUtf8 (before text rest)
-character_utf8 text u rest e = chars_between text rest (character_found text u rest e).chars
-
-pub taken_utf8 : (old text new found : List ℕ) (u : Unit {0}) → found ≡ before text new → text ≡ old → character old ≡ Ok (u, new) → IsUtf8 found
-taken_utf8 old text new found u is same e = rw (is, same) (character_utf8 old u new e)
 
 -- ---- strings
 
@@ -41,8 +29,8 @@ string_character_shorter rest x after e = by (escape_at rest) refl e where
   by : (o : Option ℕ) → escape_at rest ≡ o → plain_or o rest ≡ Ok (x, after) → length after < length rest
   by (Some meant) is e = let l = escaped_shorter rest meant is in let p = ok_parts {F = Fault} (meant ∷ [], drop 2 rest) (x, after) e in omega (arith, ap length p.1)
   by None is e =
-      let m = bind_ok (character rest) (λ c. Ok (before rest c.1, c.1)) (x, after) e in
-      let p = ok_parts {F = Fault} (before rest m.0.1, m.0.1) (x, after) m.2 in
+      let m = bind_ok (character rest) (λ c. Ok (encode_utf8 c.0, c.1)) (x, after) e in
+      let p = ok_parts {F = Fault} (encode_utf8 m.0.0, m.0.1) (x, after) m.2 in
       let l = (character_found rest m.0.0 m.0.1 m.1).shorter in
       omega (arith, ap length p.1)
 

@@ -42,11 +42,11 @@ module _ (old rest : List ℕ) (so_far : Continues text_turn tt rest (text old))
   unfolding text_turns
   text_ends e h = ends text_turn tt rest (text old) so_far (Ok (None, rest)) (λ n. rw (e, h) refl)
 
-  pub text_goes_on : (u : Unit {0}) (after : List ℕ) → tag_at rest ≡ None → ended rest ≡ false → character rest ≡ Ok (u, after) → Continues text_turn tt after (text old)
+  pub text_goes_on : (u : ℕ) (after : List ℕ) → tag_at rest ≡ None → ended rest ≡ false → character rest ≡ Ok (u, after) → Continues text_turn tt after (text old)
   unfolding text_turns
   text_goes_on u after e h g = goes_on text_turn tt rest (text old) so_far tt after (λ n. rw (e, h, g) refl) (character_found rest u after g).shorter
 
-  pub text_fails : (e : Stop Fault) (new : List ℕ) → tag_at rest ≡ None → ended rest ≡ false → Gives {A = Unit {0}} (character rest) (Err e) new → Gives {A = Option Tag} (text old) (Err e) new
+  pub text_fails : (e : Stop Fault) (new : List ℕ) → tag_at rest ≡ None → ended rest ≡ false → Gives {A = ℕ} (character rest) (Err e) new → Gives {A = Option Tag} (text old) (Err e) new
   unfolding text_turns
   text_fails e new none more g = step_fails text_turn tt rest (text old) so_far (character rest) e new (λ n f k. rw (none, more, k) refl) g
 
@@ -76,11 +76,11 @@ module _ (old rest : List ℕ) (so_far : Continues comment_turn tt rest (comment
   unfolding comment_turns
   comment_trims e h = ends comment_turn tt rest (comment old) so_far (Ok (true, drop 3 rest)) (λ n. rw (e, h) refl)
 
-  pub comment_goes_on : (u : Unit {0}) (after : List ℕ) → comment_ends rest ≡ false → (sees 45 rest && comment_ends (drop 1 rest)) ≡ false → character rest ≡ Ok (u, after) → Continues comment_turn tt after (comment old)
+  pub comment_goes_on : (u : ℕ) (after : List ℕ) → comment_ends rest ≡ false → (sees 45 rest && comment_ends (drop 1 rest)) ≡ false → character rest ≡ Ok (u, after) → Continues comment_turn tt after (comment old)
   unfolding comment_turns
   comment_goes_on u after e h g = goes_on comment_turn tt rest (comment old) so_far tt after (λ n. rw (e, h, g) refl) (character_found rest u after g).shorter
 
-  pub comment_fails : (e : Stop Fault) (new : List ℕ) → comment_ends rest ≡ false → (sees 45 rest && comment_ends (drop 1 rest)) ≡ false → Gives {A = Unit {0}} (character rest) (Err e) new → Gives {A = Bool} (comment old) (Err e) new
+  pub comment_fails : (e : Stop Fault) (new : List ℕ) → comment_ends rest ≡ false → (sees 45 rest && comment_ends (drop 1 rest)) ≡ false → Gives {A = ℕ} (character rest) (Err e) new → Gives {A = Bool} (comment old) (Err e) new
   unfolding comment_turns
   comment_fails e new none more g = step_fails comment_turn tt rest (comment old) so_far (character rest) e new (λ n f k. rw (none, more, k) refl) g
 

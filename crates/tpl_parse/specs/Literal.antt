@@ -1,6 +1,6 @@
 -- Characters, numbers, strings and names.
 use Rattle.std.specs.Prelude.{ℕ, zero, suc, ◌-◌, Bool, false, not, ◌&&◌, ◌||◌, ◌==◌, nat_le, is_none}
-use Rattle.std.specs.Prelude.{if◌then◌else◌, List, [], ◌∷◌, ◌++◌, length, take, drop, Option, Some, None, Ok}
+use Rattle.std.specs.Prelude.{if◌then◌else◌, List, [], ◌∷◌, ◌++◌, length, take, drop, Option, Some, None, Ok, encode_utf8}
 use Rattle.std.specs.Char.{is_ascii_digit}
 use Rattle.std.specs.Option.{is_some}
 use Rattle.ha_value.specs.declared.value.Num.{Num}
@@ -8,6 +8,7 @@ use Rattle.ha_value.specs.Lists.{after_first}
 use Rattle.ha_value.specs.Numbers.{read_number, without_sign}
 use Rattle.reading.specs.Answer.{◌>>=◌, front, stop}
 use Rattle.reading.specs.Bytes.{sees}
+use Rattle.reading.specs.Characters.{character as utf8_character}
 use Rattle.tpl_parse.specs.declared.table.Filter.{Filter}
 use Rattle.tpl_parse.specs.Names.{filter_named, filters_reach, may_stand}
 use Rattle.tpl_parse.specs.Token.{Reads, begins_name, in_name, is_reserved, spaces, stop_behind}
@@ -18,47 +19,9 @@ before rest left = take (length rest - length left) rest
 
 -- ---- characters
 
-abbrev pub is_in : ℕ → ℕ → ℕ → Bool
-is_in low high b = nat_le low b && nat_le b high
-
-abbrev byte_at : ℕ → ℕ → Option ℕ → Reads (Unit {0})
-byte_at low high None rest = stop tt rest
-byte_at low high (Some b) rest = if is_in low high b then Ok (tt, drop 1 rest) else stop tt rest
-
-abbrev pub byte_in : ℕ → ℕ → Reads (Unit {0})
-byte_in low high rest = byte_at low high (front rest) rest
-
--- so many bytes that go on with a character
-unfoldable pub further : ℕ → Reads (Unit {0})
-further zero rest = Ok (tt, rest)
-further (suc n) rest = do
-  b ← byte_in 128 191 rest
-  further n b.1
-
--- A character that begins with this byte: the range of its second byte, which leaves out what has a shorter form, the surrogates and
--- what is over the last character, and how many more there are.
-abbrev pub second : ℕ → Option (ℕ × ℕ × ℕ)
-second b =
-    if is_in 194 223 b then Some (128, 191, 0) else
-    (if b == 224 then Some (160, 191, 1) else
-    (if b == 237 then Some (128, 159, 1) else
-    (if is_in 225 239 b then Some (128, 191, 1) else
-    (if b == 240 then Some (144, 191, 2) else
-    (if is_in 241 243 b then Some (128, 191, 2) else
-    (if b == 244 then Some (128, 143, 2) else None))))))
-
-abbrev pub sequence : Option (ℕ × ℕ × ℕ) → Reads (Unit {0})
-sequence None rest = stop tt rest
-sequence (Some s) rest = do
-  b ← byte_in s.0 s.1 (drop 1 rest)
-  further s.2 b.1
-
-abbrev pub character_at : Option ℕ → Reads (Unit {0})
-character_at None rest = stop tt rest
-character_at (Some b) rest = if nat_le b 127 then Ok (tt, drop 1 rest) else sequence (second b) rest
-
-unfoldable pub character : Reads (Unit {0})
-character rest = character_at (front rest) rest
+-- the code of a character in UTF-8
+abbrev pub character : Reads ℕ
+character = utf8_character tt
 
 -- ---- numbers
 
@@ -119,7 +82,7 @@ abbrev pub plain_or : Option ℕ → Reads (List ℕ)
 plain_or (Some meant) rest = Ok (meant ∷ [], drop 2 rest)
 plain_or None rest = do
   c ← character rest
-  Ok (before rest c.1, c.1)
+  Ok (encode_utf8 c.0, c.1)
 
 -- a character's bytes, or what an escape stands for; a backslash that begins no escape stays
 unfoldable pub string_character : Reads (List ℕ)

@@ -2,7 +2,7 @@
 
 ghost use Rattle.std.specs.Prelude.{◌≡◌, ◌≢◌, ◌≤◌, ◌<◌, ◌++◌, length, None, IfSome};
 ghost use Rattle.reading.specs.Answer.{Gives, made};
-ghost use Rattle.tpl_parse.specs.Literal.{begins_places, behind_number, byte_in, character, escape, escape_at, further, is_digit, number, skip_digits, string, string_character, unescaped};
+ghost use Rattle.tpl_parse.specs.Literal.{begins_places, behind_number, character, escape, escape_at, is_digit, number, skip_digits, string, string_character, unescaped};
 ghost use Rattle.tpl_parse.specs.Leaves.{Leaves};
 
 use crate::parser::{Parser, Stopped};
@@ -66,54 +66,11 @@ fn begins_places(rest: &[u8]) -> bool
 }
 
 impl<'a> Parser<'a> {
-    /// One byte from `low` to `high`.
-    fn byte_in(&mut self, low: u8, high: u8) -> Result<(), Stopped>
-        ensures { Gives (byte_in low high self.old) result self.new }
-    {
-        match self.peek() {
-            Some(b) if low <= b && b <= high => {
-                self.bump();
-                Ok(())
-            }
-            _ => Err(self.wrong()),
-        }
-    }
-
-    /// One character. The second byte's range leaves out what has a shorter form, the surrogates and what is over the last
-    /// character (Unicode, "Well-Formed UTF-8 Byte Sequences").
-    #[tactic(auto, unfolding(crate::specs::Literal::character))]
-    pub fn character(&mut self) -> Result<(), Stopped>
+    /// One character.
+    pub fn character(&mut self) -> Result<char, Stopped>
         ensures { Gives (character self.old) result self.new }
     {
-        let (low, high, further) = match self.peek() {
-            Some(0..=0x7F) => {
-                self.bump();
-                return Ok(());
-            }
-            Some(0xC2..=0xDF) => (0x80, 0xBF, 0),
-            Some(0xE0) => (0xA0, 0xBF, 1),
-            Some(0xED) => (0x80, 0x9F, 1),
-            Some(0xE1..=0xEF) => (0x80, 0xBF, 1),
-            Some(0xF0) => (0x90, 0xBF, 2),
-            Some(0xF1..=0xF3) => (0x80, 0xBF, 2),
-            Some(0xF4) => (0x80, 0x8F, 2),
-            _ => return Err(self.wrong()),
-        };
-        self.bump();
-        self.byte_in(low, high)?;
-        self.further(further)
-    }
-
-    /// So many bytes that go on with a character.
-    #[tactic(auto, unfolding(crate::specs::Literal::further))]
-    fn further(&mut self, count: usize) -> Result<(), Stopped>
-        ensures { Gives (further count self.old) result self.new }
-    {
-        if count == 0 {
-            return Ok(());
-        }
-        self.byte_in(0x80, 0xBF)?;
-        self.further(count - 1)
+        self.bytes.character(())
     }
 
     #[tactic(auto, unfolding(crate::specs::Literal::skip_digits))]
@@ -175,8 +132,8 @@ impl<'a> Parser<'a> {
             text.push_byte(meant)?;
             return Ok(());
         }
-        self.character()?;
-        text.push_bytes(self.before(rest))?;
+        let letter = self.character()?;
+        text.push(letter)?;
         Ok(())
     }
 }

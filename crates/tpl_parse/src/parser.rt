@@ -77,7 +77,7 @@ impl<'a> Parser<'a> {
         requires { count ≤ length self.old }
         ensures { self.new ≡ drop count self.old }
     {
-        self.bytes = Reader::new(&self.bytes.rest()[count..]);
+        self.bytes.skip(count);
     }
 
     /// The bytes before those that are left of this text, which ends where they end.

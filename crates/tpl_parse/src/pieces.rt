@@ -148,7 +148,9 @@ impl<'a> Parser<'a> {
             }
             match self.peek() {
                 None => return Ok(None),
-                Some(_) => self.character()?,
+                Some(_) => {
+                    self.character()?;
+                }
             }
         }
     }
