@@ -17,6 +17,7 @@ use Rattle.trig_set.proofs.numbers.Numbers.TheSendSync as numbers
 use Rattle.state_table.specs.contracts.table.StateTable as StateTable
 use Rattle.wait_set.specs.contracts.asked.Asked as Asked
 use Rattle.wait_set.specs.contracts.waits.Waits as Waits
+use Rattle.wait_set.proofs.waits.Pending.TheSendSync as pending
 use Rattle.switch_book.proofs.book.Switches.TheSendSync as switches
 use Rattle.engine_parts.specs.contracts.parts.Parts as Parts
 use Rattle.engine_parts.proofs.ready.Ready.TheSendSync as ready
@@ -46,7 +47,7 @@ asked_send : IsSend Asked.the_row
 asked_send = search entries depth 60 fits 20000
 
 waits_send : IsSend Waits.the_row
-waits_send = search (asked_send, queue.the_send, crosses, entries) depth 60 fits 20000
+waits_send = search (asked_send, pending.the_field_send, crosses, entries) depth 60 fits 20000
 
 ruleset kept = (states_field, switches.the_send, triggers_field, waits_send, frames_send, ready.the_field_send)
 

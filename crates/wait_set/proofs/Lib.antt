@@ -6,4 +6,8 @@ pub mod CutLemmas
 pub mod AddLemmas
 pub mod FindLemmas
 pub mod FreshLemmas
+pub mod ConcernLemmas
+pub mod NotedLemmas
 pub mod CalmLemmas
+pub mod KeptLemmas
+pub mod OnLemmas

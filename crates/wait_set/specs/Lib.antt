@@ -1,3 +1,4 @@
 pub mod Asked
+pub mod Concern
 pub mod Stands
 pub mod Timers

@@ -1,5 +1,5 @@
 //! The set of pending and ended waits.
-ghost use Rattle.std.specs.Prelude.{◌≡◌, ◌≤◌, ◌<◌, suc, take, drop, filter, not, vec_capacity, [], ◌∷◌, ◌++◌, IfOk, OnOk, OnErr, IsOk, IsTrue, None, Some, true, false, length, nat_eq, is_none, is_some, ◌||◌, slice_get, ◌&&◌, List, ℕ};
+ghost use Rattle.std.specs.Prelude.{◌≡◌, ◌≤◌, ◌<◌, suc, take, drop, filter, not, vec_capacity, [], ◌∷◌, ◌++◌, All, Bool, IfOk, OnOk, OnErr, IsOk, IsTrue, None, Some, true, false, length, nat_eq, is_none, is_some, ◌||◌, slice_get, ◌&&◌, List, ℕ};
 ghost use Rattle.std.specs.List.{list_any};
 ghost use Rattle.std.specs.Option.{option_copied};
 ghost use Rattle.ha_model.specs.declared.journal.Entry.{Entry};
@@ -7,26 +7,37 @@ ghost use Rattle.ha_model.specs.Journal.{HasEntry, Journal};
 ghost use Rattle.ha_model.specs.RecordSteps.{more};
 ghost use Rattle.ha_model.specs.Scripts.{Branch as Path};
 ghost use Rattle.wait_set.specs.declared.asked.Asked.{Asked as Wait};
-ghost use Rattle.wait_set.specs.Asked.{added, end_of, is_of, noted, owners_ended, owners_of, wait_of, without_run};
+ghost use Rattle.wait_set.specs.Asked.{added, end_of, ended_at, is_of, noted, noted_at, owners_ended, owners_of, wait_of, without_run};
+ghost use Rattle.wait_set.specs.Concern.{Ascend, IsStill, OfOthers, has};
 ghost use Rattle.wait_set.specs.Stands.{IsNext, StandsFor};
-ghost use Rattle.wait_set.specs.Timers.{AreKept, AreLater, AreTimed, is_asking, timer_added};
+ghost use Rattle.wait_set.specs.Timers.{AreKept, AreLater, AreTimed, IsListed, timer_added};
 ghost use Rattle.timer_queue.specs.Timers.{due_of, removed};
 
 use crate::asked::{Asked, is_of, note_one};
+use crate::concern::concerned;
 use ha_model::{Answers, Branch, Ended, Firing, Many, Moment, WaitAsk, WaitEnd};
 use std::alloc::{AllocError, Global};
+use std::collections::BTreeSet;
 use std::marker::Model;
 use timer_queue::TimerQueue;
 
-/// The waits of all runs, in the order in which they were asked for, with the dues of those that
-/// have not ended; who owns those that ended at the entry noted last; and whether one that has not
-/// ended may ask a template.
+/// What is kept of the waits that have not ended: their dues, and the owners of those that ask a
+/// template.
+#[derive(Drop)]
+struct Pending {
+    timers: TimerQueue,
+    testing: BTreeSet<u64>,
+}
+
+/// The waits of all runs, in the order in which they were asked for; who owns those that ended at
+/// the entry noted last; what is kept of those that have not ended; and whether each one's owner
+/// is known to be less than those of later ones.
 #[derive(Drop)]
 pub struct Waits {
     asks: Vec<Asked>,
     fresh: Vec<u64>,
-    timers: TimerQueue,
-    templates: bool,
+    pending: Pending,
+    ordered: bool,
 }
 
 impl Model for Waits {
@@ -45,7 +56,7 @@ impl Model for Waits {
 
     ghost view = { λ w. record { asks = w.asks.items; fresh = w.fresh.items } };
 
-    ghost invariant = { λ w. AreKept w.asks.items w.timers w.templates };
+    ghost invariant = { λ w. AreKept w.asks.items w.pending.timers w.pending.testing w.ordered };
 }
 
 impl Waits {
@@ -58,8 +69,11 @@ impl Waits {
         Waits {
             asks: Vec::new(alloc),
             fresh: Vec::new(alloc),
-            timers: TimerQueue::make(alloc),
-            templates: false,
+            pending: Pending {
+                timers: TimerQueue::make(alloc),
+                testing: BTreeSet::new(alloc),
+            },
+            ordered: true,
         }
     }
 
@@ -73,10 +87,11 @@ impl Waits {
         ensures err { OnErr result (self.new.asks ≡ self.old.asks) }
         ensures stands { OnOk result ((j : Journal) → HasEntry j → StandsFor self.old.asks j → place ≡ length j → StandsFor self.new.asks j) }
     {
-        let templates = may_ask(self.templates, &ask);
+        let ordered = stay_ordered(self.ordered, self.asks.as_slice(), owner);
+        list_test(&mut self.pending.testing, &ask, owner)?;
         add_one(
             &mut self.asks,
-            &mut self.timers,
+            &mut self.pending.timers,
             Asked {
                 owner,
                 place,
@@ -84,7 +99,7 @@ impl Waits {
                 end: None,
             },
         )?;
-        self.templates = templates;
+        self.ordered = ordered;
         Ok(())
     }
 
@@ -108,8 +123,8 @@ impl Waits {
             alloc,
             &mut self.asks,
             &mut self.fresh,
-            &mut self.timers,
-            &mut self.templates,
+            &mut self.pending,
+            self.ordered,
             place,
             fired,
             answers,
@@ -138,7 +153,7 @@ impl Waits {
         ensures fresh { self.new.fresh ≡ self.old.fresh }
         ensures stands { (j : Journal) → StandsFor self.old.asks j → StandsFor self.new.asks j }
     {
-        drop_all(&mut self.asks, &mut self.timers, serial);
+        drop_all(&mut self.asks, &mut self.pending, serial);
     }
 }
 
@@ -217,105 +232,168 @@ fn drop_ended(asks: &mut Vec<Asked>, asked: &Asked)
     }
 }
 
+/// Notes an entry with the wait at a place, if there is one.
+fn note_at<A: Answers>(
+    alloc: Global,
+    at: usize,
+    asks: &mut Vec<Asked>,
+    fresh: &mut Vec<u64>,
+    pending: &mut Pending,
+    place: u64,
+    fired: &Many<Firing>,
+    answers: &A,
+) -> Result<(), AllocError>
+    ensures ok { OnOk result (asks.new.items ≡ noted_at place (A.sight answers.now) fired.now at asks.old.items) }
+    ensures fresh { OnOk result (fresh.new.items ≡ fresh.old.items ++ ended_at place (A.sight answers.now) fired.now at asks.old.items) }
+    ensures kept { (ordered : Bool) → AreKept asks.old.items pending.old.timers pending.old.testing ordered
+        → AreKept asks.new.items pending.new.timers pending.new.testing ordered }
+{
+    if at >= asks.len() {
+        return Ok(());
+    }
+    let asked = &mut asks[at];
+    let owner = asked.owner;
+    let ends = note_one(alloc, asked, place, fired, answers)?;
+    if !ends {
+        return Ok(());
+    }
+    mark(pending, fresh, owner)
+}
+
 /// Notes an entry with each wait in turn.
 fn note_all<A: Answers>(
     alloc: Global,
     asks: &mut Vec<Asked>,
     fresh: &mut Vec<u64>,
-    timers: &mut TimerQueue,
+    pending: &mut Pending,
     place: u64,
     fired: &Many<Firing>,
     answers: &A,
 ) -> Result<(), AllocError>
-    requires { AreTimed asks.old.items timers.old }
     ensures ok { OnOk result (asks.new.items ≡ noted place (A.sight answers.now) fired.now asks.old.items) }
     ensures fresh { OnOk result (fresh.new.items ≡ fresh.old.items ++ owners_ended place (A.sight answers.now) fired.now asks.old.items) }
-    ensures timed { AreTimed asks.new.items timers.new }
+    ensures kept { (ordered : Bool) → AreKept asks.old.items pending.old.timers pending.old.testing ordered
+        → AreKept asks.new.items pending.new.timers pending.new.testing ordered }
 {
     for at in 0..asks.len() {
-        let asked = &mut asks[at];
-        let owner = asked.owner;
-        if note_one(alloc, asked, place, fired, answers)? {
-            mark(timers, fresh, owner)?;
-        }
+        note_at(alloc, at, asks, fresh, pending, place, fired, answers)?;
     }
     Ok(())
 }
 
-/// Notes the next entry. The waits are gone through only where it may concern one: where something
-/// fires, a due has come, or a template is asked.
+/// Notes an entry with the waits at these places, where it leaves the others as they are.
+fn note_some<A: Answers>(
+    alloc: Global,
+    places: BTreeSet<usize>,
+    asks: &mut Vec<Asked>,
+    fresh: &mut Vec<u64>,
+    pending: &mut Pending,
+    place: u64,
+    fired: &Many<Firing>,
+    answers: &A,
+) -> Result<(), AllocError>
+    requires { OfOthers (IsStill place (A.sight answers.now) fired.now) places asks.old.items }
+    ensures ok { OnOk result (asks.new.items ≡ noted place (A.sight answers.now) fired.now asks.old.items) }
+    ensures fresh { OnOk result (fresh.new.items ≡ fresh.old.items ++ owners_ended place (A.sight answers.now) fired.now asks.old.items) }
+    ensures kept { (ordered : Bool) → AreKept asks.old.items pending.old.timers pending.old.testing ordered
+        → AreKept asks.new.items pending.new.timers pending.new.testing ordered }
+{
+    let mut left = places;
+    'places: while let Some(at) = left.pop_first() {
+        note_at(alloc, at, asks, fresh, pending, place, fired, answers)?;
+    }
+    Ok(())
+}
+
+/// Notes the next entry: with all waits where a due has come, else with those that it concerns.
 fn note_entry<A: Answers>(
     alloc: Global,
     asks: &mut Vec<Asked>,
     fresh: &mut Vec<u64>,
-    timers: &mut TimerQueue,
-    templates: &mut bool,
+    pending: &mut Pending,
+    ordered: bool,
     place: u64,
     fired: &Many<Firing>,
     answers: &A,
 ) -> Result<(), AllocError>
-    requires { AreKept asks.old.items timers.old templates.old }
+    requires { AreKept asks.old.items pending.old.timers pending.old.testing ordered }
     ensures ok { OnOk result (asks.new.items ≡ noted place (A.sight answers.now) fired.now asks.old.items) }
     ensures fresh { OnOk result (fresh.new.items ≡ fresh.old.items ++ owners_ended place (A.sight answers.now) fired.now asks.old.items) }
-    ensures kept { AreKept asks.new.items timers.new templates.new }
+    ensures kept { AreKept asks.new.items pending.new.timers pending.new.testing ordered }
 {
-    if is_calm(timers, *templates, fired.as_slice(), answers.now()) {
-        return Ok(());
+    if are_all(&pending.timers, ordered, answers.now()) {
+        return note_all(alloc, asks, fresh, pending, place, fired, answers);
     }
-    *templates = true;
-    note_all(alloc, asks, fresh, timers, place, fired, answers)?;
-    *templates = ask_templates(asks.as_slice());
+    let places = concerned(alloc, asks.as_slice(), &pending.testing, fired.as_slice())?;
+    note_some(alloc, places, asks, fresh, pending, place, fired, answers)
+}
+
+/// Whether all waits are gone through: a due has come, or the owners are not known to ascend.
+fn are_all(timers: &TimerQueue, ordered: bool, now: Moment) -> bool
+    ensures { result ≡ false → (ordered ≡ true) × AreLater now timers.now }
+{
+    if !ordered {
+        return true;
+    }
+    timers.is_due(now)
+}
+
+/// Whether the owners still ascend, with one more wait.
+fn stay_ordered(ordered: bool, asks: &[Asked], owner: u64) -> bool
+    ensures { result ≡ true → (ordered ≡ true) × (Ascend asks.now → All (λ a. a.owner < owner) asks.now) }
+{
+    if !ordered {
+        return false;
+    }
+    match asks.last() {
+        Some(last) => last.owner < owner,
+        None => true,
+    }
+}
+
+/// The owner is listed, where its wait asks a template.
+fn list_test(testing: &mut BTreeSet<u64>, ask: &WaitAsk, owner: u64) -> Result<(), AllocError>
+    ensures here { OnOk result (is_some ask.now.test ≡ true → has testing.new owner ≡ true) }
+    ensures kept { (n : ℕ) → has testing.old n ≡ true → has testing.new n ≡ true }
+{
+    if ask.test.is_some() {
+        testing.insert(owner)?;
+    }
     Ok(())
 }
 
-/// Whether nothing fires, no due has come and no template is asked.
-fn is_calm(timers: &TimerQueue, templates: bool, fired: &[Firing], now: Moment) -> bool
-    ensures { result ≡ true → (templates ≡ false) × (fired.now ≡ []) × AreLater now timers.now }
+/// The wait of this owner is pending no more.
+fn settle(pending: &mut Pending, owner: u64)
+    ensures timers { pending.new.timers ≡ removed owner pending.old.timers }
+    ensures testing { (n : ℕ) → nat_eq owner n ≡ false → has pending.new.testing n ≡ has pending.old.testing n }
 {
-    if templates {
-        return false;
-    }
-    if !fired.is_empty() {
-        return false;
-    }
-    !timers.is_due(now)
+    pending.timers.remove(owner);
+    pending.testing.remove(&owner);
 }
 
-/// Whether a template may be asked, with one more wait.
-fn may_ask(templates: bool, ask: &WaitAsk) -> bool
-    ensures { result ≡ (templates || is_some ask.now.test) }
-{
-    templates || ask.test.is_some()
-}
-
-/// Whether a wait that has not ended asks a template.
-fn ask_templates(asks: &[Asked]) -> bool
-    ensures { result ≡ list_any is_asking asks.now }
-{
-    asks.iter()
-        .any(|asked| asked.end.is_none() && asked.ask.test.is_some())
-}
-
-/// The wait of this owner has ended: its timer goes.
-fn mark(timers: &mut TimerQueue, fresh: &mut Vec<u64>, owner: u64) -> Result<(), AllocError>
-    ensures timers { timers.new ≡ removed owner timers.old }
+/// The wait of this owner has ended.
+fn mark(pending: &mut Pending, fresh: &mut Vec<u64>, owner: u64) -> Result<(), AllocError>
+    ensures timers { pending.new.timers ≡ removed owner pending.old.timers }
+    ensures testing { (n : ℕ) → nat_eq owner n ≡ false → has pending.new.testing n ≡ has pending.old.testing n }
     ensures fresh { OnOk result (fresh.new.items ≡ fresh.old.items ++ (owner ∷ [])) }
 {
-    timers.remove(owner);
+    settle(pending, owner);
     fresh.push(owner)?;
     Ok(())
 }
 
-/// Takes the waits of a run out, with their timers.
-fn drop_all(asks: &mut Vec<Asked>, timers: &mut TimerQueue, serial: u64)
-    requires { AreTimed asks.old.items timers.old }
+/// Takes the waits of a run out, with what is kept of them.
+fn drop_all(asks: &mut Vec<Asked>, pending: &mut Pending, serial: u64)
+    requires timed { AreTimed asks.old.items pending.old.timers }
+    requires listed { All (IsListed pending.old.testing) asks.old.items }
     ensures rest { asks.new.items ≡ without_run serial asks.old.items }
-    ensures timed { AreTimed asks.new.items timers.new }
+    ensures timed { AreTimed asks.new.items pending.new.timers }
+    ensures listed { All (IsListed pending.new.testing) asks.new.items }
 {
     let mut at = 0;
     while at < asks.len() {
         if asks[at].ask.serial == serial {
-            timers.remove(asks[at].owner);
+            settle(pending, asks[at].owner);
             cut(asks, at);
         } else {
             at += 1;

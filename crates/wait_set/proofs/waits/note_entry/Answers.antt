@@ -1,14 +1,20 @@
-use Rattle.std.proofs.Common.{◌∙◌, ◌++◌, sym}
-use Rattle.wait_set.proofs.CalmLemmas.{nothing-behind, stays-calm}
+use Rattle.std.proofs.Common.{◌≡◌, ◌∙◌, false, get_or, subst, sym}
+use Rattle.wait_set.specs.Concern.{OfOthers, fires_for, has}
+use Rattle.wait_set.proofs.CalmLemmas.{still-aside}
 use Rattle.wait_set.proofs.waits.note_entry.Goals as goal
 
-pub returns-then-is_calm-clause-ok : goal.returns-then-is_calm-clause-ok
-returns-then-is_calm-clause-ok g c =
-    let quiet = c.is_calm.ensures c.if-is_calm.true in
-    (stays-calm c.args.place (g.A.Answers.sight c.args.answers.now) c.args.fired.now c.args.asks.now.items c.args.timers.now c.args.templates.now c.now.result c.requires c.now.ensures quiet.0 (sym c.as_slice.ensures ∙ quiet.1) quiet.2).noted
+pub note_some-requires : goal.note_some-requires
+note_some-requires g c n d lt none =
+    let quiet = c.are_all.ensures c.if-are_all.false in
+    let places = c.in_ok-places.places in
+    let testing = c.args.pending.now.testing in
+    let tests = subst (λ xs. OfOthers (λ a. has testing a.owner ≡ false) places xs) c.as_slice.ensures.value c.in_ok-places.ensures.tests in
+    let fires = subst (λ xs. OfOthers (λ a. fires_for c.as_slice-2.result.now a.owner ≡ false) places xs) c.as_slice.ensures.value c.in_ok-places.ensures.fires in
+    still-aside c.args.place (g.A.Answers.sight c.args.answers.now) c.args.fired.now c.args.asks.now.items c.args.pending.now.timers testing c.args.ordered c.now.result c.requires c.now.ensures quiet.1
+    n d lt (tests n d lt none) ((λ k. fires_for (sym c.as_slice-2.ensures k) (get_or c.args.asks.now.items n d).owner) ∙ fires n d lt none)
 
-pub returns-then-is_calm-clause-fresh : goal.returns-then-is_calm-clause-fresh
-returns-then-is_calm-clause-fresh g c =
-    let quiet = c.is_calm.ensures c.if-is_calm.true in
-    let stays = stays-calm c.args.place (g.A.Answers.sight c.args.answers.now) c.args.fired.now c.args.asks.now.items c.args.timers.now c.args.templates.now c.now.result c.requires c.now.ensures quiet.0 (sym c.as_slice.ensures ∙ quiet.1) quiet.2 in
-    sym ((λ i. c.args.fresh.now.items ++ stays.owners i) ∙ nothing-behind c.args.fresh.now.items)
+pub returns-clause-kept : goal.returns-clause-kept
+returns-clause-kept g c = c.note_some.ensures.kept c.args.ordered c.requires
+
+pub returns-then-are_all-clause-kept : goal.returns-then-are_all-clause-kept
+returns-then-are_all-clause-kept g c = c.note_all.ensures.kept c.args.ordered c.requires

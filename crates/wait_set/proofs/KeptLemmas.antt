@@ -1,0 +1,169 @@
+-- What a set keeps beside its waits, when one of them changes, goes or comes.
+use Rattle.std.proofs.Common.{◌≡◌, ℕ, zero, suc, ◌-◌, ◌<◌, List, [], ◌∷◌, length, set, get_or, filter, length-set, All, Bool, true, false, not, refl, sym, ap, subst, ◌∙◌, arith, Option, inl, inr}
+use Rattle.std.specs.Prelude.{Some, None, nat_eq, is_some, is_none, slice_get, ◌&&◌}
+use Rattle.std.specs.BTreeSet.{BTreeSet}
+use Rattle.std.specs.List.{list_any}
+use Rattle.std.proofs.lemmas.Bool.{cases_lt}
+use Rattle.std.proofs.lemmas.List.Elements.{All-cons, All-filter, All-head, All-nil, All-push, All-set, All-tail, All-weaker}
+use Rattle.std.proofs.lemmas.List.Kept.{AllPairs-filter}
+use Rattle.std.proofs.lemmas.List.Quantifiers.{all_pairs_push}
+use Rattle.std.proofs.lemmas.Option.{slice_get-get_or}
+use Rattle.ha_model.specs.declared.journal.WaitEnd.{WaitEnd}
+use Rattle.timer_queue.specs.Timers.{Timer, removed}
+use Rattle.wait_set.specs.declared.asked.Asked.{Asked}
+use Rattle.wait_set.specs.Asked.{added, is_of, without_run}
+use Rattle.wait_set.specs.Concern.{Ascend, has}
+use Rattle.wait_set.specs.Timers.{AreApart, AreKept, AreTimed, IsListed, due_in, is_asking}
+use Rattle.wait_set.proofs.CutLemmas.{or-left, or-right, without}
+use Rattle.wait_set.proofs.TimedLemmas.{due-lost, flip, other-owner, timed-ended, timed-noted}
+
+-- ---- the owners stay
+
+owner-set : (i : ℕ) (asks : List Asked) (x y : Asked) → i < length asks → x ≡ get_or asks i x → y.owner ≡ x.owner → (n : ℕ) (d : Asked) → (get_or (set asks i y) n d).owner ≡ (get_or asks n d).owner
+owner-set i [] x y lt is same n d = absurd (omega arith)
+owner-set zero (z ∷ zs) x y lt is same zero d = same ∙ ap (λ (a : Asked). a.owner) is
+owner-set zero (z ∷ zs) x y lt is same (suc n) d = refl
+owner-set (suc i) (z ∷ zs) x y lt is same zero d = refl
+owner-set (suc i) (z ∷ zs) x y lt is same (suc n) d = owner-set i zs x y (omega arith) is same n d
+
+ascend-set : (i : ℕ) (asks : List Asked) (x y : Asked) → i < length asks → x ≡ get_or asks i x → y.owner ≡ x.owner → Ascend asks → Ascend (set asks i y)
+ascend-set i asks x y lt is same asc m n d before within =
+    let len : length (set asks i y) ≡ length asks = length-set asks i y in
+    let up = asc m n d before (omega (arith, within, len)) in
+    let left = owner-set i asks x y lt is same m d in
+    let right = owner-set i asks x y lt is same n d in
+    omega (arith, up, left, right)
+
+-- ---- one goes on waiting
+
+pub set-read : (i : ℕ) (asks : List Asked) (x y : Asked) → i < length asks → x ≡ get_or asks i x → y ≡ x → set asks i y ≡ asks
+set-read i [] x y lt is same = absurd (omega arith)
+set-read zero (z ∷ zs) x y lt is same = (λ k. (same ∙ is) k ∷ zs)
+set-read (suc i) (z ∷ zs) x y lt is same = ap (λ t. z ∷ t) (set-read i zs x y (omega arith) is same)
+
+-- one that asks a template after it was noted asked it before
+pub asking-kept : (x y : Asked) → y.ask ≡ x.ask → (is_some x.end ≡ true → is_some y.end ≡ true) → is_asking y ≡ true → is_asking x ≡ true
+asking-kept x y ask some asks = by x.end refl
+  where
+    by : (e : Option WaitEnd) → x.end ≡ e → (is_none x.end && is_some x.ask.test) ≡ true
+    by None is = (λ k. is_none (is k) && is_some (sym ask k).test) ∙ right (is_none y.end) (is_some y.ask.test) asks
+      where
+        right : (p q : Bool) → (p && q) ≡ true → q ≡ true
+        right true q h = h
+        right false q h = cc
+    by (Some w) is = absurd (never y.end (some (λ k. is_some (is k))) asks)
+      where
+        never : (e : Option WaitEnd) → is_some e ≡ true → (is_none e && is_some y.ask.test) ≡ true → ⊥
+        never None h g = cc
+        never (Some v) h g = cc
+
+-- LEMMA: all is kept where a wait stays as it was, but for what is not told of it
+pub kept-noted : (i : ℕ) (asks : List Asked) (x y : Asked) (ts : List Timer) (testing : BTreeSet ℕ) (ordered : Bool) → AreKept asks ts testing ordered → i < length asks → x ≡ get_or asks i x → y.owner ≡ x.owner
+    → due_in y ≡ due_in x → (is_asking y ≡ true → is_asking x ≡ true) → AreKept (set asks i y) ts testing ordered
+kept-noted i asks x y ts testing ordered kept lt is same due asking = record {
+  timed = timed-noted i asks x y ts kept.timed lt is same due;
+  listed = All-set (IsListed testing) asks i y (λ h. (λ k. has testing (same k)) ∙ subst (IsListed testing) (sym is) (kept.listed i x lt) (asking h)) kept.listed;
+  order = λ up. ascend-set i asks x y lt is same (kept.order up);
+}
+
+-- ---- one ends
+
+gone : (P : Asked → Type 0) (y : Asked) → is_some y.end ≡ true → is_asking y ≡ true → P y
+gone P y ended asks = absurd (by y.end ended asks)
+  where
+    by : (e : Option WaitEnd) → is_some e ≡ true → (is_none e && is_some y.ask.test) ≡ true → ⊥
+    by None h g = cc
+    by (Some w) h g = cc
+
+module _ (old new : BTreeSet ℕ) (o : ℕ) (rest : (n : ℕ) → nat_eq o n ≡ false → has new n ≡ has old n) where
+  listed-others : (zs : List Asked) → list_any (λ b. nat_eq b.owner o) zs ≡ false → All (IsListed old) zs → All (IsListed new) zs
+  listed-others [] none all = All-nil (IsListed new)
+  listed-others (z ∷ zs) none all =
+      All-cons (IsListed new) z zs
+      (λ h. rest z.owner (flip z.owner o false (or-left (nat_eq z.owner o) (list_any (λ b. nat_eq b.owner o) zs) none)) ∙ All-head (IsListed old) z zs all h)
+      (listed-others zs (or-right (nat_eq z.owner o) (list_any (λ b. nat_eq b.owner o) zs) none) (All-tail (IsListed old) z zs all))
+
+  listed-ended : (i : ℕ) (asks : List Asked) (x y : Asked) → AreApart asks → All (IsListed old) asks → i < length asks → x ≡ get_or asks i x → x.owner ≡ o → is_some y.end ≡ true → All (IsListed new) (set asks i y)
+  listed-ended i [] x y apart all lt is own ended = absurd (omega arith)
+  listed-ended zero (z ∷ zs) x y apart all lt is own ended =
+      All-cons (IsListed new) y zs (gone (λ a. has new a.owner ≡ true) y ended)
+      (listed-others zs ((λ k. list_any (λ b. nat_eq b.owner ((sym own ∙ ap (λ (a : Asked). a.owner) is) k)) zs) ∙ apart.0) (All-tail (IsListed old) z zs all))
+  listed-ended (suc i) (z ∷ zs) x y apart all lt is own ended =
+      All-cons (IsListed new) z (set zs i y)
+      (λ h. rest z.owner ((λ k. nat_eq (sym own k) z.owner) ∙ other-owner i zs x z.owner (omega arith) is apart.0) ∙ All-head (IsListed old) z zs all h)
+      (listed-ended i zs x y apart.1 (All-tail (IsListed old) z zs all) (omega arith) is own ended)
+
+  -- LEMMA: those that ask a template are listed where one is taken out
+  pub listed-cut : (i : ℕ) (asks : List Asked) (x : Asked) → AreApart asks → All (IsListed old) asks → i < length asks → x ≡ get_or asks i x → x.owner ≡ o → All (IsListed new) (without i asks)
+  listed-cut i [] x apart all lt is own = absurd (omega arith)
+  listed-cut zero (z ∷ zs) x apart all lt is own =
+      listed-others zs ((λ k. list_any (λ b. nat_eq b.owner ((sym own ∙ ap (λ (a : Asked). a.owner) is) k)) zs) ∙ apart.0) (All-tail (IsListed old) z zs all)
+  listed-cut (suc i) (z ∷ zs) x apart all lt is own =
+      All-cons (IsListed new) z (without i zs)
+      (λ h. rest z.owner ((λ k. nat_eq (sym own k) z.owner) ∙ other-owner i zs x z.owner (omega arith) is apart.0) ∙ All-head (IsListed old) z zs all h)
+      (listed-cut i zs x apart.1 (All-tail (IsListed old) z zs all) (omega arith) is own)
+
+-- LEMMA: all is kept where a wait ends, and its timer goes
+pub kept-ended : (i : ℕ) (asks : List Asked) (x y : Asked) (ts ts' : List Timer) (old new : BTreeSet ℕ) (ordered : Bool) → AreKept asks ts old ordered → i < length asks → x ≡ get_or asks i x → y.owner ≡ x.owner
+    → is_some y.end ≡ true → ts' ≡ removed x.owner ts → ((n : ℕ) → nat_eq x.owner n ≡ false → has new n ≡ has old n) → AreKept (set asks i y) ts' new ordered
+kept-ended i asks x y ts ts' old new ordered kept lt is same ended timers rest = record {
+  timed = subst (AreTimed (set asks i y)) (sym timers) (timed-ended i asks x y ts kept.timed lt is same (due-lost y ended));
+  listed = listed-ended old new x.owner rest i asks x y kept.timed.apart kept.listed lt is refl ended;
+  order = λ up. ascend-set i asks x y lt is same (kept.order up);
+}
+
+-- ---- those of a run go
+
+pub kept-without : (run : ℕ) (asks : List Asked) (ts ts' : List Timer) (old new : BTreeSet ℕ) (ordered : Bool) → AreKept asks ts old ordered → AreTimed (without_run run asks) ts' → All (IsListed new) (without_run run asks)
+    → AreKept (without_run run asks) ts' new ordered
+kept-without run asks ts ts' old new ordered kept timed listed = record {
+  timed = timed;
+  listed = listed;
+  order = λ up. AllPairs-filter (λ (a b : Asked). a.owner < b.owner) (λ a. not (nat_eq a.ask.serial run)) asks (kept.order up);
+}
+
+-- ---- one comes
+
+pub kept-added : (a : Asked) (asks : List Asked) (ts ts' : List Timer) (old new : BTreeSet ℕ) (ordered stays : Bool) → AreKept asks ts old ordered → AreTimed (added a asks) ts'
+    → (is_some a.ask.test ≡ true → has new a.owner ≡ true) → ((n : ℕ) → has old n ≡ true → has new n ≡ true)
+    → (stays ≡ true → (ordered ≡ true) × (Ascend asks → All (λ (b : Asked). b.owner < a.owner) asks)) → AreKept (added a asks) ts' new stays
+kept-added a asks ts ts' old new ordered stays kept timed here more above = record {
+  timed = timed;
+  listed = All-push (IsListed new) left a (All-filter keep (IsListed new) asks (All-weaker (IsListed old) (IsListed new) (λ b was asks. more b.owner (was asks)) asks kept.listed)) (λ asks. here (right (is_none a.end) (is_some a.ask.test) asks));
+  order = λ up. all_pairs_push (λ (b c : Asked). b.owner < c.owner) left a (AllPairs-filter (λ (b c : Asked). b.owner < c.owner) keep asks (kept.order (above up).0))
+      (All-filter keep (λ (b : Asked). b.owner < a.owner) asks ((above up).1 (kept.order (above up).0)));
+}
+  where
+    keep : Asked → Bool
+    keep b = not (is_of a.ask.serial a.ask.branch b)
+
+    left : List Asked
+    left = filter keep asks
+
+    right : (p q : Bool) → (p && q) ≡ true → q ≡ true
+    right true q h = h
+    right false q h = cc
+
+-- LEMMA: more may be listed
+pub kept-listed : (asks : List Asked) (ts ts' : List Timer) (old new : BTreeSet ℕ) (ordered : Bool) → AreKept asks ts old ordered → AreTimed asks ts' → ((n : ℕ) → has old n ≡ true → has new n ≡ true) → AreKept asks ts' new ordered
+kept-listed asks ts ts' old new ordered kept timed more = record {
+  timed = timed;
+  listed = All-weaker (IsListed old) (IsListed new) (λ b was asks. more b.owner (was asks)) asks kept.listed;
+  order = kept.order;
+}
+
+-- LEMMA: where the owner of the last wait is less, all are
+pub last-above : (asks : List Asked) (o : ℕ) (l : Asked) → slice_get asks (length asks - 1) ≡ Some l → l.owner < o → Ascend asks → All (λ (a : Asked). a.owner < o) asks
+last-above asks o l last less asc k d lt = elim (cases_lt k (length asks - 1)) [
+  | inl before ↦ (let up = asc k (length asks - 1) d before (omega (arith, lt)) in let e = owner in omega (arith, up, e, less))
+  | inr at ↦ (let same : length asks - 1 ≡ k = omega (arith, at, lt) in
+      let e = subst (λ (n : ℕ). (get_or asks n d).owner ≡ l.owner) same owner in omega (arith, e, less))
+]
+  where
+    owner : (get_or asks (length asks - 1) d).owner ≡ l.owner
+    owner =
+        (let e : Some (get_or asks (length asks - 1) d) ≡ Some l = sym (slice_get-get_or asks (length asks - 1) d (omega (arith, lt))) ∙ last in
+        let q : get_or asks (length asks - 1) d ≡ l = cc in ap (λ (a : Asked). a.owner) q)
+
+pub none-above : (asks : List Asked) (o : ℕ) → slice_get asks (length asks - 1) ≡ None → All (λ (a : Asked). a.owner < o) asks
+none-above asks o none k d lt = absurd (let bad : ◌≡◌ {A = Option Asked} None (Some (get_or asks (length asks - 1) d)) = sym none ∙ slice_get-get_or asks (length asks - 1) d (omega (arith, lt)) in cc)

@@ -1,0 +1,91 @@
+//! Which waits an entry concerns where no due has come: those for whose owners something fires, and those that ask a template.
+ghost use Rattle.std.specs.Prelude.{◌≡◌, ◌<◌, ℕ, IfOk, OnOk, Some, false, length, nat_eq, slice_index_or};
+ghost use Rattle.wait_set.specs.declared.asked.Asked.{Asked as Wait};
+ghost use Rattle.wait_set.specs.Concern.{Ascend, OfOthers, fires_for, has};
+
+use crate::asked::Asked;
+use ha_model::Firing;
+use std::alloc::{AllocError, Global};
+use std::collections::BTreeSet;
+
+/// The place behind those of lesser owners, found by halves.
+fn place_from(asks: &[Asked], owner: u64) -> usize
+    requires { Ascend asks.now }
+    ensures { (n : ℕ) (d : Wait) → n < length asks.now → (slice_index_or asks.now n d).owner ≡ owner → result ≡ n }
+{
+    asks.partition_point(|asked| asked.owner < owner)
+}
+
+/// The place of the wait of this owner, if there is one.
+fn place_of(asks: &[Asked], owner: u64) -> Option<usize>
+    requires { Ascend asks.now }
+    ensures { (n : ℕ) (d : Wait) → n < length asks.now → (slice_index_or asks.now n d).owner ≡ owner → result ≡ Some n }
+{
+    let place = place_from(asks, owner);
+    if place < asks.len() && asks[place].owner == owner {
+        Some(place)
+    } else {
+        None
+    }
+}
+
+/// Puts the place of an owner's wait in, if there is one.
+fn put_owner(asks: &[Asked], owner: u64, places: &mut BTreeSet<usize>) -> Result<(), AllocError>
+    requires { Ascend asks.now }
+    ensures kept { OnOk result ((n : ℕ) → has places.new n ≡ false → has places.old n ≡ false) }
+    ensures aside { OnOk result (OfOthers (λ a. nat_eq owner a.owner ≡ false) places.new asks.now) }
+{
+    if let Some(place) = place_of(asks, owner) {
+        places.insert(place)?;
+    }
+    Ok(())
+}
+
+/// Puts the places of these owners' waits in.
+fn put_owners(
+    asks: &[Asked],
+    owners: &BTreeSet<u64>,
+    places: &mut BTreeSet<usize>,
+) -> Result<(), AllocError>
+    requires { Ascend asks.now }
+    ensures kept { OnOk result ((n : ℕ) → has places.new n ≡ false → has places.old n ≡ false) }
+    ensures aside { OnOk result (OfOthers (λ a. has owners.now a.owner ≡ false) places.new asks.now) }
+{
+    'owners: for owner in owners.iter() {
+        put_owner(asks, *owner, places)?;
+    }
+    Ok(())
+}
+
+/// Puts the places of the waits in for whose owners something fires.
+fn put_fired(
+    asks: &[Asked],
+    fired: &[Firing],
+    places: &mut BTreeSet<usize>,
+) -> Result<(), AllocError>
+    requires { Ascend asks.now }
+    ensures kept { OnOk result ((n : ℕ) → has places.new n ≡ false → has places.old n ≡ false) }
+    ensures aside { OnOk result (OfOthers (λ a. fires_for fired.now a.owner ≡ false) places.new asks.now) }
+{
+    'fired: for firing in fired {
+        put_owner(asks, firing.owner, places)?;
+    }
+    Ok(())
+}
+
+/// The places of the waits for whose owners something fires, and of those whose owners are among `testing`.
+pub fn concerned(
+    alloc: Global,
+    asks: &[Asked],
+    testing: &BTreeSet<u64>,
+    fired: &[Firing],
+) -> Result<BTreeSet<usize>, AllocError>
+    requires { Ascend asks.now }
+    ensures tests { IfOk result (λ places. OfOthers (λ a. has testing.now a.owner ≡ false) places asks.now) }
+    ensures fires { IfOk result (λ places. OfOthers (λ a. fires_for fired.now a.owner ≡ false) places asks.now) }
+{
+    let mut places = BTreeSet::new(alloc);
+    put_fired(asks, fired, &mut places)?;
+    put_owners(asks, testing, &mut places)?;
+    Ok(places)
+}
