@@ -3,7 +3,8 @@ ghost use Rattle.std.specs.Prelude.{◌≡◌, false, max, IfOk, OnOk};
 ghost use Rattle.ha_model.specs.declared.journal.Cmd as cmd;
 ghost use Rattle.ha_model.specs.Journal.{Journal};
 ghost use Rattle.ha_model.specs.Records.{Records};
-ghost use Rattle.engine_parts.specs.Stages.{Entered, IsOther, Pushed};
+ghost use Rattle.trig_set.specs.Left.{Leaves};
+ghost use Rattle.engine_parts.specs.Stages.{Entered, EnteredLeft, IsOther, Pushed};
 
 use engine_parts::parts::Parts;
 use engine_parts::see::{see_gone, see_report};
@@ -24,6 +25,25 @@ pub fn enter_report(
     let before = see_report(&mut parts.states, alloc, entity, text, attributes, parts.at)?;
     parts.changed = false;
     Ok(before)
+}
+
+/// A report of an entity that concerns nobody: nobody asks what was before it.
+pub fn enter_left(
+    parts: &mut Parts,
+    alloc: Global,
+    entity: &EntityId,
+    text: &Word,
+    attributes: &Many<(Word, Value)>,
+) -> Result<(), AllocError>
+    ensures entered { OnOk result ((k : Journal) (rs : Records) → (h : Pushed k rs parts.old) → h.cmd ≡ cmd.Cmd.Report entity.now text.now attributes.now → Leaves parts.old.triggers entity.now
+        → EnteredLeft k parts.new entity.now text.now attributes.now) }
+    ensures rest { OnOk result (parts.new ≡ record parts.old { states = parts.new.states; changed = false }) }
+{
+    parts
+        .states
+        .report(alloc, entity, text, attributes, parts.at)?;
+    parts.changed = false;
+    Ok(())
 }
 
 /// An entity goes.

@@ -19,6 +19,7 @@ pub mod DetachLemmas
 pub mod KeptLemmas
 pub mod KeyLemmas
 pub mod NoteEntry
+pub mod NoteLeft
 pub mod WakeLine
 pub mod ViewLemmas
 pub mod GoneLemmas

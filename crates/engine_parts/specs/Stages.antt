@@ -1,5 +1,6 @@
 -- The stages of the work on a line that was pushed.
-use Rattle.std.specs.Prelude.{◌≡◌, ℕ, ◌<◌, true, length, List, Option}
+use Rattle.std.specs.Prelude.{◌≡◌, ℕ, ◌<◌, ◌∷◌, [], true, length, List, Option}
+use Rattle.ha_value.specs.declared.value.EntityId.{EntityId}
 use Rattle.timer_queue.specs.Timers.{Timer}
 use Rattle.script_step.specs.declared.frames.Frames.{Frames}
 use Rattle.ha_model.specs.Scripts.{Branch}
@@ -8,13 +9,16 @@ use Rattle.trig_set.specs.declared.set.TrigSet.{TrigSet}
 use Rattle.ha_model.specs.declared.journal.Cmd.{Cmd}
 use Rattle.ha_model.specs.declared.journal.Entry.{Entry}
 use Rattle.ha_model.specs.declared.journal.Entry.TheVariants.{Line}
+use Rattle.ha_model.specs.declared.journal.StateObject.{StateObject}
 use Rattle.ha_model.specs.Entries.{IsPlain}
+use Rattle.ha_model.specs.Words.{Text, Pairs}
 use Rattle.ha_model.specs.Commands.{IsFair}
 use Rattle.ha_model.specs.Journal.{Journal, IsJournal, HasEntry}
 use Rattle.ha_model.specs.Records.{Records, passing}
 use Rattle.ha_model.specs.RecordSteps.{more, records_after}
 use Rattle.run_modes.specs.Calls.{all_tried}
 use Rattle.ha_model.specs.Lawful.{Right}
+use Rattle.trig_set.specs.Left.{Leaves}
 use Rattle.trig_set.specs.Next.{Listed, AreListed, has_earlier}
 use Rattle.trig_set.specs.Stands as triggers
 use Rattle.wait_set.specs.Stands as waits
@@ -77,9 +81,24 @@ pub record Untold (k : Journal) (t : TrigSet) (w : Waits) (before : Listed) : Ty
   pub owned : Owned k t w
   pub listed : has_earlier (length j) (triggers.attached t) ≡ true → AreListed j x before
 
+-- the same of a report of an entity that concerns nobody
+pub record UntoldLeft (k : Journal) (t : TrigSet) (w : Waits) (e : EntityId) (text : Text) (attributes : Pairs) : Type 0 where
+  pub source : ℕ
+  pub number : ℕ
+  pub old : Option StateObject
+  pub untold : Untold k t w ((e, old) ∷ [])
+  pub x_is : untold.x ≡ Line source number (Cmd.Report e text attributes)
+  pub left : Leaves t e
+
 pub record Entered (k : Journal) (p : Parts) (before : Listed) : Type 0 where
   pub sees : Sees k p
   pub untold : Untold k p.triggers p.waits before
+  pub keys_early : KeysBelow (length k) p.delays
+
+-- so it is with such a report
+pub record EnteredLeft (k : Journal) (p : Parts) (e : EntityId) (text : Text) (attributes : Pairs) : Type 0 where
+  pub sees : Sees k p
+  pub untold : UntoldLeft k p.triggers p.waits e text attributes
   pub keys_early : KeysBelow (length k) p.delays
 
 -- the triggers and the waits were told of it; these were the waits before

@@ -77,7 +77,7 @@ pub fn note_entry(
 }
 
 /// The runs that a line wakes are listed anew.
-fn wake_line(parts: &mut Parts, alloc: Global, journal: &[Entry]) -> Result<(), AllocError>
+pub fn wake_line(parts: &mut Parts, alloc: Global, journal: &[Entry]) -> Result<(), AllocError>
     ensures going { OnOk result ((rs : Records) (w : WaitTable) → Noted journal.now w parts.old
         → RunsBefore journal.now rs w parts.old.delays parts.old.frames.items parts.old.ready.pairs.items → Going nobody journal.now rs parts.new) }
     ensures rest { parts.new.rested ≡ parts.old.rested }

@@ -6,6 +6,7 @@ pub mod attend;
 pub mod forget;
 pub mod last;
 pub mod laws;
+pub mod left;
 pub mod note;
 pub mod parts;
 pub mod ready;

@@ -21,7 +21,7 @@ use trig_set::TrigSet;
 use wait_set::Waits;
 
 /// The waits note the entry at a place, with all that fires there.
-fn note_waits<A: Answers>(
+pub fn note_waits<A: Answers>(
     waits: &mut Waits,
     alloc: Global,
     place: u64,

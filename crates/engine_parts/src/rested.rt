@@ -1,5 +1,5 @@
 //! The flags that say who is rested.
-ghost use Rattle.std.specs.Prelude.{◌≡◌, ◌≤◌, length, vec_len};
+ghost use Rattle.std.specs.Prelude.{◌≡◌, ◌≤◌, length, replicate, true, vec_len};
 ghost use Rattle.ha_ready.specs.RestedFlags.{flag_after, flags_from};
 
 fn flag_after(source: Option<u32>, quiet: bool, of: u32, flag: bool) -> bool
@@ -12,13 +12,32 @@ fn flag_after(source: Option<u32>, quiet: bool, of: u32, flag: bool) -> bool
     (!own && flag) || quiet
 }
 
-/// After an entry that is a line of this source, or of none.
-fn note_rested(flags: &mut [bool], source: Option<u32>, quiet: bool)
+/// Behind a quiet journal all are rested.
+fn set_all(flags: &mut [bool])
+    ensures { flags.new ≡ replicate (length flags.old) true }
+{
+    flags.fill(true);
+}
+
+/// After an entry that is a line of this source, or of none, one after the other.
+fn note_each(flags: &mut [bool], source: Option<u32>, quiet: bool)
     requires { length flags.old ≤ 16 }
     ensures { flags.new ≡ flags_from source quiet 0 flags.old }
 {
     'sources: for i in 0..flags.len() {
         flags[i] = flag_after(source, quiet, i as u32, flags[i]);
+    }
+}
+
+/// After an entry that is a line of this source, or of none.
+fn note_rested(flags: &mut [bool], source: Option<u32>, quiet: bool)
+    requires { length flags.old ≤ 16 }
+    ensures { flags.new ≡ flags_from source quiet 0 flags.old }
+{
+    if quiet {
+        set_all(flags);
+    } else {
+        note_each(flags, source, quiet);
     }
 }
 

@@ -7,17 +7,19 @@ ghost use Rattle.ha_model.specs.Entries.{IsPlain};
 ghost use Rattle.ha_model.specs.Journal.{Journal};
 ghost use Rattle.ha_model.specs.Records.{Records};
 ghost use Rattle.ha_model.specs.Lawful.{Right};
+ghost use Rattle.trig_set.specs.Left.{Leaves};
 ghost use Rattle.engine_parts.specs.Kept.{Kept};
 ghost use Rattle.engine_parts.specs.Stages.{Entered, IsLine, Pushed, PushedAs, RunsBefore};
 
 use crate::conclude::conclude;
 use crate::restart::follow_restart;
 use crate::switch::follow_switch;
-use engine_entry::enter::{enter_gone, enter_moment, enter_other, enter_report};
+use engine_entry::enter::{enter_gone, enter_left, enter_moment, enter_other, enter_report};
 use engine_parts::attend::attend;
 use engine_parts::last::last_entry;
+use engine_parts::left::attend_left;
 use engine_parts::parts::Parts;
-use ha_model::{Cmd, EntityId, Entry, Many, StateObject};
+use ha_model::{Cmd, EntityId, Entry, Many, StateObject, Value, Word};
 use run_modes::Runs;
 use std::alloc::{AllocError, Global};
 
@@ -74,6 +76,49 @@ fn follow_plain(
     conclude(alloc, journal, runs, parts, fired)
 }
 
+/// A report of an entity that concerns nobody.
+fn follow_left(
+    alloc: Global,
+    journal: &[Entry],
+    runs: &mut Runs,
+    parts: &mut Parts,
+    entity: &EntityId,
+    text: &Word,
+    attributes: &Many<(Word, Value)>,
+) -> Result<(), AllocError>
+    requires pushed { PushedAs (Said.Report entity.now text.now attributes.now) journal.now runs.old.list parts.old }
+    requires left { Leaves parts.old.triggers entity.now }
+    ensures ok { OnOk result (Right journal.now runs.new.list × Kept journal.now runs.new.list parts.new) }
+    ensures err { OnErr result (runs.new.list ≡ runs.old.list) }
+{
+    enter_left(parts, alloc, entity, text, attributes)?;
+    attend_left(parts, alloc, journal, entity, text, attributes)?;
+    conclude(alloc, journal, runs, parts, Many::make(alloc))
+}
+
+/// A report.
+fn follow_report(
+    alloc: Global,
+    journal: &[Entry],
+    runs: &mut Runs,
+    parts: &mut Parts,
+    cmd: &Cmd,
+    entity: &EntityId,
+    text: &Word,
+    attributes: &Many<(Word, Value)>,
+) -> Result<(), AllocError>
+    requires pushed { PushedAs cmd.now journal.now runs.old.list parts.old }
+    requires report { cmd.now ≡ Said.Report entity.now text.now attributes.now }
+    ensures ok { OnOk result (Right journal.now runs.new.list × Kept journal.now runs.new.list parts.new) }
+    ensures err { OnErr result (runs.new.list ≡ runs.old.list) }
+{
+    if parts.triggers.leaves(entity) {
+        follow_left(alloc, journal, runs, parts, entity, text, attributes)
+    } else {
+        follow_plain(alloc, journal, runs, parts, cmd)
+    }
+}
+
 /// The command of the last entry, which is a line.
 fn last_command(journal: &[Entry]) -> &Cmd
     requires { IsLine journal.now }
@@ -102,6 +147,11 @@ pub fn follow_line(
             follow_switch(alloc, journal, runs, parts, name, *on, *stop)
         }
         Cmd::Restart => follow_restart(alloc, journal, runs, parts),
+        Cmd::Report {
+            entity,
+            text,
+            attributes,
+        } => follow_report(alloc, journal, runs, parts, cmd, entity, text, attributes),
         _ => follow_plain(alloc, journal, runs, parts, cmd),
     }
 }

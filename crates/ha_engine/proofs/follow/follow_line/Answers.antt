@@ -38,3 +38,11 @@ pub follow_restart-requires : goal.follow_restart-requires
 follow_restart-requires c =
     let h = c.requires in
     record { pushed = h; cmd_is = sym (c.last_command-cmd.ensures h.j h.source h.number h.cmd h.journal_is) ∙ c.in-Restart.is }
+
+pub follow_report-requires : goal.follow_report-requires
+follow_report-requires c =
+    let h = c.requires in
+    record {
+      pushed = record { pushed = h; cmd_is = sym (c.last_command-cmd.ensures h.j h.source h.number h.cmd h.journal_is) };
+      report = c.in-Report.is;
+    }

@@ -1,0 +1,24 @@
+use Rattle.std.proofs.Common.{[], ◌∷◌, ap, refl}
+use Rattle.ha_model.specs.declared.journal.Cmd.{Cmd}
+use Rattle.ha_model.specs.declared.journal.Entry.TheVariants.{Line}
+use Rattle.state_table.specs.Table.{at}
+use Rattle.engine_parts.proofs.SeeLemmas.{report-listed}
+use Rattle.engine_entry.proofs.EnterPlain.{entered-as, fair-as, no-automation, now-as}
+use Rattle.engine_entry.proofs.enter.enter_left.Goals as goal
+
+pub returns-clause-entered : goal.returns-clause-entered
+returns-clause-entered c k rs h is left =
+    let p = c.args.parts.now in
+    let e = c.args.entity.now in
+    let cmd : Cmd = Cmd.Report e c.args.text.now c.args.attributes.now in
+    let plain = no-automation e (fair-as k rs p h cmd is).0.1 in
+    let now_is = now-as k rs p h cmd is refl in
+    let old = h.kept.going.sees.looks in
+    let entered = entered-as k rs p h cmd is tt c.report.new.self p.at ((e, at p.states e) ∷ [])
+    (c.in_ok-report.ensures.stands h.j h.source h.number old.states_stand plain now_is) now_is old.in_time
+    (report-listed p.states h.j h.source h.number e c.args.text.now c.args.attributes.now old.states_stand plain) in
+    record {
+      sees = entered.sees;
+      untold = record { source = h.source; number = h.number; old = at p.states e; untold = entered.untold; x_is = ap (Line h.source h.number) is; left = left };
+      keys_early = entered.keys_early;
+    }

@@ -1,0 +1,59 @@
+-- The triggers and the waits are told of a report of an entity that concerns nobody.
+use Rattle.std.proofs.Common.{◌≡◌, ℕ, suc, ◌-◌, ◌<◌, List, [], ◌∷◌, length, refl, sym, ap, subst, ◌∙◌, arith}
+use Rattle.ha_value.specs.declared.value.EntityId.{EntityId}
+use Rattle.ha_model.specs.declared.journal.Cmd.{Cmd}
+use Rattle.ha_model.specs.declared.journal.Entry.{Entry}
+use Rattle.ha_model.specs.declared.journal.Entry.TheVariants.{Line}
+use Rattle.ha_model.specs.declared.steps.Firing.{Firing}
+use Rattle.ha_model.specs.Words.{Text, Pairs}
+use Rattle.ha_model.specs.Journal.{Journal, now}
+use Rattle.ha_model.specs.States.{Sight}
+use Rattle.ha_model.specs.RecordSteps.{more}
+use Rattle.ha_model.specs.Triggers.{sight}
+use Rattle.ha_model.proofs.RecordLaws.{length-more}
+use Rattle.state_table.specs.declared.table.StateTable.{StateTable}
+use Rattle.trig_set.specs.Next.{IsNext}
+use Rattle.ha_past.specs.Firings.{firings}
+use Rattle.trig_set.specs.Stands as triggers
+use Rattle.trig_set.specs.declared.set.TrigSet.{TrigSet}
+use Rattle.wait_set.specs.Asked.{WaitTable}
+use Rattle.wait_set.specs.Stands as waits
+use Rattle.engine_parts.specs.Kept.{Looks}
+use Rattle.engine_parts.specs.Stages.{UntoldLeft}
+use Rattle.engine_parts.proofs.NoteEntry.{last-at, untold-next, untold-told}
+
+module _ (k : Journal) (t : TrigSet) (w : WaitTable) (e : EntityId) (text : Text) (attributes : Pairs) (h : UntoldLeft k t w e text attributes) where
+  abbrev pub report : Entry
+  report = Line h.source h.number (Cmd.Report e text attributes)
+
+  pub left-is : k ≡ more h.untold.j report
+  left-is = h.untold.journal_is ∙ ap (more h.untold.j) h.x_is
+
+  -- LAW: the report is the next entry
+  pub left-next : (table : StateTable) (zone : Text) (at : ℕ) → Looks k table zone at → IsNext h.untold.j (length k - 1) report ((e, h.old) ∷ []) (sight k (length k)) (triggers.attached t)
+  left-next table zone at looks =
+      subst (λ (y : Entry). IsNext h.untold.j (length k - 1) y ((e, h.old) ∷ []) (sight k (length k)) (triggers.attached t)) h.x_is
+      (untold-next k t w ((e, h.old) ∷ []) h.untold table zone at (sight k (length k)) looks refl)
+
+  pub left-now : (table : StateTable) (zone : Text) (at : ℕ) → Looks k table zone at → at ≡ now (more h.untold.j report)
+  left-now table zone at looks = looks.now_is ∙ ap now left-is
+
+  module _ (none : firings (more h.untold.j report) (length k - 1) (triggers.attached t) ≡ []) where
+    -- LAW: nothing fires at the last entry
+    pub left-none : firings k (length k - 1) (triggers.attached t) ≡ []
+    left-none = ap (λ (i : Journal). firings i (length k - 1) (triggers.attached t)) left-is ∙ none
+
+    -- LAW: so it is the next entry of the waits
+    pub left-waits : (seen : Sight) (fired : List Firing) → seen ≡ sight k (length k) → fired ≡ [] → waits.IsNext h.untold.j (length k - 1) report seen fired w.asks
+    left-waits seen fired sees empty = record {
+      at = last-at k t w ((e, h.old) ∷ []) h.untold;
+      some = h.untold.some;
+      sees =
+          sees ∙ ap (λ (i : Journal). sight i (length i)) left-is
+          ∙ ap (sight (more h.untold.j report)) (let one = last-at k t w ((e, h.old) ∷ []) h.untold in let more' = length-more h.untold.j report in omega (arith, one, more'));
+      fires =
+          subst (λ (l : List Firing). waits.AreFired (more h.untold.j report) (length k - 1) l w.asks)
+          (ap (λ (y : Entry). firings (more h.untold.j y) (length k - 1) (triggers.attached t)) h.x_is ∙ none ∙ sym empty)
+          (subst (λ (y : Entry). waits.AreFired (more h.untold.j y) (length k - 1) (firings (more h.untold.j h.untold.x) (length k - 1) (triggers.attached t)) w.asks) h.x_is
+          (untold-told k t w ((e, h.old) ∷ []) h.untold));
+    }

@@ -1,0 +1,17 @@
+use Rattle.std.proofs.Common.{◌-◌, [], length, sym, ap, subst, ◌∙◌}
+use Rattle.trig_set.specs.Stands.{attached}
+use Rattle.engine_parts.specs.declared.parts.Parts.{Parts}
+use Rattle.engine_parts.specs.Owners.{attempts_by}
+use Rattle.engine_parts.specs.Stages.{RunsBefore}
+use Rattle.engine_parts.proofs.AttemptLemmas.{attempts-fired}
+use Rattle.engine_parts.proofs.left.attend_left.Goals as goal
+
+pub returns-clause-fired : goal.returns-clause-fired
+returns-clause-fired c =
+    let k = c.args.journal.now in
+    ap attempts_by (sym c.note_left.ensures.fired) ∙ attempts-fired k (length k - 1) (attached c.args.parts.now.triggers) c.requires.untold.untold.owned.automations_attached
+
+pub returns-clause-going : goal.returns-clause-going
+returns-clause-going c rs before =
+    c.in_ok-wake_line.ensures.going rs c.args.parts.now.waits c.in_ok-note_left.ensures.noted
+    (subst (λ (p : Parts). RunsBefore c.args.journal.now rs c.args.parts.now.waits p.delays p.frames.items p.ready.pairs.items) (sym c.in_ok-note_left.ensures.rest) before)

@@ -1,0 +1,35 @@
+use Rattle.std.proofs.Common.{◌≡◌, ◌-◌, [], ◌∷◌, length, sym, subst}
+use Rattle.ha_model.specs.declared.journal.Entry.{Entry}
+use Rattle.ha_model.specs.RecordSteps.{more}
+use Rattle.ha_model.specs.Triggers.{sight}
+use Rattle.cond_eval.specs.Seen.{seen}
+use Rattle.trig_set.specs.Stands as triggers
+use Rattle.wait_set.specs.Stands as waits
+use Rattle.engine_parts.proofs.NoteEntry.{told-by}
+use Rattle.engine_parts.proofs.NoteLeft.{left-next, left-now, left-none, left-waits, report}
+use Rattle.engine_parts.proofs.ViewLemmas.{view-of}
+use Rattle.engine_parts.proofs.left.note_report.Goals as goal
+
+pub note_left-requires : goal.note_left-requires
+note_left-requires c = c.requires.untold.left
+
+pub returns-clause-told : goal.returns-clause-told
+returns-clause-told c =
+    let k = c.args.journal.now in
+    let t = c.args.triggers.now in
+    let w = c.args.waits.now in
+    let e = c.args.entity.now in
+    let text = c.args.text.now in
+    let attributes = c.args.attributes.now in
+    let h = c.requires.untold in
+    let j = h.untold.j in
+    let next = left-next k t w e text attributes h c.args.states.now c.args.zone.now c.args.at c.requires.looks in
+    let none = c.note_left.ensures.fired j h.source h.number (length k - 1) h.old (sight k (length k)) h.untold.triggers_stand next in
+    let sees = c.make-view.ensures k (view-of k c.args.states.now c.configuration.result.now c.args.zone.now c.args.at c.requires.looks c.requires.sound c.configuration.ensures) in
+    told-by k t w ((e, h.old) ∷ []) h.untold c.note_left.new.triggers c.note_waits.new.waits c.note_left.ensures.kept
+    (subst (λ (y : Entry). triggers.StandsFor c.note_left.new.triggers (more j y)) (sym h.x_is)
+    (c.in_ok-note_left.ensures.stands j h.source h.number (length k - 1) h.old (sight k (length k)) h.untold.triggers_stand next (left-now k t w e text attributes h c.args.states.now c.args.zone.now c.args.at c.requires.looks)))
+    (subst (λ (y : Entry). waits.StandsFor c.note_waits.new.waits.asks (more j y)) (sym h.x_is)
+    (c.in_ok-note_waits.ensures.stands j (report k t w e text attributes h) h.untold.waits_stand (left-waits k t w e text attributes h none (seen c.make-view.result) c.make-fired.result sees c.make-fired.ensures)))
+    c.in_ok-note_waits.ensures.asks c.in_ok-note_waits.ensures.grow c.in_ok-note_waits.ensures.owned c.in_ok-note_waits.ensures.told c.in_ok-note_waits.ensures.apart c.in_ok-note_waits.ensures.others
+    c.in_ok-note_waits.ensures.held
