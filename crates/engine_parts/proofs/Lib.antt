@@ -28,4 +28,5 @@ pub mod CutLemmas
 pub mod ForgetLemmas
 pub mod PutLemmas
 pub mod LowerLemmas
+pub mod OverLemmas
 pub mod SlotTables

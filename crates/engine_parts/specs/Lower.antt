@@ -1,5 +1,5 @@
 -- Where the pairs of a run stand among the others.
-use Rattle.std.specs.Prelude.{ℕ, suc, ◌≤◌, Bool, false, nat_eq, nat_lt, List, [], ◌∷◌, slice_get, if◌then◌else◌}
+use Rattle.std.specs.Prelude.{ℕ, suc, ◌+◌, ◌≤◌, Bool, false, not, ◌&&◌, nat_eq, nat_lt, List, [], ◌∷◌, slice_get, if◌then◌else◌}
 use Rattle.std.specs.Option.{option_map_or}
 use Rattle.ha_model.specs.Scripts.{Branch}
 
@@ -16,3 +16,7 @@ Ascends n (x ∷ xs) = (n ≤ x.0) × Ascends x.0 xs
 -- a pair of this run stands at that place
 abbrev pub stands_at : ℕ → ℕ → List (ℕ × Branch) → Bool
 stands_at s at xs = option_map_or (λ x. nat_eq x.0 s) (slice_get xs at) false
+
+-- a pair of this run stands at that place, and none at the next one
+abbrev pub has_one : ℕ → ℕ → List (ℕ × Branch) → Bool
+has_one s at xs = stands_at s at xs && not (stands_at s (at + 1) xs)

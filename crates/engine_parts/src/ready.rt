@@ -1,8 +1,8 @@
 //! The ready pairs of run and branch, in order, kept from entry to entry.
-ghost use Rattle.std.specs.Prelude.{◌≡◌, ◌++◌, ◌∷◌, ◌<◌, ◌≤◌, ℕ, suc, List, not, nat_eq, nat_lt, OnOk, length, take, drop, filter, vec_len, vec_capacity};
+ghost use Rattle.std.specs.Prelude.{◌≡◌, ◌++◌, ◌&&◌, [], ◌∷◌, ◌<◌, ◌≤◌, ℕ, suc, List, not, nat_eq, nat_lt, OnOk, length, take, drop, filter, slice_set, vec_len, vec_capacity};
 ghost use Rattle.ha_model.specs.Scripts.{Branch as Path};
 ghost use Rattle.ha_ready.specs.ReadyPairs.{pairs_from, pairs_of, with_run};
-ghost use Rattle.engine_parts.specs.Lower.{Ascends, lower, stands_at};
+ghost use Rattle.engine_parts.specs.Lower.{Ascends, has_one, lower, stands_at};
 
 use ha_model::{Branch, Many};
 use std::alloc::AllocError;
@@ -102,12 +102,52 @@ fn put_pairs(
     Ok(())
 }
 
-/// The branches of a run that may step are now these.
-pub fn set_run(ready: &mut Ready, serial: u64, branches: Many<Branch>) -> Result<(), AllocError>
+/// Whether the run has one pair, at that place, and gets one.
+fn is_one(ready: &Ready, serial: u64, at: usize, branches: &Many<Branch>) -> bool
+    requires { at ≤ length ready.now.pairs.items }
+    ensures { result ≡ (nat_eq (length branches.now) 1 && has_one serial at ready.now.pairs.items) }
+{
+    branches.len() == 1 && stands_at(ready, serial, at) && !stands_at(ready, serial, at + 1)
+}
+
+/// The branch that is alone.
+fn only(branches: Many<Branch>) -> Branch
+    requires { length branches ≡ 1 }
+    ensures { branches ≡ result ∷ [] }
+{
+    let mut branches = branches;
+    match branches.pop() {
+        Some(branch) => branch,
+        None => unreachable!(),
+    }
+}
+
+/// The pair at a place gives way to this one.
+fn put_over(ready: &mut Ready, at: usize, serial: u64, branch: Branch)
+    requires { at < length ready.old.pairs.items }
+    ensures { ready.new.pairs.items ≡ slice_set ready.old.pairs.items at (serial, branch) }
+{
+    ready.pairs[at] = (serial, branch);
+}
+
+/// The pairs of a run are taken out, and those of these branches put in.
+fn put_anew(ready: &mut Ready, serial: u64, branches: Many<Branch>) -> Result<(), AllocError>
     ensures { OnOk result ((m : ℕ) (by : ℕ → List Path) → ready.old.pairs.items ≡ pairs_from 0 m by → 0 < serial → serial ≤ m → ready.new.pairs.items ≡ with_run serial branches ready.old.pairs.items) }
 {
     drop_pairs(ready, serial);
     let at = lower(ready.pairs.as_slice(), serial);
     put_pairs(ready, at, serial, branches)?;
     Ok(())
+}
+
+/// The branches of a run that may step are now these. A pair that is alone is written over, and no other one moves.
+pub fn set_run(ready: &mut Ready, serial: u64, branches: Many<Branch>) -> Result<(), AllocError>
+    ensures { OnOk result ((m : ℕ) (by : ℕ → List Path) → ready.old.pairs.items ≡ pairs_from 0 m by → 0 < serial → serial ≤ m → ready.new.pairs.items ≡ with_run serial branches ready.old.pairs.items) }
+{
+    let at = lower(ready.pairs.as_slice(), serial);
+    if is_one(ready, serial, at, &branches) {
+        put_over(ready, at, serial, only(branches));
+        return Ok(());
+    }
+    put_anew(ready, serial, branches)
 }
