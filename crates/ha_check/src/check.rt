@@ -8,6 +8,7 @@ ghost use Rattle.ha_status.specs.Files.{IsHandedBack};
 ghost use Rattle.ha_status.specs.Written.{IsWritten, TookLine};
 ghost use Rattle.ha_model.specs.Texts.{check_text};
 ghost use Rattle.ha_check.specs.Checked.{IsAnswerOf, IsCheckStatus, IsOutput, IsShown};
+ghost use Rattle.ha_check.specs.Configured.{RefusedCause};
 
 use crate::configured::{Configured, read_config_at};
 use crate::lines::check_text;
@@ -43,6 +44,7 @@ fn checked<P: Place>(
 ) -> (Status, Option<P::Source>)
     ensures answer { IsCheckStatus name.now result.0 }
     ensures of_file { IfSome (P.holds place.old) (λ f. IsAnswerOf (f name.now) result.0) }
+    ensures refused { RefusedCause (P.holds place.old) name.now result.0 }
     ensures output { IsOutput (P.holds place.old) name.now result.0 (P.Sink.written out.old) (P.Sink.written out.new) }
     ensures unopened { OpenCause (name.now ∷ []) (P.faults place.old) (P.faults place.new) (P.last place.new) result.0 }
     ensures unread { ReadCause name.now [] (map P.Source.faults (option_to_list result.1)) (map P.Source.name (option_to_list result.1)) result.0 }
@@ -78,6 +80,7 @@ pub fn check_call<P: Place>(
     // The status, by the bytes of the file: which answers come, and where.
     ensures answer { IsCheckStatus name.now result.0 }
     ensures of_file { IfSome (P.holds place.old) (λ f. IsAnswerOf (f name.now) result.0) }
+    ensures refused { RefusedCause (P.holds place.old) name.now result.0 }
 
     // The configuration's lines and the status line that were written.
     ensures output { IsOutput (P.holds place.old) name.now result.0 (P.Sink.written out.old) (P.Sink.written out.new) }

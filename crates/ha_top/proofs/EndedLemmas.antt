@@ -107,6 +107,7 @@ module _ (b : Before) (a : After) (l : IsLeft b a) where
   unchecked name = record {
     answer = at (λ s. IsCheckStatus name s) tt;
     of_file = if_all b.place.files (λ f. IsAnswerOf (f name) a.status) (λ f. at (λ s. IsAnswerOf (f name) s) (answer_of (f name)));
+    refused = at (λ s. RefusedCause b.place.files name s) tt;
     asked = unasked ((name, Opening.Reading) ∷ []);
     output = at (λ s. IsOutput b.place.files name s b.out.took a.out.took) (inl (ap (λ s. s.took) l.same_out));
     line = l.line;

@@ -7,6 +7,7 @@ use Rattle.ha_status.specs.Files.{IsHandedBack}
 use Rattle.ha_words.specs.declared.plan.Plan.{Plan}
 use Rattle.ha_words.specs.declared.plan.Plan.TheVariants.{Run, Check, Replay, Rehearse}
 use Rattle.ha_check.specs.Checked.{IsAnswerOf, IsCheckStatus, IsOutput}
+use Rattle.ha_check.specs.Configured.{RefusedCause}
 use Rattle.replay_file.specs.Judged.{AreErrorsTaken, IsTaken}
 use Rattle.replay_file.specs.Replays.{IsReplay}
 use Rattle.ha_io.specs.declared.place.Opening.{Opening}
@@ -36,6 +37,7 @@ pub record Unplanned (b : Before) (a : After) : Type 0 where
 pub record Checked (name : Text) (b : Before) (a : After) : Type 0 where
   pub answer : IsCheckStatus name a.status
   pub of_file : IfSome b.place.files (λ f. IsAnswerOf (f name) a.status)
+  pub refused : RefusedCause b.place.files name a.status
   pub asked : IsAskedSome b.place.asked ((name, Opening.Reading) ∷ []) a.place.asked
   pub output : IsOutput b.place.files name a.status b.out.took a.out.took
   pub line : LineBehind b a b.err.took
