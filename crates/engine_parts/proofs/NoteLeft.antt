@@ -1,9 +1,11 @@
 -- The triggers and the waits are told of a report of an entity that concerns nobody.
 use Rattle.std.proofs.Common.{◌≡◌, ℕ, suc, ◌-◌, ◌<◌, List, [], ◌∷◌, length, refl, sym, ap, subst, ◌∙◌, arith}
+use Rattle.std.specs.Prelude.{Option}
 use Rattle.ha_value.specs.declared.value.EntityId.{EntityId}
 use Rattle.ha_model.specs.declared.journal.Cmd.{Cmd}
 use Rattle.ha_model.specs.declared.journal.Entry.{Entry}
 use Rattle.ha_model.specs.declared.journal.Entry.TheVariants.{Line}
+use Rattle.ha_model.specs.declared.journal.StateObject.{StateObject}
 use Rattle.ha_model.specs.declared.steps.Firing.{Firing}
 use Rattle.ha_model.specs.Words.{Text, Pairs}
 use Rattle.ha_model.specs.Journal.{Journal, now}
@@ -37,6 +39,14 @@ module _ (k : Journal) (t : TrigSet) (w : WaitTable) (e : EntityId) (text : Text
 
   pub left-now : (table : StateTable) (zone : Text) (at : ℕ) → Looks k table zone at → at ≡ now (more h.untold.j report)
   left-now table zone at looks = looks.now_is ∙ ap now left-is
+
+  -- LAW: where nothing fires at such an entry, nothing fires at the last one
+  pub left-quiet : (table : StateTable) (zone : Text) (at : ℕ) → Looks k table zone at
+      → ((j : Journal) (i n place : ℕ) (old : Option StateObject) (seen : Sight) → triggers.StandsFor t j
+      → IsNext j place (Line i n (Cmd.Report e text attributes)) ((e, old) ∷ []) seen (triggers.attached t)
+      → firings (more j (Line i n (Cmd.Report e text attributes))) place (triggers.attached t) ≡ [])
+      → firings (more h.untold.j report) (length k - 1) (triggers.attached t) ≡ []
+  left-quiet table zone at looks law = law h.untold.j h.source h.number (length k - 1) h.old (sight k (length k)) h.untold.triggers_stand (left-next table zone at looks)
 
   module _ (none : firings (more h.untold.j report) (length k - 1) (triggers.attached t) ≡ []) where
     -- LAW: nothing fires at the last entry

@@ -30,9 +30,6 @@ pub(crate) fn make_room(runs: &mut Runs, parts: &mut Parts, more: usize) -> Resu
     ensures spare { OnOk result (more ≤ runs.new.spare) }
     ensures room { OnOk result (HasRoom more parts.new) }
 {
-    if more == 0 {
-        return Ok(());
-    }
     runs.reserve(more as u64)?;
     parts.frames.reserve(more)?;
     parts.ready.pairs.reserve(more)?;

@@ -6,12 +6,12 @@ use Rattle.cond_eval.specs.Seen.{seen}
 use Rattle.trig_set.specs.Stands as triggers
 use Rattle.wait_set.specs.Stands as waits
 use Rattle.engine_parts.proofs.NoteEntry.{told-by}
-use Rattle.engine_parts.proofs.NoteLeft.{left-next, left-now, left-none, left-waits, report}
-use Rattle.engine_parts.proofs.ViewLemmas.{view-of}
+use Rattle.engine_parts.proofs.NoteLeft.{left-next, left-none, left-now, left-quiet, left-waits, report}
+use Rattle.engine_parts.proofs.ViewLemmas.{view-of, few-automations}
 use Rattle.engine_parts.proofs.left.note_report.Goals as goal
 
 pub note_left-requires : goal.note_left-requires
-note_left-requires c = c.requires.untold.left
+note_left-requires c = record { left = c.requires.untold.left }
 
 pub returns-clause-told : goal.returns-clause-told
 returns-clause-told c =
@@ -24,7 +24,7 @@ returns-clause-told c =
     let h = c.requires.untold in
     let j = h.untold.j in
     let next = left-next k t w e text attributes h c.args.states.now c.args.zone.now c.args.at c.requires.looks in
-    let none = c.note_left.ensures.fired j h.source h.number (length k - 1) h.old (sight k (length k)) h.untold.triggers_stand next in
+    let none = left-quiet k t w e text attributes h c.args.states.now c.args.zone.now c.args.at c.requires.looks c.note_left.ensures.fired in
     let sees = c.make-view.ensures k (view-of k c.args.states.now c.configuration.result.now c.args.zone.now c.args.at c.requires.looks c.requires.sound c.configuration.ensures) in
     told-by k t w ((e, h.old) ∷ []) h.untold c.note_left.new.triggers c.note_waits.new.waits c.note_left.ensures.kept
     (subst (λ (y : Entry). triggers.StandsFor c.note_left.new.triggers (more j y)) (sym h.x_is)
@@ -33,3 +33,33 @@ returns-clause-told c =
     (c.in_ok-note_waits.ensures.stands j (report k t w e text attributes h) h.untold.waits_stand (left-waits k t w e text attributes h none (seen c.make-view.result) c.make-fired.result sees c.make-fired.ensures)))
     c.in_ok-note_waits.ensures.asks c.in_ok-note_waits.ensures.grow c.in_ok-note_waits.ensures.owned c.in_ok-note_waits.ensures.told c.in_ok-note_waits.ensures.apart c.in_ok-note_waits.ensures.others
     c.in_ok-note_waits.ensures.held
+
+pub returns-clause-fired : goal.returns-clause-fired
+returns-clause-fired c =
+    let k = c.args.journal.now in
+    let t = c.args.triggers.now in
+    let w = c.args.waits.now in
+    let e = c.args.entity.now in
+    let text = c.args.text.now in
+    let attributes = c.args.attributes.now in
+    left-none k t w e text attributes c.requires.untold (left-quiet k t w e text attributes c.requires.untold c.args.states.now c.args.zone.now c.args.at c.requires.looks c.note_left.ensures.fired)
+
+pub returns-in_err-note_left-clause-fired : goal.returns-in_err-note_left-clause-fired
+returns-in_err-note_left-clause-fired c =
+    let k = c.args.journal.now in
+    let t = c.args.triggers.now in
+    let w = c.args.waits.now in
+    let e = c.args.entity.now in
+    let text = c.args.text.now in
+    let attributes = c.args.attributes.now in
+    left-none k t w e text attributes c.requires.untold (left-quiet k t w e text attributes c.requires.untold c.args.states.now c.args.zone.now c.args.at c.requires.looks c.note_left.ensures.fired)
+
+pub returns-in_err-note_waits-clause-fired : goal.returns-in_err-note_waits-clause-fired
+returns-in_err-note_waits-clause-fired c =
+    let k = c.args.journal.now in
+    let t = c.args.triggers.now in
+    let w = c.args.waits.now in
+    let e = c.args.entity.now in
+    let text = c.args.text.now in
+    let attributes = c.args.attributes.now in
+    left-none k t w e text attributes c.requires.untold (left-quiet k t w e text attributes c.requires.untold c.args.states.now c.args.zone.now c.args.at c.requires.looks c.note_left.ensures.fired)
