@@ -48,44 +48,44 @@ fn is_refused(
 fn long_chains_are_over_the_limit(rt: HostRuntime) {
     let alloc = rt.alloc();
     let over = Code::Limit;
-    assert!(rt; is_refused(alloc, b"{{1", b"+1", 524_000, b"", b"}}", over));
-    assert!(rt; is_refused(alloc, b"{{1 or 1", b" and 1", 174_000, b"", b"}}", over));
-    assert!(rt; is_refused(alloc, b"{{[2, a", b".a", 524_000, b"", b"]}}", over));
-    assert!(rt; is_refused(alloc, b"{{1", b"|abs", 262_000, b"", b"}}", over));
-    assert!(rt; is_refused(alloc, b"", b"{%if 1%}", 61_000, b"{%endif%}", b"", over));
-    assert!(rt; is_refused(alloc, b"", b"{{1}}", 200_000, b"", b"", over));
+    assert!(rt;
+        is_refused(alloc, b"{{1", b"+1", 524_000, b"", b"}}", over)
+            && is_refused(alloc, b"{{1 or 1", b" and 1", 174_000, b"", b"}}", over)
+            && is_refused(alloc, b"{{[2, a", b".a", 524_000, b"", b"]}}", over)
+            && is_refused(alloc, b"{{1", b"|abs", 262_000, b"", b"}}", over)
+            && is_refused(alloc, b"", b"{%if 1%}", 61_000, b"{%endif%}", b"", over)
+            && is_refused(alloc, b"", b"{{1}}", 200_000, b"", b"", over)
+    );
 }
 
 #[test]
 fn long_texts_outside_the_grammar_are_no_templates(rt: HostRuntime) {
     let alloc = rt.alloc();
     let none = Code::Template;
-    assert!(rt; is_refused(alloc, b"{{1", b"+1", 524_000, b"", b"+}}", none));
     assert!(rt;
-        is_refused(
-            alloc,
-            b"{{1 or 1",
-            b" and 1",
-            174_000,
-            b"",
-            b" and }}",
-            none
-        )
+        is_refused(alloc, b"{{1", b"+1", 524_000, b"", b"+}}", none)
+            && is_refused(
+                alloc,
+                b"{{1 or 1",
+                b" and 1",
+                174_000,
+                b"",
+                b" and }}",
+                none
+            )
+            && is_refused(alloc, b"{{[2, a", b".a", 524_000, b"", b",}}", none)
+            && is_refused(alloc, b"{{1", b"|abs", 262_000, b"", b"|}}", none)
+            && is_refused(
+                alloc,
+                b"{%if 1%}",
+                b"{%if 1%}",
+                61_000,
+                b"{%endif%}",
+                b"",
+                none
+            )
+            && is_refused(alloc, b"", b"{{1}}", 200_000, b"", b"{{1}", none)
     );
-    assert!(rt; is_refused(alloc, b"{{[2, a", b".a", 524_000, b"", b",}}", none));
-    assert!(rt; is_refused(alloc, b"{{1", b"|abs", 262_000, b"", b"|}}", none));
-    assert!(rt;
-        is_refused(
-            alloc,
-            b"{%if 1%}",
-            b"{%if 1%}",
-            61_000,
-            b"{%endif%}",
-            b"",
-            none
-        )
-    );
-    assert!(rt; is_refused(alloc, b"", b"{{1}}", 200_000, b"", b"{{1}", none));
 }
 
 /// The place of the fault in a tag with so many zeros between these bytes.
@@ -108,6 +108,8 @@ fn place_at_zeros(alloc: Global, before: &[u8], zeros: usize, behind: &[u8]) -> 
 fn zeros_of_a_number_out_of_range_are_passed_once(rt: HostRuntime) {
     let alloc = rt.alloc();
     let many = 1_000_000;
-    assert!(rt; place_at_zeros(alloc, b"{{", many, b"1000000000001}}") == 1_000_014);
-    assert!(rt; place_at_zeros(alloc, b"{{1000000000000.0000005", many, b"1}}") == 1_000_023);
+    assert!(rt;
+        place_at_zeros(alloc, b"{{", many, b"1000000000001}}") == 1_000_014
+            && place_at_zeros(alloc, b"{{1000000000000.0000005", many, b"1}}") == 1_000_023
+    );
 }

@@ -1,7 +1,7 @@
 //! Printed commands, and lines of a trace: each is read of exactly its bytes.
 use flow_printed::{read_line, read_printed};
 use ha_model::Cmd;
-use std::test::Fail;
+use std::alloc::{AllocError, Global};
 
 fn kind(cmd: &Cmd) -> &'static str {
     match cmd {
@@ -18,142 +18,182 @@ fn kind(cmd: &Cmd) -> &'static str {
     }
 }
 
-/// The kind of the command that a text is the print of.
-fn read(rt: &HostRuntime, text: &[u8]) -> Result<&'static str, Fail> {
+/// Whether a text is the print of a command of this kind, or of none.
+fn is_print(alloc: Global, text: &[u8], wanted: &str) -> bool {
     if text.len() > 100_000 {
-        return Ok("no text of these tests");
+        return false;
     }
-    match read_printed(rt.alloc(), text)? {
-        Some(cmd) => Ok(kind(&cmd)),
-        None => Ok("none"),
+    match read_printed(alloc, text) {
+        Ok(Some(cmd)) => kind(&cmd) == wanted,
+        Ok(None) => wanted == "none",
+        Err(_) => false,
     }
 }
 
-#[test]
-fn each_kind_is_read_of_its_print(rt: HostRuntime) -> Result<(), Fail> {
-    for (text, want) in [
-        (
-            "{\"report\":\"light.x\",\"state\":\"on\",\"attributes\":{\"b\":[1,-2.5]}}",
-            "report",
-        ),
-        ("{\"gone\":\"light.x\"}", "gone"),
-        ("{\"event\":\"a\\nb\",\"data\":{}}", "event"),
-        ("{\"moment\":\"2024-05-01T20:00:01.000Z\"}", "moment"),
-        (
-            "{\"switch\":\"automation.a\",\"to\":\"off\",\"stop_actions\":true}",
-            "switch",
-        ),
-        (
-            "{\"trigger\":\"automation.none\",\"skip_condition\":false}",
-            "trigger",
-        ),
-        ("{\"restart\":true}", "restart"),
-        ("{\"refused\":\"L9\"}", "refused"),
-        ("{\"refused\":\"L10\"}", "refused"),
-        ("{\"lost\":true}", "lost"),
-        ("{\"too_long\":true}", "too long"),
-    ] {
-        assert_eq!(rt; read(&rt, text.as_bytes())?, want, "{text}");
+fn are_prints(alloc: Global, rows: &[(&str, &str)]) -> bool {
+    for row in rows {
+        if !is_print(alloc, row.0.as_bytes(), row.1) {
+            return false;
+        }
     }
-    Ok(())
+    true
 }
 
 #[test]
-fn no_other_text_is_read(rt: HostRuntime) -> Result<(), Fail> {
-    for text in [
-        "",
-        "{}",
-        "[]",
-        "{\"report\":\"light.x\",\"state\":\"on\"}",
-        "{\"state\":\"on\",\"report\":\"light.x\",\"attributes\":{}}",
-        "{\"report\":\"light.x\",\"state\":\"on\", \"attributes\":{}}",
-        "{\"report\":\"light.x\",\"state\":\"on\",\"attributes\":{\"b\":2.50}}",
-        "{\"report\":\"light.x\",\"state\":\"on\",\"attributes\":{\"b\":1,\"b\":1}}",
-        "{\"report\":\"automation.x\",\"state\":\"on\",\"attributes\":{}}",
-        "{\"gone\":\"light.x\",\"state\":\"on\"}",
-        "{\"gone\":\"Light.x\"}",
-        "{\"event\":\"\\u0061\",\"data\":{}}",
-        "{\"moment\":\"2024-05-01T20:00:01Z\"}",
-        "{\"moment\":\"3000-01-01T00:00:00.000Z\"}",
-        "{\"switch\":\"automation.a\",\"to\":\"off\"}",
-        "{\"switch\":\"light.a\",\"to\":\"off\",\"stop_actions\":true}",
-        "{\"trigger\":\"automation.a\"}",
-        "{\"restart\":false}",
-        "{\"restart\":true}\n",
-        "{\"refused\":\"L0\"}",
-        "{\"refused\":\"L01\"}",
-        "{\"refused\":\"L12\"}",
-        "{\"lost\":true,\"too_long\":true}",
-    ] {
-        assert_eq!(rt; read(&rt, text.as_bytes())?, "none", "{text}");
+fn each_kind_is_read_of_its_print(rt: HostRuntime) {
+    assert!(rt;
+        are_prints(
+            rt.alloc(),
+            &[
+                (
+                    "{\"report\":\"light.x\",\"state\":\"on\",\"attributes\":{\"b\":[1,-2.5]}}",
+                    "report",
+                ),
+                ("{\"gone\":\"light.x\"}", "gone"),
+                ("{\"event\":\"a\\nb\",\"data\":{}}", "event"),
+                ("{\"moment\":\"2024-05-01T20:00:01.000Z\"}", "moment"),
+                (
+                    "{\"switch\":\"automation.a\",\"to\":\"off\",\"stop_actions\":true}",
+                    "switch",
+                ),
+                (
+                    "{\"trigger\":\"automation.none\",\"skip_condition\":false}",
+                    "trigger",
+                ),
+                ("{\"restart\":true}", "restart"),
+                ("{\"refused\":\"L9\"}", "refused"),
+                ("{\"refused\":\"L10\"}", "refused"),
+                ("{\"lost\":true}", "lost"),
+                ("{\"too_long\":true}", "too long"),
+            ]
+        )
+    );
+}
+
+fn are_no_prints(alloc: Global, texts: &[&str]) -> bool {
+    for text in texts {
+        if !is_print(alloc, text.as_bytes(), "none") {
+            return false;
+        }
     }
-    Ok(())
+    true
 }
 
 #[test]
-fn a_print_may_be_longer_than_a_line(rt: HostRuntime) -> Result<(), Fail> {
-    let mut text = String::from_str(rt.alloc(), "{\"event\":\"")?;
-    for _i in 0..70_000 {
+fn no_other_text_is_read(rt: HostRuntime) {
+    assert!(rt;
+        are_no_prints(
+            rt.alloc(),
+            &[
+                "",
+                "{}",
+                "[]",
+                "{\"report\":\"light.x\",\"state\":\"on\"}",
+                "{\"state\":\"on\",\"report\":\"light.x\",\"attributes\":{}}",
+                "{\"report\":\"light.x\",\"state\":\"on\", \"attributes\":{}}",
+                "{\"report\":\"light.x\",\"state\":\"on\",\"attributes\":{\"b\":2.50}}",
+                "{\"report\":\"light.x\",\"state\":\"on\",\"attributes\":{\"b\":1,\"b\":1}}",
+                "{\"report\":\"automation.x\",\"state\":\"on\",\"attributes\":{}}",
+                "{\"gone\":\"light.x\",\"state\":\"on\"}",
+                "{\"gone\":\"Light.x\"}",
+                "{\"event\":\"\\u0061\",\"data\":{}}",
+                "{\"moment\":\"2024-05-01T20:00:01Z\"}",
+                "{\"moment\":\"3000-01-01T00:00:00.000Z\"}",
+                "{\"switch\":\"automation.a\",\"to\":\"off\"}",
+                "{\"switch\":\"light.a\",\"to\":\"off\",\"stop_actions\":true}",
+                "{\"trigger\":\"automation.a\"}",
+                "{\"restart\":false}",
+                "{\"restart\":true}\n",
+                "{\"refused\":\"L0\"}",
+                "{\"refused\":\"L01\"}",
+                "{\"refused\":\"L12\"}",
+                "{\"lost\":true,\"too_long\":true}",
+            ]
+        )
+    );
+}
+
+/// The print of an event of a type of so many characters.
+fn long_event(alloc: Global, count: usize) -> Result<String, AllocError> {
+    let mut text = String::from_str(alloc, "{\"event\":\"")?;
+    for _i in 0..count {
         text.push_str("x")?;
     }
     text.push_str("\",\"data\":{}}")?;
-    assert_eq!(rt; read(&rt, text.as_bytes())?, "event");
-    Ok(())
+    Ok(text)
 }
 
-/// The source, the number and the kind of the command that a line has.
-fn line(rt: &HostRuntime, text: &[u8]) -> Result<(u32, u64, &'static str), Fail> {
-    if text.len() > 1000 {
-        return Ok((0, 0, "no text of these tests"));
-    }
-    match read_line(rt.alloc(), text)? {
-        Some(line) => Ok((line.source, line.number, kind(&line.cmd))),
-        None => Ok((0, 0, "none")),
+/// Whether the print of an event of a type of so many characters is read.
+fn is_event(alloc: Global, count: usize) -> bool {
+    match long_event(alloc, count) {
+        Ok(text) => is_print(alloc, text.as_bytes(), "event"),
+        Err(_) => false,
     }
 }
 
 #[test]
-fn a_line_is_read_with_its_numbers(rt: HostRuntime) -> Result<(), Fail> {
-    for (text, want) in [
-        (
-            "{\"source\":0,\"number\":0,\"cmd\":{\"restart\":true}}",
-            (0, 0, "restart"),
-        ),
-        (
-            "{\"source\":15,\"number\":18446744073709551615,\"cmd\":{\"lost\":true}}",
-            (15, 18_446_744_073_709_551_615, "lost"),
-        ),
-        (
-            "{\"source\":0,\"number\":18446744073709551616,\"cmd\":{\"lost\":true}}",
-            (0, 0, "none"),
-        ),
-        (
-            "{\"source\":4294967296,\"number\":0,\"cmd\":{\"lost\":true}}",
-            (0, 0, "none"),
-        ),
-        (
-            "{\"source\":00,\"number\":0,\"cmd\":{\"lost\":true}}",
-            (0, 0, "none"),
-        ),
-        (
-            "{\"source\":+1,\"number\":0,\"cmd\":{\"lost\":true}}",
-            (0, 0, "none"),
-        ),
-        (
-            "{\"number\":0,\"source\":0,\"cmd\":{\"lost\":true}}",
-            (0, 0, "none"),
-        ),
-        (
-            "{\"source\":0,\"number\":0,\"cmd\":{\"lost\":true}",
-            (0, 0, "none"),
-        ),
-        (
-            "{\"source\":0,\"number\":0,\"cmd\":{\"lost\":true}} ",
-            (0, 0, "none"),
-        ),
-        ("{\"end\":2}", (0, 0, "none")),
-    ] {
-        assert_eq!(rt; line(&rt, text.as_bytes())?, want, "{text}");
+fn a_print_may_be_longer_than_a_line(rt: HostRuntime) {
+    assert!(rt; is_event(rt.alloc(), 70_000));
+}
+
+/// Whether the text is a line with this source, this number and a command of this kind.
+fn is_line(alloc: Global, text: &str, source: u32, number: u64, wanted: &str) -> bool {
+    if text.len() > 1000 {
+        return false;
     }
-    Ok(())
+    match read_line(alloc, text.as_bytes()) {
+        Ok(Some(line)) => {
+            line.source == source && line.number == number && kind(&line.cmd) == wanted
+        }
+        _ => false,
+    }
+}
+
+#[test]
+fn a_line_is_read_with_its_numbers(rt: HostRuntime) {
+    let alloc = rt.alloc();
+    assert!(rt;
+        is_line(
+            alloc,
+            "{\"source\":0,\"number\":0,\"cmd\":{\"restart\":true}}",
+            0,
+            0,
+            "restart"
+        ) && is_line(
+            alloc,
+            "{\"source\":15,\"number\":18446744073709551615,\"cmd\":{\"lost\":true}}",
+            15,
+            18_446_744_073_709_551_615,
+            "lost"
+        )
+    );
+}
+
+/// Whether none of the texts is a line.
+fn are_no_lines(alloc: Global, texts: &[&str]) -> bool {
+    for text in texts {
+        if text.len() > 1000 || !matches!(read_line(alloc, text.as_bytes()), Ok(None)) {
+            return false;
+        }
+    }
+    true
+}
+
+#[test]
+fn no_other_line_is_read(rt: HostRuntime) {
+    assert!(rt;
+        are_no_lines(
+            rt.alloc(),
+            &[
+                "{\"source\":0,\"number\":18446744073709551616,\"cmd\":{\"lost\":true}}",
+                "{\"source\":4294967296,\"number\":0,\"cmd\":{\"lost\":true}}",
+                "{\"source\":00,\"number\":0,\"cmd\":{\"lost\":true}}",
+                "{\"source\":+1,\"number\":0,\"cmd\":{\"lost\":true}}",
+                "{\"number\":0,\"source\":0,\"cmd\":{\"lost\":true}}",
+                "{\"source\":0,\"number\":0,\"cmd\":{\"lost\":true}",
+                "{\"source\":0,\"number\":0,\"cmd\":{\"lost\":true}} ",
+                "{\"end\":2}",
+            ]
+        )
+    );
 }

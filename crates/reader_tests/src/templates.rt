@@ -1,70 +1,168 @@
 //! Texts and their trees, written out by hand, and the places of faults.
 use ha_model::{Boxed, Expr, Many, Num, Op, Piece, Plain, Template, Value, Word};
 use std::alloc::{AllocError, Global};
-use std::test::Fail;
 use tpl_parse::{ParseFault, parse};
 
-fn name(alloc: Global, name: &str) -> Result<Boxed<Expr>, AllocError> {
-    Boxed::new(alloc, Expr::Name(Word::from_str(alloc, name)?))
+/// A part of a tree, behind the parts that it holds.
+#[derive(Clone, Copy)]
+enum Part<'a> {
+    Name(&'a str),
+    Text(&'a str),
+    Number(&'a str),
+    /// The last two with an operator between them.
+    Pair(Op),
+    Negate,
+    Not,
+    /// Whether the last one is none, or is not.
+    IsNone(bool),
+    /// A filter, by its number, of one before its arguments, so many.
+    Filter(u8, usize),
+    /// A function, by its number, of so many arguments.
+    Function(u8, usize),
+    Field(&'a str),
+    /// The last but one, at the last one.
+    At,
+    /// A list of one.
+    ListOfOne,
+    /// The first of the last three where the second is true, else the third.
+    Pick,
+    /// The first of the last two where the second is true.
+    PickAlone,
 }
 
-fn text(alloc: Global, text: &str) -> Result<Boxed<Expr>, AllocError> {
-    let word = Word::from_str(alloc, text)?;
-    Boxed::new(alloc, Expr::Plain(Value::Text(word)))
-}
-
-fn number(alloc: Global, text: &str) -> Result<Boxed<Expr>, AllocError> {
-    match Num::read(text.as_bytes()) {
-        Some(number) => Boxed::new(alloc, Expr::Plain(Value::Number(number))),
-        None => Boxed::new(alloc, Expr::Plain(Value::Null)),
+/// The last tree that was built.
+fn last(alloc: Global, built: &mut Many<Expr>) -> Result<Boxed<Expr>, AllocError> {
+    match built.pop() {
+        Some(expr) => Boxed::new(alloc, expr),
+        None => Err(AllocError),
     }
 }
 
-fn pair(
-    alloc: Global,
-    op: Op,
-    left: Boxed<Expr>,
-    right: Boxed<Expr>,
-) -> Result<Boxed<Expr>, AllocError> {
-    Boxed::new(alloc, Expr::Pair { op, left, right })
+fn plain(alloc: Global, part: Part<'_>) -> Result<Expr, AllocError> {
+    match part {
+        Part::Name(name) => Ok(Expr::Name(Word::from_str(alloc, name)?)),
+        Part::Text(text) => Ok(Expr::Plain(Value::Text(Word::from_str(alloc, text)?))),
+        Part::Number(text) => match Num::read(text.as_bytes()) {
+            Some(number) => Ok(Expr::Plain(Value::Number(number))),
+            None => Err(AllocError),
+        },
+        _ => Err(AllocError),
+    }
 }
 
-/// Two names with an operator between them.
-fn names(alloc: Global, left: &str, op: Op, right: &str) -> Result<Boxed<Expr>, AllocError> {
-    let left = name(alloc, left)?;
-    pair(alloc, op, left, name(alloc, right)?)
+fn pair(alloc: Global, built: &mut Many<Expr>, op: Op) -> Result<Expr, AllocError> {
+    let right = last(alloc, built)?;
+    match last(alloc, built) {
+        Ok(left) => Ok(Expr::Pair { op, left, right }),
+        Err(fault) => Err(fault),
+    }
 }
 
-fn one(alloc: Global, item: Boxed<Expr>) -> Result<Many<Expr>, AllocError> {
-    let mut items = Many::make(alloc);
-    items.push(item.into_inner())?;
-    Ok(items)
+fn at(alloc: Global, built: &mut Many<Expr>) -> Result<Expr, AllocError> {
+    let index = last(alloc, built)?;
+    match last(alloc, built) {
+        Ok(base) => Ok(Expr::At { base, index }),
+        Err(fault) => Err(fault),
+    }
+}
+
+fn field(alloc: Global, built: &mut Many<Expr>, name: &str) -> Result<Expr, AllocError> {
+    let name = Word::from_str(alloc, name)?;
+    match last(alloc, built) {
+        Ok(base) => Ok(Expr::Field { base, name }),
+        Err(fault) => Err(fault),
+    }
+}
+
+/// The last trees, so many of at most two, in their order.
+fn args(alloc: Global, built: &mut Many<Expr>, many: usize) -> Result<Many<Expr>, AllocError> {
+    let mut all = Many::make(alloc);
+    for _i in 0..many {
+        match built.pop() {
+            Some(expr) => all.insert(0, expr)?,
+            None => return Err(AllocError),
+        }
+    }
+    Ok(all)
 }
 
 fn filter(
     alloc: Global,
-    base: Boxed<Expr>,
+    built: &mut Many<Expr>,
     name: u8,
-    args: Many<Expr>,
-) -> Result<Boxed<Expr>, AllocError> {
-    Boxed::new(alloc, Expr::Filter { name, base, args })
+    many: usize,
+) -> Result<Expr, AllocError> {
+    let args = args(alloc, built, many)?;
+    match last(alloc, built) {
+        Ok(base) => Ok(Expr::Filter { name, base, args }),
+        Err(fault) => Err(fault),
+    }
 }
 
-fn function(alloc: Global, name: u8, args: Many<Expr>) -> Result<Boxed<Expr>, AllocError> {
-    Boxed::new(alloc, Expr::Function { name, args })
-}
-
+/// A choice of the last two trees, and of what stands for the other case.
 fn pick(
     alloc: Global,
-    yes: Boxed<Expr>,
-    test: Boxed<Expr>,
+    built: &mut Many<Expr>,
     no: Option<Boxed<Expr>>,
-) -> Result<Boxed<Expr>, AllocError> {
-    Boxed::new(alloc, Expr::Pick { test, yes, no })
+) -> Result<Expr, AllocError> {
+    let test = last(alloc, built)?;
+    match last(alloc, built) {
+        Ok(yes) => Ok(Expr::Pick { test, yes, no }),
+        Err(fault) => Err(fault),
+    }
 }
 
-fn is_none(alloc: Global, base: Boxed<Expr>, holds: bool) -> Result<Boxed<Expr>, AllocError> {
-    Boxed::new(alloc, Expr::IsNone { base, holds })
+/// The tree of a part over those that were built.
+fn tree(alloc: Global, built: &mut Many<Expr>, part: Part<'_>) -> Result<Expr, AllocError> {
+    match part {
+        Part::Pair(op) => pair(alloc, built, op),
+        Part::Negate => Ok(Expr::Negate(last(alloc, built)?)),
+        Part::Not => Ok(Expr::Not(last(alloc, built)?)),
+        Part::IsNone(holds) => Ok(Expr::IsNone {
+            base: last(alloc, built)?,
+            holds,
+        }),
+        Part::Filter(name, many) => filter(alloc, built, name, many),
+        Part::Function(name, many) => Ok(Expr::Function {
+            name,
+            args: args(alloc, built, many)?,
+        }),
+        Part::Field(name) => field(alloc, built, name),
+        Part::At => at(alloc, built),
+        Part::ListOfOne => Ok(Expr::List(args(alloc, built, 1)?)),
+        Part::Pick => {
+            let no = last(alloc, built)?;
+            pick(alloc, built, Some(no))
+        }
+        Part::PickAlone => pick(alloc, built, None),
+        _ => plain(alloc, part),
+    }
+}
+
+/// Builds the next tree.
+fn build(alloc: Global, built: &mut Many<Expr>, part: Part<'_>) -> Result<(), AllocError> {
+    match tree(alloc, built, part) {
+        Ok(expr) => Ok(built.push(expr)?),
+        Err(fault) => Err(fault),
+    }
+}
+
+/// The trees of these parts, in the order in which they are built.
+fn trees(alloc: Global, parts: &[Part<'_>]) -> Result<Many<Expr>, AllocError> {
+    let mut built = Many::make(alloc);
+    for part in parts {
+        build(alloc, &mut built, *part)?;
+    }
+    Ok(built)
+}
+
+/// The tree of the parts.
+fn whole(alloc: Global, parts: &[Part<'_>]) -> Result<Expr, AllocError> {
+    let mut built = trees(alloc, parts)?;
+    match built.pop() {
+        Some(expr) => Ok(expr),
+        None => Err(AllocError),
+    }
 }
 
 /// Whether the text is read as these pieces.
@@ -78,128 +176,187 @@ fn reads(alloc: Global, text: &str, pieces: Many<Piece>) -> bool {
     }
 }
 
-/// Whether the text is one tag that shows this expression.
-fn shows(alloc: Global, text: &str, expr: Boxed<Expr>) -> Result<bool, AllocError> {
+/// A list of one piece.
+fn one(alloc: Global, piece: Piece) -> Result<Many<Piece>, AllocError> {
     let mut pieces = Many::make(alloc);
-    pieces.push(Piece::Show(expr.into_inner()))?;
-    Ok(reads(alloc, text, pieces))
+    pieces.push(piece)?;
+    Ok(pieces)
 }
 
-#[test]
-fn a_sign_is_nearer_than_an_operator(rt: HostRuntime) -> Result<(), Fail> {
-    let alloc = rt.alloc();
-    let minus = Boxed::new(alloc, Expr::Negate(number(alloc, "7")?))?;
-    let whole = pair(alloc, Op::Floor, minus, number(alloc, "2")?)?;
-    assert!(rt; shows(alloc, "{{ -7 // 2 }}", whole)?);
-    Ok(())
-}
-
-#[test]
-fn operators_of_one_level_group_from_the_left(rt: HostRuntime) -> Result<(), Fail> {
-    let alloc = rt.alloc();
-    let left = names(alloc, "a", Op::Minus, "b")?;
-    let whole = pair(alloc, Op::Minus, left, name(alloc, "c")?)?;
-    assert!(rt; shows(alloc, "{{a-b - c}}", whole)?);
-    Ok(())
-}
-
-#[test]
-fn each_level_is_nearer_than_the_one_before(rt: HostRuntime) -> Result<(), Fail> {
-    let alloc = rt.alloc();
-    let last = filter(alloc, name(alloc, "g")?, 1, Many::make(alloc))?;
-    let times = pair(alloc, Op::Times, name(alloc, "f")?, last)?;
-    let join = pair(alloc, Op::Join, name(alloc, "e")?, times)?;
-    let plus = pair(alloc, Op::Plus, name(alloc, "d")?, join)?;
-    let equal = pair(alloc, Op::Equal, name(alloc, "c")?, plus)?;
-    let not = Boxed::new(alloc, Expr::Not(equal))?;
-    let and = pair(alloc, Op::And, name(alloc, "b")?, not)?;
-    let or = pair(alloc, Op::Or, name(alloc, "a")?, and)?;
-    assert!(rt; shows(alloc, "{{ a or b and not c == d + e ~ f * g|int }}", or)?);
-    Ok(())
-}
-
-#[test]
-fn calls_and_filters(rt: HostRuntime) -> Result<(), Fail> {
-    let alloc = rt.alloc();
-    let args = one(alloc, text(alloc, "sensor.no")?)?;
-    let call = function(alloc, 1, args)?;
-    let base = filter(alloc, call, 1, one(alloc, number(alloc, "0")?)?)?;
-    let whole = filter(alloc, base, 4, Many::make(alloc))?;
-    assert!(rt; shows(alloc, "{{ states('sensor.no')|int(0)|abs() }}", whole)?);
-    Ok(())
-}
-
-#[test]
-fn keys_places_and_lists(rt: HostRuntime) -> Result<(), Fail> {
-    let alloc = rt.alloc();
-    let base = Boxed::new(
-        alloc,
-        Expr::Field {
-            base: name(alloc, "trigger")?,
-            name: Word::from_str(alloc, "event")?,
+/// Whether the text is one tag that shows the tree of these parts.
+fn shows(alloc: Global, text: &str, parts: &[Part<'_>]) -> bool {
+    match whole(alloc, parts) {
+        Ok(expr) => match one(alloc, Piece::Show(expr)) {
+            Ok(pieces) => reads(alloc, text, pieces),
+            Err(_) => false,
         },
-    )?;
-    let items = one(alloc, number(alloc, "1.50")?)?;
-    let index = Boxed::new(alloc, Expr::List(items))?;
-    let whole = Boxed::new(alloc, Expr::At { base, index })?;
-    assert!(rt; shows(alloc, "{{ (trigger).event[[1.5]] }}", whole)?);
-    Ok(())
+        Err(_) => false,
+    }
 }
 
 #[test]
-fn tests_and_choices(rt: HostRuntime) -> Result<(), Fail> {
-    let alloc = rt.alloc();
-    let no = pick(alloc, name(alloc, "d")?, name(alloc, "e")?, None)?;
-    let test = is_none(alloc, name(alloc, "c")?, false)?;
-    let yes = names(alloc, "a", Op::Outside, "b")?;
-    let whole = pick(alloc, yes, test, Some(no))?;
-    assert!(rt; shows(alloc, "{{ a not in b if c is defined else d if e }}", whole)?);
-    let test = is_none(alloc, name(alloc, "x")?, false)?;
-    assert!(rt; shows(alloc, "{{ x is not None }}", test)?);
-    Ok(())
+fn a_sign_is_nearer_than_an_operator(rt: HostRuntime) {
+    let parts = [
+        Part::Number("7"),
+        Part::Negate,
+        Part::Number("2"),
+        Part::Pair(Op::Floor),
+    ];
+    assert!(rt; shows(rt.alloc(), "{{ -7 // 2 }}", &parts));
 }
 
 #[test]
-fn escapes_of_strings(rt: HostRuntime) -> Result<(), Fail> {
+fn operators_of_one_level_group_from_the_left(rt: HostRuntime) {
+    let parts = [
+        Part::Name("a"),
+        Part::Name("b"),
+        Part::Pair(Op::Minus),
+        Part::Name("c"),
+        Part::Pair(Op::Minus),
+    ];
+    assert!(rt; shows(rt.alloc(), "{{a-b - c}}", &parts));
+}
+
+#[test]
+fn each_level_is_nearer_than_the_one_before(rt: HostRuntime) {
+    let parts = [
+        Part::Name("a"),
+        Part::Name("b"),
+        Part::Name("c"),
+        Part::Name("d"),
+        Part::Name("e"),
+        Part::Name("f"),
+        Part::Name("g"),
+        Part::Filter(1, 0),
+        Part::Pair(Op::Times),
+        Part::Pair(Op::Join),
+        Part::Pair(Op::Plus),
+        Part::Pair(Op::Equal),
+        Part::Not,
+        Part::Pair(Op::And),
+        Part::Pair(Op::Or),
+    ];
+    assert!(rt;
+        shows(
+            rt.alloc(),
+            "{{ a or b and not c == d + e ~ f * g|int }}",
+            &parts
+        )
+    );
+}
+
+#[test]
+fn calls_and_filters(rt: HostRuntime) {
+    let parts = [
+        Part::Text("sensor.no"),
+        Part::Function(1, 1),
+        Part::Number("0"),
+        Part::Filter(1, 1),
+        Part::Filter(4, 0),
+    ];
+    assert!(rt; shows(rt.alloc(), "{{ states('sensor.no')|int(0)|abs() }}", &parts));
+}
+
+#[test]
+fn keys_places_and_lists(rt: HostRuntime) {
+    let parts = [
+        Part::Name("trigger"),
+        Part::Field("event"),
+        Part::Number("1.50"),
+        Part::ListOfOne,
+        Part::At,
+    ];
+    assert!(rt; shows(rt.alloc(), "{{ (trigger).event[[1.5]] }}", &parts));
+}
+
+#[test]
+fn tests_and_choices(rt: HostRuntime) {
     let alloc = rt.alloc();
-    let quoted = text(alloc, "'\"\\\n\t\\q' }}é")?;
-    assert!(rt; shows(alloc, "{{ '\\'\\\"\\\\\\n\\t\\q\\' }}é' }}", quoted)?);
-    Ok(())
+    let parts = [
+        Part::Name("a"),
+        Part::Name("b"),
+        Part::Pair(Op::Outside),
+        Part::Name("c"),
+        Part::IsNone(false),
+        Part::Name("d"),
+        Part::Name("e"),
+        Part::PickAlone,
+        Part::Pick,
+    ];
+    assert!(rt;
+        shows(
+            alloc,
+            "{{ a not in b if c is defined else d if e }}",
+            &parts
+        )
+    );
+    assert!(rt;
+        shows(
+            alloc,
+            "{{ x is not None }}",
+            &[Part::Name("x"), Part::IsNone(false)]
+        )
+    );
+}
+
+#[test]
+fn escapes_of_strings(rt: HostRuntime) {
+    let parts = [Part::Text("'\"\\\n\t\\q' }}é")];
+    assert!(rt; shows(rt.alloc(), "{{ '\\'\\\"\\\\\\n\\t\\q\\' }}é' }}", &parts));
 }
 
 fn push_text(pieces: &mut Many<Piece>, alloc: Global, text: &str) -> Result<(), AllocError> {
-    pieces.push(Piece::Text(Word::from_str(alloc, text)?))?;
+    let piece = Piece::Text(Word::from_str(alloc, text)?);
+    pieces.push(piece)?;
     Ok(())
 }
 
-/// Two texts, one behind the other.
-fn two(alloc: Global, first: &str, second: &str) -> Result<Many<Piece>, AllocError> {
+/// Texts, one behind the other.
+fn texts(alloc: Global, all: &[&str]) -> Result<Many<Piece>, AllocError> {
     let mut pieces = Many::make(alloc);
-    push_text(&mut pieces, alloc, first)?;
-    push_text(&mut pieces, alloc, second)?;
+    for text in all {
+        push_text(&mut pieces, alloc, text)?;
+    }
+    Ok(pieces)
+}
+
+/// Whether the text is read as two texts.
+fn is_two(alloc: Global, text: &str, first: &str, second: &str) -> bool {
+    match texts(alloc, &[first, second]) {
+        Ok(pieces) => reads(alloc, text, pieces),
+        Err(_) => false,
+    }
+}
+
+#[test]
+fn comments_part_texts_and_signs_trim_them(rt: HostRuntime) {
+    let alloc = rt.alloc();
+    assert!(rt;
+        is_two(alloc, " a {# { } é #} b ", " a ", " b ")
+            && is_two(alloc, "a \n{#- x -#}\t b ", "a", "b ")
+            && is_two(alloc, "a {#-#} b", "a", " b")
+            && is_two(alloc, " {#--#} a {##}{ } {# #}", "a ", "{ } ")
+    );
+}
+
+/// The name `x` is set to 1, and then comes the text `y`.
+fn set_and_text(alloc: Global) -> Result<Many<Piece>, AllocError> {
+    let name = Word::from_str(alloc, "x")?;
+    let value = Expr::Plain(Value::Number(Num::Whole(1)));
+    let mut pieces = one(alloc, Piece::Assign { name, value })?;
+    push_text(&mut pieces, alloc, "y")?;
     Ok(pieces)
 }
 
 #[test]
-fn comments_part_texts_and_signs_trim_them(rt: HostRuntime) -> Result<(), Fail> {
+fn names_are_set(rt: HostRuntime) {
     let alloc = rt.alloc();
-    assert!(rt; reads(alloc, " a {# { } é #} b ", two(alloc, " a ", " b ")?));
-    assert!(rt; reads(alloc, "a \n{#- x -#}\t b ", two(alloc, "a", "b ")?));
-    assert!(rt; reads(alloc, "a {#-#} b", two(alloc, "a", " b")?));
-    assert!(rt; reads(alloc, " {#--#} a {##}{ } {# #}", two(alloc, "a ", "{ } ")?));
-    Ok(())
-}
-
-#[test]
-fn names_are_set(rt: HostRuntime) -> Result<(), Fail> {
-    let alloc = rt.alloc();
-    let mut pieces = Many::make(alloc);
-    let value = number(alloc, "1")?.into_inner();
-    let name = Word::from_str(alloc, "x")?;
-    pieces.push(Piece::Assign { name, value })?;
-    push_text(&mut pieces, alloc, "y")?;
-    assert!(rt; reads(alloc, "{%set x = 1 -%}\n y", pieces));
-    Ok(())
+    assert!(rt;
+        match set_and_text(alloc) {
+            Ok(pieces) => reads(alloc, "{%set x = 1 -%}\n y", pieces),
+            Err(_) => false,
+        }
+    );
 }
 
 /// Adds an arm of one text.
@@ -209,34 +366,35 @@ fn push_arm(
     test: &str,
     text: &str,
 ) -> Result<(), AllocError> {
-    let mut pieces = Many::make(alloc);
-    push_text(&mut pieces, alloc, text)?;
-    let test = name(alloc, test)?;
-    arms.push((test.into_inner(), Template { pieces }))?;
+    let pieces = texts(alloc, &[text])?;
+    let test = Expr::Name(Word::from_str(alloc, test)?);
+    arms.push((test, Template { pieces }))?;
     Ok(())
 }
 
-#[test]
-fn arms_and_a_fallback(rt: HostRuntime) -> Result<(), Fail> {
-    let alloc = rt.alloc();
+/// Two arms and a fallback, of a text each.
+fn arms(alloc: Global) -> Result<Many<Piece>, AllocError> {
     let mut arms = Many::make(alloc);
     push_arm(&mut arms, alloc, "a", "1")?;
     push_arm(&mut arms, alloc, "b", "2")?;
-    let mut inner = Many::make(alloc);
-    push_text(&mut inner, alloc, "3")?;
-    let mut pieces = Many::make(alloc);
-    pieces.push(Piece::Choice {
-        arms,
-        fallback: Template { pieces: inner },
-    })?;
+    let pieces = texts(alloc, &["3"])?;
+    let fallback = Template { pieces };
+    one(alloc, Piece::Choice { arms, fallback })
+}
+
+#[test]
+fn arms_and_a_fallback(rt: HostRuntime) {
+    let alloc = rt.alloc();
     assert!(rt;
-        reads(
-            alloc,
-            "{% if a %}1{% elif b -%} 2{% else %}3 {%- endif %}",
-            pieces
-        )
+        match arms(alloc) {
+            Ok(pieces) => reads(
+                alloc,
+                "{% if a %}1{% elif b -%} 2{% else %}3 {%- endif %}",
+                pieces
+            ),
+            Err(_) => false,
+        }
     );
-    Ok(())
 }
 
 /// The place of the text's fault, and a million where it is read.
@@ -251,38 +409,51 @@ fn place(alloc: Global, text: &[u8]) -> u32 {
     }
 }
 
-#[test]
-fn faults_have_the_first_byte_at_which_no_reading_goes_on(rt: HostRuntime) -> Result<(), Fail> {
-    for (text, at) in [
-        ("{{ x|lowe }}", 9),
-        ("{{ x|lowx }}", 8),
-        ("{{ x|lowers }}", 10),
-        ("{{ a %}", 6),
-        ("{{ 1000000000001 }}", 15),
-        ("{{ 1000000000000.0000006 }}", 23),
-        ("{{ a", 4),
-        ("{% if a %}x", 11),
-        ("{# x", 4),
-        ("{{ 'x", 5),
-        ("{{ states }}", 10),
-        ("{{ states(a, b) }}", 11),
-        ("{{ is_state(a) }}", 13),
-        ("{{ x|default }}", 13),
-        ("{{ x.if }}", 7),
-        ("{{ a = b }}", 6),
-        ("{{ a == b == c }}", 10),
-        ("{{ a is none | int }}", 13),
-        ("{{ a if b el }}", 12),
-        ("{{ a -}x", 7),
-        ("{{ [1,] }}", 6),
-        ("{% endif %}", 3),
-        ("{% if a %}{% else %}{% elif", 24),
-        ("{% set x == 1 %}", 10),
-    ] {
-        assert_eq!(rt; place(rt.alloc(), text.as_bytes()), at, "{text}");
+/// Whether each text has its fault there.
+fn are_faults(alloc: Global, rows: &[(&str, u32)]) -> bool {
+    for row in rows {
+        if place(alloc, row.0.as_bytes()) != row.1 {
+            return false;
+        }
     }
-    assert_eq!(rt; place(rt.alloc(), b"a\xed\xa0\x80"), 2);
-    Ok(())
+    true
+}
+
+#[test]
+fn faults_have_the_first_byte_at_which_no_reading_goes_on(rt: HostRuntime) {
+    let alloc = rt.alloc();
+    assert!(rt;
+        are_faults(
+            alloc,
+            &[
+                ("{{ x|lowe }}", 9),
+                ("{{ x|lowx }}", 8),
+                ("{{ x|lowers }}", 10),
+                ("{{ a %}", 6),
+                ("{{ 1000000000001 }}", 15),
+                ("{{ 1000000000000.0000006 }}", 23),
+                ("{{ a", 4),
+                ("{% if a %}x", 11),
+                ("{# x", 4),
+                ("{{ 'x", 5),
+                ("{{ states }}", 10),
+                ("{{ states(a, b) }}", 11),
+                ("{{ is_state(a) }}", 13),
+                ("{{ x|default }}", 13),
+                ("{{ x.if }}", 7),
+                ("{{ a = b }}", 6),
+                ("{{ a == b == c }}", 10),
+                ("{{ a is none | int }}", 13),
+                ("{{ a if b el }}", 12),
+                ("{{ a -}x", 7),
+                ("{{ [1,] }}", 6),
+                ("{% endif %}", 3),
+                ("{% if a %}{% else %}{% elif", 24),
+                ("{% set x == 1 %}", 10),
+            ]
+        )
+    );
+    assert!(rt; place(alloc, b"a\xed\xa0\x80") == 2);
 }
 
 /// The opening text so many times, a name, and the closing text as often.
@@ -300,23 +471,23 @@ fn nested(alloc: Global, open: &[u8], count: usize, close: &[u8]) -> Result<Vec<
     Ok(all)
 }
 
+/// Whether that text has its fault there; a million where it is read.
+fn is_place(alloc: Global, open: &[u8], count: usize, close: &[u8], wanted: u32) -> bool {
+    match nested(alloc, open, count, close) {
+        Ok(text) => place(alloc, text.as_slice()) == wanted,
+        Err(_) => false,
+    }
+}
+
 #[test]
-fn sixty_four_expressions_may_be_open(rt: HostRuntime) -> Result<(), Fail> {
+fn sixty_four_expressions_may_be_open(rt: HostRuntime) {
     let alloc = rt.alloc();
-    assert_eq!(rt;
-        place(alloc, nested(alloc, b"(", 63, b")")?.as_slice()),
-        1_000_000
+    assert!(rt;
+        is_place(alloc, b"(", 63, b")", 1_000_000)
+            && is_place(alloc, b"(", 64, b")", 65)
+            && is_place(alloc, b"not ", 63, b"", 1_000_000)
+            && is_place(alloc, b"not ", 64, b"", 257)
     );
-    assert_eq!(rt; place(alloc, nested(alloc, b"(", 64, b")")?.as_slice()), 65);
-    assert_eq!(rt;
-        place(alloc, nested(alloc, b"not ", 63, b"")?.as_slice()),
-        1_000_000
-    );
-    assert_eq!(rt;
-        place(alloc, nested(alloc, b"not ", 64, b"")?.as_slice()),
-        257
-    );
-    Ok(())
 }
 
 /// The opening of a tag, so many open groups, and a text.
@@ -330,39 +501,33 @@ fn behind_groups(alloc: Global, count: usize, text: &[u8]) -> Result<Vec<u8>, Al
     Ok(all)
 }
 
-/// The place of a text's fault behind so many open groups.
-fn place_behind(alloc: Global, count: usize, text: &[u8]) -> Result<u32, AllocError> {
-    Ok(place(alloc, behind_groups(alloc, count, text)?.as_slice()))
+/// Whether a text behind so many open groups has its fault there.
+fn is_place_behind(alloc: Global, count: usize, text: &[u8], wanted: u32) -> bool {
+    match behind_groups(alloc, count, text) {
+        Ok(text) => place(alloc, text.as_slice()) == wanted,
+        Err(_) => false,
+    }
 }
 
 #[test]
-fn where_no_expression_may_be_opened_nothing_with_arguments_begins(
-    rt: HostRuntime,
-) -> Result<(), Fail> {
+fn where_no_expression_may_be_opened_nothing_with_arguments_begins(rt: HostRuntime) {
     let alloc = rt.alloc();
-    assert_eq!(rt; place_behind(alloc, 63, b"x|de")?, 67);
-    assert_eq!(rt; place_behind(alloc, 63, b"x|replace(1)")?, 68);
-    assert_eq!(rt; place_behind(alloc, 63, b"states )")?, 71);
-    assert_eq!(rt; place_behind(alloc, 63, b"x|int(1)")?, 71);
-    assert_eq!(rt; place_behind(alloc, 62, b"x|de")?, 68);
-    assert_eq!(rt; place_behind(alloc, 62, b"states )")?, 71);
-    Ok(())
+    assert!(rt;
+        is_place_behind(alloc, 63, b"x|de", 67)
+            && is_place_behind(alloc, 63, b"x|replace(1)", 68)
+            && is_place_behind(alloc, 63, b"states )", 71)
+            && is_place_behind(alloc, 63, b"x|int(1)", 71)
+            && is_place_behind(alloc, 62, b"x|de", 68)
+            && is_place_behind(alloc, 62, b"states )", 71)
+    );
 }
 
 #[test]
-fn the_longest_chains_are_read(rt: HostRuntime) -> Result<(), Fail> {
+fn the_longest_chains_are_read(rt: HostRuntime) {
     let alloc = rt.alloc();
-    assert_eq!(rt;
-        place(alloc, nested(alloc, b"", 8_190, b"+a")?.as_slice()),
-        1_000_000
+    assert!(rt;
+        is_place(alloc, b"", 8_190, b"+a", 1_000_000)
+            && is_place(alloc, b"", 8_190, b".a", 1_000_000)
+            && is_place(alloc, b"", 4_095, b"|abs", 1_000_000)
     );
-    assert_eq!(rt;
-        place(alloc, nested(alloc, b"", 8_190, b".a")?.as_slice()),
-        1_000_000
-    );
-    assert_eq!(rt;
-        place(alloc, nested(alloc, b"", 4_095, b"|abs")?.as_slice()),
-        1_000_000
-    );
-    Ok(())
 }

@@ -2,170 +2,285 @@
 use ha_value::{
     Boxed, EntityFault, EntityId, Many, Num, NumFault, Plain, Value, Word, WordFault, says_yes_text,
 };
+use std::alloc::{AllocError, Global};
 use std::cmp::Ordering;
 use std::test::Fail;
 
+fn is(found: Result<Num, NumFault>, wanted: Num) -> bool {
+    match found {
+        Ok(number) => number == wanted,
+        Err(_) => false,
+    }
+}
+
+fn is_range(found: Result<Num, NumFault>) -> bool {
+    matches!(found, Err(NumFault::Range))
+}
+
+fn is_zero(found: Result<Num, NumFault>) -> bool {
+    matches!(found, Err(NumFault::Zero))
+}
+
 #[test]
-fn whole_arithmetic(rt: HostRuntime) -> Result<(), Fail> {
+fn whole_arithmetic(rt: HostRuntime) {
     let (seven, two, three) = (Num::Whole(7), Num::Whole(2), Num::Whole(3));
-    assert_eq!(rt; Num::Whole(-7).floor_div(&two), Ok(Num::Whole(-4)));
-    assert_eq!(rt; Num::Whole(-7).modulo(&three), Ok(Num::Whole(2)));
-    assert_eq!(rt; seven.modulo(&Num::Whole(-3)), Ok(Num::Whole(-2)));
-    assert_eq!(rt; seven.div(&two), Ok(Num::Fixed(3_500_000)));
-    assert_eq!(rt; Num::Whole(10).div(&three), Ok(Num::Fixed(3_333_333)));
-    assert_eq!(rt;
-        Num::Whole(1_000_000_000_000).add(&Num::Whole(1)),
-        Err(NumFault::Range)
+    assert!(rt;
+        is(Num::Whole(-7).floor_div(&two), Num::Whole(-4))
+            && is(Num::Whole(-7).modulo(&three), Num::Whole(2))
+            && is(seven.modulo(&Num::Whole(-3)), Num::Whole(-2))
+            && is(seven.div(&two), Num::Fixed(3_500_000))
+            && is(Num::Whole(10).div(&three), Num::Fixed(3_333_333))
+            && is_range(Num::Whole(1_000_000_000_000).add(&Num::Whole(1)))
+            && is_zero(Num::Whole(1).floor_div(&Num::Whole(0)))
+            && is(seven.sub(&two), Num::Whole(5))
+            && is(seven.mul(&Num::Fixed(500_000)), Num::Fixed(3_500_000))
     );
-    assert_eq!(rt;
-        Num::Whole(1).floor_div(&Num::Whole(0)),
-        Err(NumFault::Zero)
-    );
-    assert_eq!(rt; seven.sub(&two), Ok(Num::Whole(5)));
-    assert_eq!(rt; seven.mul(&Num::Fixed(500_000)), Ok(Num::Fixed(3_500_000)));
-    Ok(())
 }
 
 #[test]
-fn single_numbers(rt: HostRuntime) -> Result<(), Fail> {
-    assert_eq!(rt; Num::Fixed(2_500_000).round(0), Num::Whole(2));
-    assert_eq!(rt; Num::Fixed(-1_250_000).round(1), Num::Fixed(-1_200_000));
-    assert_eq!(rt; Num::Fixed(-2_900_000).to_whole(), Num::Whole(-2));
-    assert_eq!(rt; Num::Whole(-7).absolute(), Ok(Num::Whole(7)));
-    assert_eq!(rt; Num::Whole(-7).negate(), Ok(Num::Whole(7)));
-    assert_eq!(rt; Num::Whole(3).to_fixed(), Ok(Num::Fixed(3_000_000)));
-    assert_eq!(rt;
-        Num::Whole(3).compare(&Num::Fixed(3_000_000)),
-        Ordering::Equal
+fn single_numbers(rt: HostRuntime) {
+    assert!(rt;
+        Num::Fixed(2_500_000).round(0) == Num::Whole(2)
+            && Num::Fixed(-1_250_000).round(1) == Num::Fixed(-1_200_000)
+            && Num::Fixed(-2_900_000).to_whole() == Num::Whole(-2)
+            && is(Num::Whole(-7).absolute(), Num::Whole(7))
+            && is(Num::Whole(-7).negate(), Num::Whole(7))
+            && is(Num::Whole(3).to_fixed(), Num::Fixed(3_000_000))
+            && matches!(
+                Num::Whole(3).compare(&Num::Fixed(3_000_000)),
+                Ordering::Equal
+            )
+            && Num::Whole(-1).truth()
+            && Num::Fixed(0).is_zero()
+            && !Num::Whole(1_000_000_000_001).is_in_range()
     );
-    assert!(rt; Num::Whole(-1).truth());
-    assert!(rt; Num::Fixed(0).is_zero());
-    assert!(rt; !Num::Whole(1_000_000_000_001).is_in_range());
-    Ok(())
+}
+
+/// Whether each text is this number, or none.
+fn are_read(rows: &[(&str, Option<Num>)]) -> bool {
+    for row in rows {
+        if Num::read(row.0.as_bytes()) != row.1 {
+            return false;
+        }
+    }
+    true
 }
 
 #[test]
-fn number_texts(rt: HostRuntime) -> Result<(), Fail> {
-    assert_eq!(rt; Num::read(b"0.0000005"), Some(Num::Fixed(0)));
-    assert_eq!(rt; Num::read(b"0.0000015"), Some(Num::Fixed(2)));
-    assert_eq!(rt; Num::read(b"0.00000050001"), Some(Num::Fixed(1)));
-    assert_eq!(rt;
-        Num::read(b"+1000000000000"),
-        Some(Num::Whole(1_000_000_000_000))
+fn number_texts(rt: HostRuntime) {
+    assert!(rt;
+        are_read(&[
+            ("0.0000005", Some(Num::Fixed(0))),
+            ("0.0000015", Some(Num::Fixed(2))),
+            ("0.00000050001", Some(Num::Fixed(1))),
+            ("+1000000000000", Some(Num::Whole(1_000_000_000_000))),
+            (
+                "-1000000000000.0000005",
+                Some(Num::Fixed(-1_000_000_000_000_000_000))
+            ),
+            ("1000000000000.0000006", None),
+            ("1000000000001", None),
+            ("1.", None),
+            ("1e3", None),
+        ])
     );
-    assert_eq!(rt;
-        Num::read(b"-1000000000000.0000005"),
-        Some(Num::Fixed(-1_000_000_000_000_000_000))
-    );
-    assert_eq!(rt; Num::read(b"1000000000000.0000006"), None);
-    assert_eq!(rt; Num::read(b"1000000000001"), None);
-    assert_eq!(rt; Num::read(b"1."), None);
-    assert_eq!(rt; Num::read(b"1e3"), None);
-    Ok(())
+}
+
+/// Whether the number is printed so.
+fn is_printed(alloc: Global, number: Num, wanted: &str) -> bool {
+    match number.print(alloc) {
+        Ok(text) => text.as_str() == wanted,
+        Err(_) => false,
+    }
 }
 
 #[test]
-fn printed_numbers(rt: HostRuntime) -> Result<(), Fail> {
-    assert_eq!(rt; Num::Fixed(3_000_000).print(rt.alloc())?.as_str(), "3.0");
-    assert_eq!(rt; Num::Fixed(-50_500).print(rt.alloc())?.as_str(), "-0.0505");
-    assert_eq!(rt; Num::Whole(-12).print(rt.alloc())?.as_str(), "-12");
-    Ok(())
+fn printed_numbers(rt: HostRuntime) {
+    let alloc = rt.alloc();
+    assert!(rt;
+        is_printed(alloc, Num::Fixed(3_000_000), "3.0")
+            && is_printed(alloc, Num::Fixed(-50_500), "-0.0505")
+            && is_printed(alloc, Num::Whole(-12), "-12")
+    );
 }
 
-#[test]
-fn words(rt: HostRuntime) -> Result<(), Fail> {
-    let mut word = Word::new(rt.alloc());
-    assert!(rt; word.is_empty());
+/// A word that is put together of all kinds of parts.
+fn cafe(alloc: Global) -> Result<Word, AllocError> {
+    let mut word = Word::new(alloc);
     word.push_str("caf")?;
     word.push('\u{e9}')?;
     word.push_byte(b'!')?;
     word.push_bytes(b"")?;
-    assert_eq!(rt; word.len(), 6);
-    let read = Word::read(rt.alloc(), word.bytes())?;
-    assert!(rt; read.same(&word));
-    assert_eq!(rt;
-        Word::from_bytes(rt.alloc(), b"ab")?
-            .into_string(rt.alloc())?
-            .as_str(),
-        "ab"
-    );
-    assert_eq!(rt;
-        Word::read(rt.alloc(), b"\xff").err(),
-        Some(WordFault::NotUtf8)
+    Ok(word)
+}
+
+/// Whether the word's bytes are read as the same word, and so is its copy.
+fn is_read_again(alloc: Global, word: &Word) -> bool {
+    match Word::read(alloc, word.bytes()) {
+        Ok(read) => read.same(word),
+        Err(_) => false,
+    }
+}
+
+fn is_copied(alloc: Global, word: &Word) -> bool {
+    match word.copy(alloc) {
+        Ok(copied) => copied.same(word),
+        Err(_) => false,
+    }
+}
+
+/// Whether the word is this text, and becomes this string.
+fn is_text(alloc: Global, word: Word, wanted: &str) -> bool {
+    if word.as_str() != wanted {
+        return false;
+    }
+    match word.into_string(alloc) {
+        Ok(text) => text.as_str() == wanted,
+        Err(_) => false,
+    }
+}
+
+fn is_of_bytes(alloc: Global, bytes: &[u8], wanted: &str) -> bool {
+    match Word::from_bytes(alloc, bytes) {
+        Ok(word) => is_text(alloc, word, wanted),
+        Err(_) => false,
+    }
+}
+
+#[test]
+fn words(rt: HostRuntime) -> Result<(), Fail> {
+    let alloc = rt.alloc();
+    let word = cafe(alloc)?;
+    assert!(rt;
+        Word::new(alloc).is_empty()
+            && word.len() == 6
+            && is_read_again(alloc, &word)
+            && is_of_bytes(alloc, b"ab", "ab")
+            && matches!(Word::read(alloc, b"\xff"), Err(WordFault::NotUtf8))
     );
     Ok(())
+}
+
+/// A text of 22 bytes, which stands in the word's own place, and one of 24.
+fn grown(alloc: Global) -> Result<Word, AllocError> {
+    let mut word = Word::from_str(alloc, "abcdefghijklmnopqrstuv")?;
+    if word.len() == 22 {
+        word.push_str("wx")?;
+    }
+    Ok(word)
 }
 
 #[test]
 fn short_and_long_words(rt: HostRuntime) -> Result<(), Fail> {
-    let mut word = Word::from_str(rt.alloc(), "abcdefghijklmnopqrstuv")?;
-    assert_eq!(rt; word.len(), 22);
-    word.push_str("wx")?;
-    assert_eq!(rt; word.as_str(), "abcdefghijklmnopqrstuvwx");
-    let copied = word.copy(rt.alloc())?;
-    assert!(rt; copied.same(&word));
-    assert_eq!(rt;
-        copied.into_string(rt.alloc())?.as_str(),
-        "abcdefghijklmnopqrstuvwx"
-    );
+    let alloc = rt.alloc();
+    let word = grown(alloc)?;
+    assert!(rt; is_copied(alloc, &word) && is_text(alloc, word, "abcdefghijklmnopqrstuvwx"));
     Ok(())
+}
+
+/// Whether the text is the id of an object of this name, and is printed as it stands; the copy is the same.
+fn is_id(alloc: Global, text: &str, object: &str) -> Result<bool, AllocError> {
+    let Ok(id) = EntityId::read(alloc, text.as_bytes()) else {
+        return Ok(false);
+    };
+    let printed = id.print(alloc)?;
+    let copied = id.copy(alloc)?;
+    Ok(id.object.as_str() == object && printed.as_str() == text && copied.same(&id))
+}
+
+fn is_no_id(alloc: Global, text: &str) -> bool {
+    matches!(
+        EntityId::read(alloc, text.as_bytes()),
+        Err(EntityFault::Shape)
+    )
 }
 
 #[test]
 fn ids(rt: HostRuntime) -> Result<(), Fail> {
-    let id = EntityId::read(rt.alloc(), b"light.hall_2")?;
-    assert_eq!(rt; id.object.as_str(), "hall_2");
-    assert_eq!(rt; id.print(rt.alloc())?.as_str(), "light.hall_2");
-    assert!(rt; id.copy(rt.alloc())?.same(&id));
-    assert_eq!(rt;
-        EntityId::read(rt.alloc(), b"Light").err(),
-        Some(EntityFault::Shape)
-    );
-    assert_eq!(rt;
-        EntityId::read(rt.alloc(), b"light.Hall").err(),
-        Some(EntityFault::Shape)
-    );
+    let alloc = rt.alloc();
+    assert!(rt; is_id(alloc, "light.hall_2", "hall_2")?);
+    assert!(rt; is_no_id(alloc, "Light") && is_no_id(alloc, "light.Hall"));
     Ok(())
+}
+
+/// The truth of a text, and whether it says yes.
+fn truth_of(alloc: Global, text: &str) -> Result<(bool, bool), AllocError> {
+    let text = Value::Text(Word::from_str(alloc, text)?);
+    Ok((text.truth(), text.says_yes()))
+}
+
+/// A list of one value that is none.
+fn list_of_none(alloc: Global) -> Result<Many<Value>, AllocError> {
+    let mut items = Many::with_room(alloc, 1)?;
+    items.push(Value::Null)?;
+    Ok(items)
+}
+
+/// Whether that list is true, says no, and is the same as its copy.
+fn is_true_list(alloc: Global) -> Result<bool, AllocError> {
+    let list = Value::Items(list_of_none(alloc)?);
+    let copied = list.copy(alloc)?;
+    Ok(list.truth() && !list.says_yes() && copied.same(&list))
 }
 
 #[test]
 fn truths(rt: HostRuntime) -> Result<(), Fail> {
-    assert!(rt; says_yes_text(b" \tEnable "));
-    assert!(rt; !says_yes_text(b"0.0"));
-    let text = Value::Text(Word::from_str(rt.alloc(), "off")?);
-    assert!(rt; text.truth());
-    assert!(rt; !text.says_yes());
-    assert!(rt; Value::Number(Num::Whole(2)).says_yes());
-    let mut items = Many::with_room(rt.alloc(), 1)?;
-    items.push(Value::Null)?;
-    let list = Value::Items(items);
-    assert!(rt; list.truth());
-    assert!(rt; !list.says_yes());
-    assert!(rt; list.copy(rt.alloc())?.same(&list));
+    let alloc = rt.alloc();
+    assert!(rt;
+        says_yes_text(b" \tEnable ")
+            && !says_yes_text(b"0.0")
+            && Value::Number(Num::Whole(2)).says_yes()
+    );
+    assert!(rt; truth_of(alloc, "off")? == (true, false));
+    assert!(rt; is_true_list(alloc)?);
     Ok(())
 }
 
-#[test]
-fn lists(rt: HostRuntime) -> Result<(), Fail> {
-    let mut list: Many<u32> = Many::make(rt.alloc());
-    assert!(rt; list.is_empty());
+/// A list of three numbers, of which the second came last and the first was set anew.
+fn three(alloc: Global) -> Result<Many<u32>, AllocError> {
+    let mut list = Many::make(alloc);
     list.push(1)?;
     list.push(2)?;
     list.insert(1, 5)?;
     list.set(0, 7);
-    assert_eq!(rt; list.as_slice(), [7, 5, 2].as_slice());
-    assert_eq!(rt; list.remove(1), 5);
-    let more = list.copy(rt.alloc())?;
+    Ok(list)
+}
+
+/// A list with its copy behind it, once its second item is gone.
+fn twice(alloc: Global, mut list: Many<u32>) -> Result<Many<u32>, AllocError> {
+    if list.len() != 3 || list.remove(1) != 5 {
+        return Ok(Many::make(alloc));
+    }
+    let more = list.copy(alloc)?;
     list.append(more)?;
-    assert_eq!(rt; list.len(), 4);
-    assert_eq!(rt; list.pop(), Some(2));
+    Ok(list)
+}
+
+/// Whether the list loses its last item, is cut to two, and to none.
+fn is_cut(mut list: Many<u32>) -> bool {
+    if list.len() != 4 || list.pop() != Some(2) {
+        return false;
+    }
     list.truncate(2);
-    assert_eq!(rt; list.get(1).copied(), Some(2));
+    if list.len() != 2 || list.get(1).copied() != Some(2) {
+        return false;
+    }
     list.clear();
-    let list = Many::from_vec(list.into_vec()).fitted();
-    assert!(rt; list.is_empty());
-    let held = Boxed::new(rt.alloc(), Some(true))?;
-    assert!(rt; held.copy(rt.alloc())?.same(&held));
-    assert_eq!(rt; held.into_inner(), Some(true));
+    Many::from_vec(list.into_vec()).fitted().is_empty()
+}
+
+fn is_held(alloc: Global) -> Result<bool, AllocError> {
+    let held = Boxed::new(alloc, Some(true))?;
+    let copied = held.copy(alloc)?;
+    Ok(copied.same(&held) && held.into_inner() == Some(true))
+}
+
+#[test]
+fn lists(rt: HostRuntime) -> Result<(), Fail> {
+    let alloc = rt.alloc();
+    let list = three(alloc)?;
+    assert!(rt; list.as_slice() == [7, 5, 2].as_slice());
+    assert!(rt; is_cut(twice(alloc, list)?));
+    assert!(rt; is_held(alloc)?);
     Ok(())
 }

@@ -1,31 +1,67 @@
 //! The lines of a YAML text.
-use std::test::Fail;
-use yaml_scan::{Code, YamlFault, scan};
+use std::alloc::Global;
+use yaml_scan::{Code, YamlFault, YamlLine, scan};
+
+/// Whether the line stands there, with this indent and content.
+fn is_line(lines: &[YamlLine], at: usize, number: u32, indent: u32, content: &str) -> bool {
+    match lines.get(at) {
+        Some(line) => {
+            line.line == number && line.indent == indent && line.content.as_str() == content
+        }
+        None => false,
+    }
+}
+
+/// Whether a short text has these three lines, by their indents and contents.
+fn are_lines(alloc: Global, text: &[u8], wanted: &[(u32, &str)]) -> bool {
+    if text.len() > 1000 {
+        return false;
+    }
+    match scan(alloc, text) {
+        Ok(lines) => has_lines(lines.as_slice(), wanted),
+        Err(_) => false,
+    }
+}
+
+fn has_lines(lines: &[YamlLine], wanted: &[(u32, &str)]) -> bool {
+    let mut number = 1;
+    for at in 0..wanted.len() {
+        if !is_line(lines, at, number, wanted[at].0, wanted[at].1) {
+            return false;
+        }
+        number = number.saturating_add(1);
+    }
+    lines.len() == wanted.len()
+}
 
 #[test]
-fn lines_with_their_indents(rt: HostRuntime) -> Result<(), Fail> {
-    let lines = scan(rt.alloc(), b"\xEF\xBB\xBFa:\r\n\n  - b # c\n")?;
-    let lines = lines.as_slice();
-    assert_eq!(rt; lines.len(), 3);
-    for (at, indent, content) in [(0usize, 0, "a:"), (1, 0, ""), (2, 2, "- b # c")] {
-        let line = lines.get(at).ok_or("no line")?;
-        assert_eq!(rt; line.line as usize, at + 1);
-        assert_eq!(rt; line.indent, indent);
-        assert_eq!(rt; line.content.as_str(), content);
+fn lines_with_their_indents(rt: HostRuntime) {
+    assert!(rt;
+        are_lines(
+            rt.alloc(),
+            b"\xEF\xBB\xBFa:\r\n\n  - b # c\n",
+            &[(0, "a:"), (0, ""), (2, "- b # c")]
+        )
+    );
+}
+
+/// Whether a short text is refused at this line with this code.
+fn is_refused(alloc: Global, text: &[u8], line: u32, code: Code) -> bool {
+    if text.len() > 1000 {
+        return false;
     }
-    Ok(())
+    match scan(alloc, text) {
+        Err(YamlFault::Bad { line: at, code: by }) => at == line && by == code,
+        _ => false,
+    }
 }
 
 #[test]
 fn faults_of_lines(rt: HostRuntime) {
-    for (text, at, wanted) in [
-        (b"a: 1\n\tb: 2\n".as_slice(), 2, Code::Tab),
-        (b"a: 1\n---\n".as_slice(), 2, Code::LeftOut),
-        (b"a: 1\nb: \xFF\n".as_slice(), 2, Code::NotUtf8),
-    ] {
-        assert!(rt; text.len() < 4096);
-        assert!(rt;
-            matches!(scan(rt.alloc(), text), Err(YamlFault::Bad { line, code }) if line == at && code == wanted)
-        );
-    }
+    let alloc = rt.alloc();
+    assert!(rt;
+        is_refused(alloc, b"a: 1\n\tb: 2\n", 2, Code::Tab)
+            && is_refused(alloc, b"a: 1\n---\n", 2, Code::LeftOut)
+            && is_refused(alloc, b"a: 1\nb: \xFF\n", 2, Code::NotUtf8)
+    );
 }

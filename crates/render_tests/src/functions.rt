@@ -1,6 +1,4 @@
 //! Functions that ask states, and operators on lists and maps.
-ghost use Rattle.std.specs.Prelude.{◌<◌, ◌^◌, length};
-
 use ha_model::{EntityId, Env, Many, Moment, Num, Plain, Value, Word};
 use state_table::StateTable;
 use std::alloc::{AllocError, Global};
@@ -20,13 +18,17 @@ fn list(alloc: Global) -> Result<Value, AllocError> {
     Ok(Value::Items(items))
 }
 
+fn light(alloc: Global) -> Result<EntityId, AllocError> {
+    Ok(EntityId {
+        domain: Word::from_str(alloc, "light")?,
+        object: Word::from_str(alloc, "x")?,
+    })
+}
+
 /// A table in which `light.x` is on.
 fn lit(alloc: Global) -> Result<StateTable, AllocError> {
     let mut table = StateTable::make(alloc);
-    let lamp = EntityId {
-        domain: Word::from_str(alloc, "light")?,
-        object: Word::from_str(alloc, "x")?,
-    };
+    let lamp = light(alloc)?;
     let on = Word::from_str(alloc, "on")?;
     table.report(
         alloc,
@@ -38,57 +40,92 @@ fn lit(alloc: Global) -> Result<StateTable, AllocError> {
     Ok(table)
 }
 
-/// Whether `is_state` of the entity and the list `[3, "on"]` is true.
-fn is_on(alloc: Global, table: &StateTable, id: &str) -> Result<bool, AllocError> {
-    let args = [text(alloc, id)?, list(alloc)?];
-    Ok(match function(alloc, 3, &args, table) {
-        Ok(value) => value.same(&Value::Flag(true)),
-        Err(_) => false,
-    })
+/// An id and the list `[3, "on"]`.
+fn args(alloc: Global, id: &str) -> Result<Many<Value>, AllocError> {
+    let mut all = Many::make(alloc);
+    all.push(text(alloc, id)?)?;
+    all.push(list(alloc)?)?;
+    Ok(all)
 }
 
-#[test]
-fn states_are_asked(rt: HostRuntime) -> Result<(), Fail> {
-    let alloc = rt.alloc();
-    let table = lit(alloc)?;
-    assert!(rt; is_on(alloc, &table, "light.x")?);
-    assert!(rt; !is_on(alloc, &table, "light.y")?);
-    assert!(rt; !is_on(alloc, &table, "light")?);
-    Ok(())
-}
-
-/// The name `home`, which stands for the map from `room` to `hall`.
-fn home(alloc: Global) -> Result<Env, AllocError> {
-    let mut pairs = Many::make(alloc);
-    pairs.push((Word::from_str(alloc, "room")?, text(alloc, "hall")?))?;
-    let mut env = Many::make(alloc);
-    env.push((Word::from_str(alloc, "home")?, Value::Pairs(pairs)))?;
-    Ok(env)
-}
-
-/// Whether the text is a template that renders as this text where `home` is that map.
-fn gives(alloc: Global, env: &Env, text: &[u8], wanted: &[u8]) -> bool
-    requires { length text.now < 2 ^ 32 }
-{
-    let states = StateTable::make(alloc);
-    match parse(alloc, text) {
-        Ok(template) => match render(alloc, &template, &states, env) {
-            Ok(Value::Text(rendered)) => rendered.bytes() == wanted,
-            _ => false,
+/// Whether `is_state` of the entity and that list is true.
+fn is_on(alloc: Global, table: &StateTable, id: &str) -> bool {
+    match args(alloc, id) {
+        Ok(args) => match function(alloc, 3, args.as_slice(), table) {
+            Ok(value) => value.same(&Value::Flag(true)),
+            Err(_) => false,
         },
         Err(_) => false,
     }
 }
 
 #[test]
+fn states_are_asked(rt: HostRuntime) -> Result<(), Fail> {
+    let alloc = rt.alloc();
+    let table = lit(alloc)?;
+    assert!(rt;
+        is_on(alloc, &table, "light.x")
+            && !is_on(alloc, &table, "light.y")
+            && !is_on(alloc, &table, "light")
+    );
+    Ok(())
+}
+
+/// The map from `room` to `hall`.
+fn rooms(alloc: Global) -> Result<Value, AllocError> {
+    let mut pairs = Many::make(alloc);
+    pairs.push((Word::from_str(alloc, "room")?, text(alloc, "hall")?))?;
+    Ok(Value::Pairs(pairs))
+}
+
+/// The name `home`, which stands for that map.
+fn home(alloc: Global) -> Result<Env, AllocError> {
+    let mut env = Many::make(alloc);
+    env.push((Word::from_str(alloc, "home")?, rooms(alloc)?))?;
+    Ok(env)
+}
+
+/// Whether a short text is a template that renders as this text where `home` is that map.
+fn gives(alloc: Global, env: &Env, text: &str, wanted: &str) -> bool {
+    if text.len() > 1000 {
+        return false;
+    }
+    let states = StateTable::make(alloc);
+    match parse(alloc, text.as_bytes()) {
+        Ok(template) => match render(alloc, &template, &states, env) {
+            Ok(Value::Text(rendered)) => rendered.as_str() == wanted,
+            _ => false,
+        },
+        Err(_) => false,
+    }
+}
+
+fn give(alloc: Global, env: &Env, rows: &[(&str, &str)]) -> bool {
+    for row in rows {
+        if !gives(alloc, env, row.0, row.1) {
+            return false;
+        }
+    }
+    true
+}
+
+#[test]
 fn texts_lists_and_maps_are_asked(rt: HostRuntime) -> Result<(), Fail> {
     let alloc = rt.alloc();
     let env = home(alloc)?;
-    assert!(rt; gives(alloc, &env, b"{{ 'on' in [3, 'on'] }}", b"True"));
-    assert!(rt; gives(alloc, &env, b"{{ 'room' in home }}", b"True"));
-    assert!(rt; gives(alloc, &env, b"{{ 'hall' in home }}", b"False"));
-    assert!(rt; gives(alloc, &env, b"{{ [3, 'on'][-2] }}", b"3"));
-    assert!(rt; gives(alloc, &env, b"{{ [3, 'on'][-1] }}", b"on"));
-    assert!(rt; gives(alloc, &env, b"{{ home.room }}", b"hall"));
+    assert!(rt;
+        give(
+            alloc,
+            &env,
+            &[
+                ("{{ 'on' in [3, 'on'] }}", "True"),
+                ("{{ 'room' in home }}", "True"),
+                ("{{ 'hall' in home }}", "False"),
+                ("{{ [3, 'on'][-2] }}", "3"),
+                ("{{ [3, 'on'][-1] }}", "on"),
+                ("{{ home.room }}", "hall"),
+            ]
+        )
+    );
     Ok(())
 }

@@ -2,7 +2,6 @@
 use ha_model::{Many, TplFault, Value};
 use state_table::StateTable;
 use std::alloc::{AllocError, Global};
-use std::test::Fail;
 use tpl_eval::render;
 use tpl_parse::parse;
 
@@ -28,37 +27,41 @@ fn rendered(alloc: Global, text: &[u8]) -> Option<Result<Value, TplFault>> {
     }
 }
 
-fn gives(alloc: Global, text: &[u8], wanted: &[u8]) -> bool {
-    match rendered(alloc, text) {
-        Some(Ok(Value::Text(found))) => found.bytes() == wanted,
+/// Whether the text behind `a`, which was doubled so many times, gives this text.
+fn gives(alloc: Global, count: usize, behind: &[u8], wanted: &str) -> bool {
+    let Ok(text) = doubled(alloc, count, behind) else {
+        return false;
+    };
+    match rendered(alloc, text.as_slice()) {
+        Some(Ok(Value::Text(found))) => found.as_str() == wanted,
         _ => false,
     }
 }
 
-fn faults(alloc: Global, text: &[u8]) -> bool {
-    matches!(rendered(alloc, text), Some(Err(TplFault::Fault)))
+fn faults(alloc: Global, count: usize, behind: &[u8]) -> bool {
+    match doubled(alloc, count, behind) {
+        Ok(text) => matches!(rendered(alloc, text.as_slice()), Some(Err(TplFault::Fault))),
+        Err(_) => false,
+    }
 }
 
 /// A list of two values of size s has 2 s values, and the size 2 s + 1: after 14 times `a` has the size 32,767.
 #[test]
-fn a_list_has_65_536_values(rt: HostRuntime) -> Result<(), Fail> {
+fn a_list_has_65_536_values(rt: HostRuntime) {
     let alloc = rt.alloc();
-    let most = doubled(alloc, 14, b"{{[a,a,1,2]|length}}")?;
-    assert!(rt; gives(alloc, most.as_slice(), b"4"));
-    let more = doubled(alloc, 14, b"{{[a,a,1,2,3]|length}}")?;
-    assert!(rt; faults(alloc, more.as_slice()));
-    Ok(())
+    assert!(rt;
+        gives(alloc, 14, b"{{[a,a,1,2]|length}}", "4")
+            && faults(alloc, 14, b"{{[a,a,1,2,3]|length}}")
+    );
 }
 
 /// Fifteen times gives 65,534 values, sixteen times would give 131,070.
 #[test]
-fn a_list_is_not_doubled_again_and_again(rt: HostRuntime) -> Result<(), Fail> {
+fn a_list_is_not_doubled_again_and_again(rt: HostRuntime) {
     let alloc = rt.alloc();
-    let fifteen = doubled(alloc, 15, b"{{a|length}}")?;
-    assert!(rt; gives(alloc, fifteen.as_slice(), b"2"));
-    let sixteen = doubled(alloc, 16, b"on")?;
-    assert!(rt; faults(alloc, sixteen.as_slice()));
-    let forty = doubled(alloc, 40, b"on")?;
-    assert!(rt; faults(alloc, forty.as_slice()));
-    Ok(())
+    assert!(rt;
+        gives(alloc, 15, b"{{a|length}}", "2")
+            && faults(alloc, 16, b"on")
+            && faults(alloc, 40, b"on")
+    );
 }

@@ -1,87 +1,115 @@
 //! Templates from their text to the rendered text.
-ghost use Rattle.std.specs.Prelude.{◌<◌, ◌^◌, length};
-
 use ha_model::{Many, TplFault, Value};
 use state_table::StateTable;
 use std::alloc::Global;
-use std::test::Fail;
 use tpl_eval::render;
 use tpl_parse::parse;
 
-/// Whether the text is a template that renders as this text.
-fn gives(alloc: Global, text: &[u8], wanted: &[u8]) -> bool
-    requires { length text.now < 2 ^ 32 }
-{
+/// What a short text is rendered as, where it is a template.
+fn rendered(alloc: Global, text: &str) -> Option<Result<Value, TplFault>> {
+    if text.len() > 1000 {
+        return None;
+    }
     let states = StateTable::make(alloc);
-    match parse(alloc, text) {
-        Ok(template) => match render(alloc, &template, &states, &Many::make(alloc)) {
-            Ok(Value::Text(rendered)) => rendered.bytes() == wanted,
-            _ => false,
-        },
-        Err(_) => false,
+    match parse(alloc, text.as_bytes()) {
+        Ok(template) => Some(render(alloc, &template, &states, &Many::make(alloc))),
+        Err(_) => None,
     }
 }
 
-/// Whether the text is a template whose meaning is a fault.
-fn faults(alloc: Global, text: &[u8]) -> bool
-    requires { length text.now < 2 ^ 32 }
-{
-    let states = StateTable::make(alloc);
-    match parse(alloc, text) {
-        Ok(template) => matches!(
-            render(alloc, &template, &states, &Many::make(alloc)),
-            Err(TplFault::Fault)
-        ),
-        Err(_) => false,
+/// Whether each text is a template that renders as the other text.
+fn give(alloc: Global, rows: &[(&str, &str)]) -> bool {
+    for row in rows {
+        if !gives(alloc, row.0, row.1) {
+            return false;
+        }
+    }
+    true
+}
+
+fn gives(alloc: Global, text: &str, wanted: &str) -> bool {
+    match rendered(alloc, text) {
+        Some(Ok(Value::Text(found))) => found.as_str() == wanted,
+        _ => false,
     }
 }
 
-#[test]
-fn arithmetic_is_rendered(rt: HostRuntime) -> Result<(), Fail> {
-    let alloc = rt.alloc();
-    assert!(rt; gives(alloc, b"{{ -7 // 2 }}", b"-4"));
-    assert!(rt; gives(alloc, b"{{ 7 // -2 }}", b"-4"));
-    assert!(rt; gives(alloc, b"{{ -7 % 3 }}", b"2"));
-    assert!(rt; gives(alloc, b"{{ 7 / 2 }}", b"3.5"));
-    assert!(rt; gives(alloc, b"{{ 10 / 3 }}", b"3.333333"));
-    assert!(rt; gives(alloc, b"{{ 6 / 2 }}", b"3.0"));
-    assert!(rt; faults(alloc, b"{{ 1000000000000 + 1 }}"));
-    assert!(rt; faults(alloc, b"{{ 1 // 0 }}"));
-    assert!(rt; faults(alloc, b"{{ 7 / 0 }}"));
-    Ok(())
+/// Whether each text is a template whose meaning is a fault.
+fn fault(alloc: Global, texts: &[&str]) -> bool {
+    for text in texts {
+        if !matches!(rendered(alloc, text), Some(Err(TplFault::Fault))) {
+            return false;
+        }
+    }
+    true
 }
 
 #[test]
-fn filters_are_rendered(rt: HostRuntime) -> Result<(), Fail> {
-    let alloc = rt.alloc();
-    assert!(rt; gives(alloc, b"{{ 2.5|round }}", b"2"));
-    assert!(rt; gives(alloc, b"{{ -7|abs }}", b"7"));
-    assert!(rt; faults(alloc, b"{{ states('sensor.no')|int }}"));
-    assert!(rt; gives(alloc, b"{{ states('sensor.no')|int(0) }}", b"0"));
-    Ok(())
-}
-
-#[test]
-fn what_does_not_decide_is_not_computed(rt: HostRuntime) -> Result<(), Fail> {
-    let alloc = rt.alloc();
-    assert!(rt; gives(alloc, b"{{ true or 1 // 0 }}", b"True"));
-    assert!(rt; gives(alloc, b"{{ 0 and 1 // 0 }}", b"0"));
-    assert!(rt; gives(alloc, b"{{ 1 if true else 1 // 0 }}", b"1"));
-    assert!(rt; faults(alloc, b"{{ true and 1 // 0 }}"));
-    Ok(())
-}
-
-#[test]
-fn tags_are_rendered(rt: HostRuntime) -> Result<(), Fail> {
+fn arithmetic_is_rendered(rt: HostRuntime) {
     let alloc = rt.alloc();
     assert!(rt;
-        gives(
+        give(
             alloc,
-            b"{% if true %}{% set a = 1 %}{% endif %}{{ a }}",
-            b"1"
+            &[
+                ("{{ -7 // 2 }}", "-4"),
+                ("{{ 7 // -2 }}", "-4"),
+                ("{{ -7 % 3 }}", "2"),
+                ("{{ 7 / 2 }}", "3.5"),
+                ("{{ 10 / 3 }}", "3.333333"),
+                ("{{ 6 / 2 }}", "3.0"),
+            ]
         )
     );
-    assert!(rt; gives(alloc, b"a {{- 'b' -}} c {# d #}", b"abc"));
-    assert!(rt; gives(alloc, b"{{ [1, 2, 3][-1] ~ 'x' }}", b"3x"));
-    Ok(())
+    assert!(rt;
+        fault(
+            alloc,
+            &["{{ 1000000000000 + 1 }}", "{{ 1 // 0 }}", "{{ 7 / 0 }}",]
+        )
+    );
+}
+
+#[test]
+fn filters_are_rendered(rt: HostRuntime) {
+    let alloc = rt.alloc();
+    assert!(rt;
+        give(
+            alloc,
+            &[
+                ("{{ 2.5|round }}", "2"),
+                ("{{ -7|abs }}", "7"),
+                ("{{ states('sensor.no')|int(0) }}", "0"),
+            ]
+        )
+    );
+    assert!(rt; fault(alloc, &["{{ states('sensor.no')|int }}"]));
+}
+
+#[test]
+fn what_does_not_decide_is_not_computed(rt: HostRuntime) {
+    let alloc = rt.alloc();
+    assert!(rt;
+        give(
+            alloc,
+            &[
+                ("{{ true or 1 // 0 }}", "True"),
+                ("{{ 0 and 1 // 0 }}", "0"),
+                ("{{ 1 if true else 1 // 0 }}", "1"),
+            ]
+        )
+    );
+    assert!(rt; fault(alloc, &["{{ true and 1 // 0 }}"]));
+}
+
+#[test]
+fn tags_are_rendered(rt: HostRuntime) {
+    assert!(rt;
+        give(
+            rt.alloc(),
+            &[
+                ("{% if true %}{% set a = 1 %}{% endif %}{{ a }}", "1"),
+                ("a {{- 'b' -}} c {# d #}", "abc"),
+                ("{{ [1, 2, 3][-1] ~ 'x' }}", "3x"),
+            ]
+        )
+    );
 }
