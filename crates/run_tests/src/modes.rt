@@ -1,5 +1,5 @@
 //! Runs of one automation, as its mode admits, begins and ends them.
-ghost use Rattle.std.specs.Prelude.{◌≡◌, ◌&&◌, true, Some, None, is_none, is_some, nat_eq};
+ghost use Rattle.std.specs.Prelude.{◌≡◌, ◌&&◌, ◌<◌, ◌-◌, ◌^◌, true, Some, None, is_none, is_some, nat_eq, nat_lt};
 ghost use Rattle.std.specs.Option.{option_copied};
 ghost use Rattle.ha_model.specs.declared.journal.Record.{Record as Run};
 ghost use Rattle.ha_model.specs.Lawful.{record_of};
@@ -63,6 +63,43 @@ fn is_running(run: &Record, serial: u64) -> bool
     ensures { result ≡ (nat_eq run.now.serial serial && is_some run.now.begin && is_none run.now.end) }
 {
     run.serial == serial && run.begin.is_some() && run.end.is_none()
+}
+
+/// Whether the run with this serial is there, and has made no call or one.
+fn may_call(records: &[Record], serial: u64) -> bool
+    ensures { result ≡ true → (r : Run) × (record_of records.now serial ≡ Some r) × (r.serial ≡ serial) × (r.calls < 2 ^ 64 - 1) }
+{
+    match record_at(records, serial) {
+        Some(found) => has_room(found, serial),
+        None => false,
+    }
+}
+
+/// Whether the run has this serial, and has made no call or one.
+fn has_room(run: &Record, serial: u64) -> bool
+    ensures { result ≡ (nat_eq run.now.serial serial && nat_lt run.now.calls 2) }
+{
+    run.serial == serial && run.calls < 2
+}
+
+/// The run with this serial makes a call, if it may.
+fn call(runs: &mut Runs, serial: u64) {
+    if may_call(runs.list(), serial) {
+        runs.called(serial);
+    }
+}
+
+/// Whether the records have made these calls.
+fn made(records: &[Record], calls: &[u64]) -> bool {
+    if records.len() != calls.len() {
+        return false;
+    }
+    for at in 0..calls.len() {
+        if records[at].calls != calls[at] {
+            return false;
+        }
+    }
+    true
 }
 
 /// The run with this serial is done at a place. Whether it may end, and this one begins there.
@@ -218,5 +255,23 @@ fn a_run_that_is_done_is_not_replaced(rt: HostRuntime) -> Result<(), Fail> {
     let told = attempt(rt.alloc(), &mut runs, Mode::Restart, 1, 7)?;
     assert!(rt; told == Admission::Begun(2));
     assert!(rt; went(&runs, 1, 1, Some(1), Some((7, EndCause::Done))));
+    Ok(())
+}
+
+#[test]
+fn a_call_counts_for_its_run(rt: HostRuntime) -> Result<(), Fail> {
+    let mut runs = Runs::make(rt.alloc());
+    assert!(rt; runs.reserve(2).is_ok());
+    for place in [1, 2] {
+        let _ = attempt(rt.alloc(), &mut runs, Mode::Parallel, 2, place)?;
+    }
+    for serial in [2, 1, 2, 3] {
+        call(&mut runs, serial);
+    }
+    assert!(rt;
+        runs.live(0, 1) == Some(2) && runs.live(0, 2).is_none() && runs.live(1, 0).is_none()
+    );
+    assert!(rt; made(runs.list(), &[1, 2]));
+    assert!(rt; made(runs.into_list().as_slice(), &[1, 2]));
     Ok(())
 }

@@ -1,5 +1,5 @@
 //! Switches, and the texts that store them.
-ghost use Rattle.std.specs.Prelude.{◌≡◌, true, IfOk};
+ghost use Rattle.std.specs.Prelude.{◌≡◌, true, IfOk, length};
 ghost use Rattle.ha_value.specs.Ids.{is_name};
 ghost use Rattle.ha_model.specs.Sound.{IsSoundConfig, is_sound_automation};
 
@@ -27,7 +27,8 @@ fn automation(alloc: Global, name: &str, initial: Option<bool>) -> Result<Automa
 
 /// Automations `porch` and `attic`, of which the second may have an initial state.
 fn house(alloc: Global, initial: Option<bool>) -> Result<Config, AllocError>
-    ensures { IfOk result (λ c. IsSoundConfig c) }
+    ensures sound { IfOk result (λ c. IsSoundConfig c) }
+    ensures two { IfOk result (λ c. length c.automations ≡ 2) }
 {
     let porch = automation(alloc, "porch", None)?;
     let attic = automation(alloc, "attic", initial)?;
@@ -198,5 +199,29 @@ fn an_initial_state_stands_over_the_store(rt: HostRuntime) -> Result<(), Fail> {
     let stored = "{\"switches\":{\"attic\":true},\"version\":1}";
     let again = "{\"switches\":{\"attic\":false,\"porch\":true},\"version\":1}";
     assert!(rt; is_stored_as(rt.alloc(), stored, Some(false), again)?);
+    Ok(())
+}
+
+/// Whether the porch and the attic are so, and there is no third switch.
+fn are(switches: &Switches, porch: bool, attic: bool) -> bool {
+    switches.is_on(0) == Some(porch)
+        && switches.is_on(1) == Some(attic)
+        && switches.is_on(2).is_none()
+}
+
+/// Whether the switches go as wanted: set, set as they are, and at a restart, where the attic has an initial state.
+fn go(alloc: Global) -> Result<bool, AllocError> {
+    let house = house(alloc, Some(false))?;
+    let mut switches = Switches::restore(alloc, &house, None)?;
+    let booted = are(&switches, true, false);
+    let changed = switches.set(0, false) && switches.set(1, true) && !switches.set(1, true);
+    let set = are(&switches, false, true);
+    switches.restart(&house);
+    Ok(booted && changed && set && are(&switches, false, false))
+}
+
+#[test]
+fn a_restart_sets_the_initial_states_alone(rt: HostRuntime) -> Result<(), Fail> {
+    assert!(rt; go(rt.alloc())?);
     Ok(())
 }

@@ -1,6 +1,6 @@
 //! Triggers with `for`.
 use crate::home::Step::{Clock, Gone, Has, Restart, Says};
-use crate::home::{Expected, goes_at_eight, row};
+use crate::home::{Expected, goes_at_eight, goes_until_detached, row};
 use crate::triggers::{held, over_twenty, state, text};
 use ha_model::Match;
 use std::alloc::{AllocError, Global};
@@ -142,5 +142,31 @@ fn number_holds(alloc: Global) -> Result<bool, AllocError> {
 #[test]
 fn a_number_that_stays_in_its_bounds_holds(rt: HostRuntime) -> Result<(), Fail> {
     assert!(rt; number_holds(rt.alloc())?);
+    Ok(())
+}
+
+/// Whether a hold fires no more once its trigger is detached, alone or with all.
+fn ends_detached(alloc: Global, all: bool) -> Result<bool, AllocError> {
+    let rule = state(alloc, &[DOOR], None, text(alloc, "on")?)?;
+    let triggers = held(alloc, rule)?;
+    let rows = [
+        row(Says(DOOR, "on"), &[]),
+        row(Clock(5_000), &[0]),
+        row(Says(DOOR, "off"), &[]),
+        row(Says(DOOR, "on"), &[]),
+    ];
+    let later = [
+        row(Clock(10_000), &[]),
+        row(Says(DOOR, "off"), &[]),
+        row(Says(DOOR, "on"), &[]),
+        row(Clock(15_000), &[]),
+    ];
+    goes_until_detached(alloc, &triggers, &rows, all, &later)
+}
+
+#[test]
+fn what_is_detached_fires_no_more(rt: HostRuntime) -> Result<(), Fail> {
+    assert!(rt; ends_detached(rt.alloc(), false)?);
+    assert!(rt; ends_detached(rt.alloc(), true)?);
     Ok(())
 }

@@ -284,12 +284,22 @@ impl Home {
     }
 
     /// Whether these triggers fire at the next entry, in this order.
-    pub fn fires(&mut self, alloc: Global, row: &Expected<'_>) -> Result<bool, AllocError> {
+    fn fires(&mut self, alloc: Global, row: &Expected<'_>) -> Result<bool, AllocError> {
         let before = self.before(alloc, row.step)?;
         self.go_on(alloc, row.step)?;
         let entries = line(alloc, row.step, self.now)?;
         let fired = self.note(alloc, &entries, &before)?;
         Ok(are(fired.as_slice(), row.fire))
+    }
+
+    /// Whether exactly the wanted triggers fire at each of these entries.
+    fn goes_on(&mut self, alloc: Global, rows: &[Expected<'_>]) -> Result<bool, AllocError> {
+        for row in rows {
+            if !self.fires(alloc, row)? {
+                return Ok(false);
+            }
+        }
+        Ok(true)
     }
 }
 
@@ -331,12 +341,31 @@ pub fn goes(
     if !home.starts(alloc, &entries, at_boot)? {
         return Ok(false);
     }
-    for row in rows {
-        if !home.fires(alloc, row)? {
-            return Ok(false);
-        }
+    home.goes_on(alloc, rows)
+}
+
+/// Whether exactly the wanted triggers fire at each of these entries, from eight in the evening on, and none at the later ones, before which
+/// they are detached: alone, or where `all` with all that are attached.
+pub fn goes_until_detached(
+    alloc: Global,
+    triggers: &Many<Trigger>,
+    rows: &[Expected<'_>],
+    all: bool,
+    later: &[Expected<'_>],
+) -> Result<bool, AllocError>
+    requires { IsTrue (are_sound_triggers triggers.now) }
+{
+    let mut home = home_with(alloc, "UTC", EIGHT, triggers)?;
+    let entries = boot(alloc, "UTC", EIGHT)?;
+    if !home.starts(alloc, &entries, &[])? || !home.goes_on(alloc, rows)? {
+        return Ok(false);
     }
-    Ok(true)
+    if all {
+        home.set.clear();
+    } else {
+        home.set.detach(0);
+    }
+    home.goes_on(alloc, later)
 }
 
 /// The same, from eight in the evening on, in UTC, where none fires at the boot.

@@ -8,6 +8,8 @@ mod home;
 #[cfg(test)]
 mod rules;
 #[cfg(test)]
+mod templates;
+#[cfg(test)]
 mod times;
 #[cfg(test)]
 mod triggers;
