@@ -55,15 +55,17 @@ module _ (k : Journal) (t : TrigSet) (w : WaitTable) (e : EntityId) (text : Text
 
     -- LAW: so it is the next entry of the waits
     pub left-waits : (seen : Sight) (fired : List Firing) → seen ≡ sight k (length k) → fired ≡ [] → waits.IsNext h.untold.j (length k - 1) report seen fired w.asks
-    left-waits seen fired sees empty = record {
-      at = last-at k t w ((e, h.old) ∷ []) h.untold;
-      some = h.untold.some;
-      sees =
-          sees ∙ ap (λ (i : Journal). sight i (length i)) left-is
-          ∙ ap (sight (more h.untold.j report)) (let one = last-at k t w ((e, h.old) ∷ []) h.untold in let more' = length-more h.untold.j report in omega (arith, one, more'));
-      fires =
-          subst (λ (l : List Firing). waits.AreFired (more h.untold.j report) (length k - 1) l w.asks)
-          (ap (λ (y : Entry). firings (more h.untold.j y) (length k - 1) (triggers.attached t)) h.x_is ∙ none ∙ sym empty)
-          (subst (λ (y : Entry). waits.AreFired (more h.untold.j y) (length k - 1) (firings (more h.untold.j h.untold.x) (length k - 1) (triggers.attached t)) w.asks) h.x_is
-          (untold-told k t w ((e, h.old) ∷ []) h.untold));
-    }
+    left-waits seen fired sees empty =
+        let one = last-at k t w ((e, h.old) ∷ []) h.untold in
+        let longer = length-more h.untold.j report in
+        let long : length (more h.untold.j report) ≡ suc (length k - 1) = omega (arith, one, longer) in
+        record {
+          at = one;
+          some = h.untold.some;
+          sees = sees ∙ ap (λ (i : Journal). sight i (length i)) left-is ∙ ap (sight (more h.untold.j report)) long;
+          fires =
+              subst (λ (l : List Firing). waits.AreFired (more h.untold.j report) (length k - 1) l w.asks)
+              (ap (λ (y : Entry). firings (more h.untold.j y) (length k - 1) (triggers.attached t)) h.x_is ∙ none ∙ sym empty)
+              (subst (λ (y : Entry). waits.AreFired (more h.untold.j y) (length k - 1) (firings (more h.untold.j h.untold.x) (length k - 1) (triggers.attached t)) w.asks) h.x_is
+              (untold-told k t w ((e, h.old) ∷ []) h.untold));
+        }

@@ -15,3 +15,13 @@ pub returns-clause-going : goal.returns-clause-going
 returns-clause-going c rs before =
     c.in_ok-wake_line.ensures.going rs c.args.parts.now.waits c.in_ok-note_left.ensures.noted
     (subst (λ (p : Parts). RunsBefore c.args.journal.now rs c.args.parts.now.waits p.delays p.frames.items p.ready.pairs.items) (sym c.in_ok-note_left.ensures.rest) before)
+
+pub returns-in_err-note_left-clause-fired : goal.returns-in_err-note_left-clause-fired
+returns-in_err-note_left-clause-fired c =
+    let k = c.args.journal.now in
+    ap attempts_by (sym c.note_left.ensures.fired) ∙ attempts-fired k (length k - 1) (attached c.args.parts.now.triggers) c.requires.untold.untold.owned.automations_attached
+
+pub returns-in_err-wake_line-clause-fired : goal.returns-in_err-wake_line-clause-fired
+returns-in_err-wake_line-clause-fired c =
+    let k = c.args.journal.now in
+    ap attempts_by (sym c.note_left.ensures.fired) ∙ attempts-fired k (length k - 1) (attached c.args.parts.now.triggers) c.requires.untold.untold.owned.automations_attached

@@ -26,8 +26,8 @@ returns-clause-told c =
     let next = left-next k t w e text attributes h c.args.states.now c.args.zone.now c.args.at c.requires.looks in
     let none = left-quiet k t w e text attributes h c.args.states.now c.args.zone.now c.args.at c.requires.looks c.note_left.ensures.fired in
     let sees = c.make-view.ensures k (view-of k c.args.states.now c.configuration.result.now c.args.zone.now c.args.at c.requires.looks c.requires.sound c.configuration.ensures) in
-    told-by k t w ((e, h.old) ∷ []) h.untold c.note_left.new.triggers c.note_waits.new.waits c.note_left.ensures.kept
-    (subst (λ (y : Entry). triggers.StandsFor c.note_left.new.triggers (more j y)) (sym h.x_is)
+    told-by k t w ((e, h.old) ∷ []) h.untold c.note_left.new.self c.note_waits.new.waits c.note_left.ensures.kept
+    (subst (λ (y : Entry). triggers.StandsFor c.note_left.new.self (more j y)) (sym h.x_is)
     (c.in_ok-note_left.ensures.stands j h.source h.number (length k - 1) h.old (sight k (length k)) h.untold.triggers_stand next (left-now k t w e text attributes h c.args.states.now c.args.zone.now c.args.at c.requires.looks)))
     (subst (λ (y : Entry). waits.StandsFor c.note_waits.new.waits.asks (more j y)) (sym h.x_is)
     (c.in_ok-note_waits.ensures.stands j (report k t w e text attributes h) h.untold.waits_stand (left-waits k t w e text attributes h none (seen c.make-view.result) c.make-fired.result sees c.make-fired.ensures)))
