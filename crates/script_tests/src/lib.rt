@@ -1,0 +1,18 @@
+//! Tests of scripts and of conditions: what the steps of a run give, one after the other, how waits end, and what conditions are on what a place
+//! sees. What is wanted stands in the rules' own words, and was worked out by hand.
+#![tactic(auto)]
+
+#[cfg(test)]
+mod blocks;
+#[cfg(test)]
+mod conditions;
+#[cfg(test)]
+mod faults;
+#[cfg(test)]
+mod home;
+#[cfg(test)]
+mod play;
+#[cfg(test)]
+mod repeats;
+#[cfg(test)]
+mod waits;

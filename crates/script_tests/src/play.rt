@@ -1,0 +1,465 @@
+//! A run of a test takes its steps.
+ghost use Rattle.std.specs.Prelude.{◌≡◌, true};
+ghost use Rattle.ha_model.specs.Entries as lem;
+ghost use Rattle.ha_model.specs.Sound.{IsSoundConfig, is_sound_automation};
+
+use crate::home::{Home, home_of, tell, utc, view_of};
+use cond_eval::View;
+use ha_model::{
+    Automation, Branch, Config, Ended, Env, Firing, Item, Many, Moment, Num, Plain, Progress,
+    StepOut, Value, WaitAsk, WaitEnd, Word,
+};
+use ha_texts::call_line;
+use script_step::Frames;
+use std::alloc::{AllocError, Global};
+use wait_set::Waits;
+
+/// A run at work, and the one wait that it asked for last.
+#[derive(Drop)]
+pub struct Run {
+    pub frames: Frames,
+    pub waits: Waits,
+    pub branch: Branch,
+    /// The place of the next entry.
+    pub place: u64,
+    /// The place of the step that began the wait.
+    pub owner: u64,
+    pub progress: Progress,
+}
+
+/// How the wait ended, if it did: every branch that waits is told so.
+#[derive(Drop)]
+pub struct Ends {
+    pub end: Option<WaitEnd>,
+}
+
+impl Ended for Ends {
+    ghost ends = { λ e serial branch. e.end };
+
+    fn ended(&self, serial: u64, branch: &Branch) -> Option<&WaitEnd> {
+        match &self.end {
+            Some(end) => Some(end),
+            None => None,
+        }
+    }
+}
+
+/// A list of one.
+fn one<T: Drop>(alloc: Global, item: T) -> Result<Many<T>, AllocError> {
+    let mut all = Many::make(alloc);
+    all.push(item)?;
+    Ok(all)
+}
+
+/// A map of one pair.
+fn map(alloc: Global, key: &str, value: Value) -> Result<Value, AllocError> {
+    let pairs = one(alloc, (Word::from_str(alloc, key)?, value))?;
+    Ok(Value::Pairs(pairs))
+}
+
+/// The variables of a run that an event with n 5 began.
+fn event_env(alloc: Global) -> Result<Env, AllocError> {
+    let data = map(alloc, "n", Value::Number(Num::Whole(5)))?;
+    let event = map(alloc, "data", data)?;
+    let trigger = map(alloc, "event", event)?;
+    one(alloc, (Word::from_str(alloc, "trigger")?, trigger))
+}
+
+/// The script of an automation at its begin.
+fn start(alloc: Global, rule: &Automation) -> Result<Frames, AllocError>
+    requires { is_sound_automation rule.now ≡ true }
+{
+    let env = event_env(alloc)?;
+    Frames::start(alloc, 1, &rule.actions, &env)
+}
+
+/// The script of the first automation at its begin, where there is one.
+fn begin(alloc: Global, config: &Config) -> Result<Option<Frames>, AllocError>
+    requires { IsSoundConfig config.now }
+{
+    match config.automations.get(0) {
+        Some(rule) => Ok(Some(start(alloc, rule)?)),
+        None => Ok(None),
+    }
+}
+
+/// A run at its begin, at the second entry.
+fn run_of(alloc: Global, frames: Frames) -> Run {
+    Run {
+        frames,
+        waits: Waits::make(alloc),
+        branch: Many::make(alloc),
+        place: 1,
+        owner: 0,
+        progress: Progress::Going,
+    }
+}
+
+/// How the run's wait has ended, if it has.
+fn told(alloc: Global, run: &Run) -> Result<Ends, AllocError> {
+    match run.waits.ended(1, &run.branch) {
+        Some(end) => Ok(Ends {
+            end: Some(end.copy(alloc)?),
+        }),
+        None => Ok(Ends { end: None }),
+    }
+}
+
+/// The next entry was seen: the wait is told of it.
+fn note(
+    alloc: Global,
+    run: &mut Run,
+    fired: &Many<Firing>,
+    view: &View<'_>,
+) -> Result<(), AllocError> {
+    run.waits.note(alloc, run.place, fired, view)?;
+    run.place = run.place.saturating_add(1);
+    Ok(())
+}
+
+/// The wait that a step asked for, if it did, takes the place of the one before.
+fn ask(
+    alloc: Global,
+    run: &mut Run,
+    branch: Branch,
+    wait: Option<WaitAsk>,
+) -> Result<(), AllocError> {
+    let Some(wait) = wait else {
+        return Ok(());
+    };
+    let mut waits = Waits::make(alloc);
+    waits.add(wait, run.place, run.place)?;
+    run.waits = waits;
+    run.branch = branch;
+    run.owner = run.place;
+    Ok(())
+}
+
+/// The call line of an item, from a short form: a service, perhaps with its data behind it; or what stands behind the number of the call.
+fn push_call(text: &mut String, said: &str) -> Result<(), AllocError> {
+    text.push_str("{\"run\":\"a\",\"number\":1,\"call\":1,")?;
+    if said.starts_with('"') {
+        text.push_str(said)?;
+        return text.push_str("}\n");
+    }
+    text.push_str("\"service\":\"")?;
+    match said.split_once(' ') {
+        Some((service, data)) => push_with(text, service, data),
+        None => push_with(text, said, "{}"),
+    }
+}
+
+/// A service without a target, with this data.
+fn push_with(text: &mut String, service: &str, data: &str) -> Result<(), AllocError> {
+    text.push_str(service)?;
+    text.push_str("\",\"target\":[],\"data\":")?;
+    text.push_str(data)?;
+    text.push_str("}\n")
+}
+
+/// Whether a call is the one that is said.
+fn is_call(alloc: Global, item: &Item, said: &str) -> Result<bool, AllocError>
+    requires { lem.is_call item.now ≡ true }
+{
+    let mut wanted = String::new(alloc);
+    push_call(&mut wanted, said)?;
+    let name = Word::from_str(alloc, "a")?;
+    let line = call_line(alloc, &name, 1, 1, item)?;
+    Ok(line.as_str() == wanted.as_str())
+}
+
+/// The code of a failure, 0 where none is said.
+fn code(said: &str) -> u8 {
+    match said.as_bytes() {
+        [b'F', digit] => digit.wrapping_sub(b'0'),
+        _ => 0,
+    }
+}
+
+/// What is said where one switch is set to this value, and its runs are stopped or not.
+fn switch_said(on: bool, stop: bool) -> &'static str {
+    if on {
+        return "switches on";
+    }
+    if stop {
+        "switches off and stops"
+    } else {
+        "switches off"
+    }
+}
+
+/// Whether the switches are none, or the one of the first automation, as it is said.
+fn are_switches(switches: &[(u32, bool, bool)], said: &str) -> bool {
+    match switches.first() {
+        Some((automation, on, stop)) => {
+            switches.len() == 1 && *automation == 0 && said == switch_said(*on, *stop)
+        }
+        None => said == "switches none",
+    }
+}
+
+/// Whether the item is the one that is said: `nothing`, a code such as `F1`, switches, `asks` or `tests and asks` for one automation, `fires`
+/// and a type of events, or a call.
+fn is_item(alloc: Global, item: &Item, said: &str) -> Result<bool, AllocError> {
+    match item {
+        Item::Nothing => Ok(said == "nothing"),
+        Item::Failed(number) => Ok(*number == code(said)),
+        Item::Switched(switches) => Ok(are_switches(switches.as_slice(), said)),
+        Item::Triggered { automations, skip } => {
+            let wanted = if *skip { "asks" } else { "tests and asks" };
+            Ok(automations.len() == 1 && said == wanted)
+        }
+        Item::Fired { kind, .. } => Ok(said.strip_prefix("fires ") == Some(kind.as_str())),
+        Item::Call { .. } => is_call(alloc, item, said),
+    }
+}
+
+/// Appends the numbers of a branch, each of one digit, with commas between.
+fn push_branch(text: &mut String, branch: &[u32]) -> Result<(), AllocError> {
+    text.push('[')?;
+    for i in 0..branch.len() {
+        if 0 < i {
+            text.push(',')?;
+        }
+        text.push_str(digit(branch[i]))?;
+    }
+    text.push(']')
+}
+
+fn digit(number: u32) -> &'static str {
+    match number {
+        0 => "0",
+        1 => "1",
+        2 => "2",
+        _ => "more",
+    }
+}
+
+/// Whether the branch is the one that is said.
+fn is_branch(alloc: Global, branch: &[u32], said: &str) -> Result<bool, AllocError> {
+    let mut text = String::new(alloc);
+    push_branch(&mut text, branch)?;
+    Ok(text.as_str() == said)
+}
+
+/// Whether a step in this branch with this item is the one that is said.
+fn is_said(alloc: Global, branch: &Branch, item: &Item, said: &str) -> Result<bool, AllocError> {
+    match said.split_once(' ') {
+        Some((of, what)) => {
+            let good = is_item(alloc, item, what)?;
+            Ok(good && is_branch(alloc, branch.as_slice(), of)?)
+        }
+        None => Ok(false),
+    }
+}
+
+/// The same, of an item that is not needed any more.
+fn judged(alloc: Global, branch: &Branch, item: Item, said: &str) -> Result<bool, AllocError> {
+    is_said(alloc, branch, &item, said)
+}
+
+/// The first branch that may step.
+fn first(
+    alloc: Global,
+    frames: &Frames,
+    at: Moment,
+    ends: &Ends,
+) -> Result<Option<Branch>, AllocError> {
+    let ready = frames.list_ready(alloc, at, ends)?;
+    match ready.get(0) {
+        Some(branch) => Ok(Some(branch.copy(alloc)?)),
+        None => Ok(None),
+    }
+}
+
+/// Takes a step in this branch; whether it is the one that is said.
+fn take(
+    alloc: Global,
+    run: &mut Run,
+    view: &View<'_>,
+    branch: Branch,
+    ends: &Ends,
+    said: &str,
+) -> Result<bool, AllocError> {
+    if !run.frames.ready(&branch, view.at, ends) {
+        return Ok(false);
+    }
+    let end = ends.end.copy(alloc)?;
+    let StepOut {
+        item,
+        progress,
+        wait,
+    } = run.frames.step(alloc, &branch, end, view)?;
+    run.progress = progress;
+    let good = judged(alloc, &branch, item, said);
+    ask(alloc, run, branch, wait)?;
+    note(alloc, run, &Many::make(alloc), view)?;
+    good
+}
+
+/// Takes the first step that may be taken; whether there is one, and it is the one that is said.
+fn step(alloc: Global, home: &Home, run: &mut Run, said: &str) -> Result<bool, AllocError> {
+    let zone = utc(alloc)?;
+    let Some(view) = view_of(home, &zone) else {
+        return Ok(false);
+    };
+    let ends = told(alloc, run)?;
+    match first(alloc, &run.frames, view.at, &ends)? {
+        Some(branch) => take(alloc, run, &view, branch, &ends, said),
+        None => Ok(false),
+    }
+}
+
+/// Whether a step may be taken.
+fn may_step(alloc: Global, home: &Home, run: &Run) -> Result<bool, AllocError> {
+    let Some(at) = Moment::of_millis(home.millis) else {
+        return Ok(false);
+    };
+    let ends = told(alloc, run)?;
+    Ok(first(alloc, &run.frames, at, &ends)?.is_some())
+}
+
+/// A trigger of the wait fires, with these variables.
+fn firing(alloc: Global, owner: u64, trigger: &str) -> Result<Many<Firing>, AllocError> {
+    let value = map(
+        alloc,
+        "platform",
+        Value::Text(Word::from_str(alloc, trigger)?),
+    )?;
+    let env = one(alloc, (Word::from_str(alloc, "trigger")?, value))?;
+    one(
+        alloc,
+        Firing {
+            owner,
+            trigger: 0,
+            entity: None,
+            env,
+        },
+    )
+}
+
+/// An entry after which the home is as it is, at which this fires.
+fn seen(
+    alloc: Global,
+    home: &Home,
+    run: &mut Run,
+    fired: &Many<Firing>,
+) -> Result<bool, AllocError> {
+    let zone = utc(alloc)?;
+    match view_of(home, &zone) {
+        Some(view) => {
+            note(alloc, run, fired, &view)?;
+            Ok(true)
+        }
+        None => Ok(false),
+    }
+}
+
+/// A trigger of this kind fires for the wait at this entry: a moment line, or a report.
+fn fire(
+    alloc: Global,
+    home: &mut Home,
+    run: &mut Run,
+    trigger: &str,
+    line: &str,
+) -> Result<bool, AllocError> {
+    if !tell(alloc, home, line)? {
+        return Ok(false);
+    }
+    let fired = firing(alloc, run.owner, trigger)?;
+    seen(alloc, home, run, &fired)
+}
+
+/// What comes next: a step, from its branch; a line; or `fires P` and a line, at which a trigger of the kind P fires for the wait. Whether it
+/// can come.
+fn next(alloc: Global, home: &mut Home, run: &mut Run, said: &str) -> Result<bool, AllocError> {
+    if said.starts_with('[') {
+        return step(alloc, home, run, said);
+    }
+    if let Some(rest) = said.strip_prefix("fires ") {
+        return match rest.split_once(' ') {
+            Some((trigger, line)) => fire(alloc, home, run, trigger, line),
+            None => Ok(false),
+        };
+    }
+    if !tell(alloc, home, said)? {
+        return Ok(false);
+    }
+    seen(alloc, home, run, &Many::make(alloc))
+}
+
+/// Whether each of these comes after the other, and then no step may be taken.
+fn all_come(
+    alloc: Global,
+    home: &mut Home,
+    run: &mut Run,
+    said: &[&str],
+) -> Result<bool, AllocError> {
+    for said in said {
+        if !next(alloc, home, run, said)? {
+            return Ok(false);
+        }
+    }
+    Ok(!may_step(alloc, home, run)?)
+}
+
+/// Whether a script, in flow on one line, goes as it is said, and is then so far that no step may be taken.
+pub fn goes(
+    alloc: Global,
+    actions: &str,
+    said: &[&str],
+    progress: Progress,
+) -> Result<bool, AllocError> {
+    let Some(mut home) = home_of(alloc, "[]", actions)? else {
+        return Ok(false);
+    };
+    let Some(frames) = begin(alloc, &home.config)? else {
+        return Ok(false);
+    };
+    let mut run = run_of(alloc, frames);
+    let come = all_come(alloc, &mut home, &mut run, said)?;
+    Ok(come && run.progress == progress)
+}
+
+/// Takes so many steps, in each of which nothing is done; whether they can be taken.
+fn idle(alloc: Global, home: &Home, run: &mut Run, many: u32) -> Result<bool, AllocError> {
+    for _ in 0..many {
+        if !step(alloc, home, run, "[] nothing")? {
+            return Ok(false);
+        }
+    }
+    Ok(true)
+}
+
+/// Takes so many steps in which nothing is done, and then what is said; whether it can.
+fn idle_and_come(
+    alloc: Global,
+    home: &mut Home,
+    run: &mut Run,
+    many: u32,
+    said: &[&str],
+) -> Result<bool, AllocError> {
+    if !idle(alloc, home, run, many)? {
+        return Ok(false);
+    }
+    all_come(alloc, home, run, said)
+}
+
+/// Whether a script does nothing in so many steps, and then goes as it is said.
+pub fn idles(
+    alloc: Global,
+    actions: &str,
+    many: u32,
+    said: &[&str],
+    progress: Progress,
+) -> Result<bool, AllocError> {
+    let Some(mut home) = home_of(alloc, "[]", actions)? else {
+        return Ok(false);
+    };
+    let Some(frames) = begin(alloc, &home.config)? else {
+        return Ok(false);
+    };
+    let mut run = run_of(alloc, frames);
+    let come = idle_and_come(alloc, &mut home, &mut run, many, said)?;
+    Ok(come && run.progress == progress)
+}
