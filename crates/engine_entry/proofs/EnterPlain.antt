@@ -21,7 +21,8 @@ use Rattle.ha_model.specs.RecordSteps.{more}
 use Rattle.ha_model.proofs.LawfulLaws.{has-entry, right-more}
 use Rattle.ha_model.proofs.EqualLemmas.{same-sound}
 use Rattle.ha_model.proofs.SinceLaws.{on-left}
-use Rattle.ha_model.proofs.StateLemmas.{now-snoc}
+use Rattle.ha_model.specs.Words.{last_of}
+use Rattle.ha_model.proofs.StateLemmas.{last_of-snoc, now-snoc}
 use Rattle.ha_model.proofs.RecordLaws.{length-more}
 use Rattle.state_table.specs.Anew.{is_automation, sets_anew, turns}
 use Rattle.state_table.specs.Table.{at, StandsFor}
@@ -202,3 +203,7 @@ other-waits source number Cmd.Restart h = absurd h
 other-waits source number (Cmd.Refused code) h = refl
 other-waits source number Cmd.Lost h = refl
 other-waits source number Cmd.TooLong h = refl
+
+-- LAW: two journals that are the same have the same last entry
+pub last-same : (i j : Journal) (x y : Entry) → more i x ≡ more j y → x ≡ y
+last-same i j x y e = (let ends : Some x ≡ Some y = sym (last_of-snoc i x) ∙ ap last_of e ∙ last_of-snoc j y in cc)

@@ -1,9 +1,9 @@
-use Rattle.std.proofs.Common.{[], ◌∷◌, ap, refl}
+use Rattle.std.proofs.Common.{[], ◌∷◌, ap, refl, sym, ◌∙◌}
 use Rattle.ha_model.specs.declared.journal.Cmd.{Cmd}
 use Rattle.ha_model.specs.declared.journal.Entry.TheVariants.{Line}
 use Rattle.state_table.specs.Table.{at}
 use Rattle.engine_parts.proofs.SeeLemmas.{report-listed}
-use Rattle.engine_entry.proofs.EnterPlain.{entered-as, fair-as, no-automation, now-as}
+use Rattle.engine_entry.proofs.EnterPlain.{entered-as, fair-as, last-same, no-automation, now-as}
 use Rattle.engine_entry.proofs.enter.enter_left.Goals as goal
 
 pub returns-clause-entered : goal.returns-clause-entered
@@ -19,6 +19,6 @@ returns-clause-entered c k rs h is left =
     (report-listed p.states h.j h.source h.number e c.args.text.now c.args.attributes.now old.states_stand plain) in
     record {
       sees = entered.sees;
-      untold = record { source = h.source; number = h.number; old = at p.states e; untold = entered.untold; x_is = ap (Line h.source h.number) is; left = left };
+      untold = record { source = h.source; number = h.number; old = at p.states e; untold = entered.untold; x_is = last-same entered.untold.j h.j entered.untold.x (Line h.source h.number h.cmd) (sym entered.untold.journal_is ∙ h.journal_is) ∙ ap (Line h.source h.number) is; left = left };
       keys_early = entered.keys_early;
     }
