@@ -197,11 +197,19 @@ fn are_commands(alloc: Global, rows: &[(&str, &str)]) -> bool {
     true
 }
 
+/// The milliseconds of a moment.
+fn millis_of(cmd: &Cmd) -> Option<u64> {
+    match cmd {
+        Cmd::Moment(at) => Some(at.millis()),
+        _ => None,
+    }
+}
+
 /// Whether a line is the moment of so many milliseconds.
 fn is_moment(alloc: Global, line: &str, millis: u64) -> bool {
     match read_cmd(alloc, line.as_bytes()) {
-        Ok(Cmd::Moment(at)) => at.millis() == millis,
-        _ => false,
+        Ok(cmd) => millis_of(&cmd) == Some(millis),
+        Err(_) => false,
     }
 }
 
