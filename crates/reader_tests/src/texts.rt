@@ -34,6 +34,23 @@ fn take_all(cut: &mut LineCut, shown: &mut Vec<u8>) -> Result<(), AllocError> {
     Ok(())
 }
 
+/// Appends the last line behind a dash, where the stream ends within one and no whole line is left.
+fn push_last(cut: &mut LineCut, shown: &mut Vec<u8>) -> Result<(), AllocError> {
+    match cut.take() {
+        Ok(None) => match cut.finish() {
+            Ok(Some(line)) => {
+                shown.push(b'-')?;
+                shown.extend_from_slice(line.as_slice())?;
+                Ok(())
+            }
+            Ok(None) => Ok(()),
+            Err(fault) => Err(fault),
+        },
+        Ok(Some(_)) => Ok(shown.push(b'!')?),
+        Err(fault) => Err(fault),
+    }
+}
+
 /// The lines of a stream that comes in these pieces, each behind a bar, with a mark behind each piece; then the last line behind a dash, where
 /// the stream ends within one.
 fn in_pieces(alloc: Global, pieces: &[&[u8]], mark: &[u8]) -> Result<Vec<u8>, AllocError> {
@@ -44,10 +61,7 @@ fn in_pieces(alloc: Global, pieces: &[&[u8]], mark: &[u8]) -> Result<Vec<u8>, Al
         take_all(&mut cut, &mut shown)?;
         shown.extend_from_slice(mark)?;
     }
-    if let Some(line) = cut.finish()? {
-        shown.push(b'-')?;
-        shown.extend_from_slice(line.as_slice())?;
-    }
+    push_last(&mut cut, &mut shown)?;
     Ok(shown)
 }
 

@@ -4,16 +4,7 @@ use timer_queue::TimerQueue;
 
 // 2024-05-01T20:00:05Z and 20:00:09Z
 const FIVE: u64 = 1_714_593_605_000;
-
 const NINE: u64 = 1_714_593_609_000;
-
-/// Whether a timer is put in.
-fn puts(queue: &mut TimerQueue, millis: u64, key: u64) -> bool {
-    match Moment::of_millis(millis) {
-        Some(due) => queue.insert(due, key).is_ok(),
-        None => false,
-    }
-}
 
 /// Whether the timers that are due come in this order, and then none.
 fn come(queue: &mut TimerQueue, millis: u64, keys: &[u64]) -> bool {
@@ -30,13 +21,10 @@ fn come(queue: &mut TimerQueue, millis: u64, keys: &[u64]) -> bool {
 
 #[test]
 fn timers_come_by_due_then_key(rt: HostRuntime) {
+    let (five, nine) = (Moment::at(FIVE), Moment::at(NINE));
     let mut queue = TimerQueue::make(rt.alloc());
-    assert!(rt;
-        puts(&mut queue, FIVE, 2)
-            && puts(&mut queue, FIVE, 1)
-            && puts(&mut queue, NINE, 3)
-            && come(&mut queue, FIVE, &[1, 2])
-            && queue.remove(3)
-            && !queue.remove(3)
-    );
+    assert!(rt; queue.insert(five, 2).is_ok());
+    assert!(rt; queue.insert(five, 1).is_ok());
+    assert!(rt; queue.insert(nine, 3).is_ok());
+    assert!(rt; come(&mut queue, FIVE, &[1, 2]) && queue.remove(3) && !queue.remove(3));
 }

@@ -140,9 +140,10 @@ fn is_text(alloc: Global, word: Word, wanted: &str) -> bool {
     }
 }
 
-fn is_of_bytes(alloc: Global, bytes: &[u8], wanted: &str) -> bool {
-    match Word::from_bytes(alloc, bytes) {
-        Ok(word) => is_text(alloc, word, wanted),
+/// Whether the word of two bytes is their text.
+fn is_of_bytes(alloc: Global) -> bool {
+    match Word::from_bytes(alloc, b"ab") {
+        Ok(word) => is_text(alloc, word, "ab"),
         Err(_) => false,
     }
 }
@@ -155,7 +156,7 @@ fn words(rt: HostRuntime) -> Result<(), Fail> {
         Word::new(alloc).is_empty()
             && word.len() == 6
             && is_read_again(alloc, &word)
-            && is_of_bytes(alloc, b"ab", "ab")
+            && is_of_bytes(alloc)
             && matches!(Word::read(alloc, b"\xff"), Err(WordFault::NotUtf8))
     );
     Ok(())
