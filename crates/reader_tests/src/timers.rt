@@ -4,6 +4,7 @@ use timer_queue::TimerQueue;
 
 // 2024-05-01T20:00:05Z and 20:00:09Z
 const FIVE: u64 = 1_714_593_605_000;
+
 const NINE: u64 = 1_714_593_609_000;
 
 /// Whether the timers that are due come in this order, and then none.
