@@ -1,5 +1,5 @@
 //! How a text stands in memory: a short one in its own place, a longer one in a string of its own.
-ghost use Rattle.std.specs.Prelude.{◌≡◌, ◌≤◌, ◌+◌, ◌++◌, length, take, string_bytes, IsUtf8, IfOk, OnOk, OnErr};
+ghost use Rattle.std.specs.Prelude.{◌≡◌, ◌≤◌, ◌+◌, ◌++◌, [], length, take, string_bytes, IsUtf8, IfOk, OnOk, OnErr};
 ghost use Rattle.ha_value.specs.Held.{bytes_of, IsText};
 
 use std::alloc::{AllocError, Global};
@@ -52,6 +52,14 @@ pub fn far(alloc: Global, text: String) -> Result<Held, AllocError>
 {
     let held = Box::new(alloc, text)?;
     Ok(Held::Far(held))
+}
+
+/// The empty text in a string of its own, with room for so many bytes.
+pub fn roomy(alloc: Global, room: usize) -> Result<Held, AllocError>
+    ensures value { IfOk result (λ held. bytes_of held ≡ []) }
+    ensures text { IfOk result (λ held. IsText held) }
+{
+    far(alloc, String::with_capacity(alloc, room)?)
 }
 
 /// The text of bytes that are known to be UTF-8: they are not tested, since what the call requires is proved.
