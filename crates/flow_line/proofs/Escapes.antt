@@ -29,8 +29,3 @@ high_char c h =
     (either (nat_lt c 65536) ((224 + c / 4096) ∷ next (c / 64) ∷ next c ∷ []) ((240 + c / 262144) ∷ next (c / 4096) ∷ next (c / 64) ∷ next c ∷ [])
     (joined (224 + c / 4096) (next (c / 64) ∷ next c ∷ []) (omega arith) (joined (next (c / 64)) (next c ∷ []) (omega arith) (joined (next c) [] (omega arith) refl)))
     (joined (240 + c / 262144) (next (c / 4096) ∷ next (c / 64) ∷ next c ∷ []) (omega arith) (joined (next (c / 4096)) (next (c / 64) ∷ next c ∷ []) (omega arith) (joined (next (c / 64)) (next c ∷ []) (omega arith) (joined (next c) [] (omega arith) refl))))))
-
--- what cannot be true is false
-pub unless_true : (b : Bool) → (b ≡ true → ⊥) → b ≡ false
-unless_true true h = absurd (h refl)
-unless_true false h = refl

@@ -1,7 +1,6 @@
 //! The command of a line.
 
 ghost use Rattle.std.specs.Prelude.{◌≡◌, length, option_copied, IfOk};
-ghost use Rattle.std.specs.Str.{is_utf8};
 ghost use Rattle.ha_value.specs.Ids.{read_entity};
 ghost use Rattle.ha_model.specs.Commands.{put_as, IsFair};
 ghost use Rattle.ha_model.specs.Journal.{Journal};
@@ -16,7 +15,7 @@ use crate::refusal::Refusal;
 use ha_clock::read_moment;
 use ha_model::{Cmd, characters};
 use ha_value::{EntityFault, EntityId, Value, Word};
-use reading::Stop;
+use reading::{Stop, is_utf8};
 use std::alloc::{AllocError, Global};
 
 /// A line may have this many bytes.
@@ -201,15 +200,6 @@ fn command_of_pairs(alloc: Global, pairs: &mut Pairs) -> Result<Cmd, Refused>
         return Err(Stop::Fault(Refusal::Keys));
     }
     command_by(alloc, command, pairs)
-}
-
-fn is_utf8(text: &[u8]) -> bool
-    ensures { result ≡ is_utf8 text.now }
-{
-    match str::from_utf8(text) {
-        Ok(_) => true,
-        Err(_) => false,
-    }
 }
 
 /// The map that a line is.

@@ -20,6 +20,8 @@
 
 mod fault;
 mod reader;
+mod utf8;
 
 pub use fault::{Bad, Stop};
 pub use reader::Reader;
+pub use utf8::is_utf8;

@@ -7,14 +7,6 @@ use Rattle.yaml_scan.specs.declared.fault.Fault.{Fault}
 use Rattle.yaml_scan.specs.declared.fault.Code.TheVariants.{NotUtf8}
 use Rattle.yaml_scan.specs.Lines.{least, fault, one_fault, or_else, fault_from, tab_fault, mark_fault}
 
-unless_true : (b : Bool) → (b ≡ true → ⊥) → b ≡ false
-unless_true true h = absurd (h refl)
-unless_true false h = refl
-
-pub is_ok_utf8 : {A E : Type 0} (r : Result A E) (bs : List ℕ) (X : A → Type 0) (Y : E → Type 0) → MatchResult r (λ s. X s × IsUtf8 bs) (λ e. ¬ (IsUtf8 bs) × Y e) → is_ok r ≡ is_utf8 bs
-is_ok_utf8 (Ok x) bs X Y h = sym (is_utf8-from_IsUtf8 bs h.1)
-is_ok_utf8 (Err e) bs X Y h = sym (unless_true (is_utf8 bs) (λ t. h.0 (IsUtf8-from_is_utf8 bs t)))
-
 picked : (b : Bool) (f g : Fault) → cond b (Some f) (Some g) ≡ None → ⊥
 picked true f g e = cc
 picked false f g e = cc

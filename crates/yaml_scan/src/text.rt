@@ -9,6 +9,7 @@ use crate::fault::{Code, Fault, YamlFault};
 use crate::line::{RawLine, RawText, YamlLine};
 use crate::words::{nothing_left, sees};
 use ha_value::{Many, Word};
+use reading::is_utf8;
 use std::alloc::{AllocError, Global};
 
 /// How many spaces a line begins with.
@@ -117,12 +118,6 @@ fn tab_fault(line: &RawLine) -> Option<Fault>
     } else {
         None
     }
-}
-
-fn is_utf8(bytes: &[u8]) -> bool
-    ensures { result ≡ is_utf8 bytes.now }
-{
-    std::str::from_utf8(bytes).is_ok()
 }
 
 fn utf8_fault(line: &RawLine) -> Option<Fault>
@@ -234,13 +229,10 @@ fn seen(alloc: Global, line: &RawLine) -> Result<YamlLine, AllocError>
     requires { is_utf8 line.now.content ≡ true }
     ensures { IfOk result (λ l. l ≡ seen line.now) }
 {
-    let Ok(text) = std::str::from_utf8(line.content.bytes()) else {
-        unreachable!();
-    };
     Ok(YamlLine {
         line: line.line,
         indent: line.indent,
-        content: Word::from_str(alloc, text)?,
+        content: Word::from_bytes(alloc, line.content.bytes())?,
     })
 }
 
