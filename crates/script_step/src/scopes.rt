@@ -42,7 +42,9 @@ impl Scopes {
     }
 
     /// No block.
-    pub fn none(alloc: Global) -> Scopes {
+    pub fn none(alloc: Global) -> Scopes
+        ensures { result ≡ [] }
+    {
         Scopes {
             pairs: Many::make(alloc),
             sizes: Many::make(alloc),
