@@ -5,7 +5,7 @@ ghost use Rattle.ha_model.specs.Entries.{call_in, is_call};
 ghost use Rattle.ha_model.specs.Texts.{call_line as call_line_lem};
 ghost use Rattle.ha_model.specs.ValueText.{comma_joined, pair_text};
 
-use crate::parts::{push_ids, push_number};
+use crate::parts::{empty_line, push_ids, push_number};
 use flow_line::{push_pairs, push_quoted};
 use ha_model::Item;
 use ha_value::{EntityId, Value, Word};
@@ -41,7 +41,7 @@ fn line_of_call(
 ) -> Result<Word, AllocError>
     ensures { IfOk result (λ line. line ≡ call_line_lem name.now number call (record { service = service.now; target = target.now; fields = fields.now })) }
 {
-    let mut line = Word::new(alloc);
+    let mut line = empty_line(alloc)?;
     line.push_str("{\"run\":")?;
     push_quoted(&mut line, name.as_str())?;
     line.push_str(",\"number\":")?;

@@ -1,12 +1,22 @@
 //! The parts of a line, each appended to it.
-ghost use Rattle.std.specs.Prelude.{◌≡◌, ◌++◌, decimal, map, OnOk};
+ghost use Rattle.std.specs.Prelude.{◌≡◌, [], ◌++◌, decimal, map, IfOk, OnOk};
 ghost use Rattle.ha_model.specs.CommandText.{id_text};
 ghost use Rattle.ha_model.specs.ValueText.{list_text};
 
 use flow_line::{push_chars, push_comma};
 use ha_value::{EntityId, Word};
 use itoa::Buffer;
-use std::alloc::AllocError;
+use std::alloc::{AllocError, Global};
+
+/// The bytes that most lines have room in.
+const LINE_ROOM: usize = 256;
+
+/// An empty line, to which its parts are appended without a move as long as they have room.
+pub(crate) fn empty_line(alloc: Global) -> Result<Word, AllocError>
+    ensures { IfOk result (λ line. line ≡ []) }
+{
+    Word::with_room(alloc, LINE_ROOM)
+}
 
 /// Appends an entity id in double quotes.
 pub(crate) fn push_id(text: &mut Word, id: &EntityId) -> Result<(), AllocError>

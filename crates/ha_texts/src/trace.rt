@@ -10,7 +10,7 @@ ghost use Rattle.ha_texts.specs.Lines.{entry_text, AreDated, IsDated};
 use crate::command::push_cmd;
 use crate::item::push_item;
 use crate::names::{push_moment, push_numbers, push_switches};
-use crate::parts::push_number;
+use crate::parts::{empty_line, push_number};
 use flow_line::push_quoted;
 use ha_clock::Moment;
 use ha_model::{Automation, Cmd, Config, Entry, Item};
@@ -132,7 +132,7 @@ pub fn trace_line(alloc: Global, entry: &Entry, config: &Config) -> Result<Word,
     requires { AreDated entry.now }
     ensures { IfOk result (λ line. line ≡ trace_line_lem config.now.automations entry.now) }
 {
-    let mut line = Word::new(alloc);
+    let mut line = empty_line(alloc)?;
     push_entry(alloc, &mut line, entry, config.automations.as_slice())?;
     line.push_byte(b'\n')?;
     Ok(line)
