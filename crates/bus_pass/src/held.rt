@@ -77,7 +77,7 @@ impl<C: Core + Drop, K: Sink, Q: Keeper> Held<C, K, Q> {
     }
 
     /// As `Bus::line`.
-    pub fn line(&mut self, alloc: Global, source: u32, number: u64, cmd: Cmd)
+    pub fn line(&mut self, alloc: Global, source: u32, number: u64, cmd: Cmd, goes_on: bool)
         requires open { self.old.first ≡ None }
         requires known { source < 16 }
         requires rested { is_rested self.old.records source self.old.journal ≡ true }
@@ -86,16 +86,18 @@ impl<C: Core + Drop, K: Sink, Q: Keeper> Held<C, K, Q> {
         requires fair { IsFair self.old.journal (put_as self.old.journal cmd) }
         ensures { Puts (λ x. x ≡ Entry.Line source number (put_as self.old.journal cmd)) self.old self.new }
     {
-        self.bus.as_mut().line(alloc, source, number, cmd);
+        self.bus
+            .as_mut()
+            .line(alloc, source, number, cmd, goes_on);
     }
 
     /// As `Bus::step`.
-    pub fn step(&mut self, alloc: Global, worker: u32)
+    pub fn step(&mut self, alloc: Global, worker: u32, goes_on: bool)
         requires open { self.old.first ≡ None }
         requires busy { is_quiet self.old.records self.old.journal ≡ false }
         ensures { Puts (IsStep worker self.old) self.old self.new }
     {
-        self.bus.as_mut().step(alloc, worker);
+        self.bus.as_mut().step(alloc, worker, goes_on);
     }
 
     /// As `Bus::run_out`.

@@ -46,6 +46,17 @@ abbrev pub Writes : Text → SinkState → Option BusFault → SinkState → Typ
 Writes text before None after = Took text before after
 Writes text before (Some fault) after = TookFront text before after × SinkCause fault before after
 
+-- it took nothing: what it took before is handed on, or the outside failed
+pub record Stays (before after : SinkState) : Type 0 where
+  pub took : after.took ≡ before.took
+  pub faults_stay : before.faults ≤ after.faults
+  pub zeros_stay : before.zeros ≤ after.zeros
+  pub same_name : after.name ≡ before.name
+
+abbrev pub Hands : SinkState → Option BusFault → SinkState → Type 0
+Hands before None after = Stays before after
+Hands before (Some fault) after = Stays before after × SinkCause fault before after
+
 -- ---- the trace's sink, where there is one
 
 abbrev pub TookIn : Text → Option SinkState → Option SinkState → Type 0

@@ -90,6 +90,7 @@ impl<C: Core, K: Sink, Q: Keeper> Bus<C, K, Q> {
             &mut errors,
             &mut trace,
             &mut keep,
+            false,
         );
         Bus {
             core,
@@ -129,8 +130,8 @@ impl<C: Core, K: Sink, Q: Keeper> Bus<C, K, Q> {
         (core, calls, errors, trace, keep)
     }
 
-    /// Ends a bus on which no run is ready to step: writes the end line to the trace, where there is one, and gives the parts. A fault of that
-    /// write is told beside them.
+    /// Ends a bus on which no run is ready to step: writes the end line to the trace, where there is one, has its sink hand on what it keeps,
+    /// and gives the parts. A fault of that is told beside them.
     pub fn end(self, alloc: Global) -> Ended<C, K, Q>
         requires open { self.first ≡ None }
         requires quiet { is_quiet self.records self.journal ≡ true }
@@ -140,6 +141,7 @@ impl<C: Core, K: Sink, Q: Keeper> Bus<C, K, Q> {
             let q = keeper_of Q.kept Q.faults in
             Ends self.journal self.out result.first (outside_of s q result.calls result.errors result.trace result.keep) }
         ensures stands { let s = sink_of K.written K.faults K.zeros K.name in HasEnded self.journal result.first (option_map s result.trace) }
+        ensures handed { result.first ≡ None → IfSome result.trace (λ k. K.kept k ≡ 0) }
     {
         let Bus {
             core,
@@ -186,8 +188,9 @@ impl<C: Core, K: Sink, Q: Keeper> Bus<C, K, Q> {
     }
 
     /// Puts a line of a source and writes what it gives: its lines in order, call, error and trace, and then the store's text, where a
-    /// switch changed. The first fault is kept, and nothing further is written.
-    pub fn line(&mut self, alloc: Global, source: u32, number: u64, cmd: Cmd)
+    /// switch changed. The first fault is kept, and nothing further is written. Where it `goes_on`, the trace's sink may keep its line: the
+    /// caller then puts more before it waits for anything.
+    pub fn line(&mut self, alloc: Global, source: u32, number: u64, cmd: Cmd, goes_on: bool)
         requires open { self.old.first ≡ None }
         requires known { source < 16 }
         requires rested { is_rested self.old.records source self.old.journal ≡ true }
@@ -205,11 +208,12 @@ impl<C: Core, K: Sink, Q: Keeper> Bus<C, K, Q> {
             &mut self.errors,
             &mut self.trace,
             &mut self.keep,
+            goes_on,
         );
     }
 
     /// Puts one step of a worker and writes what it gives, as a line is put and written.
-    pub fn step(&mut self, alloc: Global, worker: u32)
+    pub fn step(&mut self, alloc: Global, worker: u32, goes_on: bool)
         requires open { self.old.first ≡ None }
         requires busy { is_quiet self.old.records self.old.journal ≡ false }
         ensures { Puts (IsStep worker self.old) self.old self.new }
@@ -223,6 +227,7 @@ impl<C: Core, K: Sink, Q: Keeper> Bus<C, K, Q> {
             &mut self.errors,
             &mut self.trace,
             &mut self.keep,
+            goes_on,
         );
     }
 

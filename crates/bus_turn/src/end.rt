@@ -1,11 +1,11 @@
 //! The end of a bus.
-ghost use Rattle.std.specs.Prelude.{◌≡◌, IfOk, option_map, string_bytes};
+ghost use Rattle.std.specs.Prelude.{◌≡◌, IfOk, IfSome, OnOk, option_map, string_bytes};
 ghost use Rattle.ha_model.specs.Texts.{end_line};
 ghost use Rattle.bus_turn.specs.States.{sink_of};
 ghost use Rattle.bus_turn.specs.Writes.{WritesIn, fault_of};
 
 use crate::fault::BusFault;
-use crate::write::write_text;
+use crate::write::write_kept;
 use ha_io::{Keeper, Sink};
 use ha_model::Core;
 use std::alloc::{AllocError, Global};
@@ -28,20 +28,21 @@ fn end_line(alloc: Global, entries: usize) -> Result<String, AllocError>
     format!(in alloc; "{{\"end\":{entries}}}\n")
 }
 
-/// Writes the end line to the trace, where there is one.
+/// Writes the end line to the trace, where there is one, and has its sink hand on what it keeps.
 pub(crate) fn write_end<K: Sink>(
     alloc: Global,
     entries: usize,
     trace: &mut Option<K>,
 ) -> Result<(), BusFault>
-    ensures { let s = sink_of K.written K.faults K.zeros K.name in
+    ensures writes { let s = sink_of K.written K.faults K.zeros K.name in
         WritesIn (end_line entries) (option_map s trace.old) (fault_of result) (option_map s trace.new) }
+    ensures handed { OnOk result (IfSome trace.new (λ k. K.kept k ≡ 0)) }
 {
     let Some(sink) = trace else {
         return Ok(());
     };
     match end_line(alloc, entries) {
-        Ok(line) => write_text(sink, line.as_bytes()),
+        Ok(line) => write_kept(sink, line.as_bytes(), false),
         Err(_) => Err(BusFault::Memory),
     }
 }

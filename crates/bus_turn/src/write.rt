@@ -1,25 +1,25 @@
 //! What is written of one entry.
-ghost use Rattle.std.specs.Prelude.{◌≡◌, IfOk, IfErr, OnOk, option_map, true, false, None, Some, if◌then◌else◌};
+ghost use Rattle.std.specs.Prelude.{◌≡◌, IfOk, IfErr, IfSome, OnOk, is_some, option_map, true, false, None, Some, if◌then◌else◌};
 ghost use Rattle.std.specs.Option.{option_copied};
 ghost use Rattle.ha_model.specs.declared.journal.Entry.{Entry};
-ghost use Rattle.ha_model.specs.Entries.{call_in};
+ghost use Rattle.ha_model.specs.Entries.{call_in, step_of};
 ghost use Rattle.ha_model.specs.Journal.{Journal};
 ghost use Rattle.ha_model.specs.RecordSteps.{more};
 ghost use Rattle.ha_model.specs.Sights.{changes_switch};
 ghost use Rattle.ha_model.specs.Lawful.{record_of as record_of_lem};
 ghost use Rattle.ha_model.specs.Switches.{name_of};
-ghost use Rattle.ha_model.specs.Texts.{call_line as call_line_lem, call_text_of, error_text_of, store_text, trace_line as trace_line_lem};
+ghost use Rattle.ha_model.specs.Texts.{call_line as call_line_lem, call_text_of, error_line, error_text_of, store_text, trace_line as trace_line_lem};
 ghost use Rattle.ha_model.specs.Words.{Text};
 ghost use Rattle.bus_turn.specs.States.{keeper_of, outside_of, sink_of};
 ghost use Rattle.bus_turn.specs.Shown.{texts_of};
 ghost use Rattle.ha_texts.specs.Lines.{AreDated};
 ghost use Rattle.bus_turn.specs.Dated.{IsLastDated};
 ghost use Rattle.bus_turn.specs.Lines.{called_line, text_in};
-ghost use Rattle.bus_turn.specs.Writes.{Saves, Shows, Writes, WritesIn, fault_of, refusal};
+ghost use Rattle.bus_turn.specs.Writes.{Hands, Saves, Shows, Writes, WritesIn, fault_of, refusal};
 
 use crate::fault::BusFault;
 use ha_io::{IoFault, Keeper, Sink, Unwritten, write_whole};
-use ha_model::{Automation, Config, Core, CoreFault, Entry, Item, Record, Word};
+use ha_model::{Automation, Cmd, Config, Core, CoreFault, Entry, Item, Record, Word};
 use ha_texts::{call_line, err_line, trace_line};
 use std::alloc::{AllocError, Global};
 
@@ -35,6 +35,36 @@ pub(crate) fn write_text<K: Sink>(sink: &mut K, text: &[u8]) -> Result<(), BusFa
     }
 }
 
+/// Has a sink hand on what it keeps.
+fn hand_on<K: Sink>(sink: &mut K) -> Result<(), BusFault>
+    ensures hands { let s = sink_of K.written K.faults K.zeros K.name in Hands (s sink.old) (fault_of result) (s sink.new) }
+    ensures handed { OnOk result (K.kept sink.new ≡ 0) }
+{
+    match sink.flush() {
+        Ok(()) => Ok(()),
+        Err(_) => Err(BusFault::Write { zero: false }),
+    }
+}
+
+/// Writes a text to its end. Unless more is at hand, the sink then hands on what it keeps.
+pub(crate) fn write_kept<K: Sink>(
+    sink: &mut K,
+    text: &[u8],
+    goes_on: bool,
+) -> Result<(), BusFault>
+    ensures writes { let s = sink_of K.written K.faults K.zeros K.name in Writes text.now (s sink.old) (fault_of result) (s sink.new) }
+    ensures handed { goes_on ≡ false → OnOk result (K.kept sink.new ≡ 0) }
+{
+    match write_text(sink, text) {
+        Ok(()) => {}
+        Err(fault) => return Err(fault),
+    }
+    if goes_on {
+        return Ok(());
+    }
+    hand_on(sink)
+}
+
 /// Writes a line, where there is one.
 fn write_line<K: Sink>(sink: &mut K, line: Result<Option<Word>, AllocError>) -> Result<(), BusFault>
     ensures { let s = sink_of K.written K.faults K.zeros K.name in
@@ -44,6 +74,23 @@ fn write_line<K: Sink>(sink: &mut K, line: Result<Option<Word>, AllocError>) -> 
     match line {
         Ok(Some(line)) => write_text(sink, line.bytes()),
         Ok(None) => Ok(()),
+        Err(_) => Err(BusFault::Memory),
+    }
+}
+
+/// Writes a line of the trace, as `write_kept` does.
+fn write_traced<K: Sink>(
+    sink: &mut K,
+    line: Result<Word, AllocError>,
+    goes_on: bool,
+) -> Result<(), BusFault>
+    ensures writes { let s = sink_of K.written K.faults K.zeros K.name in
+        (text : Text) → IfOk line (λ one. one ≡ text)
+        → Writes text (s sink.old) (fault_of result) (s sink.new) }
+    ensures handed { goes_on ≡ false → OnOk result (K.kept sink.new ≡ 0) }
+{
+    match line {
+        Ok(line) => write_kept(sink, line.bytes(), goes_on),
         Err(_) => Err(BusFault::Memory),
     }
 }
@@ -100,6 +147,13 @@ fn line_of_step(
     }
 }
 
+/// Whether an entry may have a call line.
+fn is_step(entry: &Entry) -> bool
+    ensures { result ≡ is_some (step_of entry.now) }
+{
+    matches!(entry, Entry::Step { .. })
+}
+
 /// Writes the call line of the last entry, if it has one.
 pub fn write_call<C: Core, K: Sink>(
     alloc: Global,
@@ -112,9 +166,23 @@ pub fn write_call<C: Core, K: Sink>(
         → C.entries core.now ≡ more before entry.now
         → Writes (call_text_of (C.runs core.now) before entry.now) (s sink.old) (fault_of result) (s sink.new) }
 {
+    if !is_step(entry) {
+        return Ok(());
+    }
     let automations = core.config().automations.as_slice();
     let line = line_of_step(alloc, automations, core.records(), entry);
     write_line(sink, line)
+}
+
+/// Whether an entry has an error line.
+fn is_error(entry: &Entry) -> bool
+    ensures { result ≡ is_some (error_line entry.now) }
+{
+    match entry {
+        Entry::Boot { .. } => false,
+        Entry::Line { cmd, .. } => matches!(cmd, Cmd::Refused(_) | Cmd::Lost | Cmd::TooLong),
+        Entry::Step { item, .. } => matches!(item, Item::Failed(_)),
+    }
 }
 
 /// Writes the error line of an entry, if it has one.
@@ -122,30 +190,28 @@ pub fn write_error<K: Sink>(alloc: Global, entry: &Entry, sink: &mut K) -> Resul
     ensures { let s = sink_of K.written K.faults K.zeros K.name in
         Writes (error_text_of entry.now) (s sink.old) (fault_of result) (s sink.new) }
 {
+    if !is_error(entry) {
+        return Ok(());
+    }
     write_line(sink, err_line(alloc, entry))
 }
 
-/// The line of an entry in the trace, which each has.
-fn line_of_trace(alloc: Global, entry: &Entry, config: &Config) -> Result<Option<Word>, AllocError>
-    requires { AreDated entry.now }
-    ensures { IfOk result (λ line. text_in line ≡ trace_line_lem config.now.automations entry.now) }
-{
-    Ok(Some(trace_line(alloc, entry, config)?))
-}
-
-/// Writes the line of an entry to the trace, where there is one.
+/// Writes the line of an entry to the trace, where there is one. Unless more entries are at hand, it then stands outside, with all lines
+/// before it.
 fn write_trace<K: Sink>(
     alloc: Global,
     entry: &Entry,
     config: &Config,
     trace: &mut Option<K>,
+    goes_on: bool,
 ) -> Result<(), BusFault>
     requires { AreDated entry.now }
-    ensures { let s = sink_of K.written K.faults K.zeros K.name in
+    ensures writes { let s = sink_of K.written K.faults K.zeros K.name in
         WritesIn (trace_line_lem config.now.automations entry.now) (option_map s trace.old) (fault_of result) (option_map s trace.new) }
+    ensures handed { goes_on ≡ false → OnOk result (IfSome trace.new (λ k. K.kept k ≡ 0)) }
 {
     match trace {
-        Some(sink) => write_line(sink, line_of_trace(alloc, entry, config)),
+        Some(sink) => write_traced(sink, trace_line(alloc, entry, config), goes_on),
         None => Ok(()),
     }
 }
@@ -178,7 +244,7 @@ fn save<C: Core, Q: Keeper>(alloc: Global, core: &C, keep: &mut Q) -> Result<(),
 }
 
 /// Writes what the last entry gives, and saves the switches where it changed one: first the call, then the error, the trace and the
-/// store. After a fault nothing further is written.
+/// store. After a fault nothing further is written. Unless more entries are at hand, the trace's sink hands on what it keeps.
 fn show<C: Core, K: Sink, Q: Keeper>(
     alloc: Global,
     core: &C,
@@ -187,6 +253,7 @@ fn show<C: Core, K: Sink, Q: Keeper>(
     errors: &mut K,
     trace: &mut Option<K>,
     keep: &mut Q,
+    goes_on: bool,
 ) -> Result<(), BusFault>
     requires usable { C.is_spent core.now ≡ false }
     requires dated { AreDated entry.now }
@@ -207,7 +274,7 @@ fn show<C: Core, K: Sink, Q: Keeper>(
         Ok(()) => {}
         Err(fault) => return Err(fault),
     }
-    match write_trace(alloc, entry, core.config(), trace) {
+    match write_trace(alloc, entry, core.config(), trace, goes_on) {
         Ok(()) => {}
         Err(fault) => return Err(fault),
     }
@@ -223,6 +290,7 @@ pub(crate) fn write_put<C: Core, K: Sink, Q: Keeper>(
     errors: &mut K,
     trace: &mut Option<K>,
     keep: &mut Q,
+    goes_on: bool,
 ) -> Option<BusFault>
     requires usable { OnOk put (C.is_spent core.now ≡ false) }
     requires dated { OnOk put (IsLastDated (C.entries core.now)) }
@@ -247,7 +315,7 @@ pub(crate) fn write_put<C: Core, K: Sink, Q: Keeper>(
     let Some(entry) = core.journal().last() else {
         return None;
     };
-    match show(alloc, core, entry, calls, errors, trace, keep) {
+    match show(alloc, core, entry, calls, errors, trace, keep, goes_on) {
         Ok(()) => None,
         Err(fault) => Some(fault),
     }

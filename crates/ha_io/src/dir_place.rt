@@ -63,9 +63,9 @@ impl<R: Files<File = File> + Drop> Place for DirPlace<R> {
         }
     }
 
-    fn writing(&mut self, _alloc: Global, name: &str) -> Result<FileSink, IoFault> {
+    fn writing(&mut self, alloc: Global, name: &str) -> Result<FileSink, IoFault> {
         match File::create(&self.rt, name) {
-            Ok(file) => Ok(FileSink::file(file)),
+            Ok(file) => Ok(FileSink::file(alloc, file)?),
             Err(_) => {
                 self.faults = self.faults.saturating_add(1);
                 Err(IoFault::Failed)

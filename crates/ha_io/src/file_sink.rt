@@ -1,21 +1,26 @@
 // A sink over the system.
-ghost use Rattle.std.specs.Prelude.{◌≡◌, None};
-ghost use Rattle.ha_io.specs.FileSink.{no_counts};
+ghost use Rattle.std.specs.Prelude.{◌≡◌, None, IfOk};
+ghost use Rattle.ha_io.specs.FileSink.{kept_in, no_counts};
 
-use crate::{IoFault, Sink};
+use crate::{Failed, IoFault, Sink};
+use std::alloc::{AllocError, Global};
 use std::fs::File;
-use std::io::{Stderr, Stdout, Write};
+use std::io::{BufWriter, Stderr, Stdout, Write};
 use std::marker::Model;
+
+/// How many bytes a file's sink keeps at most.
+const ROOM: usize = 65_536;
 
 #[derive(Drop)]
 enum Outlet {
-    File(File),
+    File(BufWriter<File>),
     Output(Stdout),
     Errors(Stderr),
 }
 
-/// A file, standard output or standard error. Each piece is one write of the system, with no buffer before it.
-/// It tells no content. Contracts see its counts.
+/// A file, standard output or standard error. To the streams each piece is one write of the system, with no buffer before it. A file's
+/// pieces are kept, up to 65,536 bytes, until it is flushed or let go. It tells no content. Contracts see its counts, and how many bytes
+/// it keeps.
 #[derive(Drop)]
 pub struct FileSink {
     to: Outlet,
@@ -24,18 +29,21 @@ pub struct FileSink {
 }
 
 impl Model for FileSink {
-    ghost use Rattle.ha_io.specs.FileSink.{SinkCounts};
+    ghost use Rattle.ha_io.specs.FileSink.{SinkCounts, kept_in};
 
     ghost Value = { SinkCounts };
 
-    ghost view = { λ s. record { faults = s.faults; zeros = s.zeros } };
+    ghost view = { λ s. record { faults = s.faults; zeros = s.zeros; kept = kept_in s.to } };
 }
 
 impl FileSink {
-    pub fn file(file: File) -> FileSink
-        ensures { result ≡ no_counts }
+    pub fn file(alloc: Global, file: File) -> Result<FileSink, AllocError>
+        ensures { IfOk result (λ sink. sink ≡ no_counts) }
     {
-        FileSink::over(Outlet::File(file))
+        match BufWriter::with_capacity(alloc, ROOM, file) {
+            Ok(file) => Ok(FileSink::over(Outlet::File(file))),
+            Err(_) => Err(AllocError),
+        }
     }
 
     pub fn output(output: Stdout) -> FileSink
@@ -51,6 +59,7 @@ impl FileSink {
     }
 
     fn over(to: Outlet) -> FileSink
+        requires { kept_in to ≡ 0 }
         ensures { result ≡ no_counts }
     {
         FileSink {
@@ -70,6 +79,8 @@ impl Sink for FileSink {
 
     ghost name = { λ _. None };
 
+    ghost kept = { λ counts. counts.kept };
+
     fn write(&mut self, bytes: &[u8]) -> Result<usize, IoFault> {
         let count = match &mut self.to {
             Outlet::File(file) => file.write(bytes),
@@ -86,6 +97,20 @@ impl Sink for FileSink {
             Err(_) => {
                 self.faults = self.faults.saturating_add(1);
                 Err(IoFault::Failed)
+            }
+        }
+    }
+
+    fn flush(&mut self) -> Result<(), Failed> {
+        let done = match &mut self.to {
+            Outlet::File(file) => file.flush(),
+            Outlet::Output(_) | Outlet::Errors(_) => Ok(()),
+        };
+        match done {
+            Ok(()) => Ok(()),
+            Err(_) => {
+                self.faults = self.faults.saturating_add(1);
+                Err(Failed)
             }
         }
     }

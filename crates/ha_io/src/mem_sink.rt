@@ -4,7 +4,7 @@ ghost use Rattle.std.specs.Option.{option_map};
 ghost use Rattle.ha_io.specs.Counts.{Rose, one_more};
 ghost use Rattle.ha_io.specs.MemSink.{after_failed_write, after_write, new_sink, taken_count};
 
-use crate::{IoFault, Sink};
+use crate::{Failed, IoFault, Sink};
 use std::marker::Model;
 
 /// A sink that takes whole pieces, and fails or takes no byte at the calls that it was told.
@@ -74,6 +74,8 @@ impl Sink for MemSink {
 
     ghost name = { λ sink. sink.name };
 
+    ghost kept = { λ _. 0 };
+
     fn write(&mut self, bytes: &[u8]) -> Result<usize, IoFault>
         ensures fails { IsErrOf result IoFault.Failed ↔ Contains self.old.fails (one_more self.old.calls) }
         ensures count { IfOk result (λ count. count ≡ taken_count self.old (length bytes.now)) }
@@ -99,5 +101,10 @@ impl Sink for MemSink {
         self.written.extend_from_slice(bytes)?;
         self.calls = calls;
         Ok(bytes.len())
+    }
+
+    /// It keeps nothing.
+    fn flush(&mut self) -> Result<(), Failed> {
+        Ok(())
     }
 }

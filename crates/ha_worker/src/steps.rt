@@ -10,7 +10,7 @@ use ha_model::Core;
 use std::alloc::Global;
 
 /// The closing steps, which come after the last worker has ended: steps of worker 0, whether source 0 is rested or not, until no run can go
-/// on. A first fault of the bus ends it.
+/// on. A first fault of the bus ends it. The trace's sink may keep their lines, since the end line comes behind them.
 pub fn close<C: Core, K: Sink, Q: Keeper>(alloc: Global, bus: &mut Bus<C, K, Q>)
     requires free { bus.old.first ≡ None }
     requires lawful { Lawful bus.old.journal bus.old.records }
@@ -19,7 +19,7 @@ pub fn close<C: Core, K: Sink, Q: Keeper>(alloc: Global, bus: &mut Bus<C, K, Q>)
     ensures quiet { bus.new.first ≡ None → is_quiet bus.new.records bus.new.journal ≡ true }
 {
     'steps: while !bus.quiet() {
-        bus.step(alloc, 0);
+        bus.step(alloc, 0, true);
         if bus.first().is_some() {
             return;
         }

@@ -25,12 +25,14 @@ pub(crate) fn unread() -> Snapshot<Option<Cmd>>
 }
 
 /// Takes the bus where the source is rested. Until it is, each turn puts one step. Nothing comes back where the bus keeps a first fault.
+/// Where it `goes_on`, a line is put behind the steps, and the trace's sink may keep theirs until then.
 pub(crate) fn take_rested<C: Core + Drop, K: Sink, Q: Keeper, W: Wait>(
     rt: &W,
     alloc: Global,
     turn: &Turn<C, K, Q>,
     pass: &mut Pass<C, K, Q>,
     id: u32,
+    goes_on: bool,
 ) -> Option<Held<C, K, Q>>
     requires turn { IsPassOf turn.now pass.old }
     requires one { IsOne id (view pass.old) }
@@ -48,7 +50,7 @@ pub(crate) fn take_rested<C: Core + Drop, K: Sink, Q: Keeper, W: Wait>(
         if bus.rested(id) {
             return Some(bus);
         }
-        bus.step(alloc, id);
+        bus.step(alloc, id, goes_on);
         let _ = bus.first();
         turn.give(rt, pass, bus, unread());
     }
@@ -70,7 +72,7 @@ pub(crate) fn settle<C: Core + Drop, K: Sink, Q: Keeper, W: Wait>(
     ensures one { IsOne id (view pass.new) }
     ensures halt { OnErr result (IsSome (view pass.new).noted) }
 {
-    match take_rested(rt, alloc, turn, pass, id) {
+    match take_rested(rt, alloc, turn, pass, id, false) {
         Some(bus) => {
             turn.give(rt, pass, bus, unread());
             Ok(())
@@ -80,7 +82,8 @@ pub(crate) fn settle<C: Core + Drop, K: Sink, Q: Keeper, W: Wait>(
 }
 
 /// Puts a line with the command that is held, as soon as its source is rested. Gives whether another turn is due before a read that may
-/// wait: the source is not rested, or the bus keeps a first fault.
+/// wait: the source is not rested, or the bus keeps a first fault. Where it `goes_on`, the caller puts more before that read, and the
+/// trace's sink may keep the line until then.
 pub(crate) fn put_held<C: Core + Drop, K: Sink, Q: Keeper, W: Wait>(
     rt: &W,
     alloc: Global,
@@ -89,6 +92,7 @@ pub(crate) fn put_held<C: Core + Drop, K: Sink, Q: Keeper, W: Wait>(
     id: u32,
     next: &mut u64,
     held: &mut Option<Cmd>,
+    goes_on: bool,
 ) -> Result<bool, Halt>
     requires turn { IsPassOf turn.now pass.old }
     requires known { id < 16 }
@@ -103,14 +107,14 @@ pub(crate) fn put_held<C: Core + Drop, K: Sink, Q: Keeper, W: Wait>(
     ensures halt { OnErr result (IsSome (view pass.new).noted) }
 {
     let read = Snapshot::of(held);
-    let Some(mut bus) = take_rested(rt, alloc, turn, pass, id) else {
+    let Some(mut bus) = take_rested(rt, alloc, turn, pass, id, true) else {
         return Err(Halt::Stopped);
     };
     let Some(cmd) = held.take() else {
         unreachable!()
     };
     let before = bus.core().journal().len();
-    bus.line(alloc, id, *next, cmd);
+    bus.line(alloc, id, *next, cmd, goes_on);
     let was_put = bus.core().journal().len() > before;
     let is_due = bus.first().is_some() || !bus.rested(id);
     turn.give(rt, pass, bus, read);

@@ -250,7 +250,8 @@ impl<S: Source, C: Core + Drop, K: Sink, Q: Keeper> Worker<S, C, K, Q> {
         let mut cmds = cmds;
         let mut is_due = false;
         'cmds: while let Some(cmd) = cmds.pop_front() {
-            match self.put_one(rt, alloc, turn, cmd) {
+            let goes_on = !cmds.is_empty();
+            match self.put_one(rt, alloc, turn, cmd, goes_on) {
                 Ok(due) => is_due = due,
                 Err(halt) => return Err(halt),
             }
@@ -307,16 +308,17 @@ impl<S: Source, C: Core + Drop, K: Sink, Q: Keeper> Worker<S, C, K, Q> {
     {
         gate.before(self.id, self.next);
         let _floor = turn.floor(rt);
-        self.put_one(rt, alloc, turn, cmd)
+        self.put_one(rt, alloc, turn, cmd, false)
     }
 
-    /// Puts a line with this command.
+    /// Puts a line with this command. Where it `goes_on`, another follows before the next read.
     fn put_one<W: Wait>(
         &mut self,
         rt: &W,
         alloc: Global,
         turn: &Turn<C, K, Q>,
         cmd: Cmd,
+        goes_on: bool,
     ) -> Result<bool, Halt>
         requires turn { IsPassOf turn.now self.old.pass }
         requires known { self.old.id < 16 }
@@ -339,6 +341,7 @@ impl<S: Source, C: Core + Drop, K: Sink, Q: Keeper> Worker<S, C, K, Q> {
             self.id,
             &mut self.next,
             &mut held,
+            goes_on,
         )
     }
 

@@ -99,6 +99,7 @@ fn a_place_writes_by_name(rt: HostRuntime) -> Result<(), Fail> {
     assert!(rt; place.writing(rt.alloc(), "home").is_err());
     let mut other = place.writing(rt.alloc(), "other")?;
     assert!(rt; other.write(b"x")? == 1);
+    assert!(rt; other.flush().is_ok());
     Ok(())
 }
 
@@ -111,12 +112,28 @@ fn files_are_written_and_read(rt: HostRuntime) -> Result<(), Fail> {
     assert!(rt; sink.write(b"c")? == 1);
     let mut source = place.reading(alloc, "./ha_io_written")?;
     let mut buf = [0u8; 4];
+    assert!(rt; source.read(&mut buf)? == 0);
+    assert!(rt; sink.flush().is_ok());
     assert!(rt; source.read(&mut buf)? == 3);
     assert!(rt; buf == *b"abc\0");
     assert!(rt; source.read(&mut buf)? == 0);
     fs::remove_file(&rt, "ha_io_written")?;
     assert!(rt; place.reading(alloc, "ha_io_written").is_err());
     assert!(rt; place.writing(alloc, "ha_io_no_folder/file").is_err());
+    Ok(())
+}
+
+#[test]
+fn a_sink_that_is_let_go_writes_what_it_keeps(rt: HostRuntime) -> Result<(), Fail> {
+    let alloc = rt.alloc();
+    let mut place = DirPlace::make(rt, rt.stdin());
+    let mut sink = place.writing(alloc, "ha_io_let_go")?;
+    assert!(rt; sink.write(b"ab")? == 2);
+    drop(sink);
+    let mut source = place.reading(alloc, "./ha_io_let_go")?;
+    let mut buf = [0u8; 4];
+    assert!(rt; source.read(&mut buf)? == 2);
+    fs::remove_file(&rt, "ha_io_let_go")?;
     Ok(())
 }
 

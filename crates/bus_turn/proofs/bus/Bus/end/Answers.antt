@@ -11,4 +11,4 @@ returns-clause-stands g c =
     let b = c.self.inside in
     let old : BusView = bus_view (g.C.Core.entries b.core) (g.C.Core.runs b.core) (g.C.Core.is_spent b.core) (outside_of s q b.calls b.errors b.trace b.keep) b.first in
     ended_so old c.args.self c.journal.result.now c.write_end.result c.err-first.result (option_map s c.write_end.new.trace)
-    c.self.view_is c.self.invariant c.requires.open c.journal.ensures.value c.err-first.ensures.value c.write_end.ensures
+    c.self.view_is c.self.invariant c.requires.open c.journal.ensures.value c.err-first.ensures.value c.write_end.ensures.writes
