@@ -20,6 +20,41 @@ pub fn key_of(alloc: Global, word: &Word) -> Result<String, AllocError>
     String::from_str(alloc, word.as_str())
 }
 
+/// The attributes are these; those that are there already are left in their place.
+fn set_attributes(
+    alloc: Global,
+    held: &mut Many<(Word, Value)>,
+    attributes: &Many<(Word, Value)>,
+) -> Result<(), AllocError>
+    ensures ok { OnOk result (held.new ≡ attributes.now) }
+    ensures err { OnErr result (held.new ≡ held.old) }
+{
+    if same_data(held, attributes) {
+        return Ok(());
+    }
+    *held = attributes.copy(alloc)?;
+    Ok(())
+}
+
+/// Another text, written over the one before: no new state is made, and none is dropped.
+fn write_over(
+    alloc: Global,
+    state: &mut StateObject,
+    text: &Word,
+    attributes: &Many<(Word, Value)>,
+    now: Moment,
+) -> Result<(), AllocError>
+    ensures ok { OnOk result (state.new ≡ next_object_lem None text.now attributes.now now) }
+    ensures err { OnErr result (state.new ≡ state.old) }
+{
+    let made = text.copy(alloc)?;
+    set_attributes(alloc, &mut state.attributes, attributes)?;
+    state.text = made;
+    state.changed = now;
+    state.updated = now;
+    Ok(())
+}
+
 /// What a report changes in a state that is there.
 fn update(
     alloc: Global,
@@ -33,7 +68,7 @@ fn update(
     ensures err { OnErr result (object.new ≡ object.old) }
 {
     if !same_text(&object.text, text) {
-        *object = next_object(alloc, None, text, attributes, now)?;
+        write_over(alloc, object, text, attributes, now)?;
         return Ok(Change::Text);
     }
     if same_data(&object.attributes, attributes) {
