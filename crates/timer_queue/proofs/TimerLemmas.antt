@@ -1,6 +1,8 @@
 -- What the set and the map do to the list of timers.
-use Rattle.std.proofs.Common.{◌≡◌, ◌∙◌, ap, sym, refl, arith, ℕ, ◌<◌, ◌≤◌, Bool, true, false, not, ◌&&◌, ◌||◌, nat_eq, nat_lt, List, [], ◌∷◌, Option, Some, None, if◌then◌else◌, inl, inr, ◌⊎◌, cond}
+use Rattle.std.proofs.Common.{◌≡◌, ◌∙◌, ap, sym, refl, arith, ℕ, ◌<◌, ◌≤◌, Bool, true, false, not, ◌&&◌, ◌||◌, nat_eq, nat_lt, nat_le, List, [], ◌∷◌, Option, Some, None, if◌then◌else◌, inl, inr, ◌⊎◌, cond}
 use Rattle.std.specs.Prelude.{All, MatchOption, is_some}
+use Rattle.std.specs.List.{AllByRecursion, list_any}
+use Rattle.std.specs.List.Sorted.{IsStrictlySortedBy}
 use Rattle.std.proofs.lemmas.List.Elements.{All-head, All-tail}
 use Rattle.std.proofs.lemmas.Bool.Decides.{eqb_tells, leb_tells, nat_tests}
 use Rattle.std.specs.Ordering.{is_eq, is_gt, nat_cmp, ordering_then, match_ordering}
@@ -8,7 +10,7 @@ use Rattle.std.specs.declared.cmp.Ordering.{Ordering}
 use Rattle.std.specs.declared.cmp.Ordering.TheVariants.{Less, Equal, Greater}
 use Rattle.std.specs.BTreeSet.{insert_key}
 use Rattle.std.specs.Set.{remove_key}
-use Rattle.timer_queue.specs.Timers.{IsLeast, Timer, distinct_keys, due_of, inserted, is_before, removed}
+use Rattle.timer_queue.specs.Timers.{IsLeast, Timer, distinct_keys, due_of, inserted, is_before, keys_due, removed}
 
 -- the order of the set's keys
 abbrev pub order : Timer → Timer → Ordering
@@ -251,3 +253,42 @@ later_than now first ts least later key = by first (due_of key ts) later (least 
     by f None h le = tt
     by None (Some due) h le = absurd le
     by (Some d) (Some due) h le = omega (arith, h, le)
+
+-- ---- those that are due
+
+above : (now : ℕ) (x : Timer) (ts : List Timer) → now < x.0 → AllByRecursion (λ t. order x t ≡ Less) ts → (key : ℕ) → MatchOption (due_of key ts) (Unit {0}) (λ due. now < due)
+above now x [] later all key = tt
+above now x (t ∷ ts) later all key = by (nat_eq t.1 key) (above now x ts later all.1 key)
+  where
+    by : (b : Bool) → MatchOption (due_of key ts) (Unit {0}) (λ due. now < due) → MatchOption (if b then Some t.0 else due_of key ts) (Unit {0}) (λ due. now < due)
+    by true rest = (let fits = not_after x t (ap is_gt all.0) in omega (arith, fits, later))
+    by false rest = rest
+
+ahead : (a now : ℕ) → nat_le a now ≡ false → now < a
+ahead a now h = grind (arith, nat_tests, h)
+
+left : (a b : Bool) → (a || b) ≡ false → (a ≡ false) × (b ≡ false)
+left true b h = absurd (let bad : ◌≡◌ {A = Bool} true false = h in cc)
+left false b h = (refl, h)
+
+-- LAW: a key that is not among those that are due has a later due, or none
+pub later_others : (now : ℕ) (ts : List Timer) → IsStrictlySortedBy order ts → (key : ℕ) → list_any (nat_eq key) (keys_due now ts) ≡ false → MatchOption (due_of key ts) (Unit {0}) (λ due. now < due)
+unfolding IsStrictlySortedBy
+later_others now [] sorted key none = tt
+later_others now (x ∷ xs) sorted key none = by (later_others now xs sorted.1 key) (nat_le x.0 now) refl
+  where
+    at : (c : Bool) → MatchOption (due_of key xs) (Unit {0}) (λ due. now < due) → (c ≡ true → now < x.0) → MatchOption (if c then Some x.0 else due_of key xs) (Unit {0}) (λ due. now < due)
+    at true rest here = here refl
+    at false rest here = rest
+
+    by : (list_any (nat_eq key) (keys_due now xs) ≡ false → MatchOption (due_of key xs) (Unit {0}) (λ due. now < due)) → (b : Bool) → nat_le x.0 now ≡ b → MatchOption (if nat_eq x.1 key then Some x.0 else due_of key xs) (Unit {0}) (λ due. now < due)
+    by ih true come =
+        (let other = left (nat_eq key x.1) (list_any (nat_eq key) (keys_due now xs)) ((λ k. list_any (nat_eq key) (if sym come k then x.1 ∷ keys_due now xs else [])) ∙ none) in
+        at (nat_eq x.1 key) (ih other.1) (λ same. absurd (let bad : ◌≡◌ {A = Bool} true false = sym same ∙ turned key x.1 other.0 in cc)))
+    by ih false late = (let later = ahead x.0 now late in at (nat_eq x.1 key) (above now x xs later sorted.0 key) (λ same. later))
+
+pub none_due : (now : ℕ) (x : Timer) (left rest : List Timer) → left ≡ x ∷ rest → now < x.0 → keys_due now left ≡ []
+none_due now x left rest is later = (λ k. keys_due now (is k)) ∙ (λ k. if late k then x.1 ∷ keys_due now rest else [])
+  where
+    late : nat_le x.0 now ≡ false
+    late = grind (arith, nat_tests, later)

@@ -29,6 +29,11 @@ abbrev pub first_due : ℕ → List Timer → Option ℕ
 first_due now [] = None
 first_due now (x ∷ xs) = if nat_le x.0 now then Some x.1 else None
 
+-- the keys of the timers that are due at or before a moment
+abbrev pub keys_due : ℕ → List Timer → List ℕ
+keys_due now [] = []
+keys_due now (x ∷ xs) = if nat_le x.0 now then x.1 ∷ keys_due now xs else []
+
 -- the timers without that one
 abbrev pub after_due : ℕ → List Timer → List Timer
 after_due now [] = []

@@ -1,12 +1,13 @@
 //! Due times in order: what waits for a moment, taken out by due and then by key.
 #![tactic(auto)]
 
-ghost use Rattle.std.specs.Prelude.{◌≡◌, ◌<◌, ◌↔◌, ℕ, [], IsNone, IsTrue, MatchOption, All, OnErr, OnOk, false, is_some, nat_le};
+ghost use Rattle.std.specs.Prelude.{◌≡◌, ◌<◌, ◌↔◌, ℕ, [], IfOk, IsNone, IsTrue, MatchOption, All, OnErr, OnOk, false, is_some, nat_eq, nat_le};
+ghost use Rattle.std.specs.List.{list_any};
 ghost use Rattle.std.specs.Option.{option_map_or};
-ghost use Rattle.timer_queue.specs.Timers.{IsLeast, after_due, due_of, earliest, first_due, inserted, removed};
+ghost use Rattle.timer_queue.specs.Timers.{IsLeast, after_due, due_of, earliest, first_due, inserted, keys_due, removed};
 
 use ha_clock::Moment;
-use std::alloc::Global;
+use std::alloc::{AllocError, Global};
 use std::collections::{BTreeMap, BTreeSet};
 use std::marker::Model;
 
@@ -107,6 +108,22 @@ impl TimerQueue {
             Some(due) => due <= now,
             None => false,
         }
+    }
+
+    /// The keys of the timers that are due at or before `now`, in their order.
+    pub fn due_keys(&self, alloc: Global, now: Moment) -> Result<Vec<u64>, AllocError>
+        ensures keys { IfOk result (λ keys. keys.items ≡ keys_due now self.now) }
+        ensures others { IfOk result (λ keys. (key : ℕ) → list_any (nat_eq key) keys.items ≡ false
+            → MatchOption (due_of key self.now) (Unit {0}) (λ due. now < due)) }
+    {
+        let mut keys = Vec::new(alloc);
+        'timers: for timer in self.timers.iter() {
+            if timer.0 > now {
+                return Ok(keys);
+            }
+            keys.push(timer.1)?;
+        }
+        Ok(keys)
     }
 
     /// Takes the first timer out, if it is due at or before `now`, and gives its key.

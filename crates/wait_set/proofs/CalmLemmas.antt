@@ -16,7 +16,7 @@ use Rattle.timer_queue.specs.Timers.{Timer, due_of}
 use Rattle.wait_set.specs.declared.asked.Asked.{Asked}
 use Rattle.wait_set.specs.Asked.{end_now, end_with, fired_values, noted_one, value_of}
 use Rattle.wait_set.specs.Concern.{IsStill, fires_for, has}
-use Rattle.wait_set.specs.Timers.{AreKept, AreLater, due_in, is_asking}
+use Rattle.wait_set.specs.Timers.{AreKept, IsLater, due_in, is_asking}
 use Rattle.wait_set.proofs.TimedLemmas.{due-at}
 
 either : (a b : Bool) → (a || b) ≡ false → (a ≡ false) × (b ≡ false)
@@ -67,10 +67,10 @@ any-default [] n d e lt = absurd (omega (arith, lt))
 any-default (a ∷ asks) zero d e lt = refl
 any-default (a ∷ asks) (suc n) d e lt = any-default asks n d e (omega (arith, lt))
 
--- LAW: where no due has come, a wait for whose owner nothing fires, and who is not listed as one that asks a template, is still
-pub still-aside : (q : ℕ) (s : Sight) (fired : List Firing) (asks : List Asked) (ts : List Timer) (testing : BTreeSet ℕ) (ordered : Bool) (now : ℕ) → AreKept asks ts testing ordered → now ≡ s.now → AreLater now ts
-    → (n : ℕ) (d : Asked) → n < length asks → has testing (get_or asks n d).owner ≡ false → fires_for fired (get_or asks n d).owner ≡ false → IsStill q s fired (get_or asks n d)
-still-aside q s fired asks ts testing ordered now kept at later n d lt unlisted none = still q s fired a (unasked (is_asking a) refl) due none
+-- LAW: a wait whose due has not come, for whose owner nothing fires, and who is not listed as one that asks a template, is still
+pub still-aside : (q : ℕ) (s : Sight) (fired : List Firing) (asks : List Asked) (ts : List Timer) (testing : BTreeSet ℕ) (ordered : Bool) (now : ℕ) → AreKept asks ts testing ordered → now ≡ s.now
+    → (n : ℕ) (d : Asked) → n < length asks → IsLater now ts (get_or asks n d).owner → has testing (get_or asks n d).owner ≡ false → fires_for fired (get_or asks n d).owner ≡ false → IsStill q s fired (get_or asks n d)
+still-aside q s fired asks ts testing ordered now kept at n d lt later unlisted none = still q s fired a (unasked (is_asking a) refl) due none
   where
     a : Asked
     a = get_or asks n d
@@ -82,5 +82,5 @@ still-aside q s fired asks ts testing ordered now kept at later n d lt unlisted 
     due : (e : ℕ) → due_in a ≡ Some e → s.now < e
     due e is =
         (let of : due_of a.owner ts ≡ Some e = kept.timed.dues a.owner ∙ due-at n asks a kept.timed.apart lt (any-default asks n d a lt) ∙ is in
-        let lt = subst (λ o. MatchOption o (Unit {0}) (λ due. now < due)) of (later a.owner) in
+        let lt = subst (λ o. MatchOption o (Unit {0}) (λ due. now < due)) of later in
         omega (arith, at, lt))

@@ -1,12 +1,15 @@
-//! Which waits an entry concerns where no due has come: those for whose owners something fires, and those that ask a template.
+//! Which waits an entry concerns: those for whose owners something fires, those whose due has come, and those that ask a template.
 ghost use Rattle.std.specs.Prelude.{◌≡◌, ◌<◌, ℕ, IfOk, OnOk, Some, false, length, nat_eq, slice_index_or};
+ghost use Rattle.std.specs.List.{list_any};
 ghost use Rattle.wait_set.specs.declared.asked.Asked.{Asked as Wait};
 ghost use Rattle.wait_set.specs.Concern.{Ascend, OfOthers, fires_for, has};
+ghost use Rattle.wait_set.specs.Timers.{IsLater};
 
 use crate::asked::Asked;
-use ha_model::Firing;
+use ha_model::{Firing, Moment};
 use std::alloc::{AllocError, Global};
 use std::collections::BTreeSet;
+use timer_queue::TimerQueue;
 
 /// The place behind those of lesser owners, found by halves.
 fn place_from(asks: &[Asked], owner: u64) -> usize
@@ -73,18 +76,36 @@ fn put_fired(
     Ok(())
 }
 
-/// The places of the waits for whose owners something fires, and of those whose owners are among `testing`.
+/// Puts the places of the waits in whose owners are among these.
+fn put_due(asks: &[Asked], owners: &[u64], places: &mut BTreeSet<usize>) -> Result<(), AllocError>
+    requires { Ascend asks.now }
+    ensures kept { OnOk result ((n : ℕ) → has places.new n ≡ false → has places.old n ≡ false) }
+    ensures aside { OnOk result (OfOthers (λ a. list_any (nat_eq a.owner) owners.now ≡ false) places.new asks.now) }
+{
+    'owners: for owner in owners {
+        put_owner(asks, *owner, places)?;
+    }
+    Ok(())
+}
+
+/// The places of the waits for whose owners something fires, of those whose timer is due, and of
+/// those whose owners are among `testing`.
 pub fn concerned(
     alloc: Global,
     asks: &[Asked],
+    timers: &TimerQueue,
     testing: &BTreeSet<u64>,
     fired: &[Firing],
+    now: Moment,
 ) -> Result<BTreeSet<usize>, AllocError>
     requires { Ascend asks.now }
     ensures tests { IfOk result (λ places. OfOthers (λ a. has testing.now a.owner ≡ false) places asks.now) }
     ensures fires { IfOk result (λ places. OfOthers (λ a. fires_for fired.now a.owner ≡ false) places asks.now) }
+    ensures dues { IfOk result (λ places. OfOthers (λ a. IsLater now timers.now a.owner) places asks.now) }
 {
     let mut places = BTreeSet::new(alloc);
+    let due = timers.due_keys(alloc, now)?;
+    put_due(asks, due.as_slice(), &mut places)?;
     put_fired(asks, fired, &mut places)?;
     put_owners(asks, testing, &mut places)?;
     Ok(places)

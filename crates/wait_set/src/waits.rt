@@ -10,7 +10,7 @@ ghost use Rattle.wait_set.specs.declared.asked.Asked.{Asked as Wait};
 ghost use Rattle.wait_set.specs.Asked.{added, end_of, ended_at, is_of, noted, noted_at, owners_ended, owners_of, wait_of, without_run};
 ghost use Rattle.wait_set.specs.Concern.{Ascend, IsStill, OfOthers, has};
 ghost use Rattle.wait_set.specs.Stands.{IsNext, StandsFor};
-ghost use Rattle.wait_set.specs.Timers.{AreKept, AreLater, AreTimed, IsListed, timer_added};
+ghost use Rattle.wait_set.specs.Timers.{AreKept, AreTimed, IsListed, timer_added};
 ghost use Rattle.timer_queue.specs.Timers.{due_of, removed};
 
 use crate::asked::{Asked, is_of, note_one};
@@ -305,7 +305,8 @@ fn note_some<A: Answers>(
     Ok(())
 }
 
-/// Notes the next entry: with all waits where a due has come, else with those that it concerns.
+/// Notes the next entry: with the waits that it concerns, or with all where the owners are not
+/// known to ascend.
 fn note_entry<A: Answers>(
     alloc: Global,
     asks: &mut Vec<Asked>,
@@ -321,21 +322,18 @@ fn note_entry<A: Answers>(
     ensures fresh { OnOk result (fresh.new.items ≡ fresh.old.items ++ owners_ended place (A.sight answers.now) fired.now asks.old.items) }
     ensures kept { AreKept asks.new.items pending.new.timers pending.new.testing ordered }
 {
-    if are_all(&pending.timers, ordered, answers.now()) {
+    if !ordered {
         return note_all(alloc, asks, fresh, pending, place, fired, answers);
     }
-    let places = concerned(alloc, asks.as_slice(), &pending.testing, fired.as_slice())?;
+    let places = concerned(
+        alloc,
+        asks.as_slice(),
+        &pending.timers,
+        &pending.testing,
+        fired.as_slice(),
+        answers.now(),
+    )?;
     note_some(alloc, places, asks, fresh, pending, place, fired, answers)
-}
-
-/// Whether all waits are gone through: a due has come, or the owners are not known to ascend.
-fn are_all(timers: &TimerQueue, ordered: bool, now: Moment) -> bool
-    ensures { result ≡ false → (ordered ≡ true) × AreLater now timers.now }
-{
-    if !ordered {
-        return true;
-    }
-    timers.is_due(now)
 }
 
 /// Whether the owners still ascend, with one more wait.
