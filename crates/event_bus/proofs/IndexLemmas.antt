@@ -1,5 +1,5 @@
 -- Each subject, and names one after the other.
-use Rattle.std.proofs.Common.{◌≡◌, ℕ, ◌+◌, ◌<◌, List, [], ◌∷◌, ◌++◌, length, take, get_or, Bool, true, false, refl, sym, ap, ◌∙◌}
+use Rattle.std.proofs.Common.{◌≡◌, ℕ, zero, suc, ◌+◌, ◌<◌, List, [], ◌∷◌, ◌++◌, length, take, get_or, Bool, true, false, refl, sym, ap, ◌∙◌}
 use Rattle.std.specs.Prelude.{not, ◌&&◌, ◌||◌}
 use Rattle.std.specs.List.{list_any}
 use Rattle.std.proofs.lemmas.List.{take_more}
@@ -7,6 +7,7 @@ use Rattle.ha_value.specs.declared.value.EntityId.{EntityId}
 use Rattle.ha_model.specs.Words.{Text, one_of, same}
 use Rattle.ha_model.proofs.EqualLemmas.{same-refl, same-sound}
 use Rattle.event_bus.specs.Subjects.{Subject}
+use Rattle.event_bus.proofs.ListLemmas.{or-true}
 
 pub each-subject : (P : Subject → Type 0) → ((e : EntityId) → P (Subject.Entity e)) → ((q : Text) → P (Subject.Event q)) → P Subject.Moments → P Subject.Entries → (s : Subject) → P s
 each-subject P e q m n (Subject.Entity x) = e x
@@ -46,6 +47,16 @@ any-more q (y ∷ ys) x = (λ i. same q y || any-more q ys x i) ∙ by (same q y
     by true = refl
     by false = refl
 
+any-front : (q : Text) (n : ℕ) (xs : List Text) → one_of q (take n xs) ≡ true → one_of q xs ≡ true
+any-front q zero [] h = h
+any-front q (suc n) [] h = h
+any-front q zero (x ∷ xs) h = absurd (let bad : ◌≡◌ {A = Bool} false true = h in cc)
+any-front q (suc n) (x ∷ xs) h = by (same q x) (any-front q n xs) h
+  where
+    by : (b : Bool) → (one_of q (take n xs) ≡ true → one_of q xs ≡ true) → (b || one_of q (take n xs)) ≡ true → (b || one_of q xs) ≡ true
+    by true f h = refl
+    by false f h = f h
+
 module _ (q : Text) (names : List Text) (at : ℕ) (d : Text) (lt : at < length names) (init mid new : Bool) where
   -- LAW: one more name was put
   pub names-more : new ≡ (same (get_or names at d) q || mid) → mid ≡ (one_of q (take at names) || init) → new ≡ (one_of q (take (at + 1) names) || init)
@@ -62,3 +73,15 @@ module _ (q : Text) (names : List Text) (at : ℕ) (d : Text) (lt : at < length 
       ∙ not-turned (same (get_or names at d) q) (one_of q (take at names)) init (same q (get_or names at d)) (same-turned (get_or names at d) q)
       ∙ (λ i. not (sym (any-more q (take at names) (get_or names at d)) i) && init)
       ∙ (λ i. not (one_of q (sym (take_more names at d lt) i)) && init)
+
+-- LAW: no more is there than was, and some of the names that are put in
+pub names-part : (q : Text) (names : List Text) (at : ℕ) (init mid new : Bool) → new ≡ mid → mid ≡ (one_of q (take at names) || init) → new ≡ true → (one_of q names || init) ≡ true
+names-part q names at init mid new same is h = by (one_of q (take at names)) (any-front q at names) (sym is ∙ sym same ∙ h)
+  where
+    by : (b : Bool) → (b ≡ true → one_of q names ≡ true) → (b || init) ≡ true → (one_of q names || init) ≡ true
+    by true f k = ap (λ c. c || init) (f refl)
+    by false f k = ap (λ c. one_of q names || c) k ∙ or-true (one_of q names)
+
+-- LAW: and all that was
+pub names-kept : (some init new : Bool) → new ≡ (some || init) → init ≡ true → new ≡ true
+names-kept some init new is h = is ∙ ap (λ c. some || c) h ∙ or-true some

@@ -1,6 +1,6 @@
 -- Maps with text keys, with one name changed.
 use Rattle.std.proofs.Common.{◌≡◌, ℕ, Bool, true, false, refl, sym, ap, subst, ◌∙◌, nat_cmp, Ok, Err}
-use Rattle.std.specs.Prelude.{Option, Some, None, OnOk, Result, String, not, ◌&&◌, ◌||◌, if◌then◌else◌}
+use Rattle.std.specs.Prelude.{Option, Some, None, OnErr, OnOk, Result, String, not, ◌&&◌, ◌||◌, if◌then◌else◌}
 use Rattle.std.specs.Option.{option_map_or}
 use Rattle.std.specs.BTreeSet.{BTreeSet, IsEmpty as IsEmptySet}
 use Rattle.std.specs.BTreeMap.{is_at}
@@ -80,3 +80,29 @@ none-in set empty n = ap (list_any (is_at (nat_cmp n))) empty
 pub on-then : {T E : Type 0} (P Q : Type 0) (r : Result T E) → (P → Q) → OnOk r P → OnOk r Q
 on-then P Q (Ok x) f p = f p
 on-then P Q (Err e) f p = tt
+
+pub err-then : {T E : Type 0} (P Q : Type 0) (r : Result T E) → (P → Q) → OnErr r P → OnErr r Q
+err-then P Q (Ok x) f p = tt
+err-then P Q (Err e) f p = f p
+
+pub or-true : (b : Bool) → (b || true) ≡ true
+or-true true = refl
+or-true false = refl
+
+-- what is put in where the answer is Ok, and changes nothing else
+module _ {T E S : Type 0} (r : Result T E) (put : S → Bool) (old new : S → ℕ → Bool) (n : ℕ) (own : OnOk r ((s : S) → new s n ≡ (put s || old s n))) (err : OnErr r ((s : S) (k : ℕ) → new s k ≡ old s k)) (s : S) where
+  -- LAW: no more is there than was, and is put in
+  pub part-of : new s n ≡ true → (put s || old s n) ≡ true
+  part-of = by r own err
+    where
+      by : (q : Result T E) → OnOk q ((s : S) → new s n ≡ (put s || old s n)) → OnErr q ((s : S) (k : ℕ) → new s k ≡ old s k) → new s n ≡ true → (put s || old s n) ≡ true
+      by (Ok x) o e h = sym (o s) ∙ h
+      by (Err x) o e h = ap (λ b. put s || b) (sym (e s n) ∙ h) ∙ or-true (put s)
+
+  -- LAW: and all that was
+  pub kept-of : old s n ≡ true → new s n ≡ true
+  kept-of = by r own err
+    where
+      by : (q : Result T E) → OnOk q ((s : S) → new s n ≡ (put s || old s n)) → OnErr q ((s : S) (k : ℕ) → new s k ≡ old s k) → old s n ≡ true → new s n ≡ true
+      by (Ok x) o e h = o s ∙ ap (λ b. put s || b) h ∙ or-true (put s)
+      by (Err x) o e h = e s n ∙ h

@@ -1,5 +1,5 @@
 //! The numbers of owners, by what concerns their triggers.
-ghost use Rattle.std.specs.Prelude.{◌≡◌, ◌&&◌, ◌||◌, ℕ, OnOk, false, nat_eq, not};
+ghost use Rattle.std.specs.Prelude.{◌≡◌, ◌&&◌, ◌||◌, ℕ, OnErr, OnOk, false, nat_eq, not, true};
 ghost use Rattle.std.specs.Option.{option_copied, option_map_or};
 ghost use Rattle.ha_model.specs.Words.{Text, one_of};
 ghost use Rattle.event_bus.specs.Lists.{has, has_at};
@@ -29,6 +29,8 @@ fn put_names(
     number: u64,
 ) -> Result<(), AllocError>
     ensures own { OnOk result ((q : Text) → has_at lists.new q number ≡ (one_of q names.now || has_at lists.old q number)) }
+    ensures part { (q : Text) → has_at lists.new q number ≡ true → (one_of q names.now || has_at lists.old q number) ≡ true }
+    ensures kept { (q : Text) → has_at lists.old q number ≡ true → has_at lists.new q number ≡ true }
     ensures others { (q : Text) (n : ℕ) → nat_eq number n ≡ false → has_at lists.new q n ≡ has_at lists.old q n }
 {
     for at in 0..names.len() {
@@ -69,6 +71,7 @@ impl Index {
     ) -> Result<(), AllocError>
         ensures own { OnOk result ((s : Subject) → knows self.new s owner ≡ (by_entity (option_copied entity.entry) s || knows self.old s owner)) }
         ensures others { (s : Subject) (n : ℕ) → nat_eq owner n ≡ false → knows self.new s n ≡ knows self.old s n }
+        ensures err { OnErr result ((s : Subject) (n : ℕ) → knows self.new s n ≡ knows self.old s n) }
     {
         match entity {
             Some(entity) => put_for(alloc, &mut self.entities, entity, owner),
@@ -79,6 +82,8 @@ impl Index {
     /// An owner is concerned by these types of events.
     fn put_kinds(&mut self, alloc: Global, kinds: &[Word], owner: u64) -> Result<(), AllocError>
         ensures own { OnOk result ((s : Subject) → knows self.new s owner ≡ (by_kinds kinds.now s || knows self.old s owner)) }
+        ensures part { (s : Subject) → knows self.new s owner ≡ true → (by_kinds kinds.now s || knows self.old s owner) ≡ true }
+        ensures kept { (s : Subject) → knows self.old s owner ≡ true → knows self.new s owner ≡ true }
         ensures others { (s : Subject) (n : ℕ) → nat_eq owner n ≡ false → knows self.new s n ≡ knows self.old s n }
     {
         put_names(alloc, &mut self.events, kinds, owner)
@@ -88,6 +93,7 @@ impl Index {
     fn put_moments(&mut self, owner: u64) -> Result<(), AllocError>
         ensures own { OnOk result ((s : Subject) → knows self.new s owner ≡ (by_moments s || knows self.old s owner)) }
         ensures others { (s : Subject) (n : ℕ) → nat_eq owner n ≡ false → knows self.new s n ≡ knows self.old s n }
+        ensures err { OnErr result ((s : Subject) (n : ℕ) → knows self.new s n ≡ knows self.old s n) }
     {
         put(&mut self.moments, owner)
     }
@@ -96,12 +102,13 @@ impl Index {
     fn put_entries(&mut self, owner: u64) -> Result<(), AllocError>
         ensures own { OnOk result ((s : Subject) → knows self.new s owner ≡ (by_entries s || knows self.old s owner)) }
         ensures others { (s : Subject) (n : ℕ) → nat_eq owner n ≡ false → knows self.new s n ≡ knows self.old s n }
+        ensures err { OnErr result ((s : Subject) (n : ℕ) → knows self.new s n ≡ knows self.old s n) }
     {
         put(&mut self.entries, owner)
     }
 
-    /// An owner has a trigger with this rule, for the entity if it has some. After an error the owner may be known for a part of it; the
-    /// others are as before.
+    /// An owner has a trigger with this rule, for the entity if it has some. After an error the owner is known for what it was known for,
+    /// and may be for a part of that trigger; the others are as before.
     pub fn put(
         &mut self,
         alloc: Global,
@@ -110,6 +117,8 @@ impl Index {
         owner: u64,
     ) -> Result<(), AllocError>
         ensures own { OnOk result ((s : Subject) → knows self.new s owner ≡ (concerns rule.now (option_copied entity.entry) s || knows self.old s owner)) }
+        ensures part { (s : Subject) → knows self.new s owner ≡ true → (concerns rule.now (option_copied entity.entry) s || knows self.old s owner) ≡ true }
+        ensures kept { (s : Subject) → knows self.old s owner ≡ true → knows self.new s owner ≡ true }
         ensures others { (s : Subject) (n : ℕ) → nat_eq owner n ≡ false → knows self.new s n ≡ knows self.old s n }
     {
         match rule {

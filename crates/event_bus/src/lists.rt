@@ -1,5 +1,5 @@
 //! Numbers by name, each name with those that stand under it, in order.
-ghost use Rattle.std.specs.Prelude.{◌≡◌, ◌&&◌, ◌||◌, ℕ, IfOk, OnOk, false, nat_eq, not, string_bytes, true};
+ghost use Rattle.std.specs.Prelude.{◌≡◌, ◌&&◌, ◌||◌, ℕ, IfOk, OnErr, OnOk, false, nat_eq, not, string_bytes, true};
 ghost use Rattle.ha_value.specs.declared.value.EntityId.{EntityId as Entity};
 ghost use Rattle.ha_model.specs.Words.{Text, same, same_entity};
 ghost use Rattle.event_bus.specs.Lists.{has, has_at, has_for};
@@ -22,10 +22,11 @@ fn key_of(alloc: Global, word: &Word) -> Result<String, AllocError>
     String::from_str(alloc, word.as_str())
 }
 
-/// Puts a number into a set.
+/// Puts a number into a set. After an error it is as before.
 pub fn put(set: &mut BTreeSet<u64>, number: u64) -> Result<(), AllocError>
     ensures own { OnOk result (has set.new number ≡ true) }
     ensures others { (n : ℕ) → nat_eq number n ≡ false → has set.new n ≡ has set.old n }
+    ensures err { OnErr result ((n : ℕ) → has set.new n ≡ has set.old n) }
 {
     match set.insert(number) {
         Ok(_) => Ok(()),
@@ -45,6 +46,7 @@ pub fn take(set: &mut BTreeSet<u64>, number: u64)
 pub fn put_at(alloc: Global, lists: &mut Lists, name: &Word, number: u64) -> Result<(), AllocError>
     ensures own { OnOk result ((q : Text) → has_at lists.new q number ≡ (same name.now q || has_at lists.old q number)) }
     ensures others { (q : Text) (n : ℕ) → nat_eq number n ≡ false → has_at lists.new q n ≡ has_at lists.old q n }
+    ensures err { OnErr result ((q : Text) (n : ℕ) → has_at lists.new q n ≡ has_at lists.old q n) }
 {
     match lists.get_mut(name.as_str()) {
         Some(set) => put(set, number),
@@ -77,6 +79,7 @@ pub fn put_for(
 ) -> Result<(), AllocError>
     ensures own { OnOk result ((e : Entity) → has_for lists.new e number ≡ (same_entity entity.now e || has_for lists.old e number)) }
     ensures others { (e : Entity) (n : ℕ) → nat_eq number n ≡ false → has_for lists.new e n ≡ has_for lists.old e n }
+    ensures err { OnErr result ((e : Entity) (n : ℕ) → has_for lists.new e n ≡ has_for lists.old e n) }
 {
     match lists.get_mut(entity.domain.as_str()) {
         Some(domain) => put_at(alloc, domain, &entity.object, number),

@@ -8,3 +8,9 @@ returns-clause-own c = on-then _ _ c.put_names.result (λ h. each-subject _ (λ 
 
 pub returns-clause-others : goal.returns-clause-others
 returns-clause-others c = each-subject _ (λ e n apart. refl) (λ q n apart. c.put_names.ensures.others q n apart) (λ n apart. refl) (λ n apart. refl)
+
+pub returns-clause-part : goal.returns-clause-part
+returns-clause-part c = each-subject _ (λ e h. h) (λ q. c.put_names.ensures.part q) (λ h. h) (λ h. h)
+
+pub returns-clause-kept : goal.returns-clause-kept
+returns-clause-kept c = each-subject _ (λ e h. h) (λ q. c.put_names.ensures.kept q) (λ h. h) (λ h. h)

@@ -1,5 +1,5 @@
 use Rattle.std.proofs.Common.{refl}
-use Rattle.event_bus.proofs.ListLemmas.{on-then}
+use Rattle.event_bus.proofs.ListLemmas.{err-then, on-then}
 use Rattle.event_bus.proofs.IndexLemmas.{each-subject}
 use Rattle.event_bus.proofs.index.Index.put_moments.Goals as goal
 
@@ -8,3 +8,6 @@ returns-clause-own c = on-then _ _ c.put.result (λ h. each-subject _ (λ e. ref
 
 pub returns-clause-others : goal.returns-clause-others
 returns-clause-others c = each-subject _ (λ e n apart. refl) (λ q n apart. refl) c.put.ensures.others (λ n apart. refl)
+
+pub returns-clause-err : goal.returns-clause-err
+returns-clause-err c = err-then _ _ c.put.result (λ same. each-subject _ (λ e n. refl) (λ q n. refl) same (λ n. refl)) c.put.ensures.err
