@@ -35,4 +35,5 @@ pub mod PrintedText
 pub mod PrintedRows
 pub mod PrintedValue
 mod PlainRuns
+mod PlainKeys
 pub mod PlainStrings

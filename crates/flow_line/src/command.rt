@@ -9,7 +9,7 @@ ghost use Rattle.flow_line.specs.Command.{automation, cmd_by, cmd_of, cmd_of_pai
 
 use crate::fault::FlowFault;
 use crate::fields::{Pairs, Refused, take, take_flag, take_map, take_text};
-use crate::keys::{Command, has_keys, only_command};
+use crate::keys::{Command, has_keys, only_command, plain_command};
 use crate::read::read_value;
 use crate::refusal::Refusal;
 use ha_clock::read_moment;
@@ -195,6 +195,9 @@ fn command_of_pairs(alloc: Global, pairs: &mut Pairs) -> Result<Cmd, Refused>
     ensures exact { Says (cmd_of_pairs pairs.old) result }
     ensures in_time { IfOk result IsInTime }
 {
+    if let Some(command) = plain_command(pairs) {
+        return command_by(alloc, command, pairs);
+    }
     let command = only_command(pairs)?;
     if !has_keys(command, pairs) {
         return Err(Stop::Fault(Refusal::Keys));

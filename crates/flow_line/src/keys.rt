@@ -1,8 +1,9 @@
 //! The table of the commands' keys.
 
-ghost use Rattle.std.specs.Prelude.{◌≡◌, filter};
+ghost use Rattle.std.specs.Prelude.{◌≡◌, ◌∷◌, [], true, filter, IfSome};
 ghost use Rattle.std.specs.Option.{option_copied};
 ghost use Rattle.std.specs.List.{list_all};
+ghost use Rattle.ha_model.specs.Words.{same};
 ghost use Rattle.flow_line.specs.Command.{further, has_keys, has_needed, is_key, key_of, named, needed, only, takes, Says};
 
 use crate::fields::{Pairs, Refused, has_key};
@@ -130,4 +131,31 @@ pub fn has_keys(command: Command, pairs: &Pairs) -> bool
     ensures { result ≡ has_keys command pairs.now }
 {
     has_needed(command, pairs) && takes_all(command, pairs)
+}
+
+/// The command that a key names.
+fn command_of_key(key: &[u8]) -> Option<Command>
+    ensures { IfSome result (λ command. same (key_of command) key.now ≡ true) }
+{
+    for command in COMMANDS {
+        if key == command.key() {
+            return Some(command);
+        }
+    }
+    None
+}
+
+/// The command of a map that has its keys, where its first key names it. Most maps are so; the others are looked at by the
+/// whole table.
+pub fn plain_command(pairs: &Pairs) -> Option<Command>
+    ensures alone { IfSome result (λ command. named pairs.now ≡ command ∷ []) }
+    ensures keys { IfSome result (λ command. has_keys command pairs.now ≡ true) }
+{
+    let first = pairs.as_slice().first()?;
+    let command = command_of_key(first.0.bytes())?;
+    if has_keys(command, pairs) {
+        Some(command)
+    } else {
+        None
+    }
 }
