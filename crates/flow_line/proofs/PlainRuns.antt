@@ -1,6 +1,6 @@
 -- Runs of bytes that are printed as they are.
 use Rattle.std.proofs.Common.{◌≡◌, ℕ, zero, suc, ◌+◌, ◌<◌, ◌≤◌, Bool, true, false, cond, List, [], ◌∷◌, ◌++◌, length, take, drop, Option, Some, None, refl, sym, ap, subst, ◌∙◌, arith, append_assoc, get_or, IsUtf8}
-use Rattle.std.specs.Prelude.{flat_map, nat_lt}
+use Rattle.std.specs.Prelude.{flat_map, nat_lt, not}
 use Rattle.std.specs.List.{position, position_or_len}
 use Rattle.std.proofs.lemmas.Bool.Decides.{nat_tests}
 use Rattle.std.proofs.lemmas.List.Concat.{flat_map-append}
@@ -10,7 +10,11 @@ use Rattle.std.proofs.lemmas.List.{length-drop}
 use Rattle.std.proofs.Math.Seq.{take-length}
 use Rattle.std.proofs.lemmas.Str.{IsUtf8-take, IsUtf8-drop, IsCharBoundary-before_ascii, IsCharBoundary-after_ascii}
 use Rattle.ha_model.specs.ValueText.{escaped_byte}
-use Rattle.flow_line.specs.Print.{is_escaped}
+use Rattle.flow_line.specs.Bytes.{stands_as_is}
+
+-- a byte that a printed string has in another form
+abbrev is_escaped : ℕ → Bool
+is_escaped b = not (stands_as_is b)
 
 -- a byte that is not escaped stays
 stays : (b : ℕ) → is_escaped b ≡ false → escaped_byte b ≡ b ∷ []

@@ -1,11 +1,13 @@
 //! Printing values, and the parts of lines that they have, into one buffer.
 
-ghost use Rattle.std.specs.Prelude.{◌≡◌, ◌+◌, ◌++◌, ◌<◌, drop, length, flat_map, IfOk, IfSome, OnOk};
+ghost use Rattle.std.specs.Prelude.{◌≡◌, ◌+◌, ◌++◌, ◌<◌, drop, length, flat_map, not, IfOk, IfSome, OnOk};
 ghost use Rattle.std.specs.Char.{digit_char};
 ghost use Rattle.std.specs.List.{position};
 ghost use Rattle.ha_model.specs.ValueText.{escaped_byte, print_pairs, print_value, quoted};
-ghost use Rattle.flow_line.specs.Print.{comma_at, is_escaped, print_items};
+ghost use Rattle.flow_line.specs.Bytes.{stands_as_is};
+ghost use Rattle.flow_line.specs.Print.{comma_at, print_items};
 
+use crate::bytes::stands_as_is;
 use ha_value::{Value, Word};
 use std::alloc::{AllocError, Global};
 
@@ -42,19 +44,12 @@ fn push_ascii(text: &mut Word, byte: u8) -> Result<(), AllocError>
     }
 }
 
-/// Whether a string has the byte in another form.
-fn is_escaped(byte: u8) -> bool
-    ensures { result ≡ is_escaped byte }
-{
-    byte == b'"' || (byte == b'\\' || byte < 0x20)
-}
-
 /// The place of the first byte that is not printed as it is.
 fn first_escaped(bytes: &[u8]) -> Option<usize>
-    ensures place { result ≡ position is_escaped bytes.now }
+    ensures place { result ≡ position (λ b. not (stands_as_is b)) bytes.now }
     ensures bound { IfSome result (λ at. at < length bytes.now) }
 {
-    bytes.iter().position(|b| is_escaped(*b))
+    bytes.iter().position(|b| !stands_as_is(*b))
 }
 
 /// What stands behind the byte at a place.
