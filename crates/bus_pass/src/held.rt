@@ -86,9 +86,7 @@ impl<C: Core + Drop, K: Sink, Q: Keeper> Held<C, K, Q> {
         requires fair { IsFair self.old.journal (put_as self.old.journal cmd) }
         ensures { Puts (λ x. x ≡ Entry.Line source number (put_as self.old.journal cmd)) self.old self.new }
     {
-        self.bus
-            .as_mut()
-            .line(alloc, source, number, cmd, goes_on);
+        self.bus.as_mut().line(alloc, source, number, cmd, goes_on);
     }
 
     /// As `Bus::step`.

@@ -47,11 +47,7 @@ fn hand_on<K: Sink>(sink: &mut K) -> Result<(), BusFault>
 }
 
 /// Writes a text to its end. Unless more is at hand, the sink then hands on what it keeps.
-pub(crate) fn write_kept<K: Sink>(
-    sink: &mut K,
-    text: &[u8],
-    goes_on: bool,
-) -> Result<(), BusFault>
+pub(crate) fn write_kept<K: Sink>(sink: &mut K, text: &[u8], goes_on: bool) -> Result<(), BusFault>
     ensures writes { let s = sink_of K.written K.faults K.zeros K.name in Writes text.now (s sink.old) (fault_of result) (s sink.new) }
     ensures handed { goes_on ≡ false → OnOk result (K.kept sink.new ≡ 0) }
 {

@@ -33,7 +33,7 @@ fn map_of(alloc: Global, text: &[u8]) -> Result<Pairs, Unread>
 fn shows(alloc: Global, pairs: &[(Word, Value)], text: &[u8]) -> Result<bool, AllocError>
     ensures { IfOk result (λ shown. shown ≡ same (print_pairs pairs.now) text.now) }
 {
-    let mut shown = Word::new(alloc);
+    let mut shown = Word::with_room(alloc, text.len())?;
     push_pairs(alloc, &mut shown, pairs)?;
     Ok(shown.bytes() == text)
 }
