@@ -9,5 +9,5 @@ numbers-preserved c =
     let name = c.args.name.now in
     let k = c.numbers.k in
     let same = ap (names.is_taken all) (c.bytes.ensures.value ∙ c.in_ok-candidate.ensures) in
-    let taken : names.is_taken all (names.numbered name (k + 2)) ≡ true = sym same ∙ sym c.is_taken.ensures ∙ c.if-not-is_taken.false in
+    let taken : names.is_taken all (names.numbered name (k + 2)) ≡ true = sym same ∙ sym c.is_taken_by.ensures ∙ c.if-not-is_taken_by.false in
     c.numbers.invariant ∙ number_further all name k c.numbers-test.true taken
