@@ -23,12 +23,13 @@ use Rattle.trig_set.specs.declared.scene.Shift.{Shift}
 use Rattle.trig_set.specs.declared.spot.Spot.{Spot}
 use Rattle.trig_set.specs.Concerned.{IsAside}
 use Rattle.trig_set.specs.Kept.{All, place_of}
-use Rattle.trig_set.specs.Known.{AreKnown, HasAt, HasFor, HasSpot, IsListed}
+use Rattle.trig_set.specs.Known.{AreKnown}
 use Rattle.trig_set.specs.Next.{reports}
 use Rattle.trig_set.specs.Order.{ascend, owner_of}
 use Rattle.trig_set.specs.Queued.{HasDue}
 use Rattle.trig_set.specs.Scenes.{AreShifts, Shows, face, shift_of}
 use Rattle.trig_set.specs.Stands.{AllOwners, AtOwner, OwnerStands, firings_at}
+use Rattle.trig_set.proofs.ListedLemmas.{HasAt, HasFor, IsListed, known-listed}
 use Rattle.trig_set.proofs.CalmLemmas.{CalmAt, IsCalm, calm-quiet, calm-stand, never}
 use Rattle.trig_set.proofs.MovedLemmas.{has-past}
 use Rattle.trig_set.proofs.NoteLemmas.{places-alike}
@@ -79,7 +80,7 @@ has-calm j x index queue a t e apart has = record {
     by (Some q) k = not-true (concerns t.rule e (Subject.Event q)) (knows index (Subject.Event q) a.owner) (has (Subject.Event q)) k
 
 module _ (index : Index) (queue : List Timer) (j : Journal) (x : Entry) where
-  spot-calm : (a : Attached) (s : Spot) → IsApart index queue j x a → HasSpot index a.owner a.triggers s → CalmAt j x a.triggers a.since s
+  spot-calm : (a : Attached) (s : Spot) → IsApart index queue j x a → HasAt index a.owner a.triggers (s.trigger, s.entity) → CalmAt j x a.triggers a.since s
   spot-calm a s apart = by (slice_get a.triggers s.trigger)
     where
       by : (o : Option Trigger) → MatchOption o (Unit {0}) (λ t. HasFor index a.owner t s.entity) → MatchOption o (Unit {0}) (λ t. IsCalm j x a.since t.rule s.entity)
@@ -115,7 +116,7 @@ module _ (index : Index) (queue : List Timer) (j : Journal) (x : Entry) where
   module _ (owners : List Attached) (known : AreKnown index (map owner_of owners)) (stand : AllOwners owners (OwnerStands j)) (queued : AllOwners owners (HasDue queue)) (n : ℕ)
       (apart : AtOwner owners n (IsApart index queue j x)) where
     pub both-at : AtOwner owners n (λ a. OwnerStands (more j x) a × (firings_of (more j x) (length j) (owner_of a) ≡ []))
-    both-at = by (slice_get owners n) (stand n) (queued n) (subst (λ o. MatchOption o (Unit {0}) (IsListed index)) (get-map owner_of owners n) (known.listed n)) apart
+    both-at = by (slice_get owners n) (stand n) (queued n) (subst (λ o. MatchOption o (Unit {0}) (IsListed index)) (get-map owner_of owners n) (known-listed index (map owner_of owners) known n)) apart
       where
         by : (o : Option Attached) → MatchOption o (Unit {0}) (OwnerStands j) → MatchOption o (Unit {0}) (HasDue queue) → MatchOption (option_map owner_of o) (Unit {0}) (IsListed index)
             → MatchOption o (Unit {0}) (IsApart index queue j x)

@@ -24,6 +24,14 @@ use Rattle.trig_set.proofs.SpotLemmas.{get-at}
 is-at-same : (n : ℕ) → is_at (nat_cmp n) n ≡ true
 is-at-same n = grind (arith, nat_tests)
 
+-- LAW: a set that has nothing is empty
+pub has-nothing : (ks : List ℕ) → ((n : ℕ) → list_any (is_at (nat_cmp n)) ks ≡ false) → length ks ≡ 0
+has-nothing [] none = refl
+has-nothing (k ∷ ks) none =
+    let some : list_any (is_at (nat_cmp k)) (k ∷ ks) ≡ true = (λ i. is-at-same k i || list_any (is_at (nat_cmp k)) ks) in
+    let bad : ◌≡◌ {A = Bool} true false = sym some ∙ none k in
+    absurd (cc)
+
 pub is-at-other : (a b : ℕ) → nat_eq a b ≡ false → is_at (nat_cmp a) b ≡ false
 is-at-other a b h = grind (arith, nat_tests, h)
 

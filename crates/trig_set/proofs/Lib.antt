@@ -10,6 +10,7 @@ pub mod CalmLemmas
 pub mod ConcernLemmas
 pub mod AloneLemmas
 pub mod LeftLemmas
+pub mod AnyLemmas
 pub mod ListedLemmas
 pub mod HalvesLemmas
 pub mod OwnersLemmas

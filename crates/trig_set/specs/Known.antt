@@ -1,30 +1,38 @@
--- Whom the index of a set lists.
-use Rattle.std.specs.Prelude.{◌≡◌, ℕ, true, [], List, Option, MatchOption, slice_get}
+-- Whom the index of a set has.
+use Rattle.std.specs.Prelude.{◌≡◌, ℕ, Bool, true, false, ◌&&◌, nat_eq, List, Some}
+use Rattle.std.specs.List.{list_any}
 use Rattle.ha_value.specs.declared.value.EntityId.{EntityId}
 use Rattle.ha_model.specs.declared.config.Trigger.{Trigger}
+use Rattle.ha_model.specs.declared.config.TriggerRule.{TriggerRule}
 use Rattle.ha_past.specs.Firings.{Owner}
 use Rattle.event_bus.specs.declared.index.Index.{Index}
-use Rattle.event_bus.specs.Subjects.{Subject, concerns, knows}
-use Rattle.trig_set.specs.declared.spot.Spot.{Spot}
-use Rattle.trig_set.specs.Kept.{places_of}
+use Rattle.event_bus.specs.Subjects.{Subject, by_entity, by_entries, by_kinds, by_moments, knows}
 use Rattle.trig_set.specs.Order.{ascend}
 
--- the index has the owner for all that concerns a trigger, for one of its entities
-abbrev pub HasFor : Index → ℕ → Trigger → Option EntityId → Type 0
-HasFor index owner t e = (s : Subject) → concerns t.rule e s ≡ true → knows index s owner ≡ true
+-- what concerns a trigger with this rule: its entities, its types of events, moments, or each entry
+abbrev pub heeds : TriggerRule → Subject → Bool
+heeds (TriggerRule.State entities attribute from to) s = list_any (λ e. by_entity (Some e) s) entities
+heeds (TriggerRule.Numeric entities attribute above below) s = list_any (λ e. by_entity (Some e) s) entities
+heeds (TriggerRule.Event kinds pairs) s = by_kinds kinds s
+heeds (TriggerRule.Time seconds) s = by_moments s
+heeds (TriggerRule.Pattern hours minutes seconds) s = by_moments s
+heeds (TriggerRule.Template t) s = by_entries s
+heeds TriggerRule.Start s = false
 
--- for the trigger of an index and an entity, if there is one
-abbrev pub HasAt : Index → ℕ → List Trigger → ℕ × Option EntityId → Type 0
-HasAt index owner triggers p = MatchOption (slice_get triggers p.0) (Unit {0}) (λ t. HasFor index owner t p.1)
+-- one of the triggers is concerned by the subject
+abbrev pub heed : List Trigger → Subject → Bool
+heed triggers s = list_any (λ t. heeds t.rule s) triggers
 
-abbrev pub HasSpot : Index → ℕ → List Trigger → Spot → Type 0
-HasSpot index owner triggers s = HasAt index owner triggers (s.trigger, s.entity)
+-- one of those that are attached under the number is
+abbrev pub heed_under : List Owner → ℕ → Subject → Bool
+heed_under owners n s = list_any (λ o. nat_eq o.owner n && heed o.triggers s) owners
 
--- the owner is listed for each of its triggers and their entities
-abbrev pub IsListed : Index → Owner → Type 0
-IsListed index o = (n : ℕ) → MatchOption (slice_get (places_of [] o.triggers) n) (Unit {0}) (HasAt index o.owner o.triggers)
-
--- each owner is, and they ascend
+-- the owners ascend, and the index has a number for exactly what concerns one of the triggers that are attached under it
 pub record AreKnown (index : Index) (owners : List Owner) : Type 0 where
   pub ascend : ascend owners ≡ true
-  pub listed : (n : ℕ) → MatchOption (slice_get owners n) (Unit {0}) (IsListed index)
+  pub exact : (s : Subject) (n : ℕ) → knows index s n ≡ heed_under owners n s
+
+-- nobody has a trigger on the entity, nor one that each entry concerns
+pub record IsFree (owners : List Owner) (e : EntityId) : Type 0 where
+  pub entries : (n : ℕ) → heed_under owners n Subject.Entries ≡ false
+  pub entity : (n : ℕ) → heed_under owners n (Subject.Entity e) ≡ false

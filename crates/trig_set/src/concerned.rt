@@ -1,13 +1,11 @@
 //! Whom an entry concerns, told by an index of the owners.
-ghost use Rattle.std.specs.Prelude.{◌≡◌, ◌≤◌, ℕ, OnOk, IfOk, MatchOption, false, length, map, nat_eq, nat_lt, option_map, slice_get, true};
+ghost use Rattle.std.specs.Prelude.{◌≡◌, ◌≤◌, ℕ, OnOk, IfOk, MatchOption, false, length, map, nat_lt, option_map, slice_get, true};
 ghost use Rattle.std.specs.Option.{option_copied, option_map_or};
 ghost use Rattle.event_bus.specs.Lists.{has};
 ghost use Rattle.event_bus.specs.Subjects.{Subject, knows};
 ghost use Rattle.ha_model.specs.Entries.{event_in, is_moment, opens_segment};
 ghost use Rattle.timer_queue.specs.Timers.{due_of};
 ghost use Rattle.trig_set.specs.Concerned.{IsAside, OfOthers};
-ghost use Rattle.trig_set.specs.Kept.{All};
-ghost use Rattle.trig_set.specs.Known.{HasSpot};
 ghost use Rattle.trig_set.specs.Order.{ascend, owner_of};
 ghost use Rattle.trig_set.specs.Queued.{IsLater};
 ghost use Rattle.trig_set.specs.Stands.{AtOwner};
@@ -17,65 +15,11 @@ use crate::event::kind_in;
 use crate::moved::opens;
 use crate::owners::Attached;
 use crate::scene::Shift;
-use crate::spot::Spot;
 use event_bus::Index;
-use ha_model::{Entry, Many, Moment, Trigger};
+use ha_model::{Entry, Moment};
 use std::alloc::{AllocError, Global};
 use std::collections::BTreeSet;
 use timer_queue::TimerQueue;
-
-/// Lists an owner for one of its triggers and one of its entities.
-fn list_spot(
-    alloc: Global,
-    index: &mut Index,
-    owner: u64,
-    triggers: &Many<Trigger>,
-    spot: &Spot,
-) -> Result<(), AllocError>
-    ensures here { OnOk result (HasSpot index.new owner triggers.now spot.now) }
-    ensures kept { OnOk result ((s : Subject) → knows index.old s owner ≡ true → knows index.new s owner ≡ true) }
-    ensures others { (s : Subject) (n : ℕ) → nat_eq owner n ≡ false → knows index.new s n ≡ knows index.old s n }
-{
-    match triggers.get(spot.trigger as usize) {
-        Some(trigger) => index.put(alloc, &trigger.rule, spot.entity.as_ref(), owner),
-        None => Ok(()),
-    }
-}
-
-/// Lists an owner. After an error the others are listed as before.
-pub fn list(
-    alloc: Global,
-    index: &mut Index,
-    owner: u64,
-    triggers: &Many<Trigger>,
-    spots: &[Spot],
-) -> Result<(), AllocError>
-    ensures here { OnOk result (All spots.now (HasSpot index.new owner triggers.now)) }
-    ensures others { (s : Subject) (n : ℕ) → nat_eq owner n ≡ false → knows index.new s n ≡ knows index.old s n }
-{
-    for place in 0..spots.len() {
-        list_spot(alloc, index, owner, triggers, &spots[place])?;
-    }
-    Ok(())
-}
-
-/// An owner is listed no more for one of its triggers and one of its entities.
-fn unlist_spot(index: &mut Index, owner: u64, triggers: &Many<Trigger>, spot: &Spot)
-    ensures { (s : Subject) (n : ℕ) → nat_eq owner n ≡ false → knows index.new s n ≡ knows index.old s n }
-{
-    if let Some(trigger) = triggers.get(spot.trigger as usize) {
-        index.take(&trigger.rule, spot.entity.as_ref(), owner);
-    }
-}
-
-/// An owner is listed no more; the others are as before.
-pub fn unlist(index: &mut Index, owner: u64, triggers: &Many<Trigger>, spots: &[Spot])
-    ensures { (s : Subject) (n : ℕ) → nat_eq owner n ≡ false → knows index.new s n ≡ knows index.old s n }
-{
-    for place in 0..spots.len() {
-        unlist_spot(index, owner, triggers, &spots[place]);
-    }
-}
 
 /// Where an owner stands, or would stand: behind those of lesser numbers.
 pub fn place_of(owners: &[Attached], owner: u64) -> usize

@@ -9,6 +9,7 @@ mod equal;
 mod event;
 pub mod laws;
 mod left;
+mod listed;
 mod moved;
 mod moving;
 mod noted;

@@ -1,7 +1,6 @@
 //! The owners, in the order of their numbers.
-ghost use Rattle.std.specs.Prelude.{◌≡◌, ◌≤◌, ◌++◌, ℕ, [], IsNone, List, OnErr, OnOk, false, length, map, nat_eq, true};
+ghost use Rattle.std.specs.Prelude.{◌≡◌, ◌≤◌, ◌++◌, ℕ, [], IsNone, List, OnErr, OnOk, length, map, true};
 ghost use Rattle.ha_clock.specs.Local.{last_moment};
-ghost use Rattle.event_bus.specs.Subjects.{Subject, knows};
 ghost use Rattle.ha_model.specs.Journal.{Journal};
 ghost use Rattle.ha_model.specs.RecordSteps.{more};
 ghost use Rattle.ha_model.specs.Triggers.{sight};
@@ -80,7 +79,7 @@ impl Owners {
 
     /// An owner, if it is there, is listed in an index no more; the others are as before.
     pub fn unlist(&self, index: &mut Index, owner: u64)
-        ensures { (s : Subject) (n : ℕ) → nat_eq owner n ≡ false → knows index.new s n ≡ knows index.old s n }
+        ensures { AreKnown index.old (map owner_of self.now) → AreKnown index.new (without_owner owner (map owner_of self.now)) }
     {
         unlist_owner(index, self.list.as_slice(), owner);
     }

@@ -6,10 +6,8 @@ ghost use Rattle.ha_model.specs.RecordSteps.{more};
 ghost use Rattle.ha_model.specs.Sound.{are_sound_triggers};
 ghost use Rattle.ha_model.specs.Triggers.{sight};
 ghost use Rattle.timer_queue.specs.Timers.{Timer};
-ghost use Rattle.ha_past.specs.Firings.{firings_of};
-ghost use Rattle.event_bus.specs.Subjects.{Subject, knows};
-ghost use Rattle.trig_set.specs.Kept.{All};
-ghost use Rattle.trig_set.specs.Known.{HasSpot};
+ghost use Rattle.ha_past.specs.Firings.{firings_of, without_owner};
+ghost use Rattle.trig_set.specs.Known.{AreKnown};
 ghost use Rattle.trig_set.specs.Queued.{HasDue};
 ghost use Rattle.trig_set.specs.Order.{owner_of};
 ghost use Rattle.trig_set.specs.Stands.{AtOwner, OwnerStands, firings_at};
@@ -17,7 +15,8 @@ ghost use Rattle.trig_set.specs.Scenes.{Shows};
 
 use crate::attached::note_spots;
 use crate::blank::add_triggers;
-use crate::concerned::{list, place_of, unlist};
+use crate::concerned::place_of;
+use crate::listed::unlist;
 use crate::scene::Scene;
 use crate::spot::Spot;
 use event_bus::Index;
@@ -109,27 +108,12 @@ pub fn fresh(
     })
 }
 
-/// Lists an owner in an index, for what concerns its triggers. After an error the others are listed as before.
-pub fn list_owner(alloc: Global, index: &mut Index, attached: &Attached) -> Result<(), AllocError>
-    ensures here { OnOk result (All attached.now.spots.items (HasSpot index.new attached.now.owner attached.now.triggers)) }
-    ensures others { (s : Subject) (n : ℕ) → nat_eq attached.now.owner n ≡ false → knows index.new s n ≡ knows index.old s n }
-{
-    list(
-        alloc,
-        index,
-        attached.owner,
-        &attached.triggers,
-        attached.spots.as_slice(),
-    )
-}
-
-/// An owner, if it is there, is listed no more; the others are as before.
+/// An owner, if it is there, is listed in an index no more; the others are as before.
 pub fn unlist_owner(index: &mut Index, owners: &[Attached], owner: u64)
-    ensures { (s : Subject) (n : ℕ) → nat_eq owner n ≡ false → knows index.new s n ≡ knows index.old s n }
+    ensures { AreKnown index.old (map owner_of owners.now) → AreKnown index.new (without_owner owner (map owner_of owners.now)) }
 {
     let place = place_of(owners, owner);
     if place < owners.len() && owners[place].owner == owner {
-        let attached = &owners[place];
-        unlist(index, owner, &attached.triggers, attached.spots.as_slice());
+        unlist(index, owners[place].triggers.as_slice(), owner);
     }
 }

@@ -1,5 +1,5 @@
 //! The set of attached triggers.
-ghost use Rattle.std.specs.Prelude.{◌≡◌, ◌≤◌, ◌<◌, ℕ, [], ◌∷◌, Option, IsNone, IsTrue, IfOk, OnOk, OnErr, Some, IsSome, MatchOption, length, true};
+ghost use Rattle.std.specs.Prelude.{◌≡◌, ◌↔◌, ◌≤◌, ◌<◌, ℕ, [], ◌∷◌, Option, IsNone, IsTrue, IfOk, OnOk, OnErr, Some, IsSome, MatchOption, length, true};
 ghost use Rattle.ha_clock.specs.Local.{last_moment};
 ghost use Rattle.ha_clock.specs.Zone.{zone_of};
 ghost use Rattle.ha_model.specs.Entries.{boot_of};
@@ -11,14 +11,16 @@ ghost use Rattle.ha_model.specs.States.{Sight};
 ghost use Rattle.ha_model.specs.Sound.{are_sound_triggers};
 ghost use Rattle.ha_model.specs.RecordSteps.{more};
 ghost use Rattle.ha_past.specs.Firings.{Owner, owner_named, placed, without_owner, firings};
+ghost use Rattle.trig_set.specs.Known.{IsFree};
 ghost use Rattle.trig_set.specs.Left.{Leaves};
 ghost use Rattle.trig_set.specs.Next.{IsNext};
 ghost use Rattle.trig_set.specs.Stands.{attached, StandsFor};
 
 use crate::left::leaves;
+use crate::listed::{list, unlist};
 use crate::numbers::Numbers;
 use crate::ordered::Owners;
-use crate::owners::{fresh, list_owner};
+use crate::owners::fresh;
 use crate::scene::Scene;
 use crate::shifts::shifts_of;
 use event_bus::Index;
@@ -77,8 +79,15 @@ impl TrigSet {
         ensures err { OnErr result ((attached self.new ≡ attached self.old) × ((j : Journal) → StandsFor self.old j → StandsFor self.new j)) }
     {
         let attached = fresh(alloc, owner, triggers, place)?;
-        list_owner(alloc, &mut self.index, &attached)?;
-        self.owners.put_in(attached)
+        let slice = triggers.as_slice();
+        list(alloc, &mut self.index, slice, owner)?;
+        match self.owners.put_in(attached) {
+            Ok(()) => Ok(()),
+            Err(fault) => {
+                unlist(&mut self.index, slice, owner);
+                Err(fault)
+            }
+        }
     }
 
     /// Detaches the triggers of an owner, with their holds; of an owner that has none, nothing changes.
@@ -118,7 +127,8 @@ impl TrigSet {
 
     /// Whether the entity concerns nobody: no trigger is on it, and no trigger asks a template at each entry.
     pub fn leaves(&self, entity: &EntityId) -> bool
-        ensures { result ≡ true → Leaves self.entry.now entity.now }
+        ensures left { (result ≡ true) ↔ Leaves self.entry.now entity.now }
+        ensures free { (j : Journal) → StandsFor self.entry.now j → (result ≡ true) ↔ IsFree (attached self.entry.now) entity.now }
     {
         leaves(&self.index, entity)
     }

@@ -5,7 +5,7 @@ use Rattle.ha_engine.proofs.follow.follow_report.Goals as goal
 pub follow_left-requires : goal.follow_left-requires
 follow_left-requires c = record {
   pushed = record { pushed = c.requires.pushed.pushed; cmd_is = c.requires.pushed.cmd_is ∙ c.requires.report };
-  left = c.leaves.ensures c.if-leaves.true;
+  left = c.leaves.ensures.left.0 c.if-leaves.true;
 }
 
 pub follow_plain-requires : goal.follow_plain-requires

@@ -8,7 +8,7 @@ use Rattle.trig_set.proofs.set.TrigSet.clear.Goals as goal
 pub returns-clause-stands : goal.returns-clause-stands
 returns-clause-stands c j stands = record {
   owners = subst (λ l. AllOwners l (OwnerStands j)) (sym c.clear.ensures) (λ n. tt);
-  known = subst (λ l. AreKnown c.clear-2.new.self (map owner_of l)) (sym c.clear.ensures) (record { ascend = refl; listed = λ n. tt });
+  known = subst (λ l. AreKnown c.clear-2.new.self (map owner_of l)) (sym c.clear.ensures) (record { ascend = refl; exact = c.clear-2.ensures });
   queued = subst (λ l. AllOwners l (HasDue c.clear-3.new.self)) (sym c.clear.ensures) (λ n. tt);
   at = stands.at;
   zone = stands.zone;
