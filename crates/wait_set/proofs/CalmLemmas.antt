@@ -68,9 +68,9 @@ any-default (a ∷ asks) zero d e lt = refl
 any-default (a ∷ asks) (suc n) d e lt = any-default asks n d e (omega (arith, lt))
 
 -- LAW: a wait whose due has not come, for whose owner nothing fires, and who is not listed as one that asks a template, is still
-pub still-aside : (q : ℕ) (s : Sight) (fired : List Firing) (asks : List Asked) (ts : List Timer) (testing : BTreeSet ℕ) (ordered : Bool) (now : ℕ) → AreKept asks ts testing ordered → now ≡ s.now
+pub still-aside : (q : ℕ) (s : Sight) (fired : List Firing) (asks : List Asked) (ts : List Timer) (testing runs : BTreeSet ℕ) (ordered : Bool) (now : ℕ) → AreKept asks ts testing runs ordered → now ≡ s.now
     → (n : ℕ) (d : Asked) → n < length asks → IsLater now ts (get_or asks n d).owner → has testing (get_or asks n d).owner ≡ false → fires_for fired (get_or asks n d).owner ≡ false → IsStill q s fired (get_or asks n d)
-still-aside q s fired asks ts testing ordered now kept at n d lt later unlisted none = still q s fired a (unasked (is_asking a) refl) due none
+still-aside q s fired asks ts testing runs ordered now kept at n d lt later unlisted none = still q s fired a (unasked (is_asking a) refl) due none
   where
     a : Asked
     a = get_or asks n d

@@ -10,4 +10,5 @@ pub mod ConcernLemmas
 pub mod NotedLemmas
 pub mod CalmLemmas
 pub mod KeptLemmas
+pub mod RunLemmas
 pub mod OnLemmas

@@ -21,12 +21,13 @@ use std::collections::BTreeSet;
 use std::marker::Model;
 use timer_queue::TimerQueue;
 
-/// What is kept of the waits that have not ended: their dues, and the owners of those that ask a
-/// template.
+/// What is kept beside the waits: of those that have not ended the dues, and the owners of those
+/// that ask a template; and the serials of the runs that have waits.
 #[derive(Drop)]
 struct Pending {
     timers: TimerQueue,
     testing: BTreeSet<u64>,
+    runs: BTreeSet<u64>,
 }
 
 /// The waits of all runs, in the order in which they were asked for; who owns those that ended at
@@ -56,7 +57,7 @@ impl Model for Waits {
 
     ghost view = { λ w. record { asks = w.asks.items; fresh = w.fresh.items } };
 
-    ghost invariant = { λ w. AreKept w.asks.items w.pending.timers w.pending.testing w.ordered };
+    ghost invariant = { λ w. AreKept w.asks.items w.pending.timers w.pending.testing w.pending.runs w.ordered };
 }
 
 impl Waits {
@@ -72,6 +73,7 @@ impl Waits {
             pending: Pending {
                 timers: TimerQueue::make(alloc),
                 testing: BTreeSet::new(alloc),
+                runs: BTreeSet::new(alloc),
             },
             ordered: true,
         }
@@ -88,7 +90,7 @@ impl Waits {
         ensures stands { OnOk result ((j : Journal) → HasEntry j → StandsFor self.old.asks j → place ≡ length j → StandsFor self.new.asks j) }
     {
         let ordered = stay_ordered(self.ordered, self.asks.as_slice(), owner);
-        list_test(&mut self.pending.testing, &ask, owner)?;
+        let known = list_ask(&mut self.pending, &ask, owner)?;
         add_one(
             &mut self.asks,
             &mut self.pending.timers,
@@ -98,6 +100,7 @@ impl Waits {
                 ask,
                 end: None,
             },
+            known,
         )?;
         self.ordered = ordered;
         Ok(())
@@ -144,6 +147,9 @@ impl Waits {
     pub fn owner_of(&self, serial: u64, at: usize) -> Option<u64>
         ensures { result ≡ slice_get (owners_of serial self.now.asks) at }
     {
+        if !self.pending.runs.contains(&serial) {
+            return None;
+        }
         owner_at(self.asks.as_slice(), serial, at)
     }
 
@@ -153,7 +159,11 @@ impl Waits {
         ensures fresh { self.new.fresh ≡ self.old.fresh }
         ensures stands { (j : Journal) → StandsFor self.old.asks j → StandsFor self.new.asks j }
     {
+        if !self.pending.runs.contains(&serial) {
+            return;
+        }
         drop_all(&mut self.asks, &mut self.pending, serial);
+        self.pending.runs.remove(&serial);
     }
 }
 
@@ -169,7 +179,13 @@ impl Ended for Waits {
 }
 
 /// Takes a wait in, and its due, where the ended ones of its run and branch go.
-fn add_one(asks: &mut Vec<Asked>, timers: &mut TimerQueue, asked: Asked) -> Result<(), AllocError>
+fn add_one(
+    asks: &mut Vec<Asked>,
+    timers: &mut TimerQueue,
+    asked: Asked,
+    known: bool,
+) -> Result<(), AllocError>
+    requires known { known ≡ false → filter (λ b. not (is_of asked.ask.serial asked.ask.branch b)) asks.old.items ≡ asks.old.items }
     requires timed { AreTimed asks.old.items timers.old }
     requires owner { list_any (λ a. nat_eq a.owner asked.owner) asks.old.items ≡ false }
     requires pending { list_any (λ a. is_of asked.ask.serial asked.ask.branch a && is_none a.end) asks.old.items ≡ false }
@@ -178,7 +194,7 @@ fn add_one(asks: &mut Vec<Asked>, timers: &mut TimerQueue, asked: Asked) -> Resu
     ensures err { OnErr result (asks.new.items ≡ asks.old.items) }
     ensures timed { AreTimed asks.new.items timers.new }
 {
-    make_place(asks, timers, &asked)?;
+    make_place(asks, timers, &asked, known)?;
     asks.push_reserved(asked);
     Ok(())
 }
@@ -188,8 +204,10 @@ fn make_place(
     asks: &mut Vec<Asked>,
     timers: &mut TimerQueue,
     asked: &Asked,
+    known: bool,
 ) -> Result<(), AllocError>
-    requires { due_of asked.now.owner timers.old ≡ None }
+    requires due { due_of asked.now.owner timers.old ≡ None }
+    requires known { known ≡ false → filter (λ b. not (is_of asked.now.ask.serial asked.now.ask.branch b)) asks.old.items ≡ asks.old.items }
     ensures asks { OnOk result (asks.new.items ≡ filter (λ b. not (is_of asked.now.ask.serial asked.now.ask.branch b)) asks.old.items) }
     ensures timers { OnOk result (timers.new ≡ timer_added asked.now.ask.due asked.now.owner timers.old) }
     ensures room { OnOk result (length asks.new.items < vec_capacity asks.new) }
@@ -197,7 +215,7 @@ fn make_place(
 {
     asks.reserve(1)?;
     set_timer(timers, asked.ask.due, asked.owner)?;
-    drop_ended(asks, asked);
+    give_way(asks, asked, known);
     Ok(())
 }
 
@@ -214,6 +232,19 @@ fn set_timer(timers: &mut TimerQueue, due: Option<Moment>, owner: u64) -> Result
         Ok(_) => Ok(()),
         Err(_) => Err(AllocError),
     }
+}
+
+/// The waits of a wait's run and branch go, where its run is known to have waits.
+fn give_way(asks: &mut Vec<Asked>, asked: &Asked, known: bool)
+    requires { known ≡ false → filter (λ b. not (is_of asked.now.ask.serial asked.now.ask.branch b)) asks.old.items ≡ asks.old.items }
+    ensures rest { asks.new.items ≡ filter (λ b. not (is_of asked.now.ask.serial asked.now.ask.branch b)) asks.old.items }
+    ensures len { length asks.new.items ≤ length asks.old.items }
+    ensures capacity { vec_capacity asks.new ≡ vec_capacity asks.old }
+{
+    if !known {
+        return;
+    }
+    drop_ended(asks, asked);
 }
 
 /// Takes the waits of a wait's run and branch out.
@@ -245,8 +276,8 @@ fn note_at<A: Answers>(
 ) -> Result<(), AllocError>
     ensures ok { OnOk result (asks.new.items ≡ noted_at place (A.sight answers.now) fired.now at asks.old.items) }
     ensures fresh { OnOk result (fresh.new.items ≡ fresh.old.items ++ ended_at place (A.sight answers.now) fired.now at asks.old.items) }
-    ensures kept { (ordered : Bool) → AreKept asks.old.items pending.old.timers pending.old.testing ordered
-        → AreKept asks.new.items pending.new.timers pending.new.testing ordered }
+    ensures kept { (ordered : Bool) → AreKept asks.old.items pending.old.timers pending.old.testing pending.old.runs ordered
+        → AreKept asks.new.items pending.new.timers pending.new.testing pending.new.runs ordered }
 {
     if at >= asks.len() {
         return Ok(());
@@ -272,8 +303,8 @@ fn note_all<A: Answers>(
 ) -> Result<(), AllocError>
     ensures ok { OnOk result (asks.new.items ≡ noted place (A.sight answers.now) fired.now asks.old.items) }
     ensures fresh { OnOk result (fresh.new.items ≡ fresh.old.items ++ owners_ended place (A.sight answers.now) fired.now asks.old.items) }
-    ensures kept { (ordered : Bool) → AreKept asks.old.items pending.old.timers pending.old.testing ordered
-        → AreKept asks.new.items pending.new.timers pending.new.testing ordered }
+    ensures kept { (ordered : Bool) → AreKept asks.old.items pending.old.timers pending.old.testing pending.old.runs ordered
+        → AreKept asks.new.items pending.new.timers pending.new.testing pending.new.runs ordered }
 {
     for at in 0..asks.len() {
         note_at(alloc, at, asks, fresh, pending, place, fired, answers)?;
@@ -295,8 +326,8 @@ fn note_some<A: Answers>(
     requires { OfOthers (IsStill place (A.sight answers.now) fired.now) places asks.old.items }
     ensures ok { OnOk result (asks.new.items ≡ noted place (A.sight answers.now) fired.now asks.old.items) }
     ensures fresh { OnOk result (fresh.new.items ≡ fresh.old.items ++ owners_ended place (A.sight answers.now) fired.now asks.old.items) }
-    ensures kept { (ordered : Bool) → AreKept asks.old.items pending.old.timers pending.old.testing ordered
-        → AreKept asks.new.items pending.new.timers pending.new.testing ordered }
+    ensures kept { (ordered : Bool) → AreKept asks.old.items pending.old.timers pending.old.testing pending.old.runs ordered
+        → AreKept asks.new.items pending.new.timers pending.new.testing pending.new.runs ordered }
 {
     let mut left = places;
     'places: while let Some(at) = left.pop_first() {
@@ -317,10 +348,10 @@ fn note_entry<A: Answers>(
     fired: &Many<Firing>,
     answers: &A,
 ) -> Result<(), AllocError>
-    requires { AreKept asks.old.items pending.old.timers pending.old.testing ordered }
+    requires { AreKept asks.old.items pending.old.timers pending.old.testing pending.old.runs ordered }
     ensures ok { OnOk result (asks.new.items ≡ noted place (A.sight answers.now) fired.now asks.old.items) }
     ensures fresh { OnOk result (fresh.new.items ≡ fresh.old.items ++ owners_ended place (A.sight answers.now) fired.now asks.old.items) }
-    ensures kept { AreKept asks.new.items pending.new.timers pending.new.testing ordered }
+    ensures kept { AreKept asks.new.items pending.new.timers pending.new.testing pending.new.runs ordered }
 {
     if !ordered {
         return note_all(alloc, asks, fresh, pending, place, fired, answers);
@@ -349,6 +380,30 @@ fn stay_ordered(ordered: bool, asks: &[Asked], owner: u64) -> bool
     }
 }
 
+/// A wait is listed: its run, and its owner where it asks a template. Whether its run was before.
+fn list_ask(pending: &mut Pending, ask: &WaitAsk, owner: u64) -> Result<bool, AllocError>
+    ensures timers { pending.new.timers ≡ pending.old.timers }
+    ensures here { OnOk result (is_some ask.now.test ≡ true → has pending.new.testing owner ≡ true) }
+    ensures kept { (n : ℕ) → has pending.old.testing n ≡ true → has pending.new.testing n ≡ true }
+    ensures run { OnOk result (has pending.new.runs ask.now.serial ≡ true) }
+    ensures runs { (n : ℕ) → has pending.old.runs n ≡ true → has pending.new.runs n ≡ true }
+    ensures known { IfOk result (λ known. known ≡ has pending.old.runs ask.now.serial) }
+{
+    list_test(&mut pending.testing, ask, owner)?;
+    let known = list_run(&mut pending.runs, ask.serial)?;
+    Ok(known)
+}
+
+/// A run is listed. Whether it was before.
+fn list_run(runs: &mut BTreeSet<u64>, serial: u64) -> Result<bool, AllocError>
+    ensures here { OnOk result (has runs.new serial ≡ true) }
+    ensures kept { (n : ℕ) → has runs.old n ≡ true → has runs.new n ≡ true }
+    ensures known { IfOk result (λ known. known ≡ has runs.old serial) }
+{
+    let is_new = runs.insert(serial)?;
+    Ok(!is_new)
+}
+
 /// The owner is listed, where its wait asks a template.
 fn list_test(testing: &mut BTreeSet<u64>, ask: &WaitAsk, owner: u64) -> Result<(), AllocError>
     ensures here { OnOk result (is_some ask.now.test ≡ true → has testing.new owner ≡ true) }
@@ -364,6 +419,7 @@ fn list_test(testing: &mut BTreeSet<u64>, ask: &WaitAsk, owner: u64) -> Result<(
 fn settle(pending: &mut Pending, owner: u64)
     ensures timers { pending.new.timers ≡ removed owner pending.old.timers }
     ensures testing { (n : ℕ) → nat_eq owner n ≡ false → has pending.new.testing n ≡ has pending.old.testing n }
+    ensures runs { pending.new.runs ≡ pending.old.runs }
 {
     pending.timers.remove(owner);
     pending.testing.remove(&owner);
@@ -373,6 +429,7 @@ fn settle(pending: &mut Pending, owner: u64)
 fn mark(pending: &mut Pending, fresh: &mut Vec<u64>, owner: u64) -> Result<(), AllocError>
     ensures timers { pending.new.timers ≡ removed owner pending.old.timers }
     ensures testing { (n : ℕ) → nat_eq owner n ≡ false → has pending.new.testing n ≡ has pending.old.testing n }
+    ensures runs { pending.new.runs ≡ pending.old.runs }
     ensures fresh { OnOk result (fresh.new.items ≡ fresh.old.items ++ (owner ∷ [])) }
 {
     settle(pending, owner);
@@ -387,6 +444,7 @@ fn drop_all(asks: &mut Vec<Asked>, pending: &mut Pending, serial: u64)
     ensures rest { asks.new.items ≡ without_run serial asks.old.items }
     ensures timed { AreTimed asks.new.items pending.new.timers }
     ensures listed { All (IsListed pending.new.testing) asks.new.items }
+    ensures runs { pending.new.runs ≡ pending.old.runs }
 {
     let mut at = 0;
     while at < asks.len() {

@@ -4,8 +4,8 @@ use Rattle.wait_set.specs.Timers.{AreTimed}
 use Rattle.wait_set.proofs.AddLemmas.{no-timer, timed-added}
 use Rattle.wait_set.proofs.waits.add_one.Goals as goal
 
-pub make_place-requires : goal.make_place-requires
-make_place-requires c = no-timer c.args.asked.owner c.args.asks.now.items c.args.timers.now c.requires.timed c.requires.owner
+pub make_place-requires-clause-due : goal.make_place-requires-clause-due
+make_place-requires-clause-due c = no-timer c.args.asked.owner c.args.asks.now.items c.args.timers.now c.requires.timed c.requires.owner
 
 pub returns-clause-timed : goal.returns-clause-timed
 returns-clause-timed c =
