@@ -1,19 +1,25 @@
 -- The records of a line that changes no switch, and what is kept behind it.
 use Rattle.std.proofs.Common.{◌≡◌, ℕ, zero, suc, ◌+◌, ◌-◌, ◌<◌, ◌≤◌, List, [], ◌∷◌, length, Bool, true, false, refl, sym, ap, subst, ◌∙◌, rules, arith}
-use Rattle.std.specs.Prelude.{Option, Some, None, nat_eq}
+use Rattle.std.specs.Prelude.{Option, Some, None, nat_eq, filter, slice_get}
+use Rattle.std.specs.List.{enumerate_from}
+use Rattle.std.specs.Option.{option_map_or}
+use Rattle.ha_value.specs.declared.value.EntityId.{EntityId}
 use Rattle.ha_model.specs.declared.journal.Cmd.{Cmd}
 use Rattle.ha_model.specs.declared.journal.Entry.{Entry}
 use Rattle.ha_model.specs.declared.journal.Entry.TheVariants.{Line}
 use Rattle.ha_model.specs.declared.journal.Record.{Record}
+use Rattle.ha_model.specs.Attempts.{Attempt, attempts_of, fired, passes}
 use Rattle.ha_model.specs.Entries.{Turning, turning}
 use Rattle.ha_model.specs.Entries.{IsPlain}
 use Rattle.ha_model.specs.Commands.{IsFair}
 use Rattle.ha_model.specs.Journal.{Journal, automations}
-use Rattle.ha_model.specs.Records.{Records, passing, records_of, stops, stops_turned}
+use Rattle.ha_model.specs.Words.{Text, Pairs}
+use Rattle.ha_model.specs.Records.{Records, last_place, passing, records_of, stops, stops_turned}
 use Rattle.ha_model.specs.RecordSteps.{more, records_after}
 use Rattle.ha_model.specs.Lawful.{Right, is_quiet, ready, is_empty, record_of}
 use Rattle.ha_model.proofs.LawfulLaws.{right-more}
 use Rattle.ha_model.proofs.RecordLaws.{length-more, records-more}
+use Rattle.ha_model.proofs.SinceLaws.{get-last}
 use Rattle.ha_model.proofs.StepLaws.{Numbered, numbered-of}
 use Rattle.run_modes.specs.Calls.{AreTurned, all_tried, stops_done}
 use Rattle.run_modes.specs.Fits.{AreNumbered}
@@ -83,3 +89,20 @@ line-table j rs source number cmd right = record {
 -- LAW: the journal with the line is right with them
 pub plain-right : (j : Journal) (rs : Records) (source number : ℕ) (cmd : Cmd) → Right j rs → IsFair j cmd → Right (more j (Line source number cmd)) (records_after j rs (Line source number cmd))
 plain-right j rs source number cmd right fair = right-more j rs (Line source number cmd) right (λ boot. boot) fair
+
+-- LAW: a report at which nothing fired asks for no run
+pub none-passing : (k j : Journal) (source number : ℕ) (entity : EntityId) (text : Text) (attributes : Pairs)
+    → k ≡ more j (Line source number (Cmd.Report entity text attributes)) → [] ≡ fired k (last_place k) → passing k ≡ []
+none-passing k j source number entity text attributes is none =
+    let x : Entry = Line source number (Cmd.Report entity text attributes) in
+    let p : ℕ = last_place k in
+    let at : p ≡ length j = omega (arith, ap length is, length-more j x) in
+    let entry : slice_get k p ≡ Some x = (λ i. slice_get (is i) (at i)) ∙ get-last j x in
+    ap (λ o. filter (λ y. passes k p y.1) (enumerate_from 0 (option_map_or (attempts_of k p) o []))) entry
+    ∙ ap (λ (l : List Attempt). filter (λ y. passes k p y.1) (enumerate_from 0 l)) (sym none)
+
+-- LAW: behind a plain line that asks for no run the records are those before it
+pub none-told : (k j : Journal) (rs : Records) (source number : ℕ) (cmd : Cmd) → k ≡ more j (Line source number cmd) → Right j rs → IsPlain cmd → IsFair j cmd
+    → passing k ≡ [] → rs ≡ records_after j rs (Line source number cmd)
+none-told k j rs source number cmd is right plain fair none =
+    ap (all_tried k rs) (sym none) ∙ ap (λ (i : Journal). all_tried i rs (passing i)) is ∙ plain-records j rs source number cmd right plain fair

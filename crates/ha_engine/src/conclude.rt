@@ -1,5 +1,5 @@
 //! The end of the work on an entry: its attempts, and the flags of the sources.
-ghost use Rattle.std.specs.Prelude.{◌≡◌, ◌≤◌, ℕ, OnOk, OnErr, vec_len};
+ghost use Rattle.std.specs.Prelude.{◌≡◌, ◌≤◌, [], ℕ, OnOk, OnErr, vec_len};
 ghost use Rattle.ha_model.specs.declared.journal.Entry.{Entry as Item};
 ghost use Rattle.ha_model.specs.Attempts.{fired as fired_lem};
 ghost use Rattle.ha_model.specs.Journal.{Journal};
@@ -55,6 +55,15 @@ fn note_source(parts: &mut Parts, journal: &[Entry])
     let source = last_source(journal);
     let quiet = parts.ready.pairs.len() == 0;
     note_flags(&mut parts.rested, source, quiet);
+}
+
+/// The end of the work on a line that stops nobody and asks for no run: its records are those before it, and the flags alone are left.
+pub(crate) fn conclude_left(journal: &[Entry], parts: &mut Parts)
+    requires { vec_len parts.old.rested ≤ 16 }
+    ensures { (rs : Records) → LineTold journal.now rs parts.old → passing journal.now ≡ []
+        → Right journal.now rs × Kept journal.now rs parts.new }
+{
+    note_source(parts, journal);
 }
 
 /// The end of the work on an entry, whose own calls and stops were made: its attempts, and the flags. There is room for them.

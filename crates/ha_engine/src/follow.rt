@@ -11,7 +11,7 @@ ghost use Rattle.trig_set.specs.Left.{Leaves};
 ghost use Rattle.engine_parts.specs.Kept.{Kept};
 ghost use Rattle.engine_parts.specs.Stages.{Entered, IsLine, Pushed, PushedAs, RunsBefore};
 
-use crate::conclude::conclude;
+use crate::conclude::{conclude, conclude_left};
 use crate::restart::follow_restart;
 use crate::switch::follow_switch;
 use engine_entry::enter::{enter_gone, enter_left, enter_moment, enter_other, enter_report};
@@ -76,7 +76,7 @@ fn follow_plain(
     conclude(alloc, journal, runs, parts, fired)
 }
 
-/// A report of an entity that concerns nobody.
+/// A report of an entity that concerns nobody: it asks for no run, so the records stay.
 fn follow_left(
     alloc: Global,
     journal: &[Entry],
@@ -93,7 +93,8 @@ fn follow_left(
 {
     enter_left(parts, alloc, entity, text, attributes)?;
     attend_left(parts, alloc, journal, entity, text, attributes)?;
-    conclude(alloc, journal, runs, parts, Many::make(alloc))
+    conclude_left(journal, parts);
+    Ok(())
 }
 
 /// A report.
