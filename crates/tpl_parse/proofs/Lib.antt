@@ -1,6 +1,15 @@
+pub mod Ahead
 pub mod Apart
 pub mod Characters
 pub mod Continues
+pub mod Cut
+pub mod CutAtoms
+pub mod CutChains
+pub mod CutExpressions
+pub mod CutLexical
+pub mod CutNumbers
+pub mod CutPieces
+pub mod CutRange
 pub mod FoundAtoms
 pub mod FoundExpressions
 pub mod FoundPieces
@@ -17,6 +26,7 @@ pub mod Parsed
 pub mod PiecesShorter
 pub mod RangeEnds
 pub mod RangeWalks
+pub mod Refusals
 pub mod Runs
 pub mod Shorter
 pub mod Starts

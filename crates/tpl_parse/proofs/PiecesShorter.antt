@@ -28,7 +28,7 @@ after_text_keeps None more h t =
       | inr b ↦ rw b (elim (outcome (length t) (character t) (character_keeps t)) [ inl x ↦ rw x.1 (later more h x.0.1 (length t) x.2) | inr f ↦ rw f.1 f.2 ])
     ]
 
-text_turns_keeps : (n : ℕ) → Keeps (text_turns n)
+pub text_turns_keeps : (n : ℕ) → Keeps (text_turns n)
 unfolding text_turns
 text_turns_keeps zero t = omega arith
 text_turns_keeps (suc n) t = after_text_keeps (tag_at t) (text_turns n) (text_turns_keeps n) t
@@ -37,7 +37,7 @@ pub text_keeps : Keeps text
 unfolding text
 text_keeps t = text_turns_keeps (suc (length t)) t
 
-comment_turns_keeps : (n : ℕ) → Keeps (comment_turns n)
+pub comment_turns_keeps : (n : ℕ) → Keeps (comment_turns n)
 unfolding comment_turns
 comment_turns_keeps zero t = omega arith
 comment_turns_keeps (suc n) t =
@@ -60,7 +60,7 @@ unfolding one_of
 one_of_keeps all [] t = omega (arith, length-drop_some (reach all (spaces t)) (spaces t), length-spaces t)
 one_of_keeps all (token ∷ tokens) t = elim (chosen_is (next_is token t)) [ inl b ↦ rw b (length-past token t) | inr b ↦ rw b (one_of_keeps all tokens t) ]
 
-end_of_keeps : (end trimming : Token) → Keeps (end_of end trimming)
+pub end_of_keeps : (end trimming : Token) → Keeps (end_of end trimming)
 end_of_keeps end trimming t =
     elim (chosen_is (next_is trimming t)) [
       | inl b ↦ rw b (length-past trimming t)
@@ -70,7 +70,7 @@ end_of_keeps end trimming t =
       ])
     ]
 
-plain_last_keeps : (end trimming : Token) (part : Part) → Keeps (plain_last end trimming part)
+pub plain_last_keeps : (end trimming : Token) (part : Part) → Keeps (plain_last end trimming part)
 plain_last_keeps end trimming part t =
     elim (chosen_is (next_is end t)) [
       | inl d ↦ rw d (length-past end t)
@@ -111,7 +111,7 @@ open_choice_keeps : (open' : List Choosing) (token : Token) (found : Found) → 
 open_choice_keeps [] token found t = omega arith
 open_choice_keeps (choosing ∷ outer) token found t = in_choice_keeps token found choosing outer t
 
-statement_by_keeps : (token : Token) (found : Found) → Keeps (statement_by token found)
+pub statement_by_keeps : (token : Token) (found : Found) → Keeps (statement_by token found)
 statement_by_keeps Token.Set found t = set_name_keeps found t
 statement_by_keeps Token.If found t = made_within (length t) (λ test. begun found test.0 test.1) (tag_expression t) (last_expression_keeps Token.TagEnd Token.TrimTagEnd t)
 statement_by_keeps token found t = open_choice_keeps found.open' token found t
@@ -137,7 +137,7 @@ length-behind_sign t = elim (chosen_is (sign_of t)) [ inl b ↦ rw b (omega (ari
 finished_keeps : (found : Found) (text : List ℕ) → Keeps (finished found text)
 finished_keeps found text t = elim (chosen_is (none_open found.open')) [ inl b ↦ rw b (omega arith) | inr b ↦ rw b (omega arith) ]
 
-after_piece_keeps : (tag : Option Tag) (more : Found → Reads Template) → ((found : Found) → Keeps (more found)) → (found : Found) (text : List ℕ) → Keeps (after_piece tag more found text)
+pub after_piece_keeps : (tag : Option Tag) (more : Found → Reads Template) → ((found : Found) → Keeps (more found)) → (found : Found) (text : List ℕ) → Keeps (after_piece tag more found text)
 after_piece_keeps None more h found text t = finished_keeps found text t
 after_piece_keeps (Some tag) more h found text t =
     let less : length (behind_sign t) ≤ length t = omega (arith, length-behind_sign t, length-drop_some 2 t) in
@@ -147,7 +147,7 @@ after_piece_keeps (Some tag) more h found text t =
       | inr f ↦ rw f.1 f.2
     ]
 
-piece_turns_keeps : (n : ℕ) (found : Found) → Keeps (piece_turns n found)
+pub piece_turns_keeps : (n : ℕ) (found : Found) → Keeps (piece_turns n found)
 unfolding piece_turns
 piece_turns_keeps zero found t = omega arith
 piece_turns_keeps (suc n) found t =

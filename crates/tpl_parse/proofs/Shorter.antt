@@ -46,7 +46,7 @@ pub made_within : {A B : Type 0} (n : ℕ) (m : A → B) (r : Read A) → Within
 made_within n m (Ok x) h = h
 made_within n m (Err f) h = h
 
-larger : {A : Type 0} (n m : ℕ) (r : Read A) → n ≤ m → Within n r → Within m r
+pub larger : {A : Type 0} (n m : ℕ) (r : Read A) → n ≤ m → Within n r → Within m r
 larger n m (Ok x) le h = omega arith
 larger n m (Err f) le h = omega arith
 
@@ -55,7 +55,7 @@ pub later : {A : Type 0} (rule : Reads A) → Keeps rule → (t : List ℕ) (n :
 later rule h t n le = larger (length t) n (rule t) le (h t)
 
 -- ---- blanks and tokens
-length-drop_some : (n : ℕ) (t : List ℕ) → length (drop n t) ≤ length t
+pub length-drop_some : (n : ℕ) (t : List ℕ) → length (drop n t) ≤ length t
 length-drop_some n t = omega (arith, length-drop n t)
 
 pub length-spaces : (t : List ℕ) → length (spaces t) ≤ length t
@@ -85,7 +85,7 @@ pub string_character_keeps : Keeps string_character
 unfolding string_character
 string_character_keeps t = plain_or_keeps (escape_at t) t
 
-string_turns_keeps : (n quote : ℕ) (found : List ℕ) → Keeps (string_turns n quote found)
+pub string_turns_keeps : (n quote : ℕ) (found : List ℕ) → Keeps (string_turns n quote found)
 unfolding string_turns
 string_turns_keeps zero quote found t = omega arith
 string_turns_keeps (suc n) quote found t =
@@ -106,7 +106,7 @@ unfolding skip_digits
 length-skip_digits [] = omega arith
 length-skip_digits (b ∷ t) = elim (chosen_is (is_ascii_digit b)) [ inl h ↦ rw h (omega (arith, length-skip_digits t)) | inr h ↦ rw h (omega arith) ]
 
-length-behind_number : (t : List ℕ) → length (behind_number t) ≤ length t
+pub length-behind_number : (t : List ℕ) → length (behind_number t) ≤ length t
 length-behind_number t =
     elim (chosen_is (begins_places (skip_digits t))) [
       | inl h ↦ rw h (omega (arith, length-skip_digits (drop 1 (skip_digits t)), length-drop_some 1 (skip_digits t), length-skip_digits t))
@@ -126,7 +126,7 @@ unfolding skip_word
 length-skip_word [] = omega arith
 length-skip_word (b ∷ t) = elim (chosen_is (in_name b)) [ inl h ↦ rw h (omega (arith, length-skip_word t)) | inr h ↦ rw h (omega arith) ]
 
-unreserved_keeps : Keeps unreserved
+pub unreserved_keeps : Keeps unreserved
 unfolding unreserved
 unreserved_keeps t = elim (chosen_is (is_reserved (word t))) [ inl h ↦ rw h (length-skip_word t) | inr h ↦ rw h (length-skip_word t) ]
 
@@ -177,7 +177,7 @@ enclosed_keeps inner h close t =
       | inr f ↦ rw f.1 f.2
     ]
 
-after_item_keeps : (close : Token) (counts : Counts) (more : List Expr → Reads (List Expr)) (items : List Expr) (part : Part) → Keeps (more items) → Keeps (after_item close counts more items part)
+pub after_item_keeps : (close : Token) (counts : Counts) (more : List Expr → Reads (List Expr)) (items : List Expr) (part : Part) → Keeps (more items) → Keeps (after_item close counts more items part)
 after_item_keeps close counts more items part h t =
     elim (chosen_is (nat_le counts.least (length items) && next_is close t)) [
       | inl b ↦ rw b (length-behind close t)
@@ -187,7 +187,7 @@ after_item_keeps close counts more items part h t =
       ])
     ]
 
-item_turns_keeps : (n : ℕ) (expression : Reads Part) → Keeps expression → (close : Token) (counts : Counts) (found : List Expr) → Keeps (item_turns n expression close counts found)
+pub item_turns_keeps : (n : ℕ) (expression : Reads Part) → Keeps expression → (close : Token) (counts : Counts) (found : List Expr) → Keeps (item_turns n expression close counts found)
 unfolding item_turns
 item_turns_keeps zero expression h close counts found t = omega arith
 item_turns_keeps (suc n) expression h close counts found t =
@@ -198,7 +198,7 @@ item_turns_keeps (suc n) expression h close counts found t =
       | inr f ↦ rw f.1 f.2
     ]
 
-items_in_keeps : (inner : Option Inner) → IsOpen inner → (close : Token) (counts : Counts) → Keeps (items_in inner close counts)
+pub items_in_keeps : (inner : Option Inner) → IsOpen inner → (close : Token) (counts : Counts) → Keeps (items_in inner close counts)
 items_in_keeps None h close counts t = omega arith
 items_in_keeps (Some inner) h close counts t =
     elim (chosen_is (takes_behind counts.most 0)) [ inl b ↦ rw b (item_turns_keeps (suc (length t)) inner.expression h.expression close counts [] t) | inr b ↦ rw b (omega arith) ]
@@ -213,11 +213,11 @@ arguments_keeps inner h close counts t =
 
 -- ---- atoms
 
-not_called_keeps : (function : Function) (name : List ℕ) → Keeps (not_called function name)
+pub not_called_keeps : (function : Function) (name : List ℕ) → Keeps (not_called function name)
 not_called_keeps Function.States name t = omega arith
 not_called_keeps _ name t = omega arith
 
-call_or_name_keeps : (function : Option Function) (inner : Option Inner) → IsOpen inner → (name : List ℕ) → Keeps (call_or_name function inner name)
+pub call_or_name_keeps : (function : Option Function) (inner : Option Inner) → IsOpen inner → (name : List ℕ) → Keeps (call_or_name function inner name)
 call_or_name_keeps None inner h name t = omega arith
 call_or_name_keeps (Some function) None h name t = not_called_keeps function name t
 call_or_name_keeps (Some function) (Some inner) h name t =
@@ -229,7 +229,7 @@ call_or_name_keeps (Some function) (Some inner) h name t =
       | inr b ↦ rw b (later (not_called function name) (not_called_keeps function name) (spaces t) (length t) (length-spaces t))
     ]
 
-by_word_keeps : (value : Option Value) (inner : Option Inner) → IsOpen inner → (name : List ℕ) → Keeps (by_word value inner name)
+pub by_word_keeps : (value : Option Value) (inner : Option Inner) → IsOpen inner → (name : List ℕ) → Keeps (by_word value inner name)
 by_word_keeps (Some value) inner h name t = omega arith
 by_word_keeps None inner h name t =
     elim (chosen_is (is_reserved name)) [ inl b ↦ rw b (omega arith) | inr b ↦ rw b (call_or_name_keeps (function_named name) inner h name t) ]
@@ -238,11 +238,11 @@ pub word_atom_keeps : (inner : Option Inner) → IsOpen inner → Keeps (word_at
 unfolding word_atom
 word_atom_keeps inner h t = later (by_word (constant (word t)) inner (word t)) (by_word_keeps (constant (word t)) inner h (word t)) (skip_word t) (length t) (length-skip_word t)
 
-in_group_keeps : (inner : Option Inner) → IsOpen inner → Keeps (in_group inner)
+pub in_group_keeps : (inner : Option Inner) → IsOpen inner → Keeps (in_group inner)
 in_group_keeps None h t = omega arith
 in_group_keeps (Some inner) h t = later (enclosed inner Token.CloseGroup) (enclosed_keeps inner h Token.CloseGroup) (drop 1 t) (length t) (length-drop_some 1 t)
 
-atom_by_keeps : (start : Start) (inner : Option Inner) → IsOpen inner → Keeps (atom_by start inner)
+pub atom_by_keeps : (start : Start) (inner : Option Inner) → IsOpen inner → Keeps (atom_by start inner)
 atom_by_keeps numeric inner h t = made_within (length t) (λ n. Expr.Plain (Value.Number n)) (number t) (number_keeps t)
 atom_by_keeps (quoted quote) inner h t =
     made_within (length t) (λ t. Expr.Plain (Value.Text t)) (string quote (drop 1 t)) (later (string quote) (string_keeps quote) (drop 1 t) (length t) (length-drop_some 1 t))
@@ -258,7 +258,7 @@ atom_keeps inner h t = later (atom_by (start_of (front (spaces t))) inner) (atom
 
 -- ---- keys and places, signs, filters
 
-at_place_keeps : (inner : Option Inner) → IsOpen inner → (more : Expr → Reads Expr) → ((base : Expr) → Keeps (more base)) → (base : Expr) → Keeps (at_place inner more base)
+pub at_place_keeps : (inner : Option Inner) → IsOpen inner → (more : Expr → Reads Expr) → ((base : Expr) → Keeps (more base)) → (base : Expr) → Keeps (at_place inner more base)
 at_place_keeps None h more k base t = length-spaces t
 at_place_keeps (Some inner) h more k base t =
     elim (chosen_is (next_is Token.OpenList t)) [
@@ -269,7 +269,7 @@ at_place_keeps (Some inner) h more k base t =
       | inr b ↦ rw b (length-spaces t)
     ]
 
-part_turns_keeps : (n : ℕ) (inner : Option Inner) → IsOpen inner → (base : Expr) → Keeps (part_turns n inner base)
+pub part_turns_keeps : (n : ℕ) (inner : Option Inner) → IsOpen inner → (base : Expr) → Keeps (part_turns n inner base)
 unfolding part_turns
 part_turns_keeps zero inner h base t = omega arith
 part_turns_keeps (suc n) inner h base t =
@@ -308,7 +308,7 @@ filter_arguments_keeps inner h counts t =
       | inr b ↦ rw b (elim (chosen_is (counts.least == 0)) [ inl d ↦ rw d (length-spaces t) | inr d ↦ rw d (length-spaces t) ])
     ]
 
-filter_turns_keeps : (n : ℕ) (inner : Option Inner) → IsOpen inner → (base : Expr) → Keeps (filter_turns n inner base)
+pub filter_turns_keeps : (n : ℕ) (inner : Option Inner) → IsOpen inner → (base : Expr) → Keeps (filter_turns n inner base)
 unfolding filter_turns
 filter_turns_keeps zero inner h base t = omega arith
 filter_turns_keeps (suc n) inner h base t =
@@ -337,7 +337,7 @@ filtered_keeps inner h t =
 
 -- ---- operands and operators
 
-after_operator_keeps : (found : Option (Token × Op)) (operand : Reads Part) → Keeps operand → (more : Part → Reads Part) → ((left : Part) → Keeps (more left)) → (left : Part) → Keeps (after_operator found operand more left)
+pub after_operator_keeps : (found : Option (Token × Op)) (operand : Reads Part) → Keeps operand → (more : Part → Reads Part) → ((left : Part) → Keeps (more left)) → (left : Part) → Keeps (after_operator found operand more left)
 after_operator_keeps None operand h more k left t = length-spaces t
 after_operator_keeps (Some row) operand h more k left t =
     elim (outcome (length t) (operand (past row.0 t)) (later operand h (past row.0 t) (length t) (length-past row.0 t))) [
@@ -345,7 +345,7 @@ after_operator_keeps (Some row) operand h more k left t =
       | inr f ↦ rw f.1 f.2
     ]
 
-operand_turns_keeps : (n : ℕ) (rows : List (Token × Op)) (operand : Reads Part) → Keeps operand → (left : Part) → Keeps (operand_turns n rows operand left)
+pub operand_turns_keeps : (n : ℕ) (rows : List (Token × Op)) (operand : Reads Part) → Keeps operand → (left : Part) → Keeps (operand_turns n rows operand left)
 unfolding operand_turns
 operand_turns_keeps zero rows operand h left t = omega arith
 operand_turns_keeps (suc n) rows operand h left t = after_operator_keeps (operator rows t) operand h (operand_turns n rows operand) (λ e. operand_turns_keeps n rows operand h e) left t
@@ -358,14 +358,14 @@ chain_keeps rows operand h t =
       | inr f ↦ rw f.1 f.2
     ]
 
-factor_keeps : (inner : Option Inner) → IsOpen inner → Keeps (operand Level.Product inner)
+pub factor_keeps : (inner : Option Inner) → IsOpen inner → Keeps (operand Level.Product inner)
 factor_keeps inner h t = made_within (length t) (λ e. ending e Last.Operand) (filtered inner t) (filtered_keeps inner h t)
 
-product_keeps : (inner : Option Inner) → IsOpen inner → Keeps (product inner)
+pub product_keeps : (inner : Option Inner) → IsOpen inner → Keeps (product inner)
 unfolding product
 product_keeps inner h = chain_keeps (operators Level.Product) (operand Level.Product inner) (factor_keeps inner h)
 
-joined_keeps : (inner : Option Inner) → IsOpen inner → Keeps (joined inner)
+pub joined_keeps : (inner : Option Inner) → IsOpen inner → Keeps (joined inner)
 unfolding joined
 joined_keeps inner h = chain_keeps (operators Level.Join) (product inner) (product_keeps inner h)
 
@@ -373,7 +373,7 @@ pub sum_keeps : (inner : Option Inner) → IsOpen inner → Keeps (sum inner)
 unfolding sum
 sum_keeps inner h = chain_keeps (operators Level.Sum) (joined inner) (joined_keeps inner h)
 
-tested_keeps : (turned : Bool) → Keeps (tested turned)
+pub tested_keeps : (turned : Bool) → Keeps (tested turned)
 tested_keeps turned t =
     let twice : length (spaces (spaces t)) ≤ length t = omega (arith, length-spaces t, length-spaces (spaces t)) in
     elim (chosen_is (next_is Token.None t)) [
@@ -387,11 +387,11 @@ tested_keeps turned t =
       ])
     ]
 
-test_keeps : Keeps none_test
+pub test_keeps : Keeps none_test
 unfolding none_test
 test_keeps t = later (tested (next_is Token.Not t)) (tested_keeps (next_is Token.Not t)) (behind Token.Not t) (length t) (length-behind Token.Not t)
 
-length-behind_operator : (found : Option (Token × Op)) (t : List ℕ) → length (behind_operator found t) ≤ length t
+pub length-behind_operator : (found : Option (Token × Op)) (t : List ℕ) → length (behind_operator found t) ≤ length t
 length-behind_operator None t = length-spaces t
 length-behind_operator (Some row) t = length-past row.0 t
 
@@ -403,11 +403,11 @@ comparator_keeps t =
       | inr b ↦ rw b (omega (arith, length-behind_operator (operator comparisons (spaces t)) (spaces t), length-spaces t))
     ]
 
-with_right_keeps : (inner : Option Inner) → IsOpen inner → (left : Part) (op : Option Op) → Keeps (with_right inner left op)
+pub with_right_keeps : (inner : Option Inner) → IsOpen inner → (left : Part) (op : Option Op) → Keeps (with_right inner left op)
 with_right_keeps inner h left None t = omega arith
 with_right_keeps inner h left (Some op) t = made_within (length t) (λ right. ending (Expr.Pair op left.expr right.expr) Last.Compared) (sum inner t) (sum_keeps inner h t)
 
-compared_keeps : (inner : Option Inner) → IsOpen inner → (left : Part) → Keeps (compared inner left)
+pub compared_keeps : (inner : Option Inner) → IsOpen inner → (left : Part) → Keeps (compared inner left)
 compared_keeps inner h left t =
     elim (outcome (length t) (comparator t) (comparator_keeps t)) [ inl x ↦ rw x.1 (later (with_right inner left x.0.0) (with_right_keeps inner h left x.0.0) x.0.1 (length t) x.2) | inr f ↦ rw f.1 f.2 ]
 
@@ -433,11 +433,11 @@ negation_keeps (Some inner) h t =
       | inr b ↦ rw b (later (comparison (Some inner)) (comparison_keeps (Some inner) h) (spaces t) (length t) (length-spaces t))
     ]
 
-conjunction_keeps : (inner : Option Inner) → IsOpen inner → Keeps (conjunction inner)
+pub conjunction_keeps : (inner : Option Inner) → IsOpen inner → Keeps (conjunction inner)
 unfolding conjunction
 conjunction_keeps inner h = chain_keeps (operators Level.And) (negation inner) (negation_keeps inner h)
 
-disjunction_keeps : (inner : Option Inner) → IsOpen inner → Keeps (disjunction inner)
+pub disjunction_keeps : (inner : Option Inner) → IsOpen inner → Keeps (disjunction inner)
 unfolding disjunction
 disjunction_keeps inner h = chain_keeps (operators Level.Or) (conjunction inner) (conjunction_keeps inner h)
 
@@ -450,7 +450,7 @@ operand_keeps Level.Product inner h = factor_keeps inner h
 
 -- ---- expressions
 
-with_else_keeps : (inner : Option Inner) → IsOpen inner → (yes' test' : Part) → Keeps (with_else inner yes' test')
+pub with_else_keeps : (inner : Option Inner) → IsOpen inner → (yes' test' : Part) → Keeps (with_else inner yes' test')
 with_else_keeps None h yes' test' t = omega arith
 with_else_keeps (Some inner) h yes' test' t =
     elim (chosen_is (next_is Token.Else t)) [

@@ -26,7 +26,7 @@ tested false = inr refl
 nearer_ten : (q r d : ℕ) → nearer q (r * 10) (d * 10) ≡ nearer q r d
 nearer_ten q r d = grind (arith, nat_tests)
 
-nearest_ten : (n d : ℕ) → 0 < d → nearest (n * 10) (d * 10) ≡ nearest n d
+pub nearest_ten : (n d : ℕ) → 0 < d → nearest (n * 10) (d * 10) ≡ nearest n d
 nearest_ten n d some =
     let parts : n / d * d + n % d ≡ n = div-add-mod' n d in
     let less : n % d < d = mod_below n d some in

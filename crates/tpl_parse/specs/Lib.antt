@@ -4,5 +4,6 @@ pub mod Literal
 pub mod Names
 pub mod Pieces
 pub mod Reading
+pub mod Refused
 pub mod Tells
 pub mod Token

@@ -7,6 +7,7 @@
 mod expression;
 mod fault;
 mod found;
+pub mod laws;
 mod literal;
 mod names;
 mod operand;

@@ -4,6 +4,7 @@ ghost use Rattle.std.specs.Prelude.{◌<◌, ◌^◌, length, IfOk};
 ghost use Rattle.ha_model.specs.declared.template.Template.{Template};
 ghost use Rattle.tpl_parse.specs.Grammar.{Answers, IsTemplate};
 ghost use Rattle.tpl_parse.specs.Pieces.{template};
+ghost use Rattle.tpl_parse.specs.Refused.{Stops};
 ghost use Rattle.tpl_parse.specs.Tells.{Tells};
 
 use crate::fault::ParseFault;
@@ -17,6 +18,8 @@ pub fn parse(alloc: Global, text: &[u8]) -> Result<Template, ParseFault>
     requires { length text.now < 2 ^ 32 }
     ensures found { IfOk result (λ tree. IsTemplate text.now tree) }
     ensures only { (tree : Template) → IsTemplate text.now tree → Answers result tree }
+    // No template begins with what stands up to the place of a refusal and the byte there.
+    ensures stops { Stops text.now result }
     ensures exact { Tells text.now (template text.now) result }
 {
     match Parser::new(text).template(alloc) {
