@@ -130,8 +130,8 @@ impl<C: Core, K: Sink, Q: Keeper> Bus<C, K, Q> {
         (core, calls, errors, trace, keep)
     }
 
-    /// Ends a bus on which no run is ready to step: writes the end line to the trace, where there is one, has its sink hand on what it keeps,
-    /// and gives the parts. A fault of that is told beside them.
+    /// Ends a bus on which no run is ready to step: writes the end line to the trace, where there is one, has its sink hand on what it
+    /// keeps, and gives the parts. A fault of that is told beside them.
     pub fn end(self, alloc: Global) -> Ended<C, K, Q>
         requires open { self.first ≡ None }
         requires quiet { is_quiet self.records self.journal ≡ true }
