@@ -4,7 +4,6 @@ ghost use Rattle.ha_io.specs.MemSink.{new_sink};
 
 use ha_engine::Engine;
 use ha_io::{Gate, MemFile, MemKeeper, MemPlace, MemSink, OpenGate, have_distinct_names};
-use ha_model::{EndCause, Record};
 use ha_status::Status;
 use ha_top::{Outcome, hearth};
 use std::alloc::{AllocError, Global};
@@ -257,131 +256,6 @@ pub fn replays<R: Abort + Threads + Wait + Sync + Alloc<A = Global>>(
     )
 }
 
-/// What is wanted of the end of a run; nothing is wanted of what is none.
-#[derive(Clone, Copy)]
-pub struct Wanted<'a> {
-    /// The number of the status.
-    pub status: u8,
-    /// The lines of calls, in the short form.
-    pub calls: Option<&'a [&'a str]>,
-    /// The same, as they stand.
-    pub output: Option<&'a str>,
-    /// What is written to the other sink.
-    pub errors: Option<&'a str>,
-    /// How many entries the journal has.
-    pub entries: Option<usize>,
-    pub stored: Option<&'a str>,
-    /// How many runs there are.
-    pub runs: Option<usize>,
-    /// Where the first run ended, and by what.
-    pub end: Option<(u64, EndCause)>,
-}
-
-/// It ends well.
-pub const WELL: Wanted<'static> = Wanted {
-    status: 0,
-    calls: None,
-    output: None,
-    errors: None,
-    entries: None,
-    runs: None,
-    stored: None,
-    end: None,
-};
-
-/// It ends with this status and these lines of errors.
-pub fn ends_with<'a>(status: u8, errors: &'a str) -> Wanted<'a> {
-    Wanted {
-        status,
-        calls: None,
-        output: None,
-        errors: Some(errors),
-        entries: None,
-        runs: None,
-        stored: None,
-        end: None,
-    }
-}
-
-fn are_calls(alloc: Global, found: &[u8], wanted: Option<&[&str]>) -> Result<bool, AllocError> {
-    let Some(wanted) = wanted else {
-        return Ok(true);
-    };
-    let calls = calls_of(alloc, wanted)?;
-    Ok(found == calls.as_bytes())
-}
-
-fn is_text(found: &[u8], wanted: Option<&str>) -> bool {
-    match wanted {
-        Some(text) => found == text.as_bytes(),
-        None => true,
-    }
-}
-
-fn is_count(found: usize, wanted: Option<usize>) -> bool {
-    match wanted {
-        Some(count) => found == count,
-        None => true,
-    }
-}
-
-fn is_stored(found: Option<&[u8]>, wanted: Option<&str>) -> bool {
-    match found {
-        Some(text) => is_text(text, wanted),
-        None => wanted.is_none(),
-    }
-}
-
-fn is_first_end(records: &[Record], wanted: Option<(u64, EndCause)>) -> bool {
-    match (records.first(), wanted) {
-        (_, None) => true,
-        (Some(run), _) => run.end == wanted,
-        (None, _) => false,
-    }
-}
-
-/// Whether the run ended so.
-pub fn ended(
-    alloc: Global,
-    outcome: &Outcome<MemPlace, MemKeeper>,
-    wanted: &Wanted<'_>,
-) -> Result<bool, AllocError> {
-    let calls = are_calls(alloc, outcome.out.bytes(), wanted.calls)?;
-    Ok(
-        calls
-            && outcome.status.number() == wanted.status
-            && is_text(outcome.out.bytes(), wanted.output)
-            && is_text(outcome.err.bytes(), wanted.errors)
-            && is_count(outcome.journal.len(), wanted.entries)
-            && is_count(outcome.records.len(), wanted.runs)
-            && is_stored(outcome.keep.text(), wanted.stored)
-            && is_first_end(outcome.records.as_slice(), wanted.end),
-    )
-}
-
-/// Runs the day; whether it ends so.
-pub fn ends<R: Abort + Threads + Wait + Sync + Alloc<A = Global>>(
-    rt: &R,
-    day: &Day<'_>,
-    outside: &Outside,
-    wanted: &Wanted<'_>,
-) -> Result<bool, AllocError> {
-    let outcome = run(rt, day, outside)?;
-    ended(rt.alloc(), &outcome, wanted)
-}
-
-/// Runs these words over the files `home.yaml` and `reports.txt`; whether they end so.
-pub fn words_end<R: Abort + Threads + Wait + Sync + Alloc<A = Global>>(
-    rt: &R,
-    words: &[&str],
-    home: &[u8],
-    reports: &[u8],
-    wanted: &Wanted<'_>,
-) -> Result<bool, AllocError> {
-    let outcome = run_words(rt, words, home, reports, &PLAIN)?;
-    ended(rt.alloc(), &outcome, wanted)
-}
-
 /// Runs the day.
 pub fn run<R: Abort + Threads + Wait + Sync + Alloc<A = Global>>(
     rt: &R,
@@ -414,9 +288,13 @@ pub fn gives<R: Abort + Threads + Wait + Sync + Alloc<A = Global>>(
     calls: &[&str],
     errors: &str,
 ) -> Result<bool, AllocError> {
-    let mut wanted = ends_with(0, errors);
-    wanted.calls = Some(calls);
-    ends(rt, day, &PLAIN, &wanted)
+    let outcome = run(rt, day, &PLAIN)?;
+    let calls = calls_of(rt.alloc(), calls)?;
+    Ok(
+        matches!(outcome.status, Status::Ok)
+            && outcome.out.bytes() == calls.as_bytes()
+            && outcome.err.bytes() == errors.as_bytes(),
+    )
 }
 
 /// Whether an evening of the home ends well with these calls and no error.

@@ -1,10 +1,8 @@
 //! Lines that are refused, and words.
-use crate::day::{WELL, ends_with, words_end};
+use crate::day::{PLAIN, run_words};
+use ha_status::Status;
 use std::alloc::{AllocError, Global};
-use std::process::Abort;
-use std::sync::Wait;
 use std::test::Fail;
-use std::thread::Threads;
 
 const WORDS: [&str; 6] = [
     "run",
@@ -36,46 +34,40 @@ fn refused_lines(alloc: Global) -> Result<Vec<u8>, AllocError> {
     Ok(source)
 }
 
-const REFUSALS: &str =
-    "source 0 line 0: L4\nsource 0 line 1: L3\nsource 0 line 2: L6\nsource 0 line 3: L5\nsource 0 line 4: L8\nsource 0 line 5: L9\nsource 0 line 6: L2\nsource 0 line 7: L1\nsource 0 line 8: L7\nsource 0 line 9: L10\n";
+const REFUSALS: &[u8] =
+    b"source 0 line 0: L4\nsource 0 line 1: L3\nsource 0 line 2: L6\nsource 0 line 3: L5\nsource 0 line 4: L8\nsource 0 line 5: L9\nsource 0 line 6: L2\nsource 0 line 7: L1\nsource 0 line 8: L7\nsource 0 line 9: L10\n";
 
 #[test]
 fn bad_lines_are_refused_with_their_codes(rt: HostRuntime) -> Result<(), Fail> {
     let source = refused_lines(rt.alloc())?;
-    let mut wanted = ends_with(0, REFUSALS);
-    wanted.calls = Some(&[]);
-    assert!(rt; words_end(&rt, &WORDS, b"[]", source.as_slice(), &wanted)?);
+    let outcome = run_words(&rt, &WORDS, b"[]", source.as_slice(), &PLAIN)?;
+    assert!(rt; matches!(outcome.status, Status::Ok));
+    assert!(rt; outcome.out.bytes().is_empty());
+    assert!(rt; outcome.err.bytes() == REFUSALS);
     Ok(())
 }
 
 #[test]
 fn a_home_without_automations_stores_none(rt: HostRuntime) -> Result<(), Fail> {
-    let mut wanted = ends_with(0, "");
-    wanted.calls = Some(&[]);
-    wanted.entries = Some(1);
-    wanted.stored = Some("{\"switches\":{},\"version\":1}");
-    assert!(rt; words_end(&rt, &WORDS, b"[]", b"", &wanted)?);
+    let outcome = run_words(&rt, &WORDS, b"[]", b"", &PLAIN)?;
+    assert!(rt; matches!(outcome.status, Status::Ok));
+    assert_eq!(rt; outcome.journal.len(), 1);
+    assert!(rt; outcome.out.bytes().is_empty());
+    assert!(rt; outcome.err.bytes().is_empty());
+    let stored = "{\"switches\":{},\"version\":1}";
+    assert!(rt;
+        outcome
+            .keep
+            .text()
+            .is_some_and(|text| text == stored.as_bytes())
+    );
     Ok(())
 }
 
-/// Whether each of these words are none of the program's.
-fn are_no_words<R: Abort + Threads + Wait + Sync + Alloc<A = Global>>(
-    rt: &R,
-    rows: &[&[&str]],
-) -> Result<bool, AllocError> {
-    for words in rows {
-        if !words_end(rt, words, b"[]", b"", &ends_with(1, USAGE))? {
-            return Ok(false);
-        }
-    }
-    Ok(true)
-}
-
-const USAGE: &str =
-    "hearth: usage: run --config F --start MOMENT [--zone Z] [--trace F] SOURCE.. | check F | replay F | rehearse N\n";
-
 #[test]
 fn other_words_are_refused(rt: HostRuntime) -> Result<(), Fail> {
+    let usage =
+        "hearth: usage: run --config F --start MOMENT [--zone Z] [--trace F] SOURCE.. | check F | replay F | rehearse N\n";
     let wrong: [&[&str]; 6] = [
         &[],
         &["walk"],
@@ -92,36 +84,25 @@ fn other_words_are_refused(rt: HostRuntime) -> Result<(), Fail> {
         ],
         &["rehearse", "100001"],
     ];
-    assert!(rt; are_no_words(&rt, &wrong)?);
-    Ok(())
-}
-
-/// Whether each configuration is refused with this line.
-fn are_refused<R: Abort + Threads + Wait + Sync + Alloc<A = Global>>(
-    rt: &R,
-    rows: &[(&str, &str)],
-) -> Result<bool, AllocError> {
-    for row in rows {
-        let mut wanted = ends_with(2, row.1);
-        wanted.calls = Some(&[]);
-        if !words_end(rt, &["check", "home.yaml"], row.0.as_bytes(), b"", &wanted)? {
-            return Ok(false);
-        }
+    for words in wrong {
+        let outcome = run_words(&rt, words, b"[]", b"", &PLAIN)?;
+        assert!(rt; matches!(outcome.status, Status::Usage));
+        assert!(rt; outcome.err.bytes() == usage.as_bytes());
     }
-    Ok(true)
+    Ok(())
 }
 
 #[test]
 fn check_says_what_was_read(rt: HostRuntime) -> Result<(), Fail> {
     let home = b"- alias: Hall light\n  triggers: []\n  actions: []\n  mode: restart\n";
-    let mut wanted = WELL;
-    wanted.output = Some(
-        "automation.hall_light restart 10 triggers 0 conditions 0 actions 1\nok 1\n",
-    );
-    assert!(rt; words_end(&rt, &["check", "home.yaml"], home, b"", &wanted)?);
-    let none = ends_with(3, "hearth: cannot open no.yaml\n");
-    assert!(rt; words_end(&rt, &["check", "no.yaml"], home, b"", &none)?);
-    let refused = [
+    let outcome = run_words(&rt, &["check", "home.yaml"], home, b"", &PLAIN)?;
+    assert!(rt; matches!(outcome.status, Status::Ok));
+    let said = "automation.hall_light restart 10 triggers 0 conditions 0 actions 1\nok 1\n";
+    assert!(rt; outcome.out.bytes() == said.as_bytes());
+    let outcome = run_words(&rt, &["check", "no.yaml"], home, b"", &PLAIN)?;
+    assert!(rt; matches!(&outcome.status, Status::OpenFault { .. }));
+    assert!(rt; outcome.err.bytes() == b"hearth: cannot open no.yaml\n".as_slice());
+    for (text, said) in [
         (
             "automation:\n  - alias: A\n    triggers: []\n\tactions: []\n",
             "hearth: config line 4: C1\n",
@@ -134,7 +115,10 @@ fn check_says_what_was_read(rt: HostRuntime) -> Result<(), Fail> {
             "# home\nautomation: !include automations.yaml\n",
             "hearth: config line 2: C3\n",
         ),
-    ];
-    assert!(rt; are_refused(&rt, &refused)?);
+    ] {
+        let outcome = run_words(&rt, &["check", "home.yaml"], text.as_bytes(), b"", &PLAIN)?;
+        assert!(rt; outcome.err.bytes() == said.as_bytes());
+        assert!(rt; outcome.out.bytes().is_empty());
+    }
     Ok(())
 }

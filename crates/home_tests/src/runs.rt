@@ -1,11 +1,8 @@
 //! Modes, queues, replacement and stops.
-use crate::day::{Day, PLAIN, calls, ends, ends_with, evening};
+use crate::day::{PLAIN, calls, evening, run};
 use ha_model::EndCause;
-use std::alloc::{AllocError, Global};
-use std::process::Abort;
-use std::sync::Wait;
+use ha_status::Status;
 use std::test::Fail;
-use std::thread::Threads;
 
 const HALL: &str =
     "- id: '1700000000001'\n  alias: Hall light\n  description: ''\n  triggers:\n  - trigger: state\n    entity_id:\n    - binary_sensor.hall\n    from:\n    to: 'on'\n  conditions: []\n  actions:\n  - action: light.turn_on\n    metadata: {}\n    data:\n      brightness: 128\n    target:\n      entity_id: light.hall\n  - delay:\n      hours: 0\n      minutes: 2\n      seconds: 0\n      milliseconds: 0\n  - action: light.turn_off\n    target:\n      entity_id: light.hall\n  mode: restart\n";
@@ -24,11 +21,16 @@ fn a_light_goes_out_after_its_delay(rt: HostRuntime) -> Result<(), Fail> {
         HALL_ON,
         "{\"run\":\"hall_light\",\"number\":1,\"call\":2,\"service\":\"light.turn_off\",\"target\":[\"light.hall\"],\"data\":{}}",
     ];
-    let mut wanted = ends_with(0, "");
-    wanted.calls = Some(&want);
-    wanted.entries = Some(8);
-    wanted.stored = Some("{\"switches\":{\"hall_light\":true},\"version\":1}");
-    assert!(rt; ends(&rt, &evening(HALL, &lines), &PLAIN, &wanted)?);
+    assert!(rt; calls(&rt, HALL, &lines, &want)?);
+    let outcome = run(&rt, &evening(HALL, &lines), &PLAIN)?;
+    assert_eq!(rt; outcome.journal.len(), 8);
+    let stored = "{\"switches\":{\"hall_light\":true},\"version\":1}";
+    assert!(rt;
+        outcome
+            .keep
+            .text()
+            .is_some_and(|text| text == stored.as_bytes())
+    );
     Ok(())
 }
 
@@ -49,10 +51,14 @@ fn a_replaced_run_calls_nothing_more(rt: HostRuntime) -> Result<(), Fail> {
         "{\"run\":\"hall_light\",\"number\":2,\"call\":2,\"service\":\"light.turn_off\",\"target\":[\"light.hall\"],\"data\":{}}",
     ];
     assert!(rt; calls(&rt, HALL, &lines[..6], &want[..2])?);
-    let mut wanted = ends_with(0, "");
-    wanted.calls = Some(&want);
-    wanted.end = Some((7, EndCause::Replaced));
-    assert!(rt; ends(&rt, &evening(HALL, &lines), &PLAIN, &wanted)?);
+    assert!(rt; calls(&rt, HALL, &lines, &want)?);
+    let outcome = run(&rt, &evening(HALL, &lines), &PLAIN)?;
+    assert!(rt;
+        outcome
+            .records
+            .get(0)
+            .is_some_and(|run| matches!(run.end, Some((7, EndCause::Replaced))))
+    );
     Ok(())
 }
 
@@ -81,15 +87,31 @@ fn a_queue_takes_two_and_gives_each_its_own_event(rt: HostRuntime) -> Result<(),
 fn a_run_that_turns_its_automation_off_ends_there(rt: HostRuntime) -> Result<(), Fail> {
     let home =
         "automation: [{alias: a, initial_state: true, triggers: [{trigger: event, event_type: go}], actions: [{action: automation.turn_off, target: {entity_id: automation.a}}, {action: notify.x}]}]";
-    let mut wanted = ends_with(0, "");
-    wanted.calls = Some(&[]);
-    wanted.end = Some((2, EndCause::SwitchedOff));
-    wanted.stored = Some("{\"switches\":{\"a\":false},\"version\":1}");
-    assert!(rt; ends(&rt, &evening(home, &["e go"]), &PLAIN, &wanted)?);
-    wanted.stored = Some("{\"switches\":{\"a\":true},\"version\":1}");
-    wanted.runs = Some(1);
-    let day = evening(home, &["e go", "{\"restart\":true}"]);
-    assert!(rt; ends(&rt, &day, &PLAIN, &wanted)?);
+    let lines = ["e go", "{\"restart\":true}"];
+    assert!(rt; calls(&rt, home, &lines, &[])?);
+    let outcome = run(&rt, &evening(home, &lines), &PLAIN)?;
+    assert_eq!(rt; outcome.records.len(), 1);
+    assert!(rt;
+        outcome
+            .records
+            .get(0)
+            .is_some_and(|run| matches!(run.end, Some((2, EndCause::SwitchedOff))))
+    );
+    let stored = "{\"switches\":{\"a\":true},\"version\":1}";
+    assert!(rt;
+        outcome
+            .keep
+            .text()
+            .is_some_and(|text| text == stored.as_bytes())
+    );
+    let outcome = run(&rt, &evening(home, &lines[..1]), &PLAIN)?;
+    let stored = "{\"switches\":{\"a\":false},\"version\":1}";
+    assert!(rt;
+        outcome
+            .keep
+            .text()
+            .is_some_and(|text| text == stored.as_bytes())
+    );
     Ok(())
 }
 
@@ -119,36 +141,27 @@ fn a_stored_switch_holds_and_a_bad_store_is_refused(rt: HostRuntime) -> Result<(
     let home =
         "automation: [{alias: a, triggers: [{trigger: event, event_type: go}], actions: [{action: notify.x}]}]";
     let off = "{\"switches\":{\"a\":false},\"version\":1}";
-    let day = evening(home, &["e go"]);
     let mut outside = PLAIN;
     outside.stored = Some(off);
-    let mut wanted = ends_with(0, "");
-    wanted.calls = Some(&[]);
-    wanted.stored = Some(off);
-    assert!(rt; ends(&rt, &day, &outside, &wanted)?);
-    let refused = [
+    let outcome = run(&rt, &evening(home, &["e go"]), &outside)?;
+    assert!(rt; matches!(outcome.status, Status::Ok));
+    assert!(rt; outcome.out.bytes().is_empty());
+    assert!(rt;
+        outcome
+            .keep
+            .text()
+            .is_some_and(|text| text == off.as_bytes())
+    );
+    for (text, said) in [
         ("{", "hearth: store refused S1\n"),
         ("{\"version\":1}", "hearth: store refused S2\n"),
         ("{\"version\":2}", "hearth: store refused S3\n"),
-    ];
-    assert!(rt; are_refused(&rt, &day, &refused)?);
-    Ok(())
-}
-
-/// Whether each stored text is refused with this line, before anything is booted.
-fn are_refused<R: Abort + Threads + Wait + Sync + Alloc<A = Global>>(
-    rt: &R,
-    day: &Day<'_>,
-    rows: &[(&'static str, &str)],
-) -> Result<bool, AllocError> {
-    for row in rows {
+    ] {
         let mut outside = PLAIN;
-        outside.stored = Some(row.0);
-        let mut wanted = ends_with(9, row.1);
-        wanted.entries = Some(0);
-        if !ends(rt, day, &outside, &wanted)? {
-            return Ok(false);
-        }
+        outside.stored = Some(text);
+        let outcome = run(&rt, &evening(home, &["e go"]), &outside)?;
+        assert!(rt; outcome.err.bytes() == said.as_bytes(), "{text}");
+        assert!(rt; outcome.journal.is_empty());
     }
-    Ok(true)
+    Ok(())
 }

@@ -1,11 +1,7 @@
 //! Scripts: waits, repeats, choices, parallel blocks and faults.
-use crate::day::{Day, PLAIN, Wanted, calls, ended, ends, ends_with, evening, gives, run};
-use ha_model::{EndCause, Record};
-use std::alloc::{AllocError, Global};
-use std::process::Abort;
-use std::sync::Wait;
+use crate::day::{PLAIN, calls, evening, gives, run};
+use ha_model::EndCause;
 use std::test::Fail;
-use std::thread::Threads;
 
 #[test]
 fn a_wait_keeps_the_end_that_it_had(rt: HostRuntime) -> Result<(), Fail> {
@@ -18,32 +14,19 @@ fn a_wait_keeps_the_end_that_it_had(rt: HostRuntime) -> Result<(), Fail> {
     Ok(())
 }
 
-/// Runs the day; whether its first run is stopped, and all ends so.
-fn stops<R: Abort + Threads + Wait + Sync + Alloc<A = Global>>(
-    rt: &R,
-    day: &Day<'_>,
-    wanted: &Wanted<'_>,
-) -> Result<bool, AllocError> {
-    let outcome = run(rt, day, &PLAIN)?;
-    let well = ended(rt.alloc(), &outcome, wanted)?;
-    Ok(well && is_stopped(outcome.records.as_slice()))
-}
-
-fn is_stopped(records: &[Record]) -> bool {
-    match records.first() {
-        Some(run) => matches!(run.end, Some((_, EndCause::Stopped))),
-        None => false,
-    }
-}
-
 #[test]
 fn a_timeout_that_stops_ends_the_whole_script(rt: HostRuntime) -> Result<(), Fail> {
     let home =
         "automation: [{alias: a, triggers: [{trigger: event, event_type: go}], actions: [{repeat: {count: 3, sequence: [{wait_template: \"{{ false }}\", timeout: 5, continue_on_timeout: false}, {action: notify.in}]}}, {action: notify.after}]}]";
-    let day = evening(home, &["e go", "m 20:00:05"]);
-    let mut wanted = ends_with(0, "");
-    wanted.calls = Some(&[]);
-    assert!(rt; stops(&rt, &day, &wanted)?);
+    let lines = ["e go", "m 20:00:05"];
+    assert!(rt; calls(&rt, home, &lines, &[])?);
+    let outcome = run(&rt, &evening(home, &lines), &PLAIN)?;
+    assert!(rt;
+        outcome
+            .records
+            .get(0)
+            .is_some_and(|run| matches!(run.end, Some((_, EndCause::Stopped))))
+    );
     Ok(())
 }
 
@@ -83,9 +66,9 @@ fn a_fault_in_a_call_ends_the_run(rt: HostRuntime) -> Result<(), Fail> {
 fn a_repeat_without_end_is_a_fault(rt: HostRuntime) -> Result<(), Fail> {
     let home =
         "automation: [{alias: a, triggers: [{trigger: event, event_type: go}], actions: [{repeat: {while: \"{{ true }}\", sequence: []}}]}]";
-    let mut wanted = ends_with(0, "run 1 failed F6\n");
-    wanted.entries = Some(10_003);
-    assert!(rt; ends(&rt, &evening(home, &["e go"]), &PLAIN, &wanted)?);
+    let outcome = run(&rt, &evening(home, &["e go"]), &PLAIN)?;
+    assert_eq!(rt; outcome.journal.len(), 10_003);
+    assert!(rt; outcome.err.bytes() == b"run 1 failed F6\n".as_slice());
     Ok(())
 }
 

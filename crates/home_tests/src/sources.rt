@@ -1,25 +1,10 @@
 //! Several sources at once, and the trace.
-use crate::day::{Lines, WELL, Wanted, ended, ends_with, replays, run_sources};
-use ha_io::{Gate, MeetGate, MemKeeper, MemPlace, OpenGate};
+use crate::day::{Lines, replays, run_sources};
+use ha_io::{MeetGate, OpenGate};
 use ha_model::Entry;
-use ha_top::Outcome;
+use ha_status::Status;
 use std::alloc::{AllocError, Global};
-use std::process::Abort;
-use std::sync::Wait;
 use std::test::Fail;
-use std::thread::Threads;
-
-/// Runs an evening of a home with these sources; whether it ends so.
-fn sources_end<R: Abort + Threads + Wait + Sync + Alloc<A = Global>, G: Gate>(
-    rt: &R,
-    home: &str,
-    sources: &[Lines<'_>],
-    gate: &G,
-    wanted: &Wanted<'_>,
-) -> Result<bool, AllocError> {
-    let outcome = run_sources(rt, home, &[], sources, gate)?;
-    ended(rt.alloc(), &outcome, wanted)
-}
 
 #[test]
 fn a_source_that_fails_ends_alone(rt: HostRuntime) -> Result<(), Fail> {
@@ -35,9 +20,12 @@ fn a_source_that_fails_ends_alone(rt: HostRuntime) -> Result<(), Fail> {
             failing_reads: &[1],
         },
     ];
-    let mut wanted = ends_with(4, "source 1 line 0: lost\nhearth: source 1 failed\n");
-    wanted.entries = Some(3);
-    assert!(rt; sources_end(&rt, "[]", &sources, &OpenGate::make(), &wanted)?);
+    let outcome = run_sources(&rt, "[]", &[], &sources, &OpenGate::make())?;
+    assert!(rt; matches!(outcome.status, Status::ReadFault { source: Some(1) }));
+    assert_eq!(rt; outcome.journal.len(), 3);
+    assert!(rt;
+        outcome.err.bytes() == b"source 1 line 0: lost\nhearth: source 1 failed\n".as_slice()
+    );
     Ok(())
 }
 
@@ -56,10 +44,10 @@ fn two_sources_meet(rt: HostRuntime) -> Result<(), Fail> {
             failing_reads: &[],
         },
     ];
-    let mut wanted = WELL;
-    wanted.entries = Some(5);
-    assert!(rt; sources_end(&rt, "[]", &sources, &gate, &wanted)?);
+    let outcome = run_sources(&rt, "[]", &[], &sources, &gate)?;
     assert!(rt; gate.met());
+    assert!(rt; matches!(outcome.status, Status::Ok));
+    assert_eq!(rt; outcome.journal.len(), 5);
     Ok(())
 }
 
@@ -76,25 +64,14 @@ fn a_trace_has_each_entry_and_the_end(rt: HostRuntime) -> Result<(), Fail> {
         lines: &["e go", "m 20:00:01", "bad"],
         failing_reads: &[],
     }];
-    assert!(rt; is_traced(&rt, &sources)?);
+    let outcome = run_sources(&rt, TRACED, &["--trace", "t"], &sources, &OpenGate::make())?;
+    assert!(rt; matches!(outcome.status, Status::Ok));
+    assert!(rt;
+        outcome
+            .trace
+            .is_some_and(|sink| sink.bytes() == TRACE.as_bytes())
+    );
     Ok(())
-}
-
-/// Whether these sources' run ends well, with that trace.
-fn is_traced<R: Abort + Threads + Wait + Sync + Alloc<A = Global>>(
-    rt: &R,
-    sources: &[Lines<'_>],
-) -> Result<bool, AllocError> {
-    let outcome = run_sources(rt, TRACED, &["--trace", "t"], sources, &OpenGate::make())?;
-    Ok(outcome.status.number() == 0 && is_trace(&outcome, TRACE))
-}
-
-/// Whether the run has this trace.
-fn is_trace(outcome: &Outcome<MemPlace, MemKeeper>, wanted: &str) -> bool {
-    match &outcome.trace {
-        Some(trace) => trace.bytes() == wanted.as_bytes(),
-        None => false,
-    }
 }
 
 const BUSY: &str =
@@ -118,6 +95,25 @@ fn lines_in_order(journal: &[Entry], of: u32) -> Option<u64> {
         }
     }
     Some(next)
+}
+
+#[test]
+fn sixteen_sources_have_each_their_lines_in_order(rt: HostRuntime) -> Result<(), Fail> {
+    let mut sources = Vec::new(rt.alloc());
+    for name in NAMES {
+        sources.push(Lines {
+            name,
+            lines: &["r light.x on", "m 20:00:01", "e go"],
+            failing_reads: &[],
+        })?;
+    }
+    let outcome = run_sources(&rt, BUSY, &[], sources.as_slice(), &OpenGate::make())?;
+    assert!(rt; matches!(outcome.status, Status::Ok));
+    assert_eq!(rt; outcome.journal.len(), 65);
+    for source in 0..16 {
+        assert_eq!(rt; lines_in_order(outcome.journal.as_slice(), source), Some(3));
+    }
+    Ok(())
 }
 
 /// 10,000 lines: reports, and an event and a moment in each twenty.
@@ -144,57 +140,22 @@ fn has_all_lines(journal: &[Entry], count: u64) -> bool {
     true
 }
 
-/// The sixteen sources, each with these lines.
-fn sixteen<'a>(alloc: Global, lines: &'a [&'a str]) -> Result<Vec<Lines<'a>>, AllocError> {
-    let mut sources = Vec::new(alloc);
-    for name in NAMES {
-        sources.push(Lines {
-            name,
-            lines,
-            failing_reads: &[],
-        })?;
-    }
-    Ok(sources)
-}
-
-/// Whether the run of the sixteen ends well, with so many lines of each, and so many entries.
-fn all_come<R: Abort + Threads + Wait + Sync + Alloc<A = Global>>(
-    rt: &R,
-    sources: &[Lines<'_>],
-    count: u64,
-    entries: usize,
-) -> Result<bool, AllocError> {
-    let outcome = run_sources(rt, BUSY, &[], sources, &OpenGate::make())?;
-    Ok(
-        outcome.status.number() == 0
-            && outcome.journal.len() == entries
-            && has_all_lines(outcome.journal.as_slice(), count),
-    )
-}
-
-#[test]
-fn sixteen_sources_have_each_their_lines_in_order(rt: HostRuntime) -> Result<(), Fail> {
-    let sources = sixteen(rt.alloc(), &["r light.x on", "m 20:00:01", "e go"])?;
-    assert!(rt; all_come(&rt, sources.as_slice(), 3, 65)?);
-    Ok(())
-}
-
-/// Whether the run of the sixteen ends well, with so many lines of each, and its trace is that of a lawful journal, with the same calls: the
-/// order of the sources is not told, so the run is judged behind it.
-fn all_are_traced<R: Abort + Threads + Wait + Sync + Alloc<A = Global>>(
-    rt: &R,
-    sources: &[Lines<'_>],
-    count: u64,
-) -> Result<bool, AllocError> {
-    let outcome = run_sources(rt, BUSY, &["--trace", "t"], sources, &OpenGate::make())?;
-    let again = replays(rt, &outcome)?;
-    Ok(again && outcome.status.number() == 0 && has_all_lines(outcome.journal.as_slice(), count))
-}
-
+/// The order of the sources is not told, so the run is judged behind it: its trace is that of a lawful journal, with the same calls.
 #[test]
 fn sixteen_sources_of_ten_thousand_lines(rt: HostRuntime) -> Result<(), Fail> {
     let lines = many_lines(rt.alloc())?;
-    let sources = sixteen(rt.alloc(), lines.as_slice())?;
-    assert!(rt; all_are_traced(&rt, sources.as_slice(), 10_000)?);
+    let mut sources = Vec::new(rt.alloc());
+    for name in NAMES {
+        sources.push(Lines {
+            name,
+            lines: lines.as_slice(),
+            failing_reads: &[],
+        })?;
+    }
+    let words = ["--trace", "t"];
+    let outcome = run_sources(&rt, BUSY, &words, sources.as_slice(), &OpenGate::make())?;
+    assert!(rt; matches!(outcome.status, Status::Ok));
+    assert!(rt; has_all_lines(outcome.journal.as_slice(), 10_000));
+    assert!(rt; replays(&rt, &outcome)?);
     Ok(())
 }
