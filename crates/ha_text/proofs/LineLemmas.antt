@@ -4,7 +4,7 @@ use Rattle.std.specs.Prelude.{◌==◌, nat_lt}
 use Rattle.std.specs.List.{list_all, position, position_or_len}
 use Rattle.std.proofs.lemmas.Bool.{eqb-true, ltb-true, ltb-false}
 use Rattle.std.proofs.lemmas.Grind.{common_steps}
-use Rattle.std.proofs.lemmas.List.{append-nil, drop-drop, nil_from_length}
+use Rattle.std.proofs.lemmas.List.{append-nil, drop-drop}
 use Rattle.std.proofs.Math.Seq.{take-append_seam, drop-append_seam}
 use Rattle.ha_text.specs.Lines.{NoBreak, IsFront, IsNone, IsTaken, longest, counted, is_blank, without_cr, whole_from, whole_lines, lines_from, lines_of, SameLines}
 
@@ -93,31 +93,6 @@ pub whole_behind : (text : List ℕ) (at : ℕ) (b : IsBreak text at) → whole_
 whole_behind text at b = ap whole_lines b.parts ∙ whole_cut [] b.line b.behind b.free
 
 -- ---- the parts of lines
-
-pub cr_dropped : (line : List ℕ) → without_cr (line ++ 13 ∷ []) ≡ line
-unfolding without_cr
-cr_dropped [] = refl
-cr_dropped (b ∷ []) = refl
-cr_dropped (b ∷ c ∷ line) = ap (λ (l : List ℕ). b ∷ l) (cr_dropped (c ∷ line))
-
-pub no_cr : (line : List ℕ) (b : ℕ) → (b == 13) ≡ false → without_cr (line ++ b ∷ []) ≡ line ++ b ∷ []
-unfolding without_cr
-no_cr [] b h = rw h refl
-no_cr (c ∷ []) b h = rw h refl
-no_cr (c ∷ d ∷ line) b h = ap (λ (l : List ℕ). c ∷ l) (no_cr (d ∷ line) b h)
-
-pub no_line_cr : without_cr [] ≡ []
-unfolding without_cr
-no_line_cr = refl
-
-pub dropped : (line front : List ℕ) (b : ℕ) → line ≡ front ++ b ∷ [] → b ≡ 13 → front ≡ without_cr line
-dropped line front b e h = sym (ap without_cr (e ∙ ap (λ (x : ℕ). front ++ x ∷ []) h) ∙ cr_dropped front)
-
-pub stays : (line front : List ℕ) (b : ℕ) → line ≡ front ++ b ∷ [] → (b ≡ 13 → ⊥) → line ≡ without_cr line
-stays line front b e h = sym (ap without_cr e ∙ no_cr front b (elim (chosen_is (b == 13)) [ inl q ↦ absurd (h (eqb-true b 13 q)) | inr q ↦ q ]) ∙ sym e)
-
-pub nothing_there : (line : List ℕ) → length line ≡ 0 → line ≡ without_cr line
-nothing_there line h = let e : line ≡ [] = nil_from_length line h in e ∙ sym (ap without_cr e ∙ no_line_cr)
 
 pub take_min : (n : ℕ) (line : List ℕ) → take (min (length line) n) line ≡ take n line
 take_min n line = grind (arith, common_steps)

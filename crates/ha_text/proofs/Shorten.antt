@@ -7,7 +7,8 @@ use Rattle.std.proofs.lemmas.List.{append-nil, drop-append-le, take-append-le, t
 use Rattle.std.proofs.Math.Seq.{take-add, drop-append_seam, drop-append-add}
 use Rattle.std.proofs.lemmas.List.Folds.{list_all-append, drop_split}
 use Rattle.ha_text.specs.Lines.{NoBreak, IsFront, is_open, longest, counted, is_blank, without_cr, whole_from, whole_lines, lines_from, lines_of, SameLines}
-use Rattle.ha_text.proofs.LineLemmas.{cr_dropped, no_cr, whole_none}
+use Rattle.ha_value.proofs.ReturnLemmas.{cr_dropped, no_cr}
+use Rattle.ha_text.proofs.LineLemmas.{whole_none}
 
 -- ---- lines behind a front
 

@@ -1,18 +1,11 @@
 -- The lines of a stream. A line ends by LF, and one CR before it is dropped; what follows the last LF is a line too. A line of
 -- only spaces and tabs is no line. Of a longer line 65,537 bytes are kept.
-use Rattle.std.specs.Prelude.{◌≡◌, ℕ, Bool, false, not, ◌||◌, ◌==◌, if◌then◌else◌, List, [], ◌∷◌}
+use Rattle.std.specs.Prelude.{◌≡◌, ℕ, Bool, false, not, ◌==◌, if◌then◌else◌, List, [], ◌∷◌}
 use Rattle.std.specs.Prelude.{◌++◌, take, drop, length, ◌≤◌, ◌<◌, Option, Some, None}
 use Rattle.std.specs.Global.{Vec}
 use Rattle.std.specs.List.{list_all}
-
-abbrev pub is_blank : ℕ → Bool
-is_blank b = b == 32 || b == 9
-
--- without a CR at the end
-unfoldable pub without_cr : List ℕ → List ℕ
-without_cr [] = []
-without_cr (b ∷ []) = if b == 13 then [] else b ∷ []
-without_cr (b ∷ c ∷ line) = b ∷ without_cr (c ∷ line)
+pub use Rattle.ha_value.specs.Lists.{without_cr}
+pub use Rattle.ha_value.specs.Truth.{is_blank}
 
 -- how many bytes of a line are kept: one more than a line may have
 unfoldable pub longest : ℕ

@@ -2,8 +2,9 @@
 
 ghost use Rattle.std.specs.Prelude.{◌≡◌, ◌≤◌, ◌<◌, ◌^◌, ◌+◌, ◌++◌, ◌∷◌, [], take, false, length, drop, true, vec_len, ◌==◌, MatchResult, MatchOption, IfOk, OnOk, OnErr, option_to_list, IsTrue};
 ghost use Rattle.std.specs.List.{list_all, position};
-ghost use Rattle.ha_text.specs.Lines.{IsFront, IsNone, NoBreak, IsTaken, SameLines, counted, is_blank, is_open, kept_of, lines_of, longest, whole_lines, without_cr};
+ghost use Rattle.ha_text.specs.Lines.{IsFront, IsNone, NoBreak, IsTaken, SameLines, counted, is_blank, is_open, kept_of, lines_of, longest, whole_lines};
 
+use ha_value::{is_blank, without_cr};
 use memchr::memchr;
 use std::alloc::{AllocError, Global};
 use std::marker::Model;
@@ -42,26 +43,10 @@ impl Model for LineCut {
     ghost invariant = { λ c. (c.start ≤ c.begun) × (c.begun ≤ vec_len c.held) × (is_open (drop c.begun c.held.items) ≡ true) };
 }
 
-fn is_blank(b: u8) -> bool
-    ensures { result ≡ is_blank b }
-{
-    b == b' ' || b == b'\t'
-}
-
 fn is_no_line(line: &[u8]) -> bool
     ensures { result ≡ list_all is_blank line.now }
 {
     line.iter().all(|b| is_blank(*b))
-}
-
-/// The line without a CR at its end.
-fn without_cr(line: &[u8]) -> &[u8]
-    ensures { result.now ≡ without_cr line.now }
-{
-    let Some((last, front)) = line.split_last() else {
-        return line;
-    };
-    if *last == b'\r' { front } else { line }
 }
 
 /// What is kept of a line, where it is one.

@@ -1,5 +1,6 @@
 mod Pins
 pub mod CutLemmas
+pub mod ReturnLemmas
 pub mod NumberLemmas
 pub mod DigitLemmas
 pub mod PrintLemmas

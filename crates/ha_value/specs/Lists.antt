@@ -21,6 +21,12 @@ before_end test (x ∷ xs) = if list_all test (x ∷ xs) then [] else x ∷ befo
 abbrev pub trimmed : (ℕ → Bool) → List ℕ → List ℕ
 trimmed test xs = before_end test (after_front test xs)
 
+-- a line without a CR at its end
+unfoldable pub without_cr : List ℕ → List ℕ
+without_cr [] = []
+without_cr (b ∷ []) = if nat_eq b 13 then [] else b ∷ []
+without_cr (b ∷ c ∷ line) = b ∷ without_cr (c ∷ line)
+
 -- what stands before the first c (the whole list, where there is none), and what follows that c
 abbrev pub before_first : ℕ → List ℕ → List ℕ
 before_first c [] = []

@@ -1,6 +1,6 @@
 //! Cutting a text: at its first byte of a kind, and at its ends.
-ghost use Rattle.std.specs.Prelude.{◌≡◌, Some, None, MatchOption};
-ghost use Rattle.ha_value.specs.Lists.{after_first, after_front, before_end, before_first, trimmed};
+ghost use Rattle.std.specs.Prelude.{◌≡◌, ◌≤◌, length, Some, None, MatchOption};
+ghost use Rattle.ha_value.specs.Lists.{after_first, after_front, before_end, before_first, trimmed, without_cr};
 ghost use Rattle.ha_value.specs.Truth.{is_blank};
 
 /// What stands before the first such byte, and what follows that byte, where there is one.
@@ -52,4 +52,15 @@ pub fn trim_blanks(text: &[u8]) -> &[u8]
     ensures { result.now ≡ trimmed is_blank text.now }
 {
     without_blanks_behind(without_blanks_before(text))
+}
+
+/// The line without a CR at its end.
+pub fn without_cr(line: &[u8]) -> &[u8]
+    ensures value { result.now ≡ without_cr line.now }
+    ensures within { length result.now ≤ length line.now }
+{
+    let Some((last, front)) = line.split_last() else {
+        return line;
+    };
+    if *last == b'\r' { front } else { line }
 }
