@@ -1,7 +1,8 @@
 -- The lines of a text, and the faults that are seen on a line alone.
-use Rattle.std.specs.Prelude.{ℕ, ◌+◌, ◌-◌, Bool, false, not, ◌||◌, ◌&&◌, ◌==◌, nat_lt, nat_le, if◌then◌else◌, List, []}
-use Rattle.std.specs.Prelude.{◌∷◌, ◌++◌, length, take, drop, get_or, map, Option, Some, None, Result, Ok, Err}
+use Rattle.std.specs.Prelude.{ℕ, ◌+◌, Bool, false, not, ◌||◌, ◌&&◌, ◌==◌, nat_lt, nat_le, if◌then◌else◌, List, []}
+use Rattle.std.specs.Prelude.{◌∷◌, ◌++◌, length, drop, get_or, map, Option, Some, None, Result, Ok, Err}
 use Rattle.std.specs.Str.{is_utf8}
+pub use Rattle.ha_value.specs.Lists.{without_cr}
 use Rattle.yaml_scan.specs.declared.line.RawLine.{RawLine}
 use Rattle.yaml_scan.specs.declared.line.YamlLine.{YamlLine}
 use Rattle.yaml_scan.specs.declared.fault.Fault.{Fault}
@@ -17,10 +18,6 @@ spaces (b ∷ rest) = if b == 32 then spaces rest + 1 else 0
 
 abbrev pub line_of : ℕ → List ℕ → RawLine
 line_of n raw = record { line = n; indent = spaces raw; content = drop (spaces raw) raw }
-
--- a line's bytes without a CR at their end
-abbrev pub without_cr : List ℕ → List ℕ
-without_cr raw = if nat_lt 0 (length raw) && get_or raw (length raw - 1) 0 == 13 then take (length raw - 1) raw else raw
 
 -- Behind the last LF a line begins only where bytes follow.
 abbrev pub last_line : ℕ → List ℕ → List RawLine

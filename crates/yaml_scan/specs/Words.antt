@@ -1,9 +1,7 @@
 -- What stands on one line.
 use Rattle.std.specs.Prelude.{ℕ, zero, suc, ◌+◌, Bool, true, false, ◌||◌, ◌&&◌, ◌==◌, nat_lt}
 use Rattle.std.specs.Prelude.{if◌then◌else◌, List, [], ◌∷◌, length, take, Option, Some, None}
-
-abbrev pub is_blank : ℕ → Bool
-is_blank b = b == 32 || b == 9
+pub use Rattle.ha_value.specs.Truth.{is_blank}
 
 -- the first byte is this one
 abbrev pub sees : ℕ → List ℕ → Bool

@@ -16,4 +16,4 @@ pub use scalars::Lines;
 pub use text::{
     is_blank_line, is_directive, is_mark, least, line_fault, lines, scan, without_start,
 };
-pub use words::{blanks, breaks, colon_at, is_blank, nothing_left, sees, trimmed};
+pub use words::{blanks, breaks, colon_at, nothing_left, sees, trimmed};

@@ -4,7 +4,8 @@ ghost use Rattle.std.specs.Prelude.{◌≡◌, ◌≤◌, ◌<◌, ◌+◌, ◌+
 ghost use Rattle.std.specs.Option.{IfSome};
 ghost use Rattle.yaml_scan.specs.Quoted.{escape, digits_behind, hex, shifted, is_character, added, awaits, spoiled, waits, usual_step, character, escape_step, digit_step, step, is_closed, is_quote, at_end, run, next_line, opened, noted, break, is_backslash, is_digits, IsRun};
 
-use crate::words::{is_blank, push_times};
+use crate::words::push_times;
+use ha_value::is_blank;
 use std::alloc::{AllocError, Global};
 use std::marker::Model;
 

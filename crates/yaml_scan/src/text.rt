@@ -2,13 +2,13 @@
 
 ghost use Rattle.std.specs.Prelude.{◌≡◌, ◌<◌, ◌≤◌, ◌^◌, ℕ, length, drop, true, false, map, IfOk};
 ghost use Rattle.std.specs.Str.{is_utf8};
-ghost use Rattle.yaml_scan.specs.Lines.{spaces, line_of, without_cr, without_mark, lines, fault, tab_fault, utf8_fault, mark_fault, one_fault, line_fault, fault_from, least, is_blank_line, is_three, is_mark, is_start, is_directive, without_start, seen, scan};
+ghost use Rattle.yaml_scan.specs.Lines.{spaces, line_of, without_mark, lines, fault, tab_fault, utf8_fault, mark_fault, one_fault, line_fault, fault_from, least, is_blank_line, is_three, is_mark, is_start, is_directive, without_start, seen, scan};
 ghost use Rattle.yaml_scan.specs.Answers.{Gives};
 
 use crate::fault::{Code, Fault, YamlFault};
 use crate::line::{RawLine, RawText, YamlLine};
 use crate::words::{nothing_left, sees};
-use ha_value::{Many, Word};
+use ha_value::{Many, Word, without_cr};
 use reading::is_utf8;
 use std::alloc::{AllocError, Global};
 
@@ -38,17 +38,6 @@ fn line_of(alloc: Global, number: u32, raw: &[u8]) -> Result<RawLine, AllocError
         indent: indent as u32,
         content: RawText::of(Vec::from_slice(alloc, &raw[indent..])?),
     })
-}
-
-fn without_cr(raw: &[u8]) -> &[u8]
-    ensures value { result.now ≡ without_cr raw.now }
-    ensures within { length result.now ≤ length raw.now }
-{
-    if !raw.is_empty() && raw[raw.len() - 1] == b'\r' {
-        &raw[..raw.len() - 1]
-    } else {
-        raw
-    }
 }
 
 fn without_mark(text: &[u8]) -> &[u8]

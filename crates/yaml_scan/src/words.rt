@@ -2,16 +2,11 @@
 
 ghost use Rattle.std.specs.Prelude.{◌≡◌, ◌≤◌, ◌<◌, ◌+◌, ◌++◌, ◌∷◌, ℕ, length, drop, OnOk, false};
 ghost use Rattle.std.specs.Option.{IfSome};
-ghost use Rattle.yaml_scan.specs.Words.{is_blank, sees, nothing_left, breaks, comment_at, text_end, trimmed, colon_at, folded, times, without_blanks, only_blanks};
+ghost use Rattle.yaml_scan.specs.Words.{sees, nothing_left, breaks, comment_at, text_end, trimmed, colon_at, folded, times, without_blanks, only_blanks};
 ghost use Rattle.yaml_scan.specs.Plain.{text_of};
 
+use ha_value::is_blank;
 use std::alloc::AllocError;
-
-pub fn is_blank(b: u8) -> bool
-    ensures { result ≡ is_blank b }
-{
-    b == b' ' || b == b'\t'
-}
 
 /// Whether the first byte is this one.
 pub fn sees(b: u8, rest: &[u8]) -> bool

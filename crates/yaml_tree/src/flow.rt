@@ -10,11 +10,11 @@ use crate::node::{Node, NodeKind, null, scalar_node};
 use crate::outer::Outer;
 use crate::pairs::Pairs;
 use crate::starts::{is_merge, left_out, no_plain};
-use ha_value::Many;
+use ha_value::{Many, is_blank};
 use std::alloc::{AllocError, Global};
 use std::marker::Model;
 use std::mem;
-use yaml_scan::{Code, Quoted, colon_at, is_blank, trimmed};
+use yaml_scan::{Code, Quoted, colon_at, trimmed};
 
 /// An open bracket with what it holds so far; in a map a key may wait for its value.
 #[derive(Drop)]

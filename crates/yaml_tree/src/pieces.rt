@@ -14,9 +14,10 @@ use crate::leaf::{Trouble, Wrong, refused, scalar_leaf, wrong_of};
 use crate::node::{Node, null};
 use crate::piece::{Piece, What};
 use crate::starts::{Start, is_merge, starts};
+use ha_value::is_blank;
 use std::alloc::{AllocError, Global};
 use yaml_scan::{
-    Code, Fault, Lines, Quoted, RawLine, blanks, breaks, colon_at, is_blank, is_directive, is_mark,
+    Code, Fault, Lines, Quoted, RawLine, blanks, breaks, colon_at, is_directive, is_mark,
     nothing_left, sees, trimmed,
 };
 
