@@ -14,7 +14,7 @@ mod truth;
 mod value;
 mod word;
 
-pub use cut::{is_blank, without_cr};
+pub use cut::{is_blank, trim_blanks, without_cr};
 pub use id::EntityFault;
 pub use many::Many;
 pub use num::NumFault;

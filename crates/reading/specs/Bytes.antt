@@ -1,10 +1,8 @@
 -- Rules over bytes.
-use Rattle.std.specs.Prelude.{ℕ, Bool, false, ◌||◌, ◌==◌, if◌then◌else◌, List, [], ◌∷◌, Ok}
+use Rattle.std.specs.Prelude.{ℕ, Bool, false, ◌==◌, if◌then◌else◌, List, [], ◌∷◌, Ok}
+pub use Rattle.ha_value.specs.Truth.{is_blank}
 use Rattle.reading.specs.declared.fault.Bad.{Bad}
 use Rattle.reading.specs.Answer.{Rule, stop}
-
-abbrev pub is_blank : ℕ → Bool
-is_blank b = b == 32 || b == 9
 
 -- without the blanks at the front
 unfoldable pub skip : List ℕ → List ℕ

@@ -2,11 +2,12 @@
 
 ghost use Rattle.std.specs.Prelude.{◌≡◌, ◌<◌, ◌≤◌, ℕ, length, drop, if◌then◌else◌};
 ghost use Rattle.reading.specs.Answer.{Gives, front};
-ghost use Rattle.reading.specs.Bytes.{expect, is_blank, sees, skip};
+ghost use Rattle.reading.specs.Bytes.{expect, sees, skip};
 ghost use Rattle.reading.specs.Characters.{begins_character, character};
 
 use crate::fault::{Bad, Stop};
 use bstr::decode_utf8;
+use ha_value::is_blank;
 use std::marker::Model;
 
 /// Clauses see the bytes that are still to be read.
@@ -21,13 +22,6 @@ impl<'a> Model for Reader<'a> {
     ghost Value = { List ℕ };
 
     ghost view = { λ r. r.rest.now };
-}
-
-/// Blanks are space and tab.
-fn is_blank(b: u8) -> bool
-    ensures { result ≡ is_blank b }
-{
-    b == b' ' || b == b'\t'
 }
 
 /// Whether a character begins with this byte: the others that are no ASCII go on with one, or stand in none.

@@ -2,8 +2,6 @@
 ghost use Rattle.std.specs.Prelude.{◌≡◌, ◌+◌, ◌<◌, List, Ok, Err, IfSome, drop, is_some, length, nat_eq, position, if◌then◌else◌};
 ghost use Rattle.ha_value.specs.declared.value.EntityId.{EntityId};
 ghost use Rattle.ha_value.specs.Ids.{read_entity};
-ghost use Rattle.ha_value.specs.Lists.{after_front, before_end};
-ghost use Rattle.ha_value.specs.Truth.{is_blank};
 ghost use Rattle.ha_model.specs.Words.{parts_between_commas, without_blanks};
 ghost use Rattle.ha_model.specs.Calls.{Checked, all_read, entities_in, no_service, service_of, target_of, targets_of, text_for};
 ghost use Rattle.script_step.specs.Fields.{Checks, Gives, Joins, Puts};
@@ -11,7 +9,7 @@ ghost use Rattle.script_step.specs.Fields.{Checks, Gives, Joins, Puts};
 use crate::fault::FieldFault;
 use crate::forms::text_of;
 use ha_model::{Answers, EntityId, Env, Many, Template, TplFault, Word};
-use ha_value::EntityFault;
+use ha_value::{EntityFault, trim_blanks};
 use std::alloc::Global;
 
 /// The rendered text of a field.
@@ -56,42 +54,6 @@ pub fn service_of<A: Answers>(
     }
 }
 
-fn is_blank(byte: u8) -> bool
-    ensures { result ≡ is_blank byte }
-{
-    byte == b' ' || byte == b'\t'
-}
-
-#[tactic(auto, using(ha_value::proofs::CutLemmas::cuts))]
-fn without_front(text: &[u8]) -> &[u8]
-    ensures { result.now ≡ after_front is_blank text.now }
-{
-    for i in 0..text.len() {
-        if !is_blank(text[i]) {
-            return &text[i..];
-        }
-    }
-    &text[text.len()..]
-}
-
-#[tactic(auto, using(ha_value::proofs::CutLemmas::cuts))]
-fn without_end(text: &[u8]) -> &[u8]
-    ensures { result.now ≡ before_end is_blank text.now }
-{
-    let mut end = text.len();
-    while 0 < end && is_blank(text[end - 1]) {
-        end -= 1;
-    }
-    &text[..end]
-}
-
-/// A text without the blanks at its two ends.
-fn without_blanks(text: &[u8]) -> &[u8]
-    ensures { result.now ≡ without_blanks text.now }
-{
-    without_end(without_front(text))
-}
-
 /// The place of the first comma.
 fn comma(text: &[u8]) -> Option<usize>
     ensures value { result ≡ position (nat_eq 44) text.now }
@@ -112,7 +74,7 @@ fn behind(text: &[u8], i: usize) -> &[u8]
 fn add_part(alloc: Global, all: &mut Many<EntityId>, part: &[u8]) -> Result<(), TplFault>
     ensures { Puts all.old all.new (read_entity (without_blanks part.now)) result }
 {
-    match EntityId::read(alloc, without_blanks(part)) {
+    match EntityId::read(alloc, trim_blanks(part)) {
         Ok(id) => match all.push(id) {
             Ok(()) => Ok(()),
             Err(_) => Err(TplFault::Memory),
