@@ -1,6 +1,6 @@
 -- Automations found by their names, each at its place.
-use Rattle.std.proofs.Common.{◌≡◌, ◌∙◌, ap, refl, sym, ℕ, ◌+◌, Bool, true, false, List, [], ◌∷◌, map}
-use Rattle.std.specs.Prelude.{not, ◌||◌, Option, Some, None, find, option_map, codes, if◌then◌else◌}
+use Rattle.std.proofs.Common.{◌≡◌, ◌∙◌, refl, sym, ℕ, ◌+◌, Bool, true, false, List, [], ◌∷◌, map}
+use Rattle.std.specs.Prelude.{not, Option, Some, None, find, option_map, codes, if◌then◌else◌}
 use Rattle.std.specs.List.{enumerate_from, list_any}
 use Rattle.std.proofs.lemmas.Bool.{and_parts, or_parts}
 use Rattle.ha_value.specs.declared.value.EntityId.{EntityId}

@@ -3,17 +3,16 @@ use Rattle.std.proofs.Common.{◌≡◌, ◌∙◌, ap, refl, sym, ℕ, Bool, tr
 use Rattle.std.proofs.Math.Path.{fun_ext}
 use Rattle.std.specs.Prelude.{Option, Some, option_map, codes, if◌then◌else◌}
 use Rattle.std.specs.Option.{option_map_or}
-use Rattle.std.specs.List.{enumerate_from}
 use Rattle.ha_model.specs.declared.config.Automation.{Automation}
 use Rattle.ha_model.specs.declared.config.Config.{Config}
 use Rattle.ha_model.specs.declared.journal.StateObject.{StateObject}
 use Rattle.ha_model.specs.Words.{Text}
 use Rattle.ha_model.specs.Journal.{Journal, automations, now, zone_of}
 use Rattle.ha_model.specs.Switches.{is_on}
-use Rattle.ha_model.specs.States.{Sight, of_automation, states, switches_of}
+use Rattle.ha_model.specs.States.{of_automation, states, switches_of}
 use Rattle.ha_model.specs.Triggers.{sight}
 use Rattle.state_table.specs.declared.table.StateTable.{StateTable}
-use Rattle.state_table.specs.Table.{at, StandsFor}
+use Rattle.state_table.specs.Table.{StandsFor}
 use Rattle.cond_eval.specs.Seen.{IsViewOf, automation_id, is_shown_on, says_on, sight_of}
 use Rattle.cond_eval.proofs.NameLemmas.{EachAt, each-named, each-switch, each-weaker, named}
 

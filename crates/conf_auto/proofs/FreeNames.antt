@@ -1,7 +1,7 @@
 -- A free name is there, so that the names of all automations are distinct.
-use Rattle.std.proofs.Common.{◌≡◌, ◌∙◌, ap, sym, subst, refl, ℕ, zero, suc, ◌+◌, ◌≤◌, ◌<◌, ◌^◌, Bool, true, false, cond, List, [], ◌∷◌, ◌++◌, length, map, arith, Option, Some, None, decimal, codes, Decides}
-use Rattle.std.specs.Prelude.{◌&&◌, ◌||◌, not, bytes_eq, unwrap_or}
-use Rattle.std.specs.List.{list_all, list_any, find, range_with_len, IsDistinct, AllByRecursion}
+use Rattle.std.proofs.Common.{◌≡◌, ◌∙◌, ap, sym, subst, refl, ℕ, zero, suc, ◌+◌, ◌<◌, ◌^◌, Bool, true, false, cond, List, [], ◌∷◌, ◌++◌, length, map, arith, Option, Some, None, decimal, codes}
+use Rattle.std.specs.Prelude.{◌||◌, not, bytes_eq, unwrap_or}
+use Rattle.std.specs.List.{list_any, find, range_with_len, IsDistinct, AllByRecursion}
 use Rattle.std.specs.Cmp.{IsEquivalence}
 use Rattle.std.proofs.lemmas.Bool.{and_parts}
 use Rattle.std.proofs.lemmas.List.{append_cancel_left, length-map}
@@ -14,7 +14,7 @@ use Rattle.ha_model.specs.Commands.{all_distinct}
 use Rattle.ha_model.specs.Words.{same}
 use Rattle.ha_model.specs.declared.config.Automation.{Automation}
 use Rattle.conf_laws.proofs.Joined.{pair}
-use Rattle.conf_auto.specs.Names.{add, free_name, free_number, is_taken, numbered, renamed, with_number}
+use Rattle.conf_auto.specs.Names.{free_name, free_number, is_taken, numbered, with_number}
 
 abbrev Text : Type 0
 Text = List ℕ

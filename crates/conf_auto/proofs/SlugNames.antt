@@ -1,13 +1,12 @@
 -- Each slug is a name, and so is a name with a number behind it.
-use Rattle.std.proofs.Common.{◌≡◌, ◌∙◌, ap, sym, subst, refl, ℕ, ◌+◌, ◌≤◌, ◌<◌, ◌^◌, ◌-◌, ◌/◌, ◌%◌, Bool, true, false, cond, List, [], ◌∷◌, ◌++◌, length, arith, decimal, codes}
+use Rattle.std.proofs.Common.{◌≡◌, ap, refl, ℕ, ◌+◌, ◌≤◌, ◌<◌, ◌^◌, ◌-◌, ◌%◌, Bool, true, false, cond, List, [], ◌∷◌, ◌++◌, arith, decimal, codes}
 use Rattle.std.specs.Prelude.{◌&&◌, ◌||◌, nat_le, nat_eq}
 use Rattle.std.specs.List.{list_all}
 use Rattle.std.specs.Char.{is_ascii_digit, is_ascii_lowercase}
 use Rattle.std.proofs.lemmas.Bool.{and_parts, leb-true, le-leb}
 use Rattle.std.proofs.lemmas.Fmt.{decimal_by_steps}
 use Rattle.ha_value.specs.Ids.{is_name, is_name_byte}
-use Rattle.ha_value.specs.Lists.{some_all}
-use Rattle.ha_text.specs.Slug.{closed, is_upper, joined, lower, named, runs, slug, stays}
+use Rattle.ha_text.specs.Slug.{closed, joined, lower, named, runs, slug, stays}
 use Rattle.conf_laws.proofs.Joined.{both_lists, one_more, pair}
 use Rattle.conf_auto.specs.Names.{numbered}
 

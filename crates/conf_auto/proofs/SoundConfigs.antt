@@ -1,12 +1,11 @@
 -- The configuration that is read of a sound tree is sound.
-use Rattle.std.proofs.Common.{◌≡◌, ◌∙◌, ap, sym, subst, refl, ℕ, ◌+◌, ◌≤◌, ◌<◌, ◌^◌, Bool, true, false, cond, List, [], ◌∷◌, ◌++◌, length, map, Option, Some, None, Result, Ok, Err, arith, length-append, codes, inl, inr}
+use Rattle.std.proofs.Common.{◌≡◌, ◌∙◌, ap, sym, subst, refl, ℕ, ◌+◌, ◌≤◌, ◌<◌, ◌^◌, Bool, true, false, cond, List, [], ◌∷◌, length, map, Option, Some, None, Result, Ok, Err, arith, length-append, inl, inr}
 use Rattle.std.specs.Prelude.{◌&&◌, nat_le, unwrap_or, option_map, option_and_then, slice_get, IfOk}
 use Rattle.std.specs.List.{list_all}
 use Rattle.std.proofs.lemmas.Bool.{and_parts, le-leb}
 use Rattle.std.proofs.lemmas.Option.{slice_get_cases}
 use Rattle.ha_value.specs.Ids.{is_name}
 use Rattle.ha_clock.specs.SpanText.{number_of}
-use Rattle.ha_text.specs.Slug.{slug}
 use Rattle.ha_model.specs.declared.config.Action.{Action}
 use Rattle.ha_model.specs.declared.config.ActionKind.TheVariants as does
 use Rattle.ha_model.specs.declared.config.ActionKind.TheOpen.{ActionKind-F}
@@ -16,9 +15,8 @@ use Rattle.ha_model.specs.declared.config.Condition.{Condition}
 use Rattle.ha_model.specs.declared.config.Config.{Config}
 use Rattle.ha_model.specs.declared.config.Trigger.{Trigger}
 use Rattle.ha_model.specs.Commands.{all_distinct}
-use Rattle.ha_model.specs.Sound.{IsSoundConfig, are_sound_actions, are_sound_conditions, are_sound_triggers, is_sound_action, is_sound_automation, is_sound_config, sound_kind_step}
+use Rattle.ha_model.specs.Sound.{IsSoundConfig, are_sound_actions, are_sound_conditions, are_sound_triggers, is_sound_action, is_sound_automation, sound_kind_step}
 use Rattle.yaml_scan.specs.Answers.{Gives}
-use Rattle.yaml_scan.specs.declared.fault.Fault.{Fault}
 use Rattle.yaml_scan.specs.declared.fault.YamlFault.{YamlFault}
 use Rattle.yaml_scan.specs.declared.fault.Code.TheVariants as code
 use Rattle.yaml_tree.specs.declared.node.Node.{Node}
@@ -26,20 +24,19 @@ use Rattle.yaml_tree.specs.declared.node.NodeKind.TheOpen.{NodeKind-F}
 use Rattle.yaml_tree.specs.Readers.{Shape, line_of, shape_of, is_null_word}
 use Rattle.conf_field.specs.declared.key.Key.TheVariants as key
 use Rattle.conf_field.specs.Holds.{Holds, Each, IfThere}
-use Rattle.conf_field.specs.Readings.{Read, bad, fault, made, unless}
+use Rattle.conf_field.specs.Readings.{Read, bad, fault, unless}
 use Rattle.conf_field.specs.Fields.{Pair, field, get, keys, need, needed, optional, row}
 use Rattle.conf_field.specs.Kinds.{flag, text, within}
 use Rattle.conf_field.specs.Sizes.{IsSoundTree}
-use Rattle.conf_script.specs.Actions.{actions as read_actions}
 use Rattle.conf_laws.proofs.Joined.{one_more, pair}
 use Rattle.conf_laws.proofs.Down.{AreSoundPairs, IsSoundShape, most, sound_inside}
-use Rattle.conf_laws.proofs.Parts.{Anything, Known, Passes, Reads, either_way, field_sound, finish, known, made_of, of_get, of_need, of_optional, of_scalar, of_wanted, unknown, weaker, with}
+use Rattle.conf_laws.proofs.Parts.{Passes, Reads, either_way, field_sound, finish, known, made_of, of_get, of_need, of_optional, of_scalar, of_wanted, unknown, weaker, with}
 use Rattle.conf_laws.proofs.Triggers.{triggers_sound}
 use Rattle.conf_laws.proofs.Conditions.{conditions_sound}
 use Rattle.action_laws.proofs.SoundActions.{actions_sound}
 use Rattle.conf_auto.specs.Automations.{Settings, action_row, actions_in, asked_name, automation, automation_by, automation_map, build, condition_row, conditions_in, made_automation, mode, most_of, most_runs, or_empty, rows, script_of, trigger_row, triggers_in}
-use Rattle.conf_auto.specs.Names.{add, free_name, free_number, is_taken, joined, numbered, renamed, with_number}
-use Rattle.conf_auto.specs.Config.{at_most, automations, automations_by, automations_from, config_with, listed, made_list, made_root, of_node, of_root, root_by, root_map}
+use Rattle.conf_auto.specs.Names.{add, free_name, free_number, is_taken, joined, renamed, with_number}
+use Rattle.conf_auto.specs.Config.{at_most, automations, automations_by, automations_from, config_with, listed, made_list, made_root, of_node, of_root, root_by}
 use Rattle.conf_auto.proofs.SlugNames.{numbered_name, slug_name}
 use Rattle.conf_auto.proofs.FreeNames.{distinct_more, name_free, number_small}
 

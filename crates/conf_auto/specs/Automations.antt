@@ -1,5 +1,5 @@
 -- Automations: what a node is as one automation, whose name is the one that it asks for.
-use Rattle.std.specs.Prelude.{ℕ, Bool, if◌then◌else◌, List, [], ◌∷◌, Option, Some, None, Ok, bytes_eq, codes, option_and_then, unwrap_or}
+use Rattle.std.specs.Prelude.{ℕ, Bool, List, [], ◌∷◌, Option, Some, None, bytes_eq, codes, option_and_then, unwrap_or}
 use Rattle.std.specs.List.{find}
 use Rattle.ha_clock.specs.SpanText.{number_of}
 use Rattle.ha_text.specs.Slug.{slug}

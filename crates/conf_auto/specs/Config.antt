@@ -1,5 +1,5 @@
 -- The configuration of a text.
-use Rattle.std.specs.Prelude.{ℕ, ◌&&◌, nat_lt, if◌then◌else◌, List, [], ◌∷◌, Option, Some, None, Ok, Err, length, option_map}
+use Rattle.std.specs.Prelude.{ℕ, ◌&&◌, nat_lt, if◌then◌else◌, List, [], ◌∷◌, Option, Ok, Err, length, option_map}
 use Rattle.std.specs.List.{slice_get}
 use Rattle.ha_model.specs.declared.config.Automation.{Automation}
 use Rattle.ha_model.specs.declared.config.Config.{Config}

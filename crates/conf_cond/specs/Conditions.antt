@@ -1,6 +1,6 @@
 -- Conditions: what a node is as one condition, and as a list of them.
 use Rattle.std.specs.Prelude.{ℕ, ◌&&◌, ◌==◌, Bool, true, false, if◌then◌else◌, List, [], ◌∷◌, ◌++◌, map, Option, Some}
-use Rattle.std.specs.Prelude.{None, Ok, Err, option_map, option_and_then, is_some, unwrap_or, bytes_eq, codes}
+use Rattle.std.specs.Prelude.{None, Ok, Err, option_map, unwrap_or, bytes_eq, codes}
 use Rattle.std.specs.List.{find}
 use Rattle.ha_value.specs.declared.value.EntityId.{EntityId}
 use Rattle.ha_value.specs.declared.value.Num.{Num}
@@ -11,7 +11,6 @@ use Rattle.yaml_scan.specs.declared.fault.Code.TheVariants as code
 use Rattle.yaml_tree.specs.declared.node.Node.{Node}
 use Rattle.yaml_tree.specs.declared.node.NodeKind.TheOpen.{NodeKind-F}
 use Rattle.yaml_tree.specs.Readers.{Shape, is_null_word}
-use Rattle.conf_field.specs.declared.key.Key.{Key}
 use Rattle.conf_field.specs.declared.key.Key.TheVariants as key
 use Rattle.conf_field.specs.declared.table.Row.{Row}
 use Rattle.conf_field.specs.Readings.{Read, bad, both, made, unless, alone, kept}

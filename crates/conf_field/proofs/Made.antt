@@ -1,5 +1,5 @@
 -- What is said of the parts of a reading.
-use Rattle.std.proofs.Common.{◌≡◌, ◌<◌, ◌+◌, ℕ, List, [], ◌∷◌, map, length, drop, get_or, Option, Some, None, Result, Ok, Err, refl, ap, sym, ◌∙◌}
+use Rattle.std.proofs.Common.{◌≡◌, ◌<◌, ◌+◌, ℕ, List, [], ◌∷◌, map, length, drop, get_or, Option, Ok, Err, refl, ap, ◌∙◌}
 use Rattle.std.proofs.lemmas.List.{drop_more}
 use Rattle.yaml_scan.specs.Answers.{Gives}
 use Rattle.yaml_scan.specs.declared.fault.YamlFault.{YamlFault}

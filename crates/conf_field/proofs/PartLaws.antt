@@ -5,7 +5,7 @@ use Rattle.yaml_tree.specs.declared.node.Node.{Node-F}
 use Rattle.yaml_tree.specs.declared.node.NodeKind.{NodeKind}
 use Rattle.yaml_tree.specs.declared.node.NodeKind.TheOpen.{NodeKind-F}
 use Rattle.yaml_tree.specs.declared.node.NodeKind.TheVariants as kinds
-use Rattle.yaml_tree.specs.declared.node.NodeKind.TheViews.{out-Node, out-NodeKind, roll-Node, roll-NodeKind}
+use Rattle.yaml_tree.specs.declared.node.NodeKind.TheViews.{out-Node, roll-Node, roll-NodeKind}
 use Rattle.yaml_tree.specs.declared.node.NodeKind.TheFolds.{fold-NodeKind, fold_out-Node, fold_out-NodeKind, fold-roll-Node, fold-roll-NodeKind, map-NodeKind, map-Node, ind-Node}
 use Rattle.yaml_tree.specs.Readers.{Shape, line_of, shape_of}
 use Rattle.conf_field.specs.Parts.{Part, Level, Inner, bare, part_of, meaning}

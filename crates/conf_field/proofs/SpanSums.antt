@@ -1,12 +1,11 @@
 -- The parts of a span may be counted no further than one over the longest span: the sum is then over it as well, and if it is
 -- not, each part is counted as it is.
-use Rattle.std.proofs.Common.{◌≡◌, ◌∙◌, ◌≤◌, ◌<◌, ◌+◌, ◌*◌, ap, refl, sym, arith, ℕ, min, nat_lt, Bool, true, false, Option, Some, None, Result, Ok, Err, if◌then◌else◌, inl, inr, ◌⊎◌}
+use Rattle.std.proofs.Common.{◌≡◌, ◌∙◌, ◌≤◌, ◌<◌, ap, refl, sym, arith, ℕ, min, nat_lt, Bool, true, false, Some, None, Ok, Err, if◌then◌else◌, inl, inr, ◌⊎◌}
 use Rattle.std.proofs.lemmas.Bool.{cases_lt, lt-ltb, ltb-false}
 use Rattle.ha_clock.specs.Local.{last_span}
 use Rattle.yaml_scan.specs.declared.fault.Code.TheVariants as code
-use Rattle.yaml_scan.specs.declared.fault.Fault.{Fault}
 use Rattle.conf_field.specs.Readings.{Read, both, made, unless, bad, fault}
-use Rattle.conf_field.specs.Spans.{total, or_zero, too_long, parts}
+use Rattle.conf_field.specs.Spans.{total, or_zero, parts}
 use Rattle.conf_field.specs.Capped.{cap, at_cap, bounded}
 
 -- ---- sums

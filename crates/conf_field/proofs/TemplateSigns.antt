@@ -1,5 +1,5 @@
 -- Whether a text holds a template, byte by byte.
-use Rattle.std.proofs.Common.{◌≡◌, ◌∙◌, ◌≤◌, ◌<◌, ◌+◌, ap, refl, sym, arith, ℕ, suc, Bool, false, ◌||◌, List, [], ◌∷◌, length, drop, get_or, inl, inr, add-one}
+use Rattle.std.proofs.Common.{◌≡◌, ◌∙◌, ◌≤◌, ◌<◌, ◌+◌, ap, refl, sym, ℕ, suc, false, ◌||◌, List, [], ◌∷◌, length, drop, get_or, inl, inr, add-one}
 use Rattle.std.proofs.Math.Seq.{drop-cons}
 use Rattle.std.proofs.lemmas.List.{drop_all}
 use Rattle.std.proofs.lemmas.Bool.{cases_lt}

@@ -1,6 +1,6 @@
 -- The fields of a map by its table of keys.
 use Rattle.std.specs.Prelude.{ℕ, Bool, false, ◌||◌, if◌then◌else◌, List, [], ◌∷◌, ◌++◌}
-use Rattle.std.specs.Prelude.{Option, Some, None, Ok, bytes_eq, option_map, is_some}
+use Rattle.std.specs.Prelude.{Option, Some, None, Ok, bytes_eq, is_some}
 use Rattle.std.specs.Option.{option_or}
 use Rattle.std.specs.List.{list_any, find}
 use Rattle.std.specs.Option.{option_map_or}

@@ -3,7 +3,7 @@
 use Rattle.std.specs.Prelude.{ℕ, ◌*◌, ◌+◌, ◌-◌, ◌==◌, ◌&&◌, ◌||◌, Bool, true, false, nat_le, nat_lt, if◌then◌else◌, List, [], ◌∷◌}
 use Rattle.std.specs.Prelude.{map, Option, Some, None, Ok, Err, option_and_then, option_map, min, bytes_eq, codes, length}
 use Rattle.std.specs.List.{list_any}
-use Rattle.std.specs.Char.{is_ascii_digit, to_ascii_lowercase}
+use Rattle.std.specs.Char.{to_ascii_lowercase}
 use Rattle.ha_value.specs.declared.value.EntityId.{EntityId}
 use Rattle.ha_value.specs.declared.value.Num.{Num}
 use Rattle.ha_value.specs.Lists.{before_first, after_first}
@@ -19,7 +19,7 @@ use Rattle.yaml_tree.specs.declared.node.NodeKind.TheOpen.{NodeKind-F}
 use Rattle.yaml_tree.specs.Readers.{Shape, line_of, shape_of, is_null, is_null_word, texts as texts_of}
 use Rattle.yaml_tree.specs.Entities.{entities as entities_of}
 use Rattle.tpl_parse.specs.Pieces.{template as parsed}
-use Rattle.conf_field.specs.Readings.{Read, bad, made, or_bad, both, each, unless, fault}
+use Rattle.conf_field.specs.Readings.{Read, bad, made, or_bad, each}
 use Rattle.conf_field.specs.Fields.{Meaning}
 
 -- the text of a scalar that is not null

@@ -1,16 +1,14 @@
 -- The conditions that are read of a sound tree are sound.
-use Rattle.std.proofs.Common.{◌≡◌, ◌∙◌, ap, sym, subst, refl, ℕ, ◌+◌, ◌≤◌, ◌<◌, Bool, true, false, cond, List, [], ◌∷◌, ◌++◌, length, map, Option, Some, None, Result, Ok, Err, arith}
+use Rattle.std.proofs.Common.{◌≡◌, ◌∙◌, ap, sym, subst, refl, ℕ, ◌+◌, ◌≤◌, ◌<◌, Bool, true, false, cond, List, [], ◌∷◌, ◌++◌, length, Option, Some, None, Ok, Err, arith}
 use Rattle.std.specs.Prelude.{◌&&◌, unwrap_or}
-use Rattle.std.specs.List.{list_all}
 use Rattle.ha_model.specs.declared.template.Template.{Template}
 use Rattle.ha_model.specs.declared.config.Condition.{Condition}
 use Rattle.ha_model.specs.declared.config.Condition.TheVariants as conditions
 use Rattle.ha_model.specs.declared.config.Condition.TheOpen.{Condition-F}
 use Rattle.ha_model.specs.declared.config.Condition.TheViews.{roll-Condition}
 use Rattle.ha_model.specs.declared.config.Condition.TheFolds.{fold-roll-Condition, map-Condition}
-use Rattle.ha_model.specs.Sound.{all_true, are_sound_conditions, if_there, is_second_of_day, is_short, is_sound_condition, is_sound_template, sound_condition_step}
+use Rattle.ha_model.specs.Sound.{are_sound_conditions, if_there, is_second_of_day, is_short, is_sound_condition, is_sound_template, sound_condition_step}
 use Rattle.ha_model.specs.Numbers.{is_in_range}
-use Rattle.yaml_scan.specs.declared.fault.Fault.{Fault}
 use Rattle.yaml_scan.specs.declared.fault.Code.TheVariants as code
 use Rattle.yaml_tree.specs.declared.node.Node.{Node}
 use Rattle.yaml_tree.specs.declared.node.NodeKind.TheOpen.{NodeKind-F}
@@ -18,18 +16,18 @@ use Rattle.yaml_tree.specs.Readers.{Shape, line_of, shape_of, is_null_word}
 use Rattle.conf_field.specs.declared.key.Key.TheVariants as key
 use Rattle.conf_field.specs.declared.table.Row.{Row}
 use Rattle.conf_field.specs.Holds.{Holds, Each, IfThere}
-use Rattle.conf_field.specs.Readings.{Read, alone, both, kept, made, unless}
+use Rattle.conf_field.specs.Readings.{Read, alone, kept, made, unless}
 use Rattle.conf_field.specs.Fields.{Pair, field, get, keys, need, one_of, row, wanted}
 use Rattle.conf_field.specs.Kinds.{entities, flag, number, several, template, template_by, text, texts, time}
 use Rattle.conf_field.specs.Spans.{span}
 use Rattle.conf_field.specs.Sizes.{IsSoundTree}
 use Rattle.conf_cond.specs.declared.kind.ConditionKind.{ConditionKind}
 use Rattle.conf_cond.specs.declared.kind.KindKey.{KindKey}
-use Rattle.conf_cond.specs.Conditions.{Inside, all_at, all_by, as_condition, by_key, by_name, common_rows, condition, condition_map, goes_on, if_enabled, inside, kind_key, kind_rows, made_condition, made_numeric, made_state, made_time, named, numeric_rule, of_map, of_scalar as scalar_rule, one_by, read_conditions, rule, state_rule, template_rule, time_rule, trigger_rule, weekday, with_keys}
+use Rattle.conf_cond.specs.Conditions.{Inside, all_at, all_by, as_condition, by_key, by_name, common_rows, condition, condition_map, goes_on, inside, kind_key, kind_rows, made_condition, made_numeric, made_state, made_time, named, numeric_rule, of_map, of_scalar as scalar_rule, one_by, read_conditions, rule, state_rule, template_rule, time_rule, trigger_rule, weekday, with_keys}
 use Rattle.conf_cond.proofs.Opened.{all-out, one-out}
-use Rattle.conf_laws.proofs.Joined.{all_mapped, all_passed, pair, short}
+use Rattle.conf_laws.proofs.Joined.{all_mapped, all_passed, pair}
 use Rattle.conf_laws.proofs.Down.{AreSoundPairs, EachInside, IsSoundPair, IsSoundShape, down, found_each, most, sound_inside}
-use Rattle.conf_laws.proofs.Parts.{AllOf, Anything, Known, Passes, Reads, alone_of, anything, either_way, finish, grown, kept_items, known, made_of, of_get, of_need, one_or_more, there, unknown, weaker, with}
+use Rattle.conf_laws.proofs.Parts.{AllOf, Anything, Passes, Reads, alone_of, anything, either_way, finish, grown, kept_items, known, made_of, of_get, of_need, one_or_more, there, unknown, weaker, with}
 use Rattle.conf_laws.proofs.KindLaws.{ranged_number, short_entities, short_most, short_texts, time_in_day}
 use Rattle.conf_laws.proofs.Templates.{sound_template, sound_template_text}
 

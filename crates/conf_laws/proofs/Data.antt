@@ -1,5 +1,5 @@
 -- Values of any shape that are read, without templates, are plain; so is a map of them.
-use Rattle.std.proofs.Common.{◌≡◌, ◌∙◌, ap, sym, subst, refl, ℕ, ◌+◌, ◌≤◌, ◌<◌, Bool, true, false, cond, List, [], ◌∷◌, ◌++◌, length, map, Option, Some, None, Result, Ok, Err, arith, append_assoc}
+use Rattle.std.proofs.Common.{◌≡◌, ◌∙◌, ap, sym, subst, refl, ℕ, ◌+◌, Bool, true, false, List, [], ◌∷◌, ◌++◌, length, map, Option, Some, None, Ok, Err, arith, append_assoc}
 use Rattle.std.specs.Prelude.{◌&&◌, option_map}
 use Rattle.std.specs.List.{list_all}
 use Rattle.std.proofs.lemmas.List.{length-map}
@@ -9,23 +9,22 @@ use Rattle.ha_value.specs.declared.value.Value.TheVariants as values
 use Rattle.ha_value.specs.Numbers.{read_number}
 use Rattle.ha_model.specs.Commands.{all_distinct, are_sound_pairs, is_sound_value}
 use Rattle.ha_model.specs.Sound.{all_short, has_short_lists, is_plain_value}
-use Rattle.yaml_scan.specs.declared.fault.Fault.{Fault}
 use Rattle.yaml_scan.specs.declared.fault.Code.TheVariants as code
 use Rattle.yaml_tree.specs.declared.node.Node.{Node}
 use Rattle.yaml_tree.specs.declared.node.NodeKind.TheOpen.{NodeKind-F}
 use Rattle.yaml_tree.specs.Readers.{Shape, line_of, shape_of, is_null_word}
 use Rattle.conf_field.specs.Holds.{Holds, Each}
 use Rattle.conf_field.specs.Readings.{Read, made, or_bad, behind, each, each_behind}
-use Rattle.conf_field.specs.Fields.{Meaning, Pair}
+use Rattle.conf_field.specs.Fields.{Pair}
 use Rattle.conf_field.specs.Kinds.{flag_of, holds_template}
-use Rattle.conf_field.specs.Trees.{Leaf, Fields, tree, data_by, fields_of}
-use Rattle.conf_field.specs.Values.{bare_value, data_without_templates, is_number_form, number_or_text, plain_by, plain_value, scalar_value, value_of}
+use Rattle.conf_field.specs.Trees.{Fields, data_by, fields_of}
+use Rattle.conf_field.specs.Values.{bare_value, data_without_templates, is_number_form, number_or_text, plain_by, scalar_value, value_of}
 use Rattle.conf_field.specs.Sizes.{IsSoundTree}
 use Rattle.conf_field.proofs.TreeLaws.{tree-out, tree_by}
 use Rattle.conf_laws.proofs.Joined.{all_passed, apart, one_more, pair}
 use Rattle.conf_laws.proofs.Values.{PairsPlain, flag_plain, items_plain, null_plain, number_plain, pairs_plain, read_in_range, text_plain}
 use Rattle.conf_laws.proofs.Down.{AreSoundPairs, EachInside, IsSoundPair, IsSoundShape, down, sound_inside}
-use Rattle.conf_laws.proofs.Parts.{AllOf, Passes, Reads, Two, all_items, either_way, if_some, made_of}
+use Rattle.conf_laws.proofs.Parts.{AllOf, Passes, Reads, all_items, either_way, made_of}
 
 -- ---- the keys of a map stay
 

@@ -1,5 +1,5 @@
 -- Down a sound tree: each node inside is sound, and no list of nodes is long.
-use Rattle.std.proofs.Common.{◌≡◌, ◌∙◌, ap, sym, subst, refl, ℕ, ◌+◌, ◌≤◌, ◌<◌, Bool, true, false, cond, List, [], ◌∷◌, length, map, Option, Some, None, arith}
+use Rattle.std.proofs.Common.{◌≡◌, ◌∙◌, ap, sym, subst, refl, ℕ, ◌+◌, ◌≤◌, ◌<◌, Bool, true, false, cond, List, [], ◌∷◌, length, map, Option, Some, arith}
 use Rattle.std.specs.Prelude.{◌&&◌}
 use Rattle.std.specs.List.{list_all, find}
 use Rattle.std.proofs.lemmas.Bool.{and_parts}
@@ -8,7 +8,7 @@ use Rattle.yaml_tree.specs.declared.node.Node.{Node}
 use Rattle.yaml_tree.specs.declared.node.Node.{Node-F}
 use Rattle.yaml_tree.specs.declared.node.NodeKind.{NodeKind}
 use Rattle.yaml_tree.specs.declared.node.NodeKind.TheOpen.{NodeKind-F}
-use Rattle.yaml_tree.specs.declared.node.NodeKind.TheViews.{out-Node, out-NodeKind, roll-Node, roll-NodeKind, out-roll-Node, out-roll-NodeKind}
+use Rattle.yaml_tree.specs.declared.node.NodeKind.TheViews.{out-Node, out-NodeKind, roll-Node, out-roll-Node, out-roll-NodeKind}
 use Rattle.yaml_tree.specs.declared.node.NodeKind.TheFolds.{fold-NodeKind, fold_out-Node, fold_out-NodeKind, map-NodeKind, ind-Node}
 use Rattle.yaml_tree.specs.Readers.{Shape, shape_of}
 use Rattle.conf_field.specs.Holds.{Each, IfThere}

@@ -1,5 +1,5 @@
 -- Expressions of the grammar are sound: their numbers are in range, and no list in one is longer than its text.
-use Rattle.std.proofs.Common.{◌≡◌, ◌∙◌, ap, sym, subst, refl, ℕ, suc, ◌+◌, ◌≤◌, ◌<◌, Bool, true, false, cond, List, [], ◌∷◌, ◌++◌, length, map, Option, Some, None, arith, length-append}
+use Rattle.std.proofs.Common.{◌≡◌, ◌∙◌, ap, sym, subst, refl, ℕ, ◌+◌, ◌≤◌, ◌<◌, Bool, true, false, cond, List, [], ◌∷◌, ◌++◌, length, map, Some, None, arith, length-append}
 use Rattle.std.specs.Prelude.{◌&&◌, ◌||◌, codes, bytes_eq}
 use Rattle.std.specs.List.{list_all}
 use Rattle.ha_value.specs.declared.value.Num.{Num}

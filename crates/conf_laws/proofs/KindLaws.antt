@@ -1,11 +1,8 @@
 -- What holds of the values of each kind.
-use Rattle.std.proofs.Common.{◌≡◌, ◌∙◌, ap, sym, subst, refl, ℕ, suc, ◌+◌, ◌*◌, ◌-◌, ◌≤◌, ◌<◌, Bool, true, false, cond, List, [], ◌∷◌, ◌++◌, length, map, Option, Some, None, Result, Ok, Err, arith, length-append, ltb}
-use Rattle.std.specs.Prelude.{◌&&◌, ◌==◌, nat_lt, option_and_then}
-use Rattle.std.specs.List.{list_all}
+use Rattle.std.proofs.Common.{◌≡◌, subst, refl, ℕ, ◌+◌, ◌*◌, ◌-◌, ◌≤◌, ◌<◌, Bool, true, false, cond, List, [], ◌∷◌, ◌++◌, length, Option, Some, None, Result, Ok, Err, arith, length-append}
+use Rattle.std.specs.Prelude.{◌&&◌, ◌==◌, nat_lt}
 use Rattle.std.proofs.lemmas.Bool.{and_parts, lt-ltb, ltb-true}
-use Rattle.std.proofs.Common.{leb}
 use Rattle.ha_value.specs.declared.value.EntityId.{EntityId as Id}
-use Rattle.ha_value.specs.declared.value.Num.{Num}
 use Rattle.ha_value.specs.Ids.{read_entity}
 use Rattle.ha_value.specs.Lists.{before_first, after_first}
 use Rattle.ha_value.specs.Numbers.{is_in_range, read_number}
@@ -17,13 +14,11 @@ use Rattle.yaml_tree.specs.declared.node.Node.{Node}
 use Rattle.yaml_tree.specs.declared.node.NodeKind.TheOpen.{NodeKind-F}
 use Rattle.yaml_tree.specs.Readers.{Shape, line_of, shape_of, is_null_word, text as text_of, text_by, texts as texts_of, texts_by, texts_from, then_more}
 use Rattle.yaml_tree.specs.Entities.{Ids, entities as entities_of, ids_by, items_ids, part_id, some_ids, split_by, split_from, text_ids, then_ids, with_id}
-use Rattle.conf_field.specs.Holds.{Holds, Each, IfThere}
-use Rattle.conf_field.specs.Readings.{Read}
-use Rattle.conf_field.specs.Fields.{Meaning}
+use Rattle.conf_field.specs.Holds.{Holds}
 use Rattle.conf_field.specs.Kinds.{behind_hours, entities, number, one_or_two, second_of, texts, time, time_of, two}
 use Rattle.conf_field.specs.Sizes.{IsSoundTree, size, total}
 use Rattle.conf_laws.proofs.Values.{read_in_range}
-use Rattle.conf_laws.proofs.Joined.{pair, short}
+use Rattle.conf_laws.proofs.Joined.{short}
 use Rattle.conf_laws.proofs.Down.{IsSoundShape, most, size-out, size_by, sound_inside}
 use Rattle.conf_laws.proofs.Parts.{Passes, Reads, either_way, null_apart, of_scalar, weaker}
 

@@ -1,9 +1,8 @@
 -- What holds of each value that is read: of parts that are joined, of fields, and of lists.
-use Rattle.std.proofs.Common.{◌≡◌, ◌∙◌, ap, sym, refl, ℕ, ◌+◌, ◌≤◌, ◌<◌, Bool, true, false, cond, List, [], ◌∷◌, ◌++◌, length, map, Option, Some, None, Result, Ok, Err, arith, length-append}
-use Rattle.std.specs.Prelude.{◌&&◌, option_and_then}
-use Rattle.std.specs.List.{list_all, find}
+use Rattle.std.proofs.Common.{◌≡◌, refl, ℕ, ◌+◌, ◌≤◌, Bool, true, false, cond, List, [], ◌∷◌, length, Option, Some, None, Ok, Err, arith, length-append}
+use Rattle.std.specs.Prelude.{option_and_then}
+use Rattle.std.specs.List.{list_all}
 use Rattle.ha_model.specs.Sound.{if_there}
-use Rattle.yaml_scan.specs.declared.fault.Fault.{Fault}
 use Rattle.yaml_scan.specs.declared.fault.Code.{Code}
 use Rattle.yaml_tree.specs.declared.node.Node.{Node}
 use Rattle.yaml_tree.specs.declared.node.NodeKind.TheOpen.{NodeKind-F}
@@ -12,11 +11,11 @@ use Rattle.conf_field.specs.declared.key.Key.{Key}
 use Rattle.conf_field.specs.declared.table.Row.{Row}
 use Rattle.conf_field.specs.Holds.{Holds, Each, IfThere}
 use Rattle.conf_field.specs.Readings.{Read, both, made, bad, or_bad, behind, each, each_behind, keep, kept_behind, kept, alone, and_maybe}
-use Rattle.conf_field.specs.Fields.{Meaning, Pair, field, get, names, need, needed, optional, row, value, wanted}
+use Rattle.conf_field.specs.Fields.{Meaning, Pair, field, get, names, need, optional, row, value, wanted}
 use Rattle.conf_field.specs.Kinds.{in_scalar, scalar, several, several_by, unless_null}
 use Rattle.conf_field.specs.Sizes.{IsSoundTree}
 use Rattle.conf_laws.proofs.Joined.{one_more, pair}
-use Rattle.conf_laws.proofs.Down.{AreSoundItems, AreSoundPairs, IsSoundPair, IsSoundShape, found_each, most, sound_inside}
+use Rattle.conf_laws.proofs.Down.{AreSoundPairs, IsSoundPair, IsSoundShape, found_each, most, sound_inside}
 
 abbrev pub Passes : {A : Type 0} → (A → Bool) → A → Type 0
 Passes test a = test a ≡ true

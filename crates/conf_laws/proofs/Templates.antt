@@ -1,5 +1,5 @@
 -- Templates of the grammar are sound, and so is each template that is read.
-use Rattle.std.proofs.Common.{◌≡◌, ◌∙◌, ap, sym, subst, refl, ℕ, suc, ◌+◌, ◌≤◌, ◌<◌, Bool, true, false, cond, List, [], ◌∷◌, ◌++◌, length, map, Option, Some, None, Result, Ok, Err, arith, length-append, leb, ltb}
+use Rattle.std.proofs.Common.{◌≡◌, ◌∙◌, ap, sym, subst, refl, ℕ, ◌+◌, ◌≤◌, ◌<◌, Bool, true, false, cond, List, [], ◌∷◌, length, map, Option, Some, None, Ok, Err, arith, length-append}
 use Rattle.std.specs.Prelude.{◌&&◌, nat_lt}
 use Rattle.std.specs.List.{list_all}
 use Rattle.std.proofs.lemmas.List.{length-map}
@@ -8,27 +8,25 @@ use Rattle.std.proofs.lemmas.Bool.{ltb-false}
 use Rattle.ha_model.specs.declared.template.Expr.{Expr}
 use Rattle.ha_model.specs.declared.template.Piece.{Piece}
 use Rattle.ha_model.specs.declared.template.Piece.TheVariants as pieces
-use Rattle.ha_model.specs.declared.template.Piece.TheOpen.{Piece-F, Template-F}
-use Rattle.ha_model.specs.declared.template.Piece.TheViews.{out-Template, roll-Piece, roll-Template}
-use Rattle.ha_model.specs.declared.template.Piece.TheFolds.{fold-Piece, fold_out-Template, fold-roll-Piece, map-Piece, map-Template}
+use Rattle.ha_model.specs.declared.template.Piece.TheOpen.{Piece-F}
+use Rattle.ha_model.specs.declared.template.Piece.TheViews.{roll-Piece}
+use Rattle.ha_model.specs.declared.template.Piece.TheFolds.{fold-Piece, fold_out-Template, fold-roll-Piece, map-Piece}
 use Rattle.ha_model.specs.declared.template.Template.{Template}
 use Rattle.ha_model.specs.Sound.{all_short, all_true, is_sound_expr, is_sound_template, sound_piece_step}
 use Rattle.reading.specs.declared.fault.Bad.{Bad}
 use Rattle.reading.specs.Answer.{Answer}
 use Rattle.yaml_scan.specs.declared.fault.Code.TheVariants as code
-use Rattle.yaml_tree.specs.declared.node.Node.{Node}
 use Rattle.tpl_parse.specs.declared.token.Token.{Token}
-use Rattle.tpl_parse.specs.Token.{spaces}
 use Rattle.tpl_parse.specs.Pieces.{template_of, text_piece, trimmed, template as parsed}
-use Rattle.tpl_parse.specs.Grammar.{Takes, an_expression, IsLast, last, Place, behind, inside_tag, after_arms, Stop, IsPieces, last_text, tag, comment, shown, stops, set, choice, elif, otherwise, endif, IsTemplate, template}
+use Rattle.tpl_parse.specs.Grammar.{Takes, IsLast, last, Place, behind, inside_tag, after_arms, Stop, IsPieces, last_text, tag, comment, shown, stops, set, choice, elif, otherwise, endif, IsTemplate, template}
 use Rattle.tpl_parse.proofs.Next.{spaces_within, taken}
-use Rattle.tpl_parse.proofs.Starts.{less, name_within}
+use Rattle.tpl_parse.proofs.Starts.{name_within}
 use Rattle.tpl_parse.proofs.OnlyTags.{comment_within, end_within, last_within, opens_read, text_within}
 use Rattle.tpl_parse.proofs.FoundPieces.{template_found}
 use Rattle.conf_field.specs.Holds.{Holds}
 use Rattle.conf_field.specs.Readings.{bad}
-use Rattle.conf_field.specs.Kinds.{scalar, short_template, template as template_kind, template_by, template_of as read_template, template_text, tree_of}
-use Rattle.conf_laws.proofs.Joined.{all_mapped, all_passed, both_lists, one_more, pair, short}
+use Rattle.conf_field.specs.Kinds.{scalar, template as template_kind, template_by, template_of as read_template, template_text, tree_of}
+use Rattle.conf_laws.proofs.Joined.{all_mapped, all_passed, both_lists, one_more, pair}
 use Rattle.conf_laws.proofs.Exprs.{Sound, expr_sound}
 use Rattle.conf_laws.proofs.Parts.{Passes, Reads}
 

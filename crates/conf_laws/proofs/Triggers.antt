@@ -1,7 +1,6 @@
 -- The triggers that are read of a sound tree are sound.
-use Rattle.std.proofs.Common.{◌≡◌, ◌∙◌, ap, sym, subst, refl, ℕ, suc, ◌+◌, ◌*◌, ◌-◌, ◌≤◌, ◌<◌, Bool, true, false, cond, List, [], ◌∷◌, ◌++◌, length, map, Option, Some, None, Result, Ok, Err, arith, eqb}
-use Rattle.std.specs.Prelude.{◌&&◌, ◌||◌, ◌==◌, nat_lt, nat_le, is_some, unwrap_or, decimal, option_map, option_and_then, bytes_eq, codes}
-use Rattle.std.specs.List.{list_all}
+use Rattle.std.proofs.Common.{◌≡◌, subst, refl, ℕ, ◌+◌, ◌*◌, ◌-◌, ◌≤◌, ◌<◌, Bool, true, false, cond, List, [], ◌∷◌, length, Option, Some, None, Ok, Err, arith}
+use Rattle.std.specs.Prelude.{◌&&◌, ◌||◌, ◌==◌, nat_lt, nat_le, is_some, unwrap_or, decimal, option_map, bytes_eq, codes}
 use Rattle.std.specs.Char.{is_ascii_digit}
 use Rattle.std.proofs.lemmas.Bool.{and_parts, eqb-false, leb-true, le-leb, lt-ltb}
 use Rattle.ha_value.specs.declared.value.Value.{Value}
@@ -13,7 +12,6 @@ use Rattle.ha_model.specs.declared.config.Unit as unit
 use Rattle.ha_model.specs.Commands.{are_sound_pairs}
 use Rattle.ha_model.specs.Sound.{all_short, are_sound_triggers, has_short_lists, if_there, is_second_of_day, is_short, is_sound_match, is_sound_rule, is_sound_template, is_sound_trigger, is_sound_unit, may_hold}
 use Rattle.ha_model.specs.Numbers.{is_in_range}
-use Rattle.yaml_scan.specs.declared.fault.Fault.{Fault}
 use Rattle.yaml_scan.specs.declared.fault.Code.TheVariants as code
 use Rattle.yaml_tree.specs.declared.node.Node.{Node}
 use Rattle.yaml_tree.specs.declared.node.NodeKind.TheOpen.{NodeKind-F}
@@ -21,17 +19,17 @@ use Rattle.yaml_tree.specs.Readers.{Shape, line_of, shape_of, is_null}
 use Rattle.conf_field.specs.declared.key.Key.TheVariants as key
 use Rattle.conf_field.specs.declared.table.Row.{Row}
 use Rattle.conf_field.specs.Holds.{Holds, Each, IfThere}
-use Rattle.conf_field.specs.Readings.{Read, both, made, keep, unless}
-use Rattle.conf_field.specs.Fields.{Meaning, Pair, field, get, keys, need, one_of, optional, row}
+use Rattle.conf_field.specs.Readings.{Read, made, keep, unless}
+use Rattle.conf_field.specs.Fields.{Pair, field, get, keys, need, one_of, optional, row}
 use Rattle.conf_field.specs.Kinds.{entities, flag, number, several, template, text, texts, time}
 use Rattle.conf_field.specs.Spans.{span}
 use Rattle.conf_field.specs.Values.{data_without_templates}
 use Rattle.conf_field.specs.Sizes.{IsSoundTree}
 use Rattle.conf_trigger.specs.declared.kind.TriggerKind.{TriggerKind}
-use Rattle.conf_trigger.specs.Triggers.{Rule, at_most, at_once, below_limit, by_kind, divisor, event_rule, excluded, hold, is_start, kind, listed, made_event, made_numeric, made_pattern, made_side, made_start, made_state, made_template, made_time, made_trigger, match_of, none_of_texts, numeric_rule, of_kind, pattern_of, pattern_rule, rows, rule, side, small_number, some_span, start, start_rule, state_rule, template_rule, texts_or_any, time_rule, trigger, trigger_by, trigger_of, triggers, triggers_by, triggers_from, unit_of, unit_or, unit_under}
+use Rattle.conf_trigger.specs.Triggers.{Rule, at_most, below_limit, by_kind, divisor, event_rule, excluded, hold, kind, listed, made_event, made_numeric, made_pattern, made_side, made_start, made_state, made_template, made_time, made_trigger, match_of, none_of_texts, numeric_rule, of_kind, pattern_of, pattern_rule, rows, rule, side, small_number, some_span, start, start_rule, state_rule, template_rule, texts_or_any, time_rule, trigger, trigger_by, triggers, triggers_by, triggers_from, unit_of, unit_or, unit_under}
 use Rattle.conf_laws.proofs.Joined.{all_passed, pair}
 use Rattle.conf_laws.proofs.Down.{AreSoundPairs, IsSoundShape, most, sound_inside}
-use Rattle.conf_laws.proofs.Parts.{AllOf, Anything, Known, Passes, Reads, anything, either_way, finish, grown, keep_one, known, made_of, of_get, of_need, of_optional, of_scalar, one_or_more, field_sound, there, unknown, weaker, with}
+use Rattle.conf_laws.proofs.Parts.{AllOf, Anything, Known, Passes, Reads, anything, either_way, finish, grown, keep_one, known, made_of, of_get, of_need, of_optional, of_scalar, one_or_more, field_sound, there, unknown, with}
 use Rattle.conf_laws.proofs.KindLaws.{ranged_number, short_entities, short_texts, time_in_day}
 use Rattle.conf_laws.proofs.Templates.{sound_template}
 use Rattle.conf_laws.proofs.Data.{data_plain, is_plain_data}

@@ -1,8 +1,8 @@
 -- Triggers: each kind with its table of keys, and what its fields are.
-use Rattle.std.specs.Prelude.{ℕ, suc, ◌+◌, ◌-◌, ◌==◌, ◌&&◌, ◌||◌, Bool, true, false, not, nat_lt, nat_le}
-use Rattle.std.specs.Prelude.{if◌then◌else◌, List, [], ◌∷◌, ◌++◌, map, Option, Some, None, Ok, Err}
+use Rattle.std.specs.Prelude.{ℕ, ◌+◌, ◌-◌, ◌==◌, ◌||◌, Bool, true, false, nat_lt, nat_le}
+use Rattle.std.specs.Prelude.{if◌then◌else◌, List, [], ◌∷◌, ◌++◌, Option, Some, None, Ok, Err}
 use Rattle.std.specs.Prelude.{option_map, option_and_then, is_some, unwrap_or, bytes_eq, codes, decimal}
-use Rattle.std.specs.List.{find, list_any, slice_get}
+use Rattle.std.specs.List.{find, slice_get}
 use Rattle.ha_value.specs.declared.value.EntityId.{EntityId}
 use Rattle.ha_value.specs.declared.value.Num.{Num}
 use Rattle.ha_value.specs.declared.value.Value.{Value}
@@ -17,13 +17,11 @@ use Rattle.yaml_scan.specs.declared.fault.Code.TheVariants as code
 use Rattle.yaml_tree.specs.declared.node.Node.{Node}
 use Rattle.yaml_tree.specs.declared.node.NodeKind.TheOpen.{NodeKind-F}
 use Rattle.yaml_tree.specs.Readers.{Shape, line_of, shape_of, is_null}
-use Rattle.conf_field.specs.declared.key.Key.{Key}
 use Rattle.conf_field.specs.declared.key.Key.TheVariants as key
 use Rattle.conf_field.specs.declared.table.Row.{Row}
-use Rattle.conf_field.specs.Keys.{text_of}
 use Rattle.conf_field.specs.Readings.{Read, fault, bad, both, made, unless, keep}
 use Rattle.conf_field.specs.Fields.{Meaning, Pair, row, either, field, get, keys, names, need, one_of, optional, wanted}
-use Rattle.conf_field.specs.Kinds.{in_scalar, scalar, several, text, texts, entities, flag, number, time, template}
+use Rattle.conf_field.specs.Kinds.{in_scalar, several, text, texts, entities, flag, number, time, template}
 use Rattle.conf_field.specs.Spans.{span}
 use Rattle.conf_field.specs.Values.{data_without_templates}
 use Rattle.conf_trigger.specs.declared.kind.TriggerKind.{TriggerKind}

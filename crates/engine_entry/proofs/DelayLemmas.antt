@@ -1,5 +1,5 @@
 -- A delay that a step began, in the queue.
-use Rattle.std.proofs.Common.{◌≡◌, ℕ, ◌<◌, ◌≤◌, ◌⊎◌, inl, inr, List, [], ◌∷◌, ◌++◌, map, filter, Bool, true, false, refl, sym, ◌∙◌, rules, arith}
+use Rattle.std.proofs.Common.{◌≡◌, ℕ, ◌<◌, ◌≤◌, ◌⊎◌, inl, inr, List, [], ◌∷◌, map, filter, Bool, true, false, refl, sym, ◌∙◌, rules}
 use Rattle.std.specs.Prelude.{Option, Some, None, nat_eq, nat_le, ◌||◌, if◌then◌else◌}
 use Rattle.std.specs.List.{list_any}
 use Rattle.timer_queue.specs.Timers.{Timer, due_of, inserted, is_before}

@@ -1,8 +1,7 @@
 -- A run ends by its script, and the one that was queued behind it begins.
-use Rattle.std.proofs.Common.{◌≡◌, ℕ, zero, suc, ◌+◌, ◌-◌, ◌<◌, ◌≤◌, List, [], ◌∷◌, ◌++◌, length, Bool, true, false, refl, sym, ap, subst, ◌∙◌, rules, arith}
-use Rattle.std.specs.Prelude.{Option, Some, None, ◌||◌, is_none, nat_eq, slice_get, option_map, if◌then◌else◌}
+use Rattle.std.proofs.Common.{◌≡◌, ℕ, zero, suc, ◌+◌, ◌-◌, ◌<◌, List, [], ◌∷◌, length, Bool, true, false, refl, sym, ap, subst, ◌∙◌, rules, arith}
+use Rattle.std.specs.Prelude.{Option, Some, None, ◌||◌, nat_eq, slice_get, option_map, if◌then◌else◌}
 use Rattle.std.specs.Option.{option_map_or}
-use Rattle.std.proofs.lemmas.Option.{slice_get_within}
 use Rattle.timer_queue.specs.Timers.{Timer}
 use Rattle.ha_model.specs.declared.journal.EndCause.{EndCause}
 use Rattle.ha_model.specs.declared.journal.Record.{Record}
@@ -11,22 +10,20 @@ use Rattle.ha_model.specs.Lawful.{is_running, record_of}
 use Rattle.ha_model.specs.Records.{Records, or_else}
 use Rattle.ha_model.specs.Scripts.{Branch}
 use Rattle.ha_ready.specs.ReadyPairs.{branches_at, changed_at, pairs_from, ready_branches}
-use Rattle.ha_ready.specs.RunPast.{AllPast, BeginBefore, EndBefore, IsPast}
+use Rattle.ha_ready.specs.RunPast.{AllPast, BeginBefore, IsPast}
 use Rattle.ha_ready.proofs.ReadyLemmas.{pairs-same}
-use Rattle.ha_ready.proofs.RunPast.{ended-rests, past-at, queued-rests, resting}
+use Rattle.ha_ready.proofs.RunPast.{ended-rests, queued-rests, resting}
 use Rattle.run_modes.specs.Changes.{after_end}
 use Rattle.run_modes.specs.Fits.{AreNumbered}
 use Rattle.run_modes.specs.Table.{begin_first, begins_at, begun_by, called_on, ended_at, is_live}
-use Rattle.run_modes.specs.Calls.{call_counted}
 use Rattle.run_modes.proofs.ChangeLaws.{ended-record}
 use Rattle.run_modes.proofs.EndLemmas.{ended-numbered}
 use Rattle.run_modes.proofs.StopLemmas.{called-numbered}
 use Rattle.script_step.specs.declared.frames.Frames.{Frames}
 use Rattle.wait_set.specs.Asked.{WaitTable as Waits}
-use Rattle.engine_parts.specs.Changes.{SameRun}
 use Rattle.engine_parts.specs.Kept.{RunsKept, SlotBut, left_branches, left_if, nobody, slot_if}
 use Rattle.engine_parts.specs.Records.{AreEnded, EndsIf, IsTable, also}
-use Rattle.engine_parts.specs.Runs.{HasEnd, LiveKept, SlotKept, SlotsWith}
+use Rattle.engine_parts.specs.Runs.{SlotKept, SlotsWith}
 use Rattle.engine_entry.proofs.QueuedLemmas.{Queued, begun-found}
 
 eq-of : (a b : ℕ) → nat_eq a b ≡ true → a ≡ b

@@ -1,20 +1,19 @@
 -- What stays at an entry that changes no switch and opens no segment.
-use Rattle.std.proofs.Common.{◌≡◌, ℕ, zero, suc, ◌+◌, ◌-◌, ◌<◌, ◌≤◌, List, [], ◌∷◌, ◌++◌, length, take, filter, map, Bool, true, false, refl, sym, ap, subst, ◌∙◌, rules, arith}
-use Rattle.std.specs.Prelude.{Option, Some, None, IsTrue, not, nat_eq, max, ◌||◌, flat_map, slice_get, option_map, if◌then◌else◌}
+use Rattle.std.proofs.Common.{◌≡◌, ℕ, suc, ◌+◌, ◌-◌, ◌<◌, ◌≤◌, List, [], ◌∷◌, length, take, map, Bool, true, false, refl, sym, ap, subst, ◌∙◌, rules, arith}
+use Rattle.std.specs.Prelude.{IsTrue, not, nat_eq, max, ◌||◌, flat_map, if◌then◌else◌}
 use Rattle.std.specs.List.{list_any, enumerate_from}
-use Rattle.std.specs.Option.{option_map_or}
 use Rattle.std.proofs.lemmas.List.{take_all}
 use Rattle.ha_model.specs.declared.config.Automation.{Automation}
 use Rattle.ha_model.specs.declared.journal.Cmd.{Cmd}
 use Rattle.ha_model.specs.declared.journal.Entry.{Entry}
-use Rattle.ha_model.specs.declared.journal.Entry.TheVariants.{Boot, Line, Step}
+use Rattle.ha_model.specs.declared.journal.Entry.TheVariants.{Line}
 use Rattle.ha_model.specs.Entries.{Turning, turning}
 use Rattle.ha_model.specs.Entries.{IsPlain}
 use Rattle.ha_model.specs.Equal.{same_flag}
 use Rattle.ha_model.specs.Words.{up_to}
 use Rattle.ha_model.specs.Journal.{Journal, HasEntry, automations, zone_of, now, brings}
 use Rattle.ha_model.specs.Switches.{is_on, since, opens_segment}
-use Rattle.ha_model.specs.Sights.{switch_of, changes_switch}
+use Rattle.ha_model.specs.Sights.{changes_switch}
 use Rattle.ha_model.specs.Sound.{is_sound_config}
 use Rattle.ha_model.specs.RecordSteps.{more}
 use Rattle.ha_model.proofs.SinceLaws.{take-before, on-left, since-left}
@@ -28,7 +27,7 @@ use Rattle.trig_set.specs.Stands.{attached}
 use Rattle.trig_set.specs.declared.set.TrigSet.{TrigSet}
 use Rattle.wait_set.specs.declared.asked.Asked.{Asked}
 use Rattle.wait_set.specs.Asked.{WaitTable}
-use Rattle.engine_parts.specs.Owners.{owners_on, is_automation}
+use Rattle.engine_parts.specs.Owners.{owners_on}
 use Rattle.engine_parts.specs.Kept.{AreSound, AreOwned, Owned}
 use Rattle.engine_parts.proofs.DetachLemmas.{below-more}
 

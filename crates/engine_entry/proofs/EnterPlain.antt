@@ -1,6 +1,6 @@
 -- What is known once a line that changes no switch has made its own changes.
-use Rattle.std.proofs.Common.{◌≡◌, ℕ, suc, ◌+◌, ◌<◌, ◌≤◌, ◌≢◌, List, [], ◌∷◌, length, Bool, true, false, refl, sym, ap, subst, ◌∙◌, rules, arith}
-use Rattle.std.specs.Prelude.{Option, Some, None, IsTrue, IsSome, max, codes, not, ◌&&◌, ◌||◌, MatchOption, unwrap_or}
+use Rattle.std.proofs.Common.{◌≡◌, ℕ, ◌≤◌, ◌≢◌, [], length, Bool, true, false, refl, sym, ap, subst, ◌∙◌, arith}
+use Rattle.std.specs.Prelude.{Option, Some, None, IsSome, max, codes, not, ◌&&◌, ◌||◌, unwrap_or}
 use Rattle.std.specs.Option.{option_map_or}
 use Rattle.ha_value.specs.declared.value.EntityId.{EntityId}
 use Rattle.ha_clock.specs.Zone as clock
@@ -8,13 +8,13 @@ use Rattle.ha_clock.specs.Local.{last_moment}
 use Rattle.ha_model.specs.declared.journal.Cmd.{Cmd}
 use Rattle.ha_model.specs.declared.journal.Entry.{Entry}
 use Rattle.ha_model.specs.declared.journal.Entry.TheVariants.{Line}
-use Rattle.ha_model.specs.Entries.{Turning, turning, report_in, gone_in, moment_in, is_restart}
+use Rattle.ha_model.specs.Entries.{report_in, gone_in, moment_in, is_restart}
 use Rattle.ha_model.specs.Entries.{IsPlain}
 use Rattle.ha_model.specs.Equal.{same_flag}
-use Rattle.ha_model.specs.Words.{same, same_entity}
+use Rattle.ha_model.specs.Words.{same_entity}
 use Rattle.ha_model.specs.Commands.{IsFair}
-use Rattle.ha_model.specs.Journal.{Journal, HasEntry, IsJournal, IsBoot, automations, zone_of, now, brings}
-use Rattle.ha_model.specs.Switches.{is_on, opens_segment}
+use Rattle.ha_model.specs.Journal.{Journal, HasEntry, IsJournal, automations, zone_of, now, brings}
+use Rattle.ha_model.specs.Switches.{is_on}
 use Rattle.ha_model.specs.States.{states, automation_named}
 use Rattle.ha_model.specs.Records.{Records}
 use Rattle.ha_model.specs.RecordSteps.{more}
@@ -33,7 +33,7 @@ use Rattle.trig_set.specs.Next.{AreListed, Listed}
 use Rattle.engine_parts.specs.declared.parts.Parts.{Parts}
 use Rattle.ha_model.specs.Sights.{changes_switch}
 use Rattle.engine_parts.specs.Kept.{AreSound, Owned}
-use Rattle.engine_parts.specs.Stages.{Pushed, Entered, IsOther, Untold}
+use Rattle.engine_parts.specs.Stages.{Pushed, Entered, IsOther}
 use Rattle.engine_entry.proofs.EnterLemmas.{plain-leaves, plain-goes-on, zone-more, sound-more, switches-left, changed-left, owned-left}
 use Rattle.engine_parts.proofs.KeyLemmas.{keys_more}
 

@@ -1,8 +1,8 @@
 -- The automations of a Boot or a Restart, which are all set anew.
-use Rattle.std.proofs.Common.{◌≡◌, ℕ, zero, suc, ◌+◌, ◌-◌, ◌<◌, ◌≤◌, inl, inr, List, [], ◌∷◌, ◌++◌, length, filter, Bool, true, false, refl, sym, ap, subst, ◌∙◌, rules, arith}
+use Rattle.std.proofs.Common.{◌≡◌, ℕ, suc, ◌+◌, ◌-◌, ◌<◌, ◌≤◌, inl, inr, List, [], ◌∷◌, ◌++◌, length, filter, Bool, true, false, refl, sym, ap, subst, ◌∙◌, rules, arith}
 use Rattle.std.proofs.lemmas.Option.{slice_get_within}
-use Rattle.std.specs.Prelude.{◌⊎◌, Option, Some, None, IsNone, not, nat_eq, nat_le, nat_lt, codes, ◌&&◌, ◌||◌, flat_map, MatchOption, slice_get, if◌then◌else◌}
-use Rattle.std.specs.List.{list_any, enumerate_from}
+use Rattle.std.specs.Prelude.{◌⊎◌, Option, Some, None, not, nat_eq, nat_le, nat_lt, codes, ◌&&◌, ◌||◌, flat_map, MatchOption, slice_get, if◌then◌else◌}
+use Rattle.std.specs.List.{enumerate_from}
 use Rattle.std.specs.Option.{option_map_or}
 use Rattle.ha_value.specs.declared.value.EntityId.{EntityId}
 use Rattle.ha_model.specs.declared.config.Automation.{Automation}
@@ -16,7 +16,7 @@ use Rattle.ha_model.specs.Switches.{is_on, since}
 use Rattle.ha_model.specs.Words.{same_entity}
 use Rattle.ha_model.proofs.SinceLaws.{since-more}
 use Rattle.ha_past.specs.Firings.{Owner, owner_named, placed}
-use Rattle.state_table.specs.Anew.{is_automation as is_of_automation, sets_anew, switch_object, turns}
+use Rattle.state_table.specs.Anew.{is_automation as is_of_automation, switch_object, turns}
 use Rattle.state_table.specs.Table.{StandsBut, StandsFor}
 use Rattle.state_table.specs.declared.table.StateTable.{StateTable}
 use Rattle.state_table.proofs.StateLaws.{states-anew}
@@ -28,7 +28,7 @@ use Rattle.engine_entry.specs.Opened.{AllOpened, Opened, left_from, owner_below}
 use Rattle.engine_parts.specs.Owners.{AreAscending, AreBelow, is_automation}
 use Rattle.engine_entry.specs.Turned.{entity_named, is_left, owner_in}
 use Rattle.engine_entry.proofs.NamedLemmas.{found-named, named-own, same-self, sound-distinct, sound-few}
-use Rattle.engine_entry.proofs.PlaceLemmas.{Gives, apart-of, eq-of, flat-range, flat-same, none-named, placed-in}
+use Rattle.engine_entry.proofs.PlaceLemmas.{Gives, eq-of, flat-range, flat-same, none-named, placed-in}
 use Rattle.engine_entry.proofs.TurnedOwners.{own-gives}
 use Rattle.engine_entry.proofs.TurnedStates.{id-apart, id_of}
 

@@ -1,6 +1,6 @@
 -- One owner more among those that are attached, or one less; and the owners that automations are.
-use Rattle.std.proofs.Common.{◌≡◌, ℕ, zero, suc, ◌+◌, ◌<◌, ◌≤◌, inl, inr, List, [], ◌∷◌, ◌++◌, length, filter, Bool, true, false, refl, sym, ap, subst, ◌∙◌, rules, arith}
-use Rattle.std.specs.Prelude.{◌⊎◌, Option, Some, None, not, nat_eq, nat_lt, find, flat_map, slice_get, if◌then◌else◌}
+use Rattle.std.proofs.Common.{◌≡◌, ℕ, zero, suc, ◌+◌, ◌<◌, ◌≤◌, inl, inr, List, [], ◌∷◌, ◌++◌, length, filter, Bool, true, false, refl, sym, ap, ◌∙◌, rules, arith}
+use Rattle.std.specs.Prelude.{◌⊎◌, Option, Some, None, not, nat_eq, nat_lt, flat_map, slice_get, if◌then◌else◌}
 use Rattle.std.specs.List.{enumerate_from}
 use Rattle.ha_model.specs.declared.config.Automation.{Automation}
 use Rattle.ha_past.specs.Firings.{Owner, owner_named, placed, without_owner}

@@ -1,7 +1,6 @@
 -- What is known once a step that switches nothing has made its own changes.
-use Rattle.std.proofs.Common.{◌≡◌, ℕ, suc, ◌+◌, ◌<◌, ◌≤◌, List, [], ◌∷◌, length, Bool, true, false, refl, sym, ap, subst, ◌∙◌, arith}
-use Rattle.std.specs.Prelude.{Option, Some, None, IsSome, not, ◌&&◌, ◌||◌, nat_eq}
-use Rattle.std.specs.List.{list_any}
+use Rattle.std.proofs.Common.{◌≡◌, ℕ, suc, List, [], length, Bool, true, false, refl, sym, ap, subst, ◌∙◌, arith}
+use Rattle.std.specs.Prelude.{Option, Some, None, IsSome, not, ◌&&◌}
 use Rattle.std.specs.Option.{option_map_or}
 use Rattle.ha_value.specs.declared.value.EntityId.{EntityId}
 use Rattle.ha_clock.specs.Zone as clock
@@ -13,7 +12,7 @@ use Rattle.ha_model.specs.declared.steps.Progress.{Progress}
 use Rattle.ha_model.specs.Entries.{SwitchesNone, Turning, turning}
 use Rattle.ha_model.specs.Equal.{same_flag}
 use Rattle.ha_model.specs.Journal.{Journal, HasEntry, IsJournal, automations, now, zone_of}
-use Rattle.ha_model.specs.Switches.{is_on, opens_segment}
+use Rattle.ha_model.specs.Switches.{is_on}
 use Rattle.ha_model.specs.Sights.{changes_switch}
 use Rattle.ha_model.specs.States.{automation_named, states}
 use Rattle.ha_model.specs.Records.{Records}

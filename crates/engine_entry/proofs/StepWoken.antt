@@ -1,6 +1,6 @@
 -- The runs behind a step.
 use Rattle.std.proofs.Common.{◌≡◌, ℕ, ◌-◌, ◌≤◌, ◌⊎◌, List, [], ◌∷◌, ◌++◌, length, set, Bool, true, false, refl, sym, ap, subst, ◌∙◌}
-use Rattle.std.specs.Prelude.{Option, Some, None, ◌||◌, ◌≢◌, nat_eq, is_some, option_and_then}
+use Rattle.std.specs.Prelude.{Option, Some, ◌||◌, nat_eq, is_some, option_and_then}
 use Rattle.std.specs.List.{list_any}
 use Rattle.timer_queue.specs.Timers.{Timer, due_of}
 use Rattle.ha_model.specs.declared.journal.Entry.{Entry}
@@ -19,7 +19,7 @@ use Rattle.ha_ready.specs.ReadyPairs.{branches_at, pairs_from}
 use Rattle.ha_ready.proofs.ReadyLemmas.{ready-pairs}
 use Rattle.script_step.specs.declared.frames.Frames.{Frames}
 use Rattle.script_step.specs.Gates as gates
-use Rattle.script_step.specs.Gates.{Fronts, Gate, gate_at}
+use Rattle.script_step.specs.Gates.{Fronts}
 use Rattle.trig_set.specs.declared.set.TrigSet.{TrigSet}
 use Rattle.trig_set.specs.Stands as triggers
 use Rattle.wait_set.specs.Asked.{WaitTable}
@@ -34,7 +34,7 @@ use Rattle.engine_parts.specs.Stages.{Noted}
 use Rattle.engine_parts.specs.Stepped.{AskTaken, DueTaken, OthersKept, OthersTold}
 use Rattle.engine_entry.specs.Stepping.{StepRuns, asks_with}
 use Rattle.engine_parts.specs.Touched.{QueueKept, due_places, wait_places}
-use Rattle.engine_parts.specs.Waiting.{Asked, AsksKept, EndsGrow, TellsEnds, asked_at, ends, fresh}
+use Rattle.engine_parts.specs.Waiting.{TellsEnds, fresh}
 use Rattle.engine_entry.proofs.DelayLemmas.{due-added, places-added, queue-added, queue-both}
 use Rattle.engine_parts.proofs.StepKept.{stepped-kept}
 use Rattle.engine_parts.proofs.StepWakes.{step-agrees, step-slots, step-waking}

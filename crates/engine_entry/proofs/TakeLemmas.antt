@@ -1,10 +1,9 @@
 -- A wait and a delay that a step began are taken in.
-use Rattle.std.proofs.Common.{◌≡◌, ℕ, zero, suc, ◌+◌, ◌<◌, ◌≤◌, List, [], ◌∷◌, ◌++◌, length, filter, Bool, true, false, refl, sym, ap, subst, ◌∙◌, rules, arith}
-use Rattle.std.specs.Prelude.{Option, Some, None, IsNone, not, nat_eq, nat_lt, find, ◌||◌, if◌then◌else◌}
+use Rattle.std.proofs.Common.{◌≡◌, ℕ, suc, ◌+◌, ◌<◌, ◌≤◌, List, [], ◌∷◌, ◌++◌, length, filter, Bool, true, false, refl, sym, ap, subst, ◌∙◌, rules, arith}
+use Rattle.std.specs.Prelude.{Option, Some, None, not, nat_eq, nat_lt, ◌||◌, if◌then◌else◌}
 use Rattle.std.specs.List.{list_any}
 use Rattle.ha_model.specs.declared.journal.WaitAsk.{WaitAsk}
 use Rattle.ha_model.specs.Journal.{Journal}
-use Rattle.ha_model.specs.RecordSteps.{more}
 use Rattle.ha_model.proofs.RecordLaws.{length-more}
 use Rattle.ha_past.specs.Firings.{Owner, owner_named, placed}
 use Rattle.trig_set.specs.Next.{Listed, has_earlier}
@@ -14,7 +13,7 @@ use Rattle.wait_set.specs.declared.asked.Asked.{Asked}
 use Rattle.wait_set.specs.Asked.{WaitTable, added, is_of}
 use Rattle.wait_set.specs.Stands as waits
 use Rattle.wait_set.specs.Timers.{AreApart}
-use Rattle.engine_parts.specs.Kept.{AreOwned, Owned}
+use Rattle.engine_parts.specs.Kept.{AreOwned}
 use Rattle.engine_parts.specs.Owners.{AreAscending, AreBelow, is_automation}
 use Rattle.engine_parts.specs.Stages.{Untold}
 

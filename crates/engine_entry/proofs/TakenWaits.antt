@@ -1,6 +1,6 @@
 -- What taking in a step's wait leaves of the other waits.
-use Rattle.std.proofs.Common.{◌≡◌, ℕ, zero, suc, ◌+◌, ◌-◌, ◌<◌, List, [], ◌∷◌, ◌++◌, filter, set, Bool, true, false, refl, sym, ap, subst, ◌∙◌, rules, arith}
-use Rattle.std.specs.Prelude.{Option, Some, None, ◌≢◌, ◌&&◌, ◌||◌, not, nat_eq, is_none, is_some, slice_get, option_map, option_and_then, if◌then◌else◌}
+use Rattle.std.proofs.Common.{◌≡◌, ℕ, zero, suc, ◌+◌, ◌-◌, ◌<◌, List, [], ◌∷◌, ◌++◌, filter, set, Bool, true, false, refl, sym, ap, subst, ◌∙◌, rules}
+use Rattle.std.specs.Prelude.{Option, Some, None, ◌≢◌, ◌&&◌, ◌||◌, not, nat_eq, is_none, slice_get, option_map, option_and_then, if◌then◌else◌}
 use Rattle.std.specs.List.{list_any}
 use Rattle.ha_model.specs.declared.journal.Entry.TheVariants.{Step}
 use Rattle.ha_model.specs.declared.journal.Item.{Item}
@@ -18,12 +18,12 @@ use Rattle.ha_model.proofs.StepLaws.{spots-more}
 use Rattle.script_step.specs.Gates.{gate_at}
 use Rattle.script_step.specs.declared.frames.Frames.{Frames}
 use Rattle.wait_set.specs.declared.asked.Asked as wait
-use Rattle.wait_set.specs.Asked.{WaitTable, added, end_of, is_of, wait_of}
+use Rattle.wait_set.specs.Asked.{WaitTable, is_of, wait_of}
 use Rattle.wait_set.proofs.FindLemmas.{wait-added}
 use Rattle.engine_parts.specs.Fronts.{fronts}
 use Rattle.engine_parts.specs.Runs.{AreHeld, IsHeld, IsWait}
 use Rattle.engine_entry.specs.Stepping.{asks_with}
-use Rattle.engine_parts.specs.Waiting.{Asked, asked, asked_at, ends, fresh, AsksKept, EndsGrow}
+use Rattle.engine_parts.specs.Waiting.{Asked, asked, asked_at, ends, AsksKept}
 use Rattle.engine_parts.proofs.HeldLemmas.{held-other}
 
 eq-of : (x y : ℕ) → nat_eq x y ≡ true → x ≡ y

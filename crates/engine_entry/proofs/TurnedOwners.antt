@@ -1,7 +1,7 @@
 -- The triggers of automations that an entry turns, one after the other.
-use Rattle.std.proofs.Common.{◌≡◌, ℕ, zero, suc, ◌+◌, ◌-◌, ◌<◌, ◌≤◌, inl, inr, List, [], ◌∷◌, ◌++◌, length, take, filter, Bool, true, false, refl, sym, ap, subst, ◌∙◌, rules, arith}
-use Rattle.std.specs.Prelude.{◌⊎◌, Option, Some, None, not, nat_eq, ◌&&◌, ◌||◌, flat_map, slice_get, if◌then◌else◌}
-use Rattle.std.specs.List.{list_any, enumerate_from}
+use Rattle.std.proofs.Common.{◌≡◌, ℕ, suc, ◌-◌, ◌<◌, inl, inr, List, [], ◌∷◌, length, take, filter, Bool, true, false, refl, sym, ap, ◌∙◌, arith}
+use Rattle.std.specs.Prelude.{◌⊎◌, Some, None, not, nat_eq, ◌&&◌, ◌||◌, flat_map, slice_get, if◌then◌else◌}
+use Rattle.std.specs.List.{enumerate_from}
 use Rattle.std.proofs.lemmas.List.{take_all}
 use Rattle.ha_model.specs.declared.config.Automation.{Automation}
 use Rattle.ha_model.specs.declared.journal.Entry.{Entry}
@@ -14,7 +14,7 @@ use Rattle.ha_model.proofs.RecordLaws.{length-more}
 use Rattle.ha_model.proofs.SinceLaws.{since-more}
 use Rattle.ha_past.specs.Firings.{Owner, owner_named, placed, without_owner}
 use Rattle.engine_parts.specs.Owners.{AreAscending, is_automation, owners_on}
-use Rattle.engine_entry.specs.Turned.{OwnersBetween, Target, is_target, less, owner_at, owner_in, stage}
+use Rattle.engine_entry.specs.Turned.{OwnersBetween, is_target, less, owner_at, owner_in, stage}
 use Rattle.engine_entry.proofs.PlaceLemmas.{Gives, automation-named, automations-lost, automations-placed, eq-of, eq-self, flat-range, flat-same, none-named, placed-in, taken-out}
 
 pub own-gives : (i : Journal) → Gives (owner_in i)

@@ -1,13 +1,11 @@
 -- The parts while the automations that an entry turns are turned, one after the other.
-use Rattle.std.proofs.Common.{◌≡◌, ℕ, zero, suc, ◌+◌, ◌-◌, ◌<◌, ◌≤◌, List, [], ◌∷◌, ◌++◌, length, take, drop, drop-cons, get_or, set, Bool, true, false, refl, sym, ap, subst, ◌∙◌, rules, arith}
+use Rattle.std.proofs.Common.{◌≡◌, ℕ, zero, suc, ◌+◌, ◌-◌, ◌<◌, ◌≤◌, List, [], ◌∷◌, ◌++◌, length, drop, drop-cons, get_or, set, Bool, true, false, refl, sym, ap, subst, ◌∙◌, rules, arith}
 use Rattle.std.proofs.Math.Path.{fun_ext}
 use Rattle.std.proofs.lemmas.Option.{slice_get_within}
 use Rattle.std.specs.Prelude.{Option, Some, None, IsNone, IsSome, MatchOption, not, nat_eq, ◌&&◌, ◌||◌, slice_get, if◌then◌else◌}
-use Rattle.std.specs.List.{list_any}
 use Rattle.ha_clock.specs.Zone as clock
 use Rattle.ha_value.specs.declared.value.EntityId.{EntityId}
 use Rattle.ha_model.specs.declared.config.Automation.{Automation}
-use Rattle.ha_model.specs.declared.journal.Entry.{Entry}
 use Rattle.ha_model.specs.declared.journal.StateObject.{StateObject}
 use Rattle.ha_model.specs.Commands.{keys_of}
 use Rattle.ha_model.specs.Equal.{same_flag}
@@ -16,14 +14,13 @@ use Rattle.ha_model.specs.RecordSteps.{more}
 use Rattle.ha_model.specs.Sights.{changes_switch}
 use Rattle.ha_model.specs.States.{states}
 use Rattle.ha_model.specs.Switches.{is_on}
-use Rattle.ha_model.specs.Words.{same_entity}
 use Rattle.ha_model.proofs.RecordLaws.{length-more}
 use Rattle.ha_past.specs.Firings.{Owner, owner_named, placed, without_owner}
 use Rattle.state_table.specs.Anew.{switch_object, turns}
 use Rattle.state_table.specs.Table.{ChangesAt, StandsFor, at}
 use Rattle.state_table.specs.declared.table.StateTable.{StateTable}
 use Rattle.store_text.specs.Store.{Switches}
-use Rattle.switch_book.specs.Book.{flags, names_of}
+use Rattle.switch_book.specs.Book.{flags}
 use Rattle.switch_book.specs.Book as switches
 use Rattle.trig_set.specs.Next.{Listed, state_listed}
 use Rattle.trig_set.specs.Stands as triggers
@@ -31,11 +28,11 @@ use Rattle.trig_set.specs.declared.set.TrigSet.{TrigSet}
 use Rattle.wait_set.specs.declared.asked.Asked.{Asked}
 use Rattle.engine_parts.specs.declared.parts.Parts.{Parts}
 use Rattle.engine_entry.specs.Between.{Between, Turning, TurnsAll, TurnsOne}
-use Rattle.engine_parts.specs.Kept.{AreOwned, AreSound, IsOwned, Owned}
+use Rattle.engine_parts.specs.Kept.{AreOwned, AreSound, Owned}
 use Rattle.engine_parts.specs.Owners.{AreAscending, AreBelow}
 use Rattle.engine_parts.specs.Runs.{first_wait}
 use Rattle.engine_parts.specs.Stages.{Entered}
-use Rattle.engine_entry.specs.Turned.{AreOnce, AreSet, FlagsBetween, OwnersBetween, StatesBetween, Target, entity_named, is_target, less}
+use Rattle.engine_entry.specs.Turned.{AreOnce, AreSet, FlagsBetween, OwnersBetween, Target, entity_named, is_target, less}
 use Rattle.engine_parts.proofs.DetachLemmas.{ascend-without, below-more, below-without, named-without}
 use Rattle.engine_entry.proofs.EnterLemmas.{now-left, sound-more, zone-more}
 use Rattle.engine_parts.proofs.KeyLemmas.{keys_more}

@@ -1,5 +1,5 @@
 -- The states of automations that an entry turns, one after the other.
-use Rattle.std.proofs.Common.{◌≡◌, ℕ, zero, suc, ◌+◌, ◌<◌, ◌≤◌, List, [], ◌∷◌, ◌++◌, length, Bool, true, false, refl, sym, ap, subst, ◌∙◌, rules, arith}
+use Rattle.std.proofs.Common.{◌≡◌, ℕ, ◌+◌, ◌<◌, List, [], ◌∷◌, ◌++◌, length, Bool, true, false, refl, sym, ap, subst, ◌∙◌}
 use Rattle.std.proofs.lemmas.Option.{slice_get_within}
 use Rattle.std.specs.Prelude.{Option, Some, None, not, nat_eq, codes, ◌&&◌, ◌||◌, find, option_map, MatchOption, slice_get, if◌then◌else◌}
 use Rattle.std.specs.Option.{option_map_or}

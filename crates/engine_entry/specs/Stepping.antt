@@ -13,7 +13,7 @@ use Rattle.ha_model.specs.declared.steps.Progress.{Progress}
 use Rattle.ha_model.specs.declared.steps.StepOut.{StepOut}
 use Rattle.ha_model.specs.Journal.{Journal, HasEntry, IsJournal, automations, now}
 use Rattle.ha_model.specs.States.{Sight}
-use Rattle.ha_model.specs.Scripts.{Branch, Spot}
+use Rattle.ha_model.specs.Scripts.{Branch}
 use Rattle.ha_model.specs.Waits.{next_spot}
 use Rattle.ha_model.specs.NextPlace.{next_end}
 use Rattle.ha_model.specs.Records.{Records, actions_of, spots}

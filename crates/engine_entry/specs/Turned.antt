@@ -1,5 +1,5 @@
 -- Automations that an entry turns on or off, one after the other: what stands for the journal before it, and what for the one behind it.
-use Rattle.std.specs.Prelude.{◌≡◌, ℕ, ◌<◌, Bool, true, false, not, ◌&&◌, nat_eq, List, [], ◌∷◌, length, Option}
+use Rattle.std.specs.Prelude.{◌≡◌, ℕ, ◌<◌, Bool, false, not, ◌&&◌, nat_eq, List, [], ◌∷◌, length}
 use Rattle.std.specs.Prelude.{None, MatchOption, flat_map, filter, slice_get, codes, if◌then◌else◌}
 use Rattle.std.specs.List.{list_any, enumerate_from}
 use Rattle.std.specs.Option.{option_map_or}

@@ -1,5 +1,5 @@
 -- A step in one branch leaves the other branches of its run at their gates: two places of different branches are allowed exactly where each is.
-use Rattle.std.proofs.Common.{◌≡◌, ℕ, zero, suc, ◌+◌, ◌<◌, Bool, true, false, ◌&&◌, List, [], ◌∷◌, ◌++◌, length, map, refl, sym, ap, subst, ◌∙◌, arith, rules, append_assoc}
+use Rattle.std.proofs.Common.{◌≡◌, ℕ, suc, ◌+◌, Bool, true, false, ◌&&◌, List, [], ◌∷◌, ◌++◌, length, map, refl, sym, ap, subst, ◌∙◌, arith, rules, append_assoc}
 use Rattle.std.specs.Prelude.{Option, Some, None, is_some, slice_get, option_map, unwrap_or, nat_eq, nat_le, nat_lt, if◌then◌else◌}
 use Rattle.std.specs.List.{list_all}
 use Rattle.std.specs.Option.{option_map_or}
@@ -17,7 +17,7 @@ use Rattle.script_step.specs.declared.strand.Stage.TheViews.{out-Stage, out-Stra
 use Rattle.script_step.specs.declared.strand.Stage.TheFolds.{map-Stage}
 use Rattle.script_step.specs.Continuation.{Began, Meaning, StageMeaning, continuation, has_next, last_action, lists_of, nth_list, open_blocks, placed, sides_from, stage_step, thread_next}
 use Rattle.script_step.specs.Frames.{Steps, ask_of, continues}
-use Rattle.script_step.specs.Gates.{Fronts, FrontsOf, Gate, StageFronts, fronts, fronts_from, fronts_of, gate_at, lets, stage_fronts}
+use Rattle.script_step.specs.Gates.{Fronts, FrontsOf, Gate, StageFronts, fronts, fronts_of, gate_at, lets, stage_fronts}
 use Rattle.script_step.specs.Step.{stage_meaning}
 use Rattle.script_step.proofs.ExactLemmas.{after-some, blocks-on-nothing, prefixed-some}
 use Rattle.script_step.proofs.GateLemmas.{front_stage, fronts-out, gate-allowed, gate-here, gate-side}

@@ -1,6 +1,6 @@
 -- The branches that may step of a run that stays the same.
-use Rattle.std.proofs.Common.{◌≡◌, ℕ, ◌<◌, ◌≤◌, List, [], ◌∷◌, ◌++◌, length, filter, Bool, true, false, refl, sym, subst, ◌∙◌, rules}
-use Rattle.std.specs.Prelude.{Option, Some, None, nat_eq, nat_lt, nat_le, not, is_some, ◌||◌, ◌&&◌, if◌then◌else◌}
+use Rattle.std.proofs.Common.{◌≡◌, ℕ, List, [], ◌∷◌, ◌++◌, length, filter, Bool, true, false}
+use Rattle.std.specs.Prelude.{nat_lt, nat_le, is_some, ◌&&◌, if◌then◌else◌}
 use Rattle.std.specs.Option.{option_map_or}
 use Rattle.ha_model.specs.declared.journal.Record.{Record}
 use Rattle.ha_model.specs.Words.{Pairs}
@@ -9,13 +9,8 @@ use Rattle.ha_model.specs.Scripts.{Branch, whole}
 use Rattle.ha_model.specs.Waits.{next_spot}
 use Rattle.ha_model.specs.Branches.{branches_of}
 use Rattle.ha_model.specs.Records.{Records, actions_of, spots}
-use Rattle.ha_model.specs.Lawful.{Right, record_of, ready}
-use Rattle.ha_ready.specs.ReadyPairs.{ready_branches, branches_at, pairs_from, with_run}
-use Rattle.ha_ready.specs.Agree.{AgreesBut, but}
+use Rattle.ha_ready.specs.ReadyPairs.{ready_branches}
 use Rattle.engine_parts.specs.Changes.{SameRun}
-use Rattle.ha_ready.proofs.AgreeLemmas.{agree-run, agree-more, agree-grown, agree-all}
-use Rattle.ha_ready.proofs.ReadyLemmas.{ready-pairs}
-use Rattle.ha_ready.proofs.RunPast.{queued-rests, resting}
 
 -- by the parts of a record that its branches look at
 abbrev branches_by : Journal → ℕ → ℕ → Pairs → Bool → List Branch

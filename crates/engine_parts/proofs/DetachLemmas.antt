@@ -1,6 +1,6 @@
 -- The owners without one of them.
-use Rattle.std.proofs.Common.{◌≡◌, ℕ, suc, ◌+◌, ◌<◌, ◌≤◌, length, subst, ap, List, [], ◌∷◌, filter, Bool, true, false, refl, sym, ◌∙◌, rules, arith}
-use Rattle.std.specs.Prelude.{Option, Some, None, not, nat_eq, nat_lt, find, if◌then◌else◌}
+use Rattle.std.proofs.Common.{◌≡◌, ℕ, suc, ◌+◌, ◌≤◌, length, subst, ap, List, [], ◌∷◌, filter, Bool, true, false, refl, sym, ◌∙◌, rules, arith}
+use Rattle.std.specs.Prelude.{Some, not, nat_eq, nat_lt, if◌then◌else◌}
 use Rattle.ha_past.specs.Firings.{Owner, owner_named, without_owner}
 use Rattle.trig_set.specs.Stands.{attached}
 use Rattle.trig_set.specs.declared.set.TrigSet.{TrigSet}

@@ -1,6 +1,6 @@
 -- A run that goes.
 use Rattle.std.proofs.Common.{◌≡◌, ℕ, zero, suc, ◌+◌, ◌-◌, ◌<◌, ◌≤◌, inl, List, [], ◌∷◌, ◌++◌, length, map, filter, set, Bool, true, false, refl, sym, ap, subst, ◌∙◌, rules, arith}
-use Rattle.std.specs.Prelude.{Option, Some, None, not, nat_eq, nat_lt, slice_get, option_map, ◌||◌, if◌then◌else◌}
+use Rattle.std.specs.Prelude.{Option, Some, None, not, nat_eq, slice_get, option_map, ◌||◌, if◌then◌else◌}
 use Rattle.std.specs.List.{list_any}
 use Rattle.timer_queue.specs.Timers.{Timer}
 use Rattle.ha_model.specs.declared.journal.Record.{Record}
@@ -17,16 +17,13 @@ use Rattle.wait_set.specs.Asked.{WaitTable, owners_of, wait_of, without_run}
 use Rattle.wait_set.specs.Timers.{AreApart}
 use Rattle.wait_set.specs.Stands as waits
 use Rattle.wait_set.proofs.FindLemmas.{wait-dropped}
-use Rattle.engine_parts.specs.declared.parts.Parts.{Parts}
-use Rattle.engine_parts.specs.declared.ready.Ready.{Ready}
 use Rattle.engine_parts.specs.Waiting.{Asked, asked, AsksKept}
 use Rattle.engine_parts.specs.Pending.{AreOthers}
-use Rattle.engine_parts.specs.Kept.{AreOwned, Owned, Gone, Going, RunsKept, SlotBut, slot_if, left_branches, left_if}
-use Rattle.ha_ready.specs.RunPast.{SameScript}
-use Rattle.ha_ready.specs.ReadyPairs.{changed_at, pairs_of, pairs_from, with_run}
+use Rattle.engine_parts.specs.Kept.{AreOwned, Owned, Gone, RunsKept, SlotBut, slot_if, left_branches, left_if}
+use Rattle.ha_ready.specs.ReadyPairs.{changed_at, pairs_of, pairs_from}
 use Rattle.engine_parts.specs.Records.{also}
-use Rattle.engine_parts.specs.Runs.{AreHeld, SlotKept, SlotsWith}
-use Rattle.ha_ready.proofs.ReadyLemmas.{change-run, pairs-same}
+use Rattle.engine_parts.specs.Runs.{AreHeld, SlotsWith}
+use Rattle.ha_ready.proofs.ReadyLemmas.{pairs-same}
 use Rattle.engine_parts.proofs.SlotChangeLemmas.{slot-changed}
 
 or-left : (a b : Bool) → (a || b) ≡ false → a ≡ false

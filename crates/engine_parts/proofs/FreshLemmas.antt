@@ -1,18 +1,17 @@
 -- A run that just begins, or waits.
-use Rattle.std.proofs.Common.{◌≡◌, ℕ, zero, suc, ◌+◌, ◌-◌, ◌<◌, ◌≤◌, List, [], ◌∷◌, ◌++◌, length, Bool, true, false, refl, sym, ap, subst, ◌∙◌, rules, arith, append_assoc}
+use Rattle.std.proofs.Common.{◌≡◌, ℕ, zero, suc, ◌+◌, ◌-◌, ◌<◌, ◌≤◌, List, [], ◌∷◌, ◌++◌, length, true, false, refl, sym, ap, subst, ◌∙◌, arith, append_assoc}
 use Rattle.std.specs.Prelude.{Option, Some, None, nat_eq, slice_get, if◌then◌else◌}
 use Rattle.std.specs.Option.{option_map_or}
 use Rattle.timer_queue.specs.Timers.{Timer}
 use Rattle.ha_model.specs.declared.config.Action.{Action}
-use Rattle.ha_model.specs.declared.journal.Entry.{Entry}
 use Rattle.ha_model.specs.declared.journal.Record.{Record}
 use Rattle.ha_model.specs.Entries.{Stepped, step_of}
 use Rattle.ha_model.specs.Journal.{Journal, automations}
-use Rattle.ha_model.specs.Scripts.{Branch, Spot}
+use Rattle.ha_model.specs.Scripts.{Branch}
 use Rattle.ha_model.specs.Waits.{next_spot}
-use Rattle.ha_model.specs.Records.{Records, actions_of, spots, spots_from, spot_of}
-use Rattle.ha_model.specs.Lawful.{is_running, record_of}
-use Rattle.script_step.specs.Gates.{Fronts, first_fronts}
+use Rattle.ha_model.specs.Records.{Records, actions_of, spots, spots_from}
+use Rattle.ha_model.specs.Lawful.{is_running}
+use Rattle.script_step.specs.Gates.{first_fronts}
 use Rattle.script_step.specs.declared.frames.Frames.{Frames}
 use Rattle.wait_set.specs.Asked.{WaitTable as Waits}
 use Rattle.engine_parts.specs.Fronts.{AreFronts, Stands, fronts}
@@ -26,7 +25,6 @@ use Rattle.engine_parts.proofs.FrontWords.{fronts-are}
 use Rattle.engine_parts.proofs.HeldLemmas.{held-snoc}
 use Rattle.ha_ready.proofs.ReadyLemmas.{pairs-same}
 use Rattle.engine_parts.proofs.ReadyOneMore.{front-branches}
-use Rattle.ha_ready.proofs.RunPast.{queued-rests, resting}
 
 -- a run of which no Step stands in the journal has no places
 no-places : (s : ℕ) (before j : Journal) → ((p : ℕ) → step_at j s p ≡ false) → spots_from s before j ≡ []

@@ -1,6 +1,6 @@
 -- Runs that went: where their records end, the runs are kept.
-use Rattle.std.proofs.Common.{◌≡◌, ℕ, zero, suc, ◌+◌, ◌-◌, ◌<◌, ◌≤◌, inl, List, [], ◌∷◌, ◌++◌, length, Bool, true, false, refl, sym, ap, subst, ◌∙◌, rules, arith}
-use Rattle.std.specs.Prelude.{Option, Some, None, slice_get}
+use Rattle.std.proofs.Common.{◌≡◌, ℕ, zero, suc, ◌+◌, ◌-◌, ◌<◌, ◌≤◌, inl, List, [], ◌∷◌, length, Bool, true, false, refl, sym, ap, subst, ◌∙◌, arith}
+use Rattle.std.specs.Prelude.{Option, Some, slice_get}
 use Rattle.std.specs.Option.{option_map_or}
 use Rattle.timer_queue.specs.Timers.{Timer}
 use Rattle.ha_model.specs.declared.journal.Record.{Record}
@@ -11,12 +11,11 @@ use Rattle.ha_model.specs.Lawful.{record_of}
 use Rattle.run_modes.specs.Fits.{AreNumbered}
 use Rattle.script_step.specs.declared.frames.Frames.{Frames}
 use Rattle.wait_set.specs.Asked.{WaitTable as Waits}
-use Rattle.engine_parts.specs.Changes.{SameRun}
 use Rattle.engine_parts.specs.Kept.{Gone, RunsKept, SlotBut, slot_if, left_branches, left_if, nobody}
-use Rattle.ha_ready.specs.RunPast.{AllPast, IsPast, SameScript}
+use Rattle.ha_ready.specs.RunPast.{AllPast, IsPast}
 use Rattle.ha_ready.specs.ReadyPairs.{ready_branches, branches_at, pairs_from}
 use Rattle.engine_parts.specs.Records.{AreEnded, EndsIf}
-use Rattle.engine_parts.specs.Runs.{HasEnd, SlotKept, SlotsWith}
+use Rattle.engine_parts.specs.Runs.{SlotKept, SlotsWith}
 use Rattle.engine_parts.proofs.ChangeLemmas.{same-branches}
 use Rattle.ha_ready.proofs.ReadyLemmas.{pairs-same}
 use Rattle.ha_ready.proofs.RunPast.{past-at, resting}

@@ -1,5 +1,5 @@
 -- What is kept, in the words of the definitions.
-use Rattle.std.proofs.Common.{◌≡◌, ℕ, zero, suc, List, [], ◌∷◌, length, Bool, false, eqb, refl, sym, ap, ◌∙◌, rules}
+use Rattle.std.proofs.Common.{◌≡◌, ℕ, suc, List, [], ◌∷◌, length, false, eqb, sym, ap, ◌∙◌, rules}
 use Rattle.ha_model.specs.Scripts.{Branch}
 use Rattle.ha_model.specs.Journal.{Journal}
 use Rattle.ha_model.specs.Records.{Records}

@@ -1,5 +1,5 @@
 -- The keys of a queue.
-use Rattle.std.proofs.Common.{◌≡◌, ℕ, ◌<◌, ◌≤◌, List, [], ◌∷◌, Bool, true, false, arith}
+use Rattle.std.proofs.Common.{ℕ, ◌≤◌, List, [], ◌∷◌, Bool, true, false, arith}
 use Rattle.std.specs.Prelude.{nat_le, if◌then◌else◌}
 use Rattle.timer_queue.specs.Timers.{Timer, after_due}
 use Rattle.engine_parts.specs.Kept.{KeysBelow}

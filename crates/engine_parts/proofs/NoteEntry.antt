@@ -1,9 +1,8 @@
 -- The triggers and the waits are told of the last entry.
-use Rattle.std.proofs.Common.{◌≡◌, ℕ, suc, ◌+◌, ◌-◌, ◌<◌, ◌≤◌, List, [], ◌∷◌, length, filter, true, refl, sym, ap, subst, ◌∙◌, arith}
+use Rattle.std.proofs.Common.{◌≡◌, ℕ, ◌+◌, ◌-◌, ◌≤◌, List, length, filter, true, sym, ap, subst, ◌∙◌, arith}
 use Rattle.std.specs.Prelude.{IsSome, Option}
 use Rattle.ha_clock.specs.Zone as clock
 use Rattle.ha_clock.specs.Local.{last_moment}
-use Rattle.ha_model.specs.declared.journal.Entry.{Entry}
 use Rattle.ha_model.specs.Words.{Text}
 use Rattle.ha_model.specs.Journal.{Journal, IsJournal, zone_of, now}
 use Rattle.ha_model.specs.States.{Sight}
@@ -22,7 +21,7 @@ use Rattle.engine_parts.specs.Waiting.{AsksKept, EndsGrow}
 use Rattle.engine_parts.specs.Pending.{AreOthers, AreWaits}
 use Rattle.script_step.specs.declared.frames.Frames.{Frames}
 use Rattle.engine_parts.specs.Runs.{AreHeld, first_wait}
-use Rattle.engine_parts.specs.Kept.{AreOwned, Looks, Owned}
+use Rattle.engine_parts.specs.Kept.{AreOwned, Looks}
 use Rattle.engine_parts.specs.Owners.{AreAscending, AreBelow, is_automation}
 use Rattle.engine_parts.specs.Stages.{Untold, Told}
 use Rattle.engine_parts.proofs.OwnerLemmas.{waits-told}

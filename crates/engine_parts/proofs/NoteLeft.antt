@@ -1,5 +1,5 @@
 -- The triggers and the waits are told of a report of an entity that concerns nobody.
-use Rattle.std.proofs.Common.{◌≡◌, ℕ, suc, ◌-◌, ◌<◌, List, [], ◌∷◌, length, refl, sym, ap, subst, ◌∙◌, arith}
+use Rattle.std.proofs.Common.{◌≡◌, ℕ, suc, ◌-◌, List, [], ◌∷◌, length, refl, sym, ap, subst, ◌∙◌, arith}
 use Rattle.std.specs.Prelude.{Option}
 use Rattle.ha_value.specs.declared.value.EntityId.{EntityId}
 use Rattle.ha_model.specs.declared.journal.Cmd.{Cmd}

@@ -1,9 +1,7 @@
 -- Which branches may step after one more entry, run by run.
-use Rattle.std.proofs.Common.{◌≡◌, ℕ, zero, suc, ◌<◌, ◌≤◌, List, [], ◌∷◌, ◌++◌, length, map, filter, Bool, true, false, refl, sym, subst, ◌∙◌, rules, arith}
-use Rattle.std.specs.Prelude.{Option, Some, None, nat_eq, nat_lt, nat_le, ◌&&◌, slice_get, if◌then◌else◌}
+use Rattle.std.proofs.Common.{◌≡◌, suc, List, [], ◌∷◌, ◌++◌, length, map, filter, Bool, true, false, refl, sym, subst, ◌∙◌}
+use Rattle.std.specs.Prelude.{nat_lt, nat_le, ◌&&◌, if◌then◌else◌}
 use Rattle.std.specs.Option.{option_map_or}
-use Rattle.ha_model.specs.declared.config.Mode.{Mode}
-use Rattle.ha_model.specs.declared.journal.EndCause.{EndCause}
 use Rattle.ha_model.specs.declared.journal.Entry.{Entry}
 use Rattle.ha_model.specs.declared.journal.Record.{Record}
 use Rattle.ha_model.specs.Words.{Pairs}
@@ -11,10 +9,10 @@ use Rattle.ha_model.specs.Journal.{Journal, HasEntry, automations}
 use Rattle.ha_model.specs.Scripts.{Spot}
 use Rattle.ha_model.specs.Waits.{next_spot}
 use Rattle.ha_model.specs.Branches.{branches_of}
-use Rattle.ha_model.specs.Records.{Records, actions_of, spots, spot_of, with_begins, with_ends, bare, end_below, next_place, last_record, mode_of, begin_of, begin_behind}
+use Rattle.ha_model.specs.Records.{Records, actions_of, spots, spot_of}
 use Rattle.ha_model.specs.RecordSteps.{more}
-use Rattle.ha_model.specs.Lawful.{Right, is_running, may_step}
-use Rattle.ha_model.proofs.RecordGrowth.{AllBelow, EndBelow, automations-more, below-bare, below-ends}
+use Rattle.ha_model.specs.Lawful.{is_running, may_step}
+use Rattle.ha_model.proofs.RecordGrowth.{automations-more}
 use Rattle.ha_model.proofs.RecordLaws.{length-more}
 use Rattle.ha_model.proofs.StepLaws.{spots-more}
 use Rattle.ha_model.proofs.AppendLemmas.{append-nil}
@@ -23,7 +21,7 @@ use Rattle.script_step.specs.Gates.{open_branches}
 use Rattle.engine_parts.specs.Fronts.{AreFronts}
 use Rattle.ha_ready.specs.ReadyPairs.{ready_branches}
 use Rattle.ha_ready.proofs.RunPast.{resting, running-stays}
-use Rattle.ha_ready.specs.RunPast.{BeginBefore, EndBefore, IsPast, AllPast, SameScript}
+use Rattle.ha_ready.specs.RunPast.{IsPast, SameScript}
 use Rattle.engine_parts.specs.OneMore.{FrontsStay}
 
 -- ---- its branches that may step

@@ -6,14 +6,14 @@ use Rattle.ha_model.specs.declared.journal.Record.{Record}
 use Rattle.ha_model.specs.Words.{Pairs}
 use Rattle.ha_model.specs.Journal.{Journal, automations}
 use Rattle.ha_model.specs.Scripts.{Branch}
-use Rattle.ha_model.specs.Records.{Records, actions_of, spots}
+use Rattle.ha_model.specs.Records.{actions_of, spots}
 use Rattle.script_step.specs.Gates.{Gate, Fronts}
 use Rattle.engine_parts.specs.Fronts.{fronts, Stands}
 use Rattle.script_step.specs.declared.frames.Frames.{Frames}
 use Rattle.engine_parts.specs.Waiting.{AsksKept}
 use Rattle.wait_set.specs.Asked.{WaitTable as Waits}
 use Rattle.ha_ready.specs.RunPast.{SameScript}
-use Rattle.engine_parts.specs.Runs.{GateKept, GatesKept, LiveKept, SlotKept, SlotsKept, HasEnd}
+use Rattle.engine_parts.specs.Runs.{GateKept, GatesKept, LiveKept, SlotKept, HasEnd}
 use Rattle.engine_parts.specs.Changes.{SlotChanges}
 
 module _ (k : Journal) (delays : List Timer) (w w' : Waits) where

@@ -1,6 +1,6 @@
 -- The step of a picked pair, as the frames of its run give it, is right.
-use Rattle.std.proofs.Common.{◌≡◌, ℕ, zero, suc, ◌%◌, ◌≤◌, List, [], ◌∷◌, ◌++◌, length, filter, take, Bool, true, false, refl, sym, subst, ◌∙◌, rules}
-use Rattle.std.specs.Prelude.{Option, Some, None, Any, is_some, nat_le, slice_get, option_map, find, bytes_eq, if◌then◌else◌}
+use Rattle.std.proofs.Common.{◌≡◌, ℕ, suc, ◌≤◌, List, [], ◌∷◌, take, Bool, true, false, refl, sym, subst, ◌∙◌, rules}
+use Rattle.std.specs.Prelude.{Option, Some, None, is_some, nat_le, option_map, find, bytes_eq, if◌then◌else◌}
 use Rattle.std.specs.Option.{option_map_or}
 use Rattle.ha_model.specs.declared.journal.Entry.TheVariants.{Step}
 use Rattle.ha_model.specs.declared.journal.Record.{Record}
@@ -9,9 +9,8 @@ use Rattle.ha_model.specs.declared.steps.StepOut.{StepOut}
 use Rattle.ha_model.specs.Journal.{Journal, automations, now}
 use Rattle.ha_model.specs.Scripts.{Branch}
 use Rattle.ha_model.specs.Waits.{next_spot, wait_end}
-use Rattle.ha_model.specs.Branches.{branches_of}
 use Rattle.ha_model.specs.Records.{Records, actions_of, spots}
-use Rattle.ha_model.specs.Lawful.{Right, IsRightEntry, record_of, is_running, may_step, ready, pick}
+use Rattle.ha_model.specs.Lawful.{Right, IsRightEntry, record_of, may_step, ready, pick}
 use Rattle.ha_model.proofs.EqualLemmas.{same-sound}
 use Rattle.ha_model.proofs.StepLaws.{picked-right}
 use Rattle.timer_queue.specs.Timers.{Timer}
@@ -22,10 +21,7 @@ use Rattle.script_step.specs.declared.frames.Frames.{Frames}
 use Rattle.engine_parts.proofs.FrontWords.{gate-is}
 use Rattle.engine_parts.specs.Waiting.{ends, TellsEnds}
 use Rattle.wait_set.specs.Asked.{WaitTable as Waits}
-use Rattle.ha_ready.specs.Picked.{IsPicked}
-use Rattle.ha_ready.specs.ReadyPairs.{ready_branches, branches_at, pairs_of, pairs_from}
 use Rattle.engine_parts.specs.Runs.{GateKept, GatesKept, LiveKept}
-use Rattle.ha_ready.proofs.ReadyLemmas.{ready-pairs}
 use Rattle.engine_parts.proofs.AttemptLemmas.{given-item}
 
 -- ---- its gate

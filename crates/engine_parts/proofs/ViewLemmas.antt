@@ -1,5 +1,5 @@
 -- The view of the parts that stand for a journal.
-use Rattle.std.proofs.Common.{◌≡◌, ℕ, ◌≤◌, ◌^◌, List, length, map, Bool, true, false, refl, rules, arith}
+use Rattle.std.proofs.Common.{◌≡◌, ℕ, ◌≤◌, length, map, Bool, true, false, refl, rules}
 use Rattle.std.specs.Prelude.{IsTrue, nat_le, ◌&&◌}
 use Rattle.std.specs.List.{list_all}
 use Rattle.ha_model.specs.declared.config.Automation.{Automation}

@@ -1,22 +1,22 @@
 -- A set of waits over one entry: which asks stay, which waits end, and who owns them.
-use Rattle.std.proofs.Common.{◌≡◌, ℕ, suc, ◌+◌, take, ◌<◌, ◌≤◌, List, [], ◌∷◌, map, filter, Bool, true, false, cond, refl, sym, ap, subst, ◌∙◌, rules, arith}
-use Rattle.std.specs.Prelude.{Option, Some, None, nat_eq, find, is_some, is_none, option_map, option_and_then, ◌&&◌, ◌||◌, not, if◌then◌else◌}
+use Rattle.std.proofs.Common.{◌≡◌, ℕ, suc, ◌+◌, take, List, [], ◌∷◌, map, filter, Bool, true, false, cond, refl, sym, ap, subst, ◌∙◌, rules, arith}
+use Rattle.std.specs.Prelude.{Option, Some, None, nat_eq, is_some, is_none, option_map, option_and_then, ◌&&◌, ◌||◌, if◌then◌else◌}
 use Rattle.std.specs.List.{list_any}
 use Rattle.ha_model.specs.declared.journal.WaitEnd.{WaitEnd}
 use Rattle.ha_model.specs.declared.steps.Firing.{Firing}
 use Rattle.ha_model.specs.Journal.{Journal, now}
 use Rattle.ha_model.specs.States.{Sight}
 use Rattle.ha_model.specs.Records.{or_else}
-use Rattle.ha_model.specs.Scripts.{Ask, Branch}
+use Rattle.ha_model.specs.Scripts.{Branch}
 use Rattle.ha_model.specs.Waits.{wait_end}
 use Rattle.ha_past.specs.Firings.{Owner, owner_named}
 use Rattle.wait_set.specs.declared.asked.Asked as wait
 use Rattle.wait_set.specs.Asked.{WaitTable, is_of, wait_of, end_of, end_now, fired_values, noted, noted_one, ends_in, owners_ended}
 use Rattle.wait_set.specs.Stands.{StandsFor, StandsOne}
 use Rattle.wait_set.specs.Timers.{AreApart}
-use Rattle.engine_parts.specs.Waiting.{Asked, asked, asked_at, ends, fresh, AsksKept, EndsGrow, TellsEnds}
+use Rattle.engine_parts.specs.Waiting.{Asked, asked, ends, fresh, AsksKept, EndsGrow, TellsEnds}
 use Rattle.engine_parts.specs.Pending.{AreOthers, AreWaits}
-use Rattle.engine_parts.specs.Kept.{AreOwned, IsOwned}
+use Rattle.engine_parts.specs.Kept.{AreOwned}
 
 -- ---- what a set tells
 

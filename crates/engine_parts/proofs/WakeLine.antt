@@ -1,16 +1,13 @@
 -- The runs behind a line.
-use Rattle.std.proofs.Common.{◌≡◌, ℕ, List, ◌++◌, length, refl, sym, ap, subst, ◌∙◌}
-use Rattle.std.specs.Prelude.{Option}
+use Rattle.std.proofs.Common.{◌≡◌, ℕ, List, ◌++◌, length, sym, subst, ◌∙◌}
 use Rattle.timer_queue.specs.Timers.{Timer}
 use Rattle.ha_model.specs.declared.journal.Cmd.{Cmd}
 use Rattle.ha_model.specs.declared.journal.Entry.{Entry}
 use Rattle.ha_model.specs.declared.journal.Entry.TheVariants.{Line}
 use Rattle.ha_model.specs.Journal.{Journal, now}
-use Rattle.ha_model.specs.Scripts.{Branch}
 use Rattle.ha_model.specs.Records.{Records}
 use Rattle.ha_model.specs.RecordSteps.{more}
 use Rattle.ha_model.specs.Lawful.{Right, ready}
-use Rattle.script_step.specs.declared.frames.Frames.{Frames}
 use Rattle.trig_set.specs.declared.set.TrigSet.{TrigSet}
 use Rattle.trig_set.specs.Stands as triggers
 use Rattle.wait_set.specs.Asked.{WaitTable}
@@ -23,7 +20,7 @@ use Rattle.ha_ready.specs.ReadyPairs.{branches_at, pairs_from}
 use Rattle.engine_parts.specs.Runs.{Waking}
 use Rattle.ha_ready.specs.Agree.{AgreesBut, touched}
 use Rattle.engine_parts.specs.Touched.{QueueKept, due_places, wait_places}
-use Rattle.engine_parts.specs.Kept.{Going, KeysBelow, Owned, RunsKept, Sees, nobody}
+use Rattle.engine_parts.specs.Kept.{Going, KeysBelow, Owned, RunsKept, nobody}
 use Rattle.engine_parts.specs.Stages.{Noted, RunsBefore}
 use Rattle.ha_ready.proofs.ReadyLemmas.{ready-pairs}
 use Rattle.engine_parts.proofs.SteppersRun.{line-agrees, line-slots, line-waking}

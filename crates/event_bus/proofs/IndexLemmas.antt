@@ -1,11 +1,10 @@
 -- Each subject, and names one after the other.
 use Rattle.std.proofs.Common.{◌≡◌, ℕ, zero, suc, ◌+◌, ◌<◌, List, [], ◌∷◌, ◌++◌, length, take, get_or, Bool, true, false, refl, sym, ap, ◌∙◌}
 use Rattle.std.specs.Prelude.{not, ◌&&◌, ◌||◌}
-use Rattle.std.specs.List.{list_any}
 use Rattle.std.proofs.lemmas.List.{take_more}
 use Rattle.ha_value.specs.declared.value.EntityId.{EntityId}
 use Rattle.ha_model.specs.Words.{Text, one_of, same}
-use Rattle.ha_model.proofs.EqualLemmas.{same-refl, same-sound}
+use Rattle.ha_model.proofs.EqualLemmas.{same-sound}
 use Rattle.event_bus.specs.Subjects.{Subject}
 use Rattle.event_bus.proofs.ListLemmas.{or-true}
 

@@ -5,15 +5,14 @@ use Rattle.std.specs.Option.{option_map_or}
 use Rattle.std.specs.BTreeSet.{BTreeSet, IsEmpty as IsEmptySet}
 use Rattle.std.specs.BTreeMap.{is_at}
 use Rattle.std.specs.List.{list_any}
-use Rattle.std.specs.HashMap.{HashMap, IsEmpty, UpdatesBy, get_by, get_by_text}
+use Rattle.std.specs.HashMap.{HashMap, IsEmpty, UpdatesBy, get_by_text}
 use Rattle.std.specs.Str.{bytes_eq}
 use Rattle.std.specs.String.{string_bytes, string_eq}
 use Rattle.std.specs.Map.{lookup}
 use Rattle.std.proofs.lemmas.Map.Text.{hash_map_updates_text}
-use Rattle.ha_value.specs.declared.value.EntityId.{EntityId}
-use Rattle.ha_model.specs.Words.{Text, same, same_entity}
+use Rattle.ha_model.specs.Words.{Text, same}
 use Rattle.ha_model.proofs.EqualLemmas.{same-sound}
-use Rattle.event_bus.specs.Lists.{has, has_at, has_in, has_for}
+use Rattle.event_bus.specs.Lists.{has, has_at}
 
 module _ {X Y S : Type 0} (m n : HashMap (String Y) X S) where
   abbrev pub At : Text → Option X → Type 0

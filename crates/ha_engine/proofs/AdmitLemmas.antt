@@ -1,5 +1,5 @@
 -- An attempt that its mode admits has a run, and the runs are kept.
-use Rattle.std.proofs.Common.{◌≡◌, ℕ, zero, suc, ◌+◌, ◌-◌, ◌<◌, ◌≤◌, ◌⊎◌, inl, inr, List, [], ◌∷◌, ◌++◌, length, Bool, true, false, refl, sym, ap, subst, ◌∙◌, rules, arith}
+use Rattle.std.proofs.Common.{◌≡◌, ℕ, suc, ◌+◌, ◌-◌, ◌<◌, ◌⊎◌, inl, inr, List, [], ◌∷◌, ◌++◌, length, Bool, true, false, refl, sym, ap, subst, ◌∙◌, rules, arith}
 use Rattle.std.specs.Prelude.{Option, Some, None, nat_eq, nat_lt, ◌&&◌, if◌then◌else◌}
 use Rattle.std.specs.Option.{option_map_or}
 use Rattle.timer_queue.specs.Timers.{Timer}
@@ -10,8 +10,7 @@ use Rattle.ha_model.specs.Words.{Pairs}
 use Rattle.ha_model.specs.Journal.{Journal, automations}
 use Rattle.ha_model.specs.Scripts.{Branch}
 use Rattle.ha_model.specs.Records.{Records, actions_of, is_restart_mode, lets_in, live_count}
-use Rattle.ha_model.specs.RunSteps.{joined, replace_all}
-use Rattle.ha_model.specs.Lawful.{is_running}
+use Rattle.ha_model.specs.RunSteps.{joined}
 use Rattle.run_modes.specs.Fits.{AreNumbered}
 use Rattle.run_modes.specs.Table.{admission, attempted, begin_now, live_of, new_run, told}
 use Rattle.script_step.specs.Frames.{began_by, begins}

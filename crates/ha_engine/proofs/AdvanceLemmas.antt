@@ -1,5 +1,5 @@
 -- A worker's step, from what is kept before it.
-use Rattle.std.proofs.Common.{◌≡◌, ℕ, suc, ◌<◌, List, [], ◌∷◌, length, Bool, true, false, refl, sym, ap, subst, ◌∙◌, rules, arith}
+use Rattle.std.proofs.Common.{◌≡◌, ℕ, ◌<◌, List, [], ◌∷◌, length, Bool, true, false, refl, sym, ap, subst, ◌∙◌, rules, arith}
 use Rattle.std.specs.Prelude.{Option, Some, None, IsTrue, ◌&&◌, is_none, option_map}
 use Rattle.std.specs.List.{list_any}
 use Rattle.engine_parts.specs.Slots.{SlotTable}
@@ -7,9 +7,9 @@ use Rattle.ha_model.specs.declared.journal.Entry.TheVariants.{Step}
 use Rattle.ha_model.specs.declared.journal.WaitAsk.{WaitAsk}
 use Rattle.ha_model.specs.declared.journal.WaitEnd.{WaitEnd}
 use Rattle.ha_model.specs.declared.steps.StepOut.{StepOut}
-use Rattle.ha_model.specs.Journal.{Journal, automations, now}
+use Rattle.ha_model.specs.Journal.{Journal, now}
 use Rattle.ha_model.specs.Lawful.{is_empty, pick, ready}
-use Rattle.ha_model.specs.Records.{Records, actions_of}
+use Rattle.ha_model.specs.Records.{Records}
 use Rattle.ha_model.specs.RecordSteps.{more}
 use Rattle.ha_model.specs.Scripts.{Ask, Branch}
 use Rattle.ha_model.specs.Sound.{are_sound_actions, are_sound_triggers}
@@ -20,7 +20,7 @@ use Rattle.script_step.specs.Frames.{ask_of, asked_by, may}
 use Rattle.wait_set.specs.Asked.{is_of}
 use Rattle.engine_parts.specs.declared.parts.Parts.{Parts}
 use Rattle.engine_parts.specs.Runs.{LiveKept}
-use Rattle.engine_entry.specs.Stepping.{IsTaken, MaySlot, SlotStep, StepPushed, StepRuns, Stepping}
+use Rattle.engine_entry.specs.Stepping.{MaySlot, SlotStep, StepPushed, StepRuns, Stepping}
 use Rattle.engine_parts.specs.Waiting.{TellsEnds, ends}
 use Rattle.ha_engine.proofs.AskSound.{ask-sound}
 use Rattle.ha_engine.proofs.BeginGoing.{actions-sound}

@@ -1,10 +1,9 @@
 -- What a sound script asks of the waits is sound.
-use Rattle.std.proofs.Common.{◌≡◌, ◌∙◌, ap, ℕ, zero, suc, Bool, true, false, refl, List, [], ◌∷◌, map, sym, subst}
+use Rattle.std.proofs.Common.{◌≡◌, ◌∙◌, ap, ℕ, zero, suc, Bool, true, refl, List, [], ◌∷◌, map, sym}
 use Rattle.std.specs.Prelude.{Option, Some, None, ◌&&◌, slice_get}
 use Rattle.std.specs.List.{list_all}
 use Rattle.std.specs.Option.{option_map_or}
 use Rattle.ha_model.specs.declared.config.Condition.{Condition}
-use Rattle.ha_model.specs.declared.config.Trigger.{Trigger}
 use Rattle.ha_model.specs.declared.config.Action.{Action}
 use Rattle.ha_model.specs.declared.config.ActionKind.{ActionKind}
 use Rattle.ha_model.specs.declared.config.ActionKind.TheOpen.{ActionKind-F}

@@ -1,27 +1,22 @@
 -- The parts where a run has ended, and the one that was queued behind it begins.
-use Rattle.std.proofs.Common.{◌≡◌, ℕ, zero, suc, ◌-◌, ◌<◌, ◌≤◌, List, [], ◌∷◌, length, Bool, true, false, refl, sym, ap, subst, ◌∙◌, rules, arith}
+use Rattle.std.proofs.Common.{◌≡◌, ℕ, suc, ◌-◌, ◌<◌, ◌≤◌, [], length, Bool, true, false, refl, sym, ap, subst, ◌∙◌, rules, arith}
 use Rattle.std.specs.Prelude.{Option, Some, None, nat_eq, slice_get, option_map, if◌then◌else◌}
 use Rattle.std.specs.Option.{option_map_or}
 use Rattle.std.proofs.lemmas.Option.{slice_get_within}
-use Rattle.ha_model.specs.declared.config.Action.{Action}
 use Rattle.ha_model.specs.declared.config.Automation.{Automation}
-use Rattle.ha_model.specs.declared.config.Config.{Config}
 use Rattle.ha_model.specs.declared.journal.EndCause.{EndCause}
 use Rattle.ha_model.specs.declared.journal.Record.{Record}
 use Rattle.ha_model.specs.Journal.{Journal, automations}
 use Rattle.ha_model.specs.Lawful.{is_running, record_of}
 use Rattle.ha_model.specs.Records.{Records, actions_of, or_else, spots}
-use Rattle.ha_model.specs.Scripts.{Branch}
 use Rattle.ha_model.specs.Sound.{are_sound_actions}
 use Rattle.ha_ready.specs.ReadyPairs.{branches_at, changed_at, pairs_from, ready_branches}
 use Rattle.ha_ready.proofs.RunPast.{begun-runs}
 use Rattle.run_modes.specs.Changes.{after_end}
 use Rattle.run_modes.specs.Table.{begins_at, begun_by, called_on, ended_at}
 use Rattle.run_modes.proofs.ChangeLaws.{called-record, ended-record}
-use Rattle.script_step.specs.Few.{has_few_lists}
 use Rattle.script_step.proofs.SoundFew.{sound-few}
 use Rattle.engine_parts.specs.declared.parts.Parts.{Parts}
-use Rattle.engine_parts.specs.declared.ready.Ready.{Ready}
 use Rattle.engine_parts.specs.Kept.{AreSound, Going, left_branches, nobody}
 use Rattle.engine_parts.specs.Records.{also, first_branches}
 use Rattle.engine_entry.specs.Stepping.{StepEnds}

@@ -1,16 +1,15 @@
 -- A journal of its boot alone.
-use Rattle.std.proofs.Common.{◌≡◌, ℕ, zero, suc, ◌-◌, ◌<◌, ◌≤◌, List, [], ◌∷◌, ◌++◌, length, filter, Bool, true, false, refl, sym, ap, subst, ◌∙◌, rules, arith}
-use Rattle.std.specs.Prelude.{IsSome, Option, Some, None, max, slice_get}
+use Rattle.std.proofs.Common.{◌≡◌, ℕ, zero, suc, ◌-◌, ◌<◌, ◌≤◌, List, [], ◌∷◌, ◌++◌, length, Bool, true, false, refl, sym, ap, subst, ◌∙◌, rules, arith}
+use Rattle.std.specs.Prelude.{IsSome, Option, Some, slice_get}
 use Rattle.ha_clock.specs.Zone as clock
 use Rattle.ha_clock.specs.Local.{last_moment}
 use Rattle.ha_model.specs.declared.config.Automation.{Automation}
 use Rattle.ha_model.specs.declared.config.Config.{Config}
 use Rattle.ha_model.specs.declared.journal.Entry.{Entry}
 use Rattle.ha_model.specs.declared.journal.Entry.TheVariants.{Boot}
-use Rattle.ha_model.specs.Journal.{Journal, IsJournal, automations, now, zone_of}
+use Rattle.ha_model.specs.Journal.{Journal, automations, now, zone_of}
 use Rattle.ha_model.specs.Records.{Records, records_of}
-use Rattle.ha_model.specs.RecordSteps.{more}
-use Rattle.ha_model.specs.Lawful.{Right, is_rested}
+use Rattle.ha_model.specs.Lawful.{Right}
 use Rattle.ha_model.specs.Sound.{IsSoundConfig}
 use Rattle.ha_model.specs.States.{Sight}
 use Rattle.ha_model.specs.Triggers.{sight}
@@ -20,15 +19,14 @@ use Rattle.state_table.specs.Table as states
 use Rattle.state_table.specs.declared.table.StateTable.{StateTable}
 use Rattle.state_table.proofs.StateLaws.{states-other}
 use Rattle.switch_book.specs.Book as switches
-use Rattle.timer_queue.specs.Timers.{Timer}
-use Rattle.trig_set.specs.Next.{IsNext, has_earlier}
+use Rattle.trig_set.specs.Next.{IsNext}
 use Rattle.trig_set.specs.Stands as triggers
 use Rattle.trig_set.specs.declared.set.TrigSet.{TrigSet}
 use Rattle.ha_ready.specs.Agree.{step_at}
 use Rattle.ha_ready.specs.RestedFlags.{RestedKept}
-use Rattle.ha_engine.specs.Begun.{Begun, BegunWith, trues}
-use Rattle.engine_parts.specs.Kept.{AreSound, Looks}
-use Rattle.engine_entry.specs.Opened.{AllOpened, Opened, Opening}
+use Rattle.ha_engine.specs.Begun.{trues}
+use Rattle.engine_parts.specs.Kept.{Looks}
+use Rattle.engine_entry.specs.Opened.{AllOpened, Opening}
 use Rattle.engine_parts.specs.Records.{IsTable}
 use Rattle.engine_entry.proofs.OpenLemmas.{open-begin, opened-late}
 

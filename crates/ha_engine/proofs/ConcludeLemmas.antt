@@ -1,22 +1,20 @@
 -- The records of a line that changes no switch, and what is kept behind it.
-use Rattle.std.proofs.Common.{◌≡◌, ℕ, zero, suc, ◌+◌, ◌-◌, ◌<◌, ◌≤◌, List, [], ◌∷◌, length, Bool, true, false, refl, sym, ap, subst, ◌∙◌, rules, arith}
-use Rattle.std.specs.Prelude.{Option, Some, None, nat_eq, filter, slice_get}
+use Rattle.std.proofs.Common.{◌≡◌, ℕ, suc, ◌-◌, ◌<◌, ◌≤◌, List, [], ◌∷◌, length, Bool, true, false, refl, sym, ap, subst, ◌∙◌, arith}
+use Rattle.std.specs.Prelude.{Option, Some, None, filter, slice_get}
 use Rattle.std.specs.List.{enumerate_from}
 use Rattle.std.specs.Option.{option_map_or}
 use Rattle.ha_value.specs.declared.value.EntityId.{EntityId}
 use Rattle.ha_model.specs.declared.journal.Cmd.{Cmd}
 use Rattle.ha_model.specs.declared.journal.Entry.{Entry}
 use Rattle.ha_model.specs.declared.journal.Entry.TheVariants.{Line}
-use Rattle.ha_model.specs.declared.journal.Record.{Record}
 use Rattle.ha_model.specs.Attempts.{Attempt, attempts_of, fired, passes}
-use Rattle.ha_model.specs.Entries.{Turning, turning}
 use Rattle.ha_model.specs.Entries.{IsPlain}
 use Rattle.ha_model.specs.Commands.{IsFair}
 use Rattle.ha_model.specs.Journal.{Journal, automations}
 use Rattle.ha_model.specs.Words.{Text, Pairs}
-use Rattle.ha_model.specs.Records.{Records, last_place, passing, records_of, stops, stops_turned}
+use Rattle.ha_model.specs.Records.{Records, last_place, passing, stops_turned}
 use Rattle.ha_model.specs.RecordSteps.{more, records_after}
-use Rattle.ha_model.specs.Lawful.{Right, is_quiet, ready, is_empty, record_of}
+use Rattle.ha_model.specs.Lawful.{Right}
 use Rattle.ha_model.proofs.LawfulLaws.{right-more}
 use Rattle.ha_model.proofs.RecordLaws.{length-more, records-more}
 use Rattle.ha_model.proofs.SinceLaws.{get-last}
@@ -24,7 +22,7 @@ use Rattle.ha_model.proofs.StepLaws.{Numbered, numbered-of}
 use Rattle.run_modes.specs.Calls.{AreTurned, all_tried, stops_done}
 use Rattle.run_modes.specs.Fits.{AreNumbered}
 use Rattle.run_laws.proofs.EntryLaws.{by-calls}
-use Rattle.ha_ready.specs.RunPast.{AllPast, BeginBefore, EndBefore, IsPast}
+use Rattle.ha_ready.specs.RunPast.{AllPast, BeginBefore, EndBefore}
 use Rattle.ha_model.specs.declared.journal.EndCause.{EndCause}
 use Rattle.engine_parts.specs.Records.{IsTable}
 use Rattle.ha_ready.specs.Agree.{step_at}

@@ -12,9 +12,8 @@ use Rattle.run_modes.specs.Fits.{AreNumbered}
 use Rattle.run_modes.specs.Table.{is_live, live_of}
 use Rattle.engine_parts.specs.declared.parts.Parts.{Parts}
 use Rattle.ha_engine.specs.Admits.{are_in}
-use Rattle.engine_parts.specs.Changes.{SameRun}
 use Rattle.engine_parts.specs.Kept.{Gone, Going, nobody}
-use Rattle.ha_ready.specs.RunPast.{AllPast, EndBefore, IsPast}
+use Rattle.ha_ready.specs.RunPast.{AllPast, EndBefore}
 use Rattle.engine_parts.specs.Records.{AreEnded, EndsIf, also}
 
 -- ---- one after the other goes

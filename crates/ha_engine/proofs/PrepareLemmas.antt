@@ -1,9 +1,8 @@
 -- Attempts that are prepared, from the last on.
-use Rattle.std.proofs.Common.{◌≡◌, ℕ, zero, suc, ◌+◌, ◌<◌, ◌≤◌, List, [], ◌∷◌, ◌++◌, length, map, filter, take, drop, get_or, Bool, true, false, refl, sym, ap, subst, ◌∙◌, rules, arith}
-use Rattle.std.specs.Prelude.{IsTrue, Option, Some, None, find, nat_le, nat_lt, option_map, slice_get, ◌&&◌, if◌then◌else◌}
+use Rattle.std.proofs.Common.{◌≡◌, ℕ, zero, suc, ◌+◌, ◌<◌, ◌≤◌, List, [], ◌∷◌, ◌++◌, length, map, filter, take, get_or, Bool, true, false, refl, sym, ap, subst, ◌∙◌, rules, arith}
+use Rattle.std.specs.Prelude.{Option, nat_le, slice_get, ◌&&◌, if◌then◌else◌}
 use Rattle.std.specs.List.{enumerate_from, list_all}
 use Rattle.std.specs.Option.{option_map_or}
-use Rattle.ha_model.specs.declared.config.Action.{Action}
 use Rattle.ha_model.specs.declared.config.Automation.{Automation}
 use Rattle.ha_model.specs.declared.config.Config.{Config}
 use Rattle.ha_model.specs.declared.config.Mode.{Mode}
@@ -16,11 +15,11 @@ use Rattle.ha_model.specs.RecordSteps.{more}
 use Rattle.ha_model.specs.Records.{last_place}
 use Rattle.ha_value.specs.Ids.{is_name}
 use Rattle.ha_model.specs.Sound.{IsSoundConfig, are_sound_actions, are_sound_conditions, are_sound_triggers, is_sound_automation}
-use Rattle.ha_model.specs.Words.{Pairs, same}
+use Rattle.ha_model.specs.Words.{Pairs}
 use Rattle.script_step.specs.Gates.{first_fronts}
 use Rattle.ha_engine.specs.declared.admit.Prepared.{Prepared}
 use Rattle.ha_engine.specs.Admits.{ArePassing, ArePrepared, IsPrepared, IsPut, IsReady, asked_for, from_end, has_action}
-use Rattle.engine_parts.specs.Fronts.{Stands, fronts}
+use Rattle.engine_parts.specs.Fronts.{Stands}
 use Rattle.engine_parts.specs.Owners.{attempt_by, attempts_by, is_attempt}
 use Rattle.ha_engine.proofs.AdmitLemmas.{from-end-snoc}
 use Rattle.engine_parts.proofs.ViewLemmas.{both, true-of}

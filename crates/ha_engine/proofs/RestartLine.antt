@@ -1,8 +1,8 @@
 -- A restart.
-use Rattle.std.proofs.Common.{◌≡◌, ℕ, zero, suc, ◌+◌, ◌-◌, ◌<◌, ◌≤◌, List, [], ◌∷◌, ◌++◌, length, take, map, Bool, true, false, refl, sym, ap, subst, ◌∙◌, rules, arith}
+use Rattle.std.proofs.Common.{◌≡◌, ℕ, zero, suc, ◌+◌, ◌-◌, ◌<◌, ◌≤◌, List, [], ◌∷◌, ◌++◌, length, take, Bool, true, false, refl, sym, ap, subst, ◌∙◌, arith}
 use Rattle.std.proofs.lemmas.List.{length-map}
-use Rattle.std.specs.Prelude.{Option, Some, None, IsSome, not, nat_eq, ◌&&◌, ◌||◌, unwrap_or, slice_get, option_map, if◌then◌else◌}
-use Rattle.std.specs.List.{list_any, enumerate_from}
+use Rattle.std.specs.Prelude.{Some, None, IsSome, not, nat_eq, ◌||◌, unwrap_or, slice_get}
+use Rattle.std.specs.List.{list_any}
 use Rattle.std.specs.Option.{option_map_or}
 use Rattle.ha_clock.specs.Zone as clock
 use Rattle.ha_model.specs.declared.config.Automation.{Automation}
@@ -11,7 +11,6 @@ use Rattle.ha_model.specs.declared.journal.EndCause.{EndCause}
 use Rattle.ha_model.specs.declared.journal.Entry.{Entry}
 use Rattle.ha_model.specs.declared.journal.Entry.TheVariants.{Line}
 use Rattle.ha_model.specs.Commands.{keys_of}
-use Rattle.ha_model.specs.Entries.{IsBoot}
 use Rattle.ha_model.specs.Equal.{same_flag}
 use Rattle.ha_model.specs.Journal.{Journal, HasEntry, IsJournal, automations, now, zone_of}
 use Rattle.ha_model.specs.Lawful.{Right}
@@ -28,7 +27,6 @@ use Rattle.ha_model.proofs.SwitchLemmas.{on-more}
 use Rattle.run_laws.proofs.EntryLaws.{by-calls}
 use Rattle.run_modes.specs.Calls.{all_tried}
 use Rattle.run_modes.specs.Table.{stopped}
-use Rattle.ha_past.specs.Firings.{Owner}
 use Rattle.ha_ready.specs.RestedFlags.{RestedKept}
 use Rattle.state_table.specs.Anew.{sets_anew}
 use Rattle.state_table.specs.Table.{StandsBut, StandsFor}
@@ -38,7 +36,6 @@ use Rattle.switch_book.specs.Book as switches
 use Rattle.switch_book.specs.Book.{names_of}
 use Rattle.switch_book.proofs.SwitchLaws.{names-of-journal}
 use Rattle.timer_queue.specs.Timers.{Timer}
-use Rattle.trig_set.specs.Next.{AreListed, has_earlier}
 use Rattle.trig_set.specs.Stands as triggers
 use Rattle.trig_set.specs.declared.set.TrigSet.{TrigSet}
 use Rattle.wait_set.specs.declared.asked.Asked.{Asked}
@@ -48,9 +45,8 @@ use Rattle.wait_set.specs.Timers.{AreApart}
 use Rattle.engine_parts.specs.declared.parts.Parts.{Parts}
 use Rattle.engine_parts.specs.Kept.{AreOwned, AreSound, Going, KeysBelow, Owned, RunsKept, everyone, nobody}
 use Rattle.engine_entry.specs.Opened.{AllOpened, Opening}
-use Rattle.engine_parts.specs.Owners.{owners_on}
 use Rattle.engine_parts.specs.Records.{IsTable}
-use Rattle.engine_parts.specs.Runs.{AreHeld, first_wait}
+use Rattle.engine_parts.specs.Runs.{first_wait}
 use Rattle.engine_parts.specs.Stages.{Entered, Noted, PushedAs, Stopped}
 use Rattle.ha_engine.proofs.ConcludeLemmas.{line-table}
 use Rattle.engine_entry.proofs.EnterLemmas.{now-left, sound-more, zone-more}

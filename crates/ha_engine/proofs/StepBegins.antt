@@ -1,6 +1,6 @@
 -- The run that was picked: it may step, and what is known of it behind its step.
-use Rattle.std.proofs.Common.{◌≡◌, ℕ, suc, ◌+◌, ◌-◌, ◌<◌, ◌≤◌, List, [], ◌∷◌, ◌++◌, length, take, set, Bool, true, false, refl, sym, ap, subst, ◌∙◌, rules, arith}
-use Rattle.std.specs.Prelude.{Option, Some, None, ◌≢◌, ◌&&◌, ◌||◌, is_none, is_some, nat_eq, slice_get, option_map, option_and_then, if◌then◌else◌}
+use Rattle.std.proofs.Common.{◌≡◌, ℕ, suc, ◌+◌, ◌-◌, ◌<◌, List, [], ◌∷◌, ◌++◌, length, take, Bool, true, false, refl, sym, ap, subst, ◌∙◌, rules, arith}
+use Rattle.std.specs.Prelude.{Option, Some, None, ◌&&◌, ◌||◌, is_none, is_some, nat_eq, slice_get, option_map, option_and_then, if◌then◌else◌}
 use Rattle.std.specs.List.{list_any}
 use Rattle.timer_queue.specs.Timers.{Timer}
 use Rattle.ha_model.specs.declared.journal.Record.{Record}
@@ -27,7 +27,7 @@ use Rattle.wait_set.specs.declared.asked.Asked as wait
 use Rattle.wait_set.specs.Asked.{WaitTable as Waits, end_of as end_asked, is_of, wait_of as wait_asked}
 use Rattle.engine_parts.specs.Fronts.{IsOpen, Stands, fronts}
 use Rattle.engine_parts.specs.Kept.{RunsKept, nobody}
-use Rattle.engine_parts.specs.Runs.{AreHeld, GateKept, GatesKept, HasEnd, IsHeld, IsWait, LiveKept, SlotKept}
+use Rattle.engine_parts.specs.Runs.{AreHeld, GateKept, GatesKept, IsHeld, IsWait, LiveKept, SlotKept}
 use Rattle.engine_parts.specs.Waiting.{TellsEnds, ends}
 use Rattle.engine_parts.proofs.FrontWords.{gate-is}
 use Rattle.engine_parts.proofs.GateLemmas.{next-now}

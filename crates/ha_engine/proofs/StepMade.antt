@@ -1,6 +1,6 @@
 -- What is known of the run that made a step, from the step of its frames.
-use Rattle.std.proofs.Common.{◌≡◌, ℕ, List, [], ◌∷◌, ◌++◌, length, true, refl, sym, ap, subst, ◌∙◌}
-use Rattle.std.specs.Prelude.{Option, Some, None, ◌≢◌, slice_get, option_map, option_and_then}
+use Rattle.std.proofs.Common.{◌≡◌, ℕ, List, [], ◌∷◌, ◌++◌, length, refl, sym, ap, subst, ◌∙◌}
+use Rattle.std.specs.Prelude.{Option, Some, None, ◌≢◌, option_map, option_and_then}
 use Rattle.timer_queue.specs.Timers.{Timer}
 use Rattle.ha_model.specs.declared.config.Action.{Action}
 use Rattle.ha_model.specs.declared.journal.Entry.TheVariants.{Step}
@@ -11,7 +11,6 @@ use Rattle.ha_model.specs.declared.journal.WaitEnd.{WaitEnd}
 use Rattle.ha_model.specs.declared.steps.StepOut.{StepOut}
 use Rattle.ha_model.specs.Journal.{Journal, automations, now}
 use Rattle.ha_model.specs.Lawful.{Right, pick, ready, record_of}
-use Rattle.ha_model.specs.NextPlace.{next_end}
 use Rattle.ha_model.specs.Records.{Records, actions_of, ran_on, script_end, spots}
 use Rattle.ha_model.specs.RecordSteps.{more}
 use Rattle.ha_model.specs.Scripts.{Ask, Branch, Outcome, Spot, Status, prefixed, whole}
@@ -25,7 +24,7 @@ use Rattle.script_step.specs.declared.strand.End.{End}
 use Rattle.script_step.specs.Continuation.{Began, placed}
 use Rattle.script_step.specs.Frames as run
 use Rattle.script_step.specs.Frames.{ask_of, asked_by, began_by, begins, may}
-use Rattle.script_step.specs.Gates.{Gate, due_of, fronts_of, gate_at, wait_of}
+use Rattle.script_step.specs.Gates.{Gate, fronts_of, gate_at, wait_of}
 use Rattle.script_step.specs.Sides.{end_of, progress_by}
 use Rattle.script_step.specs.Told.{AreTold}
 use Rattle.script_step.proofs.FrameLemmas.{stands-step}

@@ -1,23 +1,19 @@
 -- Runs that are stopped: those of an automation, or all.
-use Rattle.std.proofs.Common.{◌≡◌, ℕ, zero, suc, ◌+◌, ◌-◌, ◌<◌, ◌≤◌, List, [], ◌∷◌, ◌++◌, length, Bool, true, false, refl, sym, ap, subst, ◌∙◌, rules, arith}
+use Rattle.std.proofs.Common.{◌≡◌, ℕ, suc, ◌-◌, ◌<◌, [], ◌∷◌, length, Bool, true, false, refl, sym, ap, subst, ◌∙◌, arith}
 use Rattle.std.specs.Prelude.{Option, Some, None, is_none, nat_eq, nat_lt, ◌&&◌, if◌then◌else◌}
-use Rattle.std.specs.List.{list_any}
 use Rattle.std.specs.Option.{option_map_or}
-use Rattle.timer_queue.specs.Timers.{Timer}
 use Rattle.ha_model.specs.declared.journal.EndCause.{EndCause}
 use Rattle.ha_model.specs.declared.journal.Record.{Record}
 use Rattle.ha_model.specs.Journal.{Journal}
 use Rattle.ha_model.specs.Records.{Records}
 use Rattle.run_modes.specs.Fits.{AreNumbered}
-use Rattle.run_modes.specs.Table.{begin_kept, end_one, is_live, is_stopped, live_of, stopped}
-use Rattle.ha_ready.specs.RunPast.{AllPast, BeginBefore, EndBefore, IsPast, SameScript}
-use Rattle.ha_ready.specs.Agree.{step_at}
+use Rattle.run_modes.specs.Table.{end_one, is_live, is_stopped, live_of, stopped}
+use Rattle.ha_ready.specs.RunPast.{AllPast, BeginBefore, IsPast}
 use Rattle.engine_parts.specs.declared.parts.Parts.{Parts}
 use Rattle.ha_engine.specs.Admits.{are_in}
 use Rattle.engine_parts.specs.Changes.{SameRun}
 use Rattle.engine_parts.specs.Kept.{Going, Gone, everyone, nobody}
 use Rattle.engine_parts.specs.Records.{AreEnded, EndsIf, IsTable}
-use Rattle.engine_parts.specs.Runs.{HasEnd}
 use Rattle.engine_parts.proofs.GoneLemmas.{gone-ended}
 use Rattle.ha_engine.proofs.LiveLemmas.{AreLive, all-live}
 

@@ -1,9 +1,8 @@
 -- A line that turns an automation on or off.
-use Rattle.std.proofs.Common.{◌≡◌, ℕ, zero, suc, ◌+◌, ◌-◌, ◌<◌, ◌≤◌, List, [], ◌∷◌, ◌++◌, length, Bool, true, false, refl, sym, ap, subst, ◌∙◌, rules, arith}
+use Rattle.std.proofs.Common.{◌≡◌, ℕ, ◌-◌, ◌<◌, List, [], ◌∷◌, length, Bool, true, false, refl, sym, ap, subst, ◌∙◌, arith}
 use Rattle.std.proofs.lemmas.Option.{slice_get_within}
-use Rattle.std.specs.Prelude.{Option, Some, None, IsTrue, is_some, not, nat_eq, ◌&&◌, ◌||◌, slice_get, fold, if◌then◌else◌}
+use Rattle.std.specs.Prelude.{Some, IsTrue, is_some, not, nat_eq, ◌&&◌, ◌||◌, fold, if◌then◌else◌}
 use Rattle.std.specs.List.{list_any}
-use Rattle.ha_model.specs.declared.config.Automation.{Automation}
 use Rattle.ha_model.specs.declared.journal.Cmd.{Cmd}
 use Rattle.ha_model.specs.declared.journal.EndCause.{EndCause}
 use Rattle.ha_model.specs.declared.journal.Entry.{Entry}
@@ -12,7 +11,7 @@ use Rattle.ha_model.specs.Commands.{IsFair, has_automation}
 use Rattle.ha_model.specs.Journal.{Journal, HasEntry, IsJournal, automations}
 use Rattle.ha_model.specs.Lawful.{Right}
 use Rattle.ha_model.specs.RecordSteps.{more, records_after}
-use Rattle.ha_model.specs.Records.{Records, passing, stops}
+use Rattle.ha_model.specs.Records.{Records, passing}
 use Rattle.ha_model.specs.States.{automation_named}
 use Rattle.ha_model.specs.Switches.{is_on, name_of}
 use Rattle.ha_model.specs.Words.{Text, same}
@@ -29,7 +28,7 @@ use Rattle.engine_entry.specs.Between.{Turning}
 use Rattle.engine_parts.specs.Kept.{AreSound, Going, nobody}
 use Rattle.engine_parts.specs.Records.{IsTable}
 use Rattle.engine_parts.specs.Stages.{PushedAs, RunsBefore, Stopped}
-use Rattle.engine_entry.specs.Turned.{IsTurn, is_target}
+use Rattle.engine_entry.specs.Turned.{IsTurn}
 use Rattle.ha_engine.proofs.ConcludeLemmas.{line-table}
 use Rattle.engine_entry.proofs.EnterLemmas.{sound-more}
 use Rattle.engine_entry.proofs.NamedLemmas.{IsSound, found-named, name-apart}

@@ -13,7 +13,7 @@ use Rattle.ha_model.specs.declared.journal.Record.{Record}
 use Rattle.ha_model.specs.declared.steps.Progress.{Progress}
 use Rattle.ha_model.specs.Entries.{is_call}
 use Rattle.ha_model.specs.Journal.{Journal, IsJournal, automations}
-use Rattle.ha_model.specs.Lawful.{Right, is_running, record_of}
+use Rattle.ha_model.specs.Lawful.{Right, record_of}
 use Rattle.ha_model.specs.NextPlace.{next_end}
 use Rattle.ha_model.specs.Records.{Records, calls_of, ended, is_call_of, passing, spots, with_begins}
 use Rattle.ha_model.specs.RecordSteps.{more, records_after}

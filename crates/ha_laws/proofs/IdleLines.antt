@@ -1,12 +1,11 @@
 -- A line that was refused, or that says that its source failed or gave too much, changes nothing that is known.
-use Rattle.std.proofs.Common.{◌≡◌, ℕ, zero, suc, ◌+◌, ◌-◌, ◌<◌, ◌≤◌, max, List, [], ◌∷◌, ◌++◌, length, take, map, Bool, true, false, cond, refl, sym, ap, ◌∙◌, rules, arith, Option}
-use Rattle.std.specs.Prelude.{Some, None, not, is_some, is_none, slice_get, find, option_map, option_and_then, nat_eq, nat_lt, nat_le, ◌&&◌, ◌||◌, if◌then◌else◌}
+use Rattle.std.proofs.Common.{◌≡◌, ℕ, suc, ◌+◌, ◌-◌, ◌<◌, max, List, [], ◌∷◌, length, take, map, Bool, true, false, cond, refl, sym, ◌∙◌, rules, arith, Option}
+use Rattle.std.specs.Prelude.{Some, None, not, is_some, is_none, slice_get, find, option_and_then, nat_eq, nat_lt, nat_le, ◌&&◌, ◌||◌, if◌then◌else◌}
 use Rattle.std.specs.List.{list_all, list_any, enumerate_from}
 use Rattle.std.specs.Option.{option_map_or}
 use Rattle.ha_value.specs.declared.value.EntityId.{EntityId}
 use Rattle.ha_value.specs.declared.value.Num.{Num}
 use Rattle.ha_model.specs.declared.config.Automation.{Automation}
-use Rattle.ha_model.specs.declared.config.Mode.{Mode}
 use Rattle.ha_model.specs.declared.config.Trigger.{Trigger}
 use Rattle.ha_model.specs.declared.config.TriggerRule.{TriggerRule}
 use Rattle.ha_model.specs.declared.journal.Cmd.{Cmd}
@@ -22,9 +21,9 @@ use Rattle.ha_model.specs.Switches.{is_on}
 use Rattle.ha_model.specs.States.{states, switches_of}
 use Rattle.ha_model.specs.Templates.{rendered, says}
 use Rattle.ha_model.specs.Conditions.{number_watched}
-use Rattle.ha_model.specs.Triggers.{sight, state_moves, report_number, latest_number, pair_holds, second_fits, passed, before, after, rule_moves, starts, moves, same_watched, between, fires, fired_from}
+use Rattle.ha_model.specs.Triggers.{state_moves, latest_number, pair_holds, passed, before, after, rule_moves, starts, moves, same_watched, between, fires}
 use Rattle.ha_model.specs.Attempts.{Attempt, attempts}
-use Rattle.ha_model.specs.Records.{Records, passing, last_place, mode_of, or_else, ended_by_script, script_end, ran, stops, stops_turned, own_cause, own_end, replaced, end_here, next_place, is_restart_mode, is_step_of, is_call, is_call_of, calls_of, last_is, with_ends, with_begins, begin_of, last_record, bare, ended, records_of}
+use Rattle.ha_model.specs.Records.{Records, last_place, mode_of, or_else, script_end, ran, stops, stops_turned, own_cause, end_here, next_place, is_restart_mode, is_step_of, is_call, calls_of, with_ends, with_begins, begin_of, last_record, bare, ended, records_of}
 use Rattle.ha_model.specs.RecordSteps.{more, end_now, admit_now}
 use Rattle.ha_model.proofs.StateLemmas.{now-snoc}
 use Rattle.ha_model.proofs.SinceLaws.{take-before, get-last, on-left}

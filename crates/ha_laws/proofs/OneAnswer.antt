@@ -2,7 +2,7 @@
 use Rattle.std.proofs.Common.{◌≡◌, ℕ, zero, suc, ◌-◌, ◌<◌, inl, inr, List, [], ◌∷◌, ◌++◌, length, Bool, true, false, refl, sym, ap, subst, ◌∙◌, rules, arith, Option, append_assoc, length-append}
 use Rattle.std.specs.List.{list_all}
 use Rattle.ha_model.proofs.EqualLemmas.{and_right}
-use Rattle.std.specs.Prelude.{Some, unwrap_or, slice_get, count_by, option_and_then, nat_eq, if◌then◌else◌}
+use Rattle.std.specs.Prelude.{Some, slice_get, count_by, option_and_then, nat_eq, if◌then◌else◌}
 use Rattle.ha_model.specs.declared.journal.Cmd.{Cmd}
 use Rattle.ha_model.specs.declared.journal.Item.{Item}
 use Rattle.ha_model.specs.declared.journal.Entry.{Entry}

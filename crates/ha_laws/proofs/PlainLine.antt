@@ -1,19 +1,18 @@
 -- What a line that ends nobody does to the records, where all automations are of mode single.
-use Rattle.std.proofs.Common.{◌≡◌, ℕ, suc, ◌+◌, ◌-◌, ◌<◌, List, [], ◌∷◌, ◌++◌, length, Bool, true, false, cond, refl, sym, ap, subst, ◌∙◌, rules, arith, Option, length-append}
-use Rattle.std.specs.Prelude.{OnOk, Ok, Err, Result, Some, None, is_none, slice_get, option_and_then, nat_eq, nat_lt, fold, ◌&&◌, if◌then◌else◌}
+use Rattle.std.proofs.Common.{◌≡◌, ℕ, suc, ◌+◌, ◌-◌, ◌<◌, List, [], ◌∷◌, ◌++◌, length, Bool, true, false, cond, refl, sym, ap, subst, ◌∙◌, arith, Option, length-append}
+use Rattle.std.specs.Prelude.{Some, None, is_none, option_and_then, nat_eq, nat_lt, fold, ◌&&◌, if◌then◌else◌}
 use Rattle.std.specs.Option.{option_map_or}
 use Rattle.ha_model.specs.declared.journal.Cmd.{Cmd}
 use Rattle.ha_model.specs.declared.journal.Entry.{Entry}
-use Rattle.ha_model.specs.declared.journal.Entry.TheVariants.{Boot, Line, Step}
+use Rattle.ha_model.specs.declared.journal.Entry.TheVariants.{Line}
 use Rattle.ha_model.specs.declared.journal.EndCause.{EndCause}
 use Rattle.ha_model.specs.declared.journal.Record.{Record}
-use Rattle.ha_model.specs.Words.{last_of, EachAfter}
 use Rattle.ha_model.specs.Journal.{Journal, automations}
 use Rattle.ha_model.specs.Attempts.{Attempt}
-use Rattle.ha_model.specs.Records.{Records, last_place, passing, mode_of, max_of, script_end, or_else, own_cause, replaced, is_restart_mode, last_is, is_step_of, stops, is_restart, end_here, next_place, lets_in, live_count, new_record, last_record, begin_of, is_call, is_call_of, calls_of, with_begins, ended, ran}
+use Rattle.ha_model.specs.Records.{Records, last_place, passing, mode_of, max_of, script_end, or_else, own_cause, replaced, is_restart_mode, is_step_of, stops, is_restart, end_here, next_place, lets_in, live_count, new_record, last_record, begin_of, calls_of, with_begins, ended, ran}
 use Rattle.ha_model.specs.RecordSteps.{more, end_now, admit_now, records_after}
 use Rattle.ha_laws.specs.SingleMode.{AllSingle, IsPlain, started, admit_started}
-use Rattle.ha_model.specs.Lawful.{IsFair, IsTurn, IsRightEntry, Right, Running}
+use Rattle.ha_model.specs.Lawful.{IsFair, IsTurn, Right, Running}
 use Rattle.ha_model.proofs.RecordLaws.{at_place, ended-more, records-more}
 use Rattle.ha_model.proofs.RecordGrowth.{HasEntry, automations-more}
 use Rattle.ha_model.proofs.LawfulLaws.{has-entry, running-more}

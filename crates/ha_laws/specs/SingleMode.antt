@@ -1,15 +1,13 @@
 -- What a line that ends nobody does to the records, where all automations are of mode single.
-use Rattle.std.specs.Prelude.{ℕ, ◌+◌, ◌≡◌, List, [], ◌∷◌, ◌++◌, length, Option, Some}
-use Rattle.std.specs.Prelude.{option_map, option_and_then, nat_eq, cond, if◌then◌else◌}
+use Rattle.std.specs.Prelude.{ℕ, ◌+◌, ◌≡◌, List, [], ◌∷◌, ◌++◌, length, Some}
+use Rattle.std.specs.Prelude.{option_map, nat_eq, cond, if◌then◌else◌}
 use Rattle.ha_model.specs.declared.config.Mode.{Mode}
 use Rattle.ha_model.specs.declared.journal.Record.{Record}
 use Rattle.ha_model.specs.Journal.{Journal, automations}
 use Rattle.ha_model.specs.Attempts.{Attempt}
 pub use Rattle.ha_model.specs.Entries.{IsPlain, SwitchesNone}
-use Rattle.ha_model.specs.Records.{Records, or_else, mode_of, live_count, new_record, ran_on, spots, script_end, is_call}
-use Rattle.ha_model.specs.Words.{last_of}
+use Rattle.ha_model.specs.Records.{Records, or_else, mode_of, live_count, new_record, is_call}
 use Rattle.ha_model.specs.Scripts.{Branch}
-use Rattle.ha_model.specs.Waits.{next_spot}
 use Rattle.ha_model.specs.declared.journal.Item.{Item}
 use Rattle.ha_model.specs.NextPlace.{next_end}
 use Rattle.ha_model.specs.declared.journal.EndCause.{EndCause}

@@ -1,7 +1,7 @@
 -- What a hold watches is compared with what it was when the trigger moved. A numeric trigger moves into its bounds, and a template trigger where it
 -- becomes true; so for them it is enough to ask whether the number is still in the bounds, and whether the template is still true.
-use Rattle.std.proofs.Common.{◌≡◌, ℕ, zero, suc, List, [], ◌∷◌, ◌++◌, take, Bool, true, false, cond, refl, sym, ap, subst, ◌∙◌, Option}
-use Rattle.std.specs.Prelude.{Some, None, not, slice_get, is_some, is_none, nat_eq, nat_le, nat_lt, map, filter_map, option_and_then, ◌&&◌, ◌||◌, ◌+◌, ◌-◌, if◌then◌else◌}
+use Rattle.std.proofs.Common.{◌≡◌, ℕ, zero, suc, List, [], ◌∷◌, ◌++◌, take, Bool, true, false, refl, sym, ap, ◌∙◌, Option}
+use Rattle.std.specs.Prelude.{Some, None, not, slice_get, is_some, is_none, nat_le, nat_lt, filter_map, option_and_then, ◌&&◌, ◌+◌, ◌-◌, if◌then◌else◌}
 use Rattle.std.specs.List.{list_all, list_any, cons_option}
 use Rattle.std.specs.Option.{option_map_or}
 use Rattle.std.proofs.lemmas.List.Elements.{filter_map-append}
@@ -19,7 +19,7 @@ use Rattle.ha_model.specs.Templates.{rendered, says}
 use Rattle.ha_model.specs.Triggers.{same_optional, report_number, latest_number, after, before, rule_moves, starts, moves, same_watched, between, fires}
 use Rattle.ha_model.specs.Records.{or_else}
 use Rattle.ha_model.specs.RecordSteps.{more}
-use Rattle.ha_model.proofs.EqualLemmas.{and_left, and_right}
+use Rattle.ha_model.proofs.EqualLemmas.{and_left}
 use Rattle.ha_model.proofs.LawfulLaws.{none-some, some-same}
 use Rattle.ha_model.proofs.RecordGrowth.{true-false}
 use Rattle.ha_model.proofs.StateLemmas.{longest_end-ends, longest_end-keeps, last_of-snoc}

@@ -1,5 +1,5 @@
 -- What one more entry adds to the end of a journal and to the calls of its runs.
-use Rattle.std.proofs.Common.{◌≡◌, ℕ, suc, ◌+◌, ◌-◌, ◌<◌, List, [], ◌∷◌, ◌++◌, length, Bool, true, false, cond, refl, sym, ap, ◌∙◌, rules, arith, Option}
+use Rattle.std.proofs.Common.{◌≡◌, ℕ, suc, ◌+◌, ◌-◌, ◌<◌, List, [], ◌∷◌, ◌++◌, length, Bool, false, cond, refl, sym, ap, ◌∙◌, rules, arith, Option}
 use Rattle.std.specs.Prelude.{OnOk, Ok, Err, Result, Some, None, slice_get, nat_eq, fold, ◌&&◌}
 use Rattle.std.specs.Option.{option_map_or}
 use Rattle.ha_model.specs.declared.journal.Entry.{Entry}

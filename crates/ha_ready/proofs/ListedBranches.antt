@@ -1,6 +1,6 @@
 -- The branch of an allowed place is among those that the script has.
 use Rattle.std.proofs.Common.{◌≡◌, ℕ, zero, suc, ◌+◌, ◌-◌, ◌<◌, ◌≤◌, ◌⊎◌, inl, inr, List, [], ◌∷◌, ◌++◌, length, map, filter, Bool, true, false, refl, sym, ap, subst, ◌∙◌, arith, Option, append_assoc}
-use Rattle.std.specs.Prelude.{Some, None, Ok, Err, not, is_some, nat_eq, nat_le, nat_lt, codes, option_map, ◌&&◌, ◌||◌, if◌then◌else◌, bytes_eq}
+use Rattle.std.specs.Prelude.{Some, None, Ok, Err, is_some, nat_eq, nat_le, nat_lt, codes, option_map, ◌||◌, if◌then◌else◌, bytes_eq}
 use Rattle.std.specs.List.{list_any, list_all}
 use Rattle.std.specs.Option.{option_map_or}
 use Rattle.std.proofs.lemmas.Bool.{leb-true}
@@ -20,14 +20,14 @@ use Rattle.ha_model.specs.Journal.{Journal, automations}
 use Rattle.ha_model.specs.States.{Sight}
 use Rattle.ha_model.specs.Conditions.{hold_all, holds}
 use Rattle.ha_model.specs.Calls.{Checked, call_item, span_of, spans_of, count_of, forms_of, fields_of}
-use Rattle.ha_model.specs.Scripts.{Branch, Scopes, Ask, Spot, Status, Outcome, Next, Part, Meaning, flat, prefixed, gives, ends, with_place, in_order, outer, add_inside, is_deeper, front, past_front, side, on_side, woven, Loop, all_allowed, is_open, first_halt, after_lists, each_on, joined_lists, side_by_side, after_turn, turns, looped, count_loop, each_loop, while_loop, until_loop, most_turns, failed, on_checked, repeated, goes_into, lists_from, parallel, chosen, set_all, wait_value, delayed, waited, called, kind_step, action_step, run_action, exec, whole}
+use Rattle.ha_model.specs.Scripts.{Branch, Scopes, Ask, Spot, Status, Outcome, Next, Part, Meaning, flat, prefixed, gives, ends, with_place, in_order, outer, add_inside, is_deeper, front, past_front, side, on_side, woven, Loop, all_allowed, is_open, first_halt, after_lists, each_on, joined_lists, side_by_side, after_turn, turns, looped, count_loop, each_loop, while_loop, until_loop, most_turns, failed, on_checked, repeated, goes_into, lists_from, parallel, chosen, set_all, wait_value, delayed, waited, called, kind_step, run_action}
 use Rattle.ha_model.specs.Branches.{among, union, union_all, branches_from, kind_branches, action_branches, branches_of}
 use Rattle.ha_model.specs.Records.{Records, actions_of, spots, ran_on}
 use Rattle.ha_model.specs.Lawful.{may_step}
 use Rattle.ha_model.specs.Waits.{next_spot}
 use Rattle.ha_model.proofs.Rolls.{run_kind, run_action-roll, run_kind-roll, below_kind, action_branches-roll, below_kind-roll}
 use Rattle.ha_model.proofs.EqualLemmas.{same-refl, and_left, and_right}
-use Rattle.ha_model.proofs.LawfulLaws.{none-some, some-same}
+use Rattle.ha_model.proofs.LawfulLaws.{none-some}
 use Rattle.ha_model.proofs.RecordGrowth.{true-false}
 
 -- ---- what holds of each branch of a list

@@ -1,5 +1,5 @@
 -- What fires at the places of a journal stays as it is with one more entry; and the end of a wait.
-use Rattle.std.proofs.Common.{◌≡◌, ℕ, zero, suc, ◌+◌, ◌-◌, ◌*◌, ◌<◌, ◌≤◌, List, [], ◌∷◌, ◌++◌, length, map, take, Bool, true, false, cond, refl, ap, ◌∙◌, arith, Option}
+use Rattle.std.proofs.Common.{◌≡◌, ℕ, zero, suc, ◌+◌, ◌-◌, ◌*◌, ◌<◌, ◌≤◌, List, [], ◌∷◌, ◌++◌, length, map, Bool, true, false, cond, refl, ap, ◌∙◌, arith, Option}
 use Rattle.std.specs.Prelude.{Some, None, not, nat_eq, nat_lt, nat_le, is_some, is_none, find, flat_map, filter_map, slice_get, option_map, option_and_then, pos, ◌&&◌, ◌||◌, if◌then◌else◌}
 use Rattle.std.specs.List.{list_any, list_all, cons_option, enumerate_from}
 use Rattle.std.specs.Option.{option_map_or}

@@ -1,5 +1,5 @@
 -- What each call does to the record with a serial.
-use Rattle.std.proofs.Common.{◌≡◌, ℕ, zero, suc, ◌+◌, ◌-◌, ◌<◌, ◌≤◌, List, [], ◌∷◌, ◌++◌, length, map, Bool, true, false, ◌&&◌, Option, refl, sym, ap, subst, ◌∙◌, rules, arith}
+use Rattle.std.proofs.Common.{◌≡◌, ℕ, zero, suc, ◌+◌, ◌-◌, ◌<◌, ◌≤◌, [], ◌∷◌, ◌++◌, length, map, Bool, true, false, Option, refl, sym, ap, subst, ◌∙◌, rules, arith}
 use Rattle.std.specs.Prelude.{Some, None, nat_eq, is_none, slice_get, option_map, if◌then◌else◌}
 use Rattle.std.specs.Option.{option_map_or}
 use Rattle.std.proofs.lemmas.Option.{slice_get-map}
@@ -8,8 +8,8 @@ use Rattle.ha_model.specs.declared.journal.EndCause.{EndCause}
 use Rattle.ha_model.specs.declared.journal.Record.{Record}
 use Rattle.ha_model.specs.Words.{Pairs}
 use Rattle.ha_model.specs.Lawful.{record_of}
-use Rattle.ha_model.specs.Records.{Records, is_restart_mode, lets_in, live_count, or_else}
-use Rattle.ha_model.specs.RunSteps.{ends_for, joined, replace_all}
+use Rattle.ha_model.specs.Records.{Records, lets_in, live_count, or_else}
+use Rattle.ha_model.specs.RunSteps.{joined, replace_all}
 use Rattle.run_modes.specs.Changes.{after_attempt, after_call, after_end, after_stop}
 use Rattle.run_modes.specs.Fits.{AreNumbered}
 use Rattle.run_modes.specs.Table.{attempted, begin_first, begins_at, begun_by, called_on, ended_at, end_one, is_live, is_stopped, new_run, stopped, waiting_first}

@@ -1,5 +1,5 @@
 -- The flags of an object, one after another, and the order of their names.
-use Rattle.std.proofs.Common.{◌≡◌, ◌∙◌, ap, ap₂, refl, sym, Bool, true, List, [], ◌∷◌, ◌++◌, map, ◌&&◌, Option, Some, None, option_map, option_and_then, string_bytes, arith, ℕ, Ordering, Less}
+use Rattle.std.proofs.Common.{◌≡◌, ◌∙◌, ap, ap₂, refl, sym, Bool, true, List, [], ◌∷◌, ◌++◌, map, ◌&&◌, Option, Some, None, option_map, option_and_then, string_bytes, arith, Ordering}
 use Rattle.std.proofs.lemmas.Cmp.{same_from_slice_cmp}
 use Rattle.std.proofs.lemmas.Bool.Decides.{nat_tests}
 use Rattle.std.specs.Ordering.{nat_cmp, is_lt}

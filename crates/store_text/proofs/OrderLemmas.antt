@@ -1,9 +1,8 @@
 -- Switches in the order of their names, as an object and as a text.
-use Rattle.std.proofs.Common.{◌≡◌, ◌∙◌, ap, ap₂, refl, sym, ℕ, Bool, true, false, List, [], ◌∷◌, ◌++◌, map, ◌&&◌, ◌||◌, not, Option, Some, None, Ordering, Less, Equal, Greater, arith, ◌≤◌, append_assoc, true≢false, rules}
-use Rattle.std.specs.Prelude.{nat_eq, nat_lt, if◌then◌else◌, bytes_eq, codes, option_map, option_and_then, flat_map}
+use Rattle.std.proofs.Common.{◌≡◌, ◌∙◌, ap, ap₂, refl, sym, ℕ, Bool, true, false, List, [], ◌∷◌, ◌++◌, map, ◌&&◌, ◌||◌, not, Some, Ordering, Less, Equal, Greater, arith, ◌≤◌, append_assoc, true≢false, rules}
+use Rattle.std.specs.Prelude.{nat_eq, nat_lt, if◌then◌else◌, codes, option_map, flat_map}
 use Rattle.std.specs.Prelude.{suc, max, IsUtf8, Ok, Err}
 use Rattle.std.proofs.lemmas.Str.{is_utf8-from_IsUtf8}
-use Rattle.std.specs.Str.{is_utf8}
 use Rattle.std.proofs.lemmas.Bool.Decides.{nat_tests}
 use Rattle.std.specs.Fmt.{digits}
 use Rattle.std.proofs.lemmas.Map.Text.{is_eq-slice_cmp}

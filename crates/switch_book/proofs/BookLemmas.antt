@@ -1,6 +1,6 @@
 -- What the functions of the book need.
-use Rattle.std.proofs.Common.{◌≡◌, ℕ, zero, suc, ◌+◌, ◌<◌, ◌≤◌, List, [], ◌∷◌, length, map, drop, get_or, set, Bool, true, false, not, ◌&&◌, refl, sym, ap, ap₂, ◌∙◌, drop-cons, true≢false, arith}
-use Rattle.std.specs.Prelude.{Option, Some, None, if◌then◌else◌, option_map, slice_get, unwrap_or}
+use Rattle.std.proofs.Common.{◌≡◌, ℕ, suc, ◌<◌, List, [], ◌∷◌, length, drop, get_or, set, Bool, true, false, ◌&&◌, refl, sym, ap, ap₂, ◌∙◌, drop-cons, true≢false}
+use Rattle.std.specs.Prelude.{Option, Some, if◌then◌else◌, option_map, slice_get}
 use Rattle.std.specs.List.{list_all}
 use Rattle.std.proofs.lemmas.List.{map-set}
 use Rattle.std.proofs.Math.Seq.{map-set_same}
@@ -10,8 +10,7 @@ use Rattle.ha_model.specs.declared.config.Automation.{Automation}
 use Rattle.ha_model.specs.declared.config.Config.{Config}
 use Rattle.ha_model.specs.Words.{Text, same}
 use Rattle.ha_model.specs.Commands.{all_distinct, keys_of}
-use Rattle.ha_model.specs.Equal.{same_flag}
-use Rattle.ha_model.specs.Sound.{IsSoundConfig, is_sound_automation, are_sound_triggers, are_sound_conditions, are_sound_actions}
+use Rattle.ha_model.specs.Sound.{IsSoundConfig, is_sound_automation, are_sound_actions}
 use Rattle.ha_model.specs.Switches.{stored_switch}
 use Rattle.store_text.specs.Store.{Switches, AreStorable}
 use Rattle.switch_book.specs.Book.{flags, names_of, restored}

@@ -4,7 +4,6 @@ use Rattle.std.specs.Prelude.{Some, None, nat_eq, unwrap_or, slice_get, option_m
 use Rattle.ha_model.specs.declared.config.Automation.{Automation}
 use Rattle.ha_model.specs.declared.config.Config.{Config}
 use Rattle.ha_model.specs.declared.journal.Cmd.{Cmd}
-use Rattle.ha_model.specs.declared.journal.Entry.{Entry}
 use Rattle.ha_model.specs.declared.journal.Entry.TheVariants.{Boot, Line}
 use Rattle.ha_model.specs.Words.{Text}
 use Rattle.ha_model.specs.Commands.{all_distinct, keys_of}

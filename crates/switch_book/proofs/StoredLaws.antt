@@ -1,6 +1,6 @@
 -- Switches in the order of their names are the same for each name.
-use Rattle.std.proofs.Common.{◌≡◌, Bool, true, false, not, ◌&&◌, ◌||◌, List, [], ◌∷◌, refl, sym, ap, ap₂, ◌∙◌, Option, true≢false, Ordering, Less, Equal, Greater}
-use Rattle.std.specs.Prelude.{Some, None, if◌then◌else◌}
+use Rattle.std.proofs.Common.{◌≡◌, Bool, true, false, ◌&&◌, ◌||◌, [], ◌∷◌, refl, sym, ap, ap₂, ◌∙◌, Option, true≢false, Ordering, Less, Equal, Greater}
+use Rattle.std.specs.Prelude.{Some, if◌then◌else◌}
 use Rattle.std.specs.List.{list_any}
 use Rattle.std.specs.Ordering.{nat_cmp, is_lt, is_eq, ordering_reverse}
 use Rattle.std.specs.Cmp.Lexicographic.{slice_cmp}

@@ -1,12 +1,12 @@
 -- What a text that was cut off may still become: a token that it is the front of, or one that the next byte may make longer.
-use Rattle.std.proofs.Common.{◌≡◌, ℕ, zero, suc, ◌+◌, ◌≤◌, ◌<◌, Bool, true, false, cond, not, ◌&&◌, ◌||◌, ◌⊎◌, inl, inr, List, [], ◌∷◌, ◌++◌, length, drop, refl, sym, ap, ◌∙◌, subst, arith, length-append}
+use Rattle.std.proofs.Common.{◌≡◌, ℕ, suc, ◌+◌, ◌≤◌, Bool, true, false, cond, not, ◌&&◌, ◌||◌, inl, inr, List, [], ◌∷◌, ◌++◌, length, drop, refl, sym, ap, ◌∙◌, subst, arith}
 use Rattle.std.specs.Prelude.{◌==◌, nat_eq, max, Option, Some, None}
 use Rattle.std.specs.List.{fold}
 use Rattle.std.proofs.lemmas.Bool.{and_parts, eqb-true, eq-eqb}
 use Rattle.reading.specs.Answer.{front}
-use Rattle.reading.proofs.Basics.{chosen, chosen_is}
+use Rattle.reading.proofs.Basics.{chosen_is}
 use Rattle.tpl_parse.specs.declared.token.Token.{Token}
-use Rattle.tpl_parse.specs.Token.{common, is_longer, ends_before, is_space, spaces, stands, next_is, past, reach, text_of}
+use Rattle.tpl_parse.specs.Token.{common, is_longer, ends_before, stands, reach, text_of}
 use Rattle.tpl_parse.proofs.Apart.{is_false}
 
 -- a longer token may begin with this one

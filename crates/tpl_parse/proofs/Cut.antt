@@ -1,16 +1,14 @@
 -- A rule on two texts that begin alike: it gives the same on both, or fails on the second, or on the first it stops nowhere before
 -- the place where they part.
-use Rattle.std.proofs.Common.{◌≡◌, ℕ, zero, suc, ◌+◌, ◌≤◌, ◌<◌, Bool, true, false, cond, ◌⊎◌, inl, inr, List, [], ◌∷◌, ◌++◌, length, drop, Option, Some, None, Ok, Err, refl, sym, ap, ◌∙◌, subst, arith, length-append, append_assoc}
-use Rattle.std.specs.Prelude.{◌==◌, ◌||◌, ◌&&◌, nat_eq}
+use Rattle.std.proofs.Common.{◌≡◌, ℕ, ◌+◌, ◌≤◌, true, false, inl, inr, List, [], ◌∷◌, ◌++◌, length, drop, Ok, Err, refl, sym, ap, ◌∙◌, subst, arith, length-append}
 use Rattle.std.proofs.Math.ListN.{length-drop}
-use Rattle.std.proofs.lemmas.Bool.{and_parts, eqb-true, eq-eqb}
-use Rattle.reading.specs.Answer.{◌>>=◌, Answer, front, made}
-use Rattle.reading.proofs.Basics.{chosen, chosen_is}
+use Rattle.reading.specs.Answer.{◌>>=◌, made}
+use Rattle.reading.proofs.Basics.{chosen_is}
 use Rattle.tpl_parse.specs.declared.token.Token.{Token}
 use Rattle.tpl_parse.specs.Token.{Reads, is_space, spaces, stands, next_is, past, reach, text_of}
 use Rattle.tpl_parse.proofs.Next.{Fault}
 use Rattle.tpl_parse.proofs.Shorter.{Read, Within, Keeps, made_within, later, length-spaces}
-use Rattle.tpl_parse.proofs.Ahead.{starts, stands_is, ahead, is_ahead, any_ahead, all_clear, reaches, stands_long, starts_same, starts_past}
+use Rattle.tpl_parse.proofs.Ahead.{starts, stands_is, is_ahead, any_ahead, all_clear, reaches, stands_long, starts_same, starts_past}
 
 -- nothing is ahead
 abbrev pub Nothing : {A : Type 0} → A → List ℕ → Type 0

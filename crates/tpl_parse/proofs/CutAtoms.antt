@@ -1,30 +1,28 @@
 -- Arguments, brackets and atoms on two texts that begin alike.
-use Rattle.std.proofs.Common.{◌≡◌, ℕ, zero, suc, ◌+◌, ◌-◌, ◌≤◌, ◌<◌, Bool, true, false, cond, ◌⊎◌, inl, inr, List, [], ◌∷◌, ◌++◌, length, take, drop, Option, Some, None, Ok, Err, refl, sym, ap, ◌∙◌, subst, arith, length-append, append_assoc}
+use Rattle.std.proofs.Common.{◌≡◌, ℕ, zero, suc, ◌+◌, ◌-◌, ◌≤◌, ◌<◌, Bool, true, false, cond, inl, inr, List, [], ◌∷◌, ◌++◌, length, Option, Some, None, Ok, refl, sym, ap, subst, arith, length-append}
 use Rattle.std.specs.Prelude.{◌==◌, ◌||◌, ◌&&◌, max, nat_le}
 use Rattle.std.specs.Char.{is_ascii_digit}
 use Rattle.std.proofs.Math.ListN.{length-drop}
-use Rattle.std.proofs.lemmas.Bool.{and_parts, eqb-true, eq-eqb}
-use Rattle.ha_value.specs.declared.value.Num.{Num}
 use Rattle.ha_value.specs.declared.value.Value.{Value}
 use Rattle.ha_model.specs.declared.template.Expr.{Expr}
 use Rattle.ha_model.specs.declared.template.Expr
-use Rattle.reading.specs.Answer.{◌>>=◌, Answer, front, made}
+use Rattle.reading.specs.Answer.{made}
 use Rattle.reading.proofs.Basics.{chosen_is}
 use Rattle.tpl_parse.specs.declared.token.Token.{Token}
 use Rattle.tpl_parse.specs.declared.table.Counts.{Counts}
 use Rattle.tpl_parse.specs.declared.table.Function.{Function}
 use Rattle.tpl_parse.specs.declared.expression.Last.{Last}
 use Rattle.tpl_parse.specs.declared.expression.Part.{Part}
-use Rattle.tpl_parse.specs.Token.{Reads, begins_name, in_name, is_reserved, is_space, spaces, next_is, past, behind, reach, text_of}
+use Rattle.tpl_parse.specs.Token.{Reads, begins_name, is_reserved, spaces, next_is, past, behind, reach, text_of}
 use Rattle.tpl_parse.specs.Names.{any_from, function_named, function_row, takes_behind}
 use Rattle.tpl_parse.specs.Literal.{number, string, skip_word, word}
 use Rattle.tpl_parse.specs.Reading.{Inner, Start, numeric, quoted, bracket, group, letter, nothing as no_start, after_item, arguments, atom, atom_by, by_word, call_or_name, constant, enclosed, in_group, item_turns, items_in, no_end, not_called, open_reach, choice_reach, start_of, tokens_behind, word_atom}
 use Rattle.tpl_parse.proofs.Tokens.{spaces_twice}
-use Rattle.tpl_parse.proofs.Next.{Fault, behind_is, past_shorter}
-use Rattle.tpl_parse.proofs.Shorter.{Read, Within, Keeps, Opens, IsOpen, later, outcome, made_within, length-spaces, length-past, length-behind, length-skip_word, after_item_keeps, item_turns_keeps, items_in_keeps, arguments_keeps, not_called_keeps, call_or_name_keeps, by_word_keeps, word_atom_keeps, in_group_keeps, atom_by_keeps, atom_keeps}
+use Rattle.tpl_parse.proofs.Next.{past_shorter}
+use Rattle.tpl_parse.proofs.Shorter.{Read, Within, Keeps, Opens, IsOpen, later, length-spaces, length-past, length-behind, after_item_keeps, item_turns_keeps, arguments_keeps, call_or_name_keeps, by_word_keeps, atom_keeps}
 use Rattle.tpl_parse.proofs.Ahead.{grows, ahead, is_ahead, any_ahead, all_clear, reaches}
-use Rattle.tpl_parse.proofs.Cut.{Nothing, Late, beyond, begun, Agree, same, fails, late, Local, Skips, Sharp, late_is, agree_is, agree_bind, agree_made, agree_plain, within_then, Split, blank, shown, split, all_blank, Looks, nothing, partly, there, other, looks, past_late, reach_late}
-use Rattle.tpl_parse.proofs.CutLexical.{Runs, ended, runs, runs_of, word_is, run_late, string_cut}
+use Rattle.tpl_parse.proofs.Cut.{Nothing, beyond, begun, Agree, same, fails, late, Local, Skips, Sharp, agree_is, agree_bind, agree_made, agree_plain, blank, shown, split, all_blank, nothing, partly, there, other, looks, past_late}
+use Rattle.tpl_parse.proofs.CutLexical.{ended, runs, runs_of, word_is, run_late, string_cut}
 
 pub agree_any : {A : Type 0} (D : A → List ℕ → Type 0) (a b : List ℕ) (r s : Read A) → Agree Nothing a b r s → Agree D a b r s
 agree_any D a b r s (same x d e f) = same x d e f

@@ -1,14 +1,13 @@
 -- Keys and places, signs, filters and operators on two texts that begin alike.
-use Rattle.std.proofs.Common.{◌≡◌, ℕ, zero, suc, ◌+◌, ◌-◌, ◌≤◌, ◌<◌, Bool, true, false, cond, not, ◌⊎◌, inl, inr, List, [], ◌∷◌, ◌++◌, length, take, drop, Option, Some, None, Ok, Err, refl, sym, ap, ◌∙◌, subst, arith, length-append, append_assoc}
-use Rattle.std.specs.Prelude.{◌==◌, ◌||◌, ◌&&◌, max, nat_le, is_some}
+use Rattle.std.proofs.Common.{◌≡◌, ℕ, zero, suc, ◌+◌, ◌-◌, ◌≤◌, ◌<◌, Bool, true, false, cond, not, inl, inr, List, [], ◌∷◌, ◌++◌, length, Option, Some, None, Ok, refl, sym, ap, ◌∙◌, subst, arith}
+use Rattle.std.specs.Prelude.{◌==◌, ◌||◌, ◌&&◌, is_some}
 use Rattle.std.specs.List.{find}
 use Rattle.std.proofs.Math.ListN.{length-drop}
 use Rattle.std.proofs.lemmas.Bool.{and_parts, eqb-true, eq-eqb}
 use Rattle.ha_model.specs.declared.template.Op.{Op}
 use Rattle.ha_model.specs.declared.template.Expr.{Expr}
 use Rattle.ha_model.specs.declared.template.Expr
-use Rattle.reading.specs.Answer.{◌>>=◌, Answer, front, made, stop}
-use Rattle.reading.specs.Bytes.{sees}
+use Rattle.reading.specs.Answer.{◌>>=◌, front, stop}
 use Rattle.reading.proofs.Basics.{chosen_is, bind_ok, ok_parts, made_ok}
 use Rattle.tpl_parse.specs.declared.token.Token.{Token}
 use Rattle.tpl_parse.specs.declared.table.Counts.{Counts}
@@ -16,18 +15,18 @@ use Rattle.tpl_parse.specs.declared.table.Filter.{Filter}
 use Rattle.tpl_parse.specs.declared.expression.Last.{Last}
 use Rattle.tpl_parse.specs.declared.expression.Level.{Level}
 use Rattle.tpl_parse.specs.declared.expression.Part.{Part}
-use Rattle.tpl_parse.specs.Token.{Reads, is_longer, ends_before, spaces, stands, next_is, past, behind, text_of}
+use Rattle.tpl_parse.specs.Token.{Reads, is_longer, ends_before, spaces, stands, next_is, past, text_of}
 use Rattle.tpl_parse.specs.Names.{filter_row}
 use Rattle.tpl_parse.specs.Literal.{name, filter_name}
-use Rattle.tpl_parse.specs.Reading.{Inner, after_operator, arguments, at_place, atom, chain, enclosed, ending, filter_arguments, filter_turns, filtered, joined, operand, operand_turns, operator, operators, pair, part_turns, product, reached, signed, sum, tokens_behind}
+use Rattle.tpl_parse.specs.Reading.{Inner, after_operator, arguments, at_place, atom, chain, enclosed, ending, filter_arguments, filter_turns, filtered, joined, operand, operand_turns, operator, operators, pair, part_turns, product, reached, signed, sum}
 use Rattle.tpl_parse.proofs.Tokens.{spaces_twice}
 use Rattle.tpl_parse.proofs.Apart.{Quiet}
 use Rattle.tpl_parse.proofs.Next.{Fault}
-use Rattle.tpl_parse.proofs.Shorter.{Read, Within, Keeps, Opens, IsOpen, later, made_within, length-spaces, length-past, enclosed_keeps, name_keeps, filter_name_keeps, atom_keeps, at_place_keeps, part_turns_keeps, reached_keeps, signed_keeps, filter_arguments_keeps, filter_turns_keeps, filtered_keeps, after_operator_keeps, operand_turns_keeps, chain_keeps, factor_keeps, product_keeps, joined_keeps}
+use Rattle.tpl_parse.proofs.Shorter.{Read, Within, Keeps, IsOpen, later, length-spaces, enclosed_keeps, name_keeps, filter_name_keeps, at_place_keeps, part_turns_keeps, signed_keeps, filter_arguments_keeps, filter_turns_keeps, operand_turns_keeps, factor_keeps, product_keeps, joined_keeps}
 use Rattle.tpl_parse.proofs.Ahead.{grows, ahead, is_ahead, any_ahead, all_clear, starts, stands_is, ends_alike}
-use Rattle.tpl_parse.proofs.Cut.{Nothing, Late, beyond, begun, Agree, same, fails, late, Local, Skips, Sharp, late_is, agree_is, agree_bind, agree_made, agree_plain, within_then, Split, blank, shown, split, all_blank, Looks, nothing, partly, there, other, looks, past_late, reach_late}
+use Rattle.tpl_parse.proofs.Cut.{Nothing, Late, beyond, begun, Agree, same, fails, late, Local, Skips, Sharp, agree_is, agree_bind, agree_plain, within_then, Split, blank, shown, split, all_blank, nothing, partly, there, other, looks, past_late}
 use Rattle.tpl_parse.proofs.CutLexical.{name_cut, filter_name_cut}
-use Rattle.tpl_parse.proofs.CutAtoms.{sharp_of, not_sharp, every, any_front, any_back, Cuts, IsCut, opens_of, enclosed_cut, arguments_cut, sooner, no_longer_than, Dotted}
+use Rattle.tpl_parse.proofs.CutAtoms.{sharp_of, not_sharp, every, any_front, any_back, IsCut, opens_of, enclosed_cut, arguments_cut, sooner, no_longer_than, Dotted}
 
 shown_less : (c a : List ℕ) (e : ℕ) (d : List ℕ) → spaces (c ++ a) ≡ e ∷ (d ++ a) → length (e ∷ (d ++ a)) ≤ length (c ++ a)
 shown_less c a e d s = omega (arith, ap length s, length-spaces (c ++ a))

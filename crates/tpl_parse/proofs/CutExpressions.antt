@@ -1,29 +1,27 @@
 -- Comparisons, `not`, `and`, `or` and choices on two texts that begin alike.
-use Rattle.std.proofs.Common.{◌≡◌, ℕ, zero, suc, ◌+◌, ◌-◌, ◌≤◌, ◌<◌, Bool, true, false, cond, not, ◌⊎◌, inl, inr, List, [], ◌∷◌, ◌++◌, length, take, drop, Option, Some, None, Ok, Err, refl, sym, ap, ◌∙◌, subst, arith, length-append, append_assoc}
-use Rattle.std.specs.Prelude.{◌==◌, ◌||◌, ◌&&◌, max, nat_le}
+use Rattle.std.proofs.Common.{◌≡◌, ℕ, zero, suc, ◌+◌, ◌-◌, ◌≤◌, Bool, true, false, cond, not, inl, inr, List, [], ◌∷◌, ◌++◌, length, drop, Option, Some, None, Ok, refl, sym, ap, ◌∙◌, subst, arith}
+use Rattle.std.specs.Prelude.{◌==◌, ◌&&◌}
 use Rattle.std.proofs.Math.ListN.{length-drop}
-use Rattle.std.proofs.lemmas.Bool.{and_parts, eqb-true, eq-eqb}
-use Rattle.ha_value.specs.declared.value.Num.{Num}
+use Rattle.std.proofs.lemmas.Bool.{and_parts, eqb-true}
 use Rattle.ha_model.specs.declared.template.Op.{Op}
 use Rattle.ha_model.specs.declared.template.Expr.{Expr}
 use Rattle.ha_model.specs.declared.template.Expr
-use Rattle.reading.specs.Answer.{◌>>=◌, Answer, front, made}
+use Rattle.reading.specs.Answer.{◌>>=◌, made}
 use Rattle.reading.proofs.Basics.{chosen_is}
 use Rattle.tpl_parse.specs.declared.token.Token.{Token}
 use Rattle.tpl_parse.specs.declared.expression.Last.{Last}
 use Rattle.tpl_parse.specs.declared.expression.Level.{Level}
 use Rattle.tpl_parse.specs.declared.expression.Part.{Part}
-use Rattle.tpl_parse.specs.Token.{Reads, begins_name, in_name, spaces, stands, next_is, past, behind, reach, text_of, want}
-use Rattle.tpl_parse.specs.Literal.{number, skip_word}
-use Rattle.tpl_parse.specs.Reading.{Inner, any_operator, behind_operator, operator_of, atom, atom_by, chain, chosen, comparator, compared, comparison, comparisons, conjunction, disjunction, ending, expression, filtered, filter_turns, inside, joined, negation, none_test, opened, operand, operand_turns, operator, operators, pair, part_of, part_turns, product, reached, signed, start_of, sum, test_tokens, tested, tested_last, tested_printed, tokens_behind, with_else, with_right, word_atom}
+use Rattle.tpl_parse.specs.Token.{Reads, in_name, spaces, stands, next_is, past, behind, text_of, want}
+use Rattle.tpl_parse.specs.Literal.{skip_word}
+use Rattle.tpl_parse.specs.Reading.{Inner, any_operator, behind_operator, operator_of, atom, chain, chosen, comparator, compared, comparison, comparisons, conjunction, disjunction, ending, expression, filtered, filter_turns, inside, joined, negation, none_test, opened, operand, operand_turns, operator, operators, part_of, part_turns, product, reached, signed, sum, test_tokens, tested, tested_last, tested_printed, tokens_behind, with_else, with_right}
 use Rattle.tpl_parse.proofs.Tokens.{spaces_twice}
-use Rattle.tpl_parse.proofs.Next.{Fault}
-use Rattle.tpl_parse.proofs.Shorter.{Read, Within, Keeps, Opens, IsOpen, later, made_within, length-spaces, length-past, length-behind, want_keeps, tested_keeps, test_keeps, part_turns_keeps, filter_turns_keeps, operand_turns_keeps, chain_keeps, factor_keeps, product_keeps, joined_keeps, sum_keeps, compared_keeps, comparator_keeps, with_right_keeps, comparison_keeps, negation_keeps, conjunction_keeps, disjunction_keeps, with_else_keeps, expression_keeps, inside_opens}
-use Rattle.tpl_parse.proofs.Ahead.{grows, ahead, is_ahead, any_ahead, all_clear}
-use Rattle.tpl_parse.proofs.Cut.{Nothing, Late, beyond, begun, Agree, same, fails, late, Local, Skips, Sharp, late_is, agree_is, agree_bind, agree_from, agree_made, agree_plain, within_then, Split, blank, shown, split, all_blank, Looks, nothing, partly, there, other, looks, past_late, reach_late}
+use Rattle.tpl_parse.proofs.Shorter.{Read, Within, Keeps, Opens, IsOpen, later, made_within, length-spaces, length-past, want_keeps, tested_keeps, test_keeps, part_turns_keeps, filter_turns_keeps, operand_turns_keeps, factor_keeps, product_keeps, joined_keeps, compared_keeps, with_right_keeps, negation_keeps, conjunction_keeps, disjunction_keeps, with_else_keeps, inside_opens}
+use Rattle.tpl_parse.proofs.Ahead.{ahead, is_ahead, any_ahead, all_clear}
+use Rattle.tpl_parse.proofs.Cut.{Nothing, Late, beyond, begun, same, fails, late, Local, Skips, agree_is, agree_bind, agree_from, agree_made, agree_plain, within_then, all_blank, nothing, partly, there, other, looks, past_late, reach_late}
 use Rattle.tpl_parse.proofs.CutLexical.{want_cut}
-use Rattle.tpl_parse.proofs.CutAtoms.{sharp_of, not_sharp, every, any_front, any_back, Cov, by_last, by_if, by_else, last_every, cov_every, Cuts, IsCut, opens_of, word_late, Dotted, agree_any}
-use Rattle.tpl_parse.proofs.CutChains.{Sees, no_row, row_partly, row_there, row_other, sees_rows, firsts, rows_clear, operator_late, quiet_rows, one_of_two, one_front, two_front, chain_cut, Signs, reached_cut, signed_cut, sum_cut, sum_ends}
+use Rattle.tpl_parse.proofs.CutAtoms.{every, any_front, any_back, Cov, by_last, by_if, by_else, last_every, Cuts, IsCut, opens_of, word_late, Dotted}
+use Rattle.tpl_parse.proofs.CutChains.{no_row, row_partly, row_there, row_other, sees_rows, firsts, rows_clear, operator_late, quiet_rows, one_of_two, one_front, two_front, chain_cut, Signs, signed_cut, sum_cut, sum_ends}
 
 -- ---- tests behind `is`
 

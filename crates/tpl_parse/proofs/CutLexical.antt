@@ -1,30 +1,26 @@
 -- Characters, strings, words and numbers on two texts that begin alike.
-use Rattle.std.proofs.Common.{◌≡◌, ℕ, zero, suc, ◌+◌, ◌-◌, ◌≤◌, ◌<◌, Bool, true, false, cond, ◌⊎◌, inl, inr, List, [], ◌∷◌, ◌++◌, length, take, drop, Option, Some, None, Ok, Err, refl, sym, ap, ◌∙◌, subst, arith, length-append, append_assoc}
-use Rattle.std.specs.Prelude.{◌==◌, ◌||◌, ◌&&◌, encode_utf8, max}
+use Rattle.std.proofs.Common.{◌≡◌, ℕ, zero, suc, ◌+◌, ◌-◌, ◌≤◌, ◌<◌, Bool, true, false, ◌⊎◌, inl, inr, List, [], ◌∷◌, ◌++◌, length, drop, Option, Some, None, Ok, Err, refl, sym, ap, ◌∙◌, subst, arith, length-append, append_assoc}
+use Rattle.std.specs.Prelude.{◌==◌, encode_utf8, max}
 use Rattle.std.specs.List.{find, fold}
 use Rattle.std.specs.Str.{bytes_eq}
-use Rattle.std.specs.Char.{is_ascii_digit}
 use Rattle.std.proofs.Math.ListN.{length-drop}
-use Rattle.std.proofs.lemmas.Bool.{and_parts, eqb-true, eq-eqb}
+use Rattle.std.proofs.lemmas.Bool.{eqb-true, eq-eqb}
 use Rattle.std.proofs.lemmas.Slice.Eq.{bytes_eq-Decides}
-use Rattle.ha_value.specs.declared.value.Num.{Num}
-use Rattle.ha_value.specs.Numbers.{read_number}
-use Rattle.reading.specs.Answer.{◌>>=◌, Answer, front, made}
-use Rattle.reading.specs.Bytes.{sees}
-use Rattle.reading.proofs.Basics.{chosen, chosen_is}
+use Rattle.reading.specs.Answer.{front}
+use Rattle.reading.proofs.Basics.{chosen_is}
 use Rattle.reading.proofs.Solid.{Solid, IsSolid}
-use Rattle.reading.proofs.Characters.{character_solid, character_shorter, ascii_read}
+use Rattle.reading.proofs.Characters.{character_solid, ascii_read}
 use Rattle.tpl_parse.specs.declared.token.Token.{Token}
 use Rattle.tpl_parse.specs.declared.table.Filter.{Filter}
-use Rattle.tpl_parse.specs.Token.{Reads, begins_name, in_name, is_reserved, common, is_space, spaces, next_is, past, want}
+use Rattle.tpl_parse.specs.Token.{begins_name, in_name, is_reserved, common, next_is, want}
 use Rattle.tpl_parse.specs.Names.{filter_row, filter_named, filters_reach, farther, may_stand, all_filters}
-use Rattle.tpl_parse.specs.Literal.{before, character, plain_or, escape, escape_at, string_character, string_turns, string, skip_word, word, name, name_at, unreserved, filter_name, filter_or, standing, skip_digits, is_digit, begins_places, behind_number, number, in_range, before_range_end}
+use Rattle.tpl_parse.specs.Literal.{before, character, plain_or, escape_at, string_character, string_turns, string, skip_word, word, name, name_at, unreserved, filter_name, filter_or, standing}
 use Rattle.tpl_parse.proofs.Tokens.{spaces_twice}
-use Rattle.tpl_parse.proofs.Next.{Fault, before_is}
-use Rattle.tpl_parse.proofs.Shorter.{Read, Within, Keeps, later, made_within, length-spaces, length-drop_some, length-skip_word, length-behind_number, character_keeps, string_character_keeps, string_turns_keeps, name_keeps, filter_name_keeps, want_keeps, unreserved_keeps}
+use Rattle.tpl_parse.proofs.Next.{before_is}
+use Rattle.tpl_parse.proofs.Shorter.{Read, Within, length-skip_word, string_character_keeps, string_turns_keeps, name_keeps, filter_name_keeps, want_keeps}
 use Rattle.tpl_parse.proofs.Strings.{string_character_shorter}
-use Rattle.tpl_parse.proofs.Ahead.{any_ahead, all_clear}
-use Rattle.tpl_parse.proofs.Cut.{Nothing, Late, beyond, begun, Agree, same, fails, late, Local, Skips, late_is, agree_is, agree_bind, agree_made, agree_plain, Split, blank, shown, split, all_blank, Looks, nothing, partly, there, other, looks, past_late, reach_late}
+use Rattle.tpl_parse.proofs.Ahead.{all_clear}
+use Rattle.tpl_parse.proofs.Cut.{Nothing, beyond, Agree, same, fails, late, Local, Skips, agree_is, agree_bind, agree_plain, blank, shown, split, all_blank, nothing, partly, there, other, looks, past_late, reach_late}
 
 -- ---- characters
 

@@ -1,5 +1,5 @@
 -- Numbers on two texts that begin alike.
-use Rattle.std.proofs.Common.{◌≡◌, ℕ, zero, suc, ◌+◌, ◌-◌, ◌≤◌, ◌<◌, Bool, true, false, cond, not, ◌⊎◌, inl, inr, List, [], ◌∷◌, ◌++◌, length, take, drop, Option, Some, None, Ok, Err, refl, sym, ap, ◌∙◌, subst, arith, length-append, append_assoc}
+use Rattle.std.proofs.Common.{◌≡◌, ℕ, zero, suc, ◌+◌, ◌-◌, ◌≤◌, ◌<◌, true, false, cond, not, ◌⊎◌, inl, inr, List, [], ◌∷◌, ◌++◌, length, take, drop, Option, Some, None, Ok, refl, sym, ap, ◌∙◌, subst, arith, length-append, append_assoc}
 use Rattle.std.specs.Prelude.{◌==◌, ◌&&◌, is_none}
 use Rattle.std.specs.List.{list_all}
 use Rattle.std.specs.Char.{is_ascii_digit}
@@ -9,9 +9,9 @@ use Rattle.ha_value.specs.declared.value.Num.{Num}
 use Rattle.ha_value.specs.Numbers.{read_number}
 use Rattle.reading.specs.Answer.{front}
 use Rattle.reading.proofs.Basics.{chosen_is}
-use Rattle.tpl_parse.specs.Token.{Reads, spaces, stop_behind}
+use Rattle.tpl_parse.specs.Token.{spaces}
 use Rattle.tpl_parse.specs.Literal.{before, skip_digits, is_digit, begins_places, behind_number, number, in_range, before_range_end}
-use Rattle.tpl_parse.proofs.Shorter.{Read, Within, length-behind_number}
+use Rattle.tpl_parse.proofs.Shorter.{length-behind_number}
 use Rattle.tpl_parse.proofs.Cut.{Agree, same, fails, late, beyond, begun, agree_is}
 use Rattle.tpl_parse.proofs.CutAtoms.{Dotted}
 

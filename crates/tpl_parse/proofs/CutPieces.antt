@@ -1,13 +1,13 @@
 -- Texts, tags and whole templates on two texts that begin alike.
-use Rattle.std.proofs.Common.{◌≡◌, ℕ, zero, suc, ◌+◌, ◌-◌, ◌≤◌, ◌<◌, Bool, true, false, cond, not, ◌⊎◌, inl, inr, List, [], ◌∷◌, ◌++◌, length, take, drop, Option, Some, None, Ok, Err, refl, sym, ap, ◌∙◌, subst, arith, length-append, append_assoc}
-use Rattle.std.specs.Prelude.{◌==◌, ◌||◌, ◌&&◌, max}
+use Rattle.std.proofs.Common.{◌≡◌, ℕ, zero, suc, ◌+◌, ◌-◌, ◌≤◌, ◌<◌, Bool, true, false, cond, ◌⊎◌, inl, inr, List, [], ◌∷◌, ◌++◌, length, take, drop, Option, Some, None, Ok, Err, refl, sym, ap, ◌∙◌, subst, arith, length-append}
+use Rattle.std.specs.Prelude.{◌==◌, ◌&&◌, max}
 use Rattle.std.proofs.Math.ListN.{length-drop}
-use Rattle.std.proofs.lemmas.Bool.{and_parts, eqb-true, eq-eqb}
+use Rattle.std.proofs.lemmas.Bool.{and_parts, eqb-true}
 use Rattle.ha_model.specs.declared.template.Expr.{Expr}
 use Rattle.ha_model.specs.declared.template.Piece.{Piece}
 use Rattle.ha_model.specs.declared.template.Piece
 use Rattle.ha_model.specs.declared.template.Template.{Template}
-use Rattle.reading.specs.Answer.{◌>>=◌, Answer, front, made}
+use Rattle.reading.specs.Answer.{◌>>=◌}
 use Rattle.reading.specs.Bytes.{sees}
 use Rattle.reading.proofs.Basics.{chosen_is}
 use Rattle.reading.proofs.Characters.{ascii_read, character_shorter}
@@ -17,15 +17,15 @@ use Rattle.tpl_parse.specs.declared.expression.Part.{Part}
 use Rattle.tpl_parse.specs.Token.{Reads, spaces, stands, next_is, past, behind, reach, text_of, want}
 use Rattle.tpl_parse.specs.Literal.{before, character, name}
 use Rattle.tpl_parse.specs.Reading.{Inner, atom, expression, opened, tag_depth, no_end, open_reach}
-use Rattle.tpl_parse.specs.Pieces.{Choosing, Found, after_piece, after_text, begun as begun_choice, behind_sign, closed, comment, comment_ends, comment_turns, end_of, ended, finished, in_choice, last_expression, next_arm, one_of, open_choice, piece_turns, plain_end, plain_last, set_name, sign_of, statement, statement_by, statements, tag_at, tag_by, tag_end, tag_expression, tag_of, template, text, text_turns, with_piece, with_text}
+use Rattle.tpl_parse.specs.Pieces.{Choosing, Found, after_piece, after_text, begun as begun_choice, behind_sign, closed, comment, comment_ends, comment_turns, end_of, in_choice, last_expression, next_arm, one_of, open_choice, piece_turns, plain_end, plain_last, set_name, sign_of, statement, statement_by, statements, tag_at, tag_by, tag_end, tag_expression, template, text, text_turns, with_piece, with_text}
 use Rattle.tpl_parse.proofs.Tokens.{spaces_twice}
 use Rattle.tpl_parse.proofs.Next.{Fault}
-use Rattle.tpl_parse.proofs.Shorter.{Read, Within, Keeps, later, made_within, length-spaces, length-past, character_keeps, name_keeps, want_keeps, expression_keeps, opened_opens}
-use Rattle.tpl_parse.proofs.PiecesShorter.{text_keeps, text_turns_keeps, comment_turns_keeps, one_of_keeps, end_of_keeps, plain_last_keeps, last_expression_keeps, statement_by_keeps, tag_by_keeps, after_piece_keeps, piece_turns_keeps, length-behind_sign}
+use Rattle.tpl_parse.proofs.Shorter.{Read, Within, Keeps, later, length-spaces, length-past, want_keeps}
+use Rattle.tpl_parse.proofs.PiecesShorter.{text_turns_keeps, comment_turns_keeps, one_of_keeps, end_of_keeps, plain_last_keeps, last_expression_keeps, statement_by_keeps, tag_by_keeps, after_piece_keeps, piece_turns_keeps, length-behind_sign}
 use Rattle.tpl_parse.proofs.Ahead.{is_ahead, any_ahead, all_clear}
-use Rattle.tpl_parse.proofs.Cut.{Nothing, Late, beyond, begun, Agree, same, fails, late, Local, Skips, agree_is, agree_bind, agree_made, agree_plain, within_then, Looks, nothing, partly, there, other, looks, all_blank, past_late, reach_late}
+use Rattle.tpl_parse.proofs.Cut.{Nothing, beyond, begun, Agree, same, fails, late, Local, Skips, agree_is, agree_bind, agree_plain, within_then, nothing, partly, there, other, looks, all_blank, past_late, reach_late}
 use Rattle.tpl_parse.proofs.CutLexical.{character_cut, name_cut, want_cut}
-use Rattle.tpl_parse.proofs.CutAtoms.{every, any_front, any_back, Cov, cov_every, no_end_late, IsCut, Dotted, no_longer_than, sooner}
+use Rattle.tpl_parse.proofs.CutAtoms.{every, any_back, Cov, cov_every, no_end_late, IsCut, Dotted, no_longer_than}
 use Rattle.tpl_parse.proofs.CutExpressions.{expression_cut, opened_cut}
 
 -- ---- what stands before a place

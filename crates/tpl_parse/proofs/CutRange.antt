@@ -1,22 +1,22 @@
 -- A number that left the range stays out of it, whatever digits follow.
-use Rattle.std.proofs.Common.{◌≡◌, ◌∙◌, ◌⊎◌, inl, inr, ℕ, suc, ◌+◌, ◌*◌, ◌/◌, ◌%◌, ◌^◌, ◌<◌, ◌≤◌, Bool, true, false, cond, List, [], ◌∷◌, ◌++◌, length, Option, Some, None, option_and_then, option_map, append_assoc, refl, sym, ap, subst, arith}
-use Rattle.std.specs.Prelude.{is_none, nat_eq, ◌==◌, ◌&&◌, ◌||◌}
+use Rattle.std.proofs.Common.{◌≡◌, ◌∙◌, inl, inr, ℕ, ◌+◌, ◌*◌, ◌%◌, ◌^◌, ◌<◌, ◌≤◌, true, false, List, [], ◌∷◌, ◌++◌, length, Option, Some, None, option_and_then, append_assoc, refl, sym, ap, arith}
+use Rattle.std.specs.Prelude.{is_none, nat_eq, ◌==◌}
 use Rattle.std.specs.Char.{is_ascii_digit}
 use Rattle.std.specs.List.{list_all}
 use Rattle.std.specs.Str.Parse.{digits_value}
 use Rattle.std.proofs.Math.Nat.{one-le-pow, mul-le-mul_right}
-use Rattle.std.proofs.lemmas.Bool.{and_parts, cases_lt, eqb-true, eq-eqb}
+use Rattle.std.proofs.lemmas.Bool.{and_parts, cases_lt, eqb-true}
 use Rattle.std.proofs.lemmas.Bool.Decides.{nat_tests}
 use Rattle.std.proofs.lemmas.List.{length-append}
 use Rattle.std.proofs.lemmas.Nat.{pow-add}
 use Rattle.ha_value.specs.declared.value.Num.{Num}
 use Rattle.ha_value.specs.Lists.{some_all, before_first, after_first}
-use Rattle.ha_value.specs.Numbers.{nearest, number_from, kept_in_range, read_number, signed, without_sign}
-use Rattle.ha_value.proofs.NumberLemmas.{IsNear, nearest-IsNear}
+use Rattle.ha_value.specs.Numbers.{nearest, number_from, kept_in_range, read_number, signed}
+use Rattle.ha_value.proofs.NumberLemmas.{nearest-IsNear}
 use Rattle.ha_value.proofs.DigitLemmas.{value-append, whole-some, whole-none, fixed-some, fixed-no_places, fixed-no_units}
 use Rattle.reading.proofs.Basics.{chosen_is}
 use Rattle.tpl_parse.proofs.ZeroPlaces.{nearest_ten}
-use Rattle.tpl_parse.proofs.CutNumbers.{StaysOut, digit_not_dot}
+use Rattle.tpl_parse.proofs.CutNumbers.{StaysOut}
 
 -- ---- values
 

@@ -10,7 +10,6 @@ use Rattle.ha_model.specs.Conditions.{number_watched}
 use Rattle.ha_model.specs.Journal.{Journal, now, zone_of}
 use Rattle.ha_model.specs.RecordSteps.{more}
 use Rattle.ha_model.specs.States.{Sight, states}
-use Rattle.ha_model.specs.Triggers.{latest_number}
 use Rattle.ha_model.specs.Words.{Text, Pairs, same_entity}
 use Rattle.ha_model.proofs.EqualLemmas.{entity-sound}
 use Rattle.ha_model.proofs.HeldLaws.{latest-more}
@@ -24,7 +23,7 @@ use Rattle.trig_set.specs.Left.{Leaves}
 use Rattle.trig_set.specs.Next.{AreListed, IsNext, reports}
 use Rattle.trig_set.specs.Order.{owner_of}
 use Rattle.trig_set.specs.Queued.{HasDue}
-use Rattle.trig_set.specs.Stands.{AllOwners, AtOwner, OwnerStands, StandsFor, attached}
+use Rattle.trig_set.specs.Stands.{AllOwners, OwnerStands, StandsFor, attached}
 use Rattle.trig_set.specs.Table.{number_at}
 use Rattle.trig_set.proofs.CalmLemmas.{never}
 use Rattle.trig_set.proofs.ConcernLemmas.{IsApart, apart-stands, both-at}

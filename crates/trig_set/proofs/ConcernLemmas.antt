@@ -27,7 +27,7 @@ use Rattle.trig_set.specs.Known.{AreKnown}
 use Rattle.trig_set.specs.Next.{reports}
 use Rattle.trig_set.specs.Order.{ascend, owner_of}
 use Rattle.trig_set.specs.Queued.{HasDue}
-use Rattle.trig_set.specs.Scenes.{AreShifts, Shows, face, shift_of}
+use Rattle.trig_set.specs.Scenes.{Shows, face, shift_of}
 use Rattle.trig_set.specs.Stands.{AllOwners, AtOwner, OwnerStands, firings_at}
 use Rattle.trig_set.proofs.ListedLemmas.{HasAt, HasFor, IsListed, known-listed}
 use Rattle.trig_set.proofs.CalmLemmas.{CalmAt, IsCalm, calm-quiet, calm-stand, never}

@@ -1,4 +1,4 @@
-use Rattle.std.proofs.Common.{◌≡◌, ◌∙◌, sym, ap, subst, Option, List, Some, Ok, ◌&&◌, refl, false}
+use Rattle.std.proofs.Common.{◌∙◌, sym, ap, subst, Option, List, Some, Ok, ◌&&◌, refl, false}
 use Rattle.yaml_scan.specs.Answers.{Gives}
 use Rattle.ha_model.specs.declared.config.Condition.{Condition}
 use Rattle.ha_model.specs.declared.config.Condition.TheVariants as made_of

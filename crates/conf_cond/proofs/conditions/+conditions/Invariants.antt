@@ -1,4 +1,4 @@
-use Rattle.std.proofs.Common.{◌≡◌, List, [], Ok, drop, false}
+use Rattle.std.proofs.Common.{◌≡◌, List, drop, false}
 use Rattle.yaml_scan.specs.Answers.{Gives}
 use Rattle.conf_field.specs.Readings.{Read, kept, kept_behind}
 use Rattle.conf_cond.specs.Conditions.{condition}

@@ -1,4 +1,4 @@
-use Rattle.std.proofs.Common.{◌≡◌, ◌∙◌, Bool, false, Some, ap, sym, subst}
+use Rattle.std.proofs.Common.{◌∙◌, Bool, false, sym, subst}
 use Rattle.yaml_scan.specs.Answers.{Gives}
 use Rattle.yaml_scan.specs.declared.fault.Code.TheVariants as code
 use Rattle.conf_field.specs.Readings.{bad, made}

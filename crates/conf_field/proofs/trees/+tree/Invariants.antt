@@ -1,4 +1,4 @@
-use Rattle.std.proofs.Common.{◌≡◌, List, [], Ok, drop}
+use Rattle.std.proofs.Common.{◌≡◌, List, drop}
 use Rattle.yaml_scan.specs.Answers.{Gives}
 use Rattle.conf_field.specs.Readings.{Read, each, each_behind, made}
 use Rattle.conf_field.specs.Trees.{tree, fields_of}

@@ -1,5 +1,4 @@
-use Rattle.std.proofs.Common.{◌≡◌, ◌∙◌, ◌+◌, ◌<◌, false, get_or, length, arith, rules}
-use Rattle.conf_field.specs.Kinds.{opens}
+use Rattle.std.proofs.Common.{◌∙◌, ◌+◌, arith, rules}
 use Rattle.conf_field.proofs.TemplateSigns.{sign_further}
 use Rattle.conf_field.proofs.values.holds_template.Goals as goal
 use Rattle.conf_field.proofs.values.holds_template.Goals.{else-i-text-via-then-i-text+else-opens, else-i-text-via-else-i-text}

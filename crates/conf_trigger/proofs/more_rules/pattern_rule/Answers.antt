@@ -4,7 +4,7 @@ use Rattle.yaml_scan.specs.declared.fault.Fault.{Fault}
 use Rattle.conf_field.specs.Fields as fields
 use Rattle.conf_field.specs.declared.key.Key.TheVariants as key
 use Rattle.conf_field.specs.Readings.{both, unless}
-use Rattle.conf_field.specs.Fields.{row, optional, field, keys}
+use Rattle.conf_field.specs.Fields.{row}
 use Rattle.conf_field.specs.Kinds as kinds
 use Rattle.conf_trigger.specs.Triggers as triggers
 use Rattle.std.proofs.Common.{◌∷◌, []}

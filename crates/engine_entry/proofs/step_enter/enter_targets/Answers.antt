@@ -1,8 +1,8 @@
-use Rattle.std.proofs.Common.{◌≡◌, ℕ, suc, ◌+◌, ◌<◌, ◌≤◌, List, length, sym, ap, subst, ◌∙◌, arith}
+use Rattle.std.proofs.Common.{◌≡◌, ◌+◌, ◌<◌, List, length, sym, ap, subst, ◌∙◌, arith}
 use Rattle.ha_model.specs.declared.journal.Entry.{Entry}
 use Rattle.ha_model.specs.declared.journal.Entry.TheVariants.{Step}
 use Rattle.ha_model.specs.declared.journal.Item.{Item}
-use Rattle.ha_model.specs.Journal.{Journal, automations}
+use Rattle.ha_model.specs.Journal.{automations}
 use Rattle.ha_model.proofs.RecordGrowth.{automations-more}
 use Rattle.ha_model.proofs.RecordLaws.{length-more}
 use Rattle.timer_queue.specs.Timers.{Timer}

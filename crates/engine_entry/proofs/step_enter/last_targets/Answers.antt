@@ -1,4 +1,4 @@
-use Rattle.std.proofs.Common.{◌≡◌, ℕ, suc, ◌-◌, ◌<◌, ◌≤◌, List, [], ◌∷◌, drop, get_or, length, Bool, false, refl, sym, ap, subst, ◌∙◌, arith, drop-cons}
+use Rattle.std.proofs.Common.{◌≡◌, ℕ, suc, ◌-◌, List, [], ◌∷◌, drop, get_or, length, false, refl, sym, ap, subst, ◌∙◌, arith, drop-cons}
 use Rattle.engine_entry.specs.Lasts.{AreLasts, AreSeen}
 use Rattle.engine_entry.specs.Turned.{Target}
 use Rattle.engine_entry.proofs.LastLemmas.{lasts-next, lasts-none}

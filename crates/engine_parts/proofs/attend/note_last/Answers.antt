@@ -1,14 +1,14 @@
-use Rattle.std.proofs.Common.{◌≡◌, ℕ, ◌-◌, List, length, true, sym, ap, subst, ◌∙◌}
+use Rattle.std.proofs.Common.{◌≡◌, ◌-◌, length, sym, ap, subst, ◌∙◌}
 use Rattle.ha_model.specs.declared.journal.Entry.{Entry}
 use Rattle.ha_model.specs.Journal.{Journal}
 use Rattle.ha_model.specs.RecordSteps.{more}
-use Rattle.cond_eval.specs.Seen.{IsViewOf, seen}
+use Rattle.cond_eval.specs.Seen.{seen}
 use Rattle.trig_set.specs.Next.{IsNext}
 use Rattle.ha_past.specs.Firings.{firings}
 use Rattle.trig_set.specs.Stands as triggers
 use Rattle.wait_set.specs.Stands as waits
 use Rattle.engine_parts.proofs.NoteEntry.{untold-next, untold-told, told-by}
-use Rattle.engine_parts.proofs.ViewLemmas.{view-of, few-automations}
+use Rattle.engine_parts.proofs.ViewLemmas.{view-of}
 use Rattle.engine_parts.proofs.attend.note_last.Goals as goal
 
 pub note-requires : goal.note-requires

@@ -1,4 +1,4 @@
-use Rattle.std.proofs.Common.{◌≡◌, ℕ, ◌-◌, ◌<◌, List, length, set, filter, sym, ap, subst, ◌∙◌, arith}
+use Rattle.std.proofs.Common.{◌≡◌, ℕ, ◌-◌, List, length, set, filter, sym, subst, arith}
 use Rattle.std.specs.Prelude.{Option, None, not, nat_eq}
 use Rattle.ha_model.specs.Scripts.{Branch}
 use Rattle.script_step.specs.declared.frames.Frames.{Frames}

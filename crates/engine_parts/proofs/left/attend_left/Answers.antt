@@ -1,4 +1,4 @@
-use Rattle.std.proofs.Common.{◌-◌, [], length, sym, ap, subst, ◌∙◌}
+use Rattle.std.proofs.Common.{◌-◌, length, sym, ap, subst, ◌∙◌}
 use Rattle.trig_set.specs.Stands.{attached}
 use Rattle.engine_parts.specs.declared.parts.Parts.{Parts}
 use Rattle.engine_parts.specs.Owners.{attempts_by}

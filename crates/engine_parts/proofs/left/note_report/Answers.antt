@@ -1,4 +1,4 @@
-use Rattle.std.proofs.Common.{◌≡◌, ◌-◌, [], ◌∷◌, length, sym, subst}
+use Rattle.std.proofs.Common.{◌-◌, [], ◌∷◌, length, sym, subst}
 use Rattle.ha_model.specs.declared.journal.Entry.{Entry}
 use Rattle.ha_model.specs.RecordSteps.{more}
 use Rattle.ha_model.specs.Triggers.{sight}
@@ -7,7 +7,7 @@ use Rattle.trig_set.specs.Stands as triggers
 use Rattle.wait_set.specs.Stands as waits
 use Rattle.engine_parts.proofs.NoteEntry.{told-by}
 use Rattle.engine_parts.proofs.NoteLeft.{left-next, left-none, left-now, left-quiet, left-waits, report}
-use Rattle.engine_parts.proofs.ViewLemmas.{view-of, few-automations}
+use Rattle.engine_parts.proofs.ViewLemmas.{view-of}
 use Rattle.engine_parts.proofs.left.note_report.Goals as goal
 
 pub note_left-requires : goal.note_left-requires

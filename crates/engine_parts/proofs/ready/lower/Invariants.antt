@@ -1,4 +1,4 @@
-use Rattle.std.proofs.Common.{◌≡◌, ◌-◌, ◌≤◌, length}
+use Rattle.std.proofs.Common.{◌-◌, ◌≤◌, length}
 use Rattle.engine_parts.specs.Lower.{Ascends, lower}
 use Rattle.engine_parts.proofs.ready.lower.Given as goal
 

@@ -1,4 +1,4 @@
-use Rattle.std.proofs.Common.{◌≡◌, length, sym, ap, ◌∙◌}
+use Rattle.std.proofs.Common.{length, sym, ap, ◌∙◌}
 use Rattle.ha_ready.specs.RestedFlags.{flags_from}
 use Rattle.engine_parts.proofs.CutLemmas.{written}
 use Rattle.engine_parts.proofs.rested.note_flags.Goals as goal

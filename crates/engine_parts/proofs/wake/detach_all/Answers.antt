@@ -1,5 +1,4 @@
-use Rattle.std.proofs.Common.{◌≡◌, ℕ, suc, ◌+◌, ◌<◌, ◌≤◌, List, [], ◌∷◌, drop, length, get_or, sym, ap, subst, ◌∙◌, arith, drop-cons}
-use Rattle.wait_set.specs.declared.asked.Asked.{Asked}
+use Rattle.std.proofs.Common.{◌≡◌, ℕ, suc, ◌+◌, ◌<◌, List, ◌∷◌, drop, length, get_or, ap, subst, ◌∙◌, arith, drop-cons}
 use Rattle.engine_parts.specs.Pending.{AreOthers, AreWaits}
 use Rattle.engine_parts.proofs.WaitWords.{others-less}
 use Rattle.engine_parts.proofs.wake.detach_all.Goals as goal

@@ -1,6 +1,5 @@
 use Rattle.std.proofs.Common.{ℕ, List, [], ◌++◌, refl, sym, subst}
 use Rattle.ha_model.proofs.AppendLemmas.{append-nil}
-use Rattle.wait_set.specs.Asked.{WaitTable}
 use Rattle.engine_parts.specs.Waiting.{fresh}
 use Rattle.engine_parts.specs.Pending.{AreOthers, AreWaits}
 use Rattle.ha_ready.specs.Agree.{AgreesBut, touched}

@@ -1,4 +1,4 @@
-use Rattle.std.proofs.Common.{◌∙◌, ap}
+use Rattle.std.proofs.Common.{◌∙◌}
 use Rattle.std.specs.Prelude.{◌&&◌, not}
 use Rattle.ha_model.specs.Words.{same}
 use Rattle.event_bus.specs.Lists.{has_at}

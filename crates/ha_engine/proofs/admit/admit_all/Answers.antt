@@ -1,12 +1,10 @@
-use Rattle.std.proofs.Common.{◌≡◌, ℕ, zero, suc, ◌+◌, ◌<◌, ◌≤◌, List, [], ◌∷◌, ◌++◌, length, sym, ap, subst, ◌∙◌, arith}
-use Rattle.std.specs.Prelude.{Option, Some, None, MatchOption, vec_len, option_to_list}
+use Rattle.std.proofs.Common.{◌≡◌, ℕ, suc, ◌+◌, List, [], ◌∷◌, ◌++◌, length, sym, ap, subst, ◌∙◌, arith}
+use Rattle.std.specs.Prelude.{Option, MatchOption, vec_len, option_to_list}
 use Rattle.ha_model.specs.Attempts.{Attempt}
-use Rattle.ha_model.specs.Journal.{Journal}
 use Rattle.ha_model.specs.Records.{Records}
 use Rattle.run_modes.specs.Calls.{all_tried}
 use Rattle.ha_engine.specs.declared.admit.Prepared.{Prepared}
 use Rattle.ha_engine.specs.Admits.{ArePrepared, from_end}
-use Rattle.engine_parts.specs.Kept.{Going, nobody}
 use Rattle.engine_parts.specs.Records.{HasRoom}
 use Rattle.ha_engine.proofs.AdmitLemmas.{from-end-snoc, next-prepared, none-prepared, no-items}
 use Rattle.ha_engine.proofs.admit.admit_all.Goals as goal

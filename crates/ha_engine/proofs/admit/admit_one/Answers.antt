@@ -1,6 +1,6 @@
-use Rattle.std.proofs.Common.{◌≡◌, ℕ, suc, ◌-◌, ◌<◌, List, ◌++◌, length, sym, ap, subst, ◌∙◌, arith}
+use Rattle.std.proofs.Common.{ℕ, suc, ◌-◌, ◌<◌, List, ◌++◌, length, sym, subst, ◌∙◌, arith}
 use Rattle.ha_model.specs.Scripts.{Branch}
-use Rattle.ha_model.specs.Records.{Records, last_place}
+use Rattle.ha_model.specs.Records.{Records}
 use Rattle.engine_parts.specs.declared.parts.Parts.{Parts}
 use Rattle.ha_engine.specs.Admits.{pairs_by}
 use Rattle.engine_parts.specs.Kept.{Going, RunsKept, nobody}

@@ -1,4 +1,4 @@
-use Rattle.std.proofs.Common.{ℕ, ◌+◌, ◌≤◌, List, take, length, sym, ap, ◌∙◌, arith}
+use Rattle.std.proofs.Common.{ℕ, List, take, length, sym, ap, ◌∙◌, arith}
 use Rattle.run_modes.specs.Table.{live_of}
 use Rattle.ha_engine.specs.Admits.{are_in}
 use Rattle.ha_engine.proofs.LiveLemmas.{going-next, going-whole, going-all, live-fewer, live-range}

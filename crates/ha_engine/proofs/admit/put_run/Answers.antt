@@ -1,5 +1,4 @@
 use Rattle.std.proofs.Common.{◌∙◌, ap, subst, sym}
-use Rattle.ha_engine.specs.Admits.{IsNumbered}
 use Rattle.script_step.specs.declared.frames.Frames.{Frames}
 use Rattle.script_step.specs.Frames as run
 use Rattle.script_step.specs.Gates.{fronts_of}

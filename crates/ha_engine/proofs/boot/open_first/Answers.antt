@@ -1,4 +1,4 @@
-use Rattle.std.proofs.Common.{◌≡◌, ap, subst, ◌∙◌}
+use Rattle.std.proofs.Common.{ap, subst, ◌∙◌}
 use Rattle.ha_model.specs.Journal.{Journal, automations}
 use Rattle.switch_book.specs.Book.{StandsFor}
 use Rattle.ha_engine.proofs.BeginLemmas.{boot-opening}

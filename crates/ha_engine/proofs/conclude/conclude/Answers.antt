@@ -1,17 +1,16 @@
-use Rattle.std.proofs.Common.{◌≡◌, ℕ, ◌≤◌, sym, ap, subst, ◌∙◌}
+use Rattle.std.proofs.Common.{◌≡◌, ◌≤◌, sym, ap, subst, ◌∙◌}
 use Rattle.std.specs.Prelude.{Bool}
 use Rattle.std.specs.Global.{Vec}
 use Rattle.ha_model.specs.declared.journal.Entry.{Entry}
 use Rattle.ha_model.specs.declared.journal.Entry.TheVariants.{Line}
 use Rattle.ha_model.specs.Journal.{Journal}
 use Rattle.ha_model.specs.Records.{Records, passing}
-use Rattle.ha_model.specs.RecordSteps.{more, records_after}
+use Rattle.ha_model.specs.RecordSteps.{records_after}
 use Rattle.ha_model.specs.Lawful.{Right}
 use Rattle.run_modes.specs.Calls.{all_tried}
 use Rattle.engine_parts.specs.Kept.{Going, nobody}
 use Rattle.ha_ready.specs.RestedFlags.{RestedKept}
 use Rattle.engine_parts.specs.Records.{HasRoom, IsTable}
-use Rattle.engine_parts.specs.Stages.{Stopped}
 use Rattle.ha_engine.proofs.ConcludeLemmas.{line-table, plain-records, plain-right}
 use Rattle.ha_engine.proofs.conclude.conclude.Goals as goal
 

@@ -1,8 +1,7 @@
-use Rattle.std.proofs.Common.{◌≡◌, ℕ, List, Bool, eqb, length, sym, ap, subst, ◌∙◌}
-use Rattle.std.specs.Prelude.{Option}
+use Rattle.std.proofs.Common.{◌≡◌, List, Bool, eqb, sym, ap, subst, ◌∙◌}
 use Rattle.ha_model.specs.Journal.{Journal}
 use Rattle.ha_model.specs.Records.{Records}
-use Rattle.ha_model.specs.RecordSteps.{more, records_after}
+use Rattle.ha_model.specs.RecordSteps.{records_after}
 use Rattle.ha_model.specs.Lawful.{is_empty, is_quiet}
 use Rattle.ha_ready.specs.RestedFlags.{RestedKept}
 use Rattle.ha_ready.specs.RestedFlags.{flags_from, source_of}

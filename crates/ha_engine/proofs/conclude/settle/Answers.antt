@@ -1,4 +1,4 @@
-use Rattle.std.proofs.Common.{◌≡◌, ◌-◌, ◌<◌, ◌≤◌, length, sym, ap, subst, ◌∙◌, refl, arith}
+use Rattle.std.proofs.Common.{◌≡◌, ◌-◌, ◌<◌, length, sym, ap, subst, ◌∙◌, refl, arith}
 use Rattle.std.specs.Prelude.{Bool, vec_len}
 use Rattle.std.specs.Global.{Vec}
 use Rattle.ha_model.specs.Journal.{Journal}

@@ -1,5 +1,4 @@
 use Rattle.std.proofs.Common.{sym, subst, ◌∙◌}
-use Rattle.ha_model.specs.declared.journal.Cmd.{Cmd}
 use Rattle.ha_model.specs.Entries.{IsPlain}
 use Rattle.engine_parts.specs.Stages.{IsOther}
 use Rattle.ha_engine.proofs.follow.enter_plain.Goals as goal

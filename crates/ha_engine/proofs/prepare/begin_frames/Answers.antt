@@ -1,6 +1,5 @@
 use Rattle.std.proofs.Common.{◌∙◌, [], sym, subst}
 use Rattle.script_step.specs.Frames.{began_by, begins}
-use Rattle.script_step.specs.Gates.{first_fronts}
 use Rattle.script_step.specs.declared.frames.Frames.{Frames}
 use Rattle.engine_parts.specs.Fronts.{Stands, fronts}
 use Rattle.ha_engine.proofs.prepare.begin_frames.Goals as goal

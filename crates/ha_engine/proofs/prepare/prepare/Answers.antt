@@ -1,4 +1,4 @@
-use Rattle.std.proofs.Common.{◌≡◌, ℕ, suc, ◌-◌, ◌<◌, length, sym, ap, subst, ◌∙◌, arith}
+use Rattle.std.proofs.Common.{◌≡◌, suc, ◌-◌, ◌<◌, length, sym, ap, ◌∙◌, arith}
 use Rattle.std.specs.Prelude.{IfOk, Ok, Err, Result, Some, slice_get}
 use Rattle.ha_model.specs.Journal.{Journal}
 use Rattle.ha_model.specs.Records.{last_place}

@@ -1,4 +1,4 @@
-use Rattle.std.proofs.Common.{◌≡◌, ℕ, suc, ◌+◌, ◌-◌, ◌<◌, List, [], ◌∷◌, drop, map, get_or, sym, ap, subst, ◌∙◌, arith, drop-cons}
+use Rattle.std.proofs.Common.{◌≡◌, ℕ, suc, ◌+◌, ◌-◌, List, ◌∷◌, drop, map, get_or, sym, ap, subst, ◌∙◌, arith, drop-cons}
 use Rattle.ha_model.specs.Attempts.{Attempt, by_hand, passes}
 use Rattle.ha_model.specs.Records.{last_place}
 use Rattle.ha_model.specs.Words.{Pairs}

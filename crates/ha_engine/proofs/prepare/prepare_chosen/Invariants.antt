@@ -1,4 +1,4 @@
-use Rattle.std.proofs.Common.{◌≡◌, suc, ◌≤◌, List, drop, length, map}
+use Rattle.std.proofs.Common.{◌≡◌, suc, ◌≤◌, drop, length, map}
 use Rattle.ha_model.specs.Attempts.{by_hand}
 use Rattle.ha_model.specs.Journal.{Journal, automations}
 use Rattle.ha_model.specs.Records.{last_place}

@@ -1,6 +1,5 @@
-use Rattle.std.proofs.Common.{◌≡◌, ◌∙◌, ap, sym, refl, rules, Bool, true, false, not, Some}
+use Rattle.std.proofs.Common.{◌≡◌, ◌∙◌, ap, refl, Bool, true, false, not, Some}
 use mathlib.Core.Bool.{beq}
-use Rattle.std.specs.Prelude.{slice_get}
 use Rattle.std.proofs.lemmas.Option.{slice_get_read}
 use Rattle.ha_model.specs.Equal.{same_flag}
 use Rattle.switch_book.proofs.BookLemmas.{flags-set, names-set, flag-before}

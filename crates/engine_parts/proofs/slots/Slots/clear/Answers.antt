@@ -1,4 +1,4 @@
-use Rattle.std.proofs.Common.{◌≡◌, ℕ, ◌<◌, length, arith, ◌∙◌}
+use Rattle.std.proofs.Common.{◌≡◌, ℕ, length, arith, ◌∙◌}
 use Rattle.std.proofs.lemmas.List.{length-map}
 use Rattle.engine_parts.specs.Slots.{value_in, values_in}
 use Rattle.engine_parts.proofs.SlotTables.{empty-less, empty-next, empty-all}

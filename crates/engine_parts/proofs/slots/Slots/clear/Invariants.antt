@@ -1,4 +1,4 @@
-use Rattle.std.proofs.Common.{◌≡◌, length}
+use Rattle.std.proofs.Common.{◌≡◌}
 use Rattle.std.specs.Prelude.{vec_len, vec_capacity}
 use Rattle.engine_parts.specs.Slots.{AreEmpty}
 use Rattle.engine_parts.proofs.slots.Slots.clear.Given as goal

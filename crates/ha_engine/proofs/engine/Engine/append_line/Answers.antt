@@ -1,5 +1,4 @@
-use Rattle.std.proofs.Common.{◌≡◌, List, sym, ap, subst, ◌∙◌}
-use Rattle.ha_model.specs.declared.journal.Cmd.{Cmd}
+use Rattle.std.proofs.Common.{◌≡◌, sym, ap, subst, ◌∙◌}
 use Rattle.ha_model.specs.declared.journal.Entry.{Entry}
 use Rattle.ha_model.specs.declared.journal.Entry.TheVariants.{Line}
 use Rattle.ha_model.specs.Commands.{IsFair, put_as}

@@ -1,5 +1,4 @@
-use Rattle.std.proofs.Common.{◌≡◌, List, ◌∙◌, ap, refl, true, false, Bool, sym}
-use Rattle.std.specs.Prelude.{vec_len, length, nat_eq}
+use Rattle.std.proofs.Common.{◌∙◌, ap}
 use Rattle.ha_model.specs.Lawful.{is_empty, is_quiet, ready}
 use Rattle.engine_parts.proofs.KeptLemmas.{kept-ready, counted}
 use Rattle.ha_engine.specs.Core.{Core}
