@@ -7,4 +7,4 @@ pub returns-in_default : goal.returns-in_default
 returns-in_default c = no_break c.args.text.now (sym c.in_default.ensures)
 
 pub returns : goal.returns
-returns c = front_of c.args.text.now c.without_cr.result.now c.in-Some.at (kept_of c.in_ok-line.line) (break_at c.args.text.now c.in-Some.at (sym c.in-Some.ensures)) c.without_cr.ensures c.in_ok-line.ensures
+returns c = front_of c.args.text.now c.without_cr.result.now c.in-Some.at (kept_of c.in_ok-line.line) (break_at c.args.text.now c.in-Some.at (sym c.in-Some.ensures)) c.without_cr.ensures.value c.in_ok-line.ensures
