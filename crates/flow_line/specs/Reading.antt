@@ -7,7 +7,7 @@ use Rattle.ha_value.specs.declared.value.Num.{Num}
 use Rattle.ha_value.specs.declared.value.Value.{Value}
 use Rattle.ha_value.specs.declared.value.Value.TheVariants.{Null, Flag, Number, Text, Items, Pairs}
 use Rattle.ha_value.specs.Numbers.{read_number}
-use Rattle.reading.specs.Answer.{front, made, stop}
+use Rattle.reading.specs.Answer.{◌>>=◌, front, made, stop}
 use Rattle.reading.specs.Bytes.{sees, skip, expect}
 use Rattle.reading.specs.Rows.{closed_by}
 use Rattle.flow_line.specs.declared.fault.Code.TheVariants.{Syntax, RepeatedKey, Depth, Range}

@@ -4,7 +4,7 @@ use Rattle.std.specs.Prelude.{if◌then◌else◌, List, [], length, drop, Optio
 use Rattle.std.specs.Char.Utf16.{surrogate_pair_char}
 use Rattle.std.specs.Str.{encode_utf8_all}
 use Rattle.reading.specs.declared.fault.Bad.{Bad}
-use Rattle.reading.specs.Answer.{Rule, front, made, stop}
+use Rattle.reading.specs.Answer.{◌>>=◌, Rule, front, made, stop}
 use Rattle.reading.specs.Bytes.{sees, expect}
 use Rattle.reading.specs.Characters.{character as utf8_character}
 use Rattle.reading.specs.Rows.{repeat}

@@ -6,7 +6,7 @@ use Rattle.std.proofs.Math.ListN.{length-drop}
 use Rattle.ha_value.specs.declared.value.Value.{Value}
 use Rattle.ha_model.specs.declared.template.Expr.{Expr}
 use Rattle.ha_model.specs.declared.template.Expr
-use Rattle.reading.specs.Answer.{made}
+use Rattle.reading.specs.Answer.{◌>>=◌, made}
 use Rattle.reading.proofs.Basics.{chosen_is}
 use Rattle.tpl_parse.specs.declared.token.Token.{Token}
 use Rattle.tpl_parse.specs.declared.table.Counts.{Counts}

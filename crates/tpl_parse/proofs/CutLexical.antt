@@ -6,7 +6,7 @@ use Rattle.std.specs.Str.{bytes_eq}
 use Rattle.std.proofs.Math.ListN.{length-drop}
 use Rattle.std.proofs.lemmas.Bool.{eqb-true, eq-eqb}
 use Rattle.std.proofs.lemmas.Slice.Eq.{bytes_eq-Decides}
-use Rattle.reading.specs.Answer.{front}
+use Rattle.reading.specs.Answer.{◌>>=◌, front}
 use Rattle.reading.proofs.Basics.{chosen_is}
 use Rattle.reading.proofs.Solid.{Solid, IsSolid}
 use Rattle.reading.proofs.Characters.{character_solid, ascii_read}

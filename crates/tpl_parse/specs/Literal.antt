@@ -6,7 +6,7 @@ use Rattle.std.specs.Option.{is_some}
 use Rattle.ha_value.specs.declared.value.Num.{Num}
 use Rattle.ha_value.specs.Lists.{after_first}
 use Rattle.ha_value.specs.Numbers.{read_number, without_sign}
-use Rattle.reading.specs.Answer.{front, stop}
+use Rattle.reading.specs.Answer.{◌>>=◌, front, stop}
 use Rattle.reading.specs.Bytes.{sees}
 use Rattle.reading.specs.Characters.{character as utf8_character}
 use Rattle.tpl_parse.specs.declared.table.Filter.{Filter}

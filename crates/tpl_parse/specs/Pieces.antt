@@ -5,7 +5,7 @@ use Rattle.ha_model.specs.declared.template.Expr.{Expr}
 use Rattle.ha_model.specs.declared.template.Piece.{Piece}
 use Rattle.ha_model.specs.declared.template.Piece
 use Rattle.ha_model.specs.declared.template.Template.{Template}
-use Rattle.reading.specs.Answer.{front, made, stop}
+use Rattle.reading.specs.Answer.{◌>>=◌, front, made, stop}
 use Rattle.reading.specs.Bytes.{sees}
 use Rattle.tpl_parse.specs.declared.token.Token.{Token}
 use Rattle.tpl_parse.specs.declared.pieces.Tag.{Tag}

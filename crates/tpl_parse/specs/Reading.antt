@@ -8,7 +8,7 @@ use Rattle.ha_value.specs.declared.value.Value.{Value}
 use Rattle.ha_model.specs.declared.template.Op.{Op}
 use Rattle.ha_model.specs.declared.template.Expr.{Expr}
 use Rattle.ha_model.specs.declared.template.Expr
-use Rattle.reading.specs.Answer.{front, made, stop}
+use Rattle.reading.specs.Answer.{◌>>=◌, front, made, stop}
 use Rattle.reading.specs.Bytes.{sees}
 use Rattle.tpl_parse.specs.declared.token.Token.{Token}
 use Rattle.tpl_parse.specs.declared.table.Counts.{Counts}
