@@ -67,6 +67,12 @@ pub and-true : (b : Bool) → (b && true) ≡ b
 and-true true = refl
 and-true false = refl
 
+pub and-turned : (a b : Bool) → (a && b) ≡ (b && a)
+and-turned true true = refl
+and-turned true false = refl
+and-turned false true = refl
+and-turned false false = refl
+
 pub get-empty : {X Y S : Type 0} (m : HashMap (String Y) X S) → IsEmpty m → (q : Text) → get_by_text m q ≡ None
 get-empty m empty q = ap (lookup (λ k. bytes_eq q (string_bytes k))) empty
 

@@ -184,12 +184,13 @@ impl Index {
     }
 
     /// The owners that an entity concerns, in order, if it is known.
+    #[inline(always)]
     pub fn of_entity(&self, entity: &EntityId) -> Option<&BTreeSet<u64>>
         ensures { (n : ℕ) → option_map_or (λ set. has set n) (option_copied result) false ≡ knows self.now (Subject.Entity entity.now) n }
     {
         self.entities
-            .get(entity.domain.as_str())?
-            .get(entity.object.as_str())
+            .get(entity.object.as_str())?
+            .get(entity.domain.as_str())
     }
 
     /// The owners that an event of a type concerns, in order, if the type is known.

@@ -12,7 +12,7 @@ use std::collections::BTreeSet;
 /// Numbers by name.
 pub type Lists = IndexMap<String, BTreeSet<u64>>;
 
-/// The same, by domain and object id.
+/// The same, by object id and domain: most ids that concern nobody have an object id that is not known, and are not asked for their domain.
 pub type EntityLists = IndexMap<String, Lists>;
 
 /// The text as a key.
@@ -81,13 +81,13 @@ pub fn put_for(
     ensures others { (e : Entity) (n : ℕ) → nat_eq number n ≡ false → has_for lists.new e n ≡ has_for lists.old e n }
     ensures err { OnErr result ((e : Entity) (n : ℕ) → has_for lists.new e n ≡ has_for lists.old e n) }
 {
-    match lists.get_mut(entity.domain.as_str()) {
-        Some(domain) => put_at(alloc, domain, &entity.object, number),
+    match lists.get_mut(entity.object.as_str()) {
+        Some(domains) => put_at(alloc, domains, &entity.domain, number),
         None => {
-            let key = key_of(alloc, &entity.domain)?;
-            let mut domain = IndexMap::new(alloc);
-            put_at(alloc, &mut domain, &entity.object, number)?;
-            lists.insert(key, domain)?;
+            let key = key_of(alloc, &entity.object)?;
+            let mut domains = IndexMap::new(alloc);
+            put_at(alloc, &mut domains, &entity.domain, number)?;
+            lists.insert(key, domains)?;
             Ok(())
         }
     }
@@ -98,7 +98,7 @@ pub fn take_for(lists: &mut EntityLists, entity: &EntityId, number: u64)
     ensures own { (e : Entity) → has_for lists.new e number ≡ (not (same_entity entity.now e) && has_for lists.old e number) }
     ensures others { (e : Entity) (n : ℕ) → nat_eq number n ≡ false → has_for lists.new e n ≡ has_for lists.old e n }
 {
-    if let Some(domain) = lists.get_mut(entity.domain.as_str()) {
-        take_at(domain, &entity.object, number);
+    if let Some(domains) = lists.get_mut(entity.object.as_str()) {
+        take_at(domains, &entity.domain, number);
     }
 }
