@@ -55,21 +55,18 @@ fn head(
     Ok(pairs)
 }
 
-/// The parts of a state.
+/// The parts of a state of an entity, with its id as it is written.
 fn object_pairs(
     alloc: Global,
+    id: &Word,
     entity: &EntityId,
     state: &StateObject,
 ) -> Result<Many<(Word, Value)>, AllocError>
+    requires { id.now ≡ entity_text entity.now }
     ensures { IfOk result (λ ps. ps ≡ (codes "entity_id", Value.Text (entity_text entity.now)) ∷ (codes "domain", Value.Text entity.now.domain) ∷ (codes "object_id", Value.Text entity.now.object) ∷ (codes "state", Value.Text state.now.text) ∷ (codes "attributes", Map state.now.attributes) ∷ []) }
 {
     let mut pairs = Many::with_room(alloc, 5)?;
-    add(
-        alloc,
-        &mut pairs,
-        "entity_id",
-        Value::Text(entity.print(alloc)?),
-    )?;
+    add(alloc, &mut pairs, "entity_id", Value::Text(id.copy(alloc)?))?;
     add(
         alloc,
         &mut pairs,
@@ -97,22 +94,30 @@ fn object_pairs(
     Ok(pairs)
 }
 
-fn object_value(alloc: Global, entity: &EntityId, state: &StateObject) -> Result<Value, AllocError>
+fn object_value(
+    alloc: Global,
+    id: &Word,
+    entity: &EntityId,
+    state: &StateObject,
+) -> Result<Value, AllocError>
+    requires { id.now ≡ entity_text entity.now }
     ensures { IfOk result (λ v. v ≡ triggers.state_value [] entity.now (Some state.now)) }
 {
-    Ok(Value::Pairs(object_pairs(alloc, entity, state)?))
+    Ok(Value::Pairs(object_pairs(alloc, id, entity, state)?))
 }
 
 /// A state as a value, null where there is none.
 fn state_value(
     alloc: Global,
+    id: &Word,
     entity: &EntityId,
     state: Option<&StateObject>,
 ) -> Result<Value, AllocError>
+    requires { id.now ≡ entity_text entity.now }
     ensures { IfOk result (λ v. v ≡ triggers.state_value [] entity.now (option_copied state.entry)) }
 {
     match state {
-        Some(state) => object_value(alloc, entity, state),
+        Some(state) => object_value(alloc, id, entity, state),
         None => Ok(Value::Null),
     }
 }
@@ -126,24 +131,20 @@ fn states_pairs(
 ) -> Result<Many<(Word, Value)>, AllocError>
     ensures { IfOk result (λ ps. ps ≡ (codes "entity_id", Value.Text (entity_text entity.now)) ∷ (codes "from_state", triggers.state_value [] entity.now (option_copied old.entry)) ∷ (codes "to_state", triggers.state_value [] entity.now (option_copied new.entry)) ∷ []) }
 {
+    let id = entity.print(alloc)?;
     let mut pairs = Many::with_room(alloc, 5)?;
-    add(
-        alloc,
-        &mut pairs,
-        "entity_id",
-        Value::Text(entity.print(alloc)?),
-    )?;
+    add(alloc, &mut pairs, "entity_id", Value::Text(id.copy(alloc)?))?;
     add(
         alloc,
         &mut pairs,
         "from_state",
-        state_value(alloc, entity, old)?,
+        state_value(alloc, &id, entity, old)?,
     )?;
     add(
         alloc,
         &mut pairs,
         "to_state",
-        state_value(alloc, entity, new)?,
+        state_value(alloc, &id, entity, new)?,
     )?;
     Ok(pairs)
 }
