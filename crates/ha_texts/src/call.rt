@@ -5,8 +5,8 @@ ghost use Rattle.ha_model.specs.Entries.{call_in, is_call};
 ghost use Rattle.ha_model.specs.Texts.{call_line as call_line_lem};
 ghost use Rattle.ha_model.specs.ValueText.{comma_joined, pair_text};
 
-use crate::parts::{empty_line, push_ids, push_number};
-use flow_line::{push_pairs, push_quoted};
+use crate::parts::{empty_line, push_ids, push_map, push_number};
+use flow_line::push_chars;
 use ha_model::Item;
 use ha_value::{EntityId, Value, Word};
 use std::alloc::{AllocError, Global};
@@ -21,12 +21,11 @@ pub(crate) fn push_call(
 ) -> Result<(), AllocError>
     ensures { OnOk result (text.new ≡ text.old ++ comma_joined (map (λ p. pair_text p.0 p.1) (call_pairs service.now target.now fields.now))) }
 {
-    text.push_str("\"service\":")?;
-    push_quoted(text, service.as_str())?;
-    text.push_str(",\"target\":")?;
+    text.push_str("\"service\":\"")?;
+    push_chars(text, service.as_str())?;
+    text.push_str("\",\"target\":")?;
     push_ids(text, target)?;
-    text.push_str(",\"data\":")?;
-    push_pairs(alloc, text, fields)?;
+    push_map(alloc, text, ",\"data\":", ",\"data\":{}", fields)?;
     Ok(())
 }
 
@@ -42,9 +41,9 @@ fn line_of_call(
     ensures { IfOk result (λ line. line ≡ call_line_lem name.now number call (record { service = service.now; target = target.now; fields = fields.now })) }
 {
     let mut line = empty_line(alloc)?;
-    line.push_str("{\"run\":")?;
-    push_quoted(&mut line, name.as_str())?;
-    line.push_str(",\"number\":")?;
+    line.push_str("{\"run\":\"")?;
+    push_chars(&mut line, name.as_str())?;
+    line.push_str("\",\"number\":")?;
     push_number(&mut line, number)?;
     line.push_str(",\"call\":")?;
     push_number(&mut line, call)?;

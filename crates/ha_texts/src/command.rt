@@ -6,8 +6,8 @@ ghost use Rattle.ha_model.specs.declared.journal.Cmd.TheVariants.{Event, Gone, M
 ghost use Rattle.ha_texts.specs.Lines.{IsDated, turned_text};
 
 use crate::names::{push_automation, push_flag, push_line_code, push_moment};
-use crate::parts::push_id;
-use flow_line::{push_pairs, push_quoted};
+use crate::parts::{push_bare_id, push_id, push_map};
+use flow_line::{push_chars, push_pairs, push_quoted};
 use ha_clock::Moment;
 use ha_model::Cmd;
 use ha_value::{EntityId, Value, Word};
@@ -22,12 +22,17 @@ fn push_report(
 ) -> Result<(), AllocError>
     ensures { OnOk result (text.new ≡ text.old ++ cmd_text (Report entity.now state.now attributes.now)) }
 {
-    text.push_str("{\"report\":")?;
-    push_id(text, entity)?;
-    text.push_str(",\"state\":")?;
-    push_quoted(text, state.as_str())?;
-    text.push_str(",\"attributes\":")?;
-    push_pairs(alloc, text, attributes)?;
+    text.push_str("{\"report\":\"")?;
+    push_bare_id(text, entity)?;
+    text.push_str("\",\"state\":\"")?;
+    push_chars(text, state.as_str())?;
+    push_map(
+        alloc,
+        text,
+        "\",\"attributes\":",
+        "\",\"attributes\":{}",
+        attributes,
+    )?;
     text.push_byte(b'}')?;
     Ok(())
 }

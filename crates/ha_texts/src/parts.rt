@@ -1,10 +1,11 @@
 //! The parts of a line, each appended to it.
-ghost use Rattle.std.specs.Prelude.{◌≡◌, [], ◌++◌, decimal, map, IfOk, OnOk};
+ghost use Rattle.std.specs.Prelude.{◌≡◌, [], ◌++◌, decimal, flat_map, map, IfOk, OnOk};
+ghost use Rattle.ha_value.specs.Ids.{entity_text};
 ghost use Rattle.ha_model.specs.CommandText.{id_text};
-ghost use Rattle.ha_model.specs.ValueText.{list_text};
+ghost use Rattle.ha_model.specs.ValueText.{escaped_byte, list_text, print_pairs};
 
-use flow_line::{push_chars, push_comma};
-use ha_value::{EntityId, Word};
+use flow_line::{push_chars, push_comma, push_pairs};
+use ha_value::{EntityId, Value, Word};
 use itoa::Buffer;
 use std::alloc::{AllocError, Global};
 
@@ -18,6 +19,16 @@ pub(crate) fn empty_line(alloc: Global) -> Result<Word, AllocError>
     Word::with_room(alloc, LINE_ROOM)
 }
 
+/// Appends an entity id without quotes.
+pub(crate) fn push_bare_id(text: &mut Word, id: &EntityId) -> Result<(), AllocError>
+    ensures { OnOk result (text.new ≡ text.old ++ flat_map escaped_byte (entity_text id.now)) }
+{
+    push_chars(text, id.domain.as_str())?;
+    text.push_byte(b'.')?;
+    push_chars(text, id.object.as_str())?;
+    Ok(())
+}
+
 /// Appends an entity id in double quotes.
 pub(crate) fn push_id(text: &mut Word, id: &EntityId) -> Result<(), AllocError>
     ensures { OnOk result (text.new ≡ text.old ++ id_text id.now) }
@@ -28,6 +39,24 @@ pub(crate) fn push_id(text: &mut Word, id: &EntityId) -> Result<(), AllocError>
     push_chars(text, id.object.as_str())?;
     text.push_byte(b'"')?;
     Ok(())
+}
+
+/// Appends what stands before a map, and the map; one without pairs at once with that, which is `alone`.
+pub(crate) fn push_map(
+    alloc: Global,
+    text: &mut Word,
+    front: &str,
+    alone: &str,
+    pairs: &[(Word, Value)],
+) -> Result<(), AllocError>
+    requires { alone.now ≡ front.now ++ print_pairs [] }
+    ensures { OnOk result (text.new ≡ text.old ++ (front.now ++ print_pairs pairs.now)) }
+{
+    if pairs.is_empty() {
+        return text.push_str(alone);
+    }
+    text.push_str(front)?;
+    push_pairs(alloc, text, pairs)
 }
 
 /// Appends a number.
