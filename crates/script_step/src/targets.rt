@@ -141,10 +141,16 @@ fn add_all(
     ensures { (c : Checked (List EntityId)) → Checks found c → Joins all.old all.new c result }
 {
     match found {
-        Ok(found) => match all.append(found) {
-            Ok(()) => Ok(()),
-            Err(_) => Err(FieldFault::Memory),
-        },
+        Ok(found) => {
+            if all.is_empty() {
+                *all = found;
+                return Ok(());
+            }
+            match all.append(found) {
+                Ok(()) => Ok(()),
+                Err(_) => Err(FieldFault::Memory),
+            }
+        }
         Err(fault) => Err(fault),
     }
 }
