@@ -175,7 +175,7 @@ fn ripen(to: Moment, spots: &mut [Spot], timers: &mut TimerQueue)
 fn firing(alloc: Global, owner: u64, spot: &Spot, value: Value) -> Result<Firing, AllocError>
     ensures { IfOk result (λ f. f ≡ record { owner = owner; trigger = spot.now.trigger; entity = spot.now.entity; env = (codes "trigger", value) ∷ [] }) }
 {
-    let mut env = Many::make(alloc);
+    let mut env = Many::with_room(alloc, 1)?;
     env.push((Word::from_str(alloc, "trigger")?, value))?;
     Ok(Firing {
         owner,

@@ -168,7 +168,7 @@ pub fn shifts_of<A: Answers>(
     ensures { IfOk result (λ shifts. (j : Journal) → A.sight answers.now ≡ sight (more j entry.now) (length (more j entry.now))
         → AreListed j entry.now before.now → AreShifts shifts j entry.now) }
 {
-    let mut shifts = Many::make(alloc);
+    let mut shifts = Many::with_room(alloc, before.len())?;
     let listed = before.as_slice();
     for place in 0..listed.len() {
         push_shift(alloc, entry, &listed[place], answers, &mut shifts)?;
