@@ -95,24 +95,3 @@ timed-added a asks ts timed fresh pending none = record {
 
     left : list_any (λ b. nat_eq b.owner a.owner) kept ≡ false
     left = any-filter (λ b. nat_eq b.owner a.owner) (λ b. not (is_of a.ask.serial a.ask.branch b)) asks fresh
-
--- ---- the walk
-
-pub cut-any : (f : Asked → Bool) (i : ℕ) (xs : List Asked) (x : Asked) → i < length xs → x ≡ get_or xs i x → f x ≡ false
-    → take i (without i xs) ++ filter f (drop i (without i xs)) ≡ take i xs ++ filter f (drop i xs)
-cut-any f i [] x lt is h = absurd (omega arith)
-cut-any f zero (z ∷ zs) x lt is h = sym (λ k. if ((λ m. f (sym is m)) ∙ h) k then z ∷ filter f zs else filter f zs)
-cut-any f (suc i) (z ∷ zs) x lt is h = ap (λ t. z ∷ t) (cut-any f i zs x (omega arith) is h)
-
-kept-at : (f : Asked → Bool) (i : ℕ) (xs : List Asked) (x : Asked) → i < length xs → x ≡ get_or xs i x → f x ≡ true
-    → take (suc i) xs ++ filter f (drop (suc i) xs) ≡ take i xs ++ filter f (drop i xs)
-kept-at f i [] x lt is h = absurd (omega arith)
-kept-at f zero (z ∷ zs) x lt is h = sym (λ k. if ((λ m. f (sym is m)) ∙ h) k then z ∷ filter f zs else filter f zs)
-kept-at f (suc i) (z ∷ zs) x lt is h = ap (λ t. z ∷ t) (kept-at f i zs x (omega arith) is h)
-
-pub kept-any : (f : Asked → Bool) (i : ℕ) (xs : List Asked) (x : Asked) → i < length xs → x ≡ get_or xs i x → f x ≡ true
-    → take (i + 1) xs ++ filter f (drop (i + 1) xs) ≡ take i xs ++ filter f (drop i xs)
-kept-any f i xs x lt is h = subst (λ n. take n xs ++ filter f (drop n xs) ≡ take i xs ++ filter f (drop i xs)) (one i) (kept-at f i xs x lt is h)
-  where
-    one : (i : ℕ) → suc i ≡ i + 1
-    one i = search arith

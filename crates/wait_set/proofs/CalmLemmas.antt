@@ -16,6 +16,7 @@ use Rattle.timer_queue.specs.Timers.{Timer, due_of}
 use Rattle.wait_set.specs.declared.asked.Asked.{Asked}
 use Rattle.wait_set.specs.Asked.{end_now, end_with, fired_values, noted_one, value_of}
 use Rattle.wait_set.specs.Concern.{IsStill, fires_for, has}
+use Rattle.wait_set.specs.Runs.{Pair}
 use Rattle.wait_set.specs.Timers.{AreKept, IsLater, due_in, is_asking}
 use Rattle.wait_set.proofs.TimedLemmas.{due-at}
 
@@ -68,7 +69,7 @@ any-default (a ∷ asks) zero d e lt = refl
 any-default (a ∷ asks) (suc n) d e lt = any-default asks n d e (omega (arith, lt))
 
 -- LAW: a wait whose due has not come, for whose owner nothing fires, and who is not listed as one that asks a template, is still
-pub still-aside : (q : ℕ) (s : Sight) (fired : List Firing) (asks : List Asked) (ts : List Timer) (testing runs : BTreeSet ℕ) (ordered : Bool) (now : ℕ) → AreKept asks ts testing runs ordered → now ≡ s.now
+pub still-aside : (q : ℕ) (s : Sight) (fired : List Firing) (asks : List Asked) (ts : List Timer) (testing : BTreeSet ℕ) (runs : BTreeSet Pair) (ordered : Bool) (now : ℕ) → AreKept asks ts testing runs ordered → now ≡ s.now
     → (n : ℕ) (d : Asked) → n < length asks → IsLater now ts (get_or asks n d).owner → has testing (get_or asks n d).owner ≡ false → fires_for fired (get_or asks n d).owner ≡ false → IsStill q s fired (get_or asks n d)
 still-aside q s fired asks ts testing runs ordered now kept at n d lt later unlisted none = still q s fired a (unasked (is_asking a) refl) due none
   where

@@ -11,9 +11,10 @@ use Rattle.std.proofs.lemmas.Option.{slice_get-get_or}
 use Rattle.ha_model.specs.declared.journal.WaitEnd.{WaitEnd}
 use Rattle.timer_queue.specs.Timers.{Timer, removed}
 use Rattle.wait_set.specs.declared.asked.Asked.{Asked}
-use Rattle.wait_set.specs.Asked.{added, is_of, without_run}
+use Rattle.wait_set.specs.Asked.{added, is_of}
 use Rattle.wait_set.specs.Concern.{Ascend, has}
-use Rattle.wait_set.specs.Timers.{AreApart, AreKept, AreTimed, IsListed, IsOfRun, due_in, is_asking}
+use Rattle.wait_set.specs.Runs.{IsPaired, Pair, has_pair}
+use Rattle.wait_set.specs.Timers.{AreApart, AreFound, AreKept, AreTimed, IsListed, due_in, is_asking}
 use Rattle.wait_set.proofs.CutLemmas.{or-left, or-right, without}
 use Rattle.wait_set.proofs.TimedLemmas.{due-lost, flip, other-owner, timed-ended, timed-noted}
 
@@ -34,8 +35,8 @@ ascend-set i asks x y lt is same asc m n d before within =
     let right = owner-set i asks x y lt is same n d in
     omega (arith, up, left, right)
 
-known-set : (i : ℕ) (asks : List Asked) (x y : Asked) (runs : BTreeSet ℕ) → i < length asks → x ≡ get_or asks i x → y.ask ≡ x.ask → All (IsOfRun runs) asks → All (IsOfRun runs) (set asks i y)
-known-set i asks x y runs lt is ask known = All-set (IsOfRun runs) asks i y ((λ k. has runs (ask k).serial) ∙ subst (IsOfRun runs) (sym is) (known i x lt)) known
+paired-set : (i : ℕ) (asks : List Asked) (x y : Asked) (runs : BTreeSet Pair) → i < length asks → x ≡ get_or asks i x → y.owner ≡ x.owner → y.ask ≡ x.ask → All (IsPaired runs) asks → All (IsPaired runs) (set asks i y)
+paired-set i asks x y runs lt is same ask paired = All-set (IsPaired runs) asks i y ((λ k. has_pair runs (ask k).serial (same k)) ∙ subst (IsPaired runs) (sym is) (paired i x lt)) paired
 
 -- ---- one goes on waiting
 
@@ -61,12 +62,12 @@ asking-kept x y ask some asks = by x.end refl
         never (Some v) h g = cc
 
 -- LEMMA: all is kept where a wait stays as it was, but for what is not told of it
-pub kept-noted : (i : ℕ) (asks : List Asked) (x y : Asked) (ts : List Timer) (testing runs : BTreeSet ℕ) (ordered : Bool) → AreKept asks ts testing runs ordered → i < length asks → x ≡ get_or asks i x → y.owner ≡ x.owner
+pub kept-noted : (i : ℕ) (asks : List Asked) (x y : Asked) (ts : List Timer) (testing : BTreeSet ℕ) (runs : BTreeSet Pair) (ordered : Bool) → AreKept asks ts testing runs ordered → i < length asks → x ≡ get_or asks i x → y.owner ≡ x.owner
     → y.ask ≡ x.ask → due_in y ≡ due_in x → (is_asking y ≡ true → is_asking x ≡ true) → AreKept (set asks i y) ts testing runs ordered
 kept-noted i asks x y ts testing runs ordered kept lt is same ask due asking = record {
   timed = timed-noted i asks x y ts kept.timed lt is same due;
   listed = All-set (IsListed testing) asks i y (λ h. (λ k. has testing (same k)) ∙ subst (IsListed testing) (sym is) (kept.listed i x lt) (asking h)) kept.listed;
-  known = known-set i asks x y runs lt is ask kept.known;
+  paired = paired-set i asks x y runs lt is same ask kept.paired;
   order = λ up. ascend-set i asks x y lt is same (kept.order up);
 }
 
@@ -108,35 +109,24 @@ module _ (old new : BTreeSet ℕ) (o : ℕ) (rest : (n : ℕ) → nat_eq o n ≡
       (listed-cut i zs x apart.1 (All-tail (IsListed old) z zs all) (omega arith) is own)
 
 -- LEMMA: all is kept where a wait ends, and its timer goes
-pub kept-ended : (i : ℕ) (asks : List Asked) (x y : Asked) (ts ts' : List Timer) (old new runs runs' : BTreeSet ℕ) (ordered : Bool) → AreKept asks ts old runs ordered → i < length asks → x ≡ get_or asks i x → y.owner ≡ x.owner → y.ask ≡ x.ask
+pub kept-ended : (i : ℕ) (asks : List Asked) (x y : Asked) (ts ts' : List Timer) (old new : BTreeSet ℕ) (runs runs' : BTreeSet Pair) (ordered : Bool) → AreKept asks ts old runs ordered → i < length asks → x ≡ get_or asks i x → y.owner ≡ x.owner → y.ask ≡ x.ask
     → is_some y.end ≡ true → ts' ≡ removed x.owner ts → ((n : ℕ) → nat_eq x.owner n ≡ false → has new n ≡ has old n) → runs' ≡ runs → AreKept (set asks i y) ts' new runs' ordered
 kept-ended i asks x y ts ts' old new runs runs' ordered kept lt is same ask ended timers rest alike = record {
   timed = subst (AreTimed (set asks i y)) (sym timers) (timed-ended i asks x y ts kept.timed lt is same (due-lost y ended));
   listed = listed-ended old new x.owner rest i asks x y kept.timed.apart kept.listed lt is refl ended;
-  known = subst (λ rs. All (IsOfRun rs) (set asks i y)) (sym alike) (known-set i asks x y runs lt is ask kept.known);
+  paired = subst (λ rs. All (IsPaired rs) (set asks i y)) (sym alike) (paired-set i asks x y runs lt is same ask kept.paired);
   order = λ up. ascend-set i asks x y lt is same (kept.order up);
-}
-
--- ---- those of a run go
-
-pub kept-without : (run : ℕ) (asks : List Asked) (ts ts' : List Timer) (old new runs runs' : BTreeSet ℕ) (ordered : Bool) → AreKept asks ts old runs ordered → AreTimed (without_run run asks) ts' → All (IsListed new) (without_run run asks)
-    → All (IsOfRun runs') (without_run run asks) → AreKept (without_run run asks) ts' new runs' ordered
-kept-without run asks ts ts' old new runs runs' ordered kept timed listed known = record {
-  timed = timed;
-  listed = listed;
-  known = known;
-  order = λ up. AllPairs-filter (λ (a b : Asked). a.owner < b.owner) (λ a. not (nat_eq a.ask.serial run)) asks (kept.order up);
 }
 
 -- ---- one comes
 
-pub kept-added : (a : Asked) (asks : List Asked) (ts ts' : List Timer) (old new runs runs' : BTreeSet ℕ) (ordered stays : Bool) → AreKept asks ts old runs ordered → AreTimed (added a asks) ts'
+pub kept-added : (a : Asked) (asks : List Asked) (ts ts' : List Timer) (old new : BTreeSet ℕ) (runs runs' : BTreeSet Pair) (ordered stays : Bool) → AreKept asks ts old runs ordered → AreTimed (added a asks) ts'
     → (is_some a.ask.test ≡ true → has new a.owner ≡ true) → ((n : ℕ) → has old n ≡ true → has new n ≡ true)
-    → has runs' a.ask.serial ≡ true → ((n : ℕ) → has runs n ≡ true → has runs' n ≡ true)
+    → All (IsPaired runs') (added a asks)
     → (stays ≡ true → (ordered ≡ true) × (Ascend asks → All (λ (b : Asked). b.owner < a.owner) asks)) → AreKept (added a asks) ts' new runs' stays
-kept-added a asks ts ts' old new runs runs' ordered stays kept timed here more run rest above = record {
+kept-added a asks ts ts' old new runs runs' ordered stays kept timed here more paired above = record {
   timed = timed;
-  known = All-push (IsOfRun runs') left a (All-filter keep (IsOfRun runs') asks (All-weaker (IsOfRun runs) (IsOfRun runs') (λ b was. rest b.ask.serial was) asks kept.known)) run;
+  paired = paired;
   listed = All-push (IsListed new) left a (All-filter keep (IsListed new) asks (All-weaker (IsListed old) (IsListed new) (λ b was asks. more b.owner (was asks)) asks kept.listed)) (λ asks. here (right (is_none a.end) (is_some a.ask.test) asks));
   order = λ up. all_pairs_push (λ (b c : Asked). b.owner < c.owner) left a (AllPairs-filter (λ (b c : Asked). b.owner < c.owner) keep asks (kept.order (above up).0))
       (All-filter keep (λ (b : Asked). b.owner < a.owner) asks ((above up).1 (kept.order (above up).0)));
@@ -153,12 +143,21 @@ kept-added a asks ts ts' old new runs runs' ordered stays kept timed here more r
     right false q h = cc
 
 -- LEMMA: more may be listed
-pub kept-listed : (asks : List Asked) (ts ts' : List Timer) (old new runs runs' : BTreeSet ℕ) (ordered : Bool) → AreKept asks ts old runs ordered → AreTimed asks ts' → ((n : ℕ) → has old n ≡ true → has new n ≡ true)
-    → ((n : ℕ) → has runs n ≡ true → has runs' n ≡ true) → AreKept asks ts' new runs' ordered
+pub kept-listed : (asks : List Asked) (ts ts' : List Timer) (old new : BTreeSet ℕ) (runs runs' : BTreeSet Pair) (ordered : Bool) → AreKept asks ts old runs ordered → AreTimed asks ts' → ((n : ℕ) → has old n ≡ true → has new n ≡ true)
+    → ((s o : ℕ) → has_pair runs s o ≡ true → has_pair runs' s o ≡ true) → AreKept asks ts' new runs' ordered
 kept-listed asks ts ts' old new runs runs' ordered kept timed more rest = record {
   timed = timed;
-  known = All-weaker (IsOfRun runs) (IsOfRun runs') (λ b was. rest b.ask.serial was) asks kept.known;
+  paired = All-weaker (IsPaired runs) (IsPaired runs') (λ b was. rest b.ask.serial b.owner was) asks kept.paired;
   listed = All-weaker (IsListed old) (IsListed new) (λ b was asks. more b.owner (was asks)) asks kept.listed;
+  order = kept.order;
+}
+
+-- LEMMA: and each is found
+pub found-of : (asks : List Asked) (ts : List Timer) (testing : BTreeSet ℕ) (runs runs' : BTreeSet Pair) (ordered : Bool) → AreKept asks ts testing runs ordered → ((s o : ℕ) → has_pair runs s o ≡ true → has_pair runs' s o ≡ true)
+    → AreFound asks runs' ordered
+found-of asks ts testing runs runs' ordered kept rest = record {
+  apart = kept.timed.apart;
+  paired = All-weaker (IsPaired runs) (IsPaired runs') (λ b was. rest b.ask.serial b.owner was) asks kept.paired;
   order = kept.order;
 }
 

@@ -11,4 +11,6 @@ pub mod NotedLemmas
 pub mod CalmLemmas
 pub mod KeptLemmas
 pub mod RunLemmas
+pub mod PairLemmas
+pub mod DropLemmas
 pub mod OnLemmas

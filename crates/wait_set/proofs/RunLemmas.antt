@@ -1,59 +1,91 @@
--- A run that is not listed has no wait.
-use Rattle.std.proofs.Common.{◌≡◌, ℕ, List, [], ◌∷◌, map, filter, Bool, true, false, not, refl, sym, ap, ◌∙◌, nat_cmp, All}
-use Rattle.std.specs.Prelude.{None, nat_eq, slice_get, ◌&&◌, if◌then◌else◌}
-use Rattle.std.specs.BTreeSet.{BTreeSet, Updates}
-use Rattle.std.proofs.lemmas.Bool.{eqb-true}
-use Rattle.std.proofs.lemmas.List.Elements.{All-cons, All-head, All-nil, All-tail}
-use Rattle.ha_model.specs.Words.{same}
-use Rattle.ha_model.specs.Scripts.{Branch}
+-- The waits of a run, from one to the next.
+use Rattle.std.proofs.Common.{◌≡◌, ℕ, zero, suc, ◌+◌, ◌-◌, ◌<◌, ◌≤◌, List, [], ◌∷◌, length, drop, get_or, map, filter, Bool, true, false, refl, sym, ap, subst, ◌∙◌, arith, inl, inr, All}
+use Rattle.std.specs.Prelude.{Some, nat_eq, slice_get, if◌then◌else◌}
+use Rattle.std.specs.BTreeSet.{BTreeSet}
+use Rattle.std.proofs.lemmas.Bool.{cases_lt, eqb-true}
+use Rattle.std.proofs.lemmas.Bool.Decides.{eqb_tells}
 use Rattle.wait_set.specs.declared.asked.Asked.{Asked}
-use Rattle.wait_set.specs.Asked.{is_of, owners_of, without_run}
-use Rattle.wait_set.specs.Concern.{has}
-use Rattle.wait_set.specs.Timers.{IsOfRun}
-use Rattle.wait_set.proofs.ConcernLemmas.{updates-else}
-use Rattle.wait_set.proofs.TimedLemmas.{flip}
+use Rattle.wait_set.specs.Asked.{owners_of}
+use Rattle.wait_set.specs.Concern.{Ascend}
+use Rattle.wait_set.specs.Runs.{HasNone, IsOfRun, IsPaired, Pair, has_pair}
 
-module _ (runs : BTreeSet ℕ) (serial : ℕ) (none : has runs serial ≡ false) where
-  other : (a : Asked) → IsOfRun runs a → nat_eq a.ask.serial serial ≡ false
-  other a known = by (nat_eq a.ask.serial serial) refl
+-- ---- the first from a place on
+
+module _ (runs : BTreeSet Pair) (serial : ℕ) (asks : List Asked) (paired : All (IsPaired runs) asks) where
+  -- LEMMA: a wait is of another run where the pair of this one and its owner is not listed, if it has to be
+  pub passed : (low n : ℕ) (d : Asked) → n < length asks → (nat_eq (get_or asks n d).ask.serial serial ≡ true → low ≤ (get_or asks n d).owner)
+      → (low ≤ (get_or asks n d).owner → has_pair runs serial (get_or asks n d).owner ≡ false) → nat_eq (get_or asks n d).ask.serial serial ≡ false
+  passed low n d lt from none = by (nat_eq (get_or asks n d).ask.serial serial) refl
     where
-      by : (b : Bool) → nat_eq a.ask.serial serial ≡ b → nat_eq a.ask.serial serial ≡ false
-      by true e = absurd (let bad : ◌≡◌ {A = Bool} true false = sym known ∙ (λ k. has runs (eqb-true a.ask.serial serial e k)) ∙ none in cc)
+      by : (b : Bool) → nat_eq (get_or asks n d).ask.serial serial ≡ b → nat_eq (get_or asks n d).ask.serial serial ≡ false
+      by true e = absurd (let bad : ◌≡◌ {A = Bool} true false = sym (paired n d lt) ∙ (λ k. has_pair runs (eqb-true (get_or asks n d).ask.serial serial e k) (get_or asks n d).owner) ∙ none (from e) in cc)
       by false e = e
 
-  -- LEMMA: none goes with it
-  pub none-dropped : (asks : List Asked) → All (IsOfRun runs) asks → without_run serial asks ≡ asks
-  none-dropped [] known = refl
-  none-dropped (a ∷ asks) known =
-      (λ k. if not (other a (All-head (IsOfRun runs) a asks known) k) then a ∷ without_run serial asks else without_run serial asks)
-      ∙ ap (λ t. a ∷ t) (none-dropped asks (All-tail (IsOfRun runs) a asks known))
+  module _ (order : Ascend asks) (low owner : ℕ) (next : (n : ℕ) → low ≤ n → n < owner → has_pair runs serial n ≡ false) where
+    -- LEMMA: those before the next listed one's are
+    pub before : (place n : ℕ) (d : Asked) → n < place → place < length asks → (get_or asks place d).owner ≡ owner
+        → (nat_eq (get_or asks n d).ask.serial serial ≡ true → low ≤ (get_or asks n d).owner) → nat_eq (get_or asks n d).ask.serial serial ≡ false
+    before place n d lt within own from = passed low n d (omega (arith, lt, within)) from (λ le. (let up = order n place d lt within in next (get_or asks n d).owner le (omega (arith, up, own))))
 
-  no-owners : (asks : List Asked) → All (IsOfRun runs) asks → owners_of serial asks ≡ []
-  no-owners [] known = refl
-  no-owners (a ∷ asks) known =
-      (λ k. map {A = Asked} {B = ℕ} (λ b. b.owner) (if other a (All-head (IsOfRun runs) a asks known) k then a ∷ filter (λ b. nat_eq b.ask.serial serial) asks else filter (λ b. nat_eq b.ask.serial serial) asks))
-      ∙ no-owners asks (All-tail (IsOfRun runs) a asks known)
+    -- LEMMA: and where it has none, all that come are behind it
+    pub behind : (n : ℕ) (d : Asked) → n < length asks → ((get_or asks n d).owner ≡ owner → nat_eq (get_or asks n d).ask.serial serial ≡ false)
+        → low ≤ (get_or asks n d).owner → nat_eq (get_or asks n d).ask.serial serial ≡ true → owner + 1 ≤ (get_or asks n d).owner
+    behind n d lt other le is = elim (cases_lt (get_or asks n d).owner owner) [
+      | inl under ↦ absurd (never (passed low n d lt (λ e. le) (λ from. next (get_or asks n d).owner from under)))
+      | inr over ↦ elim (eqb_tells (get_or asks n d).owner owner) [
+        | inl same ↦ absurd (never (other same.1))
+        | inr apart ↦ (let differ = apart.1 in omega (arith, over, differ))
+      ]
+    ]
+      where
+        never : nat_eq (get_or asks n d).ask.serial serial ≡ false → ⊥
+        never none = (let bad : ◌≡◌ {A = Bool} true false = sym is ∙ none in cc)
 
-  -- LEMMA: no owner is one of its waits'
-  pub no-owner : (asks : List Asked) (at : ℕ) → All (IsOfRun runs) asks → None ≡ slice_get (owners_of serial asks) at
-  no-owner asks at known = sym ((λ k. slice_get (no-owners asks known k) at) ∙ empty at)
-    where
-      empty : (at : ℕ) → slice_get {X = ℕ} [] at ≡ None
-      empty at = refl
+-- LEMMA: the first owner from a place on is the least
+pub least-from : (asks : List Asked) (from n : ℕ) (d : Asked) → Ascend asks → from ≤ n → n < length asks → (get_or asks from d).owner ≤ (get_or asks n d).owner
+least-from asks from n d asc le lt = elim (eqb_tells from n) [
+  | inl same ↦ subst (λ (k : ℕ). (get_or asks from d).owner ≤ (get_or asks k d).owner) same.1 (omega arith)
+  | inr other ↦ (let apart = other.1 in let up = asc from n d (omega (arith, le, apart)) lt in omega (arith, up))
+]
 
-  -- LEMMA: and none gives way to one of its waits
-  pub none-gives : (branch : Branch) (asks : List Asked) → All (IsOfRun runs) asks → filter (λ b. not (is_of serial branch b)) asks ≡ asks
-  none-gives branch [] known = refl
-  none-gives branch (a ∷ asks) known =
-      (λ k. if not (other a (All-head (IsOfRun runs) a asks known) k && same a.ask.branch branch) then a ∷ filter (λ b. not (is_of serial branch b)) asks else filter (λ b. not (is_of serial branch b)) asks)
-      ∙ ap (λ t. a ∷ t) (none-gives branch asks (All-tail (IsOfRun runs) a asks known))
+-- ---- their owners
 
--- LEMMA: a run is taken from the listed where its waits go
-pub known-removed : (old new : BTreeSet ℕ) (serial : ℕ) (asks : List Asked) → Updates nat_cmp old new serial false → All (IsOfRun old) asks → All (IsOfRun new) (without_run serial asks)
-known-removed old new serial [] updates known = All-nil (IsOfRun new)
-known-removed old new serial (a ∷ asks) updates known = by (known-removed old new serial asks updates (All-tail (IsOfRun old) a asks known)) (nat_eq a.ask.serial serial) refl
+-- LEMMA: those that are passed are none of the run's
+pub owners-skip : (s : ℕ) (asks : List Asked) (from to : ℕ) → from ≤ to → HasNone asks s from to → owners_of s (drop from asks) ≡ owners_of s (drop to asks)
+owners-skip s [] zero zero le none = refl
+owners-skip s [] zero (suc to) le none = refl
+owners-skip s [] (suc from) zero le none = refl
+owners-skip s [] (suc from) (suc to) le none = refl
+owners-skip s (z ∷ zs) zero zero le none = refl
+owners-skip s (z ∷ zs) zero (suc to) le none =
+    (λ k. map {A = Asked} {B = ℕ} (λ a. a.owner) (if none zero z (omega arith) (omega arith) (omega arith) k then z ∷ filter (λ a. nat_eq a.ask.serial s) zs else filter (λ a. nat_eq a.ask.serial s) zs))
+    ∙ owners-skip s zs zero to (omega arith) (λ n d low high lt. none (suc n) d (omega arith) (omega (arith, high)) (omega (arith, lt)))
+owners-skip s (z ∷ zs) (suc from) zero le none = absurd (omega (arith, le))
+owners-skip s (z ∷ zs) (suc from) (suc to) le none =
+    owners-skip s zs from to (omega (arith, le)) (λ n d low high lt. none (suc n) d (omega (arith, low)) (omega (arith, high)) (omega (arith, lt)))
+
+owner-next : (s : ℕ) (asks : List Asked) (at left : ℕ) → at < length asks → IsOfRun asks s at → (left ≡ 0 → ⊥) → slice_get (owners_of s (drop (suc at) asks)) (left - 1) ≡ slice_get (owners_of s (drop at asks)) left
+owner-next s [] at left lt of more = absurd (omega (arith, lt))
+owner-next s (z ∷ zs) zero left lt of more =
+    by left more ∙ sym (λ k. slice_get (map {A = Asked} {B = ℕ} (λ a. a.owner) (if of z (omega arith) k then z ∷ filter (λ a. nat_eq a.ask.serial s) zs else filter (λ a. nat_eq a.ask.serial s) zs)) left)
   where
-    by : All (IsOfRun new) (without_run serial asks) → (b : Bool) → nat_eq a.ask.serial serial ≡ b → All (IsOfRun new) (if not b then a ∷ without_run serial asks else without_run serial asks)
-    by rest true e = rest
-    by rest false e =
-        All-cons (IsOfRun new) a (without_run serial asks) (updates-else old new serial false updates a.ask.serial (flip a.ask.serial serial false e) ∙ All-head (IsOfRun old) a asks known) rest
+    by : (left : ℕ) → (left ≡ 0 → ⊥) → slice_get (owners_of s zs) (left - 1) ≡ slice_get (z.owner ∷ owners_of s zs) left
+    by zero more = absurd (more refl)
+    by (suc left) more = (let e : suc left - 1 ≡ left = omega arith in λ k. slice_get (owners_of s zs) (e k))
+owner-next s (z ∷ zs) (suc at) left lt of more = owner-next s zs at left (omega (arith, lt)) (λ d within. of d (omega (arith, within))) more
+
+-- LEMMA: the owner of one of the run is the first from there on
+pub owner-here : (s : ℕ) (asks : List Asked) (at left owner : ℕ) → at < length asks → IsOfRun asks s at → left ≡ 0 → ((d : Asked) → owner ≡ (get_or asks at d).owner) → Some owner ≡ slice_get (owners_of s (drop at asks)) left
+owner-here s [] at left owner lt of first own = absurd (omega (arith, lt))
+owner-here s (z ∷ zs) zero left owner lt of first own =
+    (λ k. Some (own z k)) ∙ sym (λ k. slice_get (map {A = Asked} {B = ℕ} (λ a. a.owner) (if of z (omega arith) k then z ∷ filter (λ a. nat_eq a.ask.serial s) zs else filter (λ a. nat_eq a.ask.serial s) zs)) (first k))
+owner-here s (z ∷ zs) (suc at) left owner lt of first own = owner-here s zs at left owner (omega (arith, lt)) (λ d within. of d (omega (arith, within))) first own
+
+-- LEMMA: behind one of the run, past those of others, is the next owner
+pub owner-more : (s : ℕ) (asks : List Asked) (at next left : ℕ) → at < length asks → IsOfRun asks s at → (left ≡ 0 → ⊥) → at + 1 ≤ next → HasNone asks s (at + 1) next
+    → slice_get (owners_of s (drop next asks)) (left - 1) ≡ slice_get (owners_of s (drop at asks)) left
+owner-more s asks at next left lt of more le none =
+    sym (λ k. slice_get (owners-skip s asks (at + 1) next le none k) (left - 1)) ∙ (λ k. slice_get (owners_of s (drop (one k) asks)) (left - 1)) ∙ owner-next s asks at left lt of more
+  where
+    one : at + 1 ≡ suc at
+    one = omega arith

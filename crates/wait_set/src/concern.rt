@@ -1,5 +1,5 @@
 //! Which waits an entry concerns: those for whose owners something fires, those whose due has come, and those that ask a template.
-ghost use Rattle.std.specs.Prelude.{◌≡◌, ◌<◌, ℕ, IfOk, OnOk, Some, false, length, nat_eq, slice_index_or};
+ghost use Rattle.std.specs.Prelude.{◌≡◌, ◌<◌, ℕ, IfOk, IfSome, OnOk, Some, false, length, nat_eq, slice_index_or};
 ghost use Rattle.std.specs.List.{list_any};
 ghost use Rattle.wait_set.specs.declared.asked.Asked.{Asked as Wait};
 ghost use Rattle.wait_set.specs.Concern.{Ascend, OfOthers, fires_for, has};
@@ -20,9 +20,11 @@ fn place_from(asks: &[Asked], owner: u64) -> usize
 }
 
 /// The place of the wait of this owner, if there is one.
-fn place_of(asks: &[Asked], owner: u64) -> Option<usize>
+pub fn place_of(asks: &[Asked], owner: u64) -> Option<usize>
     requires { Ascend asks.now }
-    ensures { (n : ℕ) (d : Wait) → n < length asks.now → (slice_index_or asks.now n d).owner ≡ owner → result ≡ Some n }
+    ensures found { (n : ℕ) (d : Wait) → n < length asks.now → (slice_index_or asks.now n d).owner ≡ owner → result ≡ Some n }
+    ensures within { IfSome result (λ place. place < length asks.now) }
+    ensures owned { IfSome result (λ place. (d : Wait) → (slice_index_or asks.now place d).owner ≡ owner) }
 {
     let place = place_from(asks, owner);
     if place < asks.len() && asks[place].owner == owner {

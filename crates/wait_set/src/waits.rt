@@ -1,5 +1,5 @@
 //! The set of pending and ended waits.
-ghost use Rattle.std.specs.Prelude.{◌≡◌, ◌≤◌, ◌<◌, suc, take, drop, filter, not, vec_capacity, [], ◌∷◌, ◌++◌, All, Bool, IfOk, OnOk, OnErr, IsOk, IsTrue, None, Some, true, false, length, nat_eq, is_none, is_some, ◌||◌, slice_get, ◌&&◌, List, ℕ};
+ghost use Rattle.std.specs.Prelude.{◌≡◌, ◌≤◌, ◌<◌, ◌-◌, suc, take, drop, filter, not, vec_capacity, [], ◌∷◌, ◌++◌, All, Bool, IfOk, OnOk, OnErr, IsOk, IsTrue, None, Some, true, false, length, nat_eq, is_none, is_some, ◌||◌, slice_get, ◌&&◌, List, ℕ};
 ghost use Rattle.std.specs.List.{list_any};
 ghost use Rattle.std.specs.Option.{option_copied};
 ghost use Rattle.ha_model.specs.declared.journal.Entry.{Entry};
@@ -10,11 +10,13 @@ ghost use Rattle.wait_set.specs.declared.asked.Asked.{Asked as Wait};
 ghost use Rattle.wait_set.specs.Asked.{added, end_of, ended_at, is_of, noted, noted_at, owners_ended, owners_of, wait_of, without_run};
 ghost use Rattle.wait_set.specs.Concern.{Ascend, IsStill, OfOthers, has};
 ghost use Rattle.wait_set.specs.Stands.{IsNext, StandsFor};
-ghost use Rattle.wait_set.specs.Timers.{AreKept, AreTimed, IsListed, timer_added};
+ghost use Rattle.wait_set.specs.Runs.{AllBefore, IsPaired, has_pair};
+ghost use Rattle.wait_set.specs.Timers.{AreFound, AreKept, AreTimed, timer_added};
 ghost use Rattle.timer_queue.specs.Timers.{due_of, removed};
 
 use crate::asked::{Asked, is_of, note_one};
 use crate::concern::concerned;
+use crate::runs::{list_run, next_place, owner_at, owner_in, unlist};
 use ha_model::{Answers, Branch, Ended, Firing, Many, Moment, WaitAsk, WaitEnd};
 use std::alloc::{AllocError, Global};
 use std::collections::BTreeSet;
@@ -22,12 +24,12 @@ use std::marker::Model;
 use timer_queue::TimerQueue;
 
 /// What is kept beside the waits: of those that have not ended the dues, and the owners of those
-/// that ask a template; and the serials of the runs that have waits.
+/// that ask a template; and of all the serials of their runs, each with the owner.
 #[derive(Drop)]
 struct Pending {
     timers: TimerQueue,
     testing: BTreeSet<u64>,
-    runs: BTreeSet<u64>,
+    runs: BTreeSet<(u64, u64)>,
 }
 
 /// The waits of all runs, in the order in which they were asked for; who owns those that ended at
@@ -90,17 +92,18 @@ impl Waits {
         ensures stands { OnOk result ((j : Journal) → HasEntry j → StandsFor self.old.asks j → place ≡ length j → StandsFor self.new.asks j) }
     {
         let ordered = stay_ordered(self.ordered, self.asks.as_slice(), owner);
-        let known = list_ask(&mut self.pending, &ask, owner)?;
+        list_ask(&mut self.pending, &ask, owner)?;
         add_one(
             &mut self.asks,
             &mut self.pending.timers,
+            &mut self.pending.runs,
             Asked {
                 owner,
                 place,
                 ask,
                 end: None,
             },
-            known,
+            self.ordered,
         )?;
         self.ordered = ordered;
         Ok(())
@@ -147,10 +150,13 @@ impl Waits {
     pub fn owner_of(&self, serial: u64, at: usize) -> Option<u64>
         ensures { result ≡ slice_get (owners_of serial self.now.asks) at }
     {
-        if !self.pending.runs.contains(&serial) {
-            return None;
-        }
-        owner_at(self.asks.as_slice(), serial, at)
+        owner_at(
+            self.asks.as_slice(),
+            &self.pending.runs,
+            self.ordered,
+            serial,
+            at,
+        )
     }
 
     /// The waits of the run with this serial go. Takes no memory.
@@ -159,11 +165,7 @@ impl Waits {
         ensures fresh { self.new.fresh ≡ self.old.fresh }
         ensures stands { (j : Journal) → StandsFor self.old.asks j → StandsFor self.new.asks j }
     {
-        if !self.pending.runs.contains(&serial) {
-            return;
-        }
-        drop_all(&mut self.asks, &mut self.pending, serial);
-        self.pending.runs.remove(&serial);
+        drop_all(&mut self.asks, &mut self.pending, self.ordered, serial);
     }
 }
 
@@ -182,19 +184,23 @@ impl Ended for Waits {
 fn add_one(
     asks: &mut Vec<Asked>,
     timers: &mut TimerQueue,
+    runs: &mut BTreeSet<(u64, u64)>,
     asked: Asked,
-    known: bool,
+    ordered: bool,
 ) -> Result<(), AllocError>
-    requires known { known ≡ false → filter (λ b. not (is_of asked.ask.serial asked.ask.branch b)) asks.old.items ≡ asks.old.items }
     requires timed { AreTimed asks.old.items timers.old }
+    requires found { AreFound asks.old.items runs.old ordered }
+    requires listed { has_pair runs.old asked.ask.serial asked.owner ≡ true }
     requires owner { list_any (λ a. nat_eq a.owner asked.owner) asks.old.items ≡ false }
     requires pending { list_any (λ a. is_of asked.ask.serial asked.ask.branch a && is_none a.end) asks.old.items ≡ false }
     requires fresh { asked.end ≡ None }
     ensures ok { OnOk result (asks.new.items ≡ added asked asks.old.items) }
     ensures err { OnErr result (asks.new.items ≡ asks.old.items) }
+    ensures runs { OnErr result (runs.new ≡ runs.old) }
     ensures timed { AreTimed asks.new.items timers.new }
+    ensures paired { OnOk result (All (IsPaired runs.new) asks.new.items) }
 {
-    make_place(asks, timers, &asked, known)?;
+    make_place(asks, timers, runs, &asked, ordered)?;
     asks.push_reserved(asked);
     Ok(())
 }
@@ -203,19 +209,24 @@ fn add_one(
 fn make_place(
     asks: &mut Vec<Asked>,
     timers: &mut TimerQueue,
+    runs: &mut BTreeSet<(u64, u64)>,
     asked: &Asked,
-    known: bool,
+    ordered: bool,
 ) -> Result<(), AllocError>
     requires due { due_of asked.now.owner timers.old ≡ None }
-    requires known { known ≡ false → filter (λ b. not (is_of asked.now.ask.serial asked.now.ask.branch b)) asks.old.items ≡ asks.old.items }
+    requires found { AreFound asks.old.items runs.old ordered }
+    requires owner { list_any (λ a. nat_eq a.owner asked.now.owner) asks.old.items ≡ false }
     ensures asks { OnOk result (asks.new.items ≡ filter (λ b. not (is_of asked.now.ask.serial asked.now.ask.branch b)) asks.old.items) }
     ensures timers { OnOk result (timers.new ≡ timer_added asked.now.ask.due asked.now.owner timers.old) }
     ensures room { OnOk result (length asks.new.items < vec_capacity asks.new) }
+    ensures paired { OnOk result (All (IsPaired runs.new) asks.new.items) }
+    ensures listed { OnOk result (has_pair runs.new asked.now.ask.serial asked.now.owner ≡ has_pair runs.old asked.now.ask.serial asked.now.owner) }
     ensures err { OnErr result ((asks.new.items ≡ asks.old.items) × (timers.new ≡ timers.old)) }
+    ensures runs { OnErr result (runs.new ≡ runs.old) }
 {
     asks.reserve(1)?;
     set_timer(timers, asked.ask.due, asked.owner)?;
-    give_way(asks, asked, known);
+    drop_ended(asks, runs, ordered, asked);
     Ok(())
 }
 
@@ -234,33 +245,54 @@ fn set_timer(timers: &mut TimerQueue, due: Option<Moment>, owner: u64) -> Result
     }
 }
 
-/// The waits of a wait's run and branch go, where its run is known to have waits.
-fn give_way(asks: &mut Vec<Asked>, asked: &Asked, known: bool)
-    requires { known ≡ false → filter (λ b. not (is_of asked.now.ask.serial asked.now.ask.branch b)) asks.old.items ≡ asks.old.items }
-    ensures rest { asks.new.items ≡ filter (λ b. not (is_of asked.now.ask.serial asked.now.ask.branch b)) asks.old.items }
-    ensures len { length asks.new.items ≤ length asks.old.items }
-    ensures capacity { vec_capacity asks.new ≡ vec_capacity asks.old }
-{
-    if !known {
-        return;
-    }
-    drop_ended(asks, asked);
-}
-
 /// Takes the waits of a wait's run and branch out.
-fn drop_ended(asks: &mut Vec<Asked>, asked: &Asked)
+fn drop_ended(asks: &mut Vec<Asked>, runs: &mut BTreeSet<(u64, u64)>, ordered: bool, asked: &Asked)
+    requires { AreFound asks.old.items runs.old ordered }
     ensures rest { asks.new.items ≡ filter (λ b. not (is_of asked.now.ask.serial asked.now.ask.branch b)) asks.old.items }
+    ensures found { AreFound asks.new.items runs.new ordered }
+    ensures others { (o : ℕ) → list_any (λ a. nat_eq a.owner o) asks.old.items ≡ false → (s : ℕ) → has_pair runs.new s o ≡ has_pair runs.old s o }
     ensures len { length asks.new.items ≤ length asks.old.items }
     ensures capacity { vec_capacity asks.new ≡ vec_capacity asks.old }
 {
     let mut at = 0;
-    while at < asks.len() {
-        if is_of(&asks[at], asked.ask.serial, &asked.ask.branch) {
-            cut(asks, at);
-        } else {
-            at += 1;
-        }
+    'asks: while at < asks.len() {
+        at = drop_next_ended(asks, runs, ordered, asked, at);
     }
+}
+
+/// Takes the first wait of a wait's run from a place on out, if it is of its branch, and gives the
+/// place from which the others are.
+fn drop_next_ended(
+    asks: &mut Vec<Asked>,
+    runs: &mut BTreeSet<(u64, u64)>,
+    ordered: bool,
+    asked: &Asked,
+    from: usize,
+) -> usize
+    requires fits { from < length asks.old.items }
+    requires found { AreFound asks.old.items runs.old ordered }
+    ensures fits { result ≤ length asks.new.items }
+    ensures smaller { length asks.new.items - result < length asks.old.items - from }
+    ensures rest { filter (λ b. not (is_of asked.now.ask.serial asked.now.ask.branch b)) asks.new.items
+        ≡ filter (λ b. not (is_of asked.now.ask.serial asked.now.ask.branch b)) asks.old.items }
+    ensures before { AllBefore (λ b. not (is_of asked.now.ask.serial asked.now.ask.branch b)) asks.old.items from
+        → AllBefore (λ b. not (is_of asked.now.ask.serial asked.now.ask.branch b)) asks.new.items result }
+    ensures found { AreFound asks.new.items runs.new ordered }
+    ensures others { (o : ℕ) → list_any (λ a. nat_eq a.owner o) asks.old.items ≡ false
+        → (list_any (λ a. nat_eq a.owner o) asks.new.items ≡ false) × ((s : ℕ) → has_pair runs.new s o ≡ has_pair runs.old s o) }
+    ensures len { length asks.new.items ≤ length asks.old.items }
+    ensures capacity { vec_capacity asks.new ≡ vec_capacity asks.old }
+{
+    let at = next_place(asks.as_slice(), runs, ordered, asked.ask.serial, from);
+    if at >= asks.len() {
+        return at;
+    }
+    if !is_of(&asks[at], asked.ask.serial, &asked.ask.branch) {
+        return at + 1;
+    }
+    unlist(runs, asked.ask.serial, owner_in(asks.as_slice(), at));
+    cut(asks, at);
+    at
 }
 
 /// Notes an entry with the wait at a place, if there is one.
@@ -380,28 +412,17 @@ fn stay_ordered(ordered: bool, asks: &[Asked], owner: u64) -> bool
     }
 }
 
-/// A wait is listed: its run, and its owner where it asks a template. Whether its run was before.
-fn list_ask(pending: &mut Pending, ask: &WaitAsk, owner: u64) -> Result<bool, AllocError>
+/// A wait is listed: its run, and its owner where it asks a template.
+fn list_ask(pending: &mut Pending, ask: &WaitAsk, owner: u64) -> Result<(), AllocError>
     ensures timers { pending.new.timers ≡ pending.old.timers }
     ensures here { OnOk result (is_some ask.now.test ≡ true → has pending.new.testing owner ≡ true) }
     ensures kept { (n : ℕ) → has pending.old.testing n ≡ true → has pending.new.testing n ≡ true }
-    ensures run { OnOk result (has pending.new.runs ask.now.serial ≡ true) }
-    ensures runs { (n : ℕ) → has pending.old.runs n ≡ true → has pending.new.runs n ≡ true }
-    ensures known { IfOk result (λ known. known ≡ has pending.old.runs ask.now.serial) }
+    ensures run { OnOk result (has_pair pending.new.runs ask.now.serial owner ≡ true) }
+    ensures runs { (s o : ℕ) → has_pair pending.old.runs s o ≡ true → has_pair pending.new.runs s o ≡ true }
 {
     list_test(&mut pending.testing, ask, owner)?;
-    let known = list_run(&mut pending.runs, ask.serial)?;
-    Ok(known)
-}
-
-/// A run is listed. Whether it was before.
-fn list_run(runs: &mut BTreeSet<u64>, serial: u64) -> Result<bool, AllocError>
-    ensures here { OnOk result (has runs.new serial ≡ true) }
-    ensures kept { (n : ℕ) → has runs.old n ≡ true → has runs.new n ≡ true }
-    ensures known { IfOk result (λ known. known ≡ has runs.old serial) }
-{
-    let is_new = runs.insert(serial)?;
-    Ok(!is_new)
+    list_run(&mut pending.runs, ask.serial, owner)?;
+    Ok(())
 }
 
 /// The owner is listed, where its wait asks a template.
@@ -438,23 +459,43 @@ fn mark(pending: &mut Pending, fresh: &mut Vec<u64>, owner: u64) -> Result<(), A
 }
 
 /// Takes the waits of a run out, with what is kept of them.
-fn drop_all(asks: &mut Vec<Asked>, pending: &mut Pending, serial: u64)
-    requires timed { AreTimed asks.old.items pending.old.timers }
-    requires listed { All (IsListed pending.old.testing) asks.old.items }
+fn drop_all(asks: &mut Vec<Asked>, pending: &mut Pending, ordered: bool, serial: u64)
+    requires { AreKept asks.old.items pending.old.timers pending.old.testing pending.old.runs ordered }
     ensures rest { asks.new.items ≡ without_run serial asks.old.items }
-    ensures timed { AreTimed asks.new.items pending.new.timers }
-    ensures listed { All (IsListed pending.new.testing) asks.new.items }
-    ensures runs { pending.new.runs ≡ pending.old.runs }
+    ensures kept { AreKept asks.new.items pending.new.timers pending.new.testing pending.new.runs ordered }
 {
     let mut at = 0;
-    while at < asks.len() {
-        if asks[at].ask.serial == serial {
-            settle(pending, asks[at].owner);
-            cut(asks, at);
-        } else {
-            at += 1;
-        }
+    'asks: while at < asks.len() {
+        at = drop_next(asks, pending, ordered, serial, at);
     }
+}
+
+/// Takes the first wait of a run from a place on out, if there is one, and gives the place from
+/// which the others are.
+fn drop_next(
+    asks: &mut Vec<Asked>,
+    pending: &mut Pending,
+    ordered: bool,
+    serial: u64,
+    from: usize,
+) -> usize
+    requires fits { from < length asks.old.items }
+    requires kept { AreKept asks.old.items pending.old.timers pending.old.testing pending.old.runs ordered }
+    ensures fits { result ≤ length asks.new.items }
+    ensures smaller { length asks.new.items - result < length asks.old.items - from }
+    ensures rest { without_run serial asks.new.items ≡ without_run serial asks.old.items }
+    ensures before { AllBefore (λ a. not (nat_eq a.ask.serial serial)) asks.old.items from → AllBefore (λ a. not (nat_eq a.ask.serial serial)) asks.new.items result }
+    ensures kept { AreKept asks.new.items pending.new.timers pending.new.testing pending.new.runs ordered }
+{
+    let at = next_place(asks.as_slice(), &pending.runs, ordered, serial, from);
+    if at >= asks.len() {
+        return at;
+    }
+    let owner = owner_in(asks.as_slice(), at);
+    settle(pending, owner);
+    unlist(&mut pending.runs, serial, owner);
+    cut(asks, at);
+    at
 }
 
 /// Takes one wait out.
@@ -471,20 +512,4 @@ fn find_ask<'a>(asks: &'a [Asked], serial: u64, branch: &Branch) -> Option<&'a A
     ensures { option_copied result ≡ wait_of serial branch.now asks.now }
 {
     asks.iter().find(|asked| is_of(asked, serial, branch))
-}
-
-/// The owner of one of the waits of a run.
-fn owner_at(asks: &[Asked], serial: u64, at: usize) -> Option<u64>
-    ensures { result ≡ slice_get (owners_of serial asks.now) at }
-{
-    let mut left = at;
-    for asked in asks {
-        if asked.ask.serial == serial {
-            if left == 0 {
-                return Some(asked.owner);
-            }
-            left -= 1;
-        }
-    }
-    None
 }

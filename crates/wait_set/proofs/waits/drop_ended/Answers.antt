@@ -1,17 +1,37 @@
-use Rattle.std.proofs.Common.{◌<◌, length, take, drop, filter, ◌++◌, sym, ap, ◌∙◌, arith}
-use Rattle.std.specs.Prelude.{not}
+use Rattle.std.proofs.Common.{◌∙◌, sym, refl, arith, not}
 use Rattle.wait_set.specs.Asked.{is_of}
-use Rattle.wait_set.proofs.CutLemmas.{cut-length}
-use Rattle.wait_set.proofs.AddLemmas.{cut-any}
+use Rattle.wait_set.proofs.DropLemmas.{all-stay}
 use Rattle.wait_set.proofs.waits.drop_ended.Goals as goal
 
-pub loop-at-preserved-then-is_of : goal.loop-at-preserved-then-is_of
-loop-at-preserved-then-is_of c =
-    let lt : c.loop-at.at < length c.loop-at.asks.items = omega (arith, c.loop-at-test.true) in
+pub asks-init : goal.asks-init
+asks-init c = record {
+  fits = omega arith;
+  rest = refl;
+  before = λ n d lt within. absurd (omega (arith, lt));
+  found = c.requires;
+  others = λ o none. (none, λ s. refl);
+  len = omega arith;
+  capacity = refl;
+}
+
+pub asks-preserved : goal.asks-preserved
+asks-preserved c =
+    let inv = c.asks.invariant in
+    let next = c.drop_next_ended-at.ensures in
+    let below = next.len in
+    let under = inv.len in
     record {
-      rest = (λ k. take c.loop-at.at (c.cut.ensures.items k) ++ filter (λ b. not (is_of c.args.asked.now.ask.serial c.args.asked.now.ask.branch b)) (drop c.loop-at.at (c.cut.ensures.items k)))
-          ∙ cut-any (λ b. not (is_of c.args.asked.now.ask.serial c.args.asked.now.ask.branch b)) c.loop-at.at c.loop-at.asks.items c.index.result.now lt c.index.ensures (ap not (sym c.is_of.ensures ∙ c.if-is_of.true)) ∙ c.loop-at.invariant.rest;
-      fits = omega (arith, lt, ap length c.cut.ensures.items, cut-length c.loop-at.at c.loop-at.asks.items lt);
-      len = omega (arith, lt, ap length c.cut.ensures.items, cut-length c.loop-at.at c.loop-at.asks.items lt, c.loop-at.invariant.len);
-      capacity = c.cut.ensures.capacity ∙ c.loop-at.invariant.capacity;
+      fits = next.fits;
+      rest = next.rest ∙ inv.rest;
+      before = next.before inv.before;
+      found = next.found;
+      others = λ o none. (let here = inv.others o none in let then = next.others o here.0 in (then.0, λ s. then.1 s ∙ here.1 s));
+      len = omega (arith, below, under);
+      capacity = next.capacity ∙ inv.capacity;
     }
+
+pub returns-clause-rest : goal.returns-clause-rest
+returns-clause-rest c =
+    let inv = c.asks.invariant in
+    let test = c.asks-test.false in
+    sym (all-stay (λ b. not (is_of c.args.asked.now.ask.serial c.args.asked.now.ask.branch b)) c.asks.asks.items c.asks.at (omega (arith, test)) inv.before) ∙ inv.rest

@@ -1,0 +1,30 @@
+use Rattle.std.proofs.Common.{◌≡◌, ◌∙◌, ◌<◌, sym, subst, ap, arith, length, get_or, nat_eq, not}
+use Rattle.wait_set.specs.declared.asked.Asked.{Asked}
+use Rattle.wait_set.specs.Asked.{without_run}
+use Rattle.wait_set.specs.Runs.{has_pair}
+use Rattle.wait_set.specs.Timers.{AreKept}
+use Rattle.wait_set.proofs.DropLemmas.{cut-other, kept-cut}
+use Rattle.wait_set.proofs.waits.drop_next.Goals as goal
+
+pub returns-clause-rest : goal.returns-clause-rest
+returns-clause-rest c =
+    let place = c.next_place-at.result in
+    let asks = c.args.asks.now.items in
+    let lt : place < length asks = omega (arith, c.if-at-len.false, c.len.ensures) in
+    let len = ap length c.as_slice.ensures.value in
+    ap (without_run c.args.serial) c.cut.ensures.items
+    ∙ cut-other (λ a. not (nat_eq a.ask.serial c.args.serial)) place asks lt
+    (λ d. (λ k. not (nat_eq (get_or (sym c.as_slice.ensures.value k) place d).ask.serial c.args.serial)) ∙ ap not (c.next_place-at.ensures.of_run d (omega (arith, lt, len))))
+
+pub returns-clause-kept : goal.returns-clause-kept
+returns-clause-kept c =
+    let place = c.next_place-at.result in
+    let asks = c.args.asks.now.items in
+    let old = c.args.pending.now in
+    let new = c.settle.new.pending in
+    let runs = c.unlist.new.runs in
+    let lt : place < length asks = omega (arith, c.if-at-len.false, c.len.ensures) in
+    subst (λ xs. AreKept xs new.timers new.testing runs c.args.ordered) (sym c.cut.ensures.items)
+    (kept-cut place c.owner_in-owner.result asks old.timers new.timers old.testing new.testing old.runs runs c.args.ordered lt
+    (λ d. c.owner_in-owner.ensures d ∙ (λ k. (get_or (c.as_slice-2.ensures.value k) place d).owner))
+    c.settle.ensures.timers c.settle.ensures.testing (λ s n other. c.unlist.ensures s n other ∙ (λ k. has_pair (c.settle.ensures.runs k) s n)) c.requires.kept)
