@@ -3,6 +3,7 @@ use Rattle.std.proofs.Common.{◌≡◌, ◌∙◌, ap, refl, Bool, false, List,
 use Rattle.std.specs.Prelude.{if◌then◌else◌, length, nat_lt, Ok}
 use Rattle.std.specs.Str.{chars, is_utf8}
 use lib.Utf8.{encode}
+use Rattle.ha_value.specs.Lists.{without_cr}
 use Rattle.yaml_scan.specs.declared.fault.Code.TheVariants as code
 use Rattle.yaml_scan.specs.declared.fault.Fault.{Fault}
 use Rattle.yaml_scan.specs.declared.line.RawLine.{RawLine}
@@ -21,7 +22,7 @@ use Rattle.ha_rehearse.proofs.ConfigTree.{root, node0}
 use Rattle.ha_rehearse.proofs.ReadLemmas.{IsRead, read_as, read_made}
 
 text_lines : lines config_text ≡ from1
-unfolding config_text lines_from spaces
+unfolding config_text lines_from spaces without_cr
 text_lines = refl
 
 no_fault : line_fault from1 ≡ None
