@@ -251,18 +251,20 @@ module _ (boot : Entry) (old : Outside) (base : BusView) (at_boot : base.journal
     round_out = same_then old base.out b.out start_same (round_same base b r.same)
 
     module _ (files : Option Files) (names : List Text) (new : AreNew files names before) where
-      ran : Ran (BeginsWith boot) (scene files names b after b.out) r.feeds
-      ran = record {
+      ran : IsBus b → Ran (BeginsWith boot) (scene files names b after b.out) r.feeds
+      ran bus = record {
         begins = begun;
         lawful = r.running.lawful;
+        room = bus.room;
         named = subst (λ n. Each (IsOf n) b.journal) (sym (new_length files names before new)) r.named;
         served = all_served files b.journal b.first 0 names before after ends r.feeds new r.worked;
       }
 
-      ran_closed : (last : BusView) → 0 < length before → Closed b last → Ran (BeginsWith boot) (scene files names last after last.out) r.feeds
-      ran_closed last some c = record {
+      ran_closed : (last : BusView) → IsBus last → 0 < length before → Closed b last → Ran (BeginsWith boot) (scene files names last after last.out) r.feeds
+      ran_closed last bus some c = record {
         begins = begins_later boot b.journal last.journal c.later c.behind begun;
         lawful = c.lawful;
+        room = bus.room;
         named = subst (λ n. Each (IsOf n) last.journal) (sym (new_length files names before new)) (closed_named (length before) b last some c r.named);
         served = all_served files last.journal b.first 0 names before after ends r.feeds new
             (worked_later b.journal last.journal b.first (λ k cmds p. closed_puts b last k cmds c p) 0 before after ends r.feeds r.worked);
@@ -315,7 +317,7 @@ module _ (boot : Entry) (old : Outside) (base : BusView) (at_boot : base.journal
       stop_told (told_by 0 ends) status last after j rs out s
       (stop_ran last after r.feeds s.fault status s.bus s.is s.status_is (stored_store old last (closed_stored boot b last (begun b after ends r) c.closed r.stored))
       (same_then old b.out last.out (round_out b after ends r) (grown_out b.out last.out c.closed.grows))
-      (λ files names new. ran_closed b after ends r files names new last some c.closed) (λ full. inl (c.owes full)))
+      (λ files names new. ran_closed b after ends r files names new last s.bus some c.closed) (λ full. inl (c.owes full)))
   round_ran b after ends status j rs out some r last (inl c) (inr e) =
       told_with status last after j rs out e.journal_is e.records_are
       (let P : Status → Type 0 = λ s. CoreRan boot old before s last.journal last.records after out in
@@ -324,10 +326,10 @@ module _ (boot : Entry) (old : Outside) (base : BusView) (at_boot : base.journal
         stands = λ files names new.
             end_stands (BeginsWith boot) (scene files names last after out) old out
             (λ h. end_written last.journal last.out out e.ends.calls e.ends.errors e.ends.keep last.records whole h) (λ h. end_cut last.journal last.out out e.ends.calls e.ends.errors e.ends.keep last.records whole h)
-            (record { feeds = r.feeds; ran = ran_closed b after ends r files names new last some c.closed }) (told_by 0 ends) e.first e.has
+            (record { feeds = r.feeds; ran = ran_closed b after ends r files names new last e.bus some c.closed }) (told_by 0 ends) e.first e.has
             (λ written. told_stands b after ends r files names new last out c.free
             (record {
-              ran = ran_closed b after ends r files names new last some c.closed;
+              ran = ran_closed b after ends r files names new last e.bus some c.closed;
               through = all_through b.journal b.first c.free 0 before after ends r.feeds r.worked;
               quiet = e.quiet;
             })
@@ -339,7 +341,7 @@ module _ (boot : Entry) (old : Outside) (base : BusView) (at_boot : base.journal
       let P : BusView → Type 0 = λ z. IsStop (told_by 0 ends) status j rs out z in
       let t = subst P n.same s in
       stop_told (told_by 0 ends) status b after j rs out t
-      (stop_ran b after r.feeds t.fault status t.bus t.is t.status_is (stored_store old b r.stored) (round_out b after ends r) (λ files names new. ran b after ends r files names new) r.due)
+      (stop_ran b after r.feeds t.fault status t.bus t.is t.status_is (stored_store old b r.stored) (round_out b after ends r) (λ files names new. ran b after ends r files names new t.bus) r.due)
   round_ran b after ends status j rs out some r last (inr n) (inr e) = absurd (n.fault (ap (λ (z : BusView). z.first) (sym n.same) ∙ e.free))
 
   -- it did not go round
@@ -381,6 +383,7 @@ module _ (boot : Entry) (old : Outside) (base : BusView) (at_boot : base.journal
         record {
           begins = ([], one);
           lawful = (let P : Journal → Type 0 = λ z. Lawful z b.records in subst P (sym one) (boot_lawful b.records boot right));
+          room = bus.room;
           named = (let P : Journal → Type 0 = λ z. Each (IsOf (length names)) z in subst P (sym one) (boot_named b.records boot (length names) right));
           served = (let P : List SourceState → Type 0 = λ z. AreServed files b.journal 0 names z unread in
               subst P (sym s.same_sources) (all_served files b.journal b.first 0 names before before (map (λ (x : SourceState). None) before) unread new

@@ -7,7 +7,7 @@ use Rattle.ha_run.specs.Stands.{Ran, RanFull, RanSome, RanThrough, Scene, Stands
 
 module _ (B B' : List Entry → Type 0) (s : Scene) (begins : B s.journal → B' s.journal) (w w' : Writings) (ended : w.Ended → w'.Ended) (whole : w.Whole → w'.Whole) (part : w.Part → w'.Part) (nothing : w.Nothing → w'.Nothing) where
   ran_in : (feeds : List Feed) → Ran B s feeds → Ran B' s feeds
-  ran_in feeds r = record { begins = begins r.begins; lawful = r.lawful; named = r.named; served = r.served }
+  ran_in feeds r = record { begins = begins r.begins; lawful = r.lawful; room = r.room; named = r.named; served = r.served }
 
   through_in : (feeds : List Feed) → RanThrough B s feeds → RanThrough B' s feeds
   through_in feeds r = record { ran = ran_in feeds r.ran; through = r.through; quiet = r.quiet }

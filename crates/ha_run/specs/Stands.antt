@@ -1,5 +1,5 @@
 -- What stands at each status of a run.
-use Rattle.std.specs.Prelude.{◌≡◌, ◌⊎◌, true, false, List, [], length, Option, Some, None}
+use Rattle.std.specs.Prelude.{◌≡◌, ◌≤◌, ◌⊎◌, true, false, List, [], length, Option, Some, None}
 use Rattle.ha_model.specs.declared.journal.Entry.{Entry}
 use Rattle.ha_model.specs.Lawful.{Lawful, is_quiet}
 use Rattle.ha_model.specs.Records.{Records}
@@ -19,11 +19,12 @@ pub record Scene : Type 0 where
 
 -- the journal begins as it must
 module _ (Begins : List Entry → Type 0) where
-  -- The journal is lawful with its records, and each entry is of a source that was named. The lines of each source are put from the
-  -- commands of the bytes that were read of it.
+  -- The journal is lawful with its records and within its bound, and each entry is of a source that was named. The lines of each source
+  -- are put from the commands of the bytes that were read of it.
   pub record Ran (s : Scene) (feeds : List Feed) : Type 0 where
     pub begins : Begins s.journal
     pub lawful : Lawful s.journal s.records
+    pub room : length s.journal ≤ 1_048_576
     pub named : Each (IsOf (length s.names)) s.journal
     pub served : AreServed s.files s.journal 0 s.names s.sources feeds
 
