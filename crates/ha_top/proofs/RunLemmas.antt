@@ -4,12 +4,14 @@ use Rattle.std.specs.Prelude.{IfSome, IsSomeAnd, Ok, is_some, slice_get}
 use Rattle.ha_model.specs.declared.config.Config.{Config}
 use Rattle.ha_model.specs.declared.journal.Entry.{Entry}
 use Rattle.ha_model.specs.declared.journal.Entry.TheVariants.{Boot}
+use Rattle.ha_model.specs.Sound.{IsSoundStore}
 use Rattle.ha_model.specs.Words.{Text}
 use Rattle.store_text.specs.Store.{Switches}
 use Rattle.ha_status.specs.declared.status.Status.{Status}
 use Rattle.ha_status.specs.Causes.{IsUnread, KeepCause, ReadCause, WriteCause}
 use Rattle.ha_status.specs.Files.{Files, HoldsText, IsTextFault}
 use Rattle.ha_words.specs.declared.plan.RunWords.{RunWords}
+use Rattle.ha_words.specs.PlanOf.{IsRunnable}
 use Rattle.bus_turn.specs.declared.fault.BusFault.{BusFault}
 use Rattle.bus_turn.specs.Buses.{HasCause, HoldsStore, SinkFailed}
 use Rattle.bus_turn.specs.Growth.{SinkGrows}
@@ -156,7 +158,7 @@ kept_above o (inr (inr (inr h))) = h
 
 module _ (words : RunWords) (b : Before) (a : After) (keep : KeeperState) (text : Text) (config : Config) (stored : Option Switches) (opened : List SourceState) (trace : Option SinkState)
     (new : IsNew b) (held : HoldsText b.place.files words.config text) (read : config_of text ≡ Ok config) (kept : IfSome b.keep.kept (λ k. AreStored k stored))
-    (new_sources : AreNew b.place.files words.sources opened) (named : IsNamedTrace words.trace trace) (same_kept : keep.kept ≡ b.keep.kept) where
+    (sound : IsSoundStore stored) (runnable : IsRunnable words) (new_sources : AreNew b.place.files words.sources opened) (named : IsNamedTrace words.trace trace) (same_kept : keep.kept ≡ b.keep.kept) where
   abbrev boot : Entry
   boot = Boot text config stored words.start words.zone
 
@@ -174,7 +176,18 @@ module _ (words : RunWords) (b : Before) (a : After) (keep : KeeperState) (text 
     from_core = r.stands b.place.files words.sources new_sources
 
     begins : BeginsWith boot a.journal → IsBooted words b a.journal
-    begins h = record { text = text; config = config; stored = stored; later = h.0; text_is = held; config_is = read; stored_is = kept; boots = h.1 }
+    begins h = record {
+      text = text;
+      config = config;
+      stored = stored;
+      later = h.0;
+      text_is = held;
+      config_is = read;
+      stored_is = kept;
+      stored_is_sound = sound;
+      runnable = runnable;
+      boots = h.1;
+    }
 
     part : IsPartWritten old view → IsPartWritten (handed b) (seen a a.err.took)
     part (inl w) = inl w

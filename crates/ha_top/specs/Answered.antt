@@ -7,12 +7,14 @@ use Rattle.ha_io.specs.Told.{Call, IsAskedSome, and_asked}
 use Rattle.ha_model.specs.declared.config.Config.{Config}
 use Rattle.ha_model.specs.declared.journal.Entry.{Entry}
 use Rattle.ha_model.specs.declared.journal.Entry.TheVariants.{Boot}
+use Rattle.ha_model.specs.Sound.{IsSoundStore}
 use Rattle.ha_model.specs.Words.{Text}
 use Rattle.store_text.specs.Store.{Switches, switches_in}
 use Rattle.ha_status.specs.declared.status.Status.{Status}
 use Rattle.ha_status.specs.Causes.{IsUnopened, KeepCause, OneRose, ReadCause, WriteCause}
 use Rattle.ha_status.specs.Files.{HoldsText, IsTextFault}
 use Rattle.ha_words.specs.declared.plan.RunWords.{RunWords}
+use Rattle.ha_words.specs.PlanOf.{IsRunnable}
 use Rattle.bus_turn.specs.States.{SinkState}
 use Rattle.ha_run.specs.Stands.{Scene, StandsAt}
 use Rattle.conf_auto.specs.Config.{config_of}
@@ -28,7 +30,8 @@ AreStored None stored = stored ≡ None
 AreStored (Some text) stored = (switches : Switches) × (switches_in text ≡ Ok switches) × (stored ≡ Some switches)
 
 -- the journal begins with the Boot of the bytes that the place holds under the configuration's name, the configuration of these bytes, the
--- switches that the keeper held, the start and the zone
+-- switches that the keeper held, the start and the zone. The names of the switches are in UTF-8 and in byte order, each once, and the words
+-- are as every plan of `run` has them: the start is a moment, and the zone is one, in UTF-8.
 pub record IsBooted (words : RunWords) (b : Before) (journal : List Entry) : Type 0 where
   pub text : Text
   pub config : Config
@@ -37,6 +40,8 @@ pub record IsBooted (words : RunWords) (b : Before) (journal : List Entry) : Typ
   pub text_is : HoldsText b.place.files words.config text
   pub config_is : config_of text ≡ Ok config
   pub stored_is : IfSome b.keep.kept (λ kept. AreStored kept stored)
+  pub stored_is_sound : IsSoundStore stored
+  pub runnable : IsRunnable words
   pub boots : journal ≡ Boot text config stored words.start words.zone ∷ later
 
 abbrev pub scene : RunWords → Before → After → Scene

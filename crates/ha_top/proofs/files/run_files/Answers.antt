@@ -80,7 +80,13 @@ returns-clause-lived g c =
     ran_lived c.args.words.now _ _ (keeper_of g.Q.Keeper.kept g.Q.Keeper.faults c.load_store.new.keep) c.in-Ok.made.text c.in-Ok.made.config c.in-Ok-load_store.stored
     (map state c.open_sources-sources.result.sources) (option_map sink c.in-Ok-open_trace.trace)
     (record { out_faults = c.requires.out_new.0; out_zeros = c.requires.out_new.1; err_faults = c.requires.err_new.0; err_zeros = c.requires.err_new.1; keep_faults = c.requires.keep_new })
-    (subst (λ (z : Text). HoldsText (g.P.Place.holds c.args.place.now) z c.in-Ok.made.text) c.as_str.ensures.value c.in-Ok.ensures.config.holds) c.in-Ok.ensures.config.reads c.in-Ok-load_store.ensures.ok
+    (subst (λ (z : Text). HoldsText (g.P.Place.holds c.args.place.now) z c.in-Ok.made.text) c.as_str.ensures.value c.in-Ok.ensures.config.holds) c.in-Ok.ensures.config.reads c.in-Ok-load_store.ensures.ok c.in-Ok-load_store.ensures.sound
+    (record {
+      few = record { some_source = c.requires.some; few_sources = c.requires.few };
+      in_time = c.requires.in_time;
+      zoned = c.requires.zoned;
+      zone_is_text = c.requires.zone_is_text;
+    })
     (subst (λ z. AreNew z c.args.words.now.sources (map state c.open_sources-sources.result.sources)) c.read_config_at.ensures.same_files
     (subst (λ z. AreNew (g.P.Place.holds c.read_config_at.new.place) z (map state c.open_sources-sources.result.sources)) c.as_slice.ensures all))
     c.in-Ok-open_trace.ensures.named c.load_store.ensures.keeps c.load_store.ensures.never_falls c.run_booted.ensures
