@@ -59,7 +59,7 @@ module _ (name : Text) (b : Before) (a : After) (u : IsUnhinderedReplay name b a
   Writes s = WriteCause (OneRose b.out.faults a.out.faults b.err.faults a.err.faults) (OneRose b.out.zeros a.out.zeros b.err.zeros a.err.zeros) s
 
   unread : (s : Status) → IsUnread s → Opens s → Good s
-  unread (Status.OpenFault other) is unopened = absurd (u.opened unopened.1.rose)
+  unread (Status.OpenFault other) is unopened = absurd (u.well.opened unopened.1.rose)
   unread Status.Memory is unopened = inr refl
   unread Status.Ok is unopened = absurd is
   unread Status.Usage is unopened = absurd is
@@ -79,11 +79,11 @@ module _ (name : Text) (b : Before) (a : After) (u : IsUnhinderedReplay name b a
   judged text end j rs ended left o Status.JournalFull is read written = absurd (not_none text end o is.no_trace)
   judged text end j rs ended left o (Status.SourceTooLong source) is read written = absurd (not_longer text end o is.1)
   judged text end j rs ended left o (Status.ReadFault None) is read written = absurd is
-  judged text end j rs ended left o (Status.ReadFault (Some k)) is read written = absurd (none-unread a.sources u.read k read.0 (map (λ y. y.name) a.sources) read.2)
+  judged text end j rs ended left o (Status.ReadFault (Some k)) is read written = absurd (none-unread a.sources u.well.read k read.0 (map (λ y. y.name) a.sources) read.2)
   judged text end j rs ended left o (Status.WriteFault false) is read written =
-      absurd (one-well b.out.faults b.err.faults a.out.faults a.err.faults u.out_well.no_fault u.err_well.no_fault written)
+      absurd (one-well b.out.faults b.err.faults a.out.faults a.err.faults u.well.out_well.no_fault u.well.err_well.no_fault written)
   judged text end j rs ended left o (Status.WriteFault true) is read written =
-      absurd (one-well b.out.zeros b.err.zeros a.out.zeros a.err.zeros u.out_well.no_zero u.err_well.no_zero written)
+      absurd (one-well b.out.zeros b.err.zeros a.out.zeros a.err.zeros u.well.out_well.no_zero u.well.err_well.no_zero written)
   judged text end j rs ended left o Status.Usage is read written = absurd is
   judged text end j rs ended left o (Status.ConfigRefused line code) is read written = absurd is
   judged text end j rs ended left o (Status.OpenFault other) is read written = absurd is

@@ -1,7 +1,8 @@
 -- The trace of a run is what a replay takes, and its calls are the run's.
-use Rattle.std.proofs.Common.{◌≡◌, ◌∙◌, ap, sym, subst, inl, inr, true, Bool, [], ◌∷◌, append-nil}
+use Rattle.std.proofs.Common.{◌≡◌, ◌∙◌, ap, sym, subst, inl, inr, true, Bool, List, [], append-nil}
+use Rattle.std.proofs.lemmas.Str.{is_utf8-from_IsUtf8}
 use Rattle.std.specs.Prelude.{Option, Some, None, IfSome, IsSomeAnd}
-use Rattle.ha_model.specs.Words.{Text, first_of_list}
+use Rattle.ha_model.specs.Words.{Text}
 use Rattle.ha_model.specs.Journal.{HasEntry, Journal}
 use Rattle.ha_model.specs.Lawful.{Lawful}
 use Rattle.ha_model.specs.Records.{Records}
@@ -12,8 +13,9 @@ use Rattle.ha_status.specs.declared.status.Status.{Status}
 use Rattle.ha_status.specs.Causes.{OneRose}
 use Rattle.ha_status.specs.Files.{Files}
 use Rattle.ha_words.specs.declared.plan.RunWords.{RunWords}
-use Rattle.ha_run.specs.Stands.{StandsAt}
-use Rattle.trace_laws.specs.Runs.{Begins, IsFirst, IsRun}
+use Rattle.ha_run.specs.Served.{Feed}
+use Rattle.ha_run.specs.Stands.{RanThrough, Scene, StandsAt, Writings}
+use Rattle.trace_laws.specs.Runs.{Begins, IsRun}
 use Rattle.trace_laws.specs.Tells.{IsTraceOf}
 use Rattle.trace_laws.proofs.RunLemmas.{one_run}
 use Rattle.replay_file.specs.declared.front.FrontEnd.{FrontEnd}
@@ -24,7 +26,8 @@ use Rattle.ha_top.specs.Views.{After, Before}
 use Rattle.ha_top.specs.Written.{written}
 use Rattle.ha_top.specs.Answered.{Answered, IsBooted, scene}
 use Rattle.ha_top.specs.Program.{Replayed}
-use Rattle.top_laws.specs.Traced.{IsHeld, IsTraced}
+use Rattle.top_laws.specs.Traced.{HasEnded, IsHeld, IsTraced}
+use Rattle.top_laws.proofs.BootTexts.{config-utf8, stored-ordered, stored-utf8}
 
 -- ---- the trace of a run
 
@@ -40,20 +43,55 @@ took_is (Some s) whole text all told = by s.took told all
     by None told all = absurd cc
     by (Some t) told all = sym (some_same t text told) ∙ all
 
-run_of : (j : Journal) (rs : Records) → IsSomeAnd (first_of_list j) IsFirst → Lawful j rs → HasEntry j × IsRun j rs
-run_of [] rs first lawful = absurd first
-run_of (x ∷ xs) rs first lawful = (tt, (first, lawful))
+-- what is booted may stand first in a trace
+booted_run : (words : RunWords) (b : Before) (j : Journal) (rs : Records) → IsBooted words b j → Lawful j rs → HasEntry j × IsRun j rs
+booted_run words b j rs boot lawful =
+    let P : Journal → Type 0 = λ z. HasEntry z × IsRun z rs in
+    subst P (sym boot.boots) (
+      tt,
+      (
+        record {
+          config_is = boot.config_is;
+          start = boot.runnable.in_time;
+          zone = boot.runnable.zoned;
+          ordered = stored-ordered boot.stored boot.stored_is_sound;
+          utf8 = record {
+            text = config-utf8 boot.text boot.config boot.config_is;
+            names = stored-utf8 boot.stored boot.stored_is_sound;
+            zone = is_utf8-from_IsUtf8 words.zone boot.runnable.zone_is_text;
+          };
+        },
+        subst (λ z. Lawful z rs) boot.boots lawful,
+      ),
+    )
+
+-- a run that came to its end wrote all, and is through
+module _ (B : Journal → Type 0) (s : Scene) (w : Writings) where
+  pub ran_to_end : (status : Status) → HasEnded status → StandsAt B s w status → w.Ended × ((feeds : List Feed) × RanThrough B s feeds)
+  ran_to_end Status.Ok ended h = (h.0, (h.1.0, h.1.1))
+  ran_to_end (Status.ReadFault (Some source)) ended h = (h.0, (h.1.0, h.1.1))
+  ran_to_end (Status.SourceTooLong source) ended h = (h.0, (h.1.0, h.1.1))
+  ran_to_end (Status.ReadFault None) ended h = absurd ended
+  ran_to_end Status.Usage ended h = absurd ended
+  ran_to_end (Status.ConfigRefused line code) ended h = absurd ended
+  ran_to_end (Status.OpenFault name) ended h = absurd ended
+  ran_to_end (Status.WriteFault zero) ended h = absurd ended
+  ran_to_end Status.KeepFault ended h = absurd ended
+  ran_to_end Status.JournalFull ended h = absurd ended
+  ran_to_end (Status.StoreRefused code) ended h = absurd ended
+  ran_to_end Status.Memory ended h = absurd ended
+  ran_to_end (Status.TraceRefused line) ended h = absurd ended
 
 pub run-traced : (words : RunWords) (b : Before) (a : After) (text : Text) → Answered words b a → IsTraced a text → IsTraceOf text a.journal a.records
 run-traced words b a text x t =
-    let stands : StandsAt (IsBooted words b) (scene words b a) (written b a) Status.Ok = subst (StandsAt (IsBooted words b) (scene words b a) (written b a)) t.ended x.stands in
-    let through = stands.1.1 in
-    let run = run_of a.journal a.records t.first through.ran.lawful in
+    let end = ran_to_end (IsBooted words b) (scene words b a) (written b a) a.status t.ended x.stands in
+    let through = end.1.1 in
+    let run = booted_run words b a.journal a.records through.ran.begins through.ran.lawful in
     record {
       run = run.1;
-      room = t.room;
+      room = through.ran.room;
       ends = λ _. (run.0, through.quiet);
-      text_is = took_is a.trace (trace_text a.journal true) text stands.0.texts.trace t.told ∙ sym (append-nil (trace_text a.journal true));
+      text_is = took_is a.trace (trace_text a.journal true) text end.0.texts.trace t.told ∙ sym (append-nil (trace_text a.journal true));
     }
 
 -- ---- a replay of it

@@ -57,13 +57,17 @@ pub record IsWholeTrace (text : Text) : Type 0 where
   pub trace : IsTraceOf text journal records
   pub within : length text ≤ most_trace_bytes
 
--- The file is the trace of a finished run, the place tells its files and did not fail, and neither did the outputs and the source.
-pub record IsUnhinderedReplay (name : Text) (b : Before) (a : After) : Type 0 where
-  pub traced : IsSomeAnd b.place.files (λ f. IsSomeAnd (f name) IsWholeTrace)
+-- the place did not fail, and neither did the outputs and the source
+pub record IsWellReplay (b : Before) (a : After) : Type 0 where
   pub opened : Rose b.place.faults a.place.faults → ⊥
   pub out_well : IsWell b.out a.out
   pub err_well : IsWell b.err a.err
   pub read : Each IsRead a.sources
+
+-- The file is the trace of a finished run, the place tells its files, and nothing failed.
+pub record IsUnhinderedReplay (name : Text) (b : Before) (a : After) : Type 0 where
+  pub traced : IsSomeAnd b.place.files (λ f. IsSomeAnd (f name) IsWholeTrace)
+  pub well : IsWellReplay b a
 
 -- There is room for the journal of so many lines, and the output did not fail.
 pub record IsUnhinderedRehearsal (lines : ℕ) (b : Before) (a : After) : Type 0 where
