@@ -34,7 +34,7 @@ fn one(
 ) -> Result<Many<(EntityId, Option<StateObject>)>, AllocError>
     ensures { IfOk result (λ before. before ≡ (entity.now, state) ∷ []) }
 {
-    let mut list = Many::make(alloc);
+    let mut list = Many::with_room(alloc, 1)?;
     list.push((entity.copy(alloc)?, state))?;
     Ok(list)
 }
