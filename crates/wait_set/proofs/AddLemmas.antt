@@ -1,5 +1,5 @@
 -- One wait more, in place of the ended ones of its run and branch.
-use Rattle.std.proofs.Common.{◌≡◌, ℕ, zero, suc, ◌+◌, ◌<◌, List, [], ◌∷◌, ◌++◌, length, take, drop, get_or, filter, Bool, true, false, refl, sym, ap, subst, ◌∙◌, arith, Option}
+use Rattle.std.proofs.Common.{◌≡◌, ℕ, ◌+◌, List, [], ◌∷◌, ◌++◌, filter, Bool, true, false, refl, sym, ◌∙◌, Option}
 use Rattle.std.specs.Prelude.{Some, None, not, nat_eq, is_none, ◌&&◌, ◌||◌, if◌then◌else◌}
 use Rattle.std.specs.List.{list_any}
 use Rattle.std.proofs.lemmas.Bool.{eqb-true}
@@ -9,7 +9,7 @@ use Rattle.wait_set.specs.declared.asked.Asked.{Asked}
 use Rattle.wait_set.specs.Asked.{added, is_of}
 use Rattle.wait_set.specs.Timers.{due_in, due_for, timer_added, AreApart, AreTimed}
 use Rattle.wait_set.proofs.TimedLemmas.{flip}
-use Rattle.wait_set.proofs.CutLemmas.{without, none-for, or-left, or-right}
+use Rattle.wait_set.proofs.CutLemmas.{none-for, or-left, or-right}
 
 any-filter : (p f : Asked → Bool) (asks : List Asked) → list_any p asks ≡ false → list_any p (filter f asks) ≡ false
 any-filter p f [] h = refl

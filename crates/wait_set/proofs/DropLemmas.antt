@@ -1,6 +1,6 @@
 -- The waits of a run are taken out, one after the other.
-use Rattle.std.proofs.Common.{◌≡◌, ℕ, zero, suc, ◌+◌, ◌<◌, ◌≤◌, List, [], ◌∷◌, length, get_or, filter, Bool, true, false, refl, sym, ap, subst, ◌∙◌, arith, inl, inr, All}
-use Rattle.std.specs.Prelude.{nat_eq, ◌||◌, if◌then◌else◌}
+use Rattle.std.proofs.Common.{◌≡◌, ℕ, zero, suc, ◌<◌, ◌≤◌, List, [], ◌∷◌, length, get_or, filter, Bool, true, false, refl, sym, ap, subst, ◌∙◌, arith, inl, inr, All}
+use Rattle.std.specs.Prelude.{nat_eq, if◌then◌else◌}
 use Rattle.std.specs.BTreeSet.{BTreeSet}
 use Rattle.std.specs.List.{list_any}
 use Rattle.std.proofs.lemmas.Bool.{cases_lt}
@@ -9,7 +9,7 @@ use Rattle.timer_queue.specs.Timers.{Timer, removed}
 use Rattle.wait_set.specs.declared.asked.Asked.{Asked}
 use Rattle.wait_set.specs.Concern.{Ascend, has}
 use Rattle.wait_set.specs.Runs.{AllBefore, IsPaired, Pair, has_pair}
-use Rattle.wait_set.specs.Timers.{AreApart, AreFound, AreKept, AreTimed, IsListed}
+use Rattle.wait_set.specs.Timers.{AreApart, AreFound, AreKept, AreTimed}
 use Rattle.wait_set.proofs.CutLemmas.{apart-cut, cut-length, or-left, or-right, timed-cut, without}
 use Rattle.wait_set.proofs.KeptLemmas.{listed-cut}
 use Rattle.wait_set.proofs.TimedLemmas.{flip, other-owner}

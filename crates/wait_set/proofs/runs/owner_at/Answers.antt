@@ -1,6 +1,5 @@
-use Rattle.std.proofs.Common.{◌≡◌, ◌∙◌, sym, arith, drop}
+use Rattle.std.proofs.Common.{◌∙◌, sym, arith}
 use Rattle.std.specs.Prelude.{slice_get}
-use Rattle.wait_set.specs.Asked.{owners_of}
 use Rattle.wait_set.proofs.RunLemmas.{owner-here, owner-more, owners-skip}
 use Rattle.wait_set.proofs.runs.owner_at.Goals as goal
 

@@ -1,4 +1,4 @@
-use Rattle.std.proofs.Common.{◌≡◌, ◌≤◌, get_or, arith, refl}
+use Rattle.std.proofs.Common.{get_or, arith, refl}
 use Rattle.wait_set.proofs.RunLemmas.{before, behind, least-from, passed}
 use Rattle.wait_set.proofs.runs.seek.Goals as goal
 

@@ -1,5 +1,4 @@
-use Rattle.std.proofs.Common.{◌≡◌, ◌∙◌, ◌<◌, sym, subst, ap, arith, length, get_or, nat_eq, not}
-use Rattle.wait_set.specs.declared.asked.Asked.{Asked}
+use Rattle.std.proofs.Common.{◌∙◌, ◌<◌, sym, subst, ap, arith, length, get_or, nat_eq, not}
 use Rattle.wait_set.specs.Asked.{without_run}
 use Rattle.wait_set.specs.Runs.{has_pair}
 use Rattle.wait_set.specs.Timers.{AreKept}
