@@ -8,8 +8,6 @@ ghost use Rattle.ha_model.specs.Triggers as triggers;
 use ha_model::{EntityId, Many, Num, Plain, StateObject, Trigger, Value, Word};
 use std::alloc::{AllocError, Global};
 
-// This and `add` stand where they are called: a name's length is known there.
-#[inline(always)]
 fn text(alloc: Global, text: &str) -> Result<Value, AllocError>
     ensures { IfOk result (λ v. v ≡ Value.Text text.now) }
 {
@@ -17,7 +15,6 @@ fn text(alloc: Global, text: &str) -> Result<Value, AllocError>
 }
 
 /// A pair, appended.
-#[inline(always)]
 fn add(
     alloc: Global,
     pairs: &mut Many<(Word, Value)>,
