@@ -6,6 +6,7 @@ ghost use Rattle.ha_value.specs.Ids.{entity_text};
 ghost use Rattle.ha_model.specs.Triggers as triggers;
 
 use ha_model::{EntityId, Many, Num, Plain, StateObject, Trigger, Value, Word};
+use itoa::Buffer;
 use std::alloc::{AllocError, Global};
 
 fn text(alloc: Global, text: &str) -> Result<Value, AllocError>
@@ -30,8 +31,8 @@ fn add(
 fn decimal(alloc: Global, number: u32) -> Result<Value, AllocError>
     ensures { IfOk result (λ v. v ≡ Value.Text (decimal number)) }
 {
-    let word = Word::from_string(alloc, format!(in alloc; "{number}")?)?;
-    Ok(Value::Text(word))
+    let mut room = Buffer::new();
+    text(alloc, room.format(number))
 }
 
 /// The first variables of each trigger, and room for so many in all: the record of a run keeps them for good.
