@@ -55,11 +55,15 @@ module _ {X Y : Type 0} (seen m n : BTreeMap (String Y) X) (same_map : seen ≡ 
 
 module _ {Y : Type 0} (seen m n : BTreeMap (String Y) StateObject) (same_map : seen ≡ m) (text : Text) (attributes : Pairs) (at : ℕ) where
   -- a report where there was nothing
-  pub reported-new : (key bs name : Text) (made : StateObject) → key ≡ name → bs ≡ name → None ≡ found m n bs → At seen n key (Some made)
-      → made ≡ next_object None text attributes at → ChangesName m n name (Some (next_object (get_by_text m name) text attributes at))
-  reported-new key bs name made e f none u is =
-      subst (λ w. ChangesName m n name (Some w)) (is ∙ ap (λ o. next_object o text attributes at) (none ∙ ap (get_by_text m) f))
-      (inserts-name seen m n same_map key name (Some made) e u)
+  pub reported-new : (bs name : Text) → bs ≡ name → None ≡ found m n bs → ChangesName seen n name (Some (next_object None text attributes at))
+      → ChangesName m n name (Some (next_object (get_by_text m name) text attributes at))
+  reported-new bs name f none written =
+      subst (λ k. ChangesName k n name (Some (next_object (get_by_text m name) text attributes at))) same_map
+      (subst (λ o. ChangesName seen n name (Some (next_object o text attributes at))) (none ∙ ap (get_by_text m) f) written)
+
+-- what a map that is the one from before says
+pub same-as-before : {X Y : Type 0} (seen m n : BTreeMap (String Y) X) → seen ≡ m → SaysTheSame seen n → SaysTheSame m n
+same-as-before seen m n same_map said = subst (λ k. SaysTheSame k n) same_map said
 
 both : (a b : Bool) → a ≡ true → b ≡ true → (a && b) ≡ true
 both true b p q = q

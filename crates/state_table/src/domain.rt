@@ -79,6 +79,26 @@ fn update(
     Ok(Change::Attributes)
 }
 
+/// A first report of the entity with this object id. Its locals are a function's own, so that no other report makes room for them.
+#[inline(never)]
+fn appear(
+    alloc: Global,
+    domain: &mut Domain,
+    name: &Word,
+    text: &Word,
+    attributes: &Many<(Word, Value)>,
+    now: Moment,
+) -> Result<Change, AllocError>
+    ensures change { IfOk result (λ change. change ≡ change_of None text.now attributes.now) }
+    ensures ok { OnOk result (ChangesName domain.old domain.new name.now (Some (next_object_lem None text.now attributes.now now))) }
+    ensures err { OnErr result (SaysTheSame domain.old domain.new) }
+{
+    let key = key_of(alloc, name)?;
+    let object = next_object(alloc, None, text, attributes, now)?;
+    domain.insert(key, object)?;
+    Ok(Change::Appeared)
+}
+
 /// A report of the entity with this object id.
 pub fn report_in(
     alloc: Global,
@@ -94,12 +114,7 @@ pub fn report_in(
 {
     match domain.get_mut(name.as_str()) {
         Some(object) => update(alloc, object, text, attributes, now),
-        None => {
-            let key = key_of(alloc, name)?;
-            let object = next_object(alloc, None, text, attributes, now)?;
-            domain.insert(key, object)?;
-            Ok(Change::Appeared)
-        }
+        None => appear(alloc, domain, name, text, attributes, now),
     }
 }
 

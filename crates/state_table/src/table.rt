@@ -65,6 +65,7 @@ impl StateTable {
     }
 
     /// A report of an entity, after which Now is `now`. After an error the states are as before.
+    #[inline(always)]
     pub fn report(
         &mut self,
         alloc: Global,

@@ -1,5 +1,8 @@
-use Rattle.std.proofs.Common.{rules}
-use Rattle.state_table.proofs.DomainLemmas.{reported-in, reported-new, says-the-same, ok-then, err-then}
+use Rattle.std.proofs.Common.{◌∙◌, ap, rules}
+use Rattle.std.specs.BTreeMap.{get_by_text}
+use Rattle.state_table.specs.Domain.{change_of}
+use Rattle.state_table.proofs.DomainLemmas.{reported-in, reported-new, same-as-before, says-the-same, ok-then, err-then}
+use Rattle.state_table.proofs.TableLemmas.{ok-along}
 use Rattle.state_table.proofs.domain.report_in.Goals as goal
 
 pub returns-in-Some-clause-ok : goal.returns-in-Some-clause-ok
@@ -14,7 +17,16 @@ returns-in-Some-clause-err c =
     let u = (c.get_mut.follows.holds c.update.new.object).3 (search rules) in
     err-then c.update.result (says-the-same c.args.domain.now n _ _ _ c.update.new.object c.as_str.ensures.value c.in-Some.ensures.value u) c.update.ensures.err
 
-pub returns-in_ok-insert-in-None-clause-ok : goal.returns-in_ok-insert-in-None-clause-ok
-returns-in_ok-insert-in-None-clause-ok c =
-    reported-new c.get_mut.follows.lender-at-none c.args.domain.now c.insert.new.self c.get_mut.follows.holds-at-none _ _ _ _ _ _ c.in_ok-object-in-None.object
-    c.in_ok-key-in-None.ensures c.as_str.ensures.value c.in-None.ensures.value c.in_ok-insert-in-None.ensures.updates c.in_ok-object-in-None.ensures
+pub returns-in-None-clause-change : goal.returns-in-None-clause-change
+returns-in-None-clause-change c =
+    ok-along c.appear.result (λ o. change_of o c.args.text.now c.args.attributes.now) _ _ (c.in-None.ensures.value ∙ ap (get_by_text c.args.domain.now) c.as_str.ensures.value) c.appear.ensures.change
+
+pub returns-in-None-clause-ok : goal.returns-in-None-clause-ok
+returns-in-None-clause-ok c =
+    ok-then c.appear.result
+    (reported-new c.get_mut.follows.lender-at-none c.args.domain.now c.appear.new.domain c.get_mut.follows.holds-at-none _ _ _ _ _ c.as_str.ensures.value c.in-None.ensures.value)
+    c.appear.ensures.ok
+
+pub returns-in-None-clause-err : goal.returns-in-None-clause-err
+returns-in-None-clause-err c =
+    err-then c.appear.result (same-as-before c.get_mut.follows.lender-at-none c.args.domain.now c.appear.new.domain c.get_mut.follows.holds-at-none) c.appear.ensures.err
