@@ -16,7 +16,8 @@ use Rattle.yaml_tree.specs.Tree.{faults, judged, of_pieces, tree}
 use Rattle.conf_field.specs.Readings.{bad}
 use Rattle.conf_auto.specs.Config.{config_of, config_with, of_node, of_root}
 use Rattle.rehearsal.specs.Generated.{config_text}
-use Rattle.ha_rehearse.proofs.ConfigLines.{all_found, from1}
+use Rattle.ha_rehearse.proofs.ConfigRows.{from1}
+use Rattle.ha_rehearse.proofs.ConfigLines.{all_found}
 use Rattle.ha_rehearse.proofs.ConfigParts.{root_read}
 use Rattle.ha_rehearse.proofs.ConfigTree.{root, node0}
 use Rattle.ha_rehearse.proofs.ReadLemmas.{IsRead, read_as, read_made}

@@ -6,6 +6,8 @@ pub mod LineLemmas
 pub mod TreeLemmas
 pub mod ReadLemmas
 pub mod ShownLemmas
+pub mod ConfigRows
+pub mod FirstLines
 pub mod ConfigLines
 pub mod ConfigTree
 pub mod ConfigParts
