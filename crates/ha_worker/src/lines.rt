@@ -9,14 +9,15 @@ use ha_text::LineCut;
 use std::alloc::{AllocError, Global};
 use std::collections::VecDeque;
 
-/// Reads the command of a line, and puts it behind these.
+/// Reads the command of a line, and puts it behind these. There is room for it before it is read: so no error has to hand it back.
 fn push_cmd(alloc: Global, line: &[u8], cmds: &mut VecDeque<Cmd>) -> Result<(), AllocError>
     requires open { AreOpen cmds.old.items }
     ensures cmds { OnOk result (cmds.new.items ≡ cmds.old.items ++ cmd_of line.now ∷ []) }
     ensures open { OnOk result (AreOpen cmds.new.items) }
 {
+    cmds.reserve(1)?;
     let cmd = read_cmd(alloc, line)?;
-    cmds.push_back(cmd)?;
+    cmds.push_back_reserved(cmd);
     Ok(())
 }
 
