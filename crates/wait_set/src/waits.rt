@@ -385,7 +385,7 @@ fn note_entry<A: Answers>(
     ensures fresh { OnOk result (fresh.new.items ≡ fresh.old.items ++ owners_ended place (A.sight answers.now) fired.now asks.old.items) }
     ensures kept { AreKept asks.new.items pending.new.timers pending.new.testing pending.new.runs ordered }
 {
-    if !ordered {
+    if asks.is_empty() || !ordered {
         return note_all(alloc, asks, fresh, pending, place, fired, answers);
     }
     let places = concerned(

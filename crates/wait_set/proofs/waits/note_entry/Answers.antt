@@ -19,5 +19,5 @@ note_some-requires g c n d lt none =
 pub returns-clause-kept : goal.returns-clause-kept
 returns-clause-kept g c = c.note_some.ensures.kept c.args.ordered c.requires
 
-pub returns-then-not-ordered-clause-kept : goal.returns-then-not-ordered-clause-kept
-returns-then-not-ordered-clause-kept g c = c.note_all.ensures.kept c.args.ordered c.requires
+pub returns-then-is_empty-clause-kept : goal.returns-then-is_empty-clause-kept
+returns-then-is_empty-clause-kept g c = c.note_all.ensures.kept c.args.ordered c.requires
