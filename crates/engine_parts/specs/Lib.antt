@@ -13,3 +13,4 @@ pub mod Pending
 pub mod Kept
 pub mod Records
 pub mod Stages
+pub mod Without

@@ -72,6 +72,7 @@ impl<T: Drop> Slots<T> {
     /// The slot at that place is emptied, if there is one.
     pub fn drop_at(&mut self, at: usize)
         ensures items { at < length self.old.items → self.new.items ≡ set self.old.items at None }
+        ensures beyond { length self.old.items ≤ at → self.new.items ≡ self.old.items }
         ensures spare { self.new.spare ≡ self.old.spare }
     {
         if at < self.list.len() {

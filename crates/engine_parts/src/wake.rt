@@ -9,10 +9,12 @@ ghost use Rattle.ha_ready.specs.ReadyPairs.{branches_at, pairs_from};
 ghost use Rattle.ha_ready.specs.Agree.{AgreesBut, step_at, touched};
 ghost use Rattle.engine_parts.specs.Touched.{QueueKept, due_places, wait_places};
 ghost use Rattle.timer_queue.specs.Timers.{first_due, after_due};
-ghost use Rattle.trig_set.specs.Stands.{StandsFor};
+ghost use Rattle.ha_past.specs.Firings.{without_owner};
+ghost use Rattle.trig_set.specs.Stands.{StandsFor, attached};
 ghost use Rattle.wait_set.specs.Asked.{WaitTable};
 ghost use Rattle.engine_parts.specs.Waiting.{fresh};
 ghost use Rattle.engine_parts.specs.Pending.{AreOthers, AreWaits};
+ghost use Rattle.engine_parts.specs.Without.{without_owners};
 ghost use Rattle.engine_parts.specs.Kept.{KeysBelow, Owned};
 
 use crate::ready::{Ready, set_run};
@@ -116,6 +118,7 @@ fn wake_delays(
 
 /// The triggers of a wait that has ended are detached.
 pub fn detach(triggers: &mut TrigSet, owner: u64)
+    ensures rest { attached triggers.new ≡ without_owner owner (attached triggers.old) }
     ensures stands { (j : Journal) → StandsFor triggers.old j → StandsFor triggers.new j }
     ensures owned { (j : Journal) (left : List ℕ) (w : WaitTable) → 1024 ≤ owner → AreOthers (owner ∷ left) w.asks → Owned j triggers.old w → Owned j triggers.new w }
 {
@@ -124,6 +127,7 @@ pub fn detach(triggers: &mut TrigSet, owner: u64)
 
 /// The triggers of waits that have ended are detached.
 fn detach_all(triggers: &mut TrigSet, owners: &[u64])
+    ensures rest { attached triggers.new ≡ without_owners owners.now (attached triggers.old) }
     ensures stands { (j : Journal) → StandsFor triggers.old j → StandsFor triggers.new j }
     ensures owned { (j : Journal) (w : WaitTable) → AreWaits owners.now → AreOthers owners.now w.asks → Owned j triggers.old w → Owned j triggers.new w }
 {
@@ -172,6 +176,7 @@ pub fn wake(
     waits: &Waits,
 ) -> Result<(), AllocError>
     ensures stands { OnOk result ((j : Journal) → StandsFor triggers.old j → StandsFor triggers.new j) }
+    ensures rest { OnOk result (attached triggers.new ≡ without_owners waits.now.fresh (attached triggers.old)) }
     ensures owned { OnOk result ((j : Journal) → AreWaits waits.now.fresh → AreOthers waits.now.fresh waits.now.asks → Owned j triggers.old waits.now → Owned j triggers.new waits.now) }
     ensures over { OnOk result (due_places now delays.new ≡ []) }
     ensures queue { OnOk result (QueueKept now delays.old delays.new) }
@@ -199,6 +204,7 @@ pub fn wake_step(
     place: u64,
 ) -> Result<(), AllocError>
     ensures stands { OnOk result ((j : Journal) → StandsFor triggers.old j → StandsFor triggers.new j) }
+    ensures rest { OnOk result (attached triggers.new ≡ without_owners waits.now.fresh (attached triggers.old)) }
     ensures owned { OnOk result ((j : Journal) → AreWaits waits.now.fresh → AreOthers waits.now.fresh waits.now.asks → Owned j triggers.old waits.now → Owned j triggers.new waits.now) }
     ensures over { OnOk result (due_places now delays.new ≡ []) }
     ensures queue { OnOk result (QueueKept now delays.old delays.new) }

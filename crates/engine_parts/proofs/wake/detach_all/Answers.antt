@@ -1,5 +1,7 @@
-use Rattle.std.proofs.Common.{◌≡◌, ℕ, suc, ◌+◌, ◌<◌, List, ◌∷◌, drop, length, get_or, ap, subst, ◌∙◌, arith, drop-cons}
+use Rattle.std.proofs.Common.{◌≡◌, ℕ, suc, ◌+◌, ◌<◌, List, ◌∷◌, drop, length, get_or, sym, ap, subst, ◌∙◌, arith, drop-cons}
+use Rattle.trig_set.specs.Stands.{attached}
 use Rattle.engine_parts.specs.Pending.{AreOthers, AreWaits}
+use Rattle.engine_parts.specs.Without.{without_owners}
 use Rattle.engine_parts.proofs.WaitWords.{others-less}
 use Rattle.engine_parts.proofs.wake.detach_all.Goals as goal
 
@@ -8,6 +10,9 @@ next i xs lt = drop-cons xs i 0 lt ∙ (let e : suc i ≡ i + 1 = omega arith in
 
 pub owners-preserved : goal.owners-preserved
 owners-preserved c = record {
+  rest =
+      ap (without_owners (drop (c.owners.owner-index + 1) c.args.owners.now)) c.detach.ensures.rest
+      ∙ sym (ap (λ l. without_owners l (attached c.owners.triggers)) (next c.owners.owner-index c.args.owners.now c.owners-test.true)) ∙ c.owners.invariant.rest;
   stands = λ j h. c.detach.ensures.stands j (c.owners.invariant.stands j h);
   owned = λ j w waits others owned.
       (let now = c.owners.invariant.owned j w waits others owned in

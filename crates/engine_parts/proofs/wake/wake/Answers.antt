@@ -1,7 +1,9 @@
-use Rattle.std.proofs.Common.{ℕ, List, [], ◌++◌, refl, sym, subst}
+use Rattle.std.proofs.Common.{ℕ, List, [], ◌++◌, refl, sym, subst, ap, ◌∙◌}
 use Rattle.ha_model.proofs.AppendLemmas.{append-nil}
 use Rattle.engine_parts.specs.Waiting.{fresh}
+use Rattle.trig_set.specs.Stands.{attached}
 use Rattle.engine_parts.specs.Pending.{AreOthers, AreWaits}
+use Rattle.engine_parts.specs.Without.{without_owners}
 use Rattle.ha_ready.specs.Agree.{AgreesBut, touched}
 use Rattle.engine_parts.specs.Touched.{wait_places}
 use Rattle.ha_ready.proofs.AgreeLemmas.{agree-all}
@@ -17,3 +19,6 @@ returns-clause-pairs c rs waking h =
 pub returns-clause-owned : goal.returns-clause-owned
 returns-clause-owned c j told others owned =
     c.detach_all.ensures.owned j c.args.waits.now (subst (λ (l : List ℕ). AreWaits l) (sym c.ended_now.ensures) told) (subst (λ (l : List ℕ). AreOthers l c.args.waits.now.asks) (sym c.ended_now.ensures) others) owned
+
+pub returns-clause-rest : goal.returns-clause-rest
+returns-clause-rest c = c.detach_all.ensures.rest ∙ ap (λ l. without_owners l (attached c.args.triggers.now)) c.ended_now.ensures
