@@ -1,6 +1,7 @@
 //! The engine: the journal with its records, and the parts that stand for it.
 ghost use Rattle.std.specs.Prelude.{◌≡◌, ◌↔◌, ◌<◌, ◌-◌, ◌++◌, ◌∷◌, [], ℕ, List, Some, IfOk, IfErr, OnOk, OnErr, Err, true, false, length, take, count_by, is_some, vec_len, vec_capacity};
 ghost use Rattle.std.specs.List.{list_any};
+ghost use Rattle.ha_model.specs.declared.journal.Cmd.TheVariants.{Refused};
 ghost use Rattle.ha_model.specs.declared.journal.Entry.TheVariants.{Line};
 ghost use Rattle.ha_model.specs.RecordSteps.{more};
 ghost use Rattle.ha_model.specs.Commands.{has_automation, put_as as put_as_lem};
@@ -17,7 +18,7 @@ use crate::advance::advance;
 use crate::follow::follow_line;
 use engine_parts::last::drop_last;
 use engine_parts::parts::Parts;
-use ha_model::{Automation, Cmd, Config, CoreFault, Entry, Many, Record, Word, same_text};
+use ha_model::{Automation, Cmd, Config, CoreFault, Entry, Many, Record, Value, Word, same_text};
 use run_modes::Runs;
 use std::alloc::{AllocError, Global};
 use std::marker::Model;
@@ -87,39 +88,42 @@ fn is_named(journal: &[Entry], name: &Word) -> bool
     }
 }
 
-/// The command that stands in the journal for one that was read: a refusal where it names no automation.
-fn put_as(journal: &[Entry], cmd: Cmd) -> Cmd
-    ensures { result ≡ put_as_lem journal.entry.now cmd }
+/// Keeps the pairs in no more memory than they need.
+fn fit_pairs(alloc: Global, pairs: &mut Many<(Word, Value)>)
+    ensures { pairs.new ≡ pairs.old }
+{
+    if !pairs.is_empty() {
+        let held = std::mem::replace(pairs, Many::make(alloc));
+        *pairs = held.fitted();
+    }
+}
+
+/// A refusal takes the place of a command that names no automation.
+#[inline(never)]
+fn refuse_cmd(cmd: &mut Cmd)
+    ensures { cmd.new ≡ Refused 9 }
+{
+    *cmd = Cmd::Refused(9);
+}
+
+/// Makes of a command that was read the one that stands in the journal, where it is: a refusal where it names no automation.
+fn settle_cmd(alloc: Global, journal: &[Entry], cmd: &mut Cmd)
+    ensures { cmd.new ≡ put_as_lem journal.now cmd.old }
 {
     match cmd {
-        Cmd::Switch { name, on, stop } => {
-            if is_named(journal, &name) {
-                Cmd::Switch { name, on, stop }
-            } else {
-                Cmd::Refused(9)
+        Cmd::Report { attributes, .. } => fit_pairs(alloc, attributes),
+        Cmd::Event { pairs, .. } => fit_pairs(alloc, pairs),
+        Cmd::Switch { name, .. } => {
+            if !is_named(journal, name) {
+                refuse_cmd(cmd);
             }
         }
-        Cmd::Trigger { name, skip } => {
-            if is_named(journal, &name) {
-                Cmd::Trigger { name, skip }
-            } else {
-                Cmd::Refused(9)
+        Cmd::Trigger { name, .. } => {
+            if !is_named(journal, name) {
+                refuse_cmd(cmd);
             }
         }
-        Cmd::Report {
-            entity,
-            text,
-            attributes,
-        } => Cmd::Report {
-            entity,
-            text,
-            attributes: attributes.fitted(),
-        },
-        Cmd::Event { kind, pairs } => Cmd::Event {
-            kind,
-            pairs: pairs.fitted(),
-        },
-        other => other,
+        _ => {}
     }
 }
 
@@ -129,7 +133,7 @@ impl Engine {
         &mut self,
         source: u32,
         number: u64,
-        cmd: Cmd,
+        mut cmd: Cmd,
     ) -> Result<(), CoreFault>
         requires usable { self.old.is_spent ≡ false }
         requires known { source < 16 }
@@ -151,7 +155,7 @@ impl Engine {
             self.spent = true;
             return Err(CoreFault::Memory);
         }
-        let cmd = put_as(self.journal.as_slice(), cmd);
+        settle_cmd(self.alloc, self.journal.as_slice(), &mut cmd);
         push_line(&mut self.journal, source, number, cmd);
         match follow_line(
             self.alloc,
