@@ -1,0 +1,25 @@
+//! Laws of the definitions. Each is the contract of a function that does nothing.
+
+ghost use Rattle.std.specs.Prelude.{◌⊎◌, ℕ, Result};
+ghost use Rattle.ha_model.specs.declared.template.Template.{Template};
+ghost use Rattle.tpl_parse.specs.declared.fault.ParseFault.{ParseFault};
+ghost use Rattle.tpl_parse.specs.Grammar.{IsTemplate};
+ghost use Rattle.tpl_parse.specs.Pieces.{template};
+ghost use Rattle.tpl_parse.specs.Refused.{IsFirstFault};
+ghost use Rattle.tpl_parse.specs.Tells.{Tells};
+ghost use Rattle.tpl_laws.specs.Refused.{IsRefusedAt, Refuses};
+
+/// Where `template` refuses a text, it is at the first fault: what stands before the place goes on to a text of the grammar, and
+/// with the byte at the place none does. A text that has a first fault is refused there, and each text is one of the grammar or has
+/// a first fault.
+pub fn refusals(text: &[u8])
+    ensures place { (at : ℕ) → IsRefusedAt text.now at → IsFirstFault text.now at }
+    ensures told { (at : ℕ) → IsFirstFault text.now at → IsRefusedAt text.now at }
+    ensures either { ((tree : Template) × IsTemplate text.now tree) ⊎ ((at : ℕ) × IsFirstFault text.now at) }
+{}
+
+/// What `parse` answers tells what `template` gives of the text, by its clause `exact`. So the place of each answer is the first
+/// fault, unless memory ran out.
+pub fn answers(text: &[u8])
+    ensures refused { (result : Result Template ParseFault) → Tells text.now (template text.now) result → Refuses text.now result }
+{}
