@@ -1,0 +1,11 @@
+pub mod Laid
+pub mod Followed
+pub mod Walked
+pub mod WalkedPieces
+pub mod FollowedScalars
+pub mod FollowedPieces
+pub mod FollowedLines
+pub mod Numbers
+pub mod Whole
+pub mod Orders
+pub mod Cuts

@@ -1,0 +1,29 @@
+//! Laws of the definitions alone. Each is a function that does nothing; its contract is the law.
+ghost use Rattle.std.specs.Prelude.{◌≡◌, ◌≢◌, ◌<◌, ◌⊎◌, ℕ, List, Err, length};
+ghost use Rattle.yaml_scan.specs.declared.fault.Code.TheVariants.{Structure};
+ghost use Rattle.yaml_scan.specs.declared.fault.Fault.{Fault};
+ghost use Rattle.yaml_scan.specs.Lines.{lines};
+ghost use Rattle.yaml_tree.specs.declared.node.Node.{Node};
+ghost use Rattle.yaml_tree.specs.Spelling.{IsText};
+ghost use Rattle.yaml_tree.specs.Tree.{tree};
+ghost use Rattle.yaml_laws.specs.Refused.{GoesOn, MayMove, NoLater, SameLines};
+
+/// What follows a text tells no fault that stands before the text's own; and where the text has a tree, only one on a line behind it.
+pub fn what_follows_tells_no_earlier_fault()
+    ensures refused { (text other : List ℕ) (f g : Fault) → GoesOn text other → tree text ≡ Err f → tree other ≡ Err g → NoLater f g }
+    ensures read { (text other : List ℕ) (root : Node) (g : Fault) → GoesOn text other → IsText text root → tree other ≡ Err g → length (lines text) < g.line }
+{}
+
+/// A refusal stands whatever follows, but for two codes: C2, since a quote that is open at the end may be closed, and C12, since where a
+/// null at the end is one node too deep the node itself may follow.
+pub fn a_refusal_stands()
+    ensures { (text other : List ℕ) (f : Fault) → GoesOn text other → tree text ≡ Err f → (MayMove f.code → ⊥) → tree other ≡ Err f }
+{}
+
+/// What a refusal tells is told by the lines up to its own. No text that has these lines is in the grammar, but where the code is C2; and
+/// with codes other than C2 and C12 each such text has this refusal, or for one of these two codes one that does not stand behind it.
+pub fn a_refusal_is_told_by_its_lines()
+    ensures none { (text other : List ℕ) (f : Fault) (root : Node) → SameLines f.line text other → tree text ≡ Err f → f.code ≢ Structure → IsText other root → ⊥ }
+    ensures place { (text other : List ℕ) (f g : Fault) → SameLines f.line text other → tree text ≡ Err f → (MayMove f.code → ⊥) → tree other ≡ Err g
+        → (g ≡ f) ⊎ (NoLater g f × MayMove g.code) }
+{}
