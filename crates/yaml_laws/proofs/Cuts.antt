@@ -60,7 +60,7 @@ one_stays k f a o fixed e stays = e
 one_stays k f a o fixed e (deeper {f = h} c lt) = absurd (fixed (inr (subst (λ (z : Fault). z.code ≡ Limit) (some_is h f e) c)))
 one_stays k f a o fixed e (closes {f = h} c opened) = absurd (fixed (inl (subst (λ (z : Fault). z.code ≡ Structure) (some_is h f e) c)))
 
-one_remains : (k : ℕ) (f : Fault) (a o : Option Fault) → f.code ≢ Structure → a ≡ Some f → Follows k a o → o ≡ None → ⊥
+pub one_remains : (k : ℕ) (f : Fault) (a o : Option Fault) → f.code ≢ Structure → a ≡ Some f → Follows k a o → o ≡ None → ⊥
 one_remains k f a o fixed e (comes l) n = cc
 one_remains k f a o fixed e stays n = cc
 one_remains k f a o fixed e (deeper c lt) n = cc
@@ -101,24 +101,24 @@ before_each ls f e =
       of_tree = λ g i. inner g (inr i);
     }
 
-none_of : (ls : List RawLine) → told ls ≡ None → Parts (λ o. o ≡ None) ls
+pub none_of : (ls : List RawLine) → told ls ≡ None → Parts (λ o. o ≡ None) ls
 none_of ls e =
     let h = least_none (line_fault ls) (least (read_lines ls).fault (in_tree ls)) e in
     let i = least_none (read_lines ls).fault (in_tree ls) h.1 in
     record { alone = h.0; of_piece = i.0; of_tree = i.1 }
 
-some_of : (ls : List RawLine) (g : Fault) → (line_fault ls ≡ Some g) ⊎ (((read_lines ls).fault ≡ Some g) ⊎ (in_tree ls ≡ Some g)) → (f : Fault) × (told ls ≡ Some f)
+pub some_of : (ls : List RawLine) (g : Fault) → (line_fault ls ≡ Some g) ⊎ (((read_lines ls).fault ≡ Some g) ⊎ (in_tree ls ≡ Some g)) → (f : Fault) × (told ls ≡ Some f)
 some_of ls g (inl h) = least_some (line_fault ls) (least (read_lines ls).fault (in_tree ls)) g (inl h)
 some_of ls g (inr h) =
     let m = least_some (read_lines ls).fault (in_tree ls) g h in
     least_some (line_fault ls) (least (read_lines ls).fault (in_tree ls)) m.0 (inr m.1)
 
-no_later_each : (ls : List RawLine) (f g : Fault) → told ls ≡ Some f → (line_fault ls ≡ Some g) ⊎ (((read_lines ls).fault ≡ Some g) ⊎ (in_tree ls ≡ Some g)) → NoLater f g
+pub no_later_each : (ls : List RawLine) (f g : Fault) → told ls ≡ Some f → (line_fault ls ≡ Some g) ⊎ (((read_lines ls).fault ≡ Some g) ⊎ (in_tree ls ≡ Some g)) → NoLater f g
 no_later_each ls f g e (inl h) = (before_each ls f e).alone g h
 no_later_each ls f g e (inr (inl h)) = (before_each ls f e).of_piece g h
 no_later_each ls f g e (inr (inr h)) = (before_each ls f e).of_tree g h
 
-on_line : (P : ℕ → Type 0) (ls : List RawLine) (f : Fault) → AllIn P ls → told ls ≡ Some f → P f.line
+pub on_line : (P : ℕ → Type 0) (ls : List RawLine) (f : Fault) → AllIn P ls → told ls ≡ Some f → P f.line
 on_line P ls f h e = by (one_of ls f e)
   where
     at : (o : Option Fault) → OnFault P o → o ≡ Some f → P f.line
@@ -228,20 +228,20 @@ module _ (k : ℕ) (p a b : List RawLine) (early : AllIn (λ m. m ≤ k) p) (lef
 -- ---- texts
 
 -- lines that are numbered from 1 on, and those behind the first of them
-numbered_become : (p a : List RawLine) → Numbered 1 (p ++ a) → Become (length p) p (p ++ a)
+pub numbered_become : (p a : List RawLine) → Numbered 1 (p ++ a) → Become (length p) p (p ++ a)
 numbered_become p a h =
     parts_become (length p) p a (numbered_below 1 (length p) p (omega arith) (numbered_front 1 p a h)) (numbered_rises 1 p (numbered_front 1 p a h)) (numbered_behind 1 (length p) p a (omega arith) h)
 
-early_lines : (p a : List RawLine) → Numbered 1 (p ++ a) → AllIn (λ m. m ≤ length p) p
+pub early_lines : (p a : List RawLine) → Numbered 1 (p ++ a) → AllIn (λ m. m ≤ length p) p
 early_lines p a h = numbered_below 1 (length p) p (omega arith) (numbered_front 1 p a h)
 
-all_numbered : (text : List ℕ) (ls : List RawLine) → lines text ≡ ls → Numbered 1 ls
+pub all_numbered : (text : List ℕ) (ls : List RawLine) → lines text ≡ ls → Numbered 1 ls
 all_numbered text ls e = subst (λ (x : List RawLine). Numbered 1 x) e (lines_numbered text)
 
-told_text : (text : List ℕ) (ls : List RawLine) (f : Fault) → lines text ≡ ls → tree text ≡ Err f → told ls ≡ Some f
+pub told_text : (text : List ℕ) (ls : List RawLine) (f : Fault) → lines text ≡ ls → tree text ≡ Err f → told ls ≡ Some f
 told_text text ls f e i = ap told (sym e) ∙ err_told (lines text) f i
 
-read_text : (text : List ℕ) (ls : List RawLine) (root : Node) → lines text ≡ ls → IsText text root → told ls ≡ None
+pub read_text : (text : List ℕ) (ls : List RawLine) (root : Node) → lines text ≡ ls → IsText text root → told ls ≡ None
 read_text text ls root e t = ap told (sym e) ∙ ok_told (lines text) root (text_read text root t)
 
 pub what_follows_moves : (text other : List ℕ) (f g : Fault) → GoesOn text other → tree text ≡ Err f → tree other ≡ Err g → NoLater f g
@@ -260,14 +260,14 @@ refusal_stands text other f o e fixed =
     told_err (lines other) f (ap told o.1 ∙ told_stays (length (lines text)) (lines text) (lines text ++ o.0) (early_lines (lines text) o.0 h) (numbered_become (lines text) o.0 h) f fixed (err_told (lines text) f e))
 
 -- the first lines, and those behind them
-cut : (n : ℕ) (ls : List RawLine) → ls ≡ take n ls ++ drop n ls
+pub cut : (n : ℕ) (ls : List RawLine) → ls ≡ take n ls ++ drop n ls
 cut n ls = sym (take-append-drop n ls)
 
-cut_same : (n : ℕ) (text other : List ℕ) → SameLines n text other → lines other ≡ take n (lines text) ++ drop n (lines other)
+pub cut_same : (n : ℕ) (text other : List ℕ) → SameLines n text other → lines other ≡ take n (lines text) ++ drop n (lines other)
 cut_same n text other s = cut n (lines other) ∙ ap (λ (x : List RawLine). x ++ drop n (lines other)) (sym s)
 
 -- the line of a fault is one of the text's
-on_a_line : (text : List ℕ) (f : Fault) → tree text ≡ Err f → f.line ≤ length (lines text)
+pub on_a_line : (text : List ℕ) (f : Fault) → tree text ≡ Err f → f.line ≤ length (lines text)
 on_a_line text f e = on_line (λ m. m ≤ length (lines text)) (lines text) f (numbered_below 1 (length (lines text)) (lines text) (omega arith) (lines_numbered text)) (err_told (lines text) f e)
 
 pub lost_text : (text other : List ℕ) (f : Fault) (root : Node) → SameLines f.line text other → tree text ≡ Err f → f.code ≢ Structure → IsText other root → ⊥

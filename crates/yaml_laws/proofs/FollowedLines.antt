@@ -55,16 +55,16 @@ opened_late : (k : ℕ) (f : Fault) (o : Option Fault) → OnFault (Late k) o �
 opened_late k f None h = gone
 opened_late k f (Some g) h = behind h
 
-pieces_none : (n : ℕ) (ps : List Piece) → pieces n ps [] ≡ found ps []
+pub pieces_none : (n : ℕ) (ps : List Piece) → pieces n ps [] ≡ found ps []
 unfolding pieces
 pieces_none zero ps = refl
 pieces_none (suc n) ps = refl
 
-go_none : (f : Found) (o : Option Fault) (go : List Piece → List RawLine → Found) → o ≡ None → go_on f o go ≡ go f.pieces f.rest
+pub go_none : (f : Found) (o : Option Fault) (go : List Piece → List RawLine → Found) → o ≡ None → go_on f o go ≡ go f.pieces f.rest
 go_none f None go e = refl
 go_none f (Some v) go e = absurd cc
 
-go_some : (f : Found) (o : Option Fault) (v : Fault) (go : List Piece → List RawLine → Found) → o ≡ Some v → go_on f o go ≡ f
+pub go_some : (f : Found) (o : Option Fault) (v : Fault) (go : List Piece → List RawLine → Found) → o ≡ Some v → go_on f o go ≡ f
 go_some f None v go e = absurd cc
 go_some f (Some w) v go e = refl
 

@@ -9,3 +9,9 @@ pub mod Numbers
 pub mod Whole
 pub mod Orders
 pub mod Cuts
+pub mod Closing
+pub mod ClosingPieces
+pub mod Outcomes
+pub mod Completed
+pub mod Written
+pub mod FirstLine

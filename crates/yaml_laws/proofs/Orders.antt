@@ -54,7 +54,7 @@ told_by codes.Limit = refl
 told_by codes.NotUtf8 = refl
 told_by codes.UnknownKind = refl
 
-same_code : (c d : Code) → number_of c ≡ number_of d → c ≡ d
+pub same_code : (c d : Code) → number_of c ≡ number_of d → c ≡ d
 same_code c d e = sym (told_by c) ∙ ap code_of e ∙ told_by d
 
 fault_is : (f g : Fault) → f.line ≡ g.line → f.code ≡ g.code → f ≡ g
@@ -143,3 +143,9 @@ least_some (Some a) (Some b) g e = by (later_test a b)
     by : (c : Bool) → (f : Fault) × (cond c (Some b) (Some a) ≡ Some f)
     by true = (b, refl)
     by false = (a, refl)
+
+pub is_structure : (c : Code) → (c ≡ codes.Structure) ⊎ (c ≡ codes.Structure → ⊥)
+is_structure c = elim (tested (number_of c == 2)) [
+  | inl h ↦ inl (same_code c codes.Structure (eqb-true (number_of c) 2 h))
+  | inr h ↦ inr (λ e. let q : true ≡ false = sym (eq-eqb (number_of c) 2 (ap number_of e)) ∙ h in cc)
+]

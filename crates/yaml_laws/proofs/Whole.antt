@@ -1,7 +1,8 @@
 -- The faults of a text, and those of a text that begins with its lines.
-use Rattle.std.proofs.Common.{◌≡◌, ℕ, suc, ◌≤◌, false, List, [], ◌++◌, length, Option, Some, None, Ok, Err, refl, sym, ap, subst, arith, length-append}
+use Rattle.std.proofs.Common.{◌≡◌, ℕ, suc, ◌≤◌, false, List, [], ◌++◌, length, ◌⊎◌, inl, inr, Option, Some, None, Ok, Err, refl, sym, ap, subst, arith, length-append}
 use Rattle.yaml_scan.specs.declared.line.RawLine.{RawLine}
 use Rattle.yaml_scan.specs.declared.fault.Fault.{Fault}
+use Rattle.yaml_scan.specs.declared.fault.Code.TheVariants.{Limit}
 use Rattle.yaml_scan.specs.Lines.{line_fault, least, without_start}
 use Rattle.yaml_tree.specs.declared.node.Node.{Node}
 use Rattle.yaml_tree.specs.declared.piece.Piece.{Piece}
@@ -48,6 +49,7 @@ pub record Become (k : ℕ) (p q : List RawLine) : Type 0 where
   pub alone : Follows k (line_fault p) (line_fault q)
   pub of_piece : Follows k (read_lines p).fault (read_lines q).fault
   pub of_tree : Follows k (in_tree p) (in_tree q)
+  pub too_deep_only : (f : Fault) → in_tree p ≡ Some f → (in_tree q ≡ Some f) ⊎ (f.code ≡ Limit)
 
 agree_follows : (k n : ℕ) (tail : List Piece) (r s : Answer Node) → Agree (λ m. m ≤ k) (Late k) Any n tail r s → Follows k (fault_of r) (fault_of s)
 agree_follows k n tail (Ok x) (Ok y) (same v e a l h) = comes tt
@@ -55,6 +57,20 @@ agree_follows k n tail (Ok x) s (passed e h) = comes (lies_on (Late k) _ s h)
 agree_follows k n tail (Err f) (Err g) fails = stays
 agree_follows k n tail (Err f) (Err g) (too_deep c l q) = deeper c q
 agree_follows k n tail (Err f) (Ok y) h = elim h [ ]
+
+agree_keeps : (L Q : ℕ → Type 0) (n : ℕ) (tail : List Piece) (r s : Answer Node) → Agree L Q Any n tail r s → (f : Fault) → fault_of r ≡ Some f → (fault_of s ≡ Some f) ⊎ (f.code ≡ Limit)
+agree_keeps L Q n tail (Ok x) s h f e = absurd cc
+agree_keeps L Q n tail (Err d) (Err d') fails f e = inl e
+agree_keeps L Q n tail (Err d) (Err d') (too_deep c l q) f e = let is : d ≡ f = cc in inr (subst (λ (z : Fault). z.code ≡ Limit) is c)
+agree_keeps L Q n tail (Err d) (Ok y) h f e = elim h [ ]
+
+-- where nothing follows, the fault of alike pieces is the same
+pub agree_same : (L : ℕ → Type 0) (n : ℕ) (r s : Answer Node) → Agree L (λ m. ⊥) Any n [] r s → fault_of r ≡ fault_of s
+agree_same L n (Ok x) (Ok y) h = refl
+agree_same L n (Ok x) (Err g) (passed e (stops h)) = absurd h
+agree_same L n (Err d) (Err d') fails = refl
+agree_same L n (Err d) (Err d') (too_deep c l q) = absurd q
+agree_same L n (Err d) (Ok y) h = elim h [ ]
 
 pub parts_become : (k : ℕ) (p a : List RawLine) → AllIn (λ m. m ≤ k) p → Rises p → AllLate k a → Become k p (p ++ a)
 parts_become k p a early rises late =
@@ -72,6 +88,7 @@ parts_become k p a early rises late =
       alone = lines_follow k a late p false;
       of_piece = is.faults;
       of_tree = subst (λ (ps : List Piece). Follows k (in_tree p) (fault_of (document ps))) (sym is.are) laid;
+      too_deep_only = subst (λ (ps : List Piece). (f : Fault) → in_tree p ≡ Some f → (fault_of (document ps) ≡ Some f) ⊎ (f.code ≡ Limit)) (sym is.are) (agree_keeps (λ m. m ≤ k) (Late k) _ is.tail _ _ agree);
     }
 
 -- ---- the answer, by its fault
@@ -95,3 +112,13 @@ ok_none (Some f) r x e = absurd cc
 
 pub ok_told : (ls : List RawLine) (x : Node) → of_pieces (line_fault ls) (read_lines ls) ≡ Ok x → told ls ≡ None
 ok_told ls x e = ok_none (told ls) (document (read_lines ls).pieces) x e
+
+pub none_read : (ls : List RawLine) → told ls ≡ None → (x : Node) × (of_pieces (line_fault ls) (read_lines ls) ≡ Ok x)
+none_read ls e =
+    let inner : in_tree ls ≡ None = (least_none (read_lines ls).fault (in_tree ls) (least_none (line_fault ls) (least (read_lines ls).fault (in_tree ls)) e).1).1 in
+    by (told ls) (document (read_lines ls).pieces) e inner
+  where
+    by : (o : Option Fault) (r : Answer Node) → o ≡ None → fault_of r ≡ None → (x : Node) × (judged o r ≡ Ok x)
+    by None (Ok x) e i = (x.0, refl)
+    by None (Err f) e i = absurd cc
+    by (Some f) r e i = absurd cc

@@ -1,11 +1,14 @@
 -- What a text is in terms of another that begins with its lines, and the order of faults.
-use Rattle.std.specs.Prelude.{◌≡◌, ◌≤◌, ◌<◌, ◌⊎◌, ℕ, List, ◌++◌, take}
+use Rattle.std.specs.Prelude.{◌≡◌, ◌≤◌, ◌<◌, ◌⊎◌, ℕ, ◌+◌, List, [], ◌∷◌, ◌++◌, take, Err}
 use Rattle.yaml_scan.specs.declared.line.RawLine.{RawLine}
 use Rattle.yaml_scan.specs.declared.fault.Fault.{Fault}
 use Rattle.yaml_scan.specs.declared.fault.Code.{Code}
 use Rattle.yaml_scan.specs.declared.fault.Code.TheVariants.{Structure, Limit}
 use Rattle.yaml_scan.specs.Codes.{number_of}
 use Rattle.yaml_scan.specs.Lines.{lines}
+use Rattle.yaml_tree.specs.declared.node.Node.{Node}
+use Rattle.yaml_tree.specs.Spelling.{IsText}
+use Rattle.yaml_tree.specs.Tree.{tree}
 
 -- f stands on a line before g, or on its line, and then its code is not greater
 abbrev pub NoLater : Fault → Fault → Type 0
@@ -23,3 +26,32 @@ SameLines n text other = take n (lines text) ≡ take n (lines other)
 -- at the end is one node too deep they may hold the node
 abbrev pub MayMove : Code → Type 0
 MayMove code = (code ≡ Structure) ⊎ (code ≡ Limit)
+
+-- ---- what goes on from the first lines
+
+-- some text that has these first n lines is in the grammar
+abbrev pub HasTree : ℕ → List ℕ → Type 0
+HasTree n text = (other : List ℕ) × (root : Node) × SameLines n text other × IsText other root
+
+-- none is
+abbrev pub IsLost : ℕ → List ℕ → Type 0
+IsLost n text = (other : List ℕ) (root : Node) → SameLines n text other → IsText other root → ⊥
+
+-- the line behind the first n is the first one with which no text of the grammar goes on
+pub record IsFirstLine (text : List ℕ) (n : ℕ) : Type 0 where
+  pub goes_on : HasTree n text
+  pub no_more : IsLost (n + 1) text
+
+-- on the first n lines a node is too deep: some text that has them is refused for one of these lines, with the code of a limit
+abbrev pub IsTooDeep : ℕ → List ℕ → Type 0
+IsTooDeep n text = (other : List ℕ) × (f : Fault) × SameLines n text other × (tree other ≡ Err f) × (f.code ≡ Limit) × (f.line ≤ n)
+
+-- The first n lines end inside a quoted scalar: with one more line, which holds the closing quote alone, they are a text of the
+-- grammar.
+pub record EndsInQuotes (n : ℕ) (text : List ℕ) : Type 0 where
+  pub closed : List ℕ
+  pub close : RawLine
+  pub root : Node
+  pub lines_are : lines closed ≡ take n (lines text) ++ close ∷ []
+  pub quote : (close.content ≡ 34 ∷ []) ⊎ (close.content ≡ 39 ∷ [])
+  pub in_grammar : IsText closed root

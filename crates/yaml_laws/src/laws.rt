@@ -1,12 +1,12 @@
 //! Laws of the definitions alone. Each is a function that does nothing; its contract is the law.
-ghost use Rattle.std.specs.Prelude.{◌≡◌, ◌≢◌, ◌<◌, ◌⊎◌, ℕ, List, Err, length};
+ghost use Rattle.std.specs.Prelude.{◌≡◌, ◌≢◌, ◌<◌, ◌+◌, ◌⊎◌, ℕ, List, Err, length};
 ghost use Rattle.yaml_scan.specs.declared.fault.Code.TheVariants.{Structure};
 ghost use Rattle.yaml_scan.specs.declared.fault.Fault.{Fault};
 ghost use Rattle.yaml_scan.specs.Lines.{lines};
 ghost use Rattle.yaml_tree.specs.declared.node.Node.{Node};
 ghost use Rattle.yaml_tree.specs.Spelling.{IsText};
 ghost use Rattle.yaml_tree.specs.Tree.{tree};
-ghost use Rattle.yaml_laws.specs.Refused.{GoesOn, MayMove, NoLater, SameLines};
+ghost use Rattle.yaml_laws.specs.Refused.{EndsInQuotes, GoesOn, HasTree, IsFirstLine, IsTooDeep, MayMove, NoLater, SameLines};
 
 /// What follows a text tells no fault that stands before the text's own; and where the text has a tree, only one on a line behind it.
 pub fn what_follows_tells_no_earlier_fault()
@@ -26,4 +26,17 @@ pub fn a_refusal_is_told_by_its_lines()
     ensures none { (text other : List ℕ) (f : Fault) (root : Node) → SameLines f.line text other → tree text ≡ Err f → f.code ≢ Structure → IsText other root → ⊥ }
     ensures place { (text other : List ℕ) (f g : Fault) → SameLines f.line text other → tree text ≡ Err f → (MayMove f.code → ⊥) → tree other ≡ Err g
         → (g ≡ f) ⊎ (NoLater g f × MayMove g.code) }
+{}
+
+/// The line of a refusal is the first with which no text of the grammar goes on: with the lines before it some text does, if on them no
+/// node is too deep. With its own some text may go on too where the code is C2; these lines then end inside a quoted scalar.
+pub fn a_refused_line_is_the_first()
+    ensures before { (text : List ℕ) (f : Fault) (n : ℕ) → tree text ≡ Err f → f.line ≡ n + 1 → HasTree n text ⊎ IsTooDeep n text }
+    ensures first { (text : List ℕ) (f : Fault) (n : ℕ) → tree text ≡ Err f → f.line ≡ n + 1 → f.code ≢ Structure → IsFirstLine text n ⊎ IsTooDeep n text }
+    ensures in_quotes { (text : List ℕ) (f : Fault) → tree text ≡ Err f → HasTree f.line text → (f.code ≡ Structure) × EndsInQuotes f.line text }
+{}
+
+/// A text has one such first line at most.
+pub fn one_first_line()
+    ensures { (text : List ℕ) (m n : ℕ) → IsFirstLine text m → IsFirstLine text n → m ≡ n }
 {}
