@@ -15,3 +15,4 @@ pub mod Outcomes
 pub mod Completed
 pub mod Written
 pub mod FirstLine
+pub mod Indented

@@ -1,11 +1,14 @@
 //! Laws of the definitions alone. Each is a function that does nothing; its contract is the law.
-ghost use Rattle.std.specs.Prelude.{◌≡◌, ◌≢◌, ◌<◌, ◌+◌, ◌⊎◌, ℕ, List, Err, length};
+ghost use Rattle.std.specs.Prelude.{◌≡◌, ◌≢◌, ◌<◌, ◌+◌, ◌⊎◌, ◌↔◌, ℕ, List, Err, length};
 ghost use Rattle.yaml_scan.specs.declared.fault.Code.TheVariants.{Structure};
 ghost use Rattle.yaml_scan.specs.declared.fault.Fault.{Fault};
 ghost use Rattle.yaml_scan.specs.Lines.{lines};
 ghost use Rattle.yaml_tree.specs.declared.node.Node.{Node};
 ghost use Rattle.yaml_tree.specs.Spelling.{IsText};
 ghost use Rattle.yaml_tree.specs.Tree.{tree};
+ghost use Rattle.yaml_tree.specs.declared.piece.Piece.{Piece};
+ghost use Rattle.yaml_tree.specs.Grammar.{IsTree};
+ghost use Rattle.yaml_laws.specs.Indents.{IsRoot, IsTextByIndent};
 ghost use Rattle.yaml_laws.specs.Refused.{EndsInQuotes, GoesOn, HasTree, IsFirstLine, IsTooDeep, MayMove, NoLater, SameLines};
 
 /// What follows a text tells no fault that stands before the text's own; and where the text has a tree, only one on a line behind it.
@@ -39,4 +42,10 @@ pub fn a_refused_line_is_the_first()
 /// A text has one such first line at most.
 pub fn one_first_line()
     ensures { (text : List ℕ) (m n : ℕ) → IsFirstLine text m → IsFirstLine text n → m ≡ n }
+{}
+
+/// The grammar of blocks on the columns of pieces is the one by the indent of what holds a node, with distinct keys in each map.
+pub fn blocks_go_by_their_indent()
+    ensures trees { (ps : List Piece) (root : Node) → IsTree ps root ↔ IsRoot ps root }
+    ensures texts { (text : List ℕ) (root : Node) → IsText text root ↔ IsTextByIndent text root }
 {}
