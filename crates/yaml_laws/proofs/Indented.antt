@@ -112,9 +112,11 @@ module _ (N M : g.Nodes) (to : Sound N M) where
   items_to {found = found} (g.ends e) = ([], sym (append-nil found), i.no_item (over_is e))
   items_to {c = c} {found = found} {rest = rest} (g.more {x = x} {behind = behind} (g.item {p = p} {ps = ps} at is node) r) =
       let more = items_to r in
-      let inner : M p.line (c + 1) ps x behind = subst (λ (m : ℕ). M p.line (m + 1) ps x behind) at (to p.line (p.column + 1) ps x behind node) in
-      (x ∷ more.0, more.1 ∙ append_assoc found (x ∷ []) more.0,
-        subst (λ (q : Piece). i.IsItems M c (q ∷ ps) (x ∷ more.0) rest) (sym (piece_is p c Dash at is)) (i.item {n = p.line} inner more.2))
+      let inner : M p.line (c + 1) ps x behind = subst (λ (m : ℕ). M p.line (m + 1) ps x behind) at (to p.line (p.column + 1) ps x behind node) in (
+        x ∷ more.0,
+        more.1 ∙ append_assoc found (x ∷ []) more.0,
+        subst (λ (q : Piece). i.IsItems M c (q ∷ ps) (x ∷ more.0) rest) (sym (piece_is p c Dash at is)) (i.item {n = p.line} inner more.2),
+      )
 
   value_to : (c n : ℕ) (ps : List Piece) (x : Node) (rest : List Piece) → N n (value_floor c (front ps)) ps x rest → i.IsValue M c n ps x rest
   value_to c n [] x rest h = i.deeper i.nothing (to n (c + 1) [] x rest h)
@@ -141,10 +143,13 @@ module _ (N M : g.Nodes) (to : Sound N M) where
       let more = pairs_to r in
       let y : Pair = (k, p.line, x) in
       let new = later_new found more.0 y more.3 in
-      let value : i.IsValue M c p.line ps x behind = subst (λ (m : ℕ). i.IsValue M m p.line ps x behind) at (value_to p.column p.line ps x behind node) in
-      (y ∷ more.0, more.1 ∙ append_assoc found (y ∷ []) more.0,
+      let value : i.IsValue M c p.line ps x behind = subst (λ (m : ℕ). i.IsValue M m p.line ps x behind) at (value_to p.column p.line ps x behind node) in (
+        y ∷ more.0,
+        more.1 ∙ append_assoc found (y ∷ []) more.0,
         subst (λ (q : Piece). i.IsPairs M c (q ∷ ps) (y ∷ more.0) rest) (sym (piece_is p c (Key k) at is)) (i.pair {n = p.line} value more.2),
-        (has_none k found fresh, new.0), (new.1, more.4))
+        (has_none k found fresh, new.0),
+        (new.1, more.4),
+      )
 
   over_to : (depth line floor : ℕ) (ps : List Piece) (x : Node) (rest : List Piece) → g.IsNodeOver depth N line floor ps x rest → i.IsBlockOver depth M line floor ps x rest
   over_to depth line floor ps x rest (g.absent a) = i.absent (left_is a)
@@ -155,13 +160,13 @@ module _ (N M : g.Nodes) (to : Sound N M) where
       let e : p ≡ q = piece_is p p.column Dash refl is in
       let h = items_to r in
       subst (λ (t : Piece). i.IsBlockOver depth M line floor (t ∷ qs) (listed p.line items) rest) (sym e)
-        (subst (λ (xs : List Node). i.IsBlockOver depth M line floor (q ∷ qs) (listed p.line xs) rest) (sym h.1) (i.list le (subst (λ (t : Piece). i.IsItems M p.column (t ∷ qs) h.0 rest) e h.2)))
+      (subst (λ (xs : List Node). i.IsBlockOver depth M line floor (q ∷ qs) (listed p.line xs) rest) (sym h.1) (i.list le (subst (λ (t : Piece). i.IsItems M p.column (t ∷ qs) h.0 rest) e h.2)))
   over_to depth line floor ps x rest (g.map {p = p} {k = k} {ps = qs} {pairs = pairs} le is r) =
       let q : Piece = key p.line p.column k in
       let e : p ≡ q = piece_is p p.column (Key k) refl is in
       let h = pairs_to r in
       subst (λ (t : Piece). i.IsBlockOver depth M line floor (t ∷ qs) (mapped p.line pairs) rest) (sym e)
-        (subst (λ (xs : List Pair). i.IsBlockOver depth M line floor (q ∷ qs) (mapped p.line xs) rest) (sym h.1) (i.map le (subst (λ (t : Piece). i.IsPairs M p.column (t ∷ qs) h.0 rest) e h.2) h.4))
+      (subst (λ (xs : List Pair). i.IsBlockOver depth M line floor (q ∷ qs) (mapped p.line xs) rest) (sym h.1) (i.map le (subst (λ (t : Piece). i.IsPairs M p.column (t ∷ qs) h.0 rest) e h.2) h.4))
 
   -- ---- and the other way
 
@@ -169,7 +174,7 @@ module _ (N M : g.Nodes) (to : Sound N M) where
   items_from {c = c} {rest = rest} (i.no_item {ps = ps} o) found = subst (λ (all : List Node). g.IsRows (g.ListEnds c) (g.IsItem M c) found ps all ps) (sym (append-nil found)) (g.ends (is_over o))
   items_from {c = c} {rest = rest} (i.item {n = n} {ps = ps} {behind = behind} {x = x} {xs = xs} node r) found =
       subst (λ (all : List Node). g.IsRows (g.ListEnds c) (g.IsItem M c) found (dash n c ∷ ps) all rest) (append_assoc found (x ∷ []) xs)
-        (g.more (g.item refl refl (to n (c + 1) ps x behind node)) (items_from r (found ++ x ∷ [])))
+      (g.more (g.item refl refl (to n (c + 1) ps x behind node)) (items_from r (found ++ x ∷ [])))
 
   value_from : {c n : ℕ} {ps : List Piece} {x : Node} {rest : List Piece} → i.IsValue N c n ps x rest → M n (value_floor c (front ps)) ps x rest
   value_from {c = c} {n = n} {x = x} {rest = rest} (i.own_list {m = m} {ps = ps} h) = rw (eq-eqb c c refl) (to n c (dash m c ∷ ps) x rest h)
@@ -179,6 +184,7 @@ module _ (N M : g.Nodes) (to : Sound N M) where
     where
       unequal : (a b : ℕ) → a ≢ b → (a == b) ≡ false
       unequal a b h = elim (tested (a == b)) [ inl e ↦ absurd (h (eqb-true a b e)) | inr e ↦ e ]
+
       apart : (a b : Bool) → b ≡ false → (a && b) ≡ false
       apart true b e = e
       apart false b e = refl
@@ -190,7 +196,7 @@ module _ (N M : g.Nodes) (to : Sound N M) where
   pairs_from {c = c} {rest = rest} (i.pair {n = n} {k = k} {ps = ps} {behind = behind} {x = x} {xs = xs} value r) d found new =
       let y : Pair = (k, n, x) in
       subst (λ (all : List Pair). g.IsRows (g.IsLeft c) (g.IsPair M c) found (key n c k ∷ ps) all rest) (append_assoc found (y ∷ []) xs)
-        (g.more (g.pair refl refl (none_has k found new.0) (value_from value)) (pairs_from r d.1 (found ++ y ∷ []) (one_newer found xs y new.1 d.0)))
+      (g.more (g.pair refl refl (none_has k found new.0) (value_from value)) (pairs_from r d.1 (found ++ y ∷ []) (one_newer found xs y new.1 d.0)))
 
   over_from : (depth line floor : ℕ) (ps : List Piece) (x : Node) (rest : List Piece) → i.IsBlockOver depth N line floor ps x rest → g.IsNodeOver depth M line floor ps x rest
   over_from depth line floor ps x rest (i.absent a) = g.absent (is_left a)
@@ -216,5 +222,6 @@ same_texts text root = (to, from)
   where
     to : IsText text root → i.IsTextByIndent text root
     to (a_text {ps = ps} l c p t) = i.text l c p (block_to 64 1 0 ps root [] t)
+
     from : i.IsTextByIndent text root → IsText text root
     from (i.text {ps = ps} l c p t) = a_text l c p (block_from 64 1 0 ps root [] t)
