@@ -81,7 +81,7 @@ one_was k f a o le (closes {f = h} c opened) e = inr (open_back k h f o le opene
 -- ---- the three faults
 
 -- a fault that is told is one of the three
-one_of : (ls : List RawLine) (f : Fault) → told ls ≡ Some f → (line_fault ls ≡ Some f) ⊎ (((read_lines ls).fault ≡ Some f) ⊎ (in_tree ls ≡ Some f))
+pub one_of : (ls : List RawLine) (f : Fault) → told ls ≡ Some f → (line_fault ls ≡ Some f) ⊎ (((read_lines ls).fault ≡ Some f) ⊎ (in_tree ls ≡ Some f))
 one_of ls f e =
     elim (least_in (line_fault ls) (least (read_lines ls).fault (in_tree ls)) f e) [
       | inl h ↦ inl h

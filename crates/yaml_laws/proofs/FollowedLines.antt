@@ -141,7 +141,7 @@ utf8_on : (P : ℕ → Type 0) (b : Bool) (f : Fault) → P f.line → OnFault P
 utf8_on P true f h = tt
 utf8_on P false f h = h
 
-one_on : (P : ℕ → Type 0) (begun : Bool) (l : RawLine) → P l.line → OnFault P (one_fault begun l)
+pub one_on : (P : ℕ → Type 0) (begun : Bool) (l : RawLine) → P l.line → OnFault P (one_fault begun l)
 one_on P begun l h =
     least_on P (tab_fault l) (least (mark_fault begun l) (utf8_fault l)) (tested_on P (sees 9 l.content) _ h)
     (least_on P (mark_fault begun l) (utf8_fault l) (tested_on P (is_directive l || (begun && is_mark l)) _ h) (utf8_on P (is_utf8 l.content) _ h))

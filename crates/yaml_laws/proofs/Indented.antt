@@ -1,18 +1,17 @@
 -- Both grammars of blocks give the same trees.
-use Rattle.std.proofs.Common.{◌≡◌, ◌≢◌, ℕ, zero, suc, ◌+◌, ◌≤◌, ◌<◌, Bool, true, false, ◌||◌, ◌⊎◌, inl, inr, List, [], ◌∷◌, ◌++◌, Option, Some, None, refl, sym, ap, subst, ◌∙◌, append_assoc, arith}
+use Rattle.std.proofs.Common.{◌≡◌, ◌≢◌, ℕ, zero, suc, ◌+◌, Bool, true, false, ◌||◌, inl, inr, List, [], ◌∷◌, ◌++◌, refl, sym, ap, subst, ◌∙◌, append_assoc}
 use Rattle.std.specs.Prelude.{◌==◌, ◌&&◌, ◌↔◌}
 use Rattle.std.specs.Str.{bytes_eq}
 use Rattle.std.proofs.lemmas.Bool.{eqb-true, eq-eqb}
 use Rattle.std.proofs.lemmas.List.{append-nil}
-use Rattle.std.proofs.lemmas.List.Folds.{list_any-append}
 use Rattle.std.proofs.lemmas.Slice.Eq.{bytes_eq-Decides}
 use Rattle.yaml_tree.specs.declared.node.Node.{Node}
 use Rattle.yaml_tree.specs.declared.piece.Piece.{Piece}
 use Rattle.yaml_tree.specs.declared.piece.What.{What}
 use Rattle.yaml_tree.specs.declared.piece.What.TheVariants.{Dash, Key, Leaf}
 use Rattle.yaml_tree.specs.Layout.{front, is_dash, value_floor}
-use Rattle.yaml_tree.specs.Nodes.{Pair, null, listed, mapped, has_key}
-use Rattle.yaml_tree.specs.Pieces.{dash, key, leaf as leaf_piece}
+use Rattle.yaml_tree.specs.Nodes.{Pair, listed, mapped, has_key}
+use Rattle.yaml_tree.specs.Pieces.{dash, key}
 use Rattle.yaml_tree.specs.Grammar as g
 use Rattle.yaml_tree.specs.Spelling.{IsText, text as a_text}
 use Rattle.yaml_laws.specs.Indents as i

@@ -16,3 +16,5 @@ pub mod Completed
 pub mod Written
 pub mod FirstLine
 pub mod Indented
+pub mod Codes
+pub mod LineCodes

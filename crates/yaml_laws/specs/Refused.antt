@@ -1,11 +1,13 @@
 -- What a text is in terms of another that begins with its lines, and the order of faults.
-use Rattle.std.specs.Prelude.{◌≡◌, ◌≤◌, ◌<◌, ◌⊎◌, ℕ, ◌+◌, List, [], ◌∷◌, ◌++◌, take, Err}
+use Rattle.std.specs.Prelude.{◌≡◌, ◌≤◌, ◌<◌, ◌⊎◌, ℕ, ◌+◌, List, [], ◌∷◌, ◌++◌, take, Err, true, false}
 use Rattle.yaml_scan.specs.declared.line.RawLine.{RawLine}
 use Rattle.yaml_scan.specs.declared.fault.Fault.{Fault}
 use Rattle.yaml_scan.specs.declared.fault.Code.{Code}
-use Rattle.yaml_scan.specs.declared.fault.Code.TheVariants.{Structure, Limit}
+use Rattle.yaml_scan.specs.declared.fault.Code.TheVariants.{Tab, Structure, Limit, NotUtf8}
 use Rattle.yaml_scan.specs.Codes.{number_of}
 use Rattle.yaml_scan.specs.Lines.{lines}
+use Rattle.yaml_scan.specs.Words.{sees}
+use Rattle.std.specs.Str.{is_utf8}
 use Rattle.yaml_tree.specs.declared.node.Node.{Node}
 use Rattle.yaml_tree.specs.Spelling.{IsText}
 use Rattle.yaml_tree.specs.Tree.{tree}
@@ -55,3 +57,19 @@ pub record EndsInQuotes (n : ℕ) (text : List ℕ) : Type 0 where
   pub lines_are : lines closed ≡ take n (lines text) ++ close ∷ []
   pub quote : (close.content ≡ 34 ∷ []) ⊎ (close.content ≡ 39 ∷ [])
   pub in_grammar : IsText closed root
+
+-- ---- lines alone
+
+-- one of these lines
+abbrev pub IsOneOf : List RawLine → RawLine → Type 0
+IsOneOf [] l = ⊥
+IsOneOf (x ∷ ls) l = (x ≡ l) ⊎ IsOneOf ls l
+
+-- a line of the text
+abbrev pub IsLineOf : List ℕ → RawLine → Type 0
+IsLineOf text l = IsOneOf (lines text) l
+
+-- What a line holds that is refused for itself: a tab among its leading blanks, which is the first byte behind its leading spaces, or
+-- bytes that are not UTF-8.
+abbrev pub IsBad : Code → RawLine → Type 0
+IsBad code l = ((code ≡ Tab) × (sees 9 l.content ≡ true)) ⊎ ((code ≡ NotUtf8) × (is_utf8 l.content ≡ false))

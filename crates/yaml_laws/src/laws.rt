@@ -1,15 +1,17 @@
 //! Laws of the definitions alone. Each is a function that does nothing; its contract is the law.
 ghost use Rattle.std.specs.Prelude.{◌≡◌, ◌≢◌, ◌<◌, ◌+◌, ◌⊎◌, ◌↔◌, ℕ, List, Err, length};
-ghost use Rattle.yaml_scan.specs.declared.fault.Code.TheVariants.{Structure};
+ghost use Rattle.yaml_scan.specs.declared.fault.Code.TheVariants.{NotUtf8, Structure, Tab};
+ghost use Rattle.yaml_scan.specs.declared.fault.Code.{Code};
+ghost use Rattle.yaml_scan.specs.declared.line.RawLine.{RawLine};
 ghost use Rattle.yaml_scan.specs.declared.fault.Fault.{Fault};
-ghost use Rattle.yaml_scan.specs.Lines.{lines};
+ghost use Rattle.yaml_scan.specs.Lines.{fault, lines};
 ghost use Rattle.yaml_tree.specs.declared.node.Node.{Node};
 ghost use Rattle.yaml_tree.specs.Spelling.{IsText};
 ghost use Rattle.yaml_tree.specs.Tree.{tree};
 ghost use Rattle.yaml_tree.specs.declared.piece.Piece.{Piece};
 ghost use Rattle.yaml_tree.specs.Grammar.{IsTree};
 ghost use Rattle.yaml_laws.specs.Indents.{IsRoot, IsTextByIndent};
-ghost use Rattle.yaml_laws.specs.Refused.{EndsInQuotes, GoesOn, HasTree, IsFirstLine, IsTooDeep, MayMove, NoLater, SameLines};
+ghost use Rattle.yaml_laws.specs.Refused.{EndsInQuotes, GoesOn, HasTree, IsBad, IsFirstLine, IsLineOf, IsTooDeep, MayMove, NoLater, SameLines};
 
 /// What follows a text tells no fault that stands before the text's own; and where the text has a tree, only one on a line behind it.
 pub fn what_follows_tells_no_earlier_fault()
@@ -42,6 +44,13 @@ pub fn a_refused_line_is_the_first()
 /// A text has one such first line at most.
 pub fn one_first_line()
     ensures { (text : List ℕ) (m n : ℕ) → IsFirstLine text m → IsFirstLine text n → m ≡ n }
+{}
+
+/// C1 is told at a line with a tab among its leading blanks, and C13 at one that is not UTF-8; and a text with such a line is refused, for
+/// a fault that does not come after it.
+pub fn a_line_may_be_refused_for_itself()
+    ensures told { (text : List ℕ) (f : Fault) → tree text ≡ Err f → (f.code ≡ Tab) ⊎ (f.code ≡ NotUtf8) → (l : RawLine) × IsLineOf text l × (l.line ≡ f.line) × IsBad f.code l }
+    ensures refused { (text : List ℕ) (l : RawLine) (code : Code) → IsLineOf text l → IsBad code l → (f : Fault) × (tree text ≡ Err f) × NoLater f (fault l.line code) }
 {}
 
 /// The grammar of blocks on the columns of pieces is the one by the indent of what holds a node, with distinct keys in each map.
