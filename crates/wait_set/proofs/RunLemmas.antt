@@ -1,11 +1,13 @@
 -- The waits of a run, from one to the next.
 use Rattle.std.proofs.Common.{◌≡◌, ℕ, zero, suc, ◌+◌, ◌-◌, ◌<◌, ◌≤◌, List, [], ◌∷◌, length, drop, get_or, map, filter, Bool, true, false, refl, sym, subst, ◌∙◌, arith, inl, inr, All}
-use Rattle.std.specs.Prelude.{Some, nat_eq, slice_get, if◌then◌else◌}
+use Rattle.std.specs.Prelude.{Some, None, nat_eq, ◌&&◌, slice_get, if◌then◌else◌}
 use Rattle.std.specs.BTreeSet.{BTreeSet}
 use Rattle.std.proofs.lemmas.Bool.{cases_lt, eqb-true}
 use Rattle.std.proofs.lemmas.Bool.Decides.{eqb_tells}
 use Rattle.wait_set.specs.declared.asked.Asked.{Asked}
-use Rattle.wait_set.specs.Asked.{owners_of}
+use Rattle.ha_model.specs.Words.{same}
+use Rattle.ha_model.specs.Scripts.{Branch}
+use Rattle.wait_set.specs.Asked.{is_of, owners_of, wait_of}
 use Rattle.wait_set.specs.Concern.{Ascend}
 use Rattle.wait_set.specs.Runs.{HasNone, IsOfRun, IsPaired, Pair, has_pair}
 
@@ -89,3 +91,46 @@ owner-more s asks at next left lt of more le none =
   where
     one : at + 1 ≡ suc at
     one = omega arith
+
+-- ---- the one in a branch
+
+-- LEMMA: those that are passed are not it
+pub wait-skip : (s : ℕ) (b : Branch) (asks : List Asked) (from to : ℕ) → from ≤ to → HasNone asks s from to → wait_of s b (drop from asks) ≡ wait_of s b (drop to asks)
+wait-skip s b [] zero zero le none = refl
+wait-skip s b [] zero (suc to) le none = refl
+wait-skip s b [] (suc from) zero le none = refl
+wait-skip s b [] (suc from) (suc to) le none = refl
+wait-skip s b (z ∷ zs) zero zero le none = refl
+wait-skip s b (z ∷ zs) zero (suc to) le none =
+    (λ k. if none zero z (omega arith) (omega arith) (omega arith) k && same z.ask.branch b then Some z else wait_of s b zs)
+    ∙ wait-skip s b zs zero to (omega arith) (λ n d low high lt. none (suc n) d (omega arith) (omega (arith, high)) (omega (arith, lt)))
+wait-skip s b (z ∷ zs) (suc from) zero le none = absurd (omega (arith, le))
+wait-skip s b (z ∷ zs) (suc from) (suc to) le none =
+    wait-skip s b zs from to (omega (arith, le)) (λ n d low high lt. none (suc n) d (omega (arith, low)) (omega (arith, high)) (omega (arith, lt)))
+
+-- LEMMA: it is the first from its place on
+pub wait-here : (s : ℕ) (b : Branch) (asks : List Asked) (at : ℕ) (x : Asked) → at < length asks → x ≡ get_or asks at x → is_of s b x ≡ true → Some x ≡ wait_of s b (drop at asks)
+wait-here s b [] at x lt is found = absurd (omega (arith, lt))
+wait-here s b (z ∷ zs) zero x lt is found = (λ k. Some (is k)) ∙ sym (λ k. if (sym (λ m. is_of s b (is m)) ∙ found) k then Some z else wait_of s b zs)
+wait-here s b (z ∷ zs) (suc at) x lt is found = wait-here s b zs at x (omega (arith, lt)) is found
+
+-- LEMMA: behind another, past those of other runs, it is the same
+pub wait-more : (s : ℕ) (b : Branch) (asks : List Asked) (at next : ℕ) (x : Asked) → at < length asks → x ≡ get_or asks at x → is_of s b x ≡ false → at + 1 ≤ next → HasNone asks s (at + 1) next
+    → wait_of s b (drop next asks) ≡ wait_of s b (drop at asks)
+wait-more s b asks at next x lt is other le none =
+    sym (wait-skip s b asks (at + 1) next le none) ∙ (λ k. wait_of s b (drop (one k) asks)) ∙ passed-one asks at lt is
+  where
+    one : at + 1 ≡ suc at
+    one = omega arith
+
+    passed-one : (asks : List Asked) (at : ℕ) → at < length asks → x ≡ get_or asks at x → wait_of s b (drop (suc at) asks) ≡ wait_of s b (drop at asks)
+    passed-one [] at lt is = absurd (omega (arith, lt))
+    passed-one (z ∷ zs) zero lt is = sym (λ k. if (sym (λ m. is_of s b (is m)) ∙ other) k then Some z else wait_of s b zs)
+    passed-one (z ∷ zs) (suc at) lt is = passed-one zs at (omega (arith, lt)) is
+
+-- LEMMA: there is none behind all
+pub wait-none : (s : ℕ) (b : Branch) (asks : List Asked) (at : ℕ) → length asks ≤ at → None ≡ wait_of s b (drop at asks)
+wait-none s b [] zero le = refl
+wait-none s b [] (suc at) le = refl
+wait-none s b (z ∷ zs) zero le = absurd (omega (arith, le))
+wait-none s b (z ∷ zs) (suc at) le = wait-none s b zs at (omega (arith, le))

@@ -1,12 +1,14 @@
 //! The waits of a run, found by the pairs of serials and owners that are kept of them.
+ghost use Rattle.std.specs.Option.{option_copied};
 ghost use Rattle.std.specs.Prelude.{OnOk, ◌≡◌, ◌≤◌, ◌<◌, ℕ, All, IfSome, MatchOption, IsNone, true, false, length, nat_eq, slice_index_or, slice_get};
 ghost use Rattle.wait_set.specs.declared.asked.Asked.{Asked as Wait};
-ghost use Rattle.wait_set.specs.Asked.{owners_of};
+ghost use Rattle.wait_set.specs.Asked.{owners_of, wait_of};
 ghost use Rattle.wait_set.specs.Concern.{Ascend};
 ghost use Rattle.wait_set.specs.Runs.{HasNone, IsOfRun, IsPaired, has_pair};
 
-use crate::asked::Asked;
+use crate::asked::{Asked, is_of};
 use crate::concern::place_of;
+use ha_model::Branch;
 use std::alloc::AllocError;
 use std::collections::BTreeSet;
 
@@ -142,6 +144,29 @@ pub fn owner_at(
             return Some(owner_in(asks, place));
         }
         left -= 1;
+        place = next_place(asks, runs, ordered, serial, place + 1);
+    }
+    None
+}
+
+/// The wait of a run in a branch, looked for among the run's own.
+pub fn ask_of<'a>(
+    asks: &'a [Asked],
+    runs: &BTreeSet<(u64, u64)>,
+    ordered: bool,
+    serial: u64,
+    branch: &Branch,
+) -> Option<&'a Asked>
+    requires paired { All (IsPaired runs.now) asks.now }
+    requires order { ordered ≡ true → Ascend asks.now }
+    ensures { option_copied result ≡ wait_of serial branch.now asks.now }
+{
+    let mut place = next_place(asks, runs, ordered, serial, 0);
+    'asks: while place < asks.len() {
+        let asked = &asks[place];
+        if is_of(asked, serial, branch) {
+            return Some(asked);
+        }
         place = next_place(asks, runs, ordered, serial, place + 1);
     }
     None

@@ -1,7 +1,6 @@
 //! The set of pending and ended waits.
 ghost use Rattle.std.specs.Prelude.{◌≡◌, ◌≤◌, ◌<◌, ◌-◌, suc, take, drop, filter, not, vec_capacity, [], ◌∷◌, ◌++◌, All, Bool, IfOk, OnOk, OnErr, IsOk, IsTrue, None, Some, true, false, length, nat_eq, is_none, is_some, ◌||◌, slice_get, ◌&&◌, List, ℕ};
 ghost use Rattle.std.specs.List.{list_any};
-ghost use Rattle.std.specs.Option.{option_copied};
 ghost use Rattle.ha_model.specs.declared.journal.Entry.{Entry};
 ghost use Rattle.ha_model.specs.Journal.{HasEntry, Journal};
 ghost use Rattle.ha_model.specs.RecordSteps.{more};
@@ -16,7 +15,7 @@ ghost use Rattle.timer_queue.specs.Timers.{due_of, removed};
 
 use crate::asked::{Asked, is_of, note_one};
 use crate::concern::concerned;
-use crate::runs::{list_run, next_place, owner_at, owner_in, unlist};
+use crate::runs::{ask_of, list_run, next_place, owner_at, owner_in, unlist};
 use ha_model::{Answers, Branch, Ended, Firing, Many, Moment, WaitAsk, WaitEnd};
 use std::alloc::{AllocError, Global};
 use std::collections::BTreeSet;
@@ -173,7 +172,14 @@ impl Ended for Waits {
     ghost ends = { λ w serial branch. end_of w.asks serial branch };
 
     fn ended(&self, serial: u64, branch: &Branch) -> Option<&WaitEnd> {
-        match find_ask(self.asks.as_slice(), serial, branch) {
+        let found = ask_of(
+            self.asks.as_slice(),
+            &self.pending.runs,
+            self.ordered,
+            serial,
+            branch,
+        );
+        match found {
             Some(asked) => asked.end.as_ref(),
             None => None,
         }
@@ -505,11 +511,4 @@ fn cut(asks: &mut Vec<Asked>, at: usize)
     ensures capacity { vec_capacity asks.new ≡ vec_capacity asks.old }
 {
     asks.remove(at);
-}
-
-/// The wait of a run in a branch.
-fn find_ask<'a>(asks: &'a [Asked], serial: u64, branch: &Branch) -> Option<&'a Asked>
-    ensures { option_copied result ≡ wait_of serial branch.now asks.now }
-{
-    asks.iter().find(|asked| is_of(asked, serial, branch))
 }
