@@ -1,5 +1,5 @@
 //! The set of pending and ended waits.
-ghost use Rattle.std.specs.Prelude.{◌≡◌, ◌≤◌, ◌<◌, ◌-◌, suc, take, drop, filter, not, vec_capacity, [], ◌∷◌, ◌++◌, All, Bool, IfOk, OnOk, OnErr, IsOk, IsTrue, None, Some, true, false, length, nat_eq, is_none, is_some, ◌||◌, slice_get, ◌&&◌, List, ℕ};
+ghost use Rattle.std.specs.Prelude.{◌≡◌, ◌≤◌, ◌<◌, ◌-◌, suc, take, drop, filter, not, vec_capacity, [], ◌++◌, All, Bool, OnOk, OnErr, None, Some, true, false, length, nat_eq, is_none, is_some, ◌||◌, slice_get, ◌&&◌, ℕ};
 ghost use Rattle.std.specs.List.{list_any};
 ghost use Rattle.ha_model.specs.declared.journal.Entry.{Entry};
 ghost use Rattle.ha_model.specs.Journal.{HasEntry, Journal};
@@ -7,29 +7,21 @@ ghost use Rattle.ha_model.specs.RecordSteps.{more};
 ghost use Rattle.ha_model.specs.Scripts.{Branch as Path};
 ghost use Rattle.wait_set.specs.declared.asked.Asked.{Asked as Wait};
 ghost use Rattle.wait_set.specs.Asked.{added, end_of, ended_at, is_of, noted, noted_at, owners_ended, owners_of, wait_of, without_run};
-ghost use Rattle.wait_set.specs.Concern.{Ascend, IsStill, OfOthers, has};
+ghost use Rattle.wait_set.specs.Concern.{Ascend, IsStill, OfOthers};
 ghost use Rattle.wait_set.specs.Stands.{IsNext, StandsFor};
 ghost use Rattle.wait_set.specs.Runs.{AllBefore, IsPaired, has_pair};
 ghost use Rattle.wait_set.specs.Timers.{AreFound, AreKept, AreTimed, timer_added};
-ghost use Rattle.timer_queue.specs.Timers.{due_of, removed};
+ghost use Rattle.timer_queue.specs.Timers.{due_of};
 
 use crate::asked::{Asked, is_of, note_one};
 use crate::concern::concerned;
-use crate::runs::{ask_of, list_run, next_place, owner_at, owner_in, unlist};
+use crate::pending::{Pending, list_ask, mark, settle};
+use crate::runs::{ask_of, next_place, owner_at, owner_in, unlist};
 use ha_model::{Answers, Branch, Ended, Firing, Many, Moment, WaitAsk, WaitEnd};
 use std::alloc::{AllocError, Global};
 use std::collections::BTreeSet;
 use std::marker::Model;
 use timer_queue::TimerQueue;
-
-/// What is kept beside the waits: of those that have not ended the dues, and the owners of those
-/// that ask a template; and of all the serials of their runs, each with the owner.
-#[derive(Drop)]
-struct Pending {
-    timers: TimerQueue,
-    testing: BTreeSet<u64>,
-    runs: BTreeSet<(u64, u64)>,
-}
 
 /// The waits of all runs, in the order in which they were asked for; who owns those that ended at
 /// the entry noted last; what is kept of those that have not ended; and whether each one's owner
@@ -416,52 +408,6 @@ fn stay_ordered(ordered: bool, asks: &[Asked], owner: u64) -> bool
         Some(last) => last.owner < owner,
         None => true,
     }
-}
-
-/// A wait is listed: its run, and its owner where it asks a template.
-fn list_ask(pending: &mut Pending, ask: &WaitAsk, owner: u64) -> Result<(), AllocError>
-    ensures timers { pending.new.timers ≡ pending.old.timers }
-    ensures here { OnOk result (is_some ask.now.test ≡ true → has pending.new.testing owner ≡ true) }
-    ensures kept { (n : ℕ) → has pending.old.testing n ≡ true → has pending.new.testing n ≡ true }
-    ensures run { OnOk result (has_pair pending.new.runs ask.now.serial owner ≡ true) }
-    ensures runs { (s o : ℕ) → has_pair pending.old.runs s o ≡ true → has_pair pending.new.runs s o ≡ true }
-{
-    list_test(&mut pending.testing, ask, owner)?;
-    list_run(&mut pending.runs, ask.serial, owner)?;
-    Ok(())
-}
-
-/// The owner is listed, where its wait asks a template.
-fn list_test(testing: &mut BTreeSet<u64>, ask: &WaitAsk, owner: u64) -> Result<(), AllocError>
-    ensures here { OnOk result (is_some ask.now.test ≡ true → has testing.new owner ≡ true) }
-    ensures kept { (n : ℕ) → has testing.old n ≡ true → has testing.new n ≡ true }
-{
-    if ask.test.is_some() {
-        testing.insert(owner)?;
-    }
-    Ok(())
-}
-
-/// The wait of this owner is pending no more.
-fn settle(pending: &mut Pending, owner: u64)
-    ensures timers { pending.new.timers ≡ removed owner pending.old.timers }
-    ensures testing { (n : ℕ) → nat_eq owner n ≡ false → has pending.new.testing n ≡ has pending.old.testing n }
-    ensures runs { pending.new.runs ≡ pending.old.runs }
-{
-    pending.timers.remove(owner);
-    pending.testing.remove(&owner);
-}
-
-/// The wait of this owner has ended.
-fn mark(pending: &mut Pending, fresh: &mut Vec<u64>, owner: u64) -> Result<(), AllocError>
-    ensures timers { pending.new.timers ≡ removed owner pending.old.timers }
-    ensures testing { (n : ℕ) → nat_eq owner n ≡ false → has pending.new.testing n ≡ has pending.old.testing n }
-    ensures runs { pending.new.runs ≡ pending.old.runs }
-    ensures fresh { OnOk result (fresh.new.items ≡ fresh.old.items ++ (owner ∷ [])) }
-{
-    settle(pending, owner);
-    fresh.push(owner)?;
-    Ok(())
 }
 
 /// Takes the waits of a run out, with what is kept of them.
