@@ -1,10 +1,11 @@
 -- Words, blanks and the next byte.
 use Rattle.std.proofs.Common.{◌≡◌, ℕ, suc, ◌≤◌, true, false, cond, List, [], ◌∷◌, ◌++◌, length, drop, Some, None, Ok, Err, refl, ap, ◌∙◌, arith, length-append, inl, inr}
 use Rattle.std.specs.Prelude.{◌==◌}
+use Rattle.std.specs.Char.{is_ascii_digit}
 use Rattle.std.proofs.lemmas.Bool.{eqb-true}
 use Rattle.reading.specs.declared.fault.Bad.{Bad}
 use Rattle.reading.specs.Answer.{stop, front}
-use Rattle.reading.specs.Bytes.{is_blank, skip, sees, expect}
+use Rattle.reading.specs.Bytes.{is_blank, skip, skip_digits, sees, expect}
 use Rattle.reading.proofs.Basics.{ok_parts, chosen, stop_left}
 
 pub sees_front : (b : ℕ) (t : List ℕ) → sees b t ≡ true → t ≡ b ∷ drop 1 t
@@ -23,6 +24,15 @@ pub length-skip : (t : List ℕ) → length (skip t) ≤ length t
 unfolding skip
 length-skip [] = omega arith
 length-skip (b ∷ t) = elim (is_blank b) as (λ x. length (cond x (skip t) (b ∷ t)) ≤ suc (length t)) [ true ↦ omega (arith, length-skip t) | false ↦ omega arith ]
+
+pub length-skip_digits : (t : List ℕ) → length (skip_digits t) ≤ length t
+unfolding skip_digits
+length-skip_digits [] = omega arith
+length-skip_digits (b ∷ t) = elim (is_ascii_digit b) as (λ x. length (cond x (skip_digits t) (b ∷ t)) ≤ suc (length t)) [ true ↦ omega (arith, length-skip_digits t) | false ↦ omega arith ]
+
+pub length-drop_one : {T : Type 0} (t : List T) → length (drop 1 t) ≤ length t
+length-drop_one [] = omega arith
+length-drop_one (b ∷ t) = omega arith
 
 -- a byte that is no blank stays
 pub skip_none : (b : ℕ) (t : List ℕ) → is_blank b ≡ false → skip (b ∷ t) ≡ b ∷ t

@@ -6,4 +6,5 @@ pub mod Local
 pub mod Opens
 pub mod RowLaws
 pub mod Rows
+pub mod Shorter
 pub mod Solid

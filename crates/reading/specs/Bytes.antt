@@ -1,5 +1,6 @@
 -- Rules over bytes.
-use Rattle.std.specs.Prelude.{ℕ, Bool, false, ◌==◌, if◌then◌else◌, List, [], ◌∷◌, Ok}
+use Rattle.std.specs.Prelude.{ℕ, ◌-◌, Bool, false, ◌&&◌, ◌==◌, nat_le, if◌then◌else◌, List, [], ◌∷◌, Option, Some, None, Ok}
+use Rattle.std.specs.Char.{is_ascii_digit}
 pub use Rattle.ha_value.specs.Truth.{is_blank}
 use Rattle.reading.specs.declared.fault.Bad.{Bad}
 use Rattle.reading.specs.Answer.{Rule, stop}
@@ -8,6 +9,18 @@ use Rattle.reading.specs.Answer.{Rule, stop}
 unfoldable pub skip : List ℕ → List ℕ
 skip [] = []
 skip (b ∷ rest) = if is_blank b then skip rest else b ∷ rest
+
+-- without the digits at the front
+unfoldable pub skip_digits : List ℕ → List ℕ
+skip_digits [] = []
+skip_digits (b ∷ rest) = if is_ascii_digit b then skip_digits rest else b ∷ rest
+
+-- the value of a hexadecimal digit
+abbrev pub hex : ℕ → Option ℕ
+hex b =
+    if nat_le 48 b && nat_le b 57
+    then Some (b - 48) else (if nat_le 65 b && nat_le b 70
+    then Some (b - 55) else (if nat_le 97 b && nat_le b 102 then Some (b - 87) else None))
 
 -- the next byte is this one
 abbrev pub sees : ℕ → List ℕ → Bool

@@ -7,21 +7,23 @@
 //!
 //! A method that reads has one clause, `Gives (rule self.old) result self.new`: what it returned and left is what the rule
 //! gives, unless memory ran out (`Stop::Memory`). Such a clause mostly proves by `#[tactic(auto, unfolding(..))]` of the rule.
-//! Over bytes the methods call `Reader`: `peek`, `bump`, `eat`, `expect`, `skip`, `skip_blanks`, `character`, and `stop` for a
-//! fault.
+//! Over bytes the methods call `Reader`: `peek`, `bump`, `eat`, `expect`, `skip`, `skip_blanks`, `skip_digits`, `character`, and
+//! `stop` for a fault.
 //!
 //! A grammar is a relation `Spelling` (`specs/Spelling.antt`): text, value, rest. The laws about rules and spellings are
-//! `proofs/`: a rule's answer is spelled (`Sound`), and is shorter; what is spelled is read (`Complete`); a fault depends on
-//! nothing behind it (`Local`); a spelling may be followed by anything (`Frames`); what stands before a fault can be gone on
-//! with (`Opens`). Each has a law for binds, blanks, words, rows and lists in brackets, which a reader puts together. For rules
-//! that look at nothing behind what they take, as that of a character in UTF-8 (`character`), one law says the last three
-//! together (`Solid`).
+//! `proofs/`: a rule's answer is spelled (`Sound`); it leaves a shorter text, and a fault stands within the text (`Shorter`);
+//! what is spelled is read (`Complete`); a fault depends on nothing behind it (`Local`); a spelling may be followed by anything
+//! (`Frames`); what stands before a fault can be gone on with (`Opens`). Each has a law for binds, blanks, words, rows and lists
+//! in brackets, which a reader puts together. For rules that look at nothing behind what they take, as that of a character in
+//! UTF-8 (`character`), one law says the last three together (`Solid`).
 #![tactic(auto)]
 
+mod digits;
 mod fault;
 mod reader;
 mod utf8;
 
+pub use digits::hex;
 pub use fault::{Bad, Stop};
 pub use reader::Reader;
 pub use utf8::is_utf8;

@@ -2,7 +2,7 @@
 
 ghost use Rattle.std.specs.Prelude.{◌≡◌, ◌<◌, ◌≤◌, ℕ, length, drop, if◌then◌else◌};
 ghost use Rattle.reading.specs.Answer.{Gives, front};
-ghost use Rattle.reading.specs.Bytes.{expect, sees, skip};
+ghost use Rattle.reading.specs.Bytes.{expect, sees, skip, skip_digits};
 ghost use Rattle.reading.specs.Characters.{begins_character, character};
 
 use crate::fault::{Bad, Stop};
@@ -99,6 +99,19 @@ impl<'a> Reader<'a> {
     {
         while let Some(b) = self.peek()
             && is_blank(b)
+        {
+            self.bump();
+        }
+    }
+
+    /// Takes the digits at the front.
+    #[tactic(auto, unfolding(crate::specs::Bytes::skip_digits))]
+    pub fn skip_digits(&mut self)
+        ensures exact { self.new ≡ skip_digits self.old }
+        ensures shorter { length self.new ≤ length self.old }
+    {
+        while let Some(b) = self.peek()
+            && b.is_ascii_digit()
         {
             self.bump();
         }

@@ -1,0 +1,18 @@
+//! Digits.
+
+ghost use Rattle.std.specs.Prelude.{◌≡◌, ◌≤◌, ◌<◌};
+ghost use Rattle.std.specs.Option.{IfSome};
+ghost use Rattle.reading.specs.Bytes.{hex};
+
+/// The value of a hexadecimal digit.
+pub fn hex(b: u8) -> Option<u32>
+    ensures value { result ≡ hex b }
+    ensures within { IfSome result (λ d. d < 16) }
+{
+    match b {
+        b'0'..=b'9' => Some(u32::from(b - b'0')),
+        b'A'..=b'F' => Some(u32::from(b - 55)),
+        b'a'..=b'f' => Some(u32::from(b - 87)),
+        _ => None,
+    }
+}
