@@ -184,7 +184,6 @@ impl Index {
     }
 
     /// The owners that an entity concerns, in order, if it is known.
-    #[inline(always)]
     pub fn of_entity(&self, entity: &EntityId) -> Option<&BTreeSet<u64>>
         ensures { (n : ℕ) → option_map_or (λ set. has set n) (option_copied result) false ≡ knows self.now (Subject.Entity entity.now) n }
     {
