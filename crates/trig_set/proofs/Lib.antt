@@ -24,3 +24,4 @@ pub mod FirstLemmas
 pub mod ShiftLemmas
 pub mod OrderLemmas
 pub mod QueueLemmas
+pub mod BeginLemmas

@@ -1,5 +1,6 @@
 -- The latest numbers of entities and their attributes.
-use Rattle.std.specs.Prelude.{◌≡◌, Option, None, Some, String, [], is_some, option_and_then, if◌then◌else◌}
+use Rattle.std.specs.Prelude.{◌≡◌, Bool, false, ◌||◌, nat_eq, Option, None, Some, String, [], ◌∷◌, is_some, option_and_then, if◌then◌else◌}
+use Rattle.std.specs.Char.{is_ascii_digit}
 use Rattle.std.specs.BTreeSet.{BTreeSet, contains_text}
 use Rattle.std.specs.BTreeMap.{BTreeMap, get_by_text}
 use Rattle.ha_value.specs.declared.value.EntityId.{EntityId}
@@ -27,6 +28,11 @@ number_at t e name =
 abbrev pub number_given : Option Num → Pairs → Option Text → Option Num
 number_given own ps None = own
 number_given own ps (Some name) = number_watched (Some name) [] ps
+
+-- the text begins with a sign or a digit: no other is a number
+abbrev pub begins_number : Text → Bool
+begins_number [] = false
+begins_number (c ∷ cs) = (nat_eq c 43 || nat_eq c 45) || is_ascii_digit c
 
 -- with the names of these pairs, and the numbers that they give over those before
 pub record SoFar {Y Z : Type 0} (seen : BTreeSet (String Z))

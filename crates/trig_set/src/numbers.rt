@@ -1,5 +1,5 @@
 //! The latest number of each reported entity and attribute since the last Restart.
-ghost use Rattle.std.specs.Prelude.{◌≡◌, Option, None, IfOk, OnOk, string_bytes, if◌then◌else◌};
+ghost use Rattle.std.specs.Prelude.{◌≡◌, Option, None, IfOk, OnOk, string_bytes, true, if◌then◌else◌};
 ghost use Rattle.std.specs.Option.{option_copied};
 ghost use Rattle.ha_value.specs.declared.value.EntityId.{EntityId as Entity};
 ghost use Rattle.ha_model.specs.Words.{Text, same, same_entity};
@@ -7,7 +7,7 @@ ghost use Rattle.ha_model.specs.Conditions.{number_watched};
 ghost use Rattle.ha_model.specs.Entries.{opens_segment};
 ghost use Rattle.ha_model.specs.Triggers.{report_number};
 ghost use Rattle.ha_past.specs.Looks.{or_else};
-ghost use Rattle.trig_set.specs.Table.{number_at, number_given, number_of, numbers_in};
+ghost use Rattle.trig_set.specs.Table.{begins_number, number_at, number_given, number_of, numbers_in};
 
 use crate::attributes::put_attributes;
 use crate::moved::opens;
@@ -77,6 +77,24 @@ impl Numbers {
         ensures { OnOk result ((e : Entity) (name : Option Text)
             → number_at self.new e name ≡ or_else (if same_entity entity.now e then number_watched name text.now attributes.now else None) (number_at self.old e name)) }
     {
+        if gives_none(text, attributes) {
+            return Ok(());
+        }
+        self.read(alloc, entity, text, attributes)
+    }
+
+    /// The same, where it may give some. Its locals are a function's own, so that a text that is plainly no number makes no room for them.
+    #[inline(never)]
+    fn read(
+        &mut self,
+        alloc: Global,
+        entity: &EntityId,
+        text: &Word,
+        attributes: &Many<(Word, Value)>,
+    ) -> Result<(), AllocError>
+        ensures { OnOk result ((e : Entity) (name : Option Text)
+            → number_at self.new e name ≡ or_else (if same_entity entity.now e then number_watched name text.now attributes.now else None) (number_at self.old e name)) }
+    {
         let own = Num::read(text.bytes());
         if own.is_none() && attributes.is_empty() {
             return Ok(());
@@ -106,6 +124,23 @@ impl Numbers {
             }
         }
     }
+}
+
+/// Whether a text begins as numbers do, with a sign or a digit.
+fn begins_number(text: &[u8]) -> bool
+    ensures { result ≡ begins_number text.now }
+{
+    match text {
+        [] => false,
+        [first, ..] => *first == b'+' || *first == b'-' || first.is_ascii_digit(),
+    }
+}
+
+/// Whether a report gives no number at first sight: it has no attributes, and its text begins otherwise.
+fn gives_none(text: &Word, attributes: &Many<(Word, Value)>) -> bool
+    ensures { result ≡ true → (name : Option Text) → number_watched name text.now attributes.now ≡ None }
+{
+    attributes.is_empty() && !begins_number(text.bytes())
 }
 
 /// The text as a key.
