@@ -85,16 +85,9 @@ fn are_kinds(alloc: Global, text: &str, wanted: &[(u8, usize)]) -> bool {
 #[test]
 fn each_kind_by_its_key(rt: HostRuntime) {
     let alloc = rt.alloc();
-    let text =
+    let steps =
         "- action: light.turn_on\n- delay: 5\n- wait_template: \"{{ true }}\"\n- wait_for_trigger: {trigger: event, event_type: a}\n- choose: {conditions: [], sequence: []}\n- if: []\n  then: [{stop: x}]\n- repeat: {count: 3, sequence: []}\n";
-    assert!(rt;
-        are_kinds(
-            alloc,
-            text,
-            &[(1, 0), (2, 0), (3, 0), (4, 1), (5, 1), (6, 1), (71, 0)]
-        )
-    );
-    let text =
+    let others =
         "- parallel:\n- sequence:\n- variables:\n- event: ping\n- stop:\n- condition: trigger\n  id: x\n- \"{{ true }}\"\n- not: []\n  continue_on_error: yes\n- service: a.b\n";
     let kinds = [
         (8, 0),
@@ -107,7 +100,13 @@ fn each_kind_by_its_key(rt: HostRuntime) {
         (13, 0),
         (1, 0),
     ];
-    assert!(rt; are_kinds(alloc, text, &kinds));
+    assert!(rt;
+        are_kinds(
+            alloc,
+            steps,
+            &[(1, 0), (2, 0), (3, 0), (4, 1), (5, 1), (6, 1), (71, 0)]
+        ) && are_kinds(alloc, others, &kinds)
+    );
 }
 
 #[test]
@@ -207,13 +206,15 @@ fn a_disabled_branch_is_left_out_and_an_empty_list_is_one(rt: HostRuntime) {
 #[test]
 fn null_is_no_action_but_no_item(rt: HostRuntime) {
     let alloc = rt.alloc();
-    assert!(rt; are_kinds(alloc, "null\n", &[]));
-    assert!(rt; are_kinds(alloc, "- delay: 5\n  enabled: no\n- stop:\n", &[(12, 0)]));
     let rows = [
         ("- stop:\n-\n", 2, 7),
         ("- delay: x\n  enabled: no\n", 1, 9),
     ];
-    assert!(rt; are_refused(alloc, &rows));
+    assert!(rt;
+        are_kinds(alloc, "null\n", &[])
+            && are_kinds(alloc, "- delay: 5\n  enabled: no\n- stop:\n", &[(12, 0)])
+            && are_refused(alloc, &rows)
+    );
 }
 
 #[test]
@@ -244,13 +245,13 @@ fn faults_of_calls(rt: HostRuntime) {
         ("- action: a.b\n  data: {x: 1000000000001}\n", 2, 10),
         ("- action: a.b\n  data: {x: \"{{ a.upper() }}\"}\n", 2, 11),
     ];
-    assert!(rt; are_refused(alloc, &rows));
     assert!(rt;
-        are_kinds(
-            alloc,
-            "- action: a.b\n  target: {}\n  entity_id: []\n",
-            &[(1, 0)]
-        )
+        are_refused(alloc, &rows)
+            && are_kinds(
+                alloc,
+                "- action: a.b\n  target: {}\n  entity_id: []\n",
+                &[(1, 0)]
+            )
     );
 }
 

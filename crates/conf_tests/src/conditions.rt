@@ -87,13 +87,16 @@ fn each_kind_by_its_name(rt: HostRuntime) {
 #[test]
 fn short_forms_and_what_is_left_out(rt: HostRuntime) {
     let alloc = rt.alloc();
-    let text =
+    let short =
         "- and: []\n- or:\n    - \"{{ true }}\"\n    - \"{{ x }}\"\n- not: \"{{ x }}\"\n  alias: None of it\n- \"{{ x }}\"\n";
-    assert!(rt; are_kinds(alloc, text, &[(1, 0), (2, 2), (3, 1), (6, 0)]));
-    let text =
+    let left =
         "- condition: trigger\n  id: a\n  enabled: off\n- and:\n    - condition: trigger\n      id: a\n      enabled: 'False'\n";
-    assert!(rt; are_kinds(alloc, text, &[(1, 0)]));
-    assert!(rt; are_kinds(alloc, "~\n", &[]) && are_kinds(alloc, "\"{{ x }}\"\n", &[(6, 0)]));
+    assert!(rt;
+        are_kinds(alloc, short, &[(1, 0), (2, 2), (3, 1), (6, 0)])
+            && are_kinds(alloc, left, &[(1, 0)])
+            && are_kinds(alloc, "~\n", &[])
+            && are_kinds(alloc, "\"{{ x }}\"\n", &[(6, 0)])
+    );
 }
 
 /// Whether the first condition is a window of these seconds on so many days, 0 where none are given.
@@ -134,8 +137,10 @@ fn is_one_window(
 fn times_of_a_window(rt: HostRuntime) {
     let alloc = rt.alloc();
     let text = "condition: time\nafter: '7:05'\nbefore: '22:00:01'\nweekday: [mon, sun]\n";
-    assert!(rt; is_one_window(alloc, text, Some(25_500), Some(79_201), 2));
-    assert!(rt; is_one_window(alloc, "condition: time\nweekday: tue\n", None, None, 1));
+    assert!(rt;
+        is_one_window(alloc, text, Some(25_500), Some(79_201), 2)
+            && is_one_window(alloc, "condition: time\nweekday: tue\n", None, None, 1)
+    );
 }
 
 /// Whether the first condition has this upper bound, and no lower one.
@@ -156,10 +161,11 @@ fn has_upper(alloc: Global, text: &str, bound: Num) -> bool {
 #[test]
 fn a_bound_is_a_number_in_quotes_or_not(rt: HostRuntime) {
     let alloc = rt.alloc();
-    let text = "condition: numeric_state\nentity_id: sensor.t\nbelow: '-1.5'\n";
-    assert!(rt; has_upper(alloc, text, Num::Fixed(-1_500_000)));
-    let text = "condition: numeric_state\nentity_id: sensor.t\nbelow: 20\n";
-    assert!(rt; has_upper(alloc, text, Num::Whole(20)));
+    let quoted = "condition: numeric_state\nentity_id: sensor.t\nbelow: '-1.5'\n";
+    let plain = "condition: numeric_state\nentity_id: sensor.t\nbelow: 20\n";
+    assert!(rt;
+        has_upper(alloc, quoted, Num::Fixed(-1_500_000)) && has_upper(alloc, plain, Num::Whole(20))
+    );
 }
 
 #[test]

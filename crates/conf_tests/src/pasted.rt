@@ -254,10 +254,12 @@ fn the_page_on_triggers(rt: HostRuntime) {
             alloc,
             TRIGGERS,
             &[("triggers", Mode::Single, 10, (9, 0, 1))]
+        ) && reads(
+            alloc,
+            TRIGGERS_BEFORE,
+            &[("exterior_humidity", Mode::Single, 10, (1, 1, 1))]
         )
     );
-    let rows = [("exterior_humidity", Mode::Single, 10, (1, 1, 1))];
-    assert!(rt; reads(alloc, TRIGGERS_BEFORE, &rows));
 }
 
 /// The page on conditions: each kind that is taken, and the short forms.

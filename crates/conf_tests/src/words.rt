@@ -1,141 +1,179 @@
 //! The words of the command line.
-use ha_words::{Plan, WordsFault, read_words};
+use ha_words::{Plan, RunWords, WordsFault, read_words};
 use std::alloc::{AllocError, Global};
-use std::test::Fail;
 
 const START: &str = "2024-05-01T20:00:00Z";
 
-fn words(alloc: Global, texts: &[&str]) -> Result<Vec<String>, AllocError> {
+/// These words, and those behind them.
+fn words(alloc: Global, front: &[&str], behind: &[&str]) -> Result<Vec<String>, AllocError> {
     let mut words = Vec::new(alloc);
-    for text in texts {
+    for text in front {
+        words.push(String::from_str(alloc, text)?)?;
+    }
+    for text in behind {
         words.push(String::from_str(alloc, text)?)?;
     }
     Ok(words)
 }
 
-fn is_usage(alloc: Global, texts: &[&str]) -> Result<bool, Fail> {
-    let list = words(alloc, texts)?;
-    Ok(matches!(read_words(alloc, list.as_slice()), Err(WordsFault::Usage)))
-}
-
-/// Whether `run` with these words behind a configuration and a start is usage.
-fn is_run_usage(alloc: Global, texts: &[&str]) -> Result<bool, Fail> {
-    let mut list = words(alloc, &["run", "--config", "f", "--start", START])?;
-    for text in texts {
-        list.push(String::from_str(alloc, text)?)?;
+/// What these words ask for.
+fn read(alloc: Global, front: &[&str], behind: &[&str]) -> Result<Plan, WordsFault> {
+    match words(alloc, front, behind) {
+        Ok(list) => read_words(alloc, list.as_slice()),
+        Err(_) => Err(WordsFault::Memory),
     }
-    Ok(matches!(read_words(alloc, list.as_slice()), Err(WordsFault::Usage)))
 }
 
-/// Whether the words are a run of one source of this name, in this zone, with the configuration `f`.
-fn is_run(alloc: Global, texts: &[&str], source: &str, zone: &str) -> Result<bool, Fail> {
-    let list = words(alloc, texts)?;
-    let Ok(Plan::Run(plan)) = read_words(alloc, list.as_slice()) else {
-        return Ok(false);
-    };
-    let Some(found) = plan.sources.as_slice().first() else {
-        return Ok(false);
-    };
-    Ok(
-        plan.config.as_str() == "f"
-            && found.as_str() == source
-            && plan.zone.text() == zone.as_bytes(),
-    )
+/// Whether each of these is usage.
+fn are_usage(alloc: Global, rows: &[&[&str]]) -> bool {
+    for row in rows {
+        if !matches!(read(alloc, row, &[]), Err(WordsFault::Usage)) {
+            return false;
+        }
+    }
+    true
 }
 
-fn is_check(alloc: Global, texts: &[&str], name: &str) -> Result<bool, Fail> {
-    let list = words(alloc, texts)?;
-    let Ok(Plan::Check(found)) = read_words(alloc, list.as_slice()) else {
-        return Ok(false);
-    };
-    Ok(found.as_str() == name)
+/// What `run` asks for, with these words behind a configuration and a start.
+fn read_run(alloc: Global, behind: &[&str]) -> Result<Plan, WordsFault> {
+    read(alloc, &["run", "--config", "f", "--start", START], behind)
+}
+
+/// Whether `run` is usage with each of these behind a configuration and a start.
+fn are_run_usage(alloc: Global, rows: &[&[&str]]) -> bool {
+    for row in rows {
+        if !matches!(read_run(alloc, row), Err(WordsFault::Usage)) {
+            return false;
+        }
+    }
+    true
+}
+
+/// A run of one source, by its words, with the source's name and the zone.
+type RunRow<'a> = (&'a [&'a str], &'a str, &'a str);
+
+/// Whether it is a run of one source of this name, in this zone, with the configuration `f`.
+fn is_run_of(plan: &RunWords, source: &str, zone: &str) -> bool {
+    match plan.sources.as_slice().first() {
+        Some(found) => {
+            plan.config.as_str() == "f"
+                && found.as_str() == source
+                && plan.zone.text() == zone.as_bytes()
+        }
+        None => false,
+    }
+}
+
+fn is_run(alloc: Global, row: &RunRow<'_>) -> bool {
+    match read(alloc, row.0, &[]) {
+        Ok(Plan::Run(plan)) => is_run_of(&plan, row.1, row.2),
+        _ => false,
+    }
+}
+
+fn are_runs(alloc: Global, rows: &[RunRow<'_>]) -> bool {
+    for row in rows {
+        if !is_run(alloc, row) {
+            return false;
+        }
+    }
+    true
+}
+
+/// Whether these words ask for the check of this file.
+fn is_check(alloc: Global, texts: &[&str], name: &str) -> bool {
+    match read(alloc, texts, &[]) {
+        Ok(Plan::Check(found)) => found.as_str() == name,
+        _ => false,
+    }
 }
 
 #[test]
-fn options_stand_in_any_place(rt: HostRuntime) -> Result<(), Fail> {
+fn options_stand_in_any_place(rt: HostRuntime) {
+    assert!(rt;
+        are_runs(
+            rt.alloc(),
+            &[
+                (
+                    &["run", "--config", "f", "--start", START, "s"],
+                    "s",
+                    "UTC",
+                ),
+                (
+                    &["run", "stdin", "--start", START, "--config=f"],
+                    "stdin",
+                    "UTC",
+                ),
+                (
+                    &[
+                        "run",
+                        "--zone=+02:00",
+                        "--config",
+                        "f",
+                        "--start",
+                        START,
+                        "--",
+                        "s",
+                    ],
+                    "s",
+                    "+02:00",
+                ),
+            ]
+        )
+    );
+}
+
+#[test]
+fn each_option_stands_once(rt: HostRuntime) {
     let alloc = rt.alloc();
     assert!(rt;
-        is_run(
-            alloc,
-            &["run", "--config", "f", "--start", START, "s"],
-            "s",
-            "UTC"
-        )?
-    );
-    assert!(rt;
-        is_run(
-            alloc,
-            &["run", "stdin", "--start", START, "--config=f"],
-            "stdin",
-            "UTC"
-        )?
-    );
-    assert!(rt;
-        is_run(
+        are_run_usage(
             alloc,
             &[
-                "run",
-                "--zone=+02:00",
-                "--config",
-                "f",
-                "--start",
-                START,
-                "--",
-                "s"
-            ],
-            "s",
-            "+02:00"
-        )?
+                &["--config", "f", "s"],
+                &["--zone", "UTC", "--zone", "UTC", "s"],
+            ]
+        ) && read_run(alloc, &["--zone", "UTC", "s"]).is_ok()
     );
-    Ok(())
 }
 
 #[test]
-fn each_option_stands_once(rt: HostRuntime) -> Result<(), Fail> {
+fn no_value_begins_with_a_hyphen(rt: HostRuntime) {
     let alloc = rt.alloc();
-    assert!(rt; is_run_usage(alloc, &["--config", "f", "s"])?);
-    assert!(rt; is_run_usage(alloc, &["--zone", "UTC", "--zone", "UTC", "s"])?);
-    assert!(rt; !is_run_usage(alloc, &["--zone", "UTC", "s"])?);
-    Ok(())
+    assert!(rt;
+        are_run_usage(alloc, &[&["--zone=-05:00", "s"], &["--", "-s"]])
+            && are_usage(alloc, &[&["check", "-"]])
+    );
+}
+
+/// Whether the file of the trace has this name, where one is asked for.
+fn is_trace(plan: &RunWords, trace: Option<&str>) -> bool {
+    match (&plan.trace, trace) {
+        (Some(found), Some(name)) => found.as_str() == name,
+        (None, None) => true,
+        _ => false,
+    }
+}
+
+/// Whether it is a run with so many sources, and a trace of this name where one is asked for.
+fn is_traced(alloc: Global, row: &(&[&str], usize, Option<&str>)) -> bool {
+    match read_run(alloc, row.0) {
+        Ok(Plan::Run(plan)) => plan.sources.len() == row.1 && is_trace(&plan, row.2),
+        _ => false,
+    }
+}
+
+fn are_traced(alloc: Global, rows: &[(&[&str], usize, Option<&str>)]) -> bool {
+    for row in rows {
+        if !is_traced(alloc, row) {
+            return false;
+        }
+    }
+    true
 }
 
 #[test]
-fn no_value_begins_with_a_hyphen(rt: HostRuntime) -> Result<(), Fail> {
-    let alloc = rt.alloc();
-    assert!(rt; is_run_usage(alloc, &["--zone=-05:00", "s"])?);
-    assert!(rt; is_run_usage(alloc, &["--", "-s"])?);
-    assert!(rt; is_usage(alloc, &["check", "-"])?);
-    Ok(())
-}
-
-/// Whether the words are a run with so many sources, and a trace of this name where one is asked for.
-fn is_traced(
-    alloc: Global,
-    texts: &[&str],
-    sources: usize,
-    trace: Option<&str>,
-) -> Result<bool, Fail> {
-    let mut list = words(alloc, &["run", "--config", "f", "--start", START])?;
-    for text in texts {
-        list.push(String::from_str(alloc, text)?)?;
-    }
-    let Ok(Plan::Run(plan)) = read_words(alloc, list.as_slice()) else {
-        return Ok(false);
-    };
-    if plan.sources.len() != sources {
-        return Ok(false);
-    }
-    match trace {
-        Some(name) => match &plan.trace {
-            Some(found) => Ok(found.as_str() == name),
-            None => Ok(false),
-        },
-        None => Ok(plan.trace.is_none()),
-    }
-}
-
-#[test]
-fn up_to_sixteen_sources_are_taken(rt: HostRuntime) -> Result<(), Fail> {
+fn up_to_sixteen_sources_are_taken(rt: HostRuntime) {
     let alloc = rt.alloc();
     let most = [
         "a", "b", "c", "d", "e", "f", "g", "h", "i", "j", "k", "l", "m", "n", "o", "p",
@@ -143,101 +181,104 @@ fn up_to_sixteen_sources_are_taken(rt: HostRuntime) -> Result<(), Fail> {
     let more = [
         "a", "b", "c", "d", "e", "f", "g", "h", "i", "j", "k", "l", "m", "n", "o", "p", "q",
     ];
-    assert!(rt; is_run_usage(alloc, &[])?);
-    assert!(rt; is_traced(alloc, &["s", "t"], 2, None)?);
-    assert!(rt; is_traced(alloc, &most, 16, None)?);
-    assert!(rt; is_run_usage(alloc, &more)?);
-    assert!(rt; is_run_usage(alloc, &["--help", "s"])?);
-    Ok(())
-}
-
-#[test]
-fn a_trace_may_be_named(rt: HostRuntime) -> Result<(), Fail> {
-    let alloc = rt.alloc();
-    assert!(rt; is_traced(alloc, &["--trace", "t", "s"], 1, Some("t"))?);
-    assert!(rt; is_traced(alloc, &["s", "--trace=t"], 1, Some("t"))?);
-    assert!(rt; is_run_usage(alloc, &["--trace", "t", "--trace", "t", "s"])?);
-    assert!(rt; is_run_usage(alloc, &["--trace", "-t", "s"])?);
-    Ok(())
-}
-
-#[test]
-fn a_moment_and_a_zone_are_read(rt: HostRuntime) -> Result<(), Fail> {
-    let alloc = rt.alloc();
     assert!(rt;
-        is_usage(
-            alloc,
-            &["run", "--config", "f", "--start", "yesterday", "s"]
-        )?
+        are_run_usage(alloc, &[&[], &more, &["--help", "s"]])
+            && are_traced(alloc, &[(&["s", "t"], 2, None), (&most, 16, None)])
     );
-    assert!(rt; is_run_usage(alloc, &["--zone", "Berlin", "s"])?);
+}
+
+#[test]
+fn a_trace_may_be_named(rt: HostRuntime) {
+    let alloc = rt.alloc();
     assert!(rt;
-        is_run(
+        are_traced(
             alloc,
             &[
-                "run", "--config", "f", "--start", START, "--zone", "<-05>5", "s"
-            ],
-            "s",
-            "<-05>5"
-        )?
+                (&["--trace", "t", "s"], 1, Some("t")),
+                (&["s", "--trace=t"], 1, Some("t")),
+            ]
+        ) && are_run_usage(
+            alloc,
+            &[
+                &["--trace", "t", "--trace", "t", "s"],
+                &["--trace", "-t", "s"],
+            ]
+        )
     );
-    Ok(())
 }
 
 #[test]
-fn check_takes_one_word(rt: HostRuntime) -> Result<(), Fail> {
+fn a_moment_and_a_zone_are_read(rt: HostRuntime) {
     let alloc = rt.alloc();
-    assert!(rt; is_check(alloc, &["check", "home.yaml"], "home.yaml")?);
-    assert!(rt; is_check(alloc, &["check", ""], "")?);
-    assert!(rt; is_usage(alloc, &["check"])?);
-    assert!(rt; is_usage(alloc, &["check", "a", "b"])?);
-    Ok(())
-}
-
-fn is_replay(alloc: Global, text: &str) -> Result<bool, Fail> {
-    let list = words(alloc, &["replay", text])?;
-    let Ok(Plan::Replay(found)) = read_words(alloc, list.as_slice()) else {
-        return Ok(false);
-    };
-    Ok(found.as_str() == text)
+    assert!(rt;
+        are_usage(
+            alloc,
+            &[&["run", "--config", "f", "--start", "yesterday", "s"]]
+        ) && are_run_usage(alloc, &[&["--zone", "Berlin", "s"]])
+            && are_runs(
+                alloc,
+                &[(
+                    &[
+                        "run", "--config", "f", "--start", START, "--zone", "<-05>5", "s",
+                    ],
+                    "s",
+                    "<-05>5",
+                )]
+            )
+    );
 }
 
 #[test]
-fn replay_takes_one_word(rt: HostRuntime) -> Result<(), Fail> {
+fn check_takes_one_word(rt: HostRuntime) {
     let alloc = rt.alloc();
-    assert!(rt; is_replay(alloc, "t")?);
-    assert!(rt; is_usage(alloc, &["replay"])?);
-    assert!(rt; is_usage(alloc, &["replay", "t", "u"])?);
-    Ok(())
+    assert!(rt;
+        is_check(alloc, &["check", "home.yaml"], "home.yaml")
+            && is_check(alloc, &["check", ""], "")
+            && are_usage(alloc, &[&["check"], &["check", "a", "b"]])
+    );
 }
 
-fn is_rehearse(alloc: Global, text: &str, count: u32) -> Result<bool, Fail> {
-    let list = words(alloc, &["rehearse", text])?;
-    match read_words(alloc, list.as_slice()) {
-        Ok(Plan::Rehearse(lines)) => Ok(lines == count),
-        _ => Ok(false),
+fn is_replay(alloc: Global, text: &str) -> bool {
+    match read(alloc, &["replay", text], &[]) {
+        Ok(Plan::Replay(found)) => found.as_str() == text,
+        _ => false,
     }
 }
 
 #[test]
-fn rehearse_takes_a_number_of_lines(rt: HostRuntime) -> Result<(), Fail> {
+fn replay_takes_one_word(rt: HostRuntime) {
     let alloc = rt.alloc();
-    assert!(rt; is_rehearse(alloc, "0", 0)?);
-    assert!(rt; is_rehearse(alloc, "100000", 100_000)?);
-    assert!(rt; is_usage(alloc, &["rehearse", "100001"])?);
-    assert!(rt; is_usage(alloc, &["rehearse", "05"])?);
-    assert!(rt; is_usage(alloc, &["rehearse", "+5"])?);
-    assert!(rt; is_usage(alloc, &["rehearse", "5.0"])?);
-    assert!(rt; is_usage(alloc, &["rehearse", ""])?);
-    assert!(rt; is_usage(alloc, &["rehearse"])?);
-    Ok(())
+    assert!(rt; is_replay(alloc, "t") && are_usage(alloc, &[&["replay"], &["replay", "t", "u"]]));
+}
+
+fn is_rehearse(alloc: Global, text: &str, count: u32) -> bool {
+    match read(alloc, &["rehearse", text], &[]) {
+        Ok(Plan::Rehearse(lines)) => lines == count,
+        _ => false,
+    }
 }
 
 #[test]
-fn other_words_are_usage(rt: HostRuntime) -> Result<(), Fail> {
+fn rehearse_takes_a_number_of_lines(rt: HostRuntime) {
     let alloc = rt.alloc();
-    assert!(rt; is_usage(alloc, &[])?);
-    assert!(rt; is_usage(alloc, &["walk"])?);
-    assert!(rt; is_usage(alloc, &["--version"])?);
-    Ok(())
+    assert!(rt;
+        is_rehearse(alloc, "0", 0)
+            && is_rehearse(alloc, "100000", 100_000)
+            && are_usage(
+                alloc,
+                &[
+                    &["rehearse", "100001"],
+                    &["rehearse", "05"],
+                    &["rehearse", "+5"],
+                    &["rehearse", "5.0"],
+                    &["rehearse", ""],
+                    &["rehearse"],
+                ]
+            )
+    );
+}
+
+#[test]
+fn other_words_are_usage(rt: HostRuntime) {
+    assert!(rt; are_usage(rt.alloc(), &[&[], &["walk"], &["--version"]]));
 }
