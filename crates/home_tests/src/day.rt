@@ -4,6 +4,7 @@ ghost use Rattle.ha_io.specs.MemSink.{new_sink};
 
 use ha_engine::Engine;
 use ha_io::{Gate, MemFile, MemKeeper, MemPlace, MemSink, OpenGate, have_distinct_names};
+use ha_model::{EndCause, Entry, Record};
 use ha_status::Status;
 use ha_top::{Outcome, hearth};
 use std::alloc::{AllocError, Global};
@@ -189,7 +190,7 @@ fn run_files<R: Abort + Threads + Wait + Sync + Alloc<A = Global>, G: Gate>(
 }
 
 /// Runs these words over the files `home.yaml` and `reports.txt`.
-pub fn run_words<R: Abort + Threads + Wait + Sync + Alloc<A = Global>>(
+fn run_words<R: Abort + Threads + Wait + Sync + Alloc<A = Global>>(
     rt: &R,
     words: &[&str],
     home: &[u8],
@@ -257,7 +258,7 @@ pub fn replays<R: Abort + Threads + Wait + Sync + Alloc<A = Global>>(
 }
 
 /// Runs the day.
-pub fn run<R: Abort + Threads + Wait + Sync + Alloc<A = Global>>(
+fn run<R: Abort + Threads + Wait + Sync + Alloc<A = Global>>(
     rt: &R,
     day: &Day<'_>,
     outside: &Outside,
@@ -281,19 +282,182 @@ pub fn run<R: Abort + Threads + Wait + Sync + Alloc<A = Global>>(
     )
 }
 
+/// What is wanted of a run that has ended.
+#[derive(Clone, Copy)]
+pub enum Fact<'a> {
+    /// All went well.
+    Well,
+    /// The words are none of the program's.
+    NoWords,
+    /// A file could not be opened.
+    NotOpened,
+    /// This source could not be read.
+    NotRead(u32),
+    /// A write failed, which is not one that took no byte.
+    NotWritten,
+    /// The store could not be loaded or saved.
+    NotKept,
+    /// These lines of calls, in the short form, and no others.
+    Called(&'a [&'a str]),
+    /// What the calls' sink took, as it stands.
+    Output(&'a str),
+    /// What the errors' sink took.
+    Errors(&'a str),
+    /// What the sink of the trace took.
+    Traced(&'a str),
+    /// What is stored at the end.
+    Stored(&'a str),
+    /// How many entries the journal has.
+    Entries(usize),
+    /// So many lines of each of sixteen sources, each once and in order.
+    Lines(u64),
+    /// How many runs there are.
+    Runs(usize),
+    /// The first run ended at this entry, by this cause.
+    End(u64, EndCause),
+    /// The first run ended by this cause.
+    Cause(EndCause),
+}
+
+fn are_calls(alloc: Global, found: &[u8], wanted: &[&str]) -> bool {
+    match calls_of(alloc, wanted) {
+        Ok(text) => found == text.as_bytes(),
+        Err(_) => false,
+    }
+}
+
+fn is_text(found: Option<&[u8]>, wanted: &str) -> bool {
+    match found {
+        Some(text) => text == wanted.as_bytes(),
+        None => false,
+    }
+}
+
+fn is_traced(found: &Option<MemSink>, wanted: &str) -> bool {
+    match found {
+        Some(sink) => sink.bytes() == wanted.as_bytes(),
+        None => false,
+    }
+}
+
+/// Where the first run ended, and by what.
+fn first_end(records: &[Record]) -> Option<(u64, EndCause)> {
+    match records.first() {
+        Some(run) => run.end,
+        None => None,
+    }
+}
+
+fn is_cause(found: Option<(u64, EndCause)>, wanted: EndCause) -> bool {
+    match found {
+        Some((_, cause)) => cause == wanted,
+        None => false,
+    }
+}
+
+/// How many lines of this source the journal has, where they are numbered in order.
+fn lines_in_order(journal: &[Entry], of: u32) -> Option<u64> {
+    let mut next = 0;
+    for entry in journal {
+        if let Entry::Line { source, number, .. } = entry {
+            if *source == of {
+                if *number != next {
+                    return None;
+                }
+                next = next.saturating_add(1);
+            }
+        }
+    }
+    Some(next)
+}
+
+fn has_all_lines(journal: &[Entry], count: u64) -> bool {
+    for source in 0..16 {
+        if lines_in_order(journal, source) != Some(count) {
+            return false;
+        }
+    }
+    true
+}
+
+fn is_not_read(status: &Status, of: u32) -> bool {
+    match status {
+        Status::ReadFault { source } => *source == Some(of),
+        _ => false,
+    }
+}
+
+/// Whether the run ended so.
+fn is(alloc: Global, outcome: &Outcome<MemPlace, MemKeeper>, fact: Fact<'_>) -> bool {
+    match fact {
+        Fact::Well => matches!(outcome.status, Status::Ok),
+        Fact::NoWords => matches!(outcome.status, Status::Usage),
+        Fact::NotOpened => matches!(&outcome.status, Status::OpenFault { .. }),
+        Fact::NotRead(source) => is_not_read(&outcome.status, source),
+        Fact::NotWritten => matches!(outcome.status, Status::WriteFault { zero: false }),
+        Fact::NotKept => matches!(outcome.status, Status::KeepFault),
+        Fact::Called(calls) => are_calls(alloc, outcome.out.bytes(), calls),
+        Fact::Output(text) => outcome.out.bytes() == text.as_bytes(),
+        Fact::Errors(text) => outcome.err.bytes() == text.as_bytes(),
+        Fact::Traced(text) => is_traced(&outcome.trace, text),
+        Fact::Stored(text) => is_text(outcome.keep.text(), text),
+        Fact::Entries(count) => outcome.journal.len() == count,
+        Fact::Lines(count) => has_all_lines(outcome.journal.as_slice(), count),
+        Fact::Runs(count) => outcome.records.len() == count,
+        Fact::End(at, cause) => first_end(outcome.records.as_slice()) == Some((at, cause)),
+        Fact::Cause(cause) => is_cause(first_end(outcome.records.as_slice()), cause),
+    }
+}
+
+/// Whether all of this holds of the run's end.
+pub fn holds(alloc: Global, outcome: &Outcome<MemPlace, MemKeeper>, facts: &[Fact<'_>]) -> bool {
+    for fact in facts {
+        if !is(alloc, outcome, *fact) {
+            return false;
+        }
+    }
+    true
+}
+
+/// Whether the day ends so.
+pub fn ends<R: Abort + Threads + Wait + Sync + Alloc<A = Global>>(
+    rt: &R,
+    day: &Day<'_>,
+    outside: &Outside,
+    facts: &[Fact<'_>],
+) -> bool {
+    match run(rt, day, outside) {
+        Ok(outcome) => holds(rt.alloc(), &outcome, facts),
+        Err(_) => false,
+    }
+}
+
+/// Whether a run of these words, over the files `home.yaml` and `reports.txt`, ends so.
+pub fn words_end<R: Abort + Threads + Wait + Sync + Alloc<A = Global>>(
+    rt: &R,
+    words: &[&str],
+    home: &[u8],
+    reports: &[u8],
+    facts: &[Fact<'_>],
+) -> bool {
+    match run_words(rt, words, home, reports, &PLAIN) {
+        Ok(outcome) => holds(rt.alloc(), &outcome, facts),
+        Err(_) => false,
+    }
+}
+
 /// Whether the day ends well with these calls and error lines.
 pub fn gives<R: Abort + Threads + Wait + Sync + Alloc<A = Global>>(
     rt: &R,
     day: &Day<'_>,
     calls: &[&str],
     errors: &str,
-) -> Result<bool, AllocError> {
-    let outcome = run(rt, day, &PLAIN)?;
-    let calls = calls_of(rt.alloc(), calls)?;
-    Ok(
-        matches!(outcome.status, Status::Ok)
-            && outcome.out.bytes() == calls.as_bytes()
-            && outcome.err.bytes() == errors.as_bytes(),
+) -> bool {
+    ends(
+        rt,
+        day,
+        &PLAIN,
+        &[Fact::Well, Fact::Called(calls), Fact::Errors(errors)],
     )
 }
 
@@ -303,6 +467,6 @@ pub fn calls<R: Abort + Threads + Wait + Sync + Alloc<A = Global>>(
     home: &str,
     lines: &[&str],
     calls: &[&str],
-) -> Result<bool, AllocError> {
+) -> bool {
     gives(rt, &evening(home, lines), calls, "")
 }

@@ -1,8 +1,10 @@
 //! Lines that are refused, and words.
-use crate::day::{PLAIN, run_words};
-use ha_status::Status;
+use crate::day::Fact::{Entries, Errors, NoWords, NotOpened, Output, Stored, Well};
+use crate::day::words_end;
 use std::alloc::{AllocError, Global};
-use std::test::Fail;
+use std::process::Abort;
+use std::sync::Wait;
+use std::thread::Threads;
 
 const WORDS: [&str; 6] = [
     "run",
@@ -34,75 +36,109 @@ fn refused_lines(alloc: Global) -> Result<Vec<u8>, AllocError> {
     Ok(source)
 }
 
-const REFUSALS: &[u8] =
-    b"source 0 line 0: L4\nsource 0 line 1: L3\nsource 0 line 2: L6\nsource 0 line 3: L5\nsource 0 line 4: L8\nsource 0 line 5: L9\nsource 0 line 6: L2\nsource 0 line 7: L1\nsource 0 line 8: L7\nsource 0 line 9: L10\n";
+const REFUSALS: &str =
+    "source 0 line 0: L4\nsource 0 line 1: L3\nsource 0 line 2: L6\nsource 0 line 3: L5\nsource 0 line 4: L8\nsource 0 line 5: L9\nsource 0 line 6: L2\nsource 0 line 7: L1\nsource 0 line 8: L7\nsource 0 line 9: L10\n";
 
-#[test]
-fn bad_lines_are_refused_with_their_codes(rt: HostRuntime) -> Result<(), Fail> {
-    let source = refused_lines(rt.alloc())?;
-    let outcome = run_words(&rt, &WORDS, b"[]", source.as_slice(), &PLAIN)?;
-    assert!(rt; matches!(outcome.status, Status::Ok));
-    assert!(rt; outcome.out.bytes().is_empty());
-    assert!(rt; outcome.err.bytes() == REFUSALS);
-    Ok(())
-}
-
-#[test]
-fn a_home_without_automations_stores_none(rt: HostRuntime) -> Result<(), Fail> {
-    let outcome = run_words(&rt, &WORDS, b"[]", b"", &PLAIN)?;
-    assert!(rt; matches!(outcome.status, Status::Ok));
-    assert_eq!(rt; outcome.journal.len(), 1);
-    assert!(rt; outcome.out.bytes().is_empty());
-    assert!(rt; outcome.err.bytes().is_empty());
-    let stored = "{\"switches\":{},\"version\":1}";
-    assert!(rt;
-        outcome
-            .keep
-            .text()
-            .is_some_and(|text| text == stored.as_bytes())
-    );
-    Ok(())
-}
-
-#[test]
-fn other_words_are_refused(rt: HostRuntime) -> Result<(), Fail> {
-    let usage =
-        "hearth: usage: run --config F --start MOMENT [--zone Z] [--trace F] SOURCE.. | check F | replay F | rehearse N\n";
-    let wrong: [&[&str]; 6] = [
-        &[],
-        &["walk"],
-        &["run"],
-        &["run", "--config", "f", "--start", "yesterday", "s"],
-        &[
-            "run",
-            "--config",
-            "f",
-            "--start",
-            "2024-05-01T20:00:00Z",
-            "--zone=-05:00",
-            "s",
-        ],
-        &["rehearse", "100001"],
-    ];
-    for words in wrong {
-        let outcome = run_words(&rt, words, b"[]", b"", &PLAIN)?;
-        assert!(rt; matches!(outcome.status, Status::Usage));
-        assert!(rt; outcome.err.bytes() == usage.as_bytes());
+/// Whether each of the lines is refused so, and nothing is called.
+fn are_refused<R: Abort + Threads + Wait + Sync + Alloc<A = Global>>(rt: &R) -> bool {
+    match refused_lines(rt.alloc()) {
+        Ok(source) => words_end(
+            rt,
+            &WORDS,
+            b"[]",
+            source.as_slice(),
+            &[Well, Output(""), Errors(REFUSALS)],
+        ),
+        Err(_) => false,
     }
-    Ok(())
 }
 
 #[test]
-fn check_says_what_was_read(rt: HostRuntime) -> Result<(), Fail> {
-    let home = b"- alias: Hall light\n  triggers: []\n  actions: []\n  mode: restart\n";
-    let outcome = run_words(&rt, &["check", "home.yaml"], home, b"", &PLAIN)?;
-    assert!(rt; matches!(outcome.status, Status::Ok));
+fn bad_lines_are_refused_with_their_codes(rt: HostRuntime) {
+    assert!(rt; are_refused(&rt));
+}
+
+#[test]
+fn a_home_without_automations_stores_none(rt: HostRuntime) {
+    assert!(rt;
+        words_end(
+            &rt,
+            &WORDS,
+            b"[]",
+            b"",
+            &[
+                Well,
+                Entries(1),
+                Output(""),
+                Errors(""),
+                Stored("{\"switches\":{},\"version\":1}"),
+            ]
+        )
+    );
+}
+
+const USAGE: &str =
+    "hearth: usage: run --config F --start MOMENT [--zone Z] [--trace F] SOURCE.. | check F | replay F | rehearse N\n";
+
+/// Whether all of these words are none of the program's.
+fn are_no_words<R: Abort + Threads + Wait + Sync + Alloc<A = Global>>(
+    rt: &R,
+    rows: &[&[&str]],
+) -> bool {
+    for words in rows {
+        if !words_end(rt, words, b"[]", b"", &[NoWords, Errors(USAGE)]) {
+            return false;
+        }
+    }
+    true
+}
+
+#[test]
+fn other_words_are_refused(rt: HostRuntime) {
+    assert!(rt;
+        are_no_words(
+            &rt,
+            &[
+                &[],
+                &["walk"],
+                &["run"],
+                &["run", "--config", "f", "--start", "yesterday", "s"],
+                &[
+                    "run",
+                    "--config",
+                    "f",
+                    "--start",
+                    "2024-05-01T20:00:00Z",
+                    "--zone=-05:00",
+                    "s",
+                ],
+                &["rehearse", "100001"],
+            ]
+        )
+    );
+}
+
+const HALL: &[u8] = b"- alias: Hall light\n  triggers: []\n  actions: []\n  mode: restart\n";
+
+/// Whether each configuration is refused with this line, and nothing else is said.
+fn are_faults<R: Abort + Threads + Wait + Sync + Alloc<A = Global>>(
+    rt: &R,
+    rows: &[(&str, &str)],
+) -> bool {
+    for row in rows {
+        let facts = [Errors(row.1), Output("")];
+        if !words_end(rt, &["check", "home.yaml"], row.0.as_bytes(), b"", &facts) {
+            return false;
+        }
+    }
+    true
+}
+
+#[test]
+fn check_says_what_was_read(rt: HostRuntime) {
     let said = "automation.hall_light restart 10 triggers 0 conditions 0 actions 1\nok 1\n";
-    assert!(rt; outcome.out.bytes() == said.as_bytes());
-    let outcome = run_words(&rt, &["check", "no.yaml"], home, b"", &PLAIN)?;
-    assert!(rt; matches!(&outcome.status, Status::OpenFault { .. }));
-    assert!(rt; outcome.err.bytes() == b"hearth: cannot open no.yaml\n".as_slice());
-    for (text, said) in [
+    let none = "hearth: cannot open no.yaml\n";
+    let faults = [
         (
             "automation:\n  - alias: A\n    triggers: []\n\tactions: []\n",
             "hearth: config line 4: C1\n",
@@ -115,10 +151,20 @@ fn check_says_what_was_read(rt: HostRuntime) -> Result<(), Fail> {
             "# home\nautomation: !include automations.yaml\n",
             "hearth: config line 2: C3\n",
         ),
-    ] {
-        let outcome = run_words(&rt, &["check", "home.yaml"], text.as_bytes(), b"", &PLAIN)?;
-        assert!(rt; outcome.err.bytes() == said.as_bytes());
-        assert!(rt; outcome.out.bytes().is_empty());
-    }
-    Ok(())
+    ];
+    assert!(rt;
+        words_end(
+            &rt,
+            &["check", "home.yaml"],
+            HALL,
+            b"",
+            &[Well, Output(said)]
+        ) && words_end(
+            &rt,
+            &["check", "no.yaml"],
+            HALL,
+            b"",
+            &[NotOpened, Errors(none)]
+        ) && are_faults(&rt, &faults)
+    );
 }

@@ -1,13 +1,29 @@
 //! Several sources at once, and the trace.
-use crate::day::{Lines, replays, run_sources};
-use ha_io::{MeetGate, OpenGate};
-use ha_model::Entry;
-use ha_status::Status;
+use crate::day::Fact::{Entries, Errors, NotRead, Traced, Well};
+use crate::day::{Fact, Lines, holds, replays, run_sources};
+use ha_io::{Gate, MeetGate, OpenGate};
 use std::alloc::{AllocError, Global};
-use std::test::Fail;
+use std::process::Abort;
+use std::sync::Wait;
+use std::thread::Threads;
+
+/// Whether an evening of a home with these sources, and with these words behind `run`, ends so.
+fn sources_end<R: Abort + Threads + Wait + Sync + Alloc<A = Global>, G: Gate>(
+    rt: &R,
+    home: &str,
+    more: &[&str],
+    sources: &[Lines<'_>],
+    gate: &G,
+    facts: &[Fact<'_>],
+) -> bool {
+    match run_sources(rt, home, more, sources, gate) {
+        Ok(outcome) => holds(rt.alloc(), &outcome, facts),
+        Err(_) => false,
+    }
+}
 
 #[test]
-fn a_source_that_fails_ends_alone(rt: HostRuntime) -> Result<(), Fail> {
+fn a_source_that_fails_ends_alone(rt: HostRuntime) {
     let sources = [
         Lines {
             name: "a",
@@ -20,18 +36,34 @@ fn a_source_that_fails_ends_alone(rt: HostRuntime) -> Result<(), Fail> {
             failing_reads: &[1],
         },
     ];
-    let outcome = run_sources(&rt, "[]", &[], &sources, &OpenGate::make())?;
-    assert!(rt; matches!(outcome.status, Status::ReadFault { source: Some(1) }));
-    assert_eq!(rt; outcome.journal.len(), 3);
     assert!(rt;
-        outcome.err.bytes() == b"source 1 line 0: lost\nhearth: source 1 failed\n".as_slice()
+        sources_end(
+            &rt,
+            "[]",
+            &[],
+            &sources,
+            &OpenGate::make(),
+            &[
+                NotRead(1),
+                Entries(3),
+                Errors("source 1 line 0: lost\nhearth: source 1 failed\n"),
+            ]
+        )
     );
-    Ok(())
+}
+
+/// Whether these sources meet, and all ends well after so many entries.
+fn meet<R: Abort + Threads + Wait + Sync + Alloc<A = Global>>(
+    rt: &R,
+    sources: &[Lines<'_>],
+    entries: usize,
+) -> bool {
+    let gate = MeetGate::make(1_000_000_000);
+    sources_end(rt, "[]", &[], sources, &gate, &[Well, Entries(entries)]) && gate.met()
 }
 
 #[test]
-fn two_sources_meet(rt: HostRuntime) -> Result<(), Fail> {
-    let gate = MeetGate::make(1_000_000_000);
+fn two_sources_meet(rt: HostRuntime) {
     let sources = [
         Lines {
             name: "a",
@@ -44,11 +76,7 @@ fn two_sources_meet(rt: HostRuntime) -> Result<(), Fail> {
             failing_reads: &[],
         },
     ];
-    let outcome = run_sources(&rt, "[]", &[], &sources, &gate)?;
-    assert!(rt; gate.met());
-    assert!(rt; matches!(outcome.status, Status::Ok));
-    assert_eq!(rt; outcome.journal.len(), 5);
-    Ok(())
+    assert!(rt; meet(&rt, &sources, 5));
 }
 
 const TRACED: &str =
@@ -58,20 +86,22 @@ const TRACE: &str =
     "{\"boot\":{\"config\":\"[{alias: a, triggers: [{trigger: event, event_type: go}], actions: [{action: notify.x}]}]\",\"stored\":null,\"start\":\"2024-05-01T20:00:00.000Z\",\"zone\":\"UTC\"}}\n{\"source\":0,\"number\":0,\"cmd\":{\"event\":\"go\",\"data\":{}}}\n{\"worker\":0,\"run\":1,\"branch\":[],\"item\":{\"call\":{\"service\":\"notify.x\",\"target\":[],\"data\":{}}}}\n{\"source\":0,\"number\":1,\"cmd\":{\"moment\":\"2024-05-01T20:00:01.000Z\"}}\n{\"source\":0,\"number\":2,\"cmd\":{\"refused\":\"L2\"}}\n{\"end\":5}\n";
 
 #[test]
-fn a_trace_has_each_entry_and_the_end(rt: HostRuntime) -> Result<(), Fail> {
+fn a_trace_has_each_entry_and_the_end(rt: HostRuntime) {
     let sources = [Lines {
         name: "a",
         lines: &["e go", "m 20:00:01", "bad"],
         failing_reads: &[],
     }];
-    let outcome = run_sources(&rt, TRACED, &["--trace", "t"], &sources, &OpenGate::make())?;
-    assert!(rt; matches!(outcome.status, Status::Ok));
     assert!(rt;
-        outcome
-            .trace
-            .is_some_and(|sink| sink.bytes() == TRACE.as_bytes())
+        sources_end(
+            &rt,
+            TRACED,
+            &["--trace", "t"],
+            &sources,
+            &OpenGate::make(),
+            &[Well, Traced(TRACE)]
+        )
     );
-    Ok(())
 }
 
 const BUSY: &str =
@@ -81,39 +111,37 @@ const NAMES: [&str; 16] = [
     "0", "1", "2", "3", "4", "5", "6", "7", "8", "9", "10", "11", "12", "13", "14", "15",
 ];
 
-/// How many lines of this source the journal has, where they are numbered in order.
-fn lines_in_order(journal: &[Entry], of: u32) -> Option<u64> {
-    let mut next = 0;
-    for entry in journal {
-        if let Entry::Line { source, number, .. } = entry {
-            if *source == of {
-                if *number != next {
-                    return None;
-                }
-                next = next.saturating_add(1);
-            }
-        }
-    }
-    Some(next)
-}
-
-#[test]
-fn sixteen_sources_have_each_their_lines_in_order(rt: HostRuntime) -> Result<(), Fail> {
-    let mut sources = Vec::new(rt.alloc());
+/// The sixteen sources, each with these lines.
+fn sixteen<'a>(alloc: Global, lines: &'a [&'a str]) -> Result<Vec<Lines<'a>>, AllocError> {
+    let mut sources = Vec::new(alloc);
     for name in NAMES {
         sources.push(Lines {
             name,
-            lines: &["r light.x on", "m 20:00:01", "e go"],
+            lines,
             failing_reads: &[],
         })?;
     }
-    let outcome = run_sources(&rt, BUSY, &[], sources.as_slice(), &OpenGate::make())?;
-    assert!(rt; matches!(outcome.status, Status::Ok));
-    assert_eq!(rt; outcome.journal.len(), 65);
-    for source in 0..16 {
-        assert_eq!(rt; lines_in_order(outcome.journal.as_slice(), source), Some(3));
+    Ok(sources)
+}
+
+/// Whether the sixteen, with three lines each, end well, after so many entries.
+fn all_come<R: Abort + Threads + Wait + Sync + Alloc<A = Global>>(rt: &R, entries: usize) -> bool {
+    match sixteen(rt.alloc(), &["r light.x on", "m 20:00:01", "e go"]) {
+        Ok(sources) => sources_end(
+            rt,
+            BUSY,
+            &[],
+            sources.as_slice(),
+            &OpenGate::make(),
+            &[Well, Entries(entries), Fact::Lines(3)],
+        ),
+        Err(_) => false,
     }
-    Ok(())
+}
+
+#[test]
+fn sixteen_sources_have_each_their_lines_in_order(rt: HostRuntime) {
+    assert!(rt; all_come(&rt, 65));
 }
 
 /// 10,000 lines: reports, and an event and a moment in each twenty.
@@ -130,32 +158,29 @@ fn many_lines(alloc: Global) -> Result<Vec<&'static str>, AllocError> {
     Ok(lines)
 }
 
-/// Whether the journal has so many lines of each of the sixteen sources, each once and in order.
-fn has_all_lines(journal: &[Entry], count: u64) -> bool {
-    for source in 0..16 {
-        if lines_in_order(journal, source) != Some(count) {
-            return false;
-        }
-    }
-    true
+/// Whether the sixteen, with these lines, end well, with so many lines of each, and the trace is that of a lawful journal, which gives the
+/// same.
+fn are_lawful<R: Abort + Threads + Wait + Sync + Alloc<A = Global>>(
+    rt: &R,
+    lines: &[&str],
+    count: u64,
+) -> Result<bool, AllocError> {
+    let sources = sixteen(rt.alloc(), lines)?;
+    let words = ["--trace", "t"];
+    let outcome = run_sources(rt, BUSY, &words, sources.as_slice(), &OpenGate::make())?;
+    Ok(holds(rt.alloc(), &outcome, &[Well, Fact::Lines(count)]) && replays(rt, &outcome)?)
 }
 
-/// The order of the sources is not told, so the run is judged behind it: its trace is that of a lawful journal, with the same calls.
-#[test]
-fn sixteen_sources_of_ten_thousand_lines(rt: HostRuntime) -> Result<(), Fail> {
-    let lines = many_lines(rt.alloc())?;
-    let mut sources = Vec::new(rt.alloc());
-    for name in NAMES {
-        sources.push(Lines {
-            name,
-            lines: lines.as_slice(),
-            failing_reads: &[],
-        })?;
+/// Whether it is so with ten thousand lines.
+fn many_are_lawful<R: Abort + Threads + Wait + Sync + Alloc<A = Global>>(rt: &R) -> bool {
+    match many_lines(rt.alloc()) {
+        Ok(lines) => matches!(are_lawful(rt, lines.as_slice(), 10_000), Ok(true)),
+        Err(_) => false,
     }
-    let words = ["--trace", "t"];
-    let outcome = run_sources(&rt, BUSY, &words, sources.as_slice(), &OpenGate::make())?;
-    assert!(rt; matches!(outcome.status, Status::Ok));
-    assert!(rt; has_all_lines(outcome.journal.as_slice(), 10_000));
-    assert!(rt; replays(&rt, &outcome)?);
-    Ok(())
+}
+
+/// The order of the sources is not told, so the run is judged behind it.
+#[test]
+fn sixteen_sources_of_ten_thousand_lines(rt: HostRuntime) {
+    assert!(rt; many_are_lawful(&rt));
 }
