@@ -3,7 +3,6 @@ use ha_engine::Engine;
 use ha_io::{MemFile, MemPlace, MemSink, have_distinct_names};
 use replay_file::replay_call;
 use std::alloc::{AllocError, Global};
-use std::test::Fail;
 
 const BOOT: &str =
     "{\"boot\":{\"config\":\"[]\\n\",\"stored\":null,\"start\":\"2024-05-01T20:00:00.000Z\",\"zone\":\"UTC\"}}\n";
@@ -39,12 +38,18 @@ const LAST: &str =
 const CALLS: &str =
     "{\"run\":\"a\",\"number\":1,\"call\":1,\"service\":\"notify.x\",\"target\":[],\"data\":{}}\n{\"run\":\"a\",\"number\":1,\"call\":2,\"service\":\"notify.y\",\"target\":[],\"data\":{}}\n";
 
-/// The texts, one behind the other.
-fn joined(alloc: Global, parts: &[&str]) -> Result<Vec<u8>, AllocError> {
-    let mut text = Vec::new(alloc);
+/// Appends the texts, one behind the other.
+fn append(text: &mut Vec<u8>, parts: &[&str]) -> Result<(), AllocError> {
     for part in parts {
         text.extend_from_slice(part.as_bytes())?;
     }
+    Ok(())
+}
+
+/// The texts, one behind the other.
+fn joined(alloc: Global, parts: &[&str]) -> Result<Vec<u8>, AllocError> {
+    let mut text = Vec::new(alloc);
+    append(&mut text, parts)?;
     Ok(text)
 }
 
@@ -72,20 +77,38 @@ fn replayed(
     Ok(Some((status.number(), out, err)))
 }
 
-/// Whether the trace of these parts is given this status, with these calls and errors.
-fn is_given(
+/// The number of a status, and what is written to the sinks of calls and of errors.
+type Wanted<'a> = (u8, &'a str, &'a str);
+
+/// Whether the trace of these parts, of which these reads fail, is given this.
+fn gives(
     alloc: Global,
     parts: &[&str],
-    number: u8,
-    calls: &str,
-    errors: &str,
+    fails: &[u64],
+    wanted: Wanted<'_>,
 ) -> Result<bool, AllocError> {
-    match replayed(alloc, joined(alloc, parts)?, Vec::new(alloc))? {
+    let text = joined(alloc, parts)?;
+    match replayed(alloc, text, Vec::from_slice(alloc, fails)?)? {
         Some((given, out, err)) => Ok(
-            given == number && out.bytes() == calls.as_bytes() && err.bytes() == errors.as_bytes(),
+            given == wanted.0
+                && out.bytes() == wanted.1.as_bytes()
+                && err.bytes() == wanted.2.as_bytes(),
         ),
         None => Ok(false),
     }
+}
+
+/// Whether it is so, where there is memory for it.
+fn is_true(found: Result<bool, AllocError>) -> bool {
+    match found {
+        Ok(is) => is,
+        Err(_) => false,
+    }
+}
+
+/// Whether the trace of these parts is given this status, with these calls and errors.
+fn is_given(alloc: Global, parts: &[&str], wanted: Wanted<'_>) -> bool {
+    is_true(gives(alloc, parts, &[], wanted))
 }
 
 /// Whether it is refused.
@@ -97,7 +120,8 @@ fn is_refused(alloc: Global, text: Vec<u8>) -> Result<bool, AllocError> {
 }
 
 /// Whether each front of the trace is refused, but the whole.
-fn are_fronts_refused(alloc: Global, trace: &[u8]) -> Result<bool, AllocError> {
+fn are_fronts_refused(alloc: Global, parts: &[&str]) -> Result<bool, AllocError> {
+    let trace = joined(alloc, parts)?;
     for count in 0..trace.len() {
         if !is_refused(alloc, Vec::from_slice(alloc, &trace[..count])?)? {
             return Ok(false);
@@ -109,17 +133,17 @@ fn are_fronts_refused(alloc: Global, trace: &[u8]) -> Result<bool, AllocError> {
 /// Whether the trace is refused whichever byte of its middle part is another.
 fn is_each_byte_told(
     alloc: Global,
-    before: &str,
+    before: &[&str],
     part: &str,
-    behind: &str,
+    behind: &[&str],
 ) -> Result<bool, AllocError> {
     let bytes = part.as_bytes();
     for at in 0..bytes.len() {
-        let mut text = joined(alloc, &[before])?;
+        let mut text = joined(alloc, before)?;
         text.extend_from_slice(&bytes[..at])?;
         text.push(if bytes[at] == b'7' { b'8' } else { b'7' })?;
         text.extend_from_slice(&bytes[at + 1..])?;
-        text.extend_from_slice(behind.as_bytes())?;
+        append(&mut text, behind)?;
         if !is_refused(alloc, text)? {
             return Ok(false);
         }
@@ -128,157 +152,112 @@ fn is_each_byte_told(
 }
 
 #[test]
-fn a_finished_trace(rt: HostRuntime) -> Result<(), Fail> {
-    assert!(rt; is_given(rt.alloc(), &[BOOT, FIRST, "{\"end\":2}\n"], 0, "", "")?);
-    Ok(())
+fn a_finished_trace(rt: HostRuntime) {
+    assert!(rt; is_given(rt.alloc(), &[BOOT, FIRST, "{\"end\":2}\n"], (0, "", "")));
 }
 
 #[test]
-fn a_wrong_number(rt: HostRuntime) -> Result<(), Fail> {
+fn a_wrong_number(rt: HostRuntime) {
     assert!(rt;
         is_given(
             rt.alloc(),
             &[BOOT, SECOND, "{\"end\":2}\n"],
-            11,
-            "",
-            "hearth: trace line 2: T\n"
-        )?
+            (11, "", "hearth: trace line 2: T\n")
+        )
     );
-    Ok(())
 }
 
 #[test]
-fn no_end_line(rt: HostRuntime) -> Result<(), Fail> {
+fn no_end_line(rt: HostRuntime) {
     assert!(rt;
         is_given(
             rt.alloc(),
             &[BOOT, FIRST],
-            11,
-            "",
-            "hearth: trace line 3: T\n"
-        )?
+            (11, "", "hearth: trace line 3: T\n")
+        )
     );
-    Ok(())
 }
 
 #[test]
-fn behind_the_end(rt: HostRuntime) -> Result<(), Fail> {
+fn behind_the_end(rt: HostRuntime) {
+    let wanted = (11, "", "hearth: trace line 4: T\n");
     assert!(rt;
         is_given(
             rt.alloc(),
             &[BOOT, FIRST, "{\"end\":2}\n", "{\"end\":2}\n"],
-            11,
-            "",
-            "hearth: trace line 4: T\n"
-        )?
+            wanted
+        ) && is_given(rt.alloc(), &[BOOT, FIRST, "{\"end\":2}\n", "{"], wanted)
     );
-    assert!(rt;
-        is_given(
-            rt.alloc(),
-            &[BOOT, FIRST, "{\"end\":2}\n", "{"],
-            11,
-            "",
-            "hearth: trace line 4: T\n"
-        )?
-    );
-    Ok(())
 }
 
 #[test]
-fn a_wrong_count(rt: HostRuntime) -> Result<(), Fail> {
+fn a_wrong_count(rt: HostRuntime) {
     assert!(rt;
         is_given(
             rt.alloc(),
             &[BOOT, FIRST, "{\"end\":3}\n"],
-            11,
-            "",
-            "hearth: trace line 3: T\n"
-        )?
+            (11, "", "hearth: trace line 3: T\n")
+        )
     );
-    Ok(())
 }
 
 #[test]
-fn a_boot_with_a_blank(rt: HostRuntime) -> Result<(), Fail> {
+fn a_boot_with_a_blank(rt: HostRuntime) {
     assert!(rt;
         is_given(
             rt.alloc(),
             &[BLANK, FIRST, "{\"end\":2}\n"],
-            11,
-            "",
-            "hearth: trace line 1: T\n"
-        )?
+            (11, "", "hearth: trace line 1: T\n")
+        )
     );
-    Ok(())
 }
 
 #[test]
-fn stored_switches_in_their_order(rt: HostRuntime) -> Result<(), Fail> {
-    assert!(rt; is_given(rt.alloc(), &[ORDERED, "{\"end\":1}\n"], 0, "", "")?);
+fn stored_switches_in_their_order(rt: HostRuntime) {
     assert!(rt;
-        is_given(
-            rt.alloc(),
-            &[UNORDERED, "{\"end\":1}\n"],
-            11,
-            "",
-            "hearth: trace line 1: T\n"
-        )?
+        is_given(rt.alloc(), &[ORDERED, "{\"end\":1}\n"], (0, "", ""))
+            && is_given(
+                rt.alloc(),
+                &[UNORDERED, "{\"end\":1}\n"],
+                (11, "", "hearth: trace line 1: T\n")
+            )
     );
-    Ok(())
 }
 
 #[test]
-fn the_read_fails(rt: HostRuntime) -> Result<(), Fail> {
-    let mut fails = Vec::new(rt.alloc());
-    fails.push(1)?;
-    let Some((given, out, err)) = replayed(
-        rt.alloc(),
-        joined(rt.alloc(), &[BOOT, FIRST, "{\"end\":2}\n"])?,
-        fails,
-    )?
-    else {
-        return Err(Fail::from("names"));
-    };
-    assert!(rt; given == 4);
-    assert!(rt; out.bytes().is_empty());
-    assert!(rt; err.bytes() == "hearth: source 0 failed\n".as_bytes());
-    Ok(())
+fn the_read_fails(rt: HostRuntime) {
+    assert!(rt;
+        is_true(gives(
+            rt.alloc(),
+            &[BOOT, FIRST, "{\"end\":2}\n"],
+            &[1],
+            (4, "", "hearth: source 0 failed\n")
+        ))
+    );
 }
 
 #[test]
-fn a_home_is_replayed(rt: HostRuntime) -> Result<(), Fail> {
+fn a_home_is_replayed(rt: HostRuntime) {
     assert!(rt;
         is_given(
             rt.alloc(),
             &[HOME, STEPS, LATER, LAST],
-            0,
-            CALLS,
-            "source 0 line 1: L2\n"
-        )?
+            (0, CALLS, "source 0 line 1: L2\n")
+        )
     );
-    Ok(())
 }
 
 #[test]
-fn each_front_is_refused(rt: HostRuntime) -> Result<(), Fail> {
-    let trace = joined(rt.alloc(), &[HOME, STEPS, LATER, LAST])?;
-    assert!(rt; are_fronts_refused(rt.alloc(), trace.as_slice())?);
-    Ok(())
+fn each_front_is_refused(rt: HostRuntime) {
+    assert!(rt; is_true(are_fronts_refused(rt.alloc(), &[HOME, STEPS, LATER, LAST])));
 }
 
 #[test]
-fn each_changed_byte_of_a_step_is_refused(rt: HostRuntime) -> Result<(), Fail> {
-    let mut behind = String::from_str(rt.alloc(), LATER)?;
-    behind.push_str(LAST)?;
-    assert!(rt; is_each_byte_told(rt.alloc(), HOME, STEPS, behind.as_str())?);
-    Ok(())
+fn each_changed_byte_of_a_step_is_refused(rt: HostRuntime) {
+    assert!(rt; is_true(is_each_byte_told(rt.alloc(), &[HOME], STEPS, &[LATER, LAST])));
 }
 
 #[test]
-fn each_changed_byte_of_the_last_lines_is_refused(rt: HostRuntime) -> Result<(), Fail> {
-    let mut before = String::from_str(rt.alloc(), HOME)?;
-    before.push_str(STEPS)?;
-    before.push_str(LATER)?;
-    assert!(rt; is_each_byte_told(rt.alloc(), before.as_str(), LAST, "")?);
-    Ok(())
+fn each_changed_byte_of_the_last_lines_is_refused(rt: HostRuntime) {
+    assert!(rt; is_true(is_each_byte_told(rt.alloc(), &[HOME, STEPS, LATER], LAST, &[])));
 }
