@@ -1,29 +1,27 @@
 //! Choices, blocks and parallel lists, with what ends them.
 use crate::play::goes;
 use ha_model::Progress;
-use std::test::Fail;
 
 #[test]
-fn the_first_option_that_holds_is_chosen(rt: HostRuntime) -> Result<(), Fail> {
+fn the_first_option_that_holds_is_chosen(rt: HostRuntime) {
     let actions =
         "[{choose: [{conditions: \"{{ false }}\", sequence: [{action: notify.one}]}, {conditions: [], sequence: [{action: notify.two}]}, {conditions: [], sequence: [{action: notify.three}]}], default: [{action: notify.no}]}, {action: notify.after}]";
     let said = ["[] nothing", "[] notify.two", "[] notify.after"];
     let none =
         "[{choose: [{conditions: \"{{ false }}\", sequence: [{action: notify.one}]}], default: [{action: notify.no}]}]";
     assert!(rt;
-        goes(rt.alloc(), actions, &said, Progress::Done)?
+        goes(rt.alloc(), actions, &said, Progress::Done)
             && goes(
                 rt.alloc(),
                 none,
                 &["[] nothing", "[] notify.no"],
                 Progress::Done
-            )?
+            )
     );
-    Ok(())
 }
 
 #[test]
-fn if_goes_one_way_or_the_other_or_none(rt: HostRuntime) -> Result<(), Fail> {
+fn if_goes_one_way_or_the_other_or_none(rt: HostRuntime) {
     let yes = "[{if: [], then: [{action: notify.yes}], else: [{action: notify.no}]}]";
     let no = "[{if: \"{{ false }}\", then: [{action: notify.yes}], else: [{action: notify.no}]}]";
     let neither = "[{if: \"{{ false }}\", then: [{action: notify.yes}]}]";
@@ -33,18 +31,17 @@ fn if_goes_one_way_or_the_other_or_none(rt: HostRuntime) -> Result<(), Fail> {
             yes,
             &["[] nothing", "[] notify.yes"],
             Progress::Done
-        )? && goes(
+        ) && goes(
             rt.alloc(),
             no,
             &["[] nothing", "[] notify.no"],
             Progress::Done
-        )? && goes(rt.alloc(), neither, &["[] nothing"], Progress::Done)?
+        ) && goes(rt.alloc(), neither, &["[] nothing"], Progress::Done)
     );
-    Ok(())
 }
 
 #[test]
-fn a_variable_ends_with_its_block(rt: HostRuntime) -> Result<(), Fail> {
+fn a_variable_ends_with_its_block(rt: HostRuntime) {
     let actions =
         "[{sequence: [{variables: {w: 1}}, {action: notify.x, data: {n: \"{{ w }}\"}}]}, {action: notify.x, data: {n: \"{{ w is none }}\"}}]";
     let said = [
@@ -53,12 +50,11 @@ fn a_variable_ends_with_its_block(rt: HostRuntime) -> Result<(), Fail> {
         "[] notify.x {\"n\":1}",
         "[] notify.x {\"n\":true}",
     ];
-    assert!(rt; goes(rt.alloc(), actions, &said, Progress::Done)?);
-    Ok(())
+    assert!(rt; goes(rt.alloc(), actions, &said, Progress::Done));
 }
 
 #[test]
-fn variables_are_set_in_their_order(rt: HostRuntime) -> Result<(), Fail> {
+fn variables_are_set_in_their_order(rt: HostRuntime) {
     let actions =
         "[{variables: {v: 2, w: \"{{ v * 3 }}\"}}, {event: told, event_data: {w: \"{{ w }}\"}}, {action: notify.x, data: {w: \"{{ w }}\", as_text: \"a{{ v }}\"}}]";
     let said = [
@@ -66,12 +62,11 @@ fn variables_are_set_in_their_order(rt: HostRuntime) -> Result<(), Fail> {
         "[] fires told",
         "[] notify.x {\"w\":6,\"as_text\":\"a2\"}",
     ];
-    assert!(rt; goes(rt.alloc(), actions, &said, Progress::Done)?);
-    Ok(())
+    assert!(rt; goes(rt.alloc(), actions, &said, Progress::Done));
 }
 
 #[test]
-fn a_false_condition_ends_its_block_alone(rt: HostRuntime) -> Result<(), Fail> {
+fn a_false_condition_ends_its_block_alone(rt: HostRuntime) {
     let chosen =
         "[{if: [], then: [{condition: template, value_template: \"{{ false }}\"}, {action: notify.in}]}, {action: notify.after}]";
     let top = "[\"{{ false }}\", {action: notify.after}]";
@@ -81,13 +76,12 @@ fn a_false_condition_ends_its_block_alone(rt: HostRuntime) -> Result<(), Fail> {
             chosen,
             &["[] nothing", "[] nothing", "[] notify.after"],
             Progress::Done
-        )? && goes(rt.alloc(), top, &["[] nothing"], Progress::Done)?
+        ) && goes(rt.alloc(), top, &["[] nothing"], Progress::Done)
     );
-    Ok(())
 }
 
 #[test]
-fn a_stop_ends_the_whole_script(rt: HostRuntime) -> Result<(), Fail> {
+fn a_stop_ends_the_whole_script(rt: HostRuntime) {
     let actions = "[{sequence: [{stop: enough, error: true}]}, {action: notify.after}]";
     assert!(rt;
         goes(
@@ -95,13 +89,12 @@ fn a_stop_ends_the_whole_script(rt: HostRuntime) -> Result<(), Fail> {
             actions,
             &["[] nothing", "[] nothing"],
             Progress::Stopped
-        )?
+        )
     );
-    Ok(())
 }
 
 #[test]
-fn lists_have_variables_of_their_own(rt: HostRuntime) -> Result<(), Fail> {
+fn lists_have_variables_of_their_own(rt: HostRuntime) {
     let actions =
         "[{variables: {n: 1}}, {parallel: [[{variables: {n: 2}}, {action: notify.a, data: {n: \"{{ n }}\"}}], {action: notify.b, data: {n: \"{{ n }}\"}}]}, {action: notify.c, data: {n: \"{{ n }}\"}}]";
     let said = [
@@ -112,12 +105,11 @@ fn lists_have_variables_of_their_own(rt: HostRuntime) -> Result<(), Fail> {
         "[1] notify.b {\"n\":1}",
         "[] notify.c {\"n\":1}",
     ];
-    assert!(rt; goes(rt.alloc(), actions, &said, Progress::Done)?);
-    Ok(())
+    assert!(rt; goes(rt.alloc(), actions, &said, Progress::Done));
 }
 
 #[test]
-fn a_block_waits_for_its_last_list(rt: HostRuntime) -> Result<(), Fail> {
+fn a_block_waits_for_its_last_list(rt: HostRuntime) {
     let actions =
         "[{parallel: [{sequence: [{delay: 5}, {action: notify.x}]}, {sequence: [\"{{ false }}\", {action: notify.y}]}]}, {action: notify.z}]";
     let begun = [
@@ -140,16 +132,13 @@ fn a_block_waits_for_its_last_list(rt: HostRuntime) -> Result<(), Fail> {
         "[] notify.z",
     ];
     assert!(rt;
-        goes(rt.alloc(), actions, &begun, Progress::Going)?
-            && goes(rt.alloc(), actions, &said, Progress::Done)?
+        goes(rt.alloc(), actions, &begun, Progress::Going)
+            && goes(rt.alloc(), actions, &said, Progress::Done)
     );
-    Ok(())
 }
 
 #[test]
-fn a_stop_in_a_list_ends_that_list_and_behind_the_block_the_run(
-    rt: HostRuntime,
-) -> Result<(), Fail> {
+fn a_stop_in_a_list_ends_that_list_and_behind_the_block_the_run(rt: HostRuntime) {
     let actions =
         "[{parallel: [[{stop: x}, {action: notify.x}], [{delay: 1}, {action: notify.y}]]}, {action: notify.z}]";
     let said = [
@@ -160,12 +149,11 @@ fn a_stop_in_a_list_ends_that_list_and_behind_the_block_the_run(
         "[1] nothing",
         "[1] notify.y",
     ];
-    assert!(rt; goes(rt.alloc(), actions, &said, Progress::Stopped)?);
-    Ok(())
+    assert!(rt; goes(rt.alloc(), actions, &said, Progress::Stopped));
 }
 
 #[test]
-fn the_first_list_in_order_decides_how_a_block_ends(rt: HostRuntime) -> Result<(), Fail> {
+fn the_first_list_in_order_decides_how_a_block_ends(rt: HostRuntime) {
     let stops =
         "[{parallel: [[{delay: 1}, {stop: x}], {action: \"{{ 'nobody' }}\"}, {action: notify.y}]}, {action: notify.z}]";
     let said = [
@@ -179,19 +167,18 @@ fn the_first_list_in_order_decides_how_a_block_ends(rt: HostRuntime) -> Result<(
     ];
     let faults = "[{parallel: [{action: \"{{ 'nobody' }}\"}, {stop: x}]}, {action: notify.z}]";
     assert!(rt;
-        goes(rt.alloc(), stops, &said, Progress::Stopped)?
+        goes(rt.alloc(), stops, &said, Progress::Stopped)
             && goes(
                 rt.alloc(),
                 faults,
                 &["[] nothing", "[0] F2", "[1] nothing"],
                 Progress::Faulted
-            )?
+            )
     );
-    Ok(())
 }
 
 #[test]
-fn a_block_in_a_list_ends_that_list_alone(rt: HostRuntime) -> Result<(), Fail> {
+fn a_block_in_a_list_ends_that_list_alone(rt: HostRuntime) {
     let actions =
         "[{parallel: [[{parallel: [{stop: x}]}, {action: notify.in}], [{delay: 1}, {action: notify.y}]]}, {action: notify.z}]";
     let said = [
@@ -203,12 +190,11 @@ fn a_block_in_a_list_ends_that_list_alone(rt: HostRuntime) -> Result<(), Fail> {
         "[1] nothing",
         "[1] notify.y",
     ];
-    assert!(rt; goes(rt.alloc(), actions, &said, Progress::Stopped)?);
-    Ok(())
+    assert!(rt; goes(rt.alloc(), actions, &said, Progress::Stopped));
 }
 
 #[test]
-fn a_block_without_lists_ends_at_its_step(rt: HostRuntime) -> Result<(), Fail> {
+fn a_block_without_lists_ends_at_its_step(rt: HostRuntime) {
     let actions = "[{parallel: []}, {action: notify.z}]";
     assert!(rt;
         goes(
@@ -216,7 +202,6 @@ fn a_block_without_lists_ends_at_its_step(rt: HostRuntime) -> Result<(), Fail> {
             actions,
             &["[] nothing", "[] notify.z"],
             Progress::Done
-        )?
+        )
     );
-    Ok(())
 }

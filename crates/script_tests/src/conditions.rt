@@ -3,7 +3,6 @@ use crate::home::{home_of, tell, utc, view_of};
 use cond_eval::{View, test};
 use ha_model::{Condition, Env, Many, Value, Word};
 use std::alloc::{AllocError, Global};
-use std::test::Fail;
 
 /// The variables of a run whose trigger has the id 7.
 fn seventh(alloc: Global) -> Result<Env, AllocError> {
@@ -56,56 +55,55 @@ fn tested(alloc: Global, conditions: &str, lines: &[&str]) -> Result<Option<bool
 }
 
 /// Whether they hold.
-fn hold(alloc: Global, conditions: &str, lines: &[&str]) -> Result<bool, AllocError> {
-    Ok(tested(alloc, conditions, lines)? == Some(true))
+fn hold(alloc: Global, conditions: &str, lines: &[&str]) -> bool {
+    matches!(tested(alloc, conditions, lines), Ok(Some(true)))
 }
 
 /// Whether they are read, and do not hold.
-fn fail(alloc: Global, conditions: &str, lines: &[&str]) -> Result<bool, AllocError> {
-    Ok(tested(alloc, conditions, lines)? == Some(false))
+fn fail(alloc: Global, conditions: &str, lines: &[&str]) -> bool {
+    matches!(tested(alloc, conditions, lines), Ok(Some(false)))
 }
 
 /// Whether each of these holds by itself, behind these lines.
-fn each_holds(alloc: Global, all: &[&str], lines: &[&str]) -> Result<bool, AllocError> {
+fn each_holds(alloc: Global, all: &[&str], lines: &[&str]) -> bool {
     for conditions in all {
-        if !hold(alloc, conditions, lines)? {
-            return Ok(false);
+        if !hold(alloc, conditions, lines) {
+            return false;
         }
     }
-    Ok(true)
+    true
 }
 
 /// Whether none of these holds, behind these lines.
-fn each_fails(alloc: Global, all: &[&str], lines: &[&str]) -> Result<bool, AllocError> {
+fn each_fails(alloc: Global, all: &[&str], lines: &[&str]) -> bool {
     for conditions in all {
-        if !fail(alloc, conditions, lines)? {
-            return Ok(false);
+        if !fail(alloc, conditions, lines) {
+            return false;
         }
     }
-    Ok(true)
+    true
 }
 
 #[test]
-fn a_window_goes_round_midnight(rt: HostRuntime) -> Result<(), Fail> {
+fn a_window_goes_round_midnight(rt: HostRuntime) {
     let window = "[{condition: time, after: '22:00', before: '06:00'}]";
     assert!(rt;
-        hold(rt.alloc(), window, &["m 22:00:00"])?
+        hold(rt.alloc(), window, &["m 22:00:00"])
             && fail(
                 rt.alloc(),
                 window,
                 &["{\"moment\":\"2024-05-02T06:00:00Z\"}"]
-            )?
+            )
             && hold(
                 rt.alloc(),
                 window,
                 &["{\"moment\":\"2024-05-02T05:59:59Z\"}"]
-            )?
+            )
     );
-    Ok(())
 }
 
 #[test]
-fn a_window_has_its_first_second_and_not_its_last(rt: HostRuntime) -> Result<(), Fail> {
+fn a_window_has_its_first_second_and_not_its_last(rt: HostRuntime) {
     let at_six = ["{\"moment\":\"2024-05-02T06:00:00Z\"}"];
     let held = [
         "[{condition: time, after: '06:00', before: '22:00'}]",
@@ -117,14 +115,11 @@ fn a_window_has_its_first_second_and_not_its_last(rt: HostRuntime) -> Result<(),
         "[{condition: time, after: '06:00:01'}]",
         "[{condition: time, before: '06:00'}]",
     ];
-    assert!(rt;
-        each_holds(rt.alloc(), &held, &at_six)? && each_fails(rt.alloc(), &failed, &at_six)?
-    );
-    Ok(())
+    assert!(rt; each_holds(rt.alloc(), &held, &at_six) && each_fails(rt.alloc(), &failed, &at_six));
 }
 
 #[test]
-fn the_weekday_is_that_of_the_day(rt: HostRuntime) -> Result<(), Fail> {
+fn the_weekday_is_that_of_the_day(rt: HostRuntime) {
     // The first of May 2024 was a Wednesday.
     let held = [
         "[{condition: time, weekday: wed}]",
@@ -135,26 +130,24 @@ fn the_weekday_is_that_of_the_day(rt: HostRuntime) -> Result<(), Fail> {
         "[{condition: time, weekday: [mon, wed], after: '20:00:01'}]",
         "[{condition: time, weekday: [mon, tue], after: '20:00'}]",
     ];
-    assert!(rt; each_holds(rt.alloc(), &held, &[])? && each_fails(rt.alloc(), &failed, &[])?);
-    Ok(())
+    assert!(rt; each_holds(rt.alloc(), &held, &[]) && each_fails(rt.alloc(), &failed, &[]));
 }
 
 #[test]
-fn each_entity_has_one_of_the_texts(rt: HostRuntime) -> Result<(), Fail> {
+fn each_entity_has_one_of_the_texts(rt: HostRuntime) {
     let dimmed = "[{condition: state, entity_id: light.x, state: ['on', dim]}]";
     let both = "[{condition: state, entity_id: [light.x, light.y], state: 'on'}]";
     assert!(rt;
-        hold(rt.alloc(), dimmed, &["r light.x dim"])?
-            && fail(rt.alloc(), dimmed, &["r light.x off"])?
-            && fail(rt.alloc(), dimmed, &[])?
-            && hold(rt.alloc(), both, &["r light.x on", "r light.y on"])?
-            && fail(rt.alloc(), both, &["r light.x on", "r light.y off"])?
+        hold(rt.alloc(), dimmed, &["r light.x dim"])
+            && fail(rt.alloc(), dimmed, &["r light.x off"])
+            && fail(rt.alloc(), dimmed, &[])
+            && hold(rt.alloc(), both, &["r light.x on", "r light.y on"])
+            && fail(rt.alloc(), both, &["r light.x on", "r light.y off"])
     );
-    Ok(())
 }
 
 #[test]
-fn a_state_stands_long_enough_whatever_its_attributes_do(rt: HostRuntime) -> Result<(), Fail> {
+fn a_state_stands_long_enough_whatever_its_attributes_do(rt: HostRuntime) {
     let held = "[{condition: state, entity_id: light.x, state: 'on', for: 5}]";
     let again = "{\"report\":\"light.x\",\"state\":\"on\",\"attributes\":{\"level\":7}}";
     let other = [
@@ -165,19 +158,18 @@ fn a_state_stands_long_enough_whatever_its_attributes_do(rt: HostRuntime) -> Res
         "m 20:00:05",
     ];
     assert!(rt;
-        fail(rt.alloc(), held, &["r light.x on", "m 20:00:04.999"])?
+        fail(rt.alloc(), held, &["r light.x on", "m 20:00:04.999"])
             && hold(
                 rt.alloc(),
                 held,
                 &["r light.x on", "m 20:00:03", again, "m 20:00:05"]
-            )?
-            && fail(rt.alloc(), held, &other)?
+            )
+            && fail(rt.alloc(), held, &other)
     );
-    Ok(())
 }
 
 #[test]
-fn an_attribute_is_a_text_as_it_is_printed(rt: HostRuntime) -> Result<(), Fail> {
+fn an_attribute_is_a_text_as_it_is_printed(rt: HostRuntime) {
     let lines = [
         "{\"report\":\"light.x\",\"state\":\"on\",\"attributes\":{\"level\":7.50,\"warm\":true,\"way\":\"up\",\"all\":[1]}}",
     ];
@@ -191,12 +183,11 @@ fn an_attribute_is_a_text_as_it_is_printed(rt: HostRuntime) -> Result<(), Fail> 
         "[{condition: state, entity_id: light.x, attribute: all, state: '[1]'}]",
         "[{condition: state, entity_id: light.x, attribute: none, state: 'on'}]",
     ];
-    assert!(rt; each_holds(rt.alloc(), &held, &lines)? && each_fails(rt.alloc(), &failed, &lines)?);
-    Ok(())
+    assert!(rt; each_holds(rt.alloc(), &held, &lines) && each_fails(rt.alloc(), &failed, &lines));
 }
 
 #[test]
-fn the_bounds_of_a_number_are_strict(rt: HostRuntime) -> Result<(), Fail> {
+fn the_bounds_of_a_number_are_strict(rt: HostRuntime) {
     let lines = [
         "{\"report\":\"light.x\",\"state\":\"6.5\",\"attributes\":{\"level\":7}}",
         "r light.y on",
@@ -213,12 +204,11 @@ fn the_bounds_of_a_number_are_strict(rt: HostRuntime) -> Result<(), Fail> {
         "[{condition: numeric_state, entity_id: [light.x, light.y], below: 7}]",
         "[{condition: numeric_state, entity_id: light.z, below: 7}]",
     ];
-    assert!(rt; each_holds(rt.alloc(), &held, &lines)? && each_fails(rt.alloc(), &failed, &lines)?);
-    Ok(())
+    assert!(rt; each_holds(rt.alloc(), &held, &lines) && each_fails(rt.alloc(), &failed, &lines));
 }
 
 #[test]
-fn a_template_has_to_say_true(rt: HostRuntime) -> Result<(), Fail> {
+fn a_template_has_to_say_true(rt: HostRuntime) {
     let held = [
         "[\"{{ 'True' }} \"]",
         "\"{{ is_state('light.x', 'on') }}\"",
@@ -231,27 +221,25 @@ fn a_template_has_to_say_true(rt: HostRuntime) -> Result<(), Fail> {
         "[\"{{ states('light.x') + 1 }}\"]",
     ];
     assert!(rt;
-        each_holds(rt.alloc(), &held, &["r light.x on"])?
-            && each_fails(rt.alloc(), &failed, &["r light.x on"])?
+        each_holds(rt.alloc(), &held, &["r light.x on"])
+            && each_fails(rt.alloc(), &failed, &["r light.x on"])
     );
-    Ok(())
 }
 
 #[test]
-fn the_id_of_the_own_trigger_is_listed(rt: HostRuntime) -> Result<(), Fail> {
+fn the_id_of_the_own_trigger_is_listed(rt: HostRuntime) {
     let held = [
         "[{condition: trigger, id: '7'}]",
         "[{condition: trigger, id: [a, 7]}]",
     ];
     assert!(rt;
-        each_holds(rt.alloc(), &held, &[])?
-            && fail(rt.alloc(), "[{condition: trigger, id: [a, '8']}]", &[])?
+        each_holds(rt.alloc(), &held, &[])
+            && fail(rt.alloc(), "[{condition: trigger, id: [a, '8']}]", &[])
     );
-    Ok(())
 }
 
 #[test]
-fn all_of_and_one_of_and_none_of_not(rt: HostRuntime) -> Result<(), Fail> {
+fn all_of_and_one_of_and_none_of_not(rt: HostRuntime) {
     let held = [
         "[{and: [\"{{ true }}\", \"{{ true }}\"]}]",
         "[{or: [\"{{ false }}\", \"{{ true }}\"]}]",
@@ -267,17 +255,15 @@ fn all_of_and_one_of_and_none_of_not(rt: HostRuntime) -> Result<(), Fail> {
         "[{condition: or, conditions: []}]",
         "[\"{{ true }}\", \"{{ false }}\"]",
     ];
-    assert!(rt; each_holds(rt.alloc(), &held, &[])? && each_fails(rt.alloc(), &failed, &[])?);
-    Ok(())
+    assert!(rt; each_holds(rt.alloc(), &held, &[]) && each_fails(rt.alloc(), &failed, &[]));
 }
 
 #[test]
-fn a_disabled_condition_is_left_out(rt: HostRuntime) -> Result<(), Fail> {
+fn a_disabled_condition_is_left_out(rt: HostRuntime) {
     let held = [
         "[{condition: template, value_template: \"{{ false }}\", enabled: false}]",
         "[{not: [{condition: template, value_template: \"{{ true }}\", enabled: false}]}]",
     ];
     let failed = ["[{or: [{condition: template, value_template: \"{{ true }}\", enabled: 'no'}]}]"];
-    assert!(rt; each_holds(rt.alloc(), &held, &[])? && each_fails(rt.alloc(), &failed, &[])?);
-    Ok(())
+    assert!(rt; each_holds(rt.alloc(), &held, &[]) && each_fails(rt.alloc(), &failed, &[]));
 }

@@ -404,7 +404,15 @@ fn all_come(
 }
 
 /// Whether a script, in flow on one line, goes as it is said, and is then so far that no step may be taken.
-pub fn goes(
+pub fn goes(alloc: Global, actions: &str, said: &[&str], progress: Progress) -> bool {
+    match went(alloc, actions, said, progress) {
+        Ok(is) => is,
+        Err(_) => false,
+    }
+}
+
+/// The same, or that there is no memory for it.
+fn went(
     alloc: Global,
     actions: &str,
     said: &[&str],
@@ -446,7 +454,15 @@ fn idle_and_come(
 }
 
 /// Whether a script does nothing in so many steps, and then goes as it is said.
-pub fn idles(
+pub fn idles(alloc: Global, actions: &str, many: u32, said: &[&str], progress: Progress) -> bool {
+    match idled(alloc, actions, many, said, progress) {
+        Ok(is) => is,
+        Err(_) => false,
+    }
+}
+
+/// The same, or that there is no memory for it.
+fn idled(
     alloc: Global,
     actions: &str,
     many: u32,

@@ -1,12 +1,11 @@
 //! Delays, and waits with their ends and timeouts.
 use crate::play::goes;
 use ha_model::{Branch, Ended, Many, Progress, WaitAsk};
-use std::alloc::Global;
-use std::test::Fail;
+use std::alloc::{AllocError, Global};
 use wait_set::Waits;
 
 #[test]
-fn a_delay_counts_from_its_own_step(rt: HostRuntime) -> Result<(), Fail> {
+fn a_delay_counts_from_its_own_step(rt: HostRuntime) {
     let actions = "[{delay: 5}, {action: notify.x}]";
     let early = ["m 20:00:03", "[] nothing", "m 20:00:07.999"];
     let said = [
@@ -17,14 +16,13 @@ fn a_delay_counts_from_its_own_step(rt: HostRuntime) -> Result<(), Fail> {
         "[] notify.x",
     ];
     assert!(rt;
-        goes(rt.alloc(), actions, &early, Progress::Going)?
-            && goes(rt.alloc(), actions, &said, Progress::Done)?
+        goes(rt.alloc(), actions, &early, Progress::Going)
+            && goes(rt.alloc(), actions, &said, Progress::Done)
     );
-    Ok(())
 }
 
 #[test]
-fn delays_are_given_in_several_ways(rt: HostRuntime) -> Result<(), Fail> {
+fn delays_are_given_in_several_ways(rt: HostRuntime) {
     let actions =
         "[{delay: 0}, {delay: '00:00:05'}, {delay: \"{{ '00:01' }}\"}, {delay: {seconds: \"{{ 1 + 1 }}\", milliseconds: 500}}]";
     let said = [
@@ -40,21 +38,19 @@ fn delays_are_given_in_several_ways(rt: HostRuntime) -> Result<(), Fail> {
         "m 20:01:07.500",
         "[] nothing",
     ];
-    assert!(rt; goes(rt.alloc(), actions, &said, Progress::Done)?);
-    Ok(())
+    assert!(rt; goes(rt.alloc(), actions, &said, Progress::Done));
 }
 
 #[test]
-fn a_timeout_that_may_not_go_on_stops_the_whole_script(rt: HostRuntime) -> Result<(), Fail> {
+fn a_timeout_that_may_not_go_on_stops_the_whole_script(rt: HostRuntime) {
     let actions =
         "[{repeat: {count: 3, sequence: [{wait_template: \"{{ false }}\", timeout: 5, continue_on_timeout: false}, {action: notify.in}]}}, {action: notify.after}]";
     let said = ["[] nothing", "[] nothing", "m 20:00:05", "[] nothing"];
-    assert!(rt; goes(rt.alloc(), actions, &said, Progress::Stopped)?);
-    Ok(())
+    assert!(rt; goes(rt.alloc(), actions, &said, Progress::Stopped));
 }
 
 #[test]
-fn after_a_timeout_the_script_goes_on_and_is_told_of_it(rt: HostRuntime) -> Result<(), Fail> {
+fn after_a_timeout_the_script_goes_on_and_is_told_of_it(rt: HostRuntime) {
     let actions =
         "[{wait_template: \"{{ 1 // 0 }}\", timeout: {seconds: \"{{ 2 + 3 }}\"}}, {action: notify.x, data: {done: \"{{ wait.completed }}\", left: \"{{ wait.remaining }}\", by: \"{{ wait.trigger is none }}\"}}]";
     let early = ["[] nothing", "m 20:00:04.999"];
@@ -65,14 +61,13 @@ fn after_a_timeout_the_script_goes_on_and_is_told_of_it(rt: HostRuntime) -> Resu
         "[] notify.x {\"done\":false,\"left\":0.0,\"by\":true}",
     ];
     assert!(rt;
-        goes(rt.alloc(), actions, &early, Progress::Going)?
-            && goes(rt.alloc(), actions, &said, Progress::Done)?
+        goes(rt.alloc(), actions, &early, Progress::Going)
+            && goes(rt.alloc(), actions, &said, Progress::Done)
     );
-    Ok(())
 }
 
 #[test]
-fn a_wait_keeps_the_end_that_it_had(rt: HostRuntime) -> Result<(), Fail> {
+fn a_wait_keeps_the_end_that_it_had(rt: HostRuntime) {
     let actions =
         "[{wait_template: \"{{ is_state('light.z', 'off') }}\", timeout: 10}, {action: notify.b, data: {done: \"{{ wait.completed }}\", left: \"{{ wait.remaining }}\"}}]";
     let said = [
@@ -85,14 +80,11 @@ fn a_wait_keeps_the_end_that_it_had(rt: HostRuntime) -> Result<(), Fail> {
         "[] nothing",
         "[] notify.b {\"done\":true,\"left\":5.0}",
     ];
-    assert!(rt; goes(rt.alloc(), actions, &said, Progress::Done)?);
-    Ok(())
+    assert!(rt; goes(rt.alloc(), actions, &said, Progress::Done));
 }
 
 #[test]
-fn the_entry_of_a_wait_s_own_step_counts_and_those_before_do_not(
-    rt: HostRuntime,
-) -> Result<(), Fail> {
+fn the_entry_of_a_wait_s_own_step_counts_and_those_before_do_not(rt: HostRuntime) {
     let actions =
         "[{delay: 1}, {wait_template: \"{{ is_state('light.z', 'off') }}\"}, {action: notify.b, data: {left: \"{{ wait.remaining is none }}\"}}]";
     let own = [
@@ -113,14 +105,13 @@ fn the_entry_of_a_wait_s_own_step_counts_and_those_before_do_not(
         "[] nothing",
     ];
     assert!(rt;
-        goes(rt.alloc(), actions, &own, Progress::Done)?
-            && goes(rt.alloc(), actions, &before, Progress::Going)?
+        goes(rt.alloc(), actions, &own, Progress::Done)
+            && goes(rt.alloc(), actions, &before, Progress::Going)
     );
-    Ok(())
 }
 
 #[test]
-fn a_trigger_ends_a_wait_and_is_told(rt: HostRuntime) -> Result<(), Fail> {
+fn a_trigger_ends_a_wait_and_is_told(rt: HostRuntime) {
     let actions =
         "[{wait_for_trigger: {trigger: event, event_type: go}, timeout: 10}, {action: notify.x, data: {by: \"{{ wait.trigger.platform }}\", left: \"{{ wait.remaining }}\", done: \"{{ wait.completed }}\"}}]";
     let said = [
@@ -131,12 +122,11 @@ fn a_trigger_ends_a_wait_and_is_told(rt: HostRuntime) -> Result<(), Fail> {
         "[] nothing",
         "[] notify.x {\"by\":\"event\",\"left\":6.0,\"done\":true}",
     ];
-    assert!(rt; goes(rt.alloc(), actions, &said, Progress::Done)?);
-    Ok(())
+    assert!(rt; goes(rt.alloc(), actions, &said, Progress::Done));
 }
 
 #[test]
-fn on_a_tie_with_its_timeout_a_wait_completes(rt: HostRuntime) -> Result<(), Fail> {
+fn on_a_tie_with_its_timeout_a_wait_completes(rt: HostRuntime) {
     let actions =
         "[{wait_for_trigger: {trigger: time, at: '20:00:05'}, timeout: 5, continue_on_timeout: false}, {action: notify.x, data: {left: \"{{ wait.remaining }}\", done: \"{{ wait.completed }}\"}}]";
     let said = [
@@ -145,12 +135,11 @@ fn on_a_tie_with_its_timeout_a_wait_completes(rt: HostRuntime) -> Result<(), Fai
         "[] nothing",
         "[] notify.x {\"left\":0.0,\"done\":true}",
     ];
-    assert!(rt; goes(rt.alloc(), actions, &said, Progress::Done)?);
-    Ok(())
+    assert!(rt; goes(rt.alloc(), actions, &said, Progress::Done));
 }
 
 #[test]
-fn a_timeout_in_a_list_ends_that_list_alone(rt: HostRuntime) -> Result<(), Fail> {
+fn a_timeout_in_a_list_ends_that_list_alone(rt: HostRuntime) {
     let actions =
         "[{parallel: [[{wait_template: \"{{ false }}\", timeout: 1, continue_on_timeout: false}, {action: notify.in}], [{delay: 2}, {action: notify.y}]]}, {action: notify.z}]";
     let said = [
@@ -163,12 +152,11 @@ fn a_timeout_in_a_list_ends_that_list_alone(rt: HostRuntime) -> Result<(), Fail>
         "[1] nothing",
         "[1] notify.y",
     ];
-    assert!(rt; goes(rt.alloc(), actions, &said, Progress::Stopped)?);
-    Ok(())
+    assert!(rt; goes(rt.alloc(), actions, &said, Progress::Stopped));
 }
 
 #[test]
-fn the_variables_of_a_wait_end_with_its_block(rt: HostRuntime) -> Result<(), Fail> {
+fn the_variables_of_a_wait_end_with_its_block(rt: HostRuntime) {
     let actions =
         "[{sequence: [{wait_template: \"{{ true }}\"}]}, {action: notify.x, data: {none: \"{{ wait is none }}\"}}]";
     let said = [
@@ -177,8 +165,7 @@ fn the_variables_of_a_wait_end_with_its_block(rt: HostRuntime) -> Result<(), Fai
         "[] nothing",
         "[] notify.x {\"none\":true}",
     ];
-    assert!(rt; goes(rt.alloc(), actions, &said, Progress::Done)?);
-    Ok(())
+    assert!(rt; goes(rt.alloc(), actions, &said, Progress::Done));
 }
 
 /// A wait of a run, for triggers alone.
@@ -193,17 +180,20 @@ fn asked(alloc: Global, serial: u64) -> WaitAsk {
     }
 }
 
-#[test]
-fn the_wait_of_a_run_goes_with_it(rt: HostRuntime) -> Result<(), Fail> {
-    let alloc = rt.alloc();
+/// Whether the wait of run 1, at entry 7, stays where another run goes, and goes with its own.
+fn goes_with_its_run(alloc: Global) -> Result<bool, AllocError> {
     let mut waits = Waits::make(alloc);
     waits.add(asked(alloc, 1), 7, 3)?;
     let root: Branch = Many::make(alloc);
-    assert!(rt; waits.owner_of(1, 0) == Some(7) && waits.owner_of(1, 1).is_none());
-    assert!(rt; waits.ended(1, &root).is_none() && waits.ended_now().is_empty());
+    let is_there = waits.owner_of(1, 0) == Some(7) && waits.owner_of(1, 1).is_none();
+    let waits_still = waits.ended(1, &root).is_none() && waits.ended_now().is_empty();
     waits.drop_run(2);
-    assert!(rt; waits.owner_of(1, 0) == Some(7));
+    let stays = waits.owner_of(1, 0) == Some(7);
     waits.drop_run(1);
-    assert!(rt; waits.owner_of(1, 0).is_none());
-    Ok(())
+    Ok(is_there && waits_still && stays && waits.owner_of(1, 0).is_none())
+}
+
+#[test]
+fn the_wait_of_a_run_goes_with_it(rt: HostRuntime) {
+    assert!(rt; matches!(goes_with_its_run(rt.alloc()), Ok(true)));
 }
