@@ -8,7 +8,6 @@ ghost use Rattle.run_modes.specs.Table.{HasBegun};
 use ha_model::{EndCause, Many, Mode, Record};
 use run_modes::{Admission, Runs};
 use std::alloc::{AllocError, Global};
-use std::test::Fail;
 
 /// An attempt of automation 0 at a place.
 fn attempt(
@@ -22,7 +21,7 @@ fn attempt(
 }
 
 /// Whether the attempts at one entry are told these in turn.
-fn are_told(alloc: Global, mode: Mode, max: u32, wanted: &[Admission]) -> Result<bool, AllocError> {
+fn told(alloc: Global, mode: Mode, max: u32, wanted: &[Admission]) -> Result<bool, AllocError> {
     let mut runs = Runs::make(alloc);
     for want in wanted {
         if attempt(alloc, &mut runs, mode, max, 1)? != *want {
@@ -30,6 +29,24 @@ fn are_told(alloc: Global, mode: Mode, max: u32, wanted: &[Admission]) -> Result
         }
     }
     Ok(true)
+}
+
+/// Whether it is so, where there is memory for it.
+fn is_true(found: Result<bool, AllocError>) -> bool {
+    match found {
+        Ok(is) => is,
+        Err(_) => false,
+    }
+}
+
+/// Whether, at each limit, the attempts at one entry are told these in turn.
+fn are_told(alloc: Global, mode: Mode, rows: &[(u32, &[Admission])]) -> bool {
+    for row in rows {
+        if !is_true(told(alloc, mode, row.0, row.1)) {
+            return false;
+        }
+    }
+    true
 }
 
 /// The runs after one attempt at each of these places.
@@ -126,29 +143,35 @@ fn went(
 }
 
 #[test]
-fn single_admits_one_whatever_the_limit(rt: HostRuntime) -> Result<(), Fail> {
+fn single_admits_one_whatever_the_limit(rt: HostRuntime) {
     let wanted = [Admission::Begun(1), Admission::Refused, Admission::Refused];
-    assert!(rt; are_told(rt.alloc(), Mode::Single, 1, &wanted)?);
-    assert!(rt; are_told(rt.alloc(), Mode::Single, 2, &wanted)?);
-    assert!(rt; are_told(rt.alloc(), Mode::Single, 10, &wanted)?);
-    Ok(())
+    assert!(rt;
+        are_told(
+            rt.alloc(),
+            Mode::Single,
+            &[(1, &wanted), (2, &wanted), (10, &wanted)]
+        )
+    );
 }
 
 #[test]
-fn restart_admits_each_whatever_the_limit(rt: HostRuntime) -> Result<(), Fail> {
+fn restart_admits_each_whatever_the_limit(rt: HostRuntime) {
     let wanted = [
         Admission::Begun(1),
         Admission::Replaces(2, 1),
         Admission::Replaces(3, 2),
     ];
-    assert!(rt; are_told(rt.alloc(), Mode::Restart, 1, &wanted)?);
-    assert!(rt; are_told(rt.alloc(), Mode::Restart, 2, &wanted)?);
-    assert!(rt; are_told(rt.alloc(), Mode::Restart, 10, &wanted)?);
-    Ok(())
+    assert!(rt;
+        are_told(
+            rt.alloc(),
+            Mode::Restart,
+            &[(1, &wanted), (2, &wanted), (10, &wanted)]
+        )
+    );
 }
 
 #[test]
-fn queued_admits_up_to_the_limit(rt: HostRuntime) -> Result<(), Fail> {
+fn queued_admits_up_to_the_limit(rt: HostRuntime) {
     let one = [Admission::Begun(1), Admission::Refused];
     let two = [
         Admission::Begun(1),
@@ -168,14 +191,17 @@ fn queued_admits_up_to_the_limit(rt: HostRuntime) -> Result<(), Fail> {
         Admission::Queued(10),
         Admission::Refused,
     ];
-    assert!(rt; are_told(rt.alloc(), Mode::Queued, 1, &one)?);
-    assert!(rt; are_told(rt.alloc(), Mode::Queued, 2, &two)?);
-    assert!(rt; are_told(rt.alloc(), Mode::Queued, 10, &ten)?);
-    Ok(())
+    assert!(rt;
+        are_told(
+            rt.alloc(),
+            Mode::Queued,
+            &[(1, &one), (2, &two), (10, &ten)]
+        )
+    );
 }
 
 #[test]
-fn parallel_admits_up_to_the_limit(rt: HostRuntime) -> Result<(), Fail> {
+fn parallel_admits_up_to_the_limit(rt: HostRuntime) {
     let one = [Admission::Begun(1), Admission::Refused];
     let two = [Admission::Begun(1), Admission::Begun(2), Admission::Refused];
     let ten = [
@@ -191,87 +217,119 @@ fn parallel_admits_up_to_the_limit(rt: HostRuntime) -> Result<(), Fail> {
         Admission::Begun(10),
         Admission::Refused,
     ];
-    assert!(rt; are_told(rt.alloc(), Mode::Parallel, 1, &one)?);
-    assert!(rt; are_told(rt.alloc(), Mode::Parallel, 2, &two)?);
-    assert!(rt; are_told(rt.alloc(), Mode::Parallel, 10, &ten)?);
-    Ok(())
-}
-
-#[test]
-fn a_refused_attempt_has_no_number(rt: HostRuntime) -> Result<(), Fail> {
-    let mut runs = attempted(rt.alloc(), Mode::Single, 10, &[1, 2])?;
-    assert!(rt; is_done(&mut runs, 1, 3, None));
-    let told = attempt(rt.alloc(), &mut runs, Mode::Single, 10, 3)?;
-    assert!(rt; told == Admission::Begun(2) && went(&runs, 2, 2, Some(3), None));
-    Ok(())
-}
-
-#[test]
-fn a_queue_begins_in_its_order(rt: HostRuntime) -> Result<(), Fail> {
-    let mut runs = attempted(rt.alloc(), Mode::Queued, 3, &[1, 2, 2])?;
-    assert!(rt; !is_done(&mut runs, 2, 5, None), "it waits");
-    assert!(rt; is_done(&mut runs, 1, 5, Some(2)));
-    assert!(rt; is_done(&mut runs, 2, 9, Some(3)));
     assert!(rt;
-        went(&runs, 2, 2, Some(5), Some((9, EndCause::Done))) && went(&runs, 3, 3, Some(9), None)
+        are_told(
+            rt.alloc(),
+            Mode::Parallel,
+            &[(1, &one), (2, &two), (10, &ten)]
+        )
     );
-    Ok(())
+}
+
+/// Whether a run that is done makes place for the next, which has the number behind it.
+fn numbers_go_on(alloc: Global) -> Result<bool, AllocError> {
+    let mut runs = attempted(alloc, Mode::Single, 10, &[1, 2])?;
+    let done = is_done(&mut runs, 1, 3, None);
+    let told = attempt(alloc, &mut runs, Mode::Single, 10, 3)?;
+    Ok(done && told == Admission::Begun(2) && went(&runs, 2, 2, Some(3), None))
 }
 
 #[test]
-fn a_waiting_run_that_is_stopped_never_begins(rt: HostRuntime) -> Result<(), Fail> {
-    let mut runs = attempted(rt.alloc(), Mode::Queued, 2, &[1, 2])?;
+fn a_refused_attempt_has_no_number(rt: HostRuntime) {
+    assert!(rt; is_true(numbers_go_on(rt.alloc())));
+}
+
+fn queue_goes_on(alloc: Global) -> Result<bool, AllocError> {
+    let mut runs = attempted(alloc, Mode::Queued, 3, &[1, 2, 2])?;
+    // it waits
+    let early = is_done(&mut runs, 2, 5, None);
+    let first = is_done(&mut runs, 1, 5, Some(2));
+    let second = is_done(&mut runs, 2, 9, Some(3));
+    Ok(
+        !early
+            && first
+            && second
+            && went(&runs, 2, 2, Some(5), Some((9, EndCause::Done)))
+            && went(&runs, 3, 3, Some(9), None),
+    )
+}
+
+#[test]
+fn a_queue_begins_in_its_order(rt: HostRuntime) {
+    assert!(rt; is_true(queue_goes_on(rt.alloc())));
+}
+
+fn stopped_queue(alloc: Global) -> Result<bool, AllocError> {
+    let mut runs = attempted(alloc, Mode::Queued, 2, &[1, 2])?;
     runs.stop_all(Some(0), 4, EndCause::SwitchedOff);
-    assert!(rt; went(&runs, 1, 1, Some(1), Some((4, EndCause::SwitchedOff))));
-    assert!(rt; went(&runs, 2, 2, None, Some((4, EndCause::SwitchedOff))));
-    let told = attempt(rt.alloc(), &mut runs, Mode::Queued, 2, 5)?;
-    assert!(rt; told == Admission::Begun(3));
-    Ok(())
+    let end = Some((4, EndCause::SwitchedOff));
+    let stopped = went(&runs, 1, 1, Some(1), end) && went(&runs, 2, 2, None, end);
+    let told = attempt(alloc, &mut runs, Mode::Queued, 2, 5)?;
+    Ok(stopped && told == Admission::Begun(3))
 }
 
 #[test]
-fn a_stop_at_the_entry_of_an_end_begins_none(rt: HostRuntime) -> Result<(), Fail> {
-    let mut runs = attempted(rt.alloc(), Mode::Queued, 10, &[1, 2])?;
-    assert!(rt; is_done(&mut runs, 1, 4, Some(2)));
+fn a_waiting_run_that_is_stopped_never_begins(rt: HostRuntime) {
+    assert!(rt; is_true(stopped_queue(rt.alloc())));
+}
+
+fn stopped_at_an_end(alloc: Global) -> Result<bool, AllocError> {
+    let mut runs = attempted(alloc, Mode::Queued, 10, &[1, 2])?;
+    let done = is_done(&mut runs, 1, 4, Some(2));
     runs.stop_all(None, 4, EndCause::Restarted);
-    assert!(rt; went(&runs, 1, 1, Some(1), Some((4, EndCause::Done))));
-    assert!(rt; went(&runs, 2, 2, None, Some((4, EndCause::Restarted))));
-    Ok(())
+    Ok(
+        done && went(&runs, 1, 1, Some(1), Some((4, EndCause::Done)))
+            && went(&runs, 2, 2, None, Some((4, EndCause::Restarted))),
+    )
 }
 
 #[test]
-fn a_run_that_is_replaced_where_it_began_has_begun(rt: HostRuntime) -> Result<(), Fail> {
-    let runs = attempted(rt.alloc(), Mode::Restart, 1, &[1, 2, 2])?;
-    assert!(rt; went(&runs, 1, 1, Some(1), Some((2, EndCause::Replaced))));
-    assert!(rt; went(&runs, 2, 2, Some(2), Some((2, EndCause::Replaced))));
-    assert!(rt; went(&runs, 3, 3, Some(2), None));
-    Ok(())
+fn a_stop_at_the_entry_of_an_end_begins_none(rt: HostRuntime) {
+    assert!(rt; is_true(stopped_at_an_end(rt.alloc())));
+}
+
+fn replaced_at_its_begin(alloc: Global) -> Result<bool, AllocError> {
+    let runs = attempted(alloc, Mode::Restart, 1, &[1, 2, 2])?;
+    Ok(
+        went(&runs, 1, 1, Some(1), Some((2, EndCause::Replaced)))
+            && went(&runs, 2, 2, Some(2), Some((2, EndCause::Replaced)))
+            && went(&runs, 3, 3, Some(2), None),
+    )
 }
 
 #[test]
-fn a_run_that_is_done_is_not_replaced(rt: HostRuntime) -> Result<(), Fail> {
-    let mut runs = attempted(rt.alloc(), Mode::Restart, 1, &[1])?;
-    assert!(rt; is_done(&mut runs, 1, 7, None));
-    let told = attempt(rt.alloc(), &mut runs, Mode::Restart, 1, 7)?;
-    assert!(rt; told == Admission::Begun(2));
-    assert!(rt; went(&runs, 1, 1, Some(1), Some((7, EndCause::Done))));
-    Ok(())
+fn a_run_that_is_replaced_where_it_began_has_begun(rt: HostRuntime) {
+    assert!(rt; is_true(replaced_at_its_begin(rt.alloc())));
+}
+
+fn done_before_the_next(alloc: Global) -> Result<bool, AllocError> {
+    let mut runs = attempted(alloc, Mode::Restart, 1, &[1])?;
+    let done = is_done(&mut runs, 1, 7, None);
+    let told = attempt(alloc, &mut runs, Mode::Restart, 1, 7)?;
+    Ok(done && told == Admission::Begun(2) && went(&runs, 1, 1, Some(1), Some((7, EndCause::Done))))
 }
 
 #[test]
-fn a_call_counts_for_its_run(rt: HostRuntime) -> Result<(), Fail> {
-    let mut runs = Runs::make(rt.alloc());
-    assert!(rt; runs.reserve(2).is_ok());
+fn a_run_that_is_done_is_not_replaced(rt: HostRuntime) {
+    assert!(rt; is_true(done_before_the_next(rt.alloc())));
+}
+
+/// Whether the calls of these runs, which are two at most, are counted so.
+fn are_counted(alloc: Global, serials: &[u64], calls: &[u64]) -> Result<bool, AllocError> {
+    let mut runs = Runs::make(alloc);
+    runs.reserve(2)?;
     for place in [1, 2] {
-        let _ = attempt(rt.alloc(), &mut runs, Mode::Parallel, 2, place)?;
+        let _ = attempt(alloc, &mut runs, Mode::Parallel, 2, place)?;
     }
-    for serial in [2, 1, 2, 3] {
-        call(&mut runs, serial);
+    for serial in serials {
+        call(&mut runs, *serial);
     }
-    assert!(rt;
-        runs.live(0, 1) == Some(2) && runs.live(0, 2).is_none() && runs.live(1, 0).is_none()
-    );
-    assert!(rt; made(runs.list(), &[1, 2]));
-    assert!(rt; made(runs.into_list().as_slice(), &[1, 2]));
-    Ok(())
+    let live = runs.live(0, 1) == Some(2) && runs.live(0, 2).is_none() && runs.live(1, 0).is_none();
+    let counted = made(runs.list(), calls);
+    Ok(live && counted && made(runs.into_list().as_slice(), calls))
+}
+
+#[test]
+fn a_call_counts_for_its_run(rt: HostRuntime) {
+    assert!(rt; is_true(are_counted(rt.alloc(), &[2, 1, 2, 3], &[1, 2])));
 }

@@ -5,7 +5,6 @@ ghost use Rattle.ha_model.specs.Sound.{IsSoundConfig, is_sound_automation};
 
 use ha_model::{Automation, Config, Many, Mode, Word};
 use std::alloc::{AllocError, Global};
-use std::test::Fail;
 use store_text::{StoreFault, read_store};
 use switch_book::Switches;
 
@@ -96,6 +95,14 @@ fn is_stored_as(
     Ok(switches.store_text(alloc)?.as_str() == again)
 }
 
+/// Whether it is so, where there is memory for it.
+fn is_true(found: Result<bool, AllocError>) -> bool {
+    match found {
+        Ok(is) => is,
+        Err(_) => false,
+    }
+}
+
 #[test]
 fn the_keys_of_a_store_come_in_any_order(rt: HostRuntime) {
     let texts = [
@@ -128,19 +135,29 @@ fn no_json_is_s1(rt: HostRuntime) {
         "{\"version\":1e400}",
         "{'switches':{},'version':1}",
     ];
-    assert!(rt; are_refused(rt.alloc(), &texts, 1));
     let bytes = b"{\"switches\":{\"\xff\":true},\"version\":1}";
-    assert!(rt; is_refused(rt.alloc(), bytes.as_slice(), 1));
+    assert!(rt; are_refused(rt.alloc(), &texts, 1) && is_refused(rt.alloc(), bytes.as_slice(), 1));
+}
+
+/// A text that opens so many lists.
+fn deep(alloc: Global, count: u32) -> Result<Vec<u8>, AllocError> {
+    let mut text = Vec::new(alloc);
+    for _ in 0..count {
+        text.push(b'[')?;
+    }
+    Ok(text)
+}
+
+fn is_deep_refused(alloc: Global, count: u32, code: u8) -> bool {
+    match deep(alloc, count) {
+        Ok(text) => is_refused(alloc, text.as_slice(), code),
+        Err(_) => false,
+    }
 }
 
 #[test]
-fn a_text_a_million_deep_is_s1(rt: HostRuntime) -> Result<(), Fail> {
-    let mut text = Vec::new(rt.alloc());
-    for _ in 0..1_000_000 {
-        text.push(b'[')?;
-    }
-    assert!(rt; is_refused(rt.alloc(), text.as_slice(), 1));
-    Ok(())
+fn a_text_a_million_deep_is_s1(rt: HostRuntime) {
+    assert!(rt; is_deep_refused(rt.alloc(), 1_000_000, 1));
 }
 
 #[test]
@@ -187,19 +204,17 @@ fn another_version_is_s3(rt: HostRuntime) {
 }
 
 #[test]
-fn names_are_stored_in_byte_order(rt: HostRuntime) -> Result<(), Fail> {
+fn names_are_stored_in_byte_order(rt: HostRuntime) {
     let stored = "{\"switches\":{\"cellar\":true,\"porch\":false},\"version\":1}";
     let again = "{\"switches\":{\"attic\":true,\"porch\":false},\"version\":1}";
-    assert!(rt; is_stored_as(rt.alloc(), stored, None, again)?);
-    Ok(())
+    assert!(rt; is_true(is_stored_as(rt.alloc(), stored, None, again)));
 }
 
 #[test]
-fn an_initial_state_stands_over_the_store(rt: HostRuntime) -> Result<(), Fail> {
+fn an_initial_state_stands_over_the_store(rt: HostRuntime) {
     let stored = "{\"switches\":{\"attic\":true},\"version\":1}";
     let again = "{\"switches\":{\"attic\":false,\"porch\":true},\"version\":1}";
-    assert!(rt; is_stored_as(rt.alloc(), stored, Some(false), again)?);
-    Ok(())
+    assert!(rt; is_true(is_stored_as(rt.alloc(), stored, Some(false), again)));
 }
 
 /// Whether the porch and the attic are so, and there is no third switch.
@@ -221,7 +236,6 @@ fn go(alloc: Global) -> Result<bool, AllocError> {
 }
 
 #[test]
-fn a_restart_sets_the_initial_states_alone(rt: HostRuntime) -> Result<(), Fail> {
-    assert!(rt; go(rt.alloc())?);
-    Ok(())
+fn a_restart_sets_the_initial_states_alone(rt: HostRuntime) {
+    assert!(rt; is_true(go(rt.alloc())));
 }
