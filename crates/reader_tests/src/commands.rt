@@ -43,9 +43,8 @@ fn each_refusal_has_its_code(rt: HostRuntime) {
                 ("{\"switch\":\"light.a\",\"to\":\"on\"}", 6),
                 ("{\"switch\":\"automation.a\",\"to\":\"On\"}", 5),
             ]
-        )
+        ) && is_refused(rt.alloc(), b"\xff", 1)
     );
-    assert!(rt; is_refused(rt.alloc(), b"\xff", 1));
 }
 
 /// A report of a state of so many characters.
@@ -80,8 +79,12 @@ fn is_too_long(alloc: Global, count: usize, code: u8) -> bool {
 #[test]
 fn long_states_and_lines_are_refused(rt: HostRuntime) {
     let alloc = rt.alloc();
-    assert!(rt; has_code(alloc, 255, 0) && has_code(alloc, 256, 7));
-    assert!(rt; is_too_long(alloc, 65_537, 10) && is_too_long(alloc, 65_536, 2));
+    assert!(rt;
+        has_code(alloc, 255, 0)
+            && has_code(alloc, 256, 7)
+            && is_too_long(alloc, 65_537, 10)
+            && is_too_long(alloc, 65_536, 2)
+    );
 }
 
 /// Appends the printed pairs.
@@ -261,9 +264,8 @@ fn each_command_is_read_with_its_keys_in_any_order(rt: HostRuntime) {
                 ),
                 ("{\"restart\":true}", "restart "),
             ]
-        )
+        ) && is_moment(alloc, "{\"moment\":\"1970-01-01T00:00:01.5Z\"}", 1500)
     );
-    assert!(rt; is_moment(alloc, "{\"moment\":\"1970-01-01T00:00:01.5Z\"}", 1500));
 }
 
 /// Whether a short text is a value that is printed so.

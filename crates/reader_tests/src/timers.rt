@@ -1,7 +1,7 @@
 //! Timers in their order.
 use ha_clock::Moment;
 use std::alloc::Global;
-use timer_queue::TimerQueue;
+use timer_queue::{TimerFault, TimerQueue};
 
 // 2024-05-01T20:00:05Z and 20:00:09Z
 const FIVE: u64 = 1_714_593_605_000;
@@ -29,15 +29,29 @@ fn are_due(alloc: Global, queue: &TimerQueue, now: Moment, keys: &[u64]) -> bool
     }
 }
 
+/// Two timers at five, of which the greater key comes first, and one at nine.
+fn three(alloc: Global) -> Result<TimerQueue, TimerFault> {
+    let (five, nine) = (Moment::at(FIVE), Moment::at(NINE));
+    let mut queue = TimerQueue::make(alloc);
+    queue.insert(five, 2)?;
+    queue.insert(five, 1)?;
+    queue.insert(nine, 3)?;
+    Ok(queue)
+}
+
+/// Whether they are due in their order, come so, and the last is removed once.
+fn go(alloc: Global) -> bool {
+    let Ok(mut queue) = three(alloc) else {
+        return false;
+    };
+    are_due(alloc, &queue, Moment::at(FIVE), &[1, 2])
+        && are_due(alloc, &queue, Moment::at(NINE), &[1, 2, 3])
+        && come(&mut queue, FIVE, &[1, 2])
+        && queue.remove(3)
+        && !queue.remove(3)
+}
+
 #[test]
 fn timers_come_by_due_then_key(rt: HostRuntime) {
-    let (five, nine) = (Moment::at(FIVE), Moment::at(NINE));
-    let mut queue = TimerQueue::make(rt.alloc());
-    assert!(rt; queue.insert(five, 2).is_ok());
-    assert!(rt; queue.insert(five, 1).is_ok());
-    assert!(rt; queue.insert(nine, 3).is_ok());
-    assert!(rt;
-        are_due(rt.alloc(), &queue, five, &[1, 2]) && are_due(rt.alloc(), &queue, nine, &[1, 2, 3])
-    );
-    assert!(rt; come(&mut queue, FIVE, &[1, 2]) && queue.remove(3) && !queue.remove(3));
+    assert!(rt; go(rt.alloc()));
 }

@@ -4,11 +4,18 @@ use ha_value::{
 };
 use std::alloc::{AllocError, Global};
 use std::cmp::Ordering;
-use std::test::Fail;
 
 fn is(found: Result<Num, NumFault>, wanted: Num) -> bool {
     match found {
         Ok(number) => number == wanted,
+        Err(_) => false,
+    }
+}
+
+/// Whether it is so, where there is memory for it.
+fn is_true(found: Result<bool, AllocError>) -> bool {
+    match found {
+        Ok(is) => is,
         Err(_) => false,
     }
 }
@@ -148,18 +155,23 @@ fn is_of_bytes(alloc: Global) -> bool {
     }
 }
 
+/// Whether the word has six bytes, and is read again from them.
+fn is_six(alloc: Global) -> bool {
+    match cafe(alloc) {
+        Ok(word) => word.len() == 6 && is_read_again(alloc, &word),
+        Err(_) => false,
+    }
+}
+
 #[test]
-fn words(rt: HostRuntime) -> Result<(), Fail> {
+fn words(rt: HostRuntime) {
     let alloc = rt.alloc();
-    let word = cafe(alloc)?;
     assert!(rt;
         Word::new(alloc).is_empty()
-            && word.len() == 6
-            && is_read_again(alloc, &word)
+            && is_six(alloc)
             && is_of_bytes(alloc)
             && matches!(Word::read(alloc, b"\xff"), Err(WordFault::NotUtf8))
     );
-    Ok(())
 }
 
 /// A text of 22 bytes, which stands in the word's own place, and one of 24.
@@ -171,12 +183,17 @@ fn grown(alloc: Global) -> Result<Word, AllocError> {
     Ok(word)
 }
 
+/// Whether the word and its copy are this text.
+fn is_grown(alloc: Global, wanted: &str) -> bool {
+    match grown(alloc) {
+        Ok(word) => is_copied(alloc, &word) && is_text(alloc, word, wanted),
+        Err(_) => false,
+    }
+}
+
 #[test]
-fn short_and_long_words(rt: HostRuntime) -> Result<(), Fail> {
-    let alloc = rt.alloc();
-    let word = grown(alloc)?;
-    assert!(rt; is_copied(alloc, &word) && is_text(alloc, word, "abcdefghijklmnopqrstuvwx"));
-    Ok(())
+fn short_and_long_words(rt: HostRuntime) {
+    assert!(rt; is_grown(rt.alloc(), "abcdefghijklmnopqrstuvwx"));
 }
 
 /// Whether the text is the id of an object of this name, and is printed as it stands; the copy is the same.
@@ -197,17 +214,19 @@ fn is_no_id(alloc: Global, text: &str) -> bool {
 }
 
 #[test]
-fn ids(rt: HostRuntime) -> Result<(), Fail> {
+fn ids(rt: HostRuntime) {
     let alloc = rt.alloc();
-    assert!(rt; is_id(alloc, "light.hall_2", "hall_2")?);
-    assert!(rt; is_no_id(alloc, "Light") && is_no_id(alloc, "light.Hall"));
-    Ok(())
+    assert!(rt;
+        is_true(is_id(alloc, "light.hall_2", "hall_2"))
+            && is_no_id(alloc, "Light")
+            && is_no_id(alloc, "light.Hall")
+    );
 }
 
-/// The truth of a text, and whether it says yes.
-fn truth_of(alloc: Global, text: &str) -> Result<(bool, bool), AllocError> {
+/// Whether a text has this truth, and says yes or does not.
+fn is_truth(alloc: Global, text: &str, truth: bool, yes: bool) -> Result<bool, AllocError> {
     let text = Value::Text(Word::from_str(alloc, text)?);
-    Ok((text.truth(), text.says_yes()))
+    Ok(text.truth() == truth && text.says_yes() == yes)
 }
 
 /// A list of one value that is none.
@@ -225,16 +244,15 @@ fn is_true_list(alloc: Global) -> Result<bool, AllocError> {
 }
 
 #[test]
-fn truths(rt: HostRuntime) -> Result<(), Fail> {
+fn truths(rt: HostRuntime) {
     let alloc = rt.alloc();
     assert!(rt;
         says_yes_text(b" \tEnable ")
             && !says_yes_text(b"0.0")
             && Value::Number(Num::Whole(2)).says_yes()
+            && is_true(is_truth(alloc, "off", true, false))
+            && is_true(is_true_list(alloc))
     );
-    assert!(rt; truth_of(alloc, "off")? == (true, false));
-    assert!(rt; is_true_list(alloc)?);
-    Ok(())
 }
 
 /// A list of three numbers, of which the second came last and the first was set anew.
@@ -276,12 +294,17 @@ fn is_held(alloc: Global) -> Result<bool, AllocError> {
     Ok(copied.same(&held) && held.into_inner() == Some(true))
 }
 
-#[test]
-fn lists(rt: HostRuntime) -> Result<(), Fail> {
-    let alloc = rt.alloc();
+/// Whether the list is these three, and is cut as it should be once it stands twice.
+fn is_list(alloc: Global, wanted: &[u32]) -> Result<bool, AllocError> {
     let list = three(alloc)?;
-    assert!(rt; list.as_slice() == [7, 5, 2].as_slice());
-    assert!(rt; is_cut(twice(alloc, list)?));
-    assert!(rt; is_held(alloc)?);
-    Ok(())
+    if list.as_slice() != wanted {
+        return Ok(false);
+    }
+    Ok(is_cut(twice(alloc, list)?))
+}
+
+#[test]
+fn lists(rt: HostRuntime) {
+    let alloc = rt.alloc();
+    assert!(rt; is_true(is_list(alloc, &[7, 5, 2])) && is_true(is_held(alloc)));
 }
