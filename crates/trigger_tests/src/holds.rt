@@ -1,10 +1,9 @@
 //! Triggers with `for`.
 use crate::home::Step::{Clock, Gone, Has, Restart, Says};
-use crate::home::{Expected, goes_at_eight, goes_until_detached, row};
+use crate::home::{Expected, goes_at_eight, goes_until_detached, is_true, row};
 use crate::triggers::{held, over_twenty, state, text};
 use ha_model::Match;
 use std::alloc::{AllocError, Global};
-use std::test::Fail;
 
 const DOOR: &str = "binary_sensor.d";
 
@@ -16,7 +15,7 @@ fn door_fires(alloc: Global, rows: &[Expected<'_>]) -> Result<bool, AllocError> 
 }
 
 #[test]
-fn a_change_cuts_a_hold(rt: HostRuntime) -> Result<(), Fail> {
+fn a_change_cuts_a_hold(rt: HostRuntime) {
     let rows = [
         row(Says(DOOR, "on"), &[]),
         row(Clock(3_000), &[]),
@@ -26,12 +25,11 @@ fn a_change_cuts_a_hold(rt: HostRuntime) -> Result<(), Fail> {
         row(Clock(8_000), &[0]),
         row(Clock(20_000), &[]),
     ];
-    assert!(rt; door_fires(rt.alloc(), &rows)?);
-    Ok(())
+    assert!(rt; is_true(door_fires(rt.alloc(), &rows)));
 }
 
 #[test]
-fn the_same_state_again_leaves_a_hold(rt: HostRuntime) -> Result<(), Fail> {
+fn the_same_state_again_leaves_a_hold(rt: HostRuntime) {
     let rows = [
         row(Says(DOOR, "on"), &[]),
         row(Clock(4_000), &[]),
@@ -40,24 +38,22 @@ fn the_same_state_again_leaves_a_hold(rt: HostRuntime) -> Result<(), Fail> {
         row(Clock(5_000), &[0]),
         row(Clock(9_000), &[]),
     ];
-    assert!(rt; door_fires(rt.alloc(), &rows)?);
-    Ok(())
+    assert!(rt; is_true(door_fires(rt.alloc(), &rows)));
 }
 
 #[test]
-fn what_goes_cuts_a_hold(rt: HostRuntime) -> Result<(), Fail> {
+fn what_goes_cuts_a_hold(rt: HostRuntime) {
     let rows = [
         row(Says(DOOR, "on"), &[]),
         row(Clock(1_000), &[]),
         row(Gone(DOOR), &[]),
         row(Clock(6_000), &[]),
     ];
-    assert!(rt; door_fires(rt.alloc(), &rows)?);
-    Ok(())
+    assert!(rt; is_true(door_fires(rt.alloc(), &rows)));
 }
 
 #[test]
-fn a_restart_cuts_a_hold(rt: HostRuntime) -> Result<(), Fail> {
+fn a_restart_cuts_a_hold(rt: HostRuntime) {
     let rows = [
         row(Says(DOOR, "on"), &[]),
         row(Clock(1_000), &[]),
@@ -66,8 +62,7 @@ fn a_restart_cuts_a_hold(rt: HostRuntime) -> Result<(), Fail> {
         row(Says(DOOR, "on"), &[]),
         row(Clock(11_000), &[0]),
     ];
-    assert!(rt; door_fires(rt.alloc(), &rows)?);
-    Ok(())
+    assert!(rt; is_true(door_fires(rt.alloc(), &rows)));
 }
 
 /// Whether an attribute that is to be as it is for five seconds, whatever it is, fires as wanted.
@@ -78,7 +73,7 @@ fn attribute_fires(alloc: Global, rows: &[Expected<'_>]) -> Result<bool, AllocEr
 }
 
 #[test]
-fn an_absent_attribute_stays_absent_over_a_gone(rt: HostRuntime) -> Result<(), Fail> {
+fn an_absent_attribute_stays_absent_over_a_gone(rt: HostRuntime) {
     let rows = [
         row(Has("light.x", "on", 1), &[]),
         row(Clock(1_000), &[]),
@@ -87,12 +82,11 @@ fn an_absent_attribute_stays_absent_over_a_gone(rt: HostRuntime) -> Result<(), F
         row(Clock(5_000), &[]),
         row(Clock(6_000), &[0]),
     ];
-    assert!(rt; attribute_fires(rt.alloc(), &rows)?);
-    Ok(())
+    assert!(rt; is_true(attribute_fires(rt.alloc(), &rows)));
 }
 
 #[test]
-fn an_attribute_that_comes_cuts_the_hold_of_its_absence(rt: HostRuntime) -> Result<(), Fail> {
+fn an_attribute_that_comes_cuts_the_hold_of_its_absence(rt: HostRuntime) {
     let rows = [
         row(Has("light.x", "on", 1), &[]),
         row(Says("light.x", "on"), &[]),
@@ -101,8 +95,7 @@ fn an_attribute_that_comes_cuts_the_hold_of_its_absence(rt: HostRuntime) -> Resu
         row(Clock(5_000), &[]),
         row(Clock(9_000), &[0]),
     ];
-    assert!(rt; attribute_fires(rt.alloc(), &rows)?);
-    Ok(())
+    assert!(rt; is_true(attribute_fires(rt.alloc(), &rows)));
 }
 
 fn both_end(alloc: Global) -> Result<bool, AllocError> {
@@ -119,9 +112,8 @@ fn both_end(alloc: Global) -> Result<bool, AllocError> {
 }
 
 #[test]
-fn holds_may_end_together(rt: HostRuntime) -> Result<(), Fail> {
-    assert!(rt; both_end(rt.alloc())?);
-    Ok(())
+fn holds_may_end_together(rt: HostRuntime) {
+    assert!(rt; is_true(both_end(rt.alloc())));
 }
 
 /// A number in its bounds leaves a hold, and so does a text that is no number.
@@ -140,9 +132,8 @@ fn number_holds(alloc: Global) -> Result<bool, AllocError> {
 }
 
 #[test]
-fn a_number_that_stays_in_its_bounds_holds(rt: HostRuntime) -> Result<(), Fail> {
-    assert!(rt; number_holds(rt.alloc())?);
-    Ok(())
+fn a_number_that_stays_in_its_bounds_holds(rt: HostRuntime) {
+    assert!(rt; is_true(number_holds(rt.alloc())));
 }
 
 /// Whether a hold fires no more once its trigger is detached, alone or with all.
@@ -165,8 +156,8 @@ fn ends_detached(alloc: Global, all: bool) -> Result<bool, AllocError> {
 }
 
 #[test]
-fn what_is_detached_fires_no_more(rt: HostRuntime) -> Result<(), Fail> {
-    assert!(rt; ends_detached(rt.alloc(), false)?);
-    assert!(rt; ends_detached(rt.alloc(), true)?);
-    Ok(())
+fn what_is_detached_fires_no_more(rt: HostRuntime) {
+    assert!(rt;
+        is_true(ends_detached(rt.alloc(), false)) && is_true(ends_detached(rt.alloc(), true))
+    );
 }

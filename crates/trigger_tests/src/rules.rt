@@ -3,11 +3,10 @@ ghost use Rattle.std.specs.Prelude.{IsTrue};
 ghost use Rattle.ha_model.specs.Sound.{is_sound_match};
 
 use crate::home::Step::{Clock, Event, Gone, Has, Restart, Says};
-use crate::home::{EIGHT, goes, goes_at_eight, row};
+use crate::home::{EIGHT, goes, goes_at_eight, is_true, row};
 use crate::triggers::{event, event_two, one, over_twenty, state, text, two};
 use ha_model::{Match, TriggerRule};
 use std::alloc::{AllocError, Global};
-use std::test::Fail;
 
 /// Whether it fires where the lamp turns on, and then this where an attribute comes to it.
 fn at_an_attribute(alloc: Global, to: Match, fire: &[u32]) -> Result<bool, AllocError>
@@ -24,10 +23,11 @@ fn at_an_attribute(alloc: Global, to: Match, fire: &[u32]) -> Result<bool, Alloc
 }
 
 #[test]
-fn an_attribute_fires_a_bare_trigger_alone(rt: HostRuntime) -> Result<(), Fail> {
-    assert!(rt; at_an_attribute(rt.alloc(), Match::Absent, &[0])?);
-    assert!(rt; at_an_attribute(rt.alloc(), Match::Any, &[])?);
-    Ok(())
+fn an_attribute_fires_a_bare_trigger_alone(rt: HostRuntime) {
+    assert!(rt;
+        is_true(at_an_attribute(rt.alloc(), Match::Absent, &[0]))
+            && is_true(at_an_attribute(rt.alloc(), Match::Any, &[]))
+    );
 }
 
 fn reads_again(alloc: Global) -> Result<bool, AllocError> {
@@ -43,9 +43,8 @@ fn reads_again(alloc: Global) -> Result<bool, AllocError> {
 }
 
 #[test]
-fn a_report_equal_to_the_state_fires_nothing(rt: HostRuntime) -> Result<(), Fail> {
-    assert!(rt; reads_again(rt.alloc())?);
-    Ok(())
+fn a_report_equal_to_the_state_fires_nothing(rt: HostRuntime) {
+    assert!(rt; is_true(reads_again(rt.alloc())));
 }
 
 fn both_fire(alloc: Global) -> Result<bool, AllocError> {
@@ -60,9 +59,8 @@ fn both_fire(alloc: Global) -> Result<bool, AllocError> {
 }
 
 #[test]
-fn two_triggers_fire_at_one_entry_in_their_order(rt: HostRuntime) -> Result<(), Fail> {
-    assert!(rt; both_fire(rt.alloc())?);
-    Ok(())
+fn two_triggers_fire_at_one_entry_in_their_order(rt: HostRuntime) {
+    assert!(rt; is_true(both_fire(rt.alloc())));
 }
 
 fn comes_into_bounds(alloc: Global) -> Result<bool, AllocError> {
@@ -93,10 +91,8 @@ fn goes_and_comes_back(alloc: Global) -> Result<bool, AllocError> {
 }
 
 #[test]
-fn a_number_fires_once_inside_its_bounds(rt: HostRuntime) -> Result<(), Fail> {
-    assert!(rt; comes_into_bounds(rt.alloc())?);
-    assert!(rt; goes_and_comes_back(rt.alloc())?);
-    Ok(())
+fn a_number_fires_once_inside_its_bounds(rt: HostRuntime) {
+    assert!(rt; is_true(comes_into_bounds(rt.alloc())) && is_true(goes_and_comes_back(rt.alloc())));
 }
 
 fn is_named_twice(alloc: Global) -> Result<bool, AllocError> {
@@ -116,9 +112,8 @@ fn is_named_twice(alloc: Global) -> Result<bool, AllocError> {
 }
 
 #[test]
-fn an_entity_that_is_named_twice_fires_once(rt: HostRuntime) -> Result<(), Fail> {
-    assert!(rt; is_named_twice(rt.alloc())?);
-    Ok(())
+fn an_entity_that_is_named_twice_fires_once(rt: HostRuntime) {
+    assert!(rt; is_true(is_named_twice(rt.alloc())));
 }
 
 fn comes_with_its_data(alloc: Global) -> Result<bool, AllocError> {
@@ -134,9 +129,8 @@ fn comes_with_its_data(alloc: Global) -> Result<bool, AllocError> {
 }
 
 #[test]
-fn an_event_fires_by_its_type_and_its_data(rt: HostRuntime) -> Result<(), Fail> {
-    assert!(rt; comes_with_its_data(rt.alloc())?);
-    Ok(())
+fn an_event_fires_by_its_type_and_its_data(rt: HostRuntime) {
+    assert!(rt; is_true(comes_with_its_data(rt.alloc())));
 }
 
 fn starts(alloc: Global) -> Result<bool, AllocError> {
@@ -146,7 +140,6 @@ fn starts(alloc: Global) -> Result<bool, AllocError> {
 }
 
 #[test]
-fn a_start_trigger_fires_at_the_boot_alone(rt: HostRuntime) -> Result<(), Fail> {
-    assert!(rt; starts(rt.alloc())?);
-    Ok(())
+fn a_start_trigger_fires_at_the_boot_alone(rt: HostRuntime) {
+    assert!(rt; is_true(starts(rt.alloc())));
 }
