@@ -1,9 +1,12 @@
 //! Sinks, sources and keepers that fail.
-use crate::day::Fact::{Called, Entries, Errors, NotKept, NotRead, NotWritten};
+use crate::day::Fact::{Entries, Errors, NotKept, NotRead, NotWritten, Output};
 use crate::day::{PLAIN, ends, evening};
 
 const TWO_CALLS: &str =
     "automation: [{alias: a, triggers: [{trigger: event, event_type: go}], actions: [{action: notify.x}, {action: notify.y}]}]";
+
+const FIRST: &str =
+    "{\"run\":\"a\",\"number\":1,\"call\":1,\"service\":\"notify.x\",\"target\":[],\"data\":{}}\n";
 
 #[test]
 fn a_call_that_is_not_written_ends_the_run(rt: HostRuntime) {
@@ -14,11 +17,7 @@ fn a_call_that_is_not_written_ends_the_run(rt: HostRuntime) {
             &rt,
             &evening(TWO_CALLS, &["e go"]),
             &outside,
-            &[
-                NotWritten,
-                Called(&["a 1/1 notify.x"]),
-                Errors("hearth: write failed\n"),
-            ]
+            &[NotWritten, Output(FIRST), Errors("hearth: write failed\n")]
         )
     );
 }
@@ -50,7 +49,7 @@ fn a_store_that_cannot_be_saved_ends_the_run(rt: HostRuntime) {
             &rt,
             &evening(TWO_CALLS, &["e go"]),
             &outside,
-            &[NotKept, Called(&[]), Errors("hearth: store failed\n")]
+            &[NotKept, Output(""), Errors("hearth: store failed\n")]
         )
     );
 }

@@ -19,51 +19,137 @@ fn numbers(alloc: Global, numbers: &[u64]) -> Result<Vec<u64>, AllocError> {
     Vec::from_slice(alloc, numbers)
 }
 
-#[test]
-fn a_source_gives_what_fits_and_fails_at_its_number(rt: HostRuntime) -> Result<(), Fail> {
-    let alloc = rt.alloc();
+/// How many bytes the source gave, or none where it failed.
+fn given(source: &mut MemSource, buf: &mut [u8]) -> Option<usize> {
+    match source.read(buf) {
+        Ok(count) => Some(count),
+        Err(_) => None,
+    }
+}
+
+/// Whether these bytes are wanted, or any are.
+fn is_filled(bytes: &[u8], wanted: Option<&[u8]>) -> bool {
+    match wanted {
+        Some(wanted) => bytes == wanted,
+        None => true,
+    }
+}
+
+/// Whether the reads into the buffer give so many bytes, or fail where none is wanted, and leave this in it.
+fn reads(source: &mut MemSource, buf: &mut [u8], rows: &[(Option<usize>, Option<&[u8]>)]) -> bool {
+    for row in rows {
+        if given(source, buf) != row.0 || !is_filled(buf, row.1) {
+            return false;
+        }
+    }
+    true
+}
+
+/// Whether the writes of these bytes take so many of them, or fail where none is wanted.
+fn writes(sink: &mut MemSink, rows: &[(&[u8], Option<usize>)]) -> bool {
+    for row in rows {
+        let taken = match sink.write(row.0) {
+            Ok(count) => Some(count),
+            Err(_) => None,
+        };
+        if taken != row.1 {
+            return false;
+        }
+    }
+    true
+}
+
+/// Whether it is so, where there is memory for it.
+fn is_true(found: Result<bool, AllocError>) -> bool {
+    match found {
+        Ok(is) => is,
+        Err(_) => false,
+    }
+}
+
+fn fails_at_its_second(alloc: Global) -> Result<bool, AllocError> {
     let fails = numbers(alloc, &[2])?;
     let mut source = MemSource::make(text(alloc, "s")?, bytes(alloc, "abc")?, fails);
-    let mut buf = [0u8; 2];
-    assert!(rt; source.read(&mut buf)? == 2);
-    assert!(rt; buf == *b"ab");
-    assert!(rt; source.read(&mut buf).is_err());
-    assert!(rt; source.read(&mut buf)? == 1);
-    assert!(rt; buf == *b"cb");
-    assert!(rt; source.read(&mut buf)? == 0);
-    Ok(())
+    Ok(reads(
+        &mut source,
+        &mut [0u8; 2],
+        &[
+            (Some(2), Some(b"ab")),
+            (None, None),
+            (Some(1), Some(b"cb")),
+            (Some(0), None),
+        ],
+    ))
 }
 
 #[test]
-fn a_write_in_both_lists_fails(rt: HostRuntime) -> Result<(), Fail> {
-    let alloc = rt.alloc();
+fn a_source_gives_what_fits_and_fails_at_its_number(rt: HostRuntime) {
+    assert!(rt; is_true(fails_at_its_second(rt.alloc())));
+}
+
+fn fails_in_both_lists(alloc: Global) -> Result<bool, AllocError> {
     let fails = numbers(alloc, &[1, 3])?;
     let zeros = numbers(alloc, &[2, 3])?;
     let mut sink = MemSink::make(Vec::new(alloc), fails, zeros);
-    assert!(rt; sink.write(b"one").is_err());
-    assert!(rt; sink.write(b"two")? == 0);
-    assert!(rt; sink.write(b"three").is_err());
-    assert!(rt; sink.write(b"four")? == 4);
-    assert!(rt; sink.write(b"5")? == 1);
-    assert!(rt; sink.bytes() == b"four5".as_slice());
-    Ok(())
+    let taken = writes(
+        &mut sink,
+        &[
+            (b"one", None),
+            (b"two", Some(0)),
+            (b"three", None),
+            (b"four", Some(4)),
+            (b"5", Some(1)),
+        ],
+    );
+    Ok(taken && sink.bytes() == b"four5".as_slice())
 }
 
 #[test]
-fn a_refused_save_leaves_the_text(rt: HostRuntime) -> Result<(), Fail> {
-    let alloc = rt.alloc();
-    let mut keeper = MemKeeper::make(alloc, None, numbers(alloc, &[3])?);
-    assert!(rt; keeper.load(alloc)?.is_none());
-    keeper.save(b"old")?;
-    assert!(rt; keeper.save(b"new").is_err());
-    assert!(rt; keeper.text().ok_or("kept")? == b"old".as_slice());
-    let found = keeper.load(alloc)?.ok_or("kept")?;
-    assert!(rt; found.as_slice() == b"old".as_slice());
-    Ok(())
+fn a_write_in_both_lists_fails(rt: HostRuntime) {
+    assert!(rt; is_true(fails_in_both_lists(rt.alloc())));
 }
 
-/// A place with one file, whose source and sink fail at their first call, and whose second call fails.
-fn home(alloc: Global) -> Result<MemPlace, Fail> {
+fn is_text(found: &[u8], wanted: Option<&[u8]>) -> bool {
+    match wanted {
+        Some(text) => found == text,
+        None => false,
+    }
+}
+
+/// Whether this is what the keeper loads, where it loads at all.
+fn loads(alloc: Global, keeper: &mut MemKeeper, wanted: Option<&[u8]>) -> bool {
+    match keeper.load(alloc) {
+        Ok(Some(found)) => is_text(found.as_slice(), wanted),
+        Ok(None) => wanted.is_none(),
+        Err(_) => false,
+    }
+}
+
+fn is_kept(keeper: &MemKeeper, wanted: &[u8]) -> bool {
+    match keeper.text() {
+        Some(text) => text == wanted,
+        None => false,
+    }
+}
+
+fn keeps_the_old(alloc: Global) -> Result<bool, AllocError> {
+    let mut keeper = MemKeeper::make(alloc, None, numbers(alloc, &[3])?);
+    Ok(
+        loads(alloc, &mut keeper, None)
+            && keeper.save(b"old").is_ok()
+            && keeper.save(b"new").is_err()
+            && is_kept(&keeper, b"old")
+            && loads(alloc, &mut keeper, Some(b"old")),
+    )
+}
+
+#[test]
+fn a_refused_save_leaves_the_text(rt: HostRuntime) {
+    assert!(rt; is_true(keeps_the_old(rt.alloc())));
+}
+
+/// A place with one file, whose source and sink fail at their first call, and whose second call fails; none where two files have one name.
+fn home(alloc: Global) -> Result<Option<MemPlace>, AllocError> {
     let mut files = Vec::new(alloc);
     files.push(MemFile {
         name: text(alloc, "home")?,
@@ -73,34 +159,75 @@ fn home(alloc: Global) -> Result<MemPlace, Fail> {
         write_zeros: numbers(alloc, &[2])?,
     })?;
     if !have_distinct_names(&files) {
-        return Err(Fail::from("distinct"));
+        return Ok(None);
     }
-    Ok(MemPlace::make(alloc, files, numbers(alloc, &[2])?))
+    Ok(Some(MemPlace::make(alloc, files, numbers(alloc, &[2])?)))
 }
 
-#[test]
-fn a_place_reads_by_name(rt: HostRuntime) -> Result<(), Fail> {
-    let mut place = home(rt.alloc())?;
+/// Whether the file of this name is opened, and the reads into two bytes give so many, or fail where none is wanted.
+fn reads_by_name(
+    alloc: Global,
+    place: &mut MemPlace,
+    name: &str,
+    rows: &[(Option<usize>, Option<&[u8]>)],
+) -> bool {
     let mut buf = [0u8; 2];
-    let mut source = place.reading(rt.alloc(), "home")?;
-    assert!(rt; source.read(&mut buf).is_err());
-    assert!(rt; source.read(&mut buf)? == 2);
-    assert!(rt; place.reading(rt.alloc(), "home").is_err());
-    assert!(rt; place.reading(rt.alloc(), "other").is_err());
-    Ok(())
+    match place.reading(alloc, name) {
+        Ok(mut source) => reads(&mut source, &mut buf, rows),
+        Err(_) => false,
+    }
+}
+
+fn is_read_once(alloc: Global) -> Result<bool, AllocError> {
+    let Some(mut place) = home(alloc)? else {
+        return Ok(false);
+    };
+    Ok(
+        reads_by_name(alloc, &mut place, "home", &[(None, None), (Some(2), None)])
+            && place.reading(alloc, "home").is_err()
+            && place.reading(alloc, "other").is_err(),
+    )
 }
 
 #[test]
-fn a_place_writes_by_name(rt: HostRuntime) -> Result<(), Fail> {
-    let mut place = home(rt.alloc())?;
-    let mut sink = place.writing(rt.alloc(), "home")?;
-    assert!(rt; sink.write(b"x").is_err());
-    assert!(rt; sink.write(b"x")? == 0);
-    assert!(rt; place.writing(rt.alloc(), "home").is_err());
-    let mut other = place.writing(rt.alloc(), "other")?;
-    assert!(rt; other.write(b"x")? == 1);
-    assert!(rt; other.flush().is_ok());
-    Ok(())
+fn a_place_reads_by_name(rt: HostRuntime) {
+    assert!(rt; is_true(is_read_once(rt.alloc())));
+}
+
+/// Whether the file of this name is opened, and the writes take so many bytes, or fail where none is wanted; and then it is flushed, where
+/// that is asked.
+fn writes_by_name(
+    alloc: Global,
+    place: &mut MemPlace,
+    name: &str,
+    rows: &[(&[u8], Option<usize>)],
+    flush: bool,
+) -> bool {
+    match place.writing(alloc, name) {
+        Ok(mut sink) => writes(&mut sink, rows) && (!flush || sink.flush().is_ok()),
+        Err(_) => false,
+    }
+}
+
+fn is_written_once(alloc: Global) -> Result<bool, AllocError> {
+    let Some(mut place) = home(alloc)? else {
+        return Ok(false);
+    };
+    Ok(
+        writes_by_name(
+            alloc,
+            &mut place,
+            "home",
+            &[(b"x", None), (b"x", Some(0))],
+            false,
+        ) && place.writing(alloc, "home").is_err()
+            && writes_by_name(alloc, &mut place, "other", &[(b"x", Some(1))], true),
+    )
+}
+
+#[test]
+fn a_place_writes_by_name(rt: HostRuntime) {
+    assert!(rt; is_true(is_written_once(rt.alloc())));
 }
 
 #[test]
