@@ -179,7 +179,7 @@ gate-allowed f began s =
     let end : Option WaitEnd = option_and_then (λ ask. s.wait_end ask (began s.branch)) (ask_of f s.branch) in
     let tells : (ask : Ask) → ask_of f s.branch ≡ Some ask → s.wait_end ask (began s.branch) ≡ end =
     λ ask e. sym (ap (option_and_then (λ a. s.wait_end a (began s.branch))) e) in
-    exact s.branch f.root f.actions [] began s end f.settled refl tells ∙ gated s.branch f.root f.actions began s end tells
+    exact s.branch f.root f.script.value [] began s end f.settled refl tells ∙ gated s.branch f.root f.script.value began s end tells
 
 pub gate-stands : (f : Frames) (actions : List Action) (env : Pairs) (given : List Spot) (items : List Item) (s : Spot) → Stands f actions env given items
     → is_some (whole actions env (given ++ (s ∷ []))) ≡ lets (gate_at s.branch (fronts_of f (began_by begins given))) s

@@ -272,7 +272,7 @@ module _ (f : Frames) (actions : List Action) (env : Pairs) (given : List Spot) 
   allowed b = is_some (whole actions env (given ++ (at b ∷ [])))
 
   up : Ascends (names all)
-  up = fronts-ascend f.root f.actions (began_by begins given)
+  up = fronts-ascend f.root f.script.value (began_by begins given)
 
   tells : (b : Branch) → allowed b ≡ lets (gate_at b all) (at b)
   tells b = gate-stands f actions env given items (at b) stands ∙ (λ k. lets (gate_at (own b k) all) (at b))
@@ -288,7 +288,7 @@ module _ (f : Frames) (actions : List Action) (env : Pairs) (given : List Spot) 
       let w = in-open at all b h in
       let gate = front-found all b w.0 up w.1 in
       in-filter allowed b (branches_of actions)
-      (subst (λ (l : List Action). In b (branches_of l)) stands.script (front-in b f.root f.actions (began_by begins given) w.0 f.settled gate))
+      (subst (λ (l : List Action). In b (branches_of l)) stands.script (front-in b f.root f.script.value (began_by begins given) w.0 f.settled gate))
       (tells b ∙ ap (λ o. lets o (at b)) gate ∙ w.2)
 
   pub fronts-are : filter allowed (branches_of actions) ≡ open_branches at all

@@ -14,19 +14,19 @@ use Rattle.script_step.specs.Sides.{end_of, progress_by}
 
 -- what a run goes on with, where the pending wait of each branch began so
 abbrev pub continues : Frames → Began → List Spot → Option Outcome
-continues f began ps = continuation f.root f.actions [] began ps
+continues f began ps = continuation f.root f.script.value [] began ps
 
 -- the branch may step at a moment, where its wait ended so
 abbrev pub may : Frames → Branch → ℕ → Option WaitEnd → Bool
-may f branch now end = may_step f.root f.actions branch now end
+may f branch now end = may_step f.root f.script.value branch now end
 
 -- what the pending wait of a branch asks
 abbrev pub ask_of : Frames → Branch → Option Ask
-ask_of f branch = asks f.root f.actions branch
+ask_of f branch = asks f.root f.script.value branch
 
 -- one step of the same script: see IsStep
 pub record Steps (sight : Sight) (branch : Branch) (end : Option WaitEnd) (old : Frames) (item : Item) (new : Frames) : Type 0 where
-  pub script : new.actions ≡ old.actions
+  pub script : new.script.value ≡ old.script.value
   pub goes : (began : Began) (s : Spot) (rest : List Spot) → s.sight ≡ sight → s.branch ≡ branch
       → ((ask : Ask) → ask_of old branch ≡ Some ask → s.wait_end ask (began branch) ≡ end)
       → continues old began (s ∷ rest) ≡ gives item (continues new (placed branch s.place began) rest)
@@ -58,5 +58,5 @@ begins c = 0
 
 -- the frames stand for a script in an environment after these places, which gave these items
 pub record Stands (f : Frames) (actions : List Action) (env : Pairs) (given : List Spot) (items : List Item) : Type 0 where
-  pub script : f.actions ≡ actions
+  pub script : f.script.value ≡ actions
   pub goes : (ps : List Spot) → whole actions env (given ++ ps) ≡ prefixed items (continues f (began_by begins given) ps)

@@ -94,7 +94,7 @@ fronts_on = fold-Stage StageFronts FrontsOf stage_fronts (λ x list. x.stage lis
 
 -- of a run
 abbrev pub fronts_of : Frames → Began → Fronts
-fronts_of f began = fronts f.root f.actions began
+fronts_of f began = fronts f.root f.script.value began
 
 -- of a run at its begin
 abbrev pub first_fronts : List Action → Fronts

@@ -16,16 +16,18 @@ use ha_model::{
     Action, Answers, Branch, Ended, Env, Many, Moment, Plain, Progress, StepOut, WaitEnd,
 };
 use std::alloc::{AllocError, Global};
+use std::snapshot::Snapshot;
 
-/// A run's script, from its begin or after some steps. It keeps a copy of the script, made once; a step copies no part of it, and no variables
-/// but those of a parallel block that begins.
+/// Where a run's script stands, from its begin or after some steps. The script is lent to each call, and clauses alone see which one it is.
+/// A step copies no variables but those of a parallel block that begins.
 #[derive(Drop)]
 pub struct Frames {
     serial: u64,
-    actions: Many<Action>,
+    automation: u32,
+    script: Snapshot<Many<Action>>,
     root: Strand,
-    pub ghost few: { has_few_lists actions ≡ true },
-    pub ghost settled: { is_settled actions root ≡ true },
+    pub ghost few: { has_few_lists script.value ≡ true },
+    pub ghost settled: { is_settled script.value root ≡ true },
 }
 
 /// How far a run is.
@@ -81,10 +83,11 @@ impl Frames {
     ghost use Rattle.script_step.specs.Ready.{ready_of};
     ghost use Rattle.script_step.specs.Told.{AreTold};
 
-    /// The frames of a script at its begin, in this environment.
+    /// The frames of an automation's script at its begin, in this environment.
     pub fn start(
         alloc: Global,
         serial: u64,
+        automation: u32,
         actions: &Many<Action>,
         env: &Env,
     ) -> Result<Frames, AllocError>
@@ -93,12 +96,22 @@ impl Frames {
         ensures stands { IfOk result (λ f. Stands f actions.now env.now [] []) }
         ensures fronts { IfOk result (λ f. (began : Began) → fronts_of f began ≡ first_fronts actions.now) }
         ensures serial { IfOk result (λ f. f.serial ≡ serial) }
+        ensures automation { IfOk result (λ f. f.automation ≡ automation) }
     {
+        let root = root_of(alloc, actions, env)?;
         Ok(Frames {
             serial,
-            actions: actions.copy(alloc)?,
-            root: root_of(alloc, actions, env)?,
+            automation,
+            script: Snapshot::of(actions),
+            root,
         })
+    }
+
+    /// Whose script it is.
+    pub fn automation(&self) -> u32
+        ensures { result ≡ self.now.automation }
+    {
+        self.automation
     }
 
     /// Gives the run its serial, before its first step.
@@ -106,36 +119,40 @@ impl Frames {
         ensures stands { (actions : List Action) (env : Pairs) (given : List Spot) (items : List Item) → Stands self.old actions env given items → Stands self.new actions env given items }
         ensures fronts { (began : Began) → fronts_of self.new began ≡ fronts_of self.old began }
         ensures serial { self.new.serial ≡ serial }
+        ensures automation { self.new.automation ≡ self.old.automation }
     {
         self.serial = serial;
     }
 
-    /// Takes one step, in a branch that may step: what it sees is `answers`, and `wait` is how the branch's wait ended. After an error the frames
-    /// are spent.
+    /// Takes one step of the script, in a branch that may step: what it sees is `answers`, and `wait` is how the branch's wait ended. After
+    /// an error the frames are spent.
     pub fn step<A: Answers>(
         &mut self,
         alloc: Global,
+        actions: &[Action],
         branch: &Branch,
         wait: Option<WaitEnd>,
         answers: &A,
     ) -> Result<StepOut, AllocError>
+        requires script { actions.now ≡ self.old.script.value }
         requires may { may self.old branch.now (A.sight answers.now).now wait ≡ true }
         requires moment { (A.sight answers.now).now ≤ last_moment }
         ensures step { IfOk result (λ out. Steps (A.sight answers.now) branch.now wait self.old out.item self.new) }
         ensures told { IfOk result (λ out. (began : Began) (place : ℕ)
             → AreTold self.old.serial place (A.sight answers.now).now branch.now (fronts_of self.old began) (fronts_of self.new (placed branch.now place began)) out) }
         ensures progress { IfOk result (λ out. out.progress ≡ progress_of self.new) }
-        ensures wait { IfOk result (λ out. out.wait ≡ option_map (asked_by self.old.serial branch.now (A.sight answers.now).now) (asks self.new.root self.old.actions branch.now)) }
+        ensures wait { IfOk result (λ out. out.wait ≡ option_map (asked_by self.old.serial branch.now (A.sight answers.now).now) (asks self.new.root self.old.script.value branch.now)) }
         ensures serial { self.new.serial ≡ self.old.serial }
+        ensures automation { self.new.automation ≡ self.old.automation }
+        ensures script { self.new.script.value ≡ self.old.script.value }
     {
         let now = answers.now();
         let root = std::mem::replace(&mut self.root, spent(alloc));
-        let list = self.actions.as_slice();
-        let (root, item) = step(alloc, root, list, branch.as_slice(), wait, answers)?;
+        let (root, item) = step(alloc, root, actions, branch.as_slice(), wait, answers)?;
         let ask = asked(
             alloc,
             &root,
-            list,
+            actions,
             branch.as_slice(),
             self.serial,
             branch,
@@ -150,20 +167,21 @@ impl Frames {
         })
     }
 
-    /// The branches that may step at this moment, in order.
+    /// The branches of the script that may step at this moment, in order.
     pub fn list_ready<E: Ended>(
         &self,
         alloc: Global,
+        actions: &[Action],
         now: Moment,
         ended: &E,
     ) -> Result<Many<Branch>, AllocError>
-        ensures { IfOk result (λ found. found ≡ ready_of self.now now (λ c. E.ends ended.now self.now.serial c)) }
+        ensures { IfOk result (λ found. actions.now ≡ self.now.script.value → found ≡ ready_of self.now now (λ c. E.ends ended.now self.now.serial c)) }
     {
         let mut found = Many::make(alloc);
         add_ready(
             alloc,
             &self.root,
-            self.actions.as_slice(),
+            actions,
             &Many::make(alloc),
             self.serial,
             now,
@@ -180,13 +198,20 @@ impl Frames {
         due_at(&self.root, branch.as_slice())
     }
 
-    /// Whether the branch may step at this moment.
-    pub fn ready<E: Ended>(&self, branch: &Branch, now: Moment, ended: &E) -> bool
+    /// Whether the branch of the script may step at this moment.
+    pub fn ready<E: Ended>(
+        &self,
+        actions: &[Action],
+        branch: &Branch,
+        now: Moment,
+        ended: &E,
+    ) -> bool
+        requires { actions.now ≡ self.now.script.value }
         ensures { result ≡ may self.now branch.now now (E.ends ended.now self.now.serial branch.now) }
     {
         may_step(
             &self.root,
-            self.actions.as_slice(),
+            actions,
             branch.as_slice(),
             now,
             ended.ended(self.serial, branch).is_some(),

@@ -8,17 +8,17 @@ use Rattle.script_step.proofs.frames.Frames.start.Goals as goal
 
 pub returns-clause-stands : goal.returns-clause-stands
 returns-clause-stands c = record {
-  script = c.in_ok-copy.ensures;
+  script = c.of.ensures;
   goes = λ ps.
-      sym (prefixed-none (continuation c.in_ok-root_of.field-0 c.in_ok-copy.field-0 [] begins ps)
-      ∙ (λ i. continuation (c.in_ok-root_of.ensures i) (c.in_ok-copy.ensures i) [] begins ps)
+      sym (prefixed-none (continuation c.in_ok-root.root c.of.result.value [] begins ps)
+      ∙ (λ i. continuation (c.in_ok-root.ensures i) (c.of.ensures i) [] begins ps)
       ∙ begun-in (c.args.env.now ∷ []) c.args.actions.now [] begins ps);
 }
 
 pub returns-clause-fronts : goal.returns-clause-fronts
 returns-clause-fronts c began =
-    (λ i. fronts (c.in_ok-root_of.ensures i) (c.in_ok-copy.ensures i) began) ∙ fresh-fronts (c.args.env.now ∷ []) c.args.actions.now began
+    (λ i. fronts (c.in_ok-root.ensures i) (c.of.ensures i) began) ∙ fresh-fronts (c.args.env.now ∷ []) c.args.actions.now began
 
 pub returns-clause-means : goal.returns-clause-means
 returns-clause-means c = λ began ps.
-    (λ i. continuation (c.in_ok-root_of.ensures i) (c.in_ok-copy.ensures i) [] began ps) ∙ begun-in (c.args.env.now ∷ []) c.args.actions.now [] began ps
+    (λ i. continuation (c.in_ok-root.ensures i) (c.of.ensures i) [] began ps) ∙ begun-in (c.args.env.now ∷ []) c.args.actions.now [] began ps
