@@ -74,18 +74,21 @@ fn write_line<K: Sink>(sink: &mut K, line: Result<Option<Word>, AllocError>) -> 
     }
 }
 
-/// Writes a line of the trace, as `write_kept` does.
+/// Writes the line of an entry to the trace's sink, as `write_kept` does.
+#[inline(never)]
 fn write_traced<K: Sink>(
+    alloc: Global,
+    entry: &Entry,
+    config: &Config,
     sink: &mut K,
-    line: Result<Word, AllocError>,
     goes_on: bool,
 ) -> Result<(), BusFault>
+    requires { AreDated entry.now }
     ensures writes { let s = sink_of K.written K.faults K.zeros K.name in
-        (text : Text) → IfOk line (λ one. one ≡ text)
-        → Writes text (s sink.old) (fault_of result) (s sink.new) }
+        Writes (trace_line_lem config.now.automations entry.now) (s sink.old) (fault_of result) (s sink.new) }
     ensures handed { goes_on ≡ false → OnOk result (K.kept sink.new ≡ 0) }
 {
-    match line {
+    match trace_line(alloc, entry, config) {
         Ok(line) => write_kept(sink, line.bytes(), goes_on),
         Err(_) => Err(BusFault::Memory),
     }
@@ -150,7 +153,26 @@ fn is_step(entry: &Entry) -> bool
     matches!(entry, Entry::Step { .. })
 }
 
+/// Writes the call line of a step that is the last entry, if it has one.
+#[inline(never)]
+fn write_called<C: Core, K: Sink>(
+    alloc: Global,
+    core: &C,
+    entry: &Entry,
+    sink: &mut K,
+) -> Result<(), BusFault>
+    ensures { let s = sink_of K.written K.faults K.zeros K.name in
+        (before : Journal)
+        → C.entries core.now ≡ more before entry.now
+        → Writes (call_text_of (C.runs core.now) before entry.now) (s sink.old) (fault_of result) (s sink.new) }
+{
+    let automations = core.config().automations.as_slice();
+    let line = line_of_step(alloc, automations, core.records(), entry);
+    write_line(sink, line)
+}
+
 /// Writes the call line of the last entry, if it has one.
+#[inline]
 pub fn write_call<C: Core, K: Sink>(
     alloc: Global,
     core: &C,
@@ -165,9 +187,7 @@ pub fn write_call<C: Core, K: Sink>(
     if !is_step(entry) {
         return Ok(());
     }
-    let automations = core.config().automations.as_slice();
-    let line = line_of_step(alloc, automations, core.records(), entry);
-    write_line(sink, line)
+    write_called(alloc, core, entry, sink)
 }
 
 /// Whether an entry has an error line.
@@ -181,7 +201,17 @@ fn is_error(entry: &Entry) -> bool
     }
 }
 
+/// Writes the error line of an entry that has one.
+#[inline(never)]
+fn write_failed<K: Sink>(alloc: Global, entry: &Entry, sink: &mut K) -> Result<(), BusFault>
+    ensures { let s = sink_of K.written K.faults K.zeros K.name in
+        Writes (error_text_of entry.now) (s sink.old) (fault_of result) (s sink.new) }
+{
+    write_line(sink, err_line(alloc, entry))
+}
+
 /// Writes the error line of an entry, if it has one.
+#[inline]
 pub fn write_error<K: Sink>(alloc: Global, entry: &Entry, sink: &mut K) -> Result<(), BusFault>
     ensures { let s = sink_of K.written K.faults K.zeros K.name in
         Writes (error_text_of entry.now) (s sink.old) (fault_of result) (s sink.new) }
@@ -189,7 +219,7 @@ pub fn write_error<K: Sink>(alloc: Global, entry: &Entry, sink: &mut K) -> Resul
     if !is_error(entry) {
         return Ok(());
     }
-    write_line(sink, err_line(alloc, entry))
+    write_failed(alloc, entry, sink)
 }
 
 /// Writes the line of an entry to the trace, where there is one. Unless more entries are at hand, it then stands outside, with all lines
@@ -207,7 +237,7 @@ fn write_trace<K: Sink>(
     ensures handed { goes_on ≡ false → OnOk result (IfSome trace.new (λ k. K.kept k ≡ 0)) }
 {
     match trace {
-        Some(sink) => write_traced(sink, trace_line(alloc, entry, config), goes_on),
+        Some(sink) => write_traced(alloc, entry, config, sink, goes_on),
         None => Ok(()),
     }
 }
@@ -223,6 +253,19 @@ fn save_text<Q: Keeper>(text: &[u8], keep: &mut Q) -> Result<(), BusFault>
     }
 }
 
+/// Saves the switches of the core.
+#[inline(never)]
+fn save_switches<C: Core, Q: Keeper>(alloc: Global, core: &C, keep: &mut Q) -> Result<(), BusFault>
+    requires { C.is_spent core.now ≡ false }
+    ensures { let q = keeper_of Q.kept Q.faults in
+        Saves (Some (store_text (C.entries core.now))) (q keep.old) (fault_of result) (q keep.new) }
+{
+    match core.store_text(alloc) {
+        Ok(text) => save_text(text.bytes(), keep),
+        Err(_) => Err(BusFault::Memory),
+    }
+}
+
 /// Saves the switches, where the last entry is the boot or changed one.
 fn save<C: Core, Q: Keeper>(alloc: Global, core: &C, keep: &mut Q) -> Result<(), BusFault>
     requires { C.is_spent core.now ≡ false }
@@ -233,10 +276,7 @@ fn save<C: Core, Q: Keeper>(alloc: Global, core: &C, keep: &mut Q) -> Result<(),
     if !core.last_changed_switch() {
         return Ok(());
     }
-    match core.store_text(alloc) {
-        Ok(text) => save_text(text.bytes(), keep),
-        Err(_) => Err(BusFault::Memory),
-    }
+    save_switches(alloc, core, keep)
 }
 
 /// Writes what the last entry gives, and saves the switches where it changed one: first the call, then the error, the trace and the

@@ -2,7 +2,7 @@ use Rattle.std.proofs.Common.{◌∙◌}
 use Rattle.std.proofs.lemmas.Result.{IfOk-weaker}
 use Rattle.ha_model.specs.Texts.{call_text_of}
 use Rattle.bus_turn.proofs.CallLemmas.{called-here}
-use Rattle.bus_turn.proofs.write.write_call.Goals as goal
+use Rattle.bus_turn.proofs.write.write_called.Goals as goal
 
 pub returns : goal.returns
 returns g c = λ before is.
