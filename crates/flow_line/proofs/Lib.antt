@@ -22,7 +22,6 @@ pub mod ValueOpen
 pub mod Values
 pub mod Whole
 pub mod Walk
-pub mod Within
 pub mod Taking
 pub mod Named
 pub mod Eased

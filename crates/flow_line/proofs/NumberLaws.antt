@@ -11,7 +11,7 @@ use Rattle.ha_value.specs.declared.value.Num.{Num}
 use Rattle.ha_value.specs.Lists.{some_all, before_first, after_first}
 use Rattle.ha_value.specs.Numbers.{has_minus, without_sign, number_from, number_of_text, signed, nearest}
 use Rattle.reading.specs.Answer.{Answer, front, stop}
-use Rattle.reading.specs.Bytes.{sees, is_blank}
+use Rattle.reading.specs.Bytes.{sees, is_blank, skip_digits}
 use Rattle.reading.specs.Faults.{ReadsAlike, IsAlike}
 use Rattle.reading.proofs.Basics.{bad, bind_err, chosen, chosen_is, stop_left}
 use Rattle.reading.proofs.Bytes.{sees_front}
@@ -20,9 +20,9 @@ use Rattle.reading.proofs.Local.{Local, bind_local, ok_local, stop_local, drop_l
 use Rattle.reading.proofs.Opens.{Opens}
 use Rattle.flow_line.specs.declared.fault.Code.{Code}
 use Rattle.flow_line.specs.declared.fault.Code.TheVariants.{Syntax, Range}
-use Rattle.flow_line.specs.Bytes.{is_in, is_digit}
+use Rattle.flow_line.specs.Bytes.{is_in}
 use Rattle.flow_line.specs.Text.{Reads, byte_in}
-use Rattle.flow_line.specs.Reading.{skip_digits, skip_sign, digits, numeral, in_range}
+use Rattle.flow_line.specs.Reading.{skip_sign, digits, numeral, in_range}
 use Rattle.flow_line.specs.Grammar.{extends, IsNumber, number as number_of}
 use Rattle.flow_line.specs.Refused.{Like, SameNumber}
 use Rattle.flow_line.proofs.ByteRanges.{Fault}
@@ -34,7 +34,7 @@ abbrev pub Free : List ℕ → Type 0
 Free t = extends None (front t) ≡ false
 
 pub blank_free : (b : ℕ) (r : List ℕ) → is_blank b ≡ true → Free (b ∷ r)
-blank_free b r h = elim (chosen_is (is_digit b)) [
+blank_free b r h = elim (chosen_is (is_ascii_digit b)) [
   | inl d ↦ absurd (let k : is_blank b ≡ false = rw (no_byte b 32 d refl, no_byte b 9 d refl) refl in let w : true ≡ false = sym h ∙ k in cc)
   | inr d ↦ elim (chosen_is (b == 46)) [
     | inl e ↦ absurd (let k : is_blank b ≡ false = ap is_blank (eqb-true b 46 e) in let w : true ≡ false = sym h ∙ k in cc)
@@ -200,7 +200,7 @@ skips t = Ok (tt, skip_digits t)
 skips_local : IsLocal skips
 unfolding Local skips skip_digits
 skips_local [] = done_at_end Like like_front skips tt refl
-skips_local (b ∷ t) = elim (chosen_is (is_digit b)) [
+skips_local (b ∷ t) = elim (chosen_is (is_ascii_digit b)) [
   | inl h ↦ rw h (further Like like_front skips skips b t (λ u. rw h refl) (Ok (tt, skip_digits t)) (skips_local t))
   | inr h ↦ rw h (left_there Like like_front skips b t tt (λ u. rw h refl))
 ]

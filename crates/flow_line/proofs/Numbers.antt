@@ -11,14 +11,13 @@ use Rattle.ha_value.specs.declared.value.Num.{Num}
 use Rattle.ha_value.specs.Lists.{some_all, before_first, after_first}
 use Rattle.ha_value.specs.Numbers.{has_minus, without_sign, number_from, number_of_text}
 use Rattle.reading.specs.Answer.{◌>>=◌, Answer, front}
-use Rattle.reading.specs.Bytes.{sees}
+use Rattle.reading.specs.Bytes.{sees, skip_digits}
 use Rattle.reading.proofs.Basics.{bind_ok, ok_parts, chosen, chosen_is, Sound, Complete}
 use Rattle.reading.proofs.Bytes.{sees_front}
-use Rattle.flow_line.specs.Bytes.{is_digit, begins_number}
+use Rattle.flow_line.specs.Bytes.{begins_number}
 use Rattle.flow_line.specs.Text.{Reads, byte_in}
-use Rattle.flow_line.specs.Reading.{skip_digits, skip_sign, digits, numeral, in_range, numeric, start_of}
+use Rattle.flow_line.specs.Reading.{skip_sign, digits, numeral, in_range, numeric, start_of}
 use Rattle.flow_line.specs.Grammar.{extends, IsNumber, number as number_of}
-use Rattle.flow_line.proofs.Shorter.{in_range_rest}
 use Rattle.flow_line.proofs.Starts.{starts_numeric}
 use Rattle.flow_line.proofs.ByteRanges.{Fault, byte_in_found}
 
@@ -27,11 +26,11 @@ use Rattle.flow_line.proofs.ByteRanges.{Fault, byte_in_found}
 -- digits, perhaps none
 pub data Run : List ℕ → Type 0 where
   run_end : Run []
-  run_digit : {b : ℕ} {w : List ℕ} → is_digit b ≡ true → Run w → Run (b ∷ w)
+  run_digit : {b : ℕ} {w : List ℕ} → is_ascii_digit b ≡ true → Run w → Run (b ∷ w)
 
 -- one digit or more
 pub data Digits : List ℕ → Type 0 where
-  digits_of : {b : ℕ} {w : List ℕ} → is_digit b ≡ true → Run w → Digits (b ∷ w)
+  digits_of : {b : ℕ} {w : List ℕ} → is_ascii_digit b ≡ true → Run w → Digits (b ∷ w)
 
 pub data Sign : List ℕ → Type 0 where
   bare : Sign []
@@ -53,7 +52,7 @@ no_dot (b ∷ r) h k = rw (h, k) refl
 
 pub dot_not : (r : List ℕ) → extends None (front r) ≡ false → (Ends r) × (sees 46 r ≡ false)
 dot_not [] h = (refl, refl)
-dot_not (b ∷ r) h = by_or (is_digit b) (b == 46) h where
+dot_not (b ∷ r) h = by_or (is_ascii_digit b) (b == 46) h where
   by_or : (x y : Bool) → (x || y) ≡ false → (x ≡ false) × (y ≡ false)
   by_or true y e = absurd (let k : true ≡ false = e in cc)
   by_or false y e = (refl, e)
@@ -70,7 +69,7 @@ pub skipped : (t : List ℕ) → Skipped t (skip_digits t)
 unfolding skip_digits
 skipped [] = record { run = []; is_run = run_end; parts = refl; ends = refl }
 skipped (b ∷ t) =
-    elim (chosen_is (is_digit b)) [
+    elim (chosen_is (is_ascii_digit b)) [
       | inl h ↦ let l = skipped t in rw h (record { run = b ∷ l.run; is_run = run_digit h l.is_run; parts = ap (λ (u : List ℕ). b ∷ u) l.parts; ends = l.ends })
       | inr h ↦ rw h (record { run = []; is_run = run_end; parts = refl; ends = h })
     ]
@@ -87,7 +86,7 @@ digits_found t u rest e =
     let b = bind_ok (byte_in 48 57 (front t) t) (λ first. Ok (tt, skip_digits first.1)) (u, rest) e in
     let p = ok_parts {F = Fault} (tt, skip_digits b.0.1) (u, rest) b.2 in
     let l = byte_in_found 48 57 t b.0.0 b.0.1 b.1 in
-    let d : is_digit b.0.0 ≡ true = rw (le-leb 48 b.0.0 l.1, le-leb b.0.0 57 l.2) refl in
+    let d : is_ascii_digit b.0.0 ≡ true = rw (le-leb 48 b.0.0 l.1, le-leb b.0.0 57 l.2) refl in
     let s = skipped b.0.1 in
     record {
       digits = b.0.0 ∷ s.run;
@@ -151,8 +150,8 @@ pub digits_read : {w : List ℕ} → Digits w → (r : List ℕ) → Ends r → 
 unfolding digits
 digits_read (digits_of d l) r h = rw d (ap (λ (u : List ℕ). Ok (tt, u)) (run_skipped l r h))
 
-pub no_byte : (b k : ℕ) → is_digit b ≡ true → is_digit k ≡ false → (b == k) ≡ false
-no_byte b k h g = elim (chosen_is (b == k)) [ inl e ↦ absurd (let w = ap is_digit (eqb-true b k e) in let v : true ≡ false = sym h ∙ w ∙ g in cc) | inr e ↦ e ]
+pub no_byte : (b k : ℕ) → is_ascii_digit b ≡ true → is_ascii_digit k ≡ false → (b == k) ≡ false
+no_byte b k h g = elim (chosen_is (b == k)) [ inl e ↦ absurd (let w = ap is_ascii_digit (eqb-true b k e) in let v : true ≡ false = sym h ∙ w ∙ g in cc) | inr e ↦ e ]
 
 sign_skipped : {s w : List ℕ} → Sign s → Digits w → (r : List ℕ) → skip_sign (s ++ (w ++ r)) ≡ w ++ r
 sign_skipped bare (digits_of {b = b} d l) r = rw (no_byte b 45 d refl, no_byte b 43 d refl) refl
@@ -287,6 +286,10 @@ module _ {Allowed : Num → Type 0} where
     other b h = elim (chosen_is (b == k)) [ inl e ↦ absurd (let w = ap begins_number (eqb-true b k e) in let v : true ≡ false = sym h ∙ w ∙ g in cc) | inr e ↦ e ]
 
 -- ---- a reader of the numbers that a test keeps
+
+in_range_rest : (o : Option Num) (at end : List ℕ) (n : Num) (rest : List ℕ) → in_range o at end ≡ Ok (n, rest) → (o ≡ Some n) × (end ≡ rest)
+in_range_rest None at end n rest e = absurd cc
+in_range_rest (Some m) at end n rest e = let p = ok_parts {F = Fault} (m, end) (n, rest) e in (ap (λ (k : Num). Some k) p.0, p.1)
 
 module _ (kept : Num → Option Num) where
   unfoldable pub number_by : Reads Num

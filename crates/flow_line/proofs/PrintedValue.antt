@@ -1,6 +1,7 @@
 -- What is printed of a value is in the grammar, as that value.
 use Rattle.std.proofs.Common.{◌≡◌, ℕ, zero, suc, ◌≤◌, Bool, true, false, not, ◌&&◌, ◌||◌, List, [], ◌∷◌, ◌++◌, map, Some, None, refl, sym, ap, subst, ◌∙◌, append_assoc, arith, IsUtf8}
 use Rattle.std.specs.Prelude.{codes, flat_map}
+use Rattle.std.specs.Char.{is_ascii_digit}
 use Rattle.std.specs.List.{list_all, list_any}
 use Rattle.std.specs.Str.{is_utf8}
 use Rattle.std.proofs.lemmas.Bool.{and_parts}
@@ -22,7 +23,7 @@ use Rattle.ha_model.proofs.Rolls.{depth_of-roll, is_sound_value-roll, print_valu
 use Rattle.reading.specs.Bytes.{skip, is_blank}
 use Rattle.reading.specs.Spelling.{IsClosed}
 use Rattle.std.specs.Prelude.{◌==◌}
-use Rattle.flow_line.specs.Bytes.{begins_number, is_digit}
+use Rattle.flow_line.specs.Bytes.{begins_number}
 use Rattle.flow_line.specs.Reading.{has_key}
 use Rattle.flow_line.specs.Grammar.{IsString, IsPair, pair, IsValueOver, null, yes, no, numeric, text, list, map as map_of, IsValue, IsDocument}
 use Rattle.flow_line.proofs.Sound.{utf8-roll}
@@ -69,7 +70,7 @@ good_at depth [] (f ∷ found) x after g e = absurd cc
 good_at depth (v ∷ vs) [] x after g e = let is : v ≡ x = cc in subst (Good depth) is g.0
 good_at depth (v ∷ vs) (f ∷ found) x after g e = let rest : found ++ x ∷ after ≡ vs = cc in good_at depth vs found x after g.1 rest
 
-stops_at : (b : ℕ) (rest : List ℕ) → is_digit b ≡ false → (b == 46) ≡ false → Stops (b ∷ rest)
+stops_at : (b : ℕ) (rest : List ℕ) → is_ascii_digit b ≡ false → (b == 46) ≡ false → Stops (b ∷ rest)
 stops_at b rest d p None = rw (d, p) refl
 stops_at b rest d p (Some places) = d
 

@@ -6,14 +6,13 @@ use Rattle.reading.specs.Answer.{◌>>=◌, Answer, front, stop}
 use Rattle.reading.specs.Bytes.{sees, skip, expect}
 use Rattle.reading.specs.Faults.{IsAlike}
 use Rattle.reading.specs.Rows.{after_item, row}
-use Rattle.reading.proofs.Bytes.{length-skip}
+use Rattle.reading.proofs.Bytes.{length-skip, length-drop_one}
 use Rattle.reading.proofs.Local.{Local, expect_local}
 use Rattle.flow_line.specs.declared.fault.Code.TheVariants.{Syntax}
 use Rattle.flow_line.specs.Text.{Reads}
 use Rattle.flow_line.specs.Reading.{ended}
 use Rattle.flow_line.specs.Refused.{Like}
 use Rattle.flow_line.proofs.ByteRanges.{Fault}
-use Rattle.flow_line.proofs.Shorter.{length-drop_one}
 use Rattle.flow_line.proofs.StringLaws.{like_front, IsLocal}
 
 -- within a text, and past the place from which so many bytes are left

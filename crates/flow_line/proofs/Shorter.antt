@@ -1,92 +1,92 @@
--- A value that is read takes a byte at least.
-use Rattle.std.proofs.Common.{◌≡◌, ℕ, zero, suc, ◌≤◌, ◌<◌, Bool, true, false, cond, ◌||◌, List, [], ◌∷◌, length, take, drop, Option, Some, None, Ok, ap, ◌∙◌, arith, length-append, inl, inr}
+-- A value that is read takes a byte at least, and a fault stands within the text.
+use Rattle.std.proofs.Common.{◌≡◌, ℕ, zero, suc, ◌+◌, ◌≤◌, ◌<◌, Bool, true, false, cond, ◌||◌, List, [], ◌∷◌, length, take, drop, Option, Some, None, Err, ap, arith, inl, inr}
 use Rattle.std.specs.Prelude.{codes, ◌==◌, ◌-◌}
 use Rattle.std.proofs.lemmas.Bool.{eqb-true}
 use Rattle.ha_value.specs.declared.value.Num.{Num}
 use Rattle.ha_value.specs.declared.value.Value.{Value}
-use Rattle.ha_value.specs.declared.value.Value.TheVariants.{Null, Flag, Number, Text, Items, Pairs}
+use Rattle.ha_value.specs.declared.value.Value.TheVariants.{Number, Text, Items, Pairs}
 use Rattle.ha_value.specs.Numbers.{read_number}
-use Rattle.reading.specs.Answer.{◌>>=◌, front, made, stop}
+use Rattle.reading.specs.Answer.{front, stop}
 use Rattle.reading.specs.Bytes.{sees, skip, expect}
 use Rattle.reading.specs.Rows.{closed_by}
-use Rattle.reading.proofs.Basics.{bind_ok, ok_parts, made_ok, chosen, chosen_is, IsShorter, Sound, Longer}
-use Rattle.reading.proofs.Bytes.{expect_found, length-skip}
-use Rattle.reading.proofs.RowLaws.{closed_found, closed_longer}
-use Rattle.flow_line.specs.declared.fault.Code.TheVariants.{Syntax, RepeatedKey, Depth}
-use Rattle.flow_line.specs.Bytes.{is_digit, begins_number}
-use Rattle.flow_line.specs.Text.{Reads, byte_in, text, string}
-use Rattle.flow_line.specs.Reading.{skip_digits, skip_sign, digits, numeral, in_range, number, has_key, key, pair, items, pairs, Start, of_null, of_true, of_false, quote, bracket, brace, numeric, nothing, start_of, value_by, value}
-use Rattle.flow_line.proofs.Found.{text_found, string_found, string_longer}
-use Rattle.flow_line.proofs.ByteRanges.{Fault, byte_in_found}
+use Rattle.reading.proofs.Basics.{chosen_is, IsShorter}
+use Rattle.reading.proofs.Bytes.{length-skip, length-skip_digits, length-drop_one}
+use Rattle.reading.proofs.Shorter.{Leaves, kept, refused, bind, either, made_leaves, weaker, fault_by, repeat_leaves, expect_leaves, closed_leaves, Within, Below, below_of, below_shorter, below_within}
+use Rattle.reading.proofs.Solid.{stops_within}
+use Rattle.flow_line.specs.declared.fault.Code.TheVariants.{Syntax, Depth}
+use Rattle.flow_line.specs.Bytes.{is_in, begins_number}
+use Rattle.flow_line.specs.Text.{Reads, byte_in, character, goes_on, over, characters, text, string}
+use Rattle.flow_line.specs.Reading.{skip_sign, digits, numeral, in_range, number, has_key, key, pair, items, pairs, Start, of_null, of_true, of_false, quote, bracket, brace, numeric, nothing, start_of, value_by, value, ended, document}
+use Rattle.flow_line.proofs.ByteRanges.{Fault}
+use Rattle.flow_line.proofs.Characters.{character_found}
+use Rattle.flow_line.proofs.CharactersSolid.{character_solid}
+use Rattle.flow_line.proofs.Found.{character_longer}
 
-pub length-skip_digits : (t : List ℕ) → length (skip_digits t) ≤ length t
-unfolding skip_digits
-length-skip_digits [] = omega arith
-length-skip_digits (b ∷ t) = elim (is_digit b) as (λ x. length (cond x (skip_digits t) (b ∷ t)) ≤ suc (length t)) [ true ↦ omega (arith, length-skip_digits t) | false ↦ omega arith ]
+abbrev Shortens : {A : Type 0} → Reads A → Type 0
+Shortens rule = (n : ℕ) (t : List ℕ) → length t ≤ n → Below n (rule t)
 
-pub length-drop_one : (t : List ℕ) → length (drop 1 t) ≤ length t
-length-drop_one [] = omega arith
-length-drop_one (b ∷ t) = omega arith
+word_leaves : (word : List ℕ) (n : ℕ) (t : List ℕ) → length t ≤ n → Leaves (λ u. length word + length u ≤ n) (λ (f : Fault). f.left ≤ n) (expect Syntax word t)
+word_leaves word n t le = expect_leaves Syntax n (λ f. f.left ≤ n) (λ m h. h) word t n (omega arith) le
+
+list_shortens : {A : Type 0} (end : ℕ) (item : List A → Reads A) → ((found : List A) → Shortens (item found)) → Shortens (closed_by Syntax end item)
+list_shortens end item shortens n t le = closed_leaves Syntax n (λ f. f.left ≤ n) (λ m h. h) end item (λ found u h. below_within n n (omega arith) (shortens found n u h)) t le
+
+-- ---- strings
+
+byte_shortens : (low high : ℕ) → Shortens (λ t. byte_in low high (front t) t)
+byte_shortens low high n [] le = refused (omega arith)
+byte_shortens low high n (b ∷ t) le = either (is_in low high b) (kept (omega arith)) (refused (omega arith))
+
+character_shortens : Shortens character
+character_shortens n t le =
+    weaker (λ u h. omega arith) (λ f h. omega arith) (below_of character (λ t c rest e. character_longer (character_found t c rest e)) (stops_within Syntax character character_solid) t)
+
+goes_within : (n : ℕ) (t : List ℕ) → length t ≤ n → Within n (goes_on t)
+goes_within n t le = either (sees 34 t) (kept (omega (arith, length-drop_one t))) (kept le)
+
+text_within : (n : ℕ) (t : List ℕ) → length t ≤ n → Within n (text t)
+unfolding characters
+text_within n t le =
+    made_leaves _ (repeat_leaves over (λ _. goes_on) (λ _. character) (omega arith) (λ _ u h. goes_within n u h) (λ _ u h. below_within n n (omega arith) (character_shortens n u h)) (suc (length t)) [] t le)
+
+string_shortens : Shortens string
+unfolding string
+string_shortens n t le = bind (word_leaves (codes "\"") n t le) (λ q h. weaker (λ u k. omega arith) (λ f k. omega arith) (text_within (length q.1) q.1 (omega arith)))
+
+-- ---- numbers
 
 pub length-skip_sign : (t : List ℕ) → length (skip_sign t) ≤ length t
 length-skip_sign t = elim (sees 45 t || sees 43 t) as (λ x. length (cond x (drop 1 t) t) ≤ length t) [ true ↦ length-drop_one t | false ↦ omega arith ]
 
-pub digits_shorter : IsShorter digits
+digits_shortens : Shortens digits
 unfolding digits
-digits_shorter t x rest e =
-    let b = bind_ok (byte_in 48 57 (front t) t) (λ first. Ok (tt, skip_digits first.1)) (x, rest) e in
-    let p = ok_parts {F = Fault} (tt, skip_digits b.0.1) (x, rest) b.2 in
-    let l = byte_in_found 48 57 t b.0.0 b.0.1 b.1 in
-    omega (arith, ap length l.0, ap length p.1, length-skip_digits b.0.1)
+digits_shortens n t le = bind (byte_shortens 48 57 n t le) (λ first h. kept (omega (arith, length-skip_digits first.1)))
 
-pub numeral_shorter : IsShorter numeral
+numeral_shortens : Shortens numeral
 unfolding numeral
-numeral_shorter t x rest e =
-    let b = bind_ok (digits (skip_sign t)) (λ whole. cond (sees 46 whole.1) (digits (drop 1 whole.1)) (Ok whole)) (x, rest) e in
-    let l = digits_shorter (skip_sign t) b.0.0 b.0.1 b.1 in
-    elim (chosen (sees 46 b.0.1) (digits (drop 1 b.0.1)) (Ok b.0) (Ok (x, rest)) b.2) [
-      | inl h ↦ let m = digits_shorter (drop 1 b.0.1) x rest h.1 in omega (arith, length-drop_one b.0.1, length-skip_sign t)
-      | inr h ↦ let p = ok_parts {F = Fault} b.0 (x, rest) h.1 in omega (arith, ap length p.1, length-skip_sign t)
-    ]
+numeral_shortens n t le =
+    bind (digits_shortens n (skip_sign t) (omega (arith, length-skip_sign t))) (λ whole h. either (sees 46 whole.1) (digits_shortens n (drop 1 whole.1) (omega (arith, length-drop_one whole.1))) (kept h))
 
-pub in_range_rest : (o : Option Num) (at end : List ℕ) (n : Num) (rest : List ℕ) → in_range o at end ≡ Ok (n, rest) → (o ≡ Some n) × (end ≡ rest)
-in_range_rest None at end n rest e = absurd cc
-in_range_rest (Some m) at end n rest e = let p = ok_parts {F = Fault} (m, end) (n, rest) e in (ap (λ (k : Num). Some k) p.0, p.1)
+in_range_below : (o : Option Num) (at end : List ℕ) (n : ℕ) → length at ≤ n → length end < n → Below n (in_range o at end)
+in_range_below (Some m) at end n le less = kept less
+in_range_below None at end n le less = refused le
 
-pub number_shorter : IsShorter number
+number_shortens : Shortens number
 unfolding number
-number_shorter t n rest e =
-    let b = bind_ok (numeral t) (λ end. in_range (read_number (take (length t - length end.1) t)) t end.1) (n, rest) e in
-    let p = in_range_rest (read_number (take (length t - length b.0.1) t)) t b.0.1 n rest b.2 in
-    let l = numeral_shorter t b.0.0 b.0.1 b.1 in
-    omega (arith, ap length p.1)
+number_shortens n t le = bind (numeral_shortens n t le) (λ end h. in_range_below (read_number (take (length t - length end.1) t)) t end.1 n le h)
 
--- items that take a byte at least, and so their list
-pub closed_shorter : {A : Type 0} (end : ℕ) (item : List A → Reads A) → ((found : List A) → IsShorter (item found)) → IsShorter (closed_by Syntax end item)
-unfolding Sound Longer
-closed_shorter {A} end item shorter t all rest e =
-    let Item : List A → List ℕ → A → List ℕ → Type 0 = λ found t x rest. length rest < length t in
-    closed_longer end Item (λ found t x rest h. h) t all rest (closed_found Syntax end item Item shorter t all rest e)
+-- ---- lists and maps
 
-pub key_shorter : (found : List (List ℕ × Value)) → IsShorter (key found)
+key_shortens : (found : List (List ℕ × Value)) → Shortens (key found)
 unfolding key
-key_shorter found t k rest e =
-    let a = bind_ok (string t) (λ k. cond (has_key found k.0) (stop RepeatedKey t) (Ok k)) (k, rest) e in
-    elim (chosen (has_key found a.0.0) (stop RepeatedKey t) (Ok a.0) (Ok (k, rest)) a.2) [
-      | inl h ↦ absurd (let m = h.1 in cc)
-      | inr h ↦
-          let s = string_found t k rest (a.1 ∙ h.1) in
-          omega (arith, ap length s.1, string_longer s.2)
-    ]
+key_shortens found n t le = bind (string_shortens n t le) (λ k h. either (has_key found k.0) (refused le) (kept h))
 
-pub pair_is_shorter : (val : Reads Value) → IsShorter val → (found : List (List ℕ × Value)) → IsShorter (pair val found)
+pair_shortens : (val : Reads Value) → Shortens val → (found : List (List ℕ × Value)) → Shortens (pair val found)
 unfolding pair
-pair_is_shorter val shorter found t x rest e =
-    let a = bind_ok (key found t) (λ k. expect Syntax (codes ":") (skip k.1) >>= λ colon. val (skip colon.1) >>= λ v. Ok ((k.0, v.0), v.1)) (x, rest) e in
-    let b = bind_ok (expect Syntax (codes ":") (skip a.0.1)) (λ colon. val (skip colon.1) >>= λ v. Ok ((a.0.0, v.0), v.1)) (x, rest) a.2 in
-    let c = bind_ok (val (skip b.0.1)) (λ v. Ok ((a.0.0, v.0), v.1)) (x, rest) b.2 in
-    let p = ok_parts {F = Fault} ((a.0.0, c.0.0), c.0.1) (x, rest) c.2 in
-    omega (arith, key_shorter found t a.0.0 a.0.1 a.1, ap length (expect_found Syntax (codes ":") (skip a.0.1) b.0.0 b.0.1 b.1), length-skip a.0.1, length-skip b.0.1, shorter (skip b.0.1) c.0.0 c.0.1 c.1, ap length p.1)
+pair_shortens val shortens found n t le =
+    bind (key_shortens found n t le) (λ k h.
+    bind (word_leaves (codes ":") n (skip k.1) (omega (arith, length-skip k.1))) (λ colon l.
+    bind (shortens n (skip colon.1) (omega (arith, length-skip colon.1))) (λ v m. kept m)))
 
 -- ---- values
 
@@ -129,34 +129,39 @@ is_start (b ∷ t) =
       ]
     ]
 
-module _ (lists : Reads (List Value)) (maps : Reads (List (List ℕ × Value))) (lists_shorter : IsShorter lists) (maps_shorter : IsShorter maps) where
-  word_shorter : (word t rest : List ℕ) (v w : Value) → 0 < length word → made (λ _. v) (expect Syntax word t) ≡ Ok (w, rest) → length rest < length t
-  word_shorter word t rest v w some e =
-      let m = made_ok {F = Fault} (λ _. v) (expect Syntax word t) w rest e in
-      omega (arith, ap length (expect_found Syntax word t m.0 rest m.1), length-append word rest)
-
-  by_start_shorter : (s : Start) (t : List ℕ) (v : Value) (rest : List ℕ) → IsStart s t → value_by s lists maps t ≡ Ok (v, rest) → length rest < length t
+module _ (lists : Reads (List Value)) (maps : Reads (List (List ℕ × Value))) (n : ℕ) (t : List ℕ) (le : length t ≤ n) (list : Below n (lists t)) (map : Below n (maps t)) where
+  by_start_below : (s : Start) → IsStart s t → Below n (value_by s lists maps t)
   unfolding IsStart
-  by_start_shorter of_null t v rest at e = word_shorter (codes "null") t rest Null v (omega arith) e
-  by_start_shorter of_true t v rest at e = word_shorter (codes "true") t rest (Flag true) v (omega arith) e
-  by_start_shorter of_false t v rest at e = word_shorter (codes "false") t rest (Flag false) v (omega arith) e
-  by_start_shorter quote t v rest at e =
-      let m = made_ok {F = Fault} Text (text (drop 1 t)) v rest e in
-      omega (arith, ap length at, string_longer (text_found (drop 1 t) m.0 rest m.1))
-  by_start_shorter bracket t v rest at e = let m = made_ok {F = Fault} Items (lists t) v rest e in lists_shorter t m.0 rest m.1
-  by_start_shorter brace t v rest at e = let m = made_ok {F = Fault} Pairs (maps t) v rest e in maps_shorter t m.0 rest m.1
-  by_start_shorter numeric t v rest at e = let m = made_ok {F = Fault} Number (number t) v rest e in number_shorter t m.0 rest m.1
-  by_start_shorter nothing t v rest at e = absurd (let k = e in cc)
+  by_start_below of_null at = made_leaves _ (weaker (λ u h. omega arith) (λ f h. h) (word_leaves (codes "null") n t le))
+  by_start_below of_true at = made_leaves _ (weaker (λ u h. omega arith) (λ f h. h) (word_leaves (codes "true") n t le))
+  by_start_below of_false at = made_leaves _ (weaker (λ u h. omega arith) (λ f h. h) (word_leaves (codes "false") n t le))
+  by_start_below quote at =
+      let behind : length t ≡ suc (length (drop 1 t)) = ap length at in
+      made_leaves Text (weaker (λ u h. omega (arith, behind)) (λ f h. omega (arith, behind)) (text_within (length (drop 1 t)) (drop 1 t) (omega arith)))
+  by_start_below bracket at = made_leaves Items list
+  by_start_below brace at = made_leaves Pairs map
+  by_start_below numeric at = made_leaves Number (number_shortens n t le)
+  by_start_below nothing at = refused le
 
-behind_one : {A : Type 0} (rule : Reads A) → IsShorter rule → IsShorter (λ t. rule (drop 1 t))
-behind_one rule shorter t x rest e = omega (arith, shorter (drop 1 t) x rest e, length-drop_one t)
+value_shortens : (depth : ℕ) → Shortens (value depth)
+unfolding value items pairs
+value_shortens zero n t le = by_start_below (stop Depth) (stop Depth) n t le (refused le) (refused le) (start_of (front t)) (is_start t)
+value_shortens (suc depth) n t le =
+    let less : length (drop 1 t) ≤ n = omega (arith, length-drop_one t) in
+    by_start_below (λ t. items (value depth) (drop 1 t)) (λ t. pairs (value depth) (drop 1 t)) n t le (list_shortens 93 (λ _. value depth) (λ _. value_shortens depth) n (drop 1 t) less)
+    (list_shortens 125 (pair (value depth)) (pair_shortens (value depth) (value_shortens depth)) n (drop 1 t) less) (start_of (front t)) (is_start t)
 
 pub value_shorter : (depth : ℕ) → IsShorter (value depth)
-unfolding value items pairs
-value_shorter zero t v rest e = by_start_shorter (stop Depth) (stop Depth) (λ t x rest e. absurd cc) (λ t x rest e. absurd cc) (start_of (front t)) t v rest (is_start t) e
-value_shorter (suc depth) t v rest e =
-    by_start_shorter (λ t. items (value depth) (drop 1 t)) (λ t. pairs (value depth) (drop 1 t)) (behind_one (closed_by Syntax 93 (λ found. value depth)) (closed_shorter 93 (λ found. value depth) (λ found. value_shorter depth)))
-    (behind_one (closed_by Syntax 125 (pair (value depth))) (closed_shorter 125 (pair (value depth)) (pair_is_shorter (value depth) (value_shorter depth)))) (start_of (front t)) t v rest (is_start t) e
+value_shorter depth = below_shorter (value depth) (λ t. value_shortens depth (length t) t (omega arith))
 
 pub pair_shorter : (depth : ℕ) (found : List (List ℕ × Value)) → IsShorter (pair (value depth) found)
-pair_shorter depth found = pair_is_shorter (value depth) (value_shorter depth) found
+pair_shorter depth found = below_shorter (pair (value depth) found) (λ t. pair_shortens (value depth) (value_shortens depth) found (length t) t (omega arith))
+
+-- ---- the whole text
+
+document_within : (t : List ℕ) → Within (length t) (document t)
+unfolding document
+document_within t = bind (value_shortens 32 (length t) t (omega arith)) (λ v h. either (ended (front v.1)) (kept (omega arith)) (refused (omega arith)))
+
+pub left_within : (t : List ℕ) (f : Fault) → document t ≡ Err f → f.left ≤ length t
+left_within t f e = fault_by f (document_within t) e

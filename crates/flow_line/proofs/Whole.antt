@@ -1,5 +1,5 @@
 -- The whole text: what is read of it is in the grammar, and what is in the grammar is read.
-use Rattle.std.proofs.Common.{◌≡◌, ℕ, true, cond, List, [], Option, Some, None, Ok, Err, refl, sym, ap, subst, ◌∙◌, inl, inr}
+use Rattle.std.proofs.Common.{◌≡◌, ℕ, true, cond, List, [], ◌∷◌, Option, Some, None, Ok, Err, refl, sym, ap, subst, ◌∙◌, inl, inr}
 use Rattle.std.proofs.lemmas.Bool.{cond-true}
 use Rattle.ha_value.specs.declared.value.Num.{Num}
 use Rattle.ha_value.specs.declared.value.Value.{Value}
@@ -8,12 +8,27 @@ use Rattle.reading.specs.Answer.{◌>>=◌, Answer, front, stop}
 use Rattle.reading.proofs.Basics.{bind_ok, ok_parts, chosen, Sound, Complete}
 use Rattle.flow_line.specs.declared.fault.Code.TheVariants.{Syntax}
 use Rattle.flow_line.specs.Text.{Reads}
-use Rattle.flow_line.specs.Reading.{number, ended, document}
+use Rattle.flow_line.specs.Reading.{number, value, ended, document}
 use Rattle.flow_line.specs.Grammar.{IsNumber, IsDocument}
 use Rattle.flow_line.proofs.ByteRanges.{Fault}
-use Rattle.flow_line.proofs.Within.{is_end}
 use Rattle.flow_line.proofs.Numbers.{number_by, number_found, number_is_read}
 use Rattle.flow_line.proofs.Values.{value_with, document_with, document_is, ValueBy, all_seen, is_value, value_found, value_read}
+
+-- ---- nothing is left
+
+pub is_end : (u : List ℕ) → ended (front u) ≡ true → u ≡ []
+is_end [] h = refl
+is_end (b ∷ u) h = absurd cc
+
+-- a whole text leaves nothing
+pub nothing_left : (t : List ℕ) (v : Value) (rest : List ℕ) → document t ≡ Ok (v, rest) → document t ≡ Ok (v, [])
+unfolding document
+nothing_left t v rest e =
+    let a = bind_ok (value 32 t) (λ v. cond (ended (front v.1)) (Ok v) (stop Syntax v.1)) (v, rest) e in
+    elim (chosen (ended (front a.0.1)) (Ok a.0) (stop Syntax a.0.1) (Ok (v, rest)) a.2) [
+      | inl h ↦ e ∙ ap (λ (r : List ℕ). Ok (v, r)) (sym (ok_parts {F = Fault} a.0 (v, rest) h.1).1 ∙ is_end a.0.1 h.0)
+      | inr h ↦ absurd (let k = h.1 in cc)
+    ]
 
 -- ---- the rules for numbers
 

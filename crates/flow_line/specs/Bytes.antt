@@ -1,14 +1,14 @@
 -- Single bytes of the notation.
-use Rattle.std.specs.Prelude.{ℕ, ◌+◌, ◌-◌, Bool, not, ◌||◌, ◌&&◌, ◌==◌, nat_le, if◌then◌else◌, Option, Some, None}
+use Rattle.std.specs.Prelude.{ℕ, Bool, not, ◌||◌, ◌&&◌, ◌==◌, nat_le, if◌then◌else◌, Option, Some, None}
+use Rattle.std.specs.Char.{is_ascii_digit}
+use Rattle.std.specs.Option.{unwrap_or}
+use Rattle.reading.specs.Bytes.{hex}
 
 abbrev pub is_in : ℕ → ℕ → ℕ → Bool
 is_in low high b = nat_le low b && nat_le b high
 
-abbrev pub is_digit : ℕ → Bool
-is_digit b = is_in 48 57 b
-
 abbrev pub begins_number : ℕ → Bool
-begins_number b = is_digit b || b == 45 || b == 43
+begins_number b = is_ascii_digit b || b == 45 || b == 43
 
 -- a character, or its first byte, that may stand in a string as it is: no control character below 32, no quote and no backslash
 abbrev pub stands_as_is : ℕ → Bool
@@ -20,7 +20,7 @@ is_plain b = is_in 32 127 b && not (b == 34) && not (b == 92)
 
 -- the value of a hexadecimal digit, and 16 for any other byte
 abbrev pub hex_value : ℕ → ℕ
-hex_value b = if is_digit b then b - 48 else (if is_in 97 102 b then b - 97 + 10 else (if is_in 65 70 b then b - 65 + 10 else 16))
+hex_value b = unwrap_or (hex b) 16
 
 -- what a letter or sign behind a backslash stands for
 abbrev pub unescaped : ℕ → Option ℕ

@@ -2,7 +2,7 @@
 -- text without the blanks at its front.
 use Rattle.std.specs.Prelude.{◌≡◌, ◌<◌, ◌+◌, ◌*◌, ℕ, zero, suc, Bool, true, false, ◌||◌}
 use Rattle.std.specs.Prelude.{◌==◌, List, [], ◌∷◌, ◌++◌, Option, Some, None}
-use Rattle.std.specs.Char.{IsScalar}
+use Rattle.std.specs.Char.{IsScalar, is_ascii_digit}
 use Rattle.std.specs.Char.Utf16.{is_high_surrogate, is_low_surrogate, surrogate_pair_char}
 use Rattle.std.specs.Prelude.{encode_utf8}
 use Rattle.std.specs.Str.{encode_utf8_all}
@@ -14,7 +14,7 @@ use Rattle.ha_value.specs.Numbers.{is_in_range, number_of_text}
 use Rattle.reading.specs.Answer.{front}
 use Rattle.reading.specs.Bytes.{skip}
 use Rattle.reading.specs.Spelling.{Never, IsClosed}
-use Rattle.flow_line.specs.Bytes.{hex_value, is_digit, unescaped}
+use Rattle.flow_line.specs.Bytes.{hex_value, unescaped}
 pub use Rattle.flow_line.specs.Bytes.{stands_as_is}
 use Rattle.flow_line.specs.Reading.{has_key}
 
@@ -47,8 +47,8 @@ pub data IsString : List ℕ → List ℕ → List ℕ → Type 0 where
 -- whether number text goes on with a byte: a digit, or a dot where it has none
 abbrev pub extends : Option (List ℕ) → Option ℕ → Bool
 extends places None = false
-extends None (Some b) = is_digit b || b == 46
-extends (Some places) (Some b) = is_digit b
+extends None (Some b) = is_ascii_digit b || b == 46
+extends (Some places) (Some b) = is_ascii_digit b
 
 -- number text that does not go on, and a number that is allowed
 pub data IsNumber (Allowed : Num → Type 0) : List ℕ → Num → List ℕ → Type 0 where

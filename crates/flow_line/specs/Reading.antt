@@ -1,6 +1,6 @@
 -- Reading a value from left to right, with the first fault that is met.
 use Rattle.std.specs.Prelude.{ℕ, zero, suc, ◌-◌, Bool, true, false, ◌||◌, ◌==◌, if◌then◌else◌, List}
-use Rattle.std.specs.Prelude.{[], ◌∷◌, length, take, drop, Option, Some, None, Ok, codes}
+use Rattle.std.specs.Prelude.{length, take, drop, Option, Some, None, Ok, codes}
 use Rattle.std.specs.List.{list_any}
 use Rattle.std.specs.Str.{bytes_eq}
 use Rattle.ha_value.specs.declared.value.Num.{Num}
@@ -8,17 +8,13 @@ use Rattle.ha_value.specs.declared.value.Value.{Value}
 use Rattle.ha_value.specs.declared.value.Value.TheVariants.{Null, Flag, Number, Text, Items, Pairs}
 use Rattle.ha_value.specs.Numbers.{read_number}
 use Rattle.reading.specs.Answer.{◌>>=◌, front, made, stop}
-use Rattle.reading.specs.Bytes.{sees, skip, expect}
+use Rattle.reading.specs.Bytes.{sees, skip, skip_digits, expect}
 use Rattle.reading.specs.Rows.{closed_by}
 use Rattle.flow_line.specs.declared.fault.Code.TheVariants.{Syntax, RepeatedKey, Depth, Range}
-use Rattle.flow_line.specs.Bytes.{is_digit, begins_number}
+use Rattle.flow_line.specs.Bytes.{begins_number}
 use Rattle.flow_line.specs.Text.{Reads, byte_in, text, string}
 
 -- ---- numbers
-
-unfoldable pub skip_digits : List ℕ → List ℕ
-skip_digits [] = []
-skip_digits (b ∷ rest) = if is_digit b then skip_digits rest else b ∷ rest
 
 abbrev pub skip_sign : List ℕ → List ℕ
 skip_sign rest = if sees 45 rest || sees 43 rest then drop 1 rest else rest

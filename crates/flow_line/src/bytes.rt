@@ -1,7 +1,9 @@
 //! Single bytes of the notation.
 
 ghost use Rattle.std.specs.Prelude.{◌≡◌, ◌≤◌, ◌<◌, true};
-ghost use Rattle.flow_line.specs.Bytes.{begins_number, hex_value, is_digit, is_in, is_plain, stands_as_is, unescaped};
+ghost use Rattle.flow_line.specs.Bytes.{begins_number, hex_value, is_in, is_plain, stands_as_is, unescaped};
+
+use reading::hex;
 
 /// Whether the byte is from `low` to `high`, both included.
 pub fn is_in(low: u8, high: u8, b: u8) -> bool
@@ -10,16 +12,10 @@ pub fn is_in(low: u8, high: u8, b: u8) -> bool
     low <= b && b <= high
 }
 
-pub fn is_digit(b: u8) -> bool
-    ensures { result ≡ is_digit b }
-{
-    is_in(b'0', b'9', b)
-}
-
 pub fn begins_number(b: u8) -> bool
     ensures { result ≡ begins_number b }
 {
-    is_digit(b) || b == b'-' || b == b'+'
+    b.is_ascii_digit() || b == b'-' || b == b'+'
 }
 
 /// Whether a character that begins with this byte may stand in a string as it is.
@@ -40,15 +36,7 @@ pub fn is_plain(b: u8) -> bool
 pub fn hex_value(b: u8) -> u8
     ensures { result ≡ hex_value b }
 {
-    if is_digit(b) {
-        b - b'0'
-    } else if is_in(b'a', b'f', b) {
-        b - b'a' + 10
-    } else if is_in(b'A', b'F', b) {
-        b - b'A' + 10
-    } else {
-        16
-    }
+    hex(b).unwrap_or(16)
 }
 
 /// What a letter or sign behind a backslash stands for.

@@ -2,26 +2,13 @@
 
 ghost use Rattle.std.specs.Prelude.{◌≡◌, ◌≤◌, length, OnOk};
 ghost use Rattle.reading.specs.Answer.{Gives};
-ghost use Rattle.flow_line.specs.Reading.{digits, number, numeral, skip_digits, skip_sign};
+ghost use Rattle.flow_line.specs.Reading.{digits, number, numeral, skip_sign};
 
-use crate::bytes::is_digit;
 use crate::fault::Code;
 use crate::value::{FlowReader, Stopped};
 use ha_value::Num;
 
 impl<'a> FlowReader<'a> {
-    #[tactic(auto, unfolding(crate::specs::Reading::skip_digits))]
-    fn skip_digits(&mut self)
-        ensures exact { self.new ≡ skip_digits self.old }
-        ensures shorter { length self.new ≤ length self.old }
-    {
-        while let Some(b) = self.peek()
-            && is_digit(b)
-        {
-            self.bump();
-        }
-    }
-
     fn skip_sign(&mut self)
         ensures exact { self.new ≡ skip_sign self.old }
         ensures shorter { length self.new ≤ length self.old }
@@ -38,7 +25,7 @@ impl<'a> FlowReader<'a> {
         ensures shorter { OnOk result (length self.new ≤ length self.old) }
     {
         self.byte_in(b'0', b'9')?;
-        self.skip_digits();
+        self.bytes.skip_digits();
         Ok(())
     }
 

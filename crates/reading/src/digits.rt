@@ -5,14 +5,14 @@ ghost use Rattle.std.specs.Option.{IfSome};
 ghost use Rattle.reading.specs.Bytes.{hex};
 
 /// The value of a hexadecimal digit.
-pub fn hex(b: u8) -> Option<u32>
+pub fn hex(b: u8) -> Option<u8>
     ensures value { result ≡ hex b }
     ensures within { IfSome result (λ d. d < 16) }
 {
     match b {
-        b'0'..=b'9' => Some(u32::from(b - b'0')),
-        b'A'..=b'F' => Some(u32::from(b - 55)),
-        b'a'..=b'f' => Some(u32::from(b - 87)),
+        b'0'..=b'9' => Some(b - b'0'),
+        b'A'..=b'F' => Some(b - 55),
+        b'a'..=b'f' => Some(b - 87),
         _ => None,
     }
 }

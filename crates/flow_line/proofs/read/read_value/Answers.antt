@@ -1,9 +1,9 @@
 use Rattle.std.proofs.Common.{arith, ap, refl, sym, ◌∙◌}
 use Rattle.reading.proofs.Basics.{given_fault}
 use Rattle.flow_line.specs.Reading.{document}
-use Rattle.flow_line.proofs.Whole.{document_found, same_value, no_document}
+use Rattle.flow_line.proofs.Whole.{nothing_left, document_found, same_value, no_document}
 use Rattle.flow_line.proofs.FirstFault.{first_fault}
-use Rattle.flow_line.proofs.Within.{left_within, nothing_left}
+use Rattle.flow_line.proofs.Shorter.{left_within}
 use Rattle.flow_line.proofs.read.read_value.Goals as goal
 
 pub overflow_sub-result : goal.overflow_sub-result
