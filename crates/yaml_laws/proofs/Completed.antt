@@ -60,7 +60,7 @@ or_some : (o x y : Option Fault) (f : Fault) → (x ≡ Some f → y ≡ Some f)
 or_some None x y f h e = h e
 or_some (Some g) x y f h e = e
 
-lines_keep : (a q : List RawLine) (begun : Bool) (f : Fault) → fault_from begun q ≡ Some f → fault_from begun (q ++ a) ≡ Some f
+pub lines_keep : (a q : List RawLine) (begun : Bool) (f : Fault) → fault_from begun q ≡ Some f → fault_from begun (q ++ a) ≡ Some f
 unfolding fault_from
 lines_keep a [] begun f e = absurd cc
 lines_keep a (l ∷ ls) begun f e = or_some (one_fault begun l) _ _ f (lines_keep a ls (begun || not (is_blank_line l)) f) e
@@ -69,14 +69,14 @@ or_none : (o x y : Option Fault) → (x ≡ None → y ≡ None) → or_else o x
 or_none None x y h e = h e
 or_none (Some g) x y h e = absurd cc
 
-closing_keeps : (k : ℕ) (x : RawLine) → IsClosing k x → (q : List RawLine) (begun : Bool) → fault_from begun q ≡ None → fault_from begun (q ++ x ∷ []) ≡ None
+pub closing_keeps : (k : ℕ) (x : RawLine) → IsClosing k x → (q : List RawLine) (begun : Bool) → fault_from begun q ≡ None → fault_from begun (q ++ x ∷ []) ≡ None
 unfolding fault_from
 closing_keeps k x c [] begun e = rw (closing_clean k x c begun) refl
 closing_keeps k x c (l ∷ ls) begun e = or_none (one_fault begun l) _ _ (closing_keeps k x c ls (begun || not (is_blank_line l))) e
 
 -- ---- behind a first mark
 
-start_behind : (a q : List RawLine) (y : RawLine) (ys : List RawLine) → without_start q ≡ y ∷ ys → without_start (q ++ a) ≡ without_start q ++ a
+pub start_behind : (a q : List RawLine) (y : RawLine) (ys : List RawLine) → without_start q ≡ y ∷ ys → without_start (q ++ a) ≡ without_start q ++ a
 unfolding without_start
 start_behind a [] y ys e = absurd cc
 start_behind a (l ∷ ls) y ys e = by (is_blank_line l) (is_start l) (start_behind a ls y ys) e
@@ -87,13 +87,13 @@ start_behind a (l ∷ ls) y ys e = by (is_blank_line l) (is_start l) (start_behi
     by false true h e = refl
     by false false h e = refl
 
-nothing_read : (q : List RawLine) → q ≡ [] → (all_pieces q).fault ≡ None
+pub nothing_read : (q : List RawLine) → q ≡ [] → (all_pieces q).fault ≡ None
 unfolding pieces
 nothing_read q e = ap (λ (ls : List RawLine). (all_pieces ls).fault) e
 
 -- ---- the fault of alike pieces
 
-same_in_tree : (k : ℕ) (xs qs : List Piece) → AllOn (λ m. m ≤ k) xs → Alike xs qs → fault_of (document xs) ≡ fault_of (document qs)
+pub same_in_tree : (k : ℕ) (xs qs : List Piece) → AllOn (λ m. m ≤ k) xs → Alike xs qs → fault_of (document xs) ≡ fault_of (document qs)
 same_in_tree k xs qs on al =
     agree_same (λ m. m ≤ k) (length xs) (document xs) (document (qs ++ [])) (document_agrees (λ m. m ≤ k) (λ m. ⊥) [] tt xs qs al on) ∙ ap (λ (ps : List Piece). fault_of (document ps)) (append-nil qs)
 

@@ -166,7 +166,7 @@ module _ (k : ℕ) (p q : List RawLine) (early : AllIn (λ m. m ≤ k) p) (becom
   each_remains f fixed (inr (inl h)) n = one_remains k f (read_lines p).fault (read_lines q).fault fixed h become.of_piece (none_of q n).of_piece
   each_remains f fixed (inr (inr h)) n = one_remains k f (in_tree p) (in_tree q) fixed h become.of_tree (none_of q n).of_tree
 
-  each_was : (f : Fault) → f.line ≤ k → (line_fault q ≡ Some f) ⊎ (((read_lines q).fault ≡ Some f) ⊎ (in_tree q ≡ Some f))
+  pub each_was : (f : Fault) → f.line ≤ k → (line_fault q ≡ Some f) ⊎ (((read_lines q).fault ≡ Some f) ⊎ (in_tree q ≡ Some f))
       → ((line_fault p ≡ Some f) ⊎ (((read_lines p).fault ≡ Some f) ⊎ (in_tree p ≡ Some f))) ⊎ (f.code ≡ Structure)
   each_was f le (inl h) = elim (one_was k f (line_fault p) (line_fault q) le become.alone h) [ inl i ↦ inl (inl i) | inr i ↦ inr i ]
   each_was f le (inr (inl h)) = elim (one_was k f (read_lines p).fault (read_lines q).fault le become.of_piece h) [ inl i ↦ inl (inr (inl i)) | inr i ↦ inr i ]

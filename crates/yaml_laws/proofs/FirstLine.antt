@@ -33,7 +33,7 @@ whole_text other ls e n =
     (r.0, text_found other r.0 r.1)
 
 -- the first n lines of a text that begins with them
-same_front : (n : ℕ) (text other : List ℕ) (p c : List RawLine) → take n (lines text) ≡ p → length p ≡ n → lines other ≡ p ++ c → SameLines n text other
+pub same_front : (n : ℕ) (text other : List ℕ) (p c : List RawLine) → take n (lines text) ≡ p → length p ≡ n → lines other ≡ p ++ c → SameLines n text other
 same_front n text other p c is long e =
     is ∙ sym (take-append_seam p c) ∙ ap (λ (m : ℕ). take m (p ++ c)) long ∙ ap (take n) (sym e)
 
