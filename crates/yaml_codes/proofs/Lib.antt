@@ -1,0 +1,5 @@
+pub mod Chains
+pub mod Layouts
+pub mod Spelled
+pub mod Allowed
+pub mod Codes

@@ -1,0 +1,31 @@
+//! Laws of the definitions alone. Each is a function that does nothing; its contract is the law.
+ghost use Rattle.std.specs.Prelude.{◌≡◌, ◌⊎◌, ℕ, List, Err};
+ghost use Rattle.yaml_scan.specs.declared.fault.Code.TheVariants.{LeftOut, Limit, NotUtf8, RepeatedKey, Structure, Tab};
+ghost use Rattle.yaml_scan.specs.declared.fault.Fault.{Fault};
+ghost use Rattle.yaml_tree.specs.declared.node.Node.{Node};
+ghost use Rattle.yaml_tree.specs.Tree.{tree};
+ghost use Rattle.yaml_laws.specs.Refused.{SameLines};
+ghost use Rattle.yaml_codes.specs.Notation.{Breaks, EndsQuoted, HasNotation, IsNotationText, IsUnspelled};
+
+/// C4 and C12 stand at a line that goes on in the notation, where a rule on its trees is broken at the line: C4 at a key that stands
+/// already in its map, C12 at a node that stands in 64 others. Or else no text with these lines is in the notation.
+pub fn a_code_of_the_tree_names_its_rule()
+    ensures { (text : List ℕ) (f : Fault) → tree text ≡ Err f → (f.code ≡ RepeatedKey) ⊎ (f.code ≡ Limit)
+        → HasNotation f.line text (Breaks f.line f.code) ⊎ IsUnspelled f.line text }
+{}
+
+/// A text in the notation is refused for one of these two rules alone.
+pub fn notation_breaks_no_other_rule()
+    ensures { (text : List ℕ) (root : Node) (f : Fault) → IsNotationText text root → tree text ≡ Err f → (f.code ≡ RepeatedKey) ⊎ (f.code ≡ Limit) }
+{}
+
+/// C1, C3 and C13 stand at a line with which no text of the notation goes on.
+pub fn what_is_left_out_is_no_notation()
+    ensures { (text : List ℕ) (f : Fault) → tree text ≡ Err f → (f.code ≡ LeftOut) ⊎ ((f.code ≡ Tab) ⊎ (f.code ≡ NotUtf8)) → IsUnspelled f.line text }
+{}
+
+/// C2 too stands at a line with which no text of the notation goes on, unless the lines up to it end inside a quoted scalar.
+pub fn an_open_quote_may_go_on()
+    ensures { (text other : List ℕ) (f : Fault) (root : Node) → SameLines f.line text other → tree text ≡ Err f → f.code ≡ Structure → IsNotationText other root
+        → EndsQuoted f.line text }
+{}
