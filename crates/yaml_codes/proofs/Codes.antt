@@ -76,7 +76,7 @@ on_alike P no_piece h = h
 on_alike P (more_alike w a) h = (h.0, on_alike P a h.1)
 
 mutual
-  low_node : {line floor : ℕ} {ps rest : List Piece} {x : Node} → n.IsNode line floor ps x rest → Low rest → Low ps
+  pub low_node : {line floor : ℕ} {ps rest : List Piece} {x : Node} → n.IsNode line floor ps x rest → Low rest → Low ps
   low_node (n.absent e) l = l
   low_node (n.one_leaf le h) l = (h, l)
   low_node (n.list le i) l = low_items i l

@@ -3,3 +3,4 @@ pub mod Layouts
 pub mod Spelled
 pub mod Allowed
 pub mod Codes
+pub mod Grammar

@@ -1,11 +1,19 @@
 //! Laws of the definitions alone. Each is a function that does nothing; its contract is the law.
-ghost use Rattle.std.specs.Prelude.{◌≡◌, ◌⊎◌, ℕ, List, Err};
+ghost use Rattle.std.specs.Prelude.{◌≡◌, ◌⊎◌, ℕ, List, Err, Ok};
 ghost use Rattle.yaml_scan.specs.declared.fault.Code.TheVariants.{LeftOut, Limit, NotUtf8, RepeatedKey, Structure, Tab};
 ghost use Rattle.yaml_scan.specs.declared.fault.Fault.{Fault};
 ghost use Rattle.yaml_tree.specs.declared.node.Node.{Node};
+ghost use Rattle.yaml_tree.specs.Spelling.{IsText};
 ghost use Rattle.yaml_tree.specs.Tree.{tree};
 ghost use Rattle.yaml_laws.specs.Refused.{SameLines};
 ghost use Rattle.yaml_codes.specs.Notation.{Breaks, EndsQuoted, HasNotation, IsNotationText, IsUnspelled};
+
+/// Each text of the grammar is in the notation, with its tree; and a text in the notation that is not refused is in the grammar, with that
+/// tree.
+pub fn the_grammar_is_notation_that_is_not_refused()
+    ensures grammar { (text : List ℕ) (root : Node) → IsText text root → IsNotationText text root }
+    ensures notation { (text : List ℕ) (root x : Node) → IsNotationText text root → tree text ≡ Ok x → IsText text root }
+{}
 
 /// C4 and C12 stand at a line that goes on in the notation, where a rule on its trees is broken at the line: C4 at a key that stands
 /// already in its map, C12 at a node that stands in 64 others. Or else no text with these lines is in the notation.
