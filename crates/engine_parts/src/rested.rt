@@ -15,13 +15,18 @@ fn flag_after(source: Option<u32>, quiet: bool, of: u32, flag: bool) -> bool
 /// All sources are rested.
 const ALL: [bool; 16] = [true; 16];
 
-/// Behind a quiet journal all are rested. This is done at each line, so the flags are written at once and not one by one.
+/// Behind a quiet journal all are rested. This is done at each line, so the flags are written at once and not one by one: all sixteen, as
+/// an engine has them, in one word.
 fn set_all(flags: &mut [bool])
     requires { length flags.old ≤ 16 }
     ensures { flags.new ≡ replicate (length flags.old) true }
 {
     let count = flags.len();
-    flags.copy_from_slice(&ALL[..count]);
+    if count == 16 {
+        flags.copy_from_slice(&ALL);
+    } else {
+        flags.copy_from_slice(&ALL[..count]);
+    }
 }
 
 /// After an entry that is a line of this source, or of none, one after the other.
