@@ -15,17 +15,26 @@ fn flag_after(source: Option<u32>, quiet: bool, of: u32, flag: bool) -> bool
 /// All sources are rested.
 const ALL: [bool; 16] = [true; 16];
 
+/// The same of fewer than sixteen. It is a call of its own, since else both are compiled to one copy of any length.
+#[inline(never)]
+fn set_fewer(flags: &mut [bool])
+    requires { length flags.old ≤ 16 }
+    ensures { flags.new ≡ replicate (length flags.old) true }
+{
+    let count = flags.len();
+    flags.copy_from_slice(&ALL[..count]);
+}
+
 /// Behind a quiet journal all are rested. This is done at each line, so the flags are written at once and not one by one: all sixteen, as
 /// an engine has them, in one word.
 fn set_all(flags: &mut [bool])
     requires { length flags.old ≤ 16 }
     ensures { flags.new ≡ replicate (length flags.old) true }
 {
-    let count = flags.len();
-    if count == 16 {
+    if flags.len() == 16 {
         flags.copy_from_slice(&ALL);
     } else {
-        flags.copy_from_slice(&ALL[..count]);
+        set_fewer(flags);
     }
 }
 
