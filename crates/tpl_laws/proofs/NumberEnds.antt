@@ -6,10 +6,10 @@ use Rattle.std.proofs.lemmas.Bool.{and_parts, cond-true, cond-false}
 use Rattle.ha_value.specs.declared.value.Num.{Num}
 use Rattle.ha_value.specs.Numbers.{read_number}
 use Rattle.reading.specs.Answer.{front}
-use Rattle.reading.specs.Bytes.{sees}
+use Rattle.reading.specs.Bytes.{sees, skip_digits}
 use Rattle.reading.proofs.Basics.{chosen_is}
 use Rattle.reading.proofs.Bytes.{sees_front}
-use Rattle.tpl_parse.specs.Literal.{before, behind_number, before_range_end, begins_places, is_digit, in_range, number, skip_digits}
+use Rattle.tpl_parse.specs.Literal.{before, behind_number, before_range_end, begins_places, is_digit, in_range, number}
 use Rattle.tpl_parse.specs.Grammar.{other, more as one_more, IsDigits, IsNumeral, whole, places, IsNumber, number as number_is}
 use Rattle.tpl_parse.proofs.Next.{before_is}
 use Rattle.tpl_parse.proofs.Runs.{digits_found, numeral_read}

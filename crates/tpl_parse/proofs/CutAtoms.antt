@@ -6,7 +6,7 @@ use Rattle.std.proofs.Math.ListN.{length-drop}
 use Rattle.ha_value.specs.declared.value.Value.{Value}
 use Rattle.ha_model.specs.declared.template.Expr.{Expr}
 use Rattle.ha_model.specs.declared.template.Expr
-use Rattle.reading.specs.Answer.{◌>>=◌, made}
+use Rattle.reading.specs.Answer.{made}
 use Rattle.reading.proofs.Basics.{chosen_is}
 use Rattle.tpl_parse.specs.declared.token.Token.{Token}
 use Rattle.tpl_parse.specs.declared.table.Counts.{Counts}
@@ -19,7 +19,7 @@ use Rattle.tpl_parse.specs.Literal.{number, string, skip_word, word}
 use Rattle.tpl_parse.specs.Reading.{Inner, Start, numeric, quoted, bracket, group, letter, nothing as no_start, after_item, arguments, atom, atom_by, by_word, call_or_name, constant, enclosed, in_group, item_turns, items_in, no_end, not_called, open_reach, choice_reach, start_of, tokens_behind, word_atom}
 use Rattle.tpl_parse.proofs.Tokens.{spaces_twice}
 use Rattle.tpl_parse.proofs.Next.{past_shorter}
-use Rattle.tpl_parse.proofs.Shorter.{Read, Within, Keeps, Opens, IsOpen, later, length-spaces, length-past, length-behind, after_item_keeps, item_turns_keeps, arguments_keeps, call_or_name_keeps, by_word_keeps, atom_keeps}
+use Rattle.tpl_parse.proofs.Shorter.{Read, Within, Keeps, Opens, IsOpen, later, length-spaces, after_item_keeps, item_turns_keeps, arguments_keeps, call_or_name_keeps, by_word_keeps, atom_keeps, closes_keeps, commas_keeps, no_longer_than}
 use Rattle.tpl_parse.proofs.Ahead.{grows, ahead, is_ahead, any_ahead, all_clear, reaches}
 use Rattle.tpl_parse.proofs.Cut.{Nothing, beyond, begun, Agree, same, fails, late, Local, Skips, Sharp, agree_is, agree_bind, agree_made, agree_plain, blank, shown, split, all_blank, nothing, partly, there, other, looks, past_late}
 use Rattle.tpl_parse.proofs.CutLexical.{ended, runs, runs_of, word_is, run_late, string_cut}
@@ -105,9 +105,6 @@ opens_of (Some inner) k = k.opens
 abbrev closes : Token → Part → Reads Expr
 closes close part t = cond (next_is close t) (Ok (part.expr, behind close t)) (no_end part.last part.choice (close ∷ []) (spaces t))
 
-closes_keeps : (close : Token) (part : Part) → Keeps (closes close part)
-closes_keeps close part t = elim (chosen_is (next_is close t)) [ inl b ↦ rw b (length-past close t) | inr b ↦ rw b (omega (arith, length-drop {A = ℕ}, length-spaces t)) ]
-
 closes_skips : (close : Token) (part : Part) → Skips (closes close part)
 closes_skips close part t = rw (spaces_twice t) refl
 
@@ -138,12 +135,6 @@ More = List Expr → Reads (List Expr)
 
 abbrev commas : Counts → More → List Expr → Part → Reads (List Expr)
 commas counts more items part t = cond (takes_behind counts.most (length items) && next_is Token.Comma t) (more items (behind Token.Comma t)) (no_end part.last part.choice [] (spaces t))
-
-commas_keeps : (counts : Counts) (more : More) (items : List Expr) (part : Part) → Keeps (more items) → Keeps (commas counts more items part)
-commas_keeps counts more items part h t = elim (chosen_is (takes_behind counts.most (length items) && next_is Token.Comma t)) [
-  | inl d ↦ rw d (later (more items) h (behind Token.Comma t) (length t) (length-behind Token.Comma t))
-  | inr d ↦ rw d (omega (arith, length-drop {A = ℕ}, length-spaces t))
-]
 
 commas_skips : (counts : Counts) (more : More) (items : List Expr) (part : Part) → Skips (commas counts more items part)
 commas_skips counts more items part t = rw (spaces_twice t) refl
@@ -198,9 +189,6 @@ after_item_late close clear counts more items part h t d a at k = elim (chosen_i
     | inr n ↦ rw (f, n) (commas_late counts more items part h t d a at k)
   ]
 ]
-
-pub no_longer_than : {A : Type 0} (rule : Reads A) → Keeps rule → (t : List ℕ) (x : A) (rest : List ℕ) → rule t ≡ Ok (x, rest) → length rest ≤ length t
-no_longer_than {A} rule h t x rest e = let w : Within (length t) (rule t) = h t in rw e at w
 
 item_turns_cut : (n m : ℕ) (expression : Reads Part) → Keeps expression → Local Cov expression → (close : Token) → Sharp close → all_clear every close ≡ true → (counts : Counts) (found : List Expr) (c a b : List ℕ) → length (c ++ a) < n
     → Agree Nothing a b (item_turns n expression close counts found (c ++ a)) (item_turns m expression close counts found (c ++ b))

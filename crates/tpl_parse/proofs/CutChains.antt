@@ -9,6 +9,7 @@ use Rattle.ha_model.specs.declared.template.Expr.{Expr}
 use Rattle.ha_model.specs.declared.template.Expr
 use Rattle.reading.specs.Answer.{◌>>=◌, front, stop}
 use Rattle.reading.proofs.Basics.{chosen_is, bind_ok, ok_parts, made_ok}
+use Rattle.reading.proofs.Shorter.{bind}
 use Rattle.tpl_parse.specs.declared.token.Token.{Token}
 use Rattle.tpl_parse.specs.declared.table.Counts.{Counts}
 use Rattle.tpl_parse.specs.declared.table.Filter.{Filter}
@@ -22,11 +23,11 @@ use Rattle.tpl_parse.specs.Reading.{Inner, after_operator, arguments, at_place, 
 use Rattle.tpl_parse.proofs.Tokens.{spaces_twice}
 use Rattle.tpl_parse.proofs.Apart.{Quiet}
 use Rattle.tpl_parse.proofs.Next.{Fault}
-use Rattle.tpl_parse.proofs.Shorter.{Read, Within, Keeps, IsOpen, later, length-spaces, enclosed_keeps, name_keeps, filter_name_keeps, at_place_keeps, part_turns_keeps, signed_keeps, filter_arguments_keeps, filter_turns_keeps, operand_turns_keeps, factor_keeps, product_keeps, joined_keeps}
+use Rattle.tpl_parse.proofs.Shorter.{Read, Within, Keeps, IsOpen, later, length-spaces, enclosed_keeps, name_keeps, filter_name_keeps, at_place_keeps, part_turns_keeps, signed_keeps, filter_arguments_keeps, filter_turns_keeps, operand_turns_keeps, factor_keeps, product_keeps, joined_keeps, no_longer_than}
 use Rattle.tpl_parse.proofs.Ahead.{grows, ahead, is_ahead, any_ahead, all_clear, starts, stands_is, ends_alike}
 use Rattle.tpl_parse.proofs.Cut.{Nothing, Late, beyond, begun, Agree, same, fails, late, Local, Skips, Sharp, agree_is, agree_bind, agree_plain, within_then, Split, blank, shown, split, all_blank, nothing, partly, there, other, looks, past_late}
 use Rattle.tpl_parse.proofs.CutLexical.{name_cut, filter_name_cut}
-use Rattle.tpl_parse.proofs.CutAtoms.{sharp_of, not_sharp, every, any_front, any_back, IsCut, opens_of, enclosed_cut, arguments_cut, sooner, no_longer_than, Dotted}
+use Rattle.tpl_parse.proofs.CutAtoms.{sharp_of, not_sharp, every, any_front, any_back, IsCut, opens_of, enclosed_cut, arguments_cut, sooner, Dotted}
 
 shown_less : (c a : List ℕ) (e : ℕ) (d : List ℕ) → spaces (c ++ a) ≡ e ∷ (d ++ a) → length (e ∷ (d ++ a)) ≤ length (c ++ a)
 shown_less c a e d s = omega (arith, ap length s, length-spaces (c ++ a))
@@ -190,7 +191,7 @@ module _ (E : Part → List ℕ → Type 0) (paired : (op : Op) (left right : Pa
     unfolding chain
     chain_cut c a b =
         agree_bind E E a b (λ first. turns (suc (length first.1)) first.0 first.1) (λ first. turns (suc (length first.1)) first.0 first.1) (operand (c ++ a)) (operand (c ++ b))
-        (λ x t. operand_turns_keeps (suc (length t)) rows operand keeps x t)
+        (λ x m t. operand_turns_keeps (suc (length t)) rows operand keeps x m t)
         (λ x rest d at k. turn_late (suc (length rest)) (omega arith) x rest d a at k)
         (λ x d is. turns_cut (suc (length (d ++ a))) (suc (length (d ++ b))) x d a b (omega arith)) (cut c a b)
 
@@ -317,8 +318,7 @@ abbrev with_filter : ℕ → Option Inner → Expr → Filter × List ℕ → Re
 with_filter n inner base filter = filter_arguments inner (filter_row filter.0).counts filter.1 >>= λ args. filter_turns n inner (applied base filter.0 args.0) args.1
 
 with_filter_keeps : (n : ℕ) (inner : Option Inner) → IsOpen inner → (base : Expr) (filter : Filter) → Keeps (λ t. with_filter n inner base (filter, t))
-with_filter_keeps n inner h base filter t =
-    within_then (length t) (λ args. filter_turns n inner (applied base filter args.0) args.1) (filter_arguments inner (filter_row filter).counts t) (λ args. filter_turns_keeps n inner h (applied base filter args)) (filter_arguments_keeps inner h (filter_row filter).counts t)
+with_filter_keeps n inner h base filter m t le = bind (filter_arguments_keeps inner h (filter_row filter).counts m t le) (λ args k. filter_turns_keeps n inner h (applied base filter args.0) m args.1 k)
 
 filter_turns_cut : (n m : ℕ) (inner : Option Inner) → IsCut inner → (base : Expr) (c a b : List ℕ) → length (c ++ a) < n → Agree Nothing a b (filter_turns n inner base (c ++ a)) (filter_turns m inner base (c ++ b))
 unfolding filter_turns
@@ -347,7 +347,7 @@ module _ (atoms : (inner : Option Inner) → IsCut inner → Local Dotted (atom 
   unfolding reached
   reached_cut inner k c a b =
       agree_bind Dotted Nothing a b (λ base. part_turns (suc (length base.1)) inner base.0 base.1) (λ base. part_turns (suc (length base.1)) inner base.0 base.1) (atom inner (c ++ a)) (atom inner (c ++ b))
-      (λ x t. part_turns_keeps (suc (length t)) inner (opens_of inner k) x t)
+      (λ x m t. part_turns_keeps (suc (length t)) inner (opens_of inner k) x m t)
       (λ x rest d at dot. beyond (dot_late (length rest) inner (opens_of inner k) x rest a (at ∙ ap (λ (z : List ℕ). z ++ a) dot)))
       (λ x d is. part_turns_cut (suc (length (d ++ a))) (suc (length (d ++ b))) inner k x d a b (omega arith)) (atoms inner k c a b)
 
@@ -374,7 +374,7 @@ module _ (atoms : (inner : Option Inner) → IsCut inner → Local Dotted (atom 
   unfolding filtered
   filtered_cut inner k c a b =
       agree_bind Nothing Nothing a b (λ base. filter_turns (suc (length base.1)) inner base.0 base.1) (λ base. filter_turns (suc (length base.1)) inner base.0 base.1) (signed inner (c ++ a)) (signed inner (c ++ b))
-      (λ x t. filter_turns_keeps (suc (length t)) inner (opens_of inner k) x t) (λ x rest d at q. absurd q)
+      (λ x m t. filter_turns_keeps (suc (length t)) inner (opens_of inner k) x m t) (λ x rest d at q. absurd q)
       (λ x d is. filter_turns_cut (suc (length (d ++ a))) (suc (length (d ++ b))) inner k x d a b (omega arith)) (signed_cut inner k c a b)
 
   factor_cut : (inner : Option Inner) → IsCut inner → Local Signs (operand Level.Product inner)

@@ -8,6 +8,7 @@ use Rattle.ha_model.specs.declared.template.Expr.{Expr}
 use Rattle.ha_model.specs.declared.template.Expr
 use Rattle.reading.specs.Answer.{◌>>=◌, made}
 use Rattle.reading.proofs.Basics.{chosen_is}
+use Rattle.reading.proofs.Shorter.{kept, bind, either}
 use Rattle.tpl_parse.specs.declared.token.Token.{Token}
 use Rattle.tpl_parse.specs.declared.expression.Last.{Last}
 use Rattle.tpl_parse.specs.declared.expression.Level.{Level}
@@ -16,7 +17,7 @@ use Rattle.tpl_parse.specs.Token.{Reads, in_name, spaces, stands, next_is, past,
 use Rattle.tpl_parse.specs.Literal.{skip_word}
 use Rattle.tpl_parse.specs.Reading.{Inner, any_operator, behind_operator, operator_of, atom, chain, chosen, comparator, compared, comparison, comparisons, conjunction, disjunction, ending, expression, filtered, filter_turns, inside, joined, negation, none_test, opened, operand, operand_turns, operator, operators, part_of, part_turns, product, reached, signed, sum, test_tokens, tested, tested_last, tested_printed, tokens_behind, with_else, with_right}
 use Rattle.tpl_parse.proofs.Tokens.{spaces_twice}
-use Rattle.tpl_parse.proofs.Shorter.{Read, Within, Keeps, Opens, IsOpen, later, made_within, length-spaces, length-past, want_keeps, tested_keeps, test_keeps, part_turns_keeps, filter_turns_keeps, operand_turns_keeps, factor_keeps, product_keeps, joined_keeps, compared_keeps, with_right_keeps, negation_keeps, conjunction_keeps, disjunction_keeps, with_else_keeps, inside_opens}
+use Rattle.tpl_parse.proofs.Shorter.{Read, Within, Keeps, Opens, IsOpen, later, made_within, length-spaces, want_keeps, tested_keeps, test_keeps, part_turns_keeps, filter_turns_keeps, operand_turns_keeps, factor_keeps, product_keeps, joined_keeps, compared_keeps, with_right_keeps, negation_keeps, conjunction_keeps, disjunction_keeps, with_else_keeps, inside_opens, last_keeps, printed_keeps, after_sum_keeps, length-behind}
 use Rattle.tpl_parse.proofs.Ahead.{ahead, is_ahead, any_ahead, all_clear}
 use Rattle.tpl_parse.proofs.Cut.{Nothing, Late, beyond, begun, same, fails, late, Local, Skips, agree_is, agree_bind, agree_from, agree_made, agree_plain, within_then, all_blank, nothing, partly, there, other, looks, past_late, reach_late}
 use Rattle.tpl_parse.proofs.CutLexical.{want_cut}
@@ -49,15 +50,6 @@ module _ (turned : Bool) where
 
   none_ahead : (d : List ℕ) → is_ahead Token.None d ≡ true → any_ahead (test_tokens turned) d ≡ true
   none_ahead d h = elim turned as (λ x. any_ahead (test_tokens x) d ≡ true) [ true ↦ rw h refl | false ↦ rw h refl ]
-
-  last_keeps : Keeps (tested_last turned)
-  last_keeps t = elim (chosen_is (next_is Token.Defined t)) [ inl n ↦ rw n (length-past Token.Defined t) | inr n ↦ rw n (omega (arith, length-drop {A = ℕ}, length-spaces t)) ]
-
-  printed_keeps : Keeps (tested_printed turned)
-  printed_keeps t = elim (chosen_is (next_is Token.PrintedNone t)) [
-    | inl n ↦ rw n (length-past Token.PrintedNone t)
-    | inr n ↦ rw n (later (tested_last turned) last_keeps (spaces t) (length t) (length-spaces t))
-  ]
 
   last_skips : Skips (tested_last turned)
   last_skips t = rw (spaces_twice t) refl
@@ -94,7 +86,7 @@ module _ (turned : Bool) where
 
   last_cut : Local Nothing (tested_last turned)
   last_cut c a b = elim (looks Token.Defined c) [
-    | nothing s ↦ late (beyond (all_blank (tested_last turned) last_skips last_keeps c a (s a)))
+    | nothing s ↦ late (beyond (all_blank (tested_last turned) last_skips (last_keeps turned) c a (s a)))
     | partly e d s h ↦ late (beyond (last_late (c ++ a) (e ∷ d) a (s a) (defined_ahead (e ∷ d) h)))
     | there u n p ↦ rw (n a, n b) (same turned u (ap (λ (z : List ℕ). Ok (turned, z)) (p a)) (ap (λ (z : List ℕ). Ok (turned, z)) (p b)))
     | other e d s n ↦ rw (n b) (fails _ refl)
@@ -102,7 +94,7 @@ module _ (turned : Bool) where
 
   printed_cut : Local Nothing (tested_printed turned)
   printed_cut c a b = elim (looks Token.PrintedNone c) [
-    | nothing s ↦ late (beyond (all_blank (tested_printed turned) printed_skips printed_keeps c a (s a)))
+    | nothing s ↦ late (beyond (all_blank (tested_printed turned) printed_skips (printed_keeps turned) c a (s a)))
     | partly e d s h ↦ late (beyond (printed_late (c ++ a) (e ∷ d) a (s a) (printed_ahead (e ∷ d) h)))
     | there u n p ↦ rw (n a, n b) (same (not turned) u (ap (λ (z : List ℕ). Ok (not turned, z)) (p a)) (ap (λ (z : List ℕ). Ok (not turned, z)) (p b)))
     | other e d s n ↦ rw (n a, n b) (agree_is (ap (tested_last turned) (s a)) (ap (tested_last turned) (s b)) (last_cut (e ∷ d) a b))
@@ -224,12 +216,6 @@ is_every d h = any_back (Token.Or ∷ Token.And ∷ Token.Minus ∷ Token.Modulo
 abbrev after_sum : Option Inner → Part → Reads Part
 after_sum inner left t = cond (next_is Token.Is t) (made (λ holds. ending (Expr.IsNone left.expr holds) Last.Tested) (none_test (behind Token.Is t))) (compared inner left (spaces t))
 
-after_sum_keeps : (inner : Option Inner) → IsOpen inner → (left : Part) → Keeps (after_sum inner left)
-after_sum_keeps inner h left t = elim (chosen_is (next_is Token.Is t)) [
-  | inl n ↦ rw n (made_within (length t) (λ holds. ending (Expr.IsNone left.expr holds) Last.Tested) (none_test (past Token.Is t)) (later none_test test_keeps (past Token.Is t) (length t) (length-past Token.Is t)))
-  | inr n ↦ rw n (later (compared inner left) (compared_keeps inner h left) (spaces t) (length t) (length-spaces t))
-]
-
 after_sum_skips : (inner : Option Inner) (left : Part) → Skips (after_sum inner left)
 after_sum_skips inner left t = rw (spaces_twice t) refl
 
@@ -278,7 +264,7 @@ module _ (inner : Inner) (h : Opens inner) (d a : List ℕ) (front_of : skip_wor
 
   reached_word : Within (length a) (reached open' here)
   unfolding reached
-  reached_word = within_then (length a) (λ base. part_turns (suc (length base.1)) open' base.0 base.1) (atom open' here) (λ x t. part_turns_keeps (suc (length t)) open' h x t) atom_word
+  reached_word = within_then (length a) (λ base. part_turns (suc (length base.1)) open' base.0 base.1) (atom open' here) (λ x m t. part_turns_keeps (suc (length t)) open' h x m t) atom_word
 
   signed_word : Within (length a) (signed open' here)
   unfolding signed
@@ -286,11 +272,11 @@ module _ (inner : Inner) (h : Opens inner) (d a : List ℕ) (front_of : skip_wor
 
   filtered_word : Within (length a) (filtered open' here)
   unfolding filtered
-  filtered_word = within_then (length a) (λ base. filter_turns (suc (length base.1)) open' base.0 base.1) (signed open' here) (λ x t. filter_turns_keeps (suc (length t)) open' h x t) signed_word
+  filtered_word = within_then (length a) (λ base. filter_turns (suc (length base.1)) open' base.0 base.1) (signed open' here) (λ x m t. filter_turns_keeps (suc (length t)) open' h x m t) signed_word
 
   chain_word : (rows : List (Token × Op)) (operand : Reads Part) → Keeps operand → Within (length a) (operand here) → Within (length a) (chain rows operand here)
   unfolding chain
-  chain_word rows operand k w = within_then (length a) (λ first. operand_turns (suc (length first.1)) rows operand first.0 first.1) (operand here) (λ x t. operand_turns_keeps (suc (length t)) rows operand k x t) w
+  chain_word rows operand k w = within_then (length a) (λ first. operand_turns (suc (length first.1)) rows operand first.0 first.1) (operand here) (λ x m t. operand_turns_keeps (suc (length t)) rows operand k x m t) w
 
   sum_word : Within (length a) (sum open' here)
   unfolding sum joined product
@@ -358,7 +344,8 @@ after_yes_past : (inner : Option Inner) → IsOpen inner → (yes' : Part) (t : 
 after_yes_past inner h yes' t n le = within_then n (λ test'. with_else inner yes' test'.0 test'.1) (disjunction inner t) (with_else_keeps inner h yes') (later (disjunction inner) (disjunction_keeps inner h) t n le)
 
 after_yes_keeps : (inner : Option Inner) → IsOpen inner → (yes' : Part) → Keeps (after_yes inner yes')
-after_yes_keeps inner h yes' t = elim (chosen_is (next_is Token.If t)) [ inl n ↦ rw n (after_yes_past inner h yes' (past Token.If t) (length t) (length-past Token.If t)) | inr n ↦ rw n (length-spaces t) ]
+after_yes_keeps inner h yes' m t le =
+    either _ (bind (disjunction_keeps inner h m (behind Token.If t) (omega (arith, length-behind Token.If t))) (λ test' k. with_else_keeps inner h yes' test'.0 m test'.1 k)) (kept (omega (arith, length-spaces t)))
 
 after_yes_skips : (inner : Option Inner) (yes' : Part) → Skips (after_yes inner yes')
 after_yes_skips inner yes' t = rw (spaces_twice t) refl

@@ -6,7 +6,7 @@ use Rattle.std.specs.Str.{bytes_eq}
 use Rattle.std.proofs.Math.ListN.{length-drop}
 use Rattle.std.proofs.lemmas.Bool.{eqb-true, eq-eqb}
 use Rattle.std.proofs.lemmas.Slice.Eq.{bytes_eq-Decides}
-use Rattle.reading.specs.Answer.{◌>>=◌, front}
+use Rattle.reading.specs.Answer.{front}
 use Rattle.reading.proofs.Basics.{chosen_is}
 use Rattle.reading.proofs.Solid.{Solid, IsSolid}
 use Rattle.reading.proofs.Characters.{character_solid, ascii_read}
@@ -17,7 +17,7 @@ use Rattle.tpl_parse.specs.Names.{filter_row, filter_named, filters_reach, farth
 use Rattle.tpl_parse.specs.Literal.{before, character, plain_or, escape_at, string_character, string_turns, string, skip_word, word, name, name_at, unreserved, filter_name, filter_or, standing}
 use Rattle.tpl_parse.proofs.Tokens.{spaces_twice}
 use Rattle.tpl_parse.proofs.Next.{before_is}
-use Rattle.tpl_parse.proofs.Shorter.{Read, Within, length-skip_word, string_character_keeps, string_turns_keeps, name_keeps, filter_name_keeps, want_keeps}
+use Rattle.tpl_parse.proofs.Shorter.{Read, Within, length-skip_word, string_turns_keeps, name_keeps, filter_name_keeps, want_keeps, later}
 use Rattle.tpl_parse.proofs.Strings.{string_character_shorter}
 use Rattle.tpl_parse.proofs.Ahead.{all_clear}
 use Rattle.tpl_parse.proofs.Cut.{Nothing, beyond, Agree, same, fails, late, Local, Skips, agree_is, agree_bind, agree_plain, blank, shown, split, all_blank, nothing, partly, there, other, looks, past_late, reach_late}
@@ -81,14 +81,11 @@ string_character_cut e [] a b = elim (chosen_is (e == 92)) [
 ]
 string_character_cut e (f ∷ c) a b = plain_cut (escape_at (e ∷ f ∷ [])) (e ∷ f ∷ c) a b (λ x. inr (c, λ z. refl))
 
-string_character_less : (t : List ℕ) (x : List ℕ) (rest : List ℕ) → string_character t ≡ Ok (x, rest) → length rest ≤ length t
-string_character_less t x rest e = rw e at (string_character_keeps t)
-
 pub string_turns_cut : (n m quote : ℕ) (found c a b : List ℕ) → length (c ++ a) < n → Agree Nothing a b (string_turns n quote found (c ++ a)) (string_turns m quote found (c ++ b))
 unfolding string_turns
 string_turns_cut zero m quote found c a b lt = absurd (omega arith)
 string_turns_cut (suc n) zero quote found c a b lt = fails _ refl
-string_turns_cut (suc n) (suc m) quote found [] a b lt = late (beyond (string_turns_keeps (suc n) quote found a))
+string_turns_cut (suc n) (suc m) quote found [] a b lt = late (beyond (later (string_turns (suc n) quote found) (string_turns_keeps (suc n) quote found) a (length a) (omega arith)))
 string_turns_cut (suc n) (suc m) quote found (e ∷ c) a b lt = elim (chosen_is (e == quote)) [
   | inl h ↦ rw h (same found c refl refl)
   | inr h ↦ rw h (agree_bind Nothing Nothing a b (λ s. string_turns n quote (found ++ s.0) s.1) (λ s. string_turns m quote (found ++ s.0) s.1) (string_character (e ∷ c ++ a)) (string_character (e ∷ c ++ b))

@@ -9,8 +9,10 @@ use Rattle.ha_value.specs.declared.value.Num.{Num}
 use Rattle.ha_value.specs.Numbers.{read_number}
 use Rattle.reading.specs.Answer.{front}
 use Rattle.reading.proofs.Basics.{chosen_is}
+use Rattle.reading.specs.Bytes.{skip_digits}
+use Rattle.reading.proofs.Bytes.{length-skip_digits}
 use Rattle.tpl_parse.specs.Token.{spaces}
-use Rattle.tpl_parse.specs.Literal.{before, skip_digits, is_digit, begins_places, behind_number, number, in_range, before_range_end}
+use Rattle.tpl_parse.specs.Literal.{before, is_digit, begins_places, behind_number, number, in_range, before_range_end}
 use Rattle.tpl_parse.proofs.Shorter.{length-behind_number}
 use Rattle.tpl_parse.proofs.Cut.{Agree, same, fails, late, beyond, begun, agree_is}
 use Rattle.tpl_parse.proofs.CutAtoms.{Dotted}
@@ -31,11 +33,6 @@ run_of (b ∷ c) = elim (chosen_is (is_ascii_digit b)) [ inl h ↦ run_more b c 
 
 abbrev behind_whole : List ℕ → List ℕ
 behind_whole whole = cond (begins_places whole) (skip_digits (drop 1 whole)) whole
-
-length-skip_digits : (t : List ℕ) → length (skip_digits t) ≤ length t
-unfolding skip_digits
-length-skip_digits [] = omega arith
-length-skip_digits (b ∷ t) = elim (chosen_is (is_ascii_digit b)) [ inl h ↦ rw h (omega (arith, length-skip_digits t)) | inr h ↦ rw h (omega arith) ]
 
 -- where the number ends, or that it may go on; a dot at the end of what is known may be its own
 data NumberCut (c : List ℕ) : Type 0 where

@@ -11,6 +11,7 @@ use Rattle.reading.specs.Answer.{◌>>=◌}
 use Rattle.reading.specs.Bytes.{sees}
 use Rattle.reading.proofs.Basics.{chosen_is}
 use Rattle.reading.proofs.Characters.{ascii_read, character_shorter}
+use Rattle.reading.proofs.Shorter.{kept, bind}
 use Rattle.tpl_parse.specs.declared.token.Token.{Token}
 use Rattle.tpl_parse.specs.declared.pieces.Tag.{Tag}
 use Rattle.tpl_parse.specs.declared.expression.Part.{Part}
@@ -20,12 +21,12 @@ use Rattle.tpl_parse.specs.Reading.{Inner, atom, expression, opened, tag_depth, 
 use Rattle.tpl_parse.specs.Pieces.{Choosing, Found, after_piece, after_text, begun as begun_choice, behind_sign, closed, comment, comment_ends, comment_turns, end_of, in_choice, last_expression, next_arm, one_of, open_choice, piece_turns, plain_end, plain_last, set_name, sign_of, statement, statement_by, statements, tag_at, tag_by, tag_end, tag_expression, template, text, text_turns, with_piece, with_text}
 use Rattle.tpl_parse.proofs.Tokens.{spaces_twice}
 use Rattle.tpl_parse.proofs.Next.{Fault}
-use Rattle.tpl_parse.proofs.Shorter.{Read, Within, Keeps, later, length-spaces, length-past, want_keeps}
-use Rattle.tpl_parse.proofs.PiecesShorter.{text_turns_keeps, comment_turns_keeps, one_of_keeps, end_of_keeps, plain_last_keeps, last_expression_keeps, statement_by_keeps, tag_by_keeps, after_piece_keeps, piece_turns_keeps, length-behind_sign}
+use Rattle.tpl_parse.proofs.Shorter.{Read, Within, Keeps, later, want_keeps, no_longer_than}
+use Rattle.tpl_parse.proofs.PiecesShorter.{text_turns_keeps, comment_turns_keeps, one_of_keeps, end_of_keeps, plain_last_keeps, last_expression_keeps, statement_by_keeps, tag_by_keeps, after_piece_keeps, piece_turns_keeps, length-behind_sign, plain_end_keeps, tail_keeps}
 use Rattle.tpl_parse.proofs.Ahead.{is_ahead, any_ahead, all_clear}
 use Rattle.tpl_parse.proofs.Cut.{Nothing, beyond, begun, Agree, same, fails, late, Local, Skips, agree_is, agree_bind, agree_plain, within_then, nothing, partly, there, other, looks, all_blank, past_late, reach_late}
 use Rattle.tpl_parse.proofs.CutLexical.{character_cut, name_cut, want_cut}
-use Rattle.tpl_parse.proofs.CutAtoms.{every, any_back, Cov, cov_every, no_end_late, IsCut, Dotted, no_longer_than}
+use Rattle.tpl_parse.proofs.CutAtoms.{every, any_back, Cov, cov_every, no_end_late, IsCut, Dotted}
 use Rattle.tpl_parse.proofs.CutExpressions.{expression_cut, opened_cut}
 
 -- ---- what stands before a place
@@ -73,7 +74,7 @@ open_text : (n e : ℕ) (a : List ℕ) → e ≡ 123 → (o : Option Tag) → (W
 open_text n e a h (Some tag) = inr (tag, refl)
 open_text n e a h None =
     let r : character (123 ∷ a) ≡ Ok (123, a) = ascii_read tt 123 a (omega arith) in
-    inl (rw h (rw r (text_turns_keeps n a)))
+    inl (rw h (rw r (later (text_turns n) (text_turns_keeps n) a (length a) (omega arith))))
 
 decided : (n m : ℕ) (a b : List ℕ) (e f : ℕ) (d : List ℕ) → ((u : List ℕ) → length (u ++ a) < n → TextCut a b u (text_turns n (u ++ a)) (text_turns m (u ++ b))) → length (e ∷ f ∷ d ++ a) < suc n → (o : Option Tag)
     → TextCut a b (e ∷ f ∷ d) (after_text o (text_turns n) (e ∷ f ∷ d ++ a)) (after_text o (text_turns m) (e ∷ f ∷ d ++ b))
@@ -84,7 +85,7 @@ text_turns_cut : (n m : ℕ) (c a b : List ℕ) → length (c ++ a) < n → Text
 unfolding text_turns
 text_turns_cut zero m c a b lt = absurd (omega arith)
 text_turns_cut (suc n) zero c a b lt = text_fails _ refl
-text_turns_cut (suc n) (suc m) [] a b lt = text_late (text_turns_keeps (suc n) a)
+text_turns_cut (suc n) (suc m) [] a b lt = text_late (later (text_turns (suc n)) (text_turns_keeps (suc n)) a (length a) (omega arith))
 text_turns_cut (suc n) (suc m) (e ∷ []) a b lt = elim (chosen_is (e == 123)) [
   | inl h ↦ elim (open_text n e a (eqb-true e 123 h) (tag_at (e ∷ a))) [ inl w ↦ text_late w | inr w ↦ text_open w.0 e w.1 ]
   | inr h ↦ rw h (text_by n m a b (λ u less. text_turns_cut n m u a b less) (e ∷ []) lt (character (e ∷ a)) (character (e ∷ b)) refl (character_cut (e ∷ []) a b))
@@ -108,7 +109,7 @@ hash_late (suc n) a lt =
     let r : character (35 ∷ a) ≡ Ok (35, a) = ascii_read tt 35 a (omega arith) in
     elim (chosen_is (sees 125 a)) [
       | inl h ↦ rw h (omega (arith, length-drop {A = ℕ} 1 a))
-      | inr h ↦ rw (h, r) (comment_turns_keeps n a)
+      | inr h ↦ rw (h, r) (later (comment_turns n) (comment_turns_keeps n) a (length a) (omega arith))
     ]
 
 module _ (n m : ℕ) (a b : List ℕ) (again : (d : List ℕ) → length (d ++ a) < n → Agree Nothing a b (comment_turns n (d ++ a)) (comment_turns m (d ++ b))) where
@@ -125,7 +126,7 @@ byte_late n e a lt (inr h) =
     let r : character (45 ∷ a) ≡ Ok (45, a) = ascii_read tt 45 a (omega arith) in
     rw h (elim (chosen_is (comment_ends a)) [
       | inl k ↦ rw k (omega (arith, length-drop {A = ℕ} 2 a))
-      | inr k ↦ rw (k, r) (comment_turns_keeps n a)
+      | inr k ↦ rw (k, r) (later (comment_turns n) (comment_turns_keeps n) a (length a) (omega arith))
     ])
 
 dash_late : (n : ℕ) (a : List ℕ) → 0 < n → Within (length a) (comment_turns (suc n) (45 ∷ 35 ∷ a))
@@ -141,7 +142,7 @@ comment_turns_cut : (n m : ℕ) (c a b : List ℕ) → length (c ++ a) < n → A
 unfolding comment_turns
 comment_turns_cut zero m c a b lt = absurd (omega arith)
 comment_turns_cut (suc n) zero c a b lt = fails _ refl
-comment_turns_cut (suc n) (suc m) [] a b lt = late (beyond (comment_turns_keeps (suc n) a))
+comment_turns_cut (suc n) (suc m) [] a b lt = late (beyond (later (comment_turns (suc n)) (comment_turns_keeps (suc n)) a (length a) (omega arith)))
 comment_turns_cut (suc n) (suc m) (e ∷ []) a b lt = elim (chosen_is (e == 35)) [
   | inl h ↦ late (beyond (byte_late n e a (omega arith) (inl (eqb-true e 35 h))))
   | inr h ↦ elim (chosen_is (e == 45)) [
@@ -223,9 +224,6 @@ module _ (end trimming : Token) (trims_clear : all_clear (end ∷ trimming ∷ [
   in_trimming : (d : List ℕ) → is_ahead trimming d ≡ true → any_ahead both d ≡ true
   in_trimming d h = any_back (end ∷ []) (trimming ∷ []) d (rw h refl)
 
-  plain_end_keeps : Keeps (plain_end end trimming)
-  plain_end_keeps t = elim (chosen_is (next_is end t)) [ inl n ↦ rw n (length-past end t) | inr n ↦ rw n (omega (arith, length-drop {A = ℕ}, length-spaces t)) ]
-
   plain_end_late : (t d a : List ℕ) → spaces t ≡ d ++ a → any_ahead both d ≡ true → Within (length a) (plain_end end trimming t)
   plain_end_late t d a at h = elim (chosen_is (next_is end t)) [ inl n ↦ rw n (past_late both end t d a at h end_clear n) | inr n ↦ rw n (reach_late both t d a at h) ]
 
@@ -243,7 +241,7 @@ module _ (end trimming : Token) (trims_clear : all_clear (end ∷ trimming ∷ [
 
   plain_end_cut : Local Nothing (plain_end end trimming)
   plain_end_cut c a b = elim (looks end c) [
-    | nothing s ↦ late (beyond (all_blank (plain_end end trimming) plain_end_skips plain_end_keeps c a (s a)))
+    | nothing s ↦ late (beyond (all_blank (plain_end end trimming) plain_end_skips (plain_end_keeps end trimming) c a (s a)))
     | partly e d s h ↦ late (beyond (plain_end_late (c ++ a) (e ∷ d) a (s a) (in_end (e ∷ d) h)))
     | there u n p ↦ rw (n a, n b) (same false u (ap (λ (z : List ℕ). Ok (false, z)) (p a)) (ap (λ (z : List ℕ). Ok (false, z)) (p b)))
     | other e d s n ↦ rw (n b) (fails _ refl)
@@ -279,9 +277,6 @@ module _ (end trimming : Token) (trims_clear : all_clear (end ∷ trimming ∷ [
     abbrev tail : Part → Reads (Expr × Bool)
     tail part t = cond (next_is trimming t) (Ok ((part.expr, true), behind trimming t)) (plain_last end trimming part (spaces t))
 
-    tail_keeps : (part : Part) → Keeps (tail part)
-    tail_keeps part t = elim (chosen_is (next_is trimming t)) [ inl n ↦ rw n (length-past trimming t) | inr n ↦ rw n (later (plain_last end trimming part) (plain_last_keeps end trimming part) (spaces t) (length t) (length-spaces t)) ]
-
     tail_late : (part : Part) (t d a : List ℕ) → spaces t ≡ d ++ a → Open part d → Within (length a) (tail part t)
     tail_late part t d a at k = elim (chosen_is (next_is trimming t)) [
       | inl n ↦ rw n (past_open part trimming trims_clear every_trims t d a at k n)
@@ -307,7 +302,7 @@ module _ (end trimming : Token) (trims_clear : all_clear (end ∷ trimming ∷ [
 
     tail_cut : (part : Part) → Local Nothing (tail part)
     tail_cut part c a b = elim (looks trimming c) [
-      | nothing s ↦ late (beyond (all_blank (tail part) (tail_skips part) (tail_keeps part) c a (s a)))
+      | nothing s ↦ late (beyond (all_blank (tail part) (tail_skips part) (tail_keeps end trimming part) c a (s a)))
       | partly e d s h ↦ late (beyond (tail_late part (c ++ a) (e ∷ d) a (s a) (inl (in_trimming (e ∷ d) h))))
       | there u n p ↦ rw (n a, n b) (same (part.expr, true) u (ap (λ (z : List ℕ). Ok ((part.expr, true), z)) (p a)) (ap (λ (z : List ℕ). Ok ((part.expr, true), z)) (p b)))
       | other e d s n ↦ rw (n a, n b) (agree_is (ap (plain_last end trimming part) (s a)) (ap (plain_last end trimming part) (s b)) (plain_last_cut part (e ∷ d) a b))
@@ -316,7 +311,7 @@ module _ (end trimming : Token) (trims_clear : all_clear (end ∷ trimming ∷ [
     last_cut : ((inner : Option Inner) → IsCut inner → Local Dotted (atom inner)) → Local Nothing (last_expression end trimming)
     unfolding last_expression
     last_cut atoms c a b =
-        agree_bind Cov Nothing a b (λ part. tail part.0 part.1) (λ part. tail part.0 part.1) (expression (opened tag_depth) (c ++ a)) (expression (opened tag_depth) (c ++ b)) tail_keeps (λ x rest d at k. beyond (tail_late x rest d a at (inr k)))
+        agree_bind Cov Nothing a b (λ part. tail part.0 part.1) (λ part. tail part.0 part.1) (expression (opened tag_depth) (c ++ a)) (expression (opened tag_depth) (c ++ b)) (tail_keeps end trimming) (λ x rest d at k. beyond (tail_late x rest d a at (inr k)))
         (λ x d e. tail_cut x d a b) (expression_cut atoms (opened tag_depth) (opened_cut atoms tag_depth) c a b)
 
 -- ---- tags
@@ -338,17 +333,17 @@ module _ (atoms : (inner : Option Inner) → IsCut inner → Local Dotted (atom 
   with_name found n = want Token.Assign n.1 >>= with_sign found n.0
 
   sign_keeps : (found : Found) (n : List ℕ) (x : Unit {0}) → Keeps (λ t. with_sign found n (x, t))
-  sign_keeps found n x t = within_then (length t) (with_value found n) (tag_expression t) (λ v u. omega arith) (last_expression_keeps Token.TagEnd Token.TrimTagEnd t)
+  sign_keeps found n x m t le = bind (last_expression_keeps Token.TagEnd Token.TrimTagEnd m t le) (λ v k. kept k)
 
   name_rest_keeps : (found : Found) (n : List ℕ) → Keeps (λ t. with_name found (n, t))
-  name_rest_keeps found n t = within_then (length t) (with_sign found n) (want Token.Assign t) (sign_keeps found n) (want_keeps Token.Assign t)
+  name_rest_keeps found n m t le = bind (want_keeps Token.Assign m t le) (λ sign k. sign_keeps found n sign.0 m sign.1 k)
 
   set_name_cut : (found : Found) → Local Nothing (set_name found)
   unfolding set_name
   set_name_cut found c a b =
       agree_bind Nothing Nothing a b (with_name found) (with_name found) (name (c ++ a)) (name (c ++ b)) (name_rest_keeps found) (λ x rest d at k. absurd k)
       (λ n d e. agree_bind Nothing Nothing a b (with_sign found n) (with_sign found n) (want Token.Assign (d ++ a)) (want Token.Assign (d ++ b)) (sign_keeps found n) (λ x rest v at k. absurd k)
-      (λ x v e'. agree_bind Nothing Nothing a b (with_value found n) (with_value found n) (tag_expression (v ++ a)) (tag_expression (v ++ b)) (λ w u. omega arith) (λ y rest z at k. absurd k)
+      (λ x v e'. agree_bind Nothing Nothing a b (with_value found n) (with_value found n) (tag_expression (v ++ a)) (tag_expression (v ++ b)) (λ w m u le. kept le) (λ y rest z at k. absurd k)
       (λ y z e''. same (with_piece found (Piece.Assign n y.0) y.1) z refl refl) (tag_expression_cut v a b))
       (want_cut Token.Assign refl d a b))
       (name_cut c a b)
@@ -416,7 +411,7 @@ module _ (atoms : (inner : Option Inner) → IsCut inner → Local Dotted (atom 
       let w : List ℕ → List ℕ = λ d. take (length c - length d) c in
       elim (text_cut c a b) [
         | text_fails g e ↦ fails g (ap (λ (z : Read (Option Tag)). z >>= q m (c ++ b)) e)
-        | text_late l ↦ late (beyond (within_then (length a) (q n (c ++ a)) (text (c ++ a)) (λ x t. after_piece_keeps x (piece_turns n) (piece_turns_keeps n) found (before (c ++ a) t) t) l))
+        | text_late l ↦ late (beyond (within_then (length a) (q n (c ++ a)) (text (c ++ a)) (λ x m t. after_piece_keeps x (piece_turns n) (piece_turns_keeps n) found (before (c ++ a) t) m t) l))
         | text_open tag e is ↦ late (beyond (subst (λ (z : Read (Option Tag)). Within (length a) (z >>= q n (c ++ a))) (sym is) (piece_late (piece_turns n) (piece_turns_keeps n) tag found (before (c ++ a) (e ∷ a)) (e ∷ a) a (omega (arith, length-drop {A = ℕ} 1 a)))))
         | text_same tag e f d le is is' ↦
             let here = ap (λ (z : Read (Option Tag)). z >>= q n (c ++ a)) is ∙ ap (λ (z : List ℕ). after_piece (Some tag) (piece_turns n) found z (e ∷ f ∷ d ++ a)) (before_cut c (e ∷ f ∷ d) a) in

@@ -1,5 +1,5 @@
 -- The methods that read expressions, against their rules: what a token that was taken says, and each loop against the turns of its rule.
-use Rattle.std.proofs.Common.{◌≡◌, ℕ, zero, suc, ◌≤◌, ◌<◌, Bool, true, false, cond, inl, inr, List, [], ◌∷◌, ◌++◌, length, drop, Option, Some, None, Ok, Err, refl, sym, ap, subst, ◌∙◌, arith}
+use Rattle.std.proofs.Common.{◌≡◌, ℕ, zero, suc, ◌≤◌, ◌<◌, Bool, true, false, cond, inl, inr, List, [], ◌∷◌, ◌++◌, length, drop, Option, Some, None, Ok, Err, refl, sym, ap, ◌∙◌, arith}
 use Rattle.std.specs.Prelude.{◌-◌, max, ◌&&◌, ◌||◌, ◌==◌, nat_eq, nat_le, nat_lt, is_some}
 use Rattle.std.proofs.Math.ListN.{length-drop}
 use Rattle.std.proofs.lemmas.Bool.{eqb-true}
@@ -23,7 +23,7 @@ use Rattle.tpl_parse.specs.declared.expression.Last.{Last}
 use Rattle.tpl_parse.specs.Names.{filter_row, takes_behind}
 use Rattle.tpl_parse.specs.Literal.{filter_name, name}
 use Rattle.tpl_parse.specs.Reading.{Inner, arguments, at_place, atom, behind_operator, call_or_name, chain, comparison, enclosed, ending, expression, filter_arguments, filter_turns, inside, item_turns, negation, not_called, open_reach, opened, operand, operand_turns, operator, operator_of, operators, pair, part_turns}
-use Rattle.tpl_parse.proofs.Shorter.{IsOpen, Keeps, Within, enclosed_keeps, filter_arguments_keeps, filter_name_keeps, inside_opens, length-spaces, name_keeps, opened_opens, operand_keeps}
+use Rattle.tpl_parse.proofs.Shorter.{IsOpen, Keeps, enclosed_keeps, filter_arguments_keeps, filter_name_keeps, inside_opens, length-spaces, name_keeps, opened_opens, operand_keeps, no_longer_than}
 use Rattle.tpl_parse.proofs.Tokens.{common_within, spaces_twice}
 
 -- ---- what was found, and the turns that are left, give the whole
@@ -80,10 +80,6 @@ taken_shorter token t new r some found moved h =
     let here : next_is token t ≡ true = sym found ∙ h in
     let at : new ≡ past token t = moved ∙ rw here refl in
     rw at (past_shorter token t some here)
-
--- what a rule leaves
-pub kept : {A : Type 0} (rule : Reads A) → Keeps rule → (t : List ℕ) (x : A) (rest : List ℕ) → rule t ≡ Ok (x, rest) → length rest ≤ length t
-kept {A} rule keeps t x rest e = subst (λ (r : Answer ℕ (Bad (Unit {0})) A). Within (length t) r) e (keeps t)
 
 abbrev HaveText : List (Token × Op) → Type 0
 HaveText [] = Unit {0}
@@ -165,7 +161,7 @@ pub operand_shorter : (level : Level) (depth : ℕ) (t moved : List ℕ) (r : Op
     → (right : Part) (after : List ℕ) → operand level (opened depth) moved ≡ Ok (right, after) → length after < length t
 operand_shorter level depth t moved r found behind op is right after given =
     let first : length moved < length t = operator_shorter level t r moved found behind op is in
-    let then : length after ≤ length moved = kept (operand level (opened depth)) (operand_keeps level (opened depth) (opened_opens depth)) moved right after given in
+    let then : length after ≤ length moved = no_longer_than (operand level (opened depth)) (operand_keeps level (opened depth) (opened_opens depth)) moved right after given in
     omega arith
 
 -- ---- what is open
@@ -304,7 +300,7 @@ module _ (expression : Reads Part) (close : Token) (counts : Counts) (found : Li
       pub item_shorter : Keeps expression → comma ≡ true → length new < length rest
       item_shorter keeps h =
           let k = past_comma h in
-          let less : length after ≤ length rest = kept expression keeps rest part after given in
+          let less : length after ≤ length rest = no_longer_than expression keeps rest part after given in
           rw k.2 (omega (arith, past_shorter Token.Comma after (omega arith) k.1, less))
 
       pub next_item : Keeps expression → comma ≡ true → Continues (further_items expression close counts) all new total
@@ -350,8 +346,8 @@ module _ (inner : Option Inner) where
           pub filter_shorter : length new < length rest
           filter_shorter =
               let behind_bar : length moved < length rest = taken_shorter Token.Bar rest moved bar (omega arith) bars moves h in
-              let behind_name : length after ≤ length moved = kept (filter_name opens) (filter_name_keeps opens) moved filter after named in
-              let behind_arguments : length new ≤ length after = kept (filter_arguments inner counts) (filter_arguments_keeps inner open_keeps counts) after args new given in
+              let behind_name : length after ≤ length moved = no_longer_than (filter_name opens) (filter_name_keeps opens) moved filter after named in
+              let behind_arguments : length new ≤ length after = no_longer_than (filter_arguments inner counts) (filter_arguments_keeps inner open_keeps counts) after args new given in
               omega arith
 
           pub next_filter : (next : Expr) (number : ℕ) → number ≡ (filter_row filter).number → next ≡ Expr.Filter number base args → Continues further_filters next new total
@@ -390,7 +386,7 @@ module _ (depth : ℕ) (base : Expr) (rest : List ℕ) (total : Answer ℕ (Bad 
       pub key_shorter : length new < length rest
       key_shorter =
           let behind_dot : length moved < length rest = taken_shorter Token.Dot rest moved dot (omega arith) dots moves h in
-          let behind_key : length new ≤ length moved = kept name name_keeps moved key new given in
+          let behind_key : length new ≤ length moved = no_longer_than name name_keeps moved key new given in
           omega arith
 
       pub next_key : (next : Expr) → next ≡ Expr.Field base key → Continues (further_parts (opened depth)) next new total
@@ -430,7 +426,7 @@ module _ (depth : ℕ) (base : Expr) (rest : List ℕ) (total : Answer ℕ (Bad 
         index_shorter =
             let k = place_at in
             let keeps = enclosed_keeps (inside (opened (depth - 1))) (inside_opens (opened (depth - 1)) (opened_opens (depth - 1))) Token.CloseList in
-            let behind_index : length new ≤ length inside_at = kept (enclosed (inside (opened (depth - 1))) Token.CloseList) keeps inside_at index new given in
+            let behind_index : length new ≤ length inside_at = no_longer_than (enclosed (inside (opened (depth - 1))) Token.CloseList) keeps inside_at index new given in
             let behind_bracket : length (past Token.OpenList moved) < length moved = past_shorter Token.OpenList moved (omega arith) k.1 in
             let blanks : length moved ≤ length rest = rw no_dot.1 (length-spaces rest) in
             let at : length inside_at < length moved = rw k.2 behind_bracket in

@@ -5,11 +5,11 @@ use Rattle.std.proofs.lemmas.Bool.{cond-true, cond-false, and_parts}
 use Rattle.ha_value.specs.declared.value.Num.{Num}
 use Rattle.ha_value.specs.Numbers.{read_number}
 use Rattle.reading.specs.Answer.{front, stop}
-use Rattle.reading.specs.Bytes.{sees}
+use Rattle.reading.specs.Bytes.{sees, skip_digits}
 use Rattle.reading.proofs.Basics.{chosen, chosen_is, ok_parts}
 use Rattle.reading.proofs.Bytes.{sees_front}
 use Rattle.tpl_parse.specs.Token.{begins_name, in_name, is_reserved}
-use Rattle.tpl_parse.specs.Literal.{before, skip_word, word, skip_digits, behind_number, begins_places, is_digit, in_range, number, unreserved, name_at}
+use Rattle.tpl_parse.specs.Literal.{before, skip_word, word, behind_number, begins_places, is_digit, in_range, number, unreserved, name_at}
 use Rattle.tpl_parse.specs.Grammar.{IsRun, end, other, more, IsWord, IsDigits, IsNumeral, whole, places, IsNumber, number as number_is, IsName, name as name_is}
 use Rattle.tpl_parse.proofs.Next.{Fault, before_is}
 

@@ -9,6 +9,7 @@ use Rattle.tpl_parse.specs.declared.pieces.Tag.{Tag}
 use Rattle.tpl_parse.specs.declared.token.Token.{Token}
 use Rattle.std.specs.List.{find}
 use Rattle.reading.proofs.Basics.{chosen}
+use Rattle.tpl_parse.proofs.Shorter.{no_longer_than}
 use Rattle.tpl_parse.specs.Token.{Reads, none_of, past, spaces, stands}
 use Rattle.tpl_parse.specs.Literal.{before, character}
 use Rattle.tpl_parse.specs.Pieces.{Found, behind_sign, finished, one_of, sign_of, tag_by, with_text, tag_at, ended, text_turns, text, comment_ends, comment_turns, comment, piece_turns, template}
@@ -123,8 +124,8 @@ module _ (old : List ℕ) (found : Found) (rest : List ℕ) (so_far : Continues 
 
     pub piece_smaller : (left : Found) (after : List ℕ) → 2 ≤ length mid → piece ≡ Ok (left, after) → length after < length rest
     piece_smaller left after two g =
-        let shorter : length after ≤ length (behind_sign mid) = rw g at (tag_by_keeps tag (with_text found (sign_of mid) (before rest mid)) (behind_sign mid)) in
-        let not_longer : length mid ≤ length rest = rw given at (text_keeps rest) in
+        let shorter : length after ≤ length (behind_sign mid) = no_longer_than (tag_by tag (with_text found (sign_of mid) (before rest mid))) (tag_by_keeps tag (with_text found (sign_of mid) (before rest mid))) (behind_sign mid) left after g in
+        let not_longer : length mid ≤ length rest = no_longer_than text text_keeps rest (Some tag) mid given in
         omega (arith, length-behind_sign mid, length-drop 2 mid)
 
     pub piece_goes_on : (left : Found) (after : List ℕ) → 2 ≤ length mid → piece ≡ Ok (left, after) → Continues piece_turn left after (template old)

@@ -1,7 +1,8 @@
 -- A template that is read leaves nothing, and its fault is within the text.
-use Rattle.std.proofs.Common.{◌≡◌, ℕ, zero, suc, ◌≤◌, true, false, inl, inr, List, [], ◌∷◌, length, Option, Some, None, Ok, Err, refl, sym, ap, ◌∙◌}
+use Rattle.std.proofs.Common.{◌≡◌, ℕ, zero, suc, ◌≤◌, true, false, inl, inr, List, [], ◌∷◌, length, Option, Some, None, Ok, Err, refl, sym, ap, ◌∙◌, arith}
 use Rattle.ha_model.specs.declared.template.Template.{Template}
 use Rattle.reading.proofs.Basics.{bind_ok, ok_parts, chosen}
+use Rattle.reading.proofs.Shorter.{fault_by}
 use Rattle.tpl_parse.specs.declared.pieces.Tag.{Tag}
 use Rattle.tpl_parse.specs.Token.{Reads}
 use Rattle.tpl_parse.specs.Literal.{before, character}
@@ -54,4 +55,4 @@ unfolding template
 nothing_left t x rest e = e ∙ ap (λ (r : List ℕ). Ok (x, r)) (piece_turns_end (suc (length t)) (record { open' = []; pieces = []; trims = false }) t x rest e)
 
 pub left_within : (t : List ℕ) (f : Fault) → template t ≡ Err f → f.left ≤ length t
-left_within t f e = rw e at (template_keeps t)
+left_within t f e = fault_by f (template_keeps (length t) t (omega arith)) e

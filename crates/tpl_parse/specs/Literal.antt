@@ -7,7 +7,7 @@ use Rattle.ha_value.specs.declared.value.Num.{Num}
 use Rattle.ha_value.specs.Lists.{after_first}
 use Rattle.ha_value.specs.Numbers.{read_number, without_sign}
 use Rattle.reading.specs.Answer.{◌>>=◌, front, stop}
-use Rattle.reading.specs.Bytes.{sees}
+use Rattle.reading.specs.Bytes.{sees, skip_digits}
 use Rattle.reading.specs.Characters.{character as utf8_character}
 use Rattle.tpl_parse.specs.declared.table.Filter.{Filter}
 use Rattle.tpl_parse.specs.Names.{filter_named, filters_reach, may_stand}
@@ -24,10 +24,6 @@ abbrev pub character : Reads ℕ
 character = utf8_character tt
 
 -- ---- numbers
-
-unfoldable pub skip_digits : List ℕ → List ℕ
-skip_digits [] = []
-skip_digits (b ∷ rest) = if is_ascii_digit b then skip_digits rest else b ∷ rest
 
 abbrev pub is_digit : Option ℕ → Bool
 is_digit None = false

@@ -2,7 +2,7 @@
 
 ghost use Rattle.std.specs.Prelude.{◌≡◌, ◌≢◌, ◌≤◌, ◌<◌, ◌++◌, length, None, IfSome};
 ghost use Rattle.reading.specs.Answer.{Gives, made};
-ghost use Rattle.tpl_parse.specs.Literal.{begins_places, behind_number, character, escape, escape_at, is_digit, number, skip_digits, string, string_character, unescaped};
+ghost use Rattle.tpl_parse.specs.Literal.{begins_places, behind_number, character, escape, escape_at, is_digit, number, string, string_character, unescaped};
 ghost use Rattle.tpl_parse.specs.Leaves.{Leaves};
 
 use crate::parser::{Parser, Stopped};
@@ -73,26 +73,14 @@ impl<'a> Parser<'a> {
         self.bytes.character(())
     }
 
-    #[tactic(auto, unfolding(crate::specs::Literal::skip_digits))]
-    fn skip_digits(&mut self)
-        ensures exact { self.new ≡ skip_digits self.old }
-        ensures shorter { length self.new ≤ length self.old }
-    {
-        while let Some(b) = self.peek()
-            && b.is_ascii_digit()
-        {
-            self.bump();
-        }
-    }
-
     /// Takes digits, and perhaps a dot with digits. A dot with no digit behind it is not the number's.
     fn skip_numeral(&mut self)
         ensures { self.new ≡ behind_number self.old }
     {
-        self.skip_digits();
+        self.bytes.skip_digits();
         if begins_places(self.rest()) {
             self.bump();
-            self.skip_digits();
+            self.bytes.skip_digits();
         }
     }
 
