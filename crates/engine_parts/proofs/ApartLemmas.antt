@@ -246,7 +246,7 @@ apart-strands (i ∷ c) d x list b began s s' one other apart branch branch' =
 pub two-allowed : (f : Frames) (began : Began) (s s' : Spot) → is_some (gate_at s.branch (fronts_of f began)) ≡ true → is_some (gate_at s'.branch (fronts_of f began)) ≡ true → (s.branch ≡ s'.branch → ⊥)
     → is_some (continues f began (s ∷ s' ∷ [])) ≡ (is_some (continues f began (s ∷ [])) && is_some (continues f began (s' ∷ [])))
 unfolding IsApart
-two-allowed f began s s' one other apart = apart-strands s.branch s'.branch f.root f.actions [] began s s' one other apart refl refl
+two-allowed f began s s' one other apart = apart-strands s.branch s'.branch f.root f.script.value [] began s s' one other apart refl refl
 
 -- ---- behind a step
 

@@ -45,10 +45,11 @@ module _ (k : Journal) (rs : Records) (table : IsTable k rs) (new : Record) (f :
     free-gates delays w (a ∷ rest) = (tt, tt)
 
     -- LAW: its frames are kept
-    pub fresh-live : (delays : List Timer) (w : Waits) → new.end ≡ None → f.serial ≡ new.serial → LiveKept k delays w new f
-    fresh-live delays w end serial = record {
+    pub fresh-live : (delays : List Timer) (w : Waits) → new.end ≡ None → f.serial ≡ new.serial → f.automation ≡ new.automation → LiveKept k delays w new f
+    fresh-live delays w end serial automation = record {
       live = end;
       serial = serial;
+      automation = automation;
       stands = subst (λ ss. Stands f (actions_of (automations k) new.automation) new.env ss) (sym nowhere) stands;
       gates = subst (λ ss. GatesKept k delays w new.serial (fronts f ss)) (sym nowhere) (subst (GatesKept k delays w new.serial) (sym first) (free-gates delays w (actions_of (automations k) new.automation)));
     }

@@ -33,6 +33,7 @@ module _ (k : Journal) (delays : List Timer) (w w' : Waits) where
       record {
         live = sym end ∙ live.live;
         serial = live.serial ∙ same.serial;
+        automation = live.automation ∙ same.automation;
         stands = subst (λ q. Stands f (actions_of (automations k) r'.automation) r'.env (spots k q)) same.serial
             (subst (λ (env : Pairs). Stands f (actions_of (automations k) r'.automation) env (spots k r.serial)) same.env
             (subst (λ a. Stands f (actions_of (automations k) a) r.env (spots k r.serial)) same.automation live.stands));

@@ -91,6 +91,7 @@ module _ (j : Journal) (x : Entry) (delays delays' : List Timer) (w w' : Waits) 
       record {
         live = live.live;
         serial = live.serial;
+        automation = live.automation;
         stands = subst (λ ss. Stands f (actions_of (automations (more j x)) r.automation) r.env ss) places (subst (λ actions. Stands f actions r.env (spots j r.serial)) script live.stands);
         gates = subst (λ ss. GatesKept (more j x) delays' w' r.serial (fronts f ss)) places (gates-more j x delays delays' w w' r.serial (fronts f (spots j r.serial)) queue asks live.gates);
       }

@@ -95,11 +95,11 @@ module _ (j : Journal) (k s : ℕ) (b : Branch) (item : Item) (delays delays' : 
   all-told old new out queue others due ask kept (g ∷ F) told = (told-known old new out queue others due ask kept g told.0, all-told old new out queue others due ask kept F told.1)
 
   -- LAW: the frames of the run that made a step are kept behind it, where its new delay and its new wait were taken in
-  pub stepped-kept : (r : Record) (f f' : Frames) (out : StepOut) → HasEntry j → r.serial ≡ s → LiveKept j delays w r f → f'.serial ≡ f.serial
+  pub stepped-kept : (r : Record) (f f' : Frames) (out : StepOut) → HasEntry j → r.serial ≡ s → LiveKept j delays w r f → f'.serial ≡ f.serial → f'.automation ≡ f.automation
       → Stands f' (actions_of (automations j) r.automation) r.env (spots j s ++ (next_spot j b ∷ []))
       → AreTold s (length j) (now j) b (fronts f (spots j s)) (fronts f' (spots j s ++ (next_spot j b ∷ []))) out
       → QueueKept (now j') delays delays' → OthersKept w w' s b → DueTaken (now j') (length j) b (fronts f' (spots j s ++ (next_spot j b ∷ []))) delays' → AskTaken (length j) s b out w' → LiveKept j' delays' w' r f'
-  stepped-kept r f f' out h own live serial stands told queue others due ask =
+  stepped-kept r f f' out h own live serial automation stands told queue others due ask =
       let self : nat_eq s s ≡ true = search rules in
       let places : spots j s ++ (next_spot j b ∷ []) ≡ spots j' r.serial
       = (λ i. spots j s ++ (if sym self i then next_spot j b ∷ [] else [])) ∙ sym (spots-more j x s) ∙ (λ i. spots j' (sym own i)) in
@@ -108,6 +108,7 @@ module _ (j : Journal) (k s : ℕ) (b : Branch) (item : Item) (delays delays' : 
       record {
         live = live.live;
         serial = serial ∙ live.serial;
+        automation = automation ∙ live.automation;
         stands = subst (λ ss. Stands f' (actions_of (automations j') r.automation) r.env ss) places (subst (λ actions. Stands f' actions r.env (spots j s ++ (next_spot j b ∷ []))) script stands);
         gates = subst (λ ss. GatesKept j' delays' w' r.serial (fronts f' ss)) places (subst (λ q. GatesKept j' delays' w' q new) (sym own) (all-told (fronts f (spots j s)) new out queue others due ask (subst (λ q. GatesKept j delays w q (fronts f (spots j q))) own live.gates) new told));
       }

@@ -1,9 +1,9 @@
 -- A run that is listed anew has the pairs that it should.
-use Rattle.std.proofs.Common.{◌≡◌, ℕ, zero, suc, ◌-◌, ◌<◌, List, [], ◌∷◌, length, true, refl, sym, subst, ◌∙◌, arith}
+use Rattle.std.proofs.Common.{◌≡◌, ℕ, zero, suc, ◌-◌, ◌<◌, List, [], ◌∷◌, length, true, refl, sym, ap, subst, ◌∙◌, arith}
 use Rattle.std.specs.Prelude.{Option, Some, None, slice_get, option_and_then}
 use Rattle.std.specs.Option.{option_map_or}
 use Rattle.ha_model.specs.declared.journal.Record.{Record}
-use Rattle.ha_model.specs.Journal.{Journal}
+use Rattle.ha_model.specs.Journal.{Journal, automations}
 use Rattle.ha_model.specs.Scripts.{Branch}
 use Rattle.ha_model.specs.Records.{Records}
 use Rattle.ha_model.specs.Lawful.{record_of}
@@ -11,7 +11,7 @@ use Rattle.script_step.specs.Gates.{open_now}
 use Rattle.script_step.specs.Frames.{began_by, begins}
 use Rattle.script_step.specs.Ready.{ready_of}
 use Rattle.script_step.proofs.FrontLemmas.{ready-fronts}
-use Rattle.ha_model.specs.Records.{spots}
+use Rattle.ha_model.specs.Records.{actions_of, spots}
 use Rattle.engine_parts.specs.Fronts.{fronts}
 use Rattle.script_step.specs.declared.frames.Frames.{Frames}
 use Rattle.engine_parts.specs.Waiting.{ends}
@@ -32,7 +32,7 @@ found (r ∷ rs) (suc i) lt = found rs i (omega (arith, lt))
 module _ (rs : Records) (k : Journal) (w : Waits) (os : List (Option Frames)) (at s p : ℕ) (waking : Waking rs k w os at) (step : step_at k s p ≡ true) where
   abbrev Listed : Option Frames → List Branch → Type 0
   Listed None bs = bs ≡ []
-  Listed (Some f) bs = bs ≡ ready_of f at (λ c. ends w f.serial c)
+  Listed (Some f) bs = actions_of (automations k) f.automation ≡ f.script.value → bs ≡ ready_of f at (λ c. ends w f.serial c)
 
   -- LAW: the branches of the run that its frames list, and none where it has ended
   pub listed : (o : Option Frames) (bs : List Branch) → option_and_then (λ slot. slot) (slice_get os (s - 1)) ≡ o → Listed o bs → bs ≡ branches_at rs k s
@@ -46,8 +46,8 @@ module _ (rs : Records) (k : Journal) (w : Waits) (os : List (Option Frames)) (a
       by None is r e ended = is ∙ sym (resting rs k r (waking.resting s r e ended)) ∙ (λ i. option_map_or (ready_branches rs k) (sym e i) [])
       by (Some f) is r e live =
           let runs = waking.running s p r step e live.live in
-          is
-          ∙ ready-fronts f.root f.actions at (λ c. ends w f.serial c) (began_by begins (spots k r.serial))
+          is (ap (actions_of (automations k)) live.automation ∙ sym live.stands.stands.script)
+          ∙ ready-fronts f.root f.script.value at (λ c. ends w f.serial c) (began_by begins (spots k r.serial))
           ∙ (λ i. open_now (waking.now_is i) (ends w (live.serial i)) (fronts f (spots k r.serial)))
           ∙ sym (listed-branches k waking.delays w rs r f waking.stands runs.1 live)
           ∙ (λ i. option_map_or (ready_branches rs k) (sym e i) [])

@@ -37,6 +37,7 @@ GatesKept j delays w serial (x ∷ xs) = GateKept j delays w serial x × GatesKe
 pub record LiveKept (j : Journal) (delays : List Timer) (w : Waits) (r : Record) (f : Frames) : Type 0 where
   pub live : r.end ≡ None
   pub serial : f.serial ≡ r.serial
+  pub automation : f.automation ≡ r.automation
   pub stands : Stands f (actions_of (automations j) r.automation) r.env (spots j r.serial)
   pub gates : GatesKept j delays w r.serial (fronts f (spots j r.serial))
 

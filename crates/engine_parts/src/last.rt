@@ -1,10 +1,11 @@
 //! The first and the last entry of a journal.
 ghost use Rattle.std.specs.Prelude.{◌≡◌, ◌-◌, ◌<◌, length, take};
+ghost use Rattle.ha_model.specs.Records.{actions_of};
 ghost use Rattle.ha_model.specs.declared.journal.Entry.{Entry as Item};
 ghost use Rattle.ha_model.specs.Journal.{Journal, IsJournal, automations};
 ghost use Rattle.ha_model.specs.RecordSteps.{more};
 
-use ha_model::{Config, Entry};
+use ha_model::{Action, Config, Entry};
 
 /// The configuration of the boot.
 pub fn configuration(journal: &[Entry]) -> &Config
@@ -14,6 +15,19 @@ pub fn configuration(journal: &[Entry]) -> &Config
     match journal.first() {
         Some(Entry::Boot { config, .. }) => config,
         _ => unreachable!(),
+    }
+}
+
+/// The script of an automation of the boot; a number that names none has no action.
+pub fn script(journal: &[Entry], automation: u32) -> &[Action]
+    ensures { result.now ≡ actions_of (automations journal.now) automation }
+{
+    match journal.first() {
+        Some(Entry::Boot { config, .. }) => match config.automations.get(automation as usize) {
+            Some(rule) => rule.actions.as_slice(),
+            None => &[],
+        },
+        _ => &[],
     }
 }
 

@@ -75,7 +75,7 @@ pub fn picked_steps_are_right()
 
 /// The frames of the run that made a step are kept behind it, where its new delay and its new wait were taken in.
 pub fn stepped_frames_are_kept()
-    ensures { (j : Journal) (k s : ℕ) (b : Branch) (item : Item) (delays delays' : List Timer) (w w' : Waits) (r : Record) (f f' : Frames) (out : StepOut) → HasEntry j → r.serial ≡ s → LiveKept j delays w r f → f'.serial ≡ f.serial
+    ensures { (j : Journal) (k s : ℕ) (b : Branch) (item : Item) (delays delays' : List Timer) (w w' : Waits) (r : Record) (f f' : Frames) (out : StepOut) → HasEntry j → r.serial ≡ s → LiveKept j delays w r f → f'.serial ≡ f.serial → f'.automation ≡ f.automation
         → Stands f' (actions_of (automations j) r.automation) r.env (spots j s ++ next_spot j b ∷ []) → AreTold s (length j) (now_of j) b (fronts f (spots j s)) (fronts f' (spots j s ++ next_spot j b ∷ [])) out
         → QueueKept (now_of (more j (Step k s b item))) delays delays' → OthersKept w w' s b → DueTaken (now_of (more j (Step k s b item))) (length j) b (fronts f' (spots j s ++ next_spot j b ∷ [])) delays' → AskTaken (length j) s b out w'
         → LiveKept (more j (Step k s b item)) delays' w' r f' }
@@ -115,7 +115,7 @@ pub fn one_run_more_is_kept()
     ensures added { (k : Journal) (rs : Records) (delays : List Timer) (w : Waits) (new : Record) (f : Frames) (os : List (Option Frames)) (pairs : List (ℕ × Branch)) (bs : List Branch) → LiveKept k delays w new f
         → ready_branches rs k new ≡ bs → RunsKept nobody k rs delays w os pairs → RunsKept nobody k (rs ++ new ∷ []) delays w (os ++ Some f ∷ []) (pairs ++ pairs_of (suc (length rs)) bs) }
     ensures live { (k : Journal) (rs : Records) → IsTable k rs → (new : Record) (f : Frames) → new.serial ≡ suc (length rs) → Stands f (actions_of (automations k) new.automation) new.env []
-        → fronts f [] ≡ first_fronts (actions_of (automations k) new.automation) → (delays : List Timer) (w : Waits) → new.end ≡ None → f.serial ≡ new.serial → LiveKept k delays w new f }
+        → fronts f [] ≡ first_fronts (actions_of (automations k) new.automation) → (delays : List Timer) (w : Waits) → new.end ≡ None → f.serial ≡ new.serial → f.automation ≡ new.automation → LiveKept k delays w new f }
     ensures branches { (k : Journal) (rs : Records) → IsTable k rs → (new : Record) (f : Frames) → new.serial ≡ suc (length rs) → Stands f (actions_of (automations k) new.automation) new.env []
         → fronts f [] ≡ first_fronts (actions_of (automations k) new.automation) → (all : Records) → is_running (length k) new ≡ true → ready_branches all k new ≡ first_branches (actions_of (automations k) new.automation) }
 {}

@@ -17,6 +17,7 @@ ghost use Rattle.engine_parts.specs.Pending.{AreOthers, AreWaits};
 ghost use Rattle.engine_parts.specs.Without.{without_owners};
 ghost use Rattle.engine_parts.specs.Kept.{KeysBelow, Owned};
 
+use crate::last::script;
 use crate::ready::{Ready, set_run};
 use crate::slots::Slots;
 use ha_model::{Entry, Many, Moment};
@@ -47,16 +48,17 @@ fn run_at(frames: &Slots<Frames>, serial: u64) -> Option<&Frames>
 fn refresh(
     ready: &mut Ready,
     frames: &Slots<Frames>,
+    journal: &[Entry],
     alloc: Global,
     now: Moment,
     waits: &Waits,
     serial: u64,
 ) -> Result<(), AllocError>
-    ensures { OnOk result ((rs : Records) (k : Journal) (p : ℕ) (left : List ℕ) → Waking rs k waits.now frames.now.items now → step_at k serial p ≡ true
-        → AgreesBut (touched k (p ∷ left)) rs k ready.old.pairs.items → AgreesBut (touched k left) rs k ready.new.pairs.items) }
+    ensures { OnOk result ((rs : Records) (p : ℕ) (left : List ℕ) → Waking rs journal.now waits.now frames.now.items now → step_at journal.now serial p ≡ true
+        → AgreesBut (touched journal.now (p ∷ left)) rs journal.now ready.old.pairs.items → AgreesBut (touched journal.now left) rs journal.now ready.new.pairs.items) }
 {
     match run_at(frames, serial) {
-        Some(run) => match run.list_ready(alloc, now, waits) {
+        Some(run) => match run.list_ready(alloc, script(journal, run.automation()), now, waits) {
             Ok(branches) => set_run(ready, serial, branches),
             Err(error) => Err(error),
         },
@@ -78,7 +80,7 @@ fn wake_one(
         → AgreesBut (touched journal.now (place ∷ left)) rs journal.now ready.old.pairs.items → AgreesBut (touched journal.now left) rs journal.now ready.new.pairs.items) }
 {
     match stepper(journal, place) {
-        Some(serial) => refresh(ready, frames, alloc, now, waits, serial),
+        Some(serial) => refresh(ready, frames, journal, alloc, now, waits, serial),
         None => Ok(()),
     }
 }
