@@ -133,7 +133,8 @@ queued-nowhere j rs worker s b item q r right found begin end apart = no-places 
 fresh : (actions : List Action) (env : Pairs) → has_few_lists actions ≡ true → Frames
 fresh actions env few = record {
   serial = 0;
-  actions = actions;
+  automation = 0;
+  script = record { marker = record {}; value = actions };
   root = record { thread = first_thread (env ∷ []); stage = first_stage actions };
   few = few;
   settled = fresh-settled (env ∷ []) actions;

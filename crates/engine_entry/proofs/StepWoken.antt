@@ -124,7 +124,7 @@ module _ (rs : Records) (w0 w1 : WaitTable) (delays0 : List Timer) (p : Parts) (
 
       live-behind : LiveKept k delays' p.waits h.picked.run h.new
       live-behind =
-          stepped-kept j h.worker s b h.out.item delays0 delays' w0 p.waits h.picked.run h.old h.new h.out (has-entry j h.right.journal) h.own h.live h.serial_is h.stands h.told queue others-kept due-taken ask-taken
+          stepped-kept j h.worker s b h.out.item delays0 delays' w0 p.waits h.picked.run h.old h.new h.out (has-entry j h.right.journal) h.own h.live h.serial_is h.automation_is h.stands h.told queue others-kept due-taken ask-taken
 
       before-told : TellsEnds w0 j
       before-told = stands-tells w0 j h.waits_stand

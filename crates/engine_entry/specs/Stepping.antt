@@ -57,10 +57,11 @@ IsStepped worker rs j k =
     (serial : ℕ) × (branch : Branch) × (item : Item)
     × (pick worker (ready rs j) ≡ Some (serial, branch)) × (k ≡ more j (Step worker serial branch item))
 
--- the run in a slot may step in a branch, at a moment, where the branch's wait ended so
-pub record MaySlot (s : ℕ) (b : Branch) (at : ℕ) (wait : Option WaitEnd) (os : List (Option Frames)) : Type 0 where
+-- the run in a slot, whose script is one of the journal's, may step in a branch, at a moment, where the branch's wait ended so
+pub record MaySlot (j : Journal) (s : ℕ) (b : Branch) (at : ℕ) (wait : Option WaitEnd) (os : List (Option Frames)) : Type 0 where
   pub frames : Frames
   pub there : slice_get os (s - 1) ≡ Some (Some frames)
+  pub script : actions_of (automations j) frames.automation ≡ frames.script.value
   pub may : may frames b at wait ≡ true
 
 -- the frames behind a step from those before it, and what it gave
@@ -71,6 +72,7 @@ pub record IsRunStep (sight : Sight) (b : Branch) (wait : Option WaitEnd) (old n
   pub progress : out.progress ≡ run.progress_of new
   pub wait_is : out.wait ≡ option_map (asked_by old.serial b sight.now) (ask_of new b)
   pub serial : new.serial ≡ old.serial
+  pub automation : new.automation ≡ old.automation
 
 -- the run in a slot made a step, and its branch is in a delay of this due, if it is in one
 pub record SlotStep (sight : Sight) (s : ℕ) (b : Branch) (wait : Option WaitEnd)
@@ -150,6 +152,7 @@ pub record StepRuns (k : Journal) (rs : Records) (progress : Progress) (wait : O
   pub live : LiveKept j delays w picked.run old
   pub slots : os' ≡ set os (serial - 1) (Some new)
   pub serial_is : new.serial ≡ old.serial
+  pub automation_is : new.automation ≡ old.automation
   pub stands : Stands new (actions_of (automations j) picked.run.automation) picked.run.env (spots j serial ++ (next_spot j branch ∷ []))
   pub told : AreTold serial (length j) (now j) branch (fronts old (spots j serial))
       (fronts new (spots j serial ++ (next_spot j branch ∷ []))) out

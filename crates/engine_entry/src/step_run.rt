@@ -1,6 +1,7 @@
 //! The step itself: the frames of a run are taken out of their slot, step on what the journal shows, and are put back.
 ghost use Rattle.std.specs.Prelude.{◌≡◌, ◌-◌, ◌<◌, IfOk, None, Some, length, set, slice_get, true};
-ghost use Rattle.ha_model.specs.Journal.{IsJournal};
+ghost use Rattle.ha_model.specs.Journal.{IsJournal, automations};
+ghost use Rattle.ha_model.specs.Records.{actions_of};
 ghost use Rattle.ha_model.specs.Triggers.{sight};
 ghost use Rattle.script_step.specs.Frames.{may};
 ghost use Rattle.engine_parts.specs.Kept.{AreSound, Looks};
@@ -8,7 +9,7 @@ ghost use Rattle.engine_parts.specs.Slots.{value_in};
 ghost use Rattle.engine_entry.specs.Stepping.{IsRunStep, MaySlot, SlotStep};
 
 use cond_eval::View;
-use engine_parts::last::configuration;
+use engine_parts::last::{configuration, script};
 use engine_parts::slots::Slots;
 use ha_clock::Zone;
 use ha_model::{Branch, Entry, Moment, StepOut, WaitEnd};
@@ -30,11 +31,13 @@ fn step_frames<'a>(
     requires journal { IsJournal journal.now }
     requires looks { Looks journal.now states.now zone.now at }
     requires sound { AreSound journal.now }
+    requires script { actions_of (automations journal.now) run.old.automation ≡ run.old.script.value }
     requires may { may run.old branch.now at wait ≡ true }
     ensures { IfOk result (λ out. IsRunStep (sight journal.entry.now (length journal.entry.now)) branch.now wait run.old run.new out) }
 {
     let view = View::make(states, configuration(journal), zone, at);
-    let out = run.step(alloc, branch, wait, &view)?;
+    let actions = script(journal, run.automation());
+    let out = run.step(alloc, actions, branch, wait, &view)?;
     Ok(out)
 }
 
@@ -70,7 +73,7 @@ pub fn step_slot(
     requires journal { IsJournal journal.now }
     requires looks { Looks journal.now states.now zone.now at }
     requires sound { AreSound journal.now }
-    requires slot { MaySlot serial branch.now at wait frames.old.items }
+    requires slot { MaySlot journal.now serial branch.now at wait frames.old.items }
     ensures { IfOk result (λ x. SlotStep (sight journal.now (length journal.now)) serial branch.now wait frames.old.items frames.new.items x.0 x.1) }
 {
     let Some(mut run) = take_frames(frames, serial) else {

@@ -21,5 +21,6 @@ returns c =
       progress = c.in_ok-out.ensures.progress;
       wait_is = c.in_ok-out.ensures.wait ∙ (λ i. option_map (asked_by c.args.run.now.serial c.args.branch.now (seen c.make-view.result).now) (asks c.step.new.self.root (sym c.in_ok-out.ensures.step.script i) c.args.branch.now));
       serial = c.in_ok-out.ensures.serial;
+      automation = c.in_ok-out.ensures.automation;
     } in
     subst (λ (s : Sight). IsRunStep s c.args.branch.now c.args.wait c.args.run.now c.step.new.self c.in_ok-out.out) sees made
