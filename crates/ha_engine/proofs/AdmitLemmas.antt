@@ -111,11 +111,11 @@ module _ (k : Journal) (rs : Records) (table : IsTable k rs) (a : ℕ) (mode : M
     own = ap suc (sym (left-length (is_restart_mode mode) a place rs))
 
     -- LAW: the new run is kept, with its outer branch where it begins, and with none where it waits
-    pub joined-kept : (delays : List Timer) (w : Waits) (os : List (Option Frames)) (pairs : List (ℕ × Branch)) (bs : List Branch) → ready_branches left k new ≡ bs → RunsKept (gone_by mode a rs) k rs delays w os pairs
+    pub joined-kept : f.automation ≡ a → (delays : List Timer) (w : Waits) (os : List (Option Frames)) (pairs : List (ℕ × Branch)) (bs : List Branch) → ready_branches left k new ≡ bs → RunsKept (gone_by mode a rs) k rs delays w os pairs
         → RunsKept nobody k (left ++ (new ∷ [])) delays w (os ++ (Some f ∷ [])) (pairs ++ pairs_of (suc (length rs)) bs)
-    joined-kept delays w os pairs bs is kept =
+    joined-kept whose delays w os pairs bs is kept =
         subst (λ n. RunsKept nobody k (left ++ (new ∷ [])) delays w (os ++ (Some f ∷ [])) (pairs ++ pairs_of (suc n) bs)) (left-length (is_restart_mode mode) a place rs)
-        (run-added k left delays w new f os pairs bs (fresh-live k left mid new f own stands first delays w refl serial) is
+        (run-added k left delays w new f os pairs bs (fresh-live k left mid new f own stands first delays w refl serial whose) is
         (gone-ended (gone_by mode a rs) k delays w rs left os pairs mid.past table.numbered (left-ended mode a place rs table.numbered) kept))
 
     pub begun-branches : begin_now mode (live_count a rs) place ≡ Some place → ready_branches left k new ≡ first_branches (actions_of (automations k) a)
@@ -161,7 +161,7 @@ begins-or-waits Mode.Queued [] place s f acts = inl (record { begun = refl; slot
 begins-or-waits Mode.Queued (o ∷ live) place s f acts = inr (record { waiting = (let off : nat_eq (suc (length live)) 0 ≡ false = search rules in λ i. if off i then Some place else None); slots = λ os os' h. h; pairs = refl })
 
 module _ (k : Journal) (rs : Records) (table : IsTable k rs) (a : ℕ) (mode : Mode) (place order : ℕ) (env : Pairs) (here : place < length k) (f : Frames) (acts : Bool)
-    (stands : Stands f (actions_of (automations k) a) env []) (first : fronts f [] ≡ first_fronts (actions_of (automations k) a)) (act : acts ≡ has_action (actions_of (automations k) a)) where
+    (stands : Stands f (actions_of (automations k) a) env []) (first : fronts f [] ≡ first_fronts (actions_of (automations k) a)) (act : acts ≡ has_action (actions_of (automations k) a)) (whose : f.automation ≡ a) where
   own_stands : (g : Frames) → IsNumbered (suc (length rs)) f g → Stands g (actions_of (automations k) a) env []
   own_stands g same = record { items = stands.items; stands = same.stands (actions_of (automations k) a) env [] stands.items stands.stands }
 
@@ -184,7 +184,7 @@ module _ (k : Journal) (rs : Records) (table : IsTable k rs) (a : ℕ) (mode : M
           (let begun : begin_now mode (live_count a rs) place ≡ Some place = ap (λ n. begin_now mode n place) (sym count) ∙ b.begun in
           let bs : List Branch = first_branches (actions_of (automations k) a) in
           let one : OneSlot (suc (length rs)) f os os' = b.slots os os' slots in
-          let made = joined-kept k rs table a mode place order env here one.0 one.2.serial (own_stands one.0 one.2) (own_first one.0 one.2) delays w os pairs bs
+          let made = joined-kept k rs table a mode place order env here one.0 one.2.serial (own_stands one.0 one.2) (own_first one.0 one.2) (one.2.automation ∙ whose) delays w os pairs bs
           (begun-branches k rs table a mode place order env here one.0 one.2.serial (own_stands one.0 one.2) (own_first one.0 one.2) begun) kept in
           let more : pairs_of (suc (length rs)) bs ≡ pairs_by t acts = ap (pairs_of (suc (length rs))) (first-is (actions_of (automations k) a) ∙ ap branches_if (sym act)) ∙ sym b.pairs in
           subst (λ (l : List (Option Frames)). RunsKept nobody k (joined mode a place rs (new_run rs a mode place order env)) delays w l (pairs ++ pairs_by t acts)) (sym one.1)
@@ -192,7 +192,7 @@ module _ (k : Journal) (rs : Records) (table : IsTable k rs) (a : ℕ) (mode : M
       by t (inr b) slots =
           (let waits : begin_now mode (live_count a rs) place ≡ None = ap (λ n. begin_now mode n place) (sym count) ∙ b.waiting in
           let one : OneSlot (suc (length rs)) f os os' = b.slots os os' slots in
-          let made = joined-kept k rs table a mode place order env here one.0 one.2.serial (own_stands one.0 one.2) (own_first one.0 one.2) delays w os pairs []
+          let made = joined-kept k rs table a mode place order env here one.0 one.2.serial (own_stands one.0 one.2) (own_first one.0 one.2) (one.2.automation ∙ whose) delays w os pairs []
           (waiting-branches k rs table a mode place order env here one.0 one.2.serial (own_stands one.0 one.2) (own_first one.0 one.2) waits) kept in
           subst (λ (l : List (Option Frames)). RunsKept nobody k (joined mode a place rs (new_run rs a mode place order env)) delays w l (pairs ++ pairs_by t acts)) (sym one.1)
           (subst (λ (l : List (ℕ × Branch)). RunsKept nobody k (joined mode a place rs (new_run rs a mode place order env)) delays w (os ++ (Some one.0 ∷ [])) (pairs ++ l)) (sym b.pairs) made))
@@ -224,7 +224,7 @@ prepared-kept k rs table x p is place here said answer delays w os os' pairs slo
     let script : actions_of (automations k) x.1.automation ≡ actions_of (automations k) p.automation = ap (actions_of (automations k)) (sym is.automation) in
     attempted-runs k rs table p.automation p.mode place p.order p.env here p.frames.value p.acts
     (subst (λ (actions : List Action). Stands p.frames.value actions p.env []) script (subst (λ (env : Pairs). Stands p.frames.value (actions_of (automations k) x.1.automation) env []) (sym is.env) is.stands))
-    (is.first ∙ ap first_fronts script) (is.acts ∙ ap has_action script) p.max said answer delays w os os' pairs slots kept
+    (is.first ∙ ap first_fronts script) (is.acts ∙ ap has_action script) (is.script ∙ sym is.automation) p.max said answer delays w os os' pairs slots kept
 
 -- LAW: the call is that of the definition
 pub prepared-tried : (k : Journal) (rs : Records) (x : ℕ × Attempt) (p : Prepared) → IsPrepared k x p → (place : ℕ) → place ≡ last_place k → attempted p.automation p.mode p.max place p.order p.env rs ≡ tried k rs x

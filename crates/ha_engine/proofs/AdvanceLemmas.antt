@@ -7,9 +7,9 @@ use Rattle.ha_model.specs.declared.journal.Entry.TheVariants.{Step}
 use Rattle.ha_model.specs.declared.journal.WaitAsk.{WaitAsk}
 use Rattle.ha_model.specs.declared.journal.WaitEnd.{WaitEnd}
 use Rattle.ha_model.specs.declared.steps.StepOut.{StepOut}
-use Rattle.ha_model.specs.Journal.{Journal, now}
+use Rattle.ha_model.specs.Journal.{Journal, automations, now}
 use Rattle.ha_model.specs.Lawful.{is_empty, pick, ready}
-use Rattle.ha_model.specs.Records.{Records}
+use Rattle.ha_model.specs.Records.{Records, actions_of}
 use Rattle.ha_model.specs.RecordSteps.{more}
 use Rattle.ha_model.specs.Scripts.{Ask, Branch}
 use Rattle.ha_model.specs.Sound.{are_sound_actions, are_sound_triggers}
@@ -54,13 +54,14 @@ module _ (j : Journal) (rs : Records) (p : Parts) (h : Stepping j rs p) where
 
     module _ (wait : Option WaitEnd) (wait_is : wait ≡ ends p.waits s b) where
       -- LAW: and its run may step
-      pub may-slot : MaySlot s b p.at wait p.frames.items
+      pub may-slot : MaySlot j s b p.at wait p.frames.items
       may-slot =
           (let pair : IsPicked rs j s b = the_pair j rs worker s b h.right picks in
           let run = runner j rs worker s b h.right picks p.delays p.waits p.frames.items pair p.ready.pairs.items h.kept.going.runs_kept in
           record {
             frames = run.0;
             there = run.1;
+            script = ap (actions_of (automations j)) run.2.automation ∙ sym run.2.stands.stands.script;
             may = (λ i. may run.0 b (h.kept.going.sees.looks.now_is i) (wait_is i))
                 ∙ may-step j p.delays p.waits s b told-ends pair.run (own j rs worker s b h.right picks pair) run.0 run.2 rs pair.allowed;
           })
@@ -73,14 +74,14 @@ module _ (j : Journal) (rs : Records) (p : Parts) (h : Stepping j rs p) where
             lives : LiveKept j p.delays p.waits (picked j rs worker s b h.right picks p.delays p.waits p.frames.items p.ready.pairs.items h.kept.going.runs_kept h.kept.going.waits_stand wait wait_is frames'.items out due step).run step.old
             lives = live j rs worker s b h.right picks p.delays p.waits p.frames.items p.ready.pairs.items h.kept.going.runs_kept h.kept.going.waits_stand wait wait_is frames'.items out due step
 
-            script : are_sound_actions step.new.actions ≡ true
+            script : are_sound_actions step.new.script.value ≡ true
             script = ap are_sound_actions (step.step.steps.script ∙ lives.stands.stands.script) ∙ actions-sound j (the_pair j rs worker s b h.right picks).run.automation h.kept.going.sees.sound
 
             by : (o : Option Ask) → ((q : Ask) → o ≡ Some q → ask_of step.new b ≡ Some q) → Some ask ≡ option_map (asked_by step.old.serial b (sight j (length j)).now) o → IsTrue (are_sound_triggers ask.triggers)
             by None is f = absurd (let bad : ◌≡◌ {A = Option WaitAsk} (Some ask) None = f in cc)
             by (Some q) is f =
                 (let same : ask ≡ asked_by step.old.serial b (sight j (length j)).now q = cc in
-                true-is (are_sound_triggers ask.triggers) (ap (λ (a : WaitAsk). are_sound_triggers a.triggers) same ∙ ask-sound b step.new.root step.new.actions q script (is q refl)))
+                true-is (are_sound_triggers ask.triggers) (ap (λ (a : WaitAsk). are_sound_triggers a.triggers) same ∙ ask-sound b step.new.root step.new.script.value q script (is q refl)))
 
         free-of : (m : StepRuns (more j (Step worker s b out.item)) rs out.progress out.wait due p.waits p.delays frames'.items p.ready.pairs.items) (ask : WaitAsk) → out.wait ≡ Some ask
             → list_any (λ a. is_of ask.serial ask.branch a && is_none a.end) p.waits.asks ≡ false

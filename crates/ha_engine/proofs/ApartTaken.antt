@@ -17,4 +17,4 @@ pub other-stays : (old new : Frames) (began : Began) (s : Spot) (item : Item) (e
     → ((ask : Ask) → ask_of old s.branch ≡ Some ask → s.wait_end ask (began s.branch) ≡ end) → may old s.branch s.sight.now end ≡ true → (c : Branch) → c ≢ s.branch → IsWait (gate_at c (fronts_of old began))
     → IsWait (gate_at c (fronts_of new (placed s.branch s.place began)))
 other-stays old new began s item end sight steps seen tells may_it c apart at =
-    others-wait old new began s item end sight steps seen tells (sym (gated s.branch old.root old.actions began s end tells) ∙ may_it) c (λ e. apart (sym e)) at
+    others-wait old new began s item end sight steps seen tells (sym (gated s.branch old.root old.script.value began s end tells) ∙ may_it) c (λ e. apart (sym e)) at

@@ -46,6 +46,7 @@ ready-prepared k a n env skip p rule e h = record {
   max = h.max ∙ (λ i. option_map_or (λ (x : Automation). x.max) (sym e i) 0);
   order = h.order;
   env = h.env;
+  script = h.script;
   stands = subst (λ (o : Option Automation). Stands p.frames.value (option_map_or (λ (x : Automation). x.actions) o []) env []) (sym e) h.stands;
   first = h.first ∙ (λ i. first_fronts (option_map_or (λ (x : Automation). x.actions) (sym e i) []));
   acts = h.acts ∙ (λ i. has_action (option_map_or (λ (x : Automation). x.actions) (sym e i) []));

@@ -76,7 +76,7 @@ module _ (j : Journal) (delays : List Timer) (w : Waits) (s : ℕ) (b : Branch) 
 
   -- the end of its wait is told
   pub tells : (ask : Ask) → ask_of f b ≡ Some ask → (next_spot j b).wait_end ask (began b) ≡ ends w s b
-  tells ask e = by (gate_at b (fronts f places)) refl (sym (ap (option_map (λ q. (q, began b))) e) ∙ wait-gate b f.root f.actions began)
+  tells ask e = by (gate_at b (fronts f places)) refl (sym (ap (option_map (λ q. (q, began b))) e) ∙ wait-gate b f.root f.script.value began)
     where
       by : (o : Option Gate) → gate_at b (fronts f places) ≡ o → Some (ask, began b) ≡ option_and_then wait_of o → wait_end j ask (began b) ≡ ends w s b
       by None g h = absurd (let bad : ◌≡◌ {A = Option (Ask × ℕ)} (Some (ask, began b)) None = h in cc)
@@ -93,7 +93,7 @@ module _ (j : Journal) (delays : List Timer) (w : Waits) (s : ℕ) (b : Branch) 
   pub may-step : (all : Records) → may_step all j r b ≡ true → may f b (now j) (ends w s b) ≡ true
   may-step all allowed =
       (λ i. may f b (sym (next-now j b) i) (ends w s b))
-      ∙ gated b f.root f.actions began (next_spot j b) (ends w s b) tells
+      ∙ gated b f.root f.script.value began (next_spot j b) (ends w s b) tells
       ∙ sym (gate-is f (actions_of (automations j) r.automation) r.env places script (next_spot j b))
       ∙ (λ i. is_some (ran_on j r (spots j (sym own_is i) ++ (next_spot j b ∷ []))))
       ∙ allowed

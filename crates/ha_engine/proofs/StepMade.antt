@@ -65,12 +65,12 @@ outcome-by : (f : Frames) (actions : List Action) (env : Pairs) (ss : List Spot)
 outcome-by f actions env ss items item h =
     ap (whole actions env) (sym (append-nil ss))
     ∙ h.goes []
-    ∙ ap (prefixed (items ++ (item ∷ []))) (on-nothing f.root f.actions [] (began_by begins ss) f.settled)
+    ∙ ap (prefixed (items ++ (item ∷ []))) (on-nothing f.root f.script.value [] (began_by begins ss) f.settled)
     ∙ (λ i. Some (record { items = append-nil (items ++ (item ∷ [])) i; status = status_by (end_of f.root) }))
 
 -- the gate of a branch that waits
 waiting-gate : (f : Frames) (began : Began) (c : Branch) (ask : Ask) → ask_of f c ≡ Some ask → IsWait (gate_at c (fronts_of f began))
-waiting-gate f began c ask e = by (gate_at c (fronts_of f began)) (sym (ap (option_map (λ q. (q, began c))) e) ∙ wait-gate c f.root f.actions began)
+waiting-gate f began c ask e = by (gate_at c (fronts_of f began)) (sym (ap (option_map (λ q. (q, began c))) e) ∙ wait-gate c f.root f.script.value began)
   where
     by : (o : Option Gate) → Some (ask, began c) ≡ option_and_then wait_of o → IsWait o
     by None h = absurd (let bad : ◌≡◌ {A = Option (Ask × ℕ)} (Some (ask, began c)) None = h in cc)
@@ -181,6 +181,7 @@ module _ (j : Journal) (rs : Records) (worker s : ℕ) (b : Branch) (right : Rig
     live = live;
     slots = step.behind;
     serial_is = step.step.serial;
+    automation_is = step.step.automation;
     stands = record { items = script_is.items ++ (out.item ∷ []); stands = stands_new };
     told = told;
     due_is = step.due_is (began_by begins (ss ++ (sp ∷ [])));

@@ -47,6 +47,7 @@ pub record IsPrepared (k : Journal) (x : ℕ × Attempt) (p : Prepared) : Type 0
   pub max : p.max ≡ max_of (automations k) x.1.automation
   pub order : p.order ≡ x.0
   pub env : p.env ≡ x.1.env
+  pub script : p.frames.value.automation ≡ x.1.automation
   pub stands : Stands p.frames.value (actions_of (automations k) x.1.automation) x.1.env []
   pub first : fronts p.frames.value [] ≡ first_fronts (actions_of (automations k) x.1.automation)
   pub acts : p.acts ≡ has_action (actions_of (automations k) x.1.automation)
@@ -62,6 +63,7 @@ pub record IsReady (a n : ℕ) (pairs : Pairs) (way : Mode) (most : ℕ) (action
   pub max : p.max ≡ most
   pub order : p.order ≡ n
   pub env : p.env ≡ pairs
+  pub script : p.frames.value.automation ≡ a
   pub stands : Stands p.frames.value actions pairs []
   pub first : fronts p.frames.value [] ≡ first_fronts actions
   pub acts : p.acts ≡ has_action actions
@@ -95,6 +97,7 @@ branches_if false = []
 -- the same frames, but of the run with this serial
 pub record IsNumbered (number : ℕ) (f g : Frames) : Type 0 where
   pub serial : g.serial ≡ number
+  pub automation : g.automation ≡ f.automation
   pub stands : (actions : List Action) (env : Pairs) (given : List Spot) (items : List Item)
       → run.Stands f actions env given items → run.Stands g actions env given items
   pub fronts : (began : Began) → fronts_of g began ≡ fronts_of f began

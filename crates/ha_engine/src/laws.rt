@@ -22,7 +22,7 @@ ghost use Rattle.ha_ready.specs.ReadyPairs.{ready_branches, pairs_of};
 pub fn admitted_runs_are_kept()
     ensures table { (k : Journal) (rs : Records) → IsTable k rs → (a : ℕ) (mode : Mode) (place order : ℕ) (env : Pairs) → place < length k → IsTable k (joined mode a place rs (new_run rs a mode place order env)) }
     ensures kept { (k : Journal) (rs : Records) → IsTable k rs → (a : ℕ) (mode : Mode) (place order : ℕ) (env : Pairs) → place < length k → (f : Frames) → f.serial ≡ suc (length rs)
-        → Stands f (actions_of (automations k) a) env [] → fronts f [] ≡ first_fronts (actions_of (automations k) a) → (delays : List Timer) (w : Waits) (os : List (Option Frames)) (pairs : List (ℕ × Branch)) (bs : List Branch)
+        → Stands f (actions_of (automations k) a) env [] → fronts f [] ≡ first_fronts (actions_of (automations k) a) → f.automation ≡ a → (delays : List Timer) (w : Waits) (os : List (Option Frames)) (pairs : List (ℕ × Branch)) (bs : List Branch)
         → ready_branches (left_by (is_restart_mode mode) a place rs) k (new_run rs a mode place order env) ≡ bs → RunsKept (gone_by mode a rs) k rs delays w os pairs
         → RunsKept nobody k (joined mode a place rs (new_run rs a mode place order env)) delays w (os ++ Some f ∷ []) (pairs ++ pairs_of (suc (length rs)) bs) }
     ensures begun { (k : Journal) (rs : Records) → IsTable k rs → (a : ℕ) (mode : Mode) (place order : ℕ) (env : Pairs) → place < length k → (f : Frames) → f.serial ≡ suc (length rs)

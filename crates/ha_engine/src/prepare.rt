@@ -58,13 +58,19 @@ fn has_action(actions: &Many<Action>) -> bool
     actions.len() > 0
 }
 
-/// The frames of a script at its begin, in a box. Their run has no serial yet.
-fn begin_frames(alloc: Global, actions: &Many<Action>, env: &Env) -> Result<Box<Frames>, AllocError>
+/// The frames of an automation's script at its begin, in a box. Their run has no serial yet.
+fn begin_frames(
+    alloc: Global,
+    automation: u32,
+    actions: &Many<Action>,
+    env: &Env,
+) -> Result<Box<Frames>, AllocError>
     requires { has_few_lists actions.now ≡ true }
+    ensures automation { IfOk result (λ held. held.value.automation ≡ automation) }
     ensures stands { IfOk result (λ held. Stands held.value actions.now env.now []) }
     ensures first { IfOk result (λ held. fronts held.value [] ≡ first_fronts actions.now) }
 {
-    let frames = Frames::start(alloc, 0, actions, env)?;
+    let frames = Frames::start(alloc, 0, automation, actions, env)?;
     let held = Box::new(alloc, frames)?;
     Ok(held)
 }
@@ -83,7 +89,7 @@ fn put_script(
     requires { has_few_lists actions.now ≡ true }
     ensures { OnOk result ((p : Made) × (stack.new.items ≡ stack.old.items ++ p ∷ []) × IsReady automation order env mode max actions.now p) }
 {
-    let frames = begin_frames(alloc, actions, &env)?;
+    let frames = begin_frames(alloc, automation, actions, &env)?;
     let acts = has_action(actions);
     // the record of a run keeps it for good
     let env = env.fitted();

@@ -10,6 +10,7 @@ returns-then-first-clause-slots c = (
   c.push.ensures.items,
   record {
     serial = c.set_serial.ensures.serial;
+    automation = c.set_serial.ensures.automation ∙ ap (λ (f : Frames). f.automation) c.deref_mut.ensures.value;
     stands = λ actions env given items s. c.set_serial.ensures.stands actions env given items (subst (λ (f : Frames). run.Stands f actions env given items) (sym c.deref_mut.ensures.value) s);
     fronts = λ began. c.set_serial.ensures.fronts began ∙ ap (λ (f : Frames). fronts_of f began) c.deref_mut.ensures.value;
   },
@@ -21,6 +22,7 @@ returns-else-first-clause-slots c = (
   c.push.ensures.items,
   record {
     serial = c.set_serial.ensures.serial;
+    automation = c.set_serial.ensures.automation ∙ ap (λ (f : Frames). f.automation) c.deref_mut.ensures.value;
     stands = λ actions env given items s. c.set_serial.ensures.stands actions env given items (subst (λ (f : Frames). run.Stands f actions env given items) (sym c.deref_mut.ensures.value) s);
     fronts = λ began. c.set_serial.ensures.fronts began ∙ ap (λ (f : Frames). fronts_of f began) c.deref_mut.ensures.value;
   },

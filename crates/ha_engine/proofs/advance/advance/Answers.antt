@@ -3,7 +3,7 @@ use Rattle.ha_model.specs.Journal.{Journal}
 use Rattle.ha_model.specs.Lawful.{Right}
 use Rattle.ha_model.specs.Triggers.{sight}
 use Rattle.engine_parts.specs.Kept.{Kept}
-use Rattle.engine_entry.specs.Stepping.{SlotStep, StepPushed}
+use Rattle.engine_entry.specs.Stepping.{MaySlot, SlotStep, StepPushed}
 use Rattle.ha_engine.proofs.AdvanceLemmas.{may-slot, pairs-there, picks, pushed}
 use Rattle.ha_engine.proofs.advance.advance.Goals as goal
 
@@ -12,7 +12,8 @@ picked-requires c = pairs-there c.args.journal.now.items c.args.runs.now.list c.
 
 pub step_slot-requires-clause-slot : goal.step_slot-requires-clause-slot
 step_slot-requires-clause-slot c =
-    may-slot c.args.journal.now.items c.args.runs.now.list c.args.parts.now c.requires.stepping c.args.worker c.in_ok-serial.serial c.in_ok-serial.branch c.in_ok-serial.ensures c.in_ok-wait.wait c.in_ok-wait.ensures
+    subst (λ (i : Journal). MaySlot i c.in_ok-serial.serial c.in_ok-serial.branch c.args.parts.now.at c.in_ok-wait.wait c.args.parts.now.frames.items) (sym c.as_slice.ensures.value)
+    (may-slot c.args.journal.now.items c.args.runs.now.list c.args.parts.now c.requires.stepping c.args.worker c.in_ok-serial.serial c.in_ok-serial.branch c.in_ok-serial.ensures c.in_ok-wait.wait c.in_ok-wait.ensures)
 
 pub follow_step-requires : goal.follow_step-requires
 follow_step-requires c =

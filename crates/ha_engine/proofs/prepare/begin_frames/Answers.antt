@@ -1,4 +1,4 @@
-use Rattle.std.proofs.Common.{◌∙◌, [], sym, subst}
+use Rattle.std.proofs.Common.{◌∙◌, [], sym, ap, subst}
 use Rattle.script_step.specs.Frames.{began_by, begins}
 use Rattle.script_step.specs.declared.frames.Frames.{Frames}
 use Rattle.engine_parts.specs.Fronts.{Stands, fronts}
@@ -9,3 +9,6 @@ returns-clause-stands c = subst (λ (f : Frames). Stands f c.args.actions.now c.
 
 pub returns-clause-first : goal.returns-clause-first
 returns-clause-first c = (λ i. fronts (c.in_ok-held.ensures.ok i) []) ∙ c.in_ok-frames.ensures.fronts (began_by begins [])
+
+pub returns-clause-automation : goal.returns-clause-automation
+returns-clause-automation c = ap (λ (f : Frames). f.automation) c.in_ok-held.ensures.ok ∙ c.in_ok-frames.ensures.automation

@@ -21,6 +21,7 @@ returns c =
         max = refl;
         order = refl;
         env = c.fitted-env.ensures;
+        script = c.in_ok-frames.ensures.automation;
         stands = c.in_ok-frames.ensures.stands;
         first = c.in_ok-frames.ensures.first;
         acts = c.has_action-acts.ensures;
