@@ -1,5 +1,6 @@
 -- A script, where it stands, may move between threads.
 use denote.Param.Send.{IsSend, sendable}
+use Rattle.std.proofs.Crossing.{crosses}
 use Rattle.script_step.specs.contracts.scopes.Scopes as Scopes
 use Rattle.script_step.specs.contracts.thread.Turn as Turn
 use Rattle.script_step.specs.contracts.thread.Frame as Frame
@@ -29,7 +30,7 @@ strand_field : IsSend Strand.the_field.row
 strand_field = search (thread_field, end.the_field_send, stage.send-Strand, scripts) depth 60 fits 20000
 
 frames_field : IsSend Frames.the_field.row
-frames_field = search (strand_field, scripts) depth 60 fits 20000
+frames_field = search (strand_field, crosses, scripts) depth 60 fits 20000
 
 pub frames_send : IsSend Frames.the_row
 frames_send = search (frames_field, sendable) depth 60 fits 20000
