@@ -6,18 +6,56 @@ ghost use Rattle.ha_model.specs.Sound.{IsSoundConfig, is_sound_automation};
 use crate::home::{Home, home_of, tell, utc, view_of};
 use cond_eval::View;
 use ha_model::{
-    Automation, Branch, Config, Ended, Env, Firing, Item, Many, Moment, Num, Plain, Progress,
-    StepOut, Value, WaitAsk, WaitEnd, Word,
+    Action, Automation, Branch, Config, Ended, Env, Firing, Item, Many, Moment, Num, Plain,
+    Progress, StepOut, Value, WaitAsk, WaitEnd, Word,
 };
 use ha_texts::call_line;
 use script_step::Frames;
 use std::alloc::{AllocError, Global};
 use wait_set::Waits;
 
+/// Frames with the script that they are lent.
+#[derive(Drop)]
+pub struct Script {
+    pub actions: Many<Action>,
+    pub frames: Frames,
+    pub ghost lent: { actions ≡ frames.script.value },
+}
+
+impl Script {
+    /// The first branch that may step.
+    fn first(&self, alloc: Global, at: Moment, ends: &Ends) -> Result<Option<Branch>, AllocError> {
+        let ready = self
+            .frames
+            .list_ready(alloc, self.actions.as_slice(), at, ends)?;
+        match ready.get(0) {
+            Some(branch) => Ok(Some(branch.copy(alloc)?)),
+            None => Ok(None),
+        }
+    }
+
+    /// Takes a step in this branch, where it may.
+    fn step(
+        &mut self,
+        alloc: Global,
+        branch: &Branch,
+        ends: &Ends,
+        view: &View<'_>,
+    ) -> Result<Option<StepOut>, AllocError> {
+        let end = ends.end.copy(alloc)?;
+        let actions = self.actions.as_slice();
+        if !self.frames.ready(actions, branch, view.at, ends) {
+            return Ok(None);
+        }
+        let out = self.frames.step(alloc, actions, branch, end, view)?;
+        Ok(Some(out))
+    }
+}
+
 /// A run at work, and the one wait that it asked for last.
 #[derive(Drop)]
 pub struct Run {
-    pub frames: Frames,
+    pub script: Script,
     pub waits: Waits,
     pub branch: Branch,
     /// The place of the next entry.
@@ -66,15 +104,17 @@ fn event_env(alloc: Global) -> Result<Env, AllocError> {
 }
 
 /// The script of an automation at its begin.
-fn start(alloc: Global, rule: &Automation) -> Result<Frames, AllocError>
+fn start(alloc: Global, rule: &Automation) -> Result<Script, AllocError>
     requires { is_sound_automation rule.now ≡ true }
 {
     let env = event_env(alloc)?;
-    Frames::start(alloc, 1, &rule.actions, &env)
+    let actions = rule.actions.copy(alloc)?;
+    let frames = Frames::start(alloc, 1, 0, &rule.actions, &env)?;
+    Ok(Script { actions, frames })
 }
 
 /// The script of the first automation at its begin, where there is one.
-fn begin(alloc: Global, config: &Config) -> Result<Option<Frames>, AllocError>
+fn begin(alloc: Global, config: &Config) -> Result<Option<Script>, AllocError>
     requires { IsSoundConfig config.now }
 {
     match config.automations.get(0) {
@@ -84,9 +124,9 @@ fn begin(alloc: Global, config: &Config) -> Result<Option<Frames>, AllocError>
 }
 
 /// A run at its begin, at the second entry.
-fn run_of(alloc: Global, frames: Frames) -> Run {
+fn run_of(alloc: Global, script: Script) -> Run {
     Run {
-        frames,
+        script,
         waits: Waits::make(alloc),
         branch: Many::make(alloc),
         place: 1,
@@ -258,20 +298,6 @@ fn judged(alloc: Global, branch: &Branch, item: Item, said: &str) -> Result<bool
     is_said(alloc, branch, &item, said)
 }
 
-/// The first branch that may step.
-fn first(
-    alloc: Global,
-    frames: &Frames,
-    at: Moment,
-    ends: &Ends,
-) -> Result<Option<Branch>, AllocError> {
-    let ready = frames.list_ready(alloc, at, ends)?;
-    match ready.get(0) {
-        Some(branch) => Ok(Some(branch.copy(alloc)?)),
-        None => Ok(None),
-    }
-}
-
 /// Takes a step in this branch; whether it is the one that is said.
 fn take(
     alloc: Global,
@@ -281,15 +307,16 @@ fn take(
     ends: &Ends,
     said: &str,
 ) -> Result<bool, AllocError> {
-    if !run.frames.ready(&branch, view.at, ends) {
+    let Some(
+        StepOut {
+            item,
+            progress,
+            wait,
+        },
+    ) = run.script.step(alloc, &branch, ends, view)?
+    else {
         return Ok(false);
-    }
-    let end = ends.end.copy(alloc)?;
-    let StepOut {
-        item,
-        progress,
-        wait,
-    } = run.frames.step(alloc, &branch, end, view)?;
+    };
     run.progress = progress;
     let good = judged(alloc, &branch, item, said);
     ask(alloc, run, branch, wait)?;
@@ -304,7 +331,7 @@ fn step(alloc: Global, home: &Home, run: &mut Run, said: &str) -> Result<bool, A
         return Ok(false);
     };
     let ends = told(alloc, run)?;
-    match first(alloc, &run.frames, view.at, &ends)? {
+    match run.script.first(alloc, view.at, &ends)? {
         Some(branch) => take(alloc, run, &view, branch, &ends, said),
         None => Ok(false),
     }
@@ -316,7 +343,7 @@ fn may_step(alloc: Global, home: &Home, run: &Run) -> Result<bool, AllocError> {
         return Ok(false);
     };
     let ends = told(alloc, run)?;
-    Ok(first(alloc, &run.frames, at, &ends)?.is_some())
+    Ok(run.script.first(alloc, at, &ends)?.is_some())
 }
 
 /// A trigger of the wait fires, with these variables.
@@ -421,10 +448,10 @@ fn went(
     let Some(mut home) = home_of(alloc, "[]", actions)? else {
         return Ok(false);
     };
-    let Some(frames) = begin(alloc, &home.config)? else {
+    let Some(script) = begin(alloc, &home.config)? else {
         return Ok(false);
     };
-    let mut run = run_of(alloc, frames);
+    let mut run = run_of(alloc, script);
     let come = all_come(alloc, &mut home, &mut run, said)?;
     Ok(come && run.progress == progress)
 }
@@ -472,10 +499,10 @@ fn idled(
     let Some(mut home) = home_of(alloc, "[]", actions)? else {
         return Ok(false);
     };
-    let Some(frames) = begin(alloc, &home.config)? else {
+    let Some(script) = begin(alloc, &home.config)? else {
         return Ok(false);
     };
-    let mut run = run_of(alloc, frames);
+    let mut run = run_of(alloc, script);
     let come = idle_and_come(alloc, &mut home, &mut run, many, said)?;
     Ok(come && run.progress == progress)
 }
