@@ -15,7 +15,7 @@ use crate::scope::Scope;
 use crate::value::value_of;
 use ha_model::{Expr, Many, TplFault, Value, Word};
 use std::alloc::Global;
-use tpl_fns::{add, printed};
+use tpl_fns::{TEXT_LIMIT, add, printed};
 
 /// What a template has written and set so far.
 #[derive(Drop)]
@@ -23,9 +23,6 @@ pub struct Page {
     pub text: Word,
     pub set: Many<(Word, Value)>,
 }
-
-/// The bytes that the text of a template may have.
-const TEXT_LIMIT: usize = 65_536;
 
 /// Appends a text. The fault is that there would be too much.
 pub fn append(text: &mut Word, more: &str) -> Result<(), TplFault>

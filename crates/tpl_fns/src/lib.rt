@@ -11,4 +11,4 @@ mod texts;
 pub use filters::filter;
 pub use functions::{chosen, function_of_values};
 pub use outcome::{copied, given};
-pub use texts::{add, joined, printed, without_breaks, word};
+pub use texts::{TEXT_LIMIT, add, joined, printed, without_breaks, word};

@@ -11,7 +11,7 @@ use ha_model::{Num, TplFault, Value, Word};
 use std::alloc::{AllocError, Global};
 
 /// The bytes that a text made in a template may have.
-const TEXT_LIMIT: usize = 65_536;
+pub const TEXT_LIMIT: usize = 65_536;
 
 /// Whether the byte is a space, a tab or a line break.
 fn is_blank_or_break(byte: u8) -> bool
