@@ -65,7 +65,6 @@ impl StateTable {
     }
 
     /// A report of an entity, after which Now is `now`. After an error the states are as before.
-    #[inline(always)]
     pub fn report(
         &mut self,
         alloc: Global,
