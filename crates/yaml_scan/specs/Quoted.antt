@@ -1,6 +1,7 @@
 -- A quoted scalar, perhaps over several lines.
 use Rattle.std.specs.Prelude.{◌≡◌, ℕ, zero, suc, ◌+◌, ◌-◌, ◌*◌, Bool, true, false, not, ◌||◌, ◌&&◌, ◌==◌, nat_lt, nat_le}
 use Rattle.std.specs.Prelude.{if◌then◌else◌, List, [], ◌∷◌, ◌++◌, drop, Option, Some, None, Result, Ok, Err, encode_utf8}
+pub use Rattle.reading.specs.Bytes.{hex}
 use Rattle.yaml_scan.specs.declared.line.RawLine.{RawLine}
 use Rattle.yaml_scan.specs.declared.fault.Code.TheVariants.{Structure}
 use Rattle.yaml_scan.specs.declared.quoted.Last.{Last}
@@ -36,12 +37,6 @@ escape b =
 -- how many digits of a character's number follow a byte behind a backslash: `x`, `u`, `U`, else none
 abbrev pub digits_behind : ℕ → ℕ
 digits_behind b = if b == 120 then 2 else (if b == 117 then 4 else (if b == 85 then 8 else 0))
-
-abbrev pub hex : ℕ → Option ℕ
-hex b =
-    if nat_le 48 b && nat_le b 57
-    then Some (b - 48) else (if nat_le 65 b && nat_le b 70
-    then Some (b - 55) else (if nat_le 97 b && nat_le b 102 then Some (b - 87) else None))
 
 -- one more digit; a number past the last character stays as it is
 abbrev pub shifted : ℕ → ℕ → ℕ

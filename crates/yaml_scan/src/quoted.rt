@@ -6,6 +6,7 @@ ghost use Rattle.yaml_scan.specs.Quoted.{escape, digits_behind, hex, shifted, is
 
 use crate::words::push_times;
 use ha_value::is_blank;
+use reading::hex;
 use std::alloc::{AllocError, Global};
 use std::marker::Model;
 
@@ -162,7 +163,7 @@ impl Quoted {
             self.spoil()?;
             return self.usual_step(b);
         };
-        let value = shifted(value, digit);
+        let value = shifted(value, u32::from(digit));
         if wanted <= 1 {
             return self.character(value);
         }
@@ -279,18 +280,6 @@ fn digits_behind(b: u8) -> u8
         b'u' => 4,
         b'U' => 8,
         _ => 0,
-    }
-}
-
-fn hex(b: u8) -> Option<u32>
-    ensures value { result ≡ hex b }
-    ensures within { IfSome result (λ d. d < 16) }
-{
-    match b {
-        b'0'..=b'9' => Some(u32::from(b - b'0')),
-        b'A'..=b'F' => Some(u32::from(b - 55)),
-        b'a'..=b'f' => Some(u32::from(b - 87)),
-        _ => None,
     }
 }
 

@@ -1,6 +1,8 @@
 -- Behind a scalar or flow an end of the lines is left.
-use Rattle.std.proofs.Common.{◌≡◌, ℕ, ◌+◌, ◌-◌, ◌≤◌, Bool, true, false, cond, ◌||◌, ◌&&◌, List, [], ◌∷◌, ◌++◌, length, drop, Option, Some, None, Result, Ok, Err, subst, arith}
+use Rattle.std.proofs.Common.{◌≡◌, ℕ, ◌+◌, ◌-◌, ◌≤◌, Bool, true, false, ◌||◌, ◌&&◌, List, [], ◌∷◌, ◌++◌, length, drop, Option, Some, None, Result, Ok, Err, arith}
 use Rattle.std.specs.Prelude.{◌==◌, not, nat_lt}
+use Rattle.reading.specs.Answer.{Answer}
+use Rattle.reading.proofs.Shorter.{Leaves, kept, refused, either, weaker, left, left_by}
 use Rattle.yaml_scan.specs.declared.line.RawLine.{RawLine}
 use Rattle.yaml_scan.specs.declared.fault.Code.{Code}
 use Rattle.yaml_scan.specs.Answers.{Reading}
@@ -24,37 +26,31 @@ pub end_shorter : {ls ls' : List RawLine} → IsEnd ls' ls → length ls' ≤ le
 end_shorter all = omega arith
 end_shorter (later i) = let le = end_shorter i in omega arith
 
--- a fault, or an end of these lines is left
-data NoLonger {A F : Type 0} : Result (A × List RawLine) F → List RawLine → Type 0 where
-  kept : {x : A × List RawLine} {ls : List RawLine} → IsEnd x.1 ls → NoLonger (Ok x) ls
-  refused : {f : F} {ls : List RawLine} → NoLonger (Err f) ls
+-- an end of these lines is left, or a fault
+abbrev NoLonger : {A F : Type 0} → Answer RawLine F A → List RawLine → Type 0
+NoLonger r ls = Leaves (λ behind. IsEnd behind ls) (λ _. Unit {0}) r
 
-either : {A F : Type 0} (b : Bool) (r s : Result (A × List RawLine) F) (ls : List RawLine) → NoLonger r ls → NoLonger s ls → NoLonger (cond b r s) ls
-either true r s ls p q = p
-either false r s ls p q = q
-
-one_more : {A F : Type 0} {r : Result (A × List RawLine) F} {l : RawLine} {ls : List RawLine} → NoLonger r ls → NoLonger r (l ∷ ls)
-one_more (kept i) = kept (later i)
-one_more refused = refused
+one_more : {A F : Type 0} {r : Answer RawLine F A} (l : RawLine) (ls : List RawLine) → NoLonger r ls → NoLonger r (l ∷ ls)
+one_more l ls = weaker (λ _ i. later i) (λ _ h. h)
 
 further_shorter : (floor : ℕ) (ls : List RawLine) (text : List ℕ) (blanks : ℕ) → NoLonger (further floor text blanks ls) ls
 unfolding further
 further_shorter floor [] text blanks = kept all
 further_shorter floor (l ∷ ls) text blanks =
-    either (is_empty l.content) _ _ _ (one_more (further_shorter floor ls text (blanks + 1)))
-    (either (sees 35 l.content || nat_lt l.indent floor) _ _ _ (kept all)
-    (either (has_colon l.content) _ _ _ refused
-    (either (has_comment l.content) _ _ _ (kept (later all))
-    (one_more (further_shorter floor ls (text ++ folded blanks ++ text_of l.content) 0)))))
+    either (is_empty l.content) (one_more _ _ (further_shorter floor ls text (blanks + 1)))
+    (either (sees 35 l.content || nat_lt l.indent floor) (kept all)
+    (either (has_colon l.content) (refused tt)
+    (either (has_comment l.content) (kept (later all))
+    (one_more _ _ (further_shorter floor ls (text ++ folded blanks ++ text_of l.content) 0)))))
 
 plain_shorter : (floor n : ℕ) (bytes : List ℕ) (ls : List RawLine) → NoLonger (plain floor n bytes ls) ls
 unfolding plain
 plain_shorter floor n bytes ls =
-    either (has_colon bytes) _ _ _ refused (either (has_comment bytes) _ _ _ (kept all) (further_shorter floor ls (text_of bytes) 0))
+    either (has_colon bytes) (refused tt) (either (has_comment bytes) (kept all) (further_shorter floor ls (text_of bytes) 0))
 
 finished_shorter : (bad : Option ℕ) (s : State) (rest : List ℕ) (ls : List RawLine) → NoLonger (finished_by bad s rest ls) ls
-finished_shorter (Some line) s rest ls = refused
-finished_shorter None s rest ls = either (nothing_left false rest) _ _ _ (kept all) refused
+finished_shorter (Some line) s rest ls = refused tt
+finished_shorter None s rest ls = either (nothing_left false rest) (kept all) (refused tt)
 
 led_shorter : (s : State) (end : Option (List ℕ)) (ls : List RawLine) (more : Reading (List ℕ)) → NoLonger more ls → NoLonger (led s end ls more) ls
 led_shorter s (Some rest) ls more h = finished_shorter s.bad s rest ls
@@ -62,11 +58,11 @@ led_shorter s None ls more h = h
 
 quoted_further_shorter : (floor first : ℕ) (ls : List RawLine) (blanks : ℕ) (s : State) → NoLonger (quoted_further floor first blanks s ls) ls
 unfolding quoted_further
-quoted_further_shorter floor first [] blanks s = refused
+quoted_further_shorter floor first [] blanks s = refused tt
 quoted_further_shorter floor first (l ∷ ls) blanks s =
     let r : State × Option (List ℕ) = run (next_line s blanks l.line) (without_blanks l.content) in
-    either (only_blanks l.content) _ _ _ (one_more (quoted_further_shorter floor first ls (blanks + 1) s))
-    (either (nat_lt l.indent floor) _ _ _ refused (one_more (led_shorter r.0 r.1 ls (quoted_further floor first 0 r.0 ls) (quoted_further_shorter floor first ls 0 r.0))))
+    either (only_blanks l.content) (one_more _ _ (quoted_further_shorter floor first ls (blanks + 1) s))
+    (either (nat_lt l.indent floor) (refused tt) (one_more _ _ (led_shorter r.0 r.1 ls (quoted_further floor first 0 r.0 ls) (quoted_further_shorter floor first ls 0 r.0))))
 
 quoted_shorter : (floor n quote : ℕ) (bytes : List ℕ) (ls : List RawLine) → NoLonger (quoted floor n quote bytes ls) ls
 unfolding quoted
@@ -78,45 +74,39 @@ body_shorter : (strip : Bool) (indent : ℕ) (ls : List RawLine) (s : Block) →
 unfolding body
 body_shorter strip indent [] s = kept all
 body_shorter strip indent (l ∷ ls) s =
-    either (not (is_empty l.content) && nat_lt l.indent indent) _ _ _ (kept all) (one_more (body_shorter strip indent ls (added s (times (l.indent - indent) 32 ++ l.content))))
+    either (not (is_empty l.content) && nat_lt l.indent indent) (kept all) (one_more _ _ (body_shorter strip indent ls (added s (times (l.indent - indent) 32 ++ l.content))))
 
 opening_shorter : (fold strip : Bool) (floor : ℕ) (ls : List RawLine) (n : ℕ) → NoLonger (opening fold strip floor n ls) ls
 unfolding opening
 opening_shorter fold strip floor [] n = kept all
 opening_shorter fold strip floor (l ∷ ls) n =
-    either (is_empty l.content) _ _ _ (one_more (opening_shorter fold strip floor ls (n + 1)))
-    (either (nat_lt l.indent floor) _ _ _ (kept all) (body_shorter strip l.indent (l ∷ ls) (begun fold n)))
+    either (is_empty l.content) (one_more _ _ (opening_shorter fold strip floor ls (n + 1)))
+    (either (nat_lt l.indent floor) (kept all) (body_shorter strip l.indent (l ∷ ls) (begun fold n)))
 
 headed_shorter : (fold strip : Bool) (floor n : ℕ) (head : List ℕ) (ls : List RawLine) → NoLonger (headed fold strip floor n head ls) ls
-headed_shorter fold strip floor n head ls = either (nothing_left false head) _ _ _ (opening_shorter fold strip floor ls 0) refused
+headed_shorter fold strip floor n head ls = either (nothing_left false head) (opening_shorter fold strip floor ls 0) (refused tt)
 
 block_shorter : (floor n : ℕ) (fold : Bool) (head : List ℕ) (ls : List RawLine) → NoLonger (block floor n fold head ls) ls
 unfolding block
-block_shorter floor n fold head ls = either (sees 45 head) _ _ _ (headed_shorter fold true floor n (drop 1 head) ls) (headed_shorter fold false floor n head ls)
+block_shorter floor n fold head ls = either (sees 45 head) (headed_shorter fold true floor n (drop 1 head) ls) (headed_shorter fold false floor n head ls)
 
 scalar_shorter : (n : ℕ) (k : List RawLine) (is_plain : Bool) (r : Reading (List ℕ)) → NoLonger r k → NoLonger (scalar n is_plain r) k
-scalar_shorter n k is_plain (Ok x) (kept le) = kept le
-scalar_shorter n k is_plain (Err f) refused = refused
+scalar_shorter n k is_plain (Ok x) h = kept (left h)
+scalar_shorter n k is_plain (Err f) h = refused tt
 
 flow_shorter : (fresh : Bool) (n : ℕ) (r : Result Ended Code) (ls : List RawLine) → NoLonger (flow_by fresh n r ls) ls
-flow_shorter fresh n (Err code) ls = refused
+flow_shorter fresh n (Err code) ls = refused tt
 flow_shorter fresh n (Ok f) ls =
-    either (fresh && colon_behind (without_blanks f.rest)) _ _ _ refused
-    (either (not (nothing_left false f.rest)) _ _ _ refused (either f.repeated _ _ _ refused (kept all)))
+    either (fresh && colon_behind (without_blanks f.rest)) (refused tt)
+    (either (not (nothing_left false f.rest)) (refused tt) (either f.repeated (refused tt) (kept all)))
 
 by_start : (s : Start) (floor : ℕ) (fresh : Bool) (n b : ℕ) (rest : List ℕ) (ls : List RawLine) → NoLonger (leaf_by s floor fresh n b rest ls) ls
 by_start starts.InQuotes floor fresh n b rest ls = scalar_shorter n ls false (quoted floor n b rest ls) (quoted_shorter floor n b rest ls)
 by_start starts.InBrackets floor fresh n b rest ls = flow_shorter fresh n (flow n (b == 123) rest) ls
 by_start starts.InLines floor fresh n b rest ls = scalar_shorter n ls false (block floor n (b == 62) rest ls) (block_shorter floor n (b == 62) rest ls)
-by_start starts.LeftOut floor fresh n b rest ls = refused
-by_start starts.Refused floor fresh n b rest ls = refused
+by_start starts.LeftOut floor fresh n b rest ls = refused tt
+by_start starts.Refused floor fresh n b rest ls = refused tt
 by_start starts.Plain floor fresh n b rest ls = scalar_shorter n ls true (plain floor n (b ∷ rest) ls) (plain_shorter floor n (b ∷ rest) ls)
 
-lines_left : {A F : Type 0} (r : Result (A × List RawLine) F) (x : A × List RawLine) (ls : List RawLine) → NoLonger r ls → r ≡ Ok x → IsEnd x.1 ls
-lines_left {A = A} (Ok y) x ls (kept i) e =
-    let same : y ≡ x = cc in
-    subst (λ (z : A × List RawLine). IsEnd z.1 ls) same i
-lines_left (Err f) x ls refused e = absurd cc
-
 pub leaf_end : (floor : ℕ) (fresh : Bool) (n b : ℕ) (rest : List ℕ) (ls : List RawLine) (x : Node × ℕ) (behind : List RawLine) → leaf_of floor fresh n (b ∷ rest) ls ≡ Ok (x, behind) → IsEnd behind ls
-leaf_end floor fresh n b rest ls x behind e = lines_left (leaf_by (start b rest) floor fresh n b rest ls) (x, behind) ls (by_start (start b rest) floor fresh n b rest ls) e
+leaf_end floor fresh n b rest ls x behind e = left_by (x, behind) (by_start (start b rest) floor fresh n b rest ls) e
