@@ -4,3 +4,8 @@ pub mod Spelled
 pub mod Allowed
 pub mod Codes
 pub mod Grammar
+mod FlowSigns
+mod LeafSigns
+mod PieceSigns
+mod LayoutSigns
+mod Signs

@@ -7,6 +7,7 @@ ghost use Rattle.yaml_tree.specs.Spelling.{IsText};
 ghost use Rattle.yaml_tree.specs.Tree.{tree};
 ghost use Rattle.yaml_laws.specs.Refused.{SameLines};
 ghost use Rattle.yaml_codes.specs.Notation.{Breaks, EndsQuoted, HasNotation, IsNotationText, IsUnspelled};
+ghost use Rattle.yaml_codes.specs.Signs.{IsLeftOut};
 
 /// Each text of the grammar is in the notation, with its tree; and a text in the notation that is not refused is in the grammar, with that
 /// tree.
@@ -36,4 +37,9 @@ pub fn what_is_left_out_is_no_notation()
 pub fn an_open_quote_may_go_on()
     ensures { (text other : List ℕ) (f : Fault) (root : Node) → SameLines f.line text other → tree text ≡ Err f → f.code ≡ Structure → IsNotationText other root
         → EndsQuoted f.line text }
+{}
+
+/// C3 stands at a line with a sign of what the profile leaves out, where a node or a key begins.
+pub fn what_is_left_out_has_its_sign()
+    ensures { (text : List ℕ) (f : Fault) → tree text ≡ Err f → f.code ≡ LeftOut → IsLeftOut text f.line }
 {}
