@@ -1,5 +1,5 @@
 -- Flow that is refused with C3 has a sign of what is left out.
-use Rattle.std.proofs.Common.{◌≡◌, ◌≢◌, ℕ, zero, suc, ◌+◌, ◌≤◌, ◌<◌, Bool, true, false, cond, ◌||◌, ◌&&◌, inl, inr, List, [], ◌∷◌, drop, take, length, Option, Some, None, Err, Ok, refl, sym, ap, subst, ◌∙◌, arith}
+use Rattle.std.proofs.Common.{◌≡◌, ◌≢◌, ℕ, zero, suc, ◌≤◌, ◌<◌, Bool, true, false, cond, ◌||◌, ◌&&◌, inl, inr, List, [], ◌∷◌, drop, take, length, Option, Some, None, Err, refl, sym, ap, subst, ◌∙◌, arith}
 use Rattle.std.specs.Prelude.{◌==◌, not}
 use Rattle.std.proofs.lemmas.Bool.{eqb-true}
 use Rattle.yaml_scan.specs.declared.fault.Code.{Code}
@@ -9,10 +9,10 @@ use Rattle.yaml_scan.specs.Quoted.{State, opened, is_closed, step as quoted_step
 use Rattle.yaml_tree.specs.declared.node.Node.{Node}
 use Rattle.yaml_tree.specs.declared.flow.Frame.{Frame}
 use Rattle.yaml_tree.specs.declared.starts.Start.TheVariants as starts
-use Rattle.yaml_tree.specs.Nodes.{null, scalar_node}
-use Rattle.yaml_tree.specs.Starts.{start, left_out, no_plain, is_merge}
+use Rattle.yaml_tree.specs.Nodes.{null}
+use Rattle.yaml_tree.specs.Starts.{left_out, no_plain, is_merge}
 use Rattle.yaml_tree.specs.Brackets.{IsWord}
-use Rattle.yaml_tree.specs.Flow.{Machine, Ended, Step, on, ended, fails, closing, wants_key, holding, closed, closes, behind, keyed, alone, colon_behind, quoted_by, plain_key, plain_by, plain, scalar, after_step, item_step, step_by, step, ran, run, flow, start as flow_start}
+use Rattle.yaml_tree.specs.Flow.{Machine, Ended, Step, on, ended, fails, closing, wants_key, holding, closed, behind, keyed, alone, colon_behind, quoted_by, plain_key, plain_by, scalar, after_step, item_step, step_by, step, ran, run, flow, start as flow_start}
 use Rattle.yaml_tree.proofs.BracketWords.{cut, Cut, whole, keyed as keyed_cut, word_found}
 use Rattle.yaml_tree.proofs.BracketSteps.{begins_plain, cut_is, plain_is}
 use Rattle.yaml_tree.proofs.LinesFound.{and_true}

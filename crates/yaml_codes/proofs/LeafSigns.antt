@@ -1,5 +1,5 @@
 -- Scalars and flow that are refused with C3 begin with a sign of what is left out.
-use Rattle.std.proofs.Common.{◌≡◌, ℕ, zero, suc, ◌+◌, ◌-◌, Bool, true, false, cond, ◌||◌, ◌&&◌, inl, inr, List, [], ◌∷◌, ◌++◌, drop, Option, Some, None, Result, Ok, Err, refl, sym, ap, subst, ◌∙◌}
+use Rattle.std.proofs.Common.{◌≡◌, ℕ, ◌+◌, ◌-◌, Bool, true, false, cond, ◌||◌, ◌&&◌, List, [], ◌∷◌, ◌++◌, drop, Option, Some, None, Result, Ok, Err, refl, sym, ap, subst, ◌∙◌}
 use Rattle.std.specs.Prelude.{◌==◌, not, nat_lt}
 use Rattle.std.proofs.lemmas.Bool.{eqb-true}
 use Rattle.yaml_scan.specs.declared.line.RawLine.{RawLine}
@@ -10,16 +10,15 @@ use Rattle.yaml_scan.specs.Answers.{Reading}
 use Rattle.yaml_scan.specs.Words.{sees, is_empty, nothing_left, times, folded, has_colon, has_comment, only_blanks, without_blanks}
 use Rattle.yaml_scan.specs.Plain.{text_of, further, plain}
 use Rattle.yaml_scan.specs.Quoted.{State, opened, run, led, finished_by, next_line, further as quoted_further, quoted}
-use Rattle.yaml_scan.specs.Block.{State as Block, added, begun, body, opening, headed, block}
+use Rattle.yaml_scan.specs.Block.{State as Block, added, begun, body, opening, block}
 use Rattle.yaml_tree.specs.declared.leaf.Wrong.{Wrong}
 use Rattle.yaml_tree.specs.declared.starts.Start.{Start}
 use Rattle.yaml_tree.specs.declared.starts.Start.TheVariants as starts
 use Rattle.yaml_tree.specs.Blocks.{IsHead, clipped, stripped}
 use Rattle.yaml_tree.specs.Flow.{Ended, flow}
-use Rattle.yaml_tree.specs.Leaves.{Leafs, scalar, flow_by, leaf_by, colon_behind}
+use Rattle.yaml_tree.specs.Leaves.{scalar, flow_by, leaf_by, colon_behind}
 use Rattle.yaml_tree.specs.Starts.{start, left_out, no_plain}
 use Rattle.yaml_tree.proofs.LinesFound.{and_true}
-use Rattle.yaml_laws.proofs.Orders.{tested}
 use Rattle.yaml_codes.specs.Signs.{IsSign, sign, head, flow_key, in_flow}
 use Rattle.yaml_codes.proofs.FlowSigns.{flow_left}
 

@@ -1,17 +1,14 @@
 -- Lines whose pieces are refused with C3 have a sign of what is left out; and a piece that is marked as left out is refused so.
-use Rattle.std.proofs.Common.{◌≡◌, ℕ, zero, suc, ◌+◌, ◌-◌, Bool, true, false, cond, ◌||◌, ◌&&◌, inl, inr, List, [], ◌∷◌, ◌++◌, length, drop, take, Option, Some, None, Ok, Err, refl, sym, ap, subst, ◌∙◌, append_assoc}
+use Rattle.std.proofs.Common.{◌≡◌, ℕ, zero, suc, ◌+◌, ◌-◌, Bool, true, false, cond, ◌&&◌, inl, inr, List, [], ◌∷◌, ◌++◌, length, drop, take, Option, Some, None, Ok, Err, refl, sym, ap, subst, ◌∙◌, append_assoc}
 use Rattle.std.specs.Prelude.{◌==◌, not}
 use Rattle.yaml_scan.specs.declared.line.RawLine.{RawLine}
 use Rattle.yaml_scan.specs.declared.fault.Fault.{Fault}
-use Rattle.yaml_scan.specs.declared.fault.Code.{Code}
 use Rattle.yaml_scan.specs.declared.fault.Code.TheVariants.{Structure, LeftOut}
 use Rattle.yaml_scan.specs.Words.{sees, is_blank, is_empty, is_some, breaks, nothing_left, colon_at, trimmed, without_blanks}
 use Rattle.yaml_scan.specs.Quoted.{State, opened, run}
-use Rattle.yaml_tree.specs.declared.node.Node.{Node}
 use Rattle.yaml_tree.specs.declared.piece.Piece.{Piece}
 use Rattle.yaml_tree.specs.declared.piece.What.{What}
 use Rattle.yaml_tree.specs.declared.piece.What.TheVariants.{Dash, Key, Leaf}
-use Rattle.yaml_tree.specs.declared.leaf.Wrong.{Wrong}
 use Rattle.yaml_tree.specs.declared.starts.Start.{Start}
 use Rattle.yaml_tree.specs.declared.starts.Start.TheVariants as starts
 use Rattle.yaml_tree.specs.Keys.{IsKey}

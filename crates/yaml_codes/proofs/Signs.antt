@@ -1,10 +1,9 @@
 -- C3 stands at a line with a sign of what is left out.
-use Rattle.std.proofs.Common.{◌≡◌, ℕ, suc, Bool, true, false, cond, ◌||◌, ◌&&◌, ◌⊎◌, inl, inr, List, [], ◌∷◌, ◌++◌, length, Option, Some, None, Err, refl, sym, ap, subst, ◌∙◌, append_assoc}
+use Rattle.std.proofs.Common.{◌≡◌, ℕ, suc, Bool, true, false, cond, ◌||◌, ◌&&◌, ◌⊎◌, inl, inr, List, [], ◌∷◌, ◌++◌, length, Option, Some, None, Err, refl, sym, ap, ◌∙◌, append_assoc}
 use Rattle.std.specs.Prelude.{not}
 use Rattle.std.specs.Str.{is_utf8}
 use Rattle.yaml_scan.specs.declared.line.RawLine.{RawLine}
 use Rattle.yaml_scan.specs.declared.fault.Fault.{Fault}
-use Rattle.yaml_scan.specs.declared.fault.Code.{Code}
 use Rattle.yaml_scan.specs.declared.fault.Code.TheVariants.{Tab, LeftOut, NotUtf8}
 use Rattle.yaml_scan.specs.Words.{sees}
 use Rattle.yaml_scan.specs.Lines.{lines, line_fault, fault, tab_fault, mark_fault, utf8_fault, one_fault, or_else, fault_from, is_blank_line, is_directive, is_mark, least, without_start}
@@ -13,7 +12,7 @@ use Rattle.yaml_laws.specs.Refused.{IsOneOf}
 use Rattle.yaml_laws.proofs.FollowedLines.{start_in}
 use Rattle.yaml_laws.proofs.Whole.{read_lines, in_tree}
 use Rattle.yaml_laws.proofs.Cuts.{one_of, told_text}
-use Rattle.yaml_laws.proofs.Orders.{tested, least_in}
+use Rattle.yaml_laws.proofs.Orders.{least_in}
 use Rattle.yaml_tree.proofs.LinesFound.{and_true}
 use Rattle.yaml_codes.specs.Signs.{HasSign, directive, mark, node, IsLeftOut}
 use Rattle.yaml_codes.proofs.PieceSigns.{IsLast, last_less, Shown, pieces_shown, pieces_marked}

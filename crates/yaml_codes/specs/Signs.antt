@@ -1,5 +1,5 @@
 -- What C3 stands for: a sign of what the profile leaves out, where a node or a key begins on the refused line.
-use Rattle.std.specs.Prelude.{◌≡◌, ◌||◌, ◌&&◌, ◌==◌, ℕ, Bool, true, false, List, [], ◌∷◌, ◌++◌, Ok}
+use Rattle.std.specs.Prelude.{◌≡◌, ◌==◌, ℕ, Bool, true, false, List, [], ◌∷◌, ◌++◌, Ok}
 use Rattle.yaml_scan.specs.declared.line.RawLine.{RawLine}
 use Rattle.yaml_scan.specs.Lines.{lines, is_blank_line, is_directive, is_mark}
 use Rattle.yaml_scan.specs.Words.{is_blank, trimmed, without_blanks}
