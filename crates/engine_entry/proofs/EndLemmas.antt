@@ -159,7 +159,7 @@ module _ (k : Journal) (delays : List Timer) (w : Waits) (rs : Records) (numbere
 
   begun-slot : (r : Record) (o : Option Frames) → SlotKept k delays w r o → SlotKept k delays w (begins_at place r) o
   begun-slot r None h = h
-  begun-slot r (Some f) h = record { live = h.live; serial = h.serial; stands = h.stands; gates = h.gates }
+  begun-slot r (Some f) h = record { live = h.live; serial = h.serial; automation = h.automation; stands = h.stands; gates = h.gates }
 
   slot-behind : (r : Record) (o : Option Frames) → SlotBut (also nobody s) k delays w r o → SlotKept k delays w (after_end s place cause next r) o
   slot-behind r o h = by (nat_eq r.serial s) (option_map_or (nat_eq r.serial) next false) h
