@@ -62,8 +62,14 @@ some_still k xs u v w p q = record {
 }
 
 -- no line came before
-pub some_unput : (k : ℕ) (c : Cmd) (u v : Hand) → NoLine u v → PutSome k (c ∷ []) u v
-some_unput k c u v q = some_still k (c ∷ []) u u v (none_put k (c ∷ []) u) q
+pub none_yet : (k : ℕ) (cs : List Cmd) (u v : Hand) → NoLine u v → PutSome k cs u v
+none_yet k cs u v q = some_still k cs u u v (none_put k cs u) q
+
+pub all_behind : (k : ℕ) (cs : List Cmd) (u v w : Hand) → NoLine u v → PutAll k cs v w → PutAll k cs u w
+all_behind k cs u v w q p = all_then k [] cs u v w (all_still k [] u u v (put_nothing k u) q) p
+
+pub some_behind : (k : ℕ) (cs : List Cmd) (u v w : Hand) → NoLine u v → PutSome k cs v w → PutSome k cs u w
+some_behind k cs u v w q p = some_then k [] cs u v w (all_still k [] u u v (put_nothing k u) q) p
 
 -- ---- the lines that a cut holds
 

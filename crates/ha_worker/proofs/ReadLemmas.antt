@@ -10,7 +10,7 @@ use Rattle.ha_worker.specs.Puts.{PutAll, PutSome}
 use Rattle.ha_worker.specs.Read.{AreOpen, AreRead, IsOpen}
 use Rattle.ha_worker.specs.Taken.{Took, TookAll}
 use Rattle.ha_worker.proofs.CourseLemmas.{took_none, took_then, took_whole}
-use Rattle.ha_worker.proofs.LineLemmas.{all_then, some_more, some_then}
+use Rattle.ha_worker.proofs.LineLemmas.{all_then, some_then}
 
 -- ---- the commands are read from the first line on
 
@@ -39,9 +39,9 @@ pub put_next : (k : ℕ) (all put rest : List Cmd) (c : Cmd) (u v w : Hand) → 
     → (all ≡ (put ++ (c ∷ [])) ++ rest) × PutAll k (put ++ (c ∷ [])) u w
 put_next k all put rest c u v w parts p q = (parts ∙ sym (append_assoc put (c ∷ []) rest), all_then k put (c ∷ []) u v w p q)
 
--- it was not put
-pub some_next : (k : ℕ) (all put rest : List Cmd) (c : Cmd) (u v w : Hand) → all ≡ put ++ c ∷ rest → PutAll k put u v → PutSome k (c ∷ []) v w → PutSome k all u w
-some_next k all put rest c u v w parts p q = subst (λ z. PutSome k z u w) (sym parts) (some_then k put (c ∷ rest) u v w p (some_more k (c ∷ []) rest v w q))
+-- some of those that are left were put
+pub some_left : (k : ℕ) (all put rest : List Cmd) (u v w : Hand) → all ≡ put ++ rest → PutAll k put u v → PutSome k rest v w → PutSome k all u w
+some_left k all put rest u v w parts p q = subst (λ z. PutSome k z u w) (sym parts) (some_then k put rest u v w p q)
 
 -- none is left
 pub put_end : (k : ℕ) (all put rest : List Cmd) (u v : Hand) → all ≡ put ++ rest → rest ≡ [] → PutAll k put u v → PutAll k all u v

@@ -30,7 +30,7 @@ use Rattle.bus_pass.specs.declared.hand.Given.{Given}
 use Rattle.bus_pass.specs.declared.hand.Hand.{Hand}
 use Rattle.bus_pass.proofs.OriginLemmas.{origin_stays}
 use Rattle.ha_worker.specs.Puts.{NoLine, PutAll, PutSome}
-use Rattle.ha_worker.specs.Views.{HasPut, Holds, HoldsRested, IsOne, Sits, Takes, list_of, read_lines}
+use Rattle.ha_worker.specs.Views.{HasPut, Holds, HoldsNext, HoldsRested, IsOne, Sits, Takes, list_of, read_lines}
 use Rattle.ha_worker.proofs.GiveLemmas.{dues_open, dues_read, dues_then, dues_unread, eqb_self, list_after, may_more, may_same, noted_then, one_after}
 use Rattle.ha_worker.proofs.ListLemmas.{has_more, lines-append, list_count, list_shut}
 
@@ -174,16 +174,21 @@ put_shuts j Cmd.TooLong = refl
 abbrev pub IsLineOf : ℕ → ℕ → Cmd → BusView → Entry → Type 0
 IsLineOf n k c a x = x ≡ Line k n (put_as a.journal c)
 
-module _ (n k : ℕ) (u v : Hand) (a : BusView) (takes : Takes n k u) (before : NoLine u v) (h : HoldsRested k a v) where
-  next_is : n ≡ length (read_lines (list_of v))
-  next_is = takes.sits.next ∙ ap length (sym before.lines)
+-- a bus that is taken where its source takes the line
+pub holds_next : (n k : ℕ) (u v : Hand) (a : BusView) → Takes n k u → NoLine u v → HoldsRested k a v → HoldsNext n k a v
+holds_next n k u v a takes before h = record {
+  bus = h;
+  next = takes.sits.next ∙ ap length (sym before.lines);
+  unshut = before.shut k ∙ takes.unshut;
+}
 
+module _ (n k : ℕ) (v : Hand) (a : BusView) (h : HoldsNext n k a v) where
   -- its number, and that it may come
   pub line_next : n ≡ count_by (is_line_of k) a.journal
-  line_next = next_is ∙ sym (list_count a.journal k (list_of v) h.holds.list)
+  line_next = h.next ∙ sym (list_count a.journal k (list_of v) h.bus.holds.list)
 
   pub line_unshut : list_any (shuts k) a.journal ≡ false
-  line_unshut = list_shut a.journal k (list_of v) h.holds.list ∙ before.shut k ∙ takes.unshut
+  line_unshut = list_shut a.journal k (list_of v) h.bus.holds.list ∙ h.unshut
 
   -- the number of a line is small
   pub few_lines : length a.journal ≤ 1_048_576 → n ≤ 1_048_576
@@ -198,47 +203,47 @@ module _ (n k : ℕ) (u v : Hand) (a : BusView) (takes : Takes n k u) (before : 
         let y : Entry = Line k n (put_as a.journal c) in
         let e = line_is p in
         subst (λ z. Running z b.records) (sym e)
-        (right-runs a.journal a.records b.records y h.holds.running (subst (λ z. Right z b.records) e right) (low, h.rested, line_next, line_unshut) tt)
-    line_runs (inr p) = same_running a.journal b.journal a.records b.records p.journal p.records h.holds.running
+        (right-runs a.journal a.records b.records y h.bus.holds.running (subst (λ z. Right z b.records) e right) (low, h.bus.rested, line_next, line_unshut) tt)
+    line_runs (inr p) = same_running a.journal b.journal a.records b.records p.journal p.records h.bus.holds.running
 
     pub line_may : Puts (IsLineOf n k c a) a b → MayGive IsRestless v b.journal (Some c) b.first (origin_of b)
-    line_may (inl p) = may_more k v a b (Some c) h.holds (put_origin (IsLineOf n k c a) a b h.holds.running.lawful.right (inl p)) h.free
+    line_may (inl p) = may_more k v a b (Some c) h.bus.holds (put_origin (IsLineOf n k c a) a b h.bus.holds.running.lawful.right (inl p)) h.bus.free
         (record { entry = Line k n (put_as a.journal c); longer = line_is p; of_worker = eqb_self k; as_read = (c, refl, refl) }) (λ full. inr refl)
-    line_may (inr p) = may_same k v a b (Some c) h.holds (put_origin (IsLineOf n k c a) a b h.holds.running.lawful.right (inr p)) p.journal
-        (λ f e. no_fault (sym h.free ∙ e)) (λ full. inr (inr refl))
+    line_may (inr p) = may_same k v a b (Some c) h.bus.holds (put_origin (IsLineOf n k c a) a b h.bus.holds.running.lawful.right (inr p)) p.journal
+        (λ f e. no_fault (sym h.bus.free ∙ e)) (λ full. inr (inr refl))
 
     module _ (w : Hand) (is : w ≡ gave v b.journal (Some c) b.first (origin_of b)) where
       -- the line was put
       pub record Lined : Type 0 where
-        pub put : PutAll k (c ∷ []) u w
+        pub put : PutAll k (c ∷ []) v w
         pub sits : Sits (n + 1) k w
         pub takes_next : shuts_source c ≡ false → Takes (n + 1) k w
 
       -- it was refused
       pub record NotLined : Type 0 where
-        pub some : PutSome k (c ∷ []) u w
+        pub some : PutSome k (c ∷ []) v w
         pub stays : Sits n k w
         pub noted : IsSome w.noted
 
-      put_puts : (more : List Given) → list_of w ≡ list_of v ++ more → read_lines more ≡ (n, Some c) ∷ [] → (done : List Cmd) → HasPut (list_of u) done → HasPut (list_of w) (done ++ (c ∷ []))
+      put_puts : (more : List Given) → list_of w ≡ list_of v ++ more → read_lines more ≡ (n, Some c) ∷ [] → (done : List Cmd) → HasPut (list_of v) done → HasPut (list_of w) (done ++ (c ∷ []))
       put_puts more list one done has =
-          subst (λ (z : List Given). HasPut z (done ++ (c ∷ []))) (sym list) (has_more (list_of v) more n c done next_is one (before.lines ∙ has))
+          subst (λ (z : List Given). HasPut z (done ++ (c ∷ []))) (sym list) (has_more (list_of v) more n c done h.next one has)
 
       by_added : Adds (IsLineOf n k c a) a b → Lined
       by_added p =
           let y : Entry = Line k n (put_as a.journal c) in
           let noted : List Given = notes k (length a.journal) (Some c) (y ∷ []) in
           let one : noted ≡ given (length a.journal) y (Some c) ∷ [] = ap (λ (z : Bool). cond z (given (length a.journal) y (Some c) ∷ []) []) (eqb_self k) in
-          let list : list_of w ≡ list_of v ++ (given (length a.journal) y (Some c) ∷ []) = list_after k v w a (Some c) b h.holds (y ∷ []) (line_is p) is ∙ ap (λ (z : List Given). list_of v ++ z) one in
-          let mine : IsOne k w = one_after k v w a (Some c) b h.holds (y ∷ []) (line_is p) is in
+          let list : list_of w ≡ list_of v ++ (given (length a.journal) y (Some c) ∷ []) = list_after k v w a (Some c) b h.bus.holds (y ∷ []) (line_is p) is ∙ ap (λ (z : List Given). list_of v ++ z) one in
+          let mine : IsOne k w = one_after k v w a (Some c) b h.bus.holds (y ∷ []) (line_is p) is in
           let sits : Sits (n + 1) k w = record {
             one = mine;
-            next = ap (λ (m : ℕ). m + 1) next_is ∙ sym (ap length (ap read_lines list ∙ lines-append (list_of v) (given (length a.journal) y (Some c) ∷ [])) ∙ length-append (read_lines (list_of v)) ((n, Some c) ∷ []));
+            next = ap (λ (m : ℕ). m + 1) h.next ∙ sym (ap length (ap read_lines list ∙ lines-append (list_of v) (given (length a.journal) y (Some c) ∷ [])) ∙ length-append (read_lines (list_of v)) ((n, Some c) ∷ []));
           } in
           record {
             put = record {
               puts = put_puts (given (length a.journal) y (Some c) ∷ []) list refl;
-              dues = dues_then k v w a (Some c) b h.holds (y ∷ []) (line_is p) is ∙ dues_open v (Some c) b.first (added_full (IsLineOf n k c a) a b p) ∙ before.dues;
+              dues = dues_then k v w a (Some c) b h.bus.holds (y ∷ []) (line_is p) is ∙ dues_open v (Some c) b.first (added_full (IsLineOf n k c a) a b p);
             };
             sits = sits;
             takes_next = λ leaves. record {
@@ -246,25 +251,25 @@ module _ (n k : ℕ) (u v : Hand) (a : BusView) (takes : Takes n k u) (before : 
               unshut = ap (list_any (λ (g : Given). shuts k g.entry)) list ∙ list_any-append (λ (g : Given). shuts k g.entry) (list_of v) (given (length a.journal) y (Some c) ∷ [])
                   ∙ ap (λ (z : Bool). list_any (λ (g : Given). shuts k g.entry) (list_of v) || ((shuts_source (put_as a.journal c) && z) || false)) (eqb_self k)
                   ∙ or-and-true (list_any (λ (g : Given). shuts k g.entry) (list_of v)) (shuts_source (put_as a.journal c))
-                  ∙ ap (λ (z : Bool). z || shuts_source (put_as a.journal c)) (before.shut k ∙ takes.unshut) ∙ put_shuts a.journal c ∙ leaves;
+                  ∙ ap (λ (z : Bool). z || shuts_source (put_as a.journal c)) (h.unshut) ∙ put_shuts a.journal c ∙ leaves;
             };
           }
 
       by_refused : Refuses a b → NotLined
       by_refused p =
           let longer : b.journal ≡ a.journal ++ [] = p.journal ∙ sym (append-nil a.journal) in
-          let list : list_of w ≡ list_of v = list_after k v w a (Some c) b h.holds [] longer is ∙ append-nil (list_of v) in
+          let list : list_of w ≡ list_of v = list_after k v w a (Some c) b h.bus.holds [] longer is ∙ append-nil (list_of v) in
           record {
             some = record {
               put = [];
               unput = c ∷ [];
               parts = refl;
-              puts = λ done has. ap read_lines list ∙ before.lines ∙ subst (λ (z : List Cmd). HasPut (list_of u) z) (sym (append-nil done)) has;
-              due = ⊎_elim (λ e. inl (dues_then k v w a (Some c) b h.holds [] longer is ∙ e ∙ before.dues))
-                  (λ e. inr (c, [], refl, dues_then k v w a (Some c) b h.holds [] longer is ∙ e ∙ ap (λ z. (k, c) ∷ z) before.dues)) (dues_read k v c b.first h.holds.one);
+              puts = λ done has. ap read_lines list ∙ subst (λ (z : List Cmd). HasPut (list_of v) z) (sym (append-nil done)) has;
+              due = ⊎_elim (λ e. inl (dues_then k v w a (Some c) b h.bus.holds [] longer is ∙ e))
+                  (λ e. inr (c, [], refl, dues_then k v w a (Some c) b h.bus.holds [] longer is ∙ e)) (dues_read k v c b.first h.bus.holds.one);
             };
-            stays = record { one = one_after k v w a (Some c) b h.holds [] longer is; next = next_is ∙ sym (ap length (ap read_lines list)) };
-            noted = subst IsSome (sym (noted_then k v w a (Some c) b h.holds [] longer is)) (refused b.first p.refusal);
+            stays = record { one = one_after k v w a (Some c) b h.bus.holds [] longer is; next = h.next ∙ sym (ap length (ap read_lines list)) };
+            noted = subst IsSome (sym (noted_then k v w a (Some c) b h.bus.holds [] longer is)) (refused b.first p.refusal);
           }
 
       -- whether it was put is seen by the length of the journal

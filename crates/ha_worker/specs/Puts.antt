@@ -1,5 +1,5 @@
 -- What a worker puts, by what its pass knows before and after.
-use Rattle.std.specs.Prelude.{ℕ, ◌≡◌, ◌⊎◌, List, ◌∷◌, ◌++◌}
+use Rattle.std.specs.Prelude.{ℕ, ◌≡◌, ◌⊎◌, List, [], ◌∷◌, ◌++◌}
 use Rattle.std.specs.List.{list_any}
 use Rattle.ha_model.specs.declared.journal.Cmd.{Cmd}
 use Rattle.ha_model.specs.Lawful.{shuts}
@@ -33,3 +33,9 @@ pub record PutSome (k : ℕ) (cmds : List Cmd) (old new : Hand) : Type 0 where
   pub parts : cmds ≡ put ++ unput
   pub puts : Puts put old new
   pub due : IsDue k unput old new
+
+-- the line of the first of them was put, and the rest are left
+pub record PutFirst (k : ℕ) (cmds left : List Cmd) (old new : Hand) : Type 0 where
+  pub first : Cmd
+  pub parts : cmds ≡ first ∷ left
+  pub put : PutAll k (first ∷ []) old new

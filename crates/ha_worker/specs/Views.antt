@@ -80,3 +80,9 @@ pub record HoldsRested (k : ℕ) (b : BusView) (v : Hand) : Type 0 where
   pub holds : Holds k b v
   pub free : b.first ≡ None
   pub rested : is_rested b.records k b.journal ≡ true
+
+-- and the line n of the source may come
+pub record HoldsNext (n k : ℕ) (b : BusView) (v : Hand) : Type 0 where
+  pub bus : HoldsRested k b v
+  pub next : n ≡ length (read_lines (list_of v))
+  pub unshut : list_any (λ (g : Given). shuts k g.entry) (list_of v) ≡ false

@@ -1,18 +1,21 @@
 //! The turns of a worker: in each it takes the bus, and gives it back.
-ghost use Rattle.std.specs.Prelude.{◌≡◌, ◌<◌, ◌∷◌, [], false, None, IfSome, IsSome, OnOk, OnErr};
+ghost use Rattle.std.specs.Prelude.{◌≡◌, ◌<◌, ◌∷◌, [], false, None, Some, IfSome, IsSome, OnOk, OnErr};
+ghost use Rattle.std.specs.VecDeque.{deque_len};
 ghost use Rattle.crossbeam_channel.specs.Claims.{view};
 ghost use Rattle.ha_model.specs.Commands.{IsFair, put_as};
 ghost use Rattle.ha_model.specs.Entries.{shuts_source};
 ghost use Rattle.ha_model.specs.Journal.{Journal};
 ghost use Rattle.bus_pass.specs.Turns.{IsPassOf};
-ghost use Rattle.ha_worker.specs.Views.{HoldsRested, IsOne, Sits, Takes};
-ghost use Rattle.ha_worker.specs.Puts.{NoLine, PutAll, PutSome};
+ghost use Rattle.ha_worker.specs.Views.{HoldsNext, HoldsRested, IsOne, Sits, Takes};
+ghost use Rattle.ha_worker.specs.Puts.{NoLine, PutAll, PutFirst, PutSome};
+ghost use Rattle.ha_worker.specs.Read.{AreOpen};
 
 use crate::halt::Halt;
 use bus_pass::{Held, Pass, Turn};
 use ha_io::{Keeper, Sink};
 use ha_model::{Cmd, Core};
 use std::alloc::Global;
+use std::collections::VecDeque;
 use std::snapshot::Snapshot;
 use std::sync::Wait;
 
@@ -81,9 +84,47 @@ pub(crate) fn settle<C: Core + Drop, K: Sink, Q: Keeper, W: Wait>(
     }
 }
 
-/// Puts a line with the command that is held, as soon as its source is rested. Gives whether another turn is due before a read that may
-/// wait: the source is not rested, or the bus keeps a first fault. Where it `goes_on`, the caller puts more before that read, and the
-/// trace's sink may keep the line until then.
+/// Puts a line with this command into the bus that is held, and gives it back with what was read. Gives whether another turn is due before
+/// a read that may wait: the source is not rested, or the bus keeps a first fault. Where it `goes_on`, the caller puts more before that
+/// read, and the trace's sink may keep the line until then.
+fn put_into<C: Core + Drop, K: Sink, Q: Keeper, W: Wait>(
+    rt: &W,
+    alloc: Global,
+    turn: &Turn<C, K, Q>,
+    pass: &mut Pass<C, K, Q>,
+    bus: Held<C, K, Q>,
+    id: u32,
+    next: &mut u64,
+    cmd: Cmd,
+    read: Snapshot<Option<Cmd>>,
+    goes_on: bool,
+) -> Result<bool, Halt>
+    requires turn { IsPassOf turn.now pass.old }
+    requires known { id < 16 }
+    requires holds { HoldsNext next.old id bus (view pass.old) }
+    requires read { read.value ≡ Some cmd }
+    requires fair { (j : Journal) → IsFair j (put_as j cmd) }
+    ensures turn { IsPassOf turn.now pass.new }
+    ensures sits { Sits next.new id (view pass.new) }
+    ensures ok { OnOk result (PutAll id (cmd ∷ []) (view pass.old) (view pass.new)) }
+    ensures next { OnOk result (shuts_source cmd ≡ false → Takes next.new id (view pass.new)) }
+    ensures some { OnErr result (PutSome id (cmd ∷ []) (view pass.old) (view pass.new)) }
+    ensures halt { OnErr result (IsSome (view pass.new).noted) }
+{
+    let mut bus = bus;
+    let before = bus.core().journal().len();
+    bus.line(alloc, id, *next, cmd, goes_on);
+    let was_put = bus.core().journal().len() > before;
+    let is_due = bus.first().is_some() || !bus.rested(id);
+    turn.give(rt, pass, bus, read);
+    if !was_put {
+        return Err(Halt::Stopped);
+    }
+    *next += 1;
+    Ok(is_due)
+}
+
+/// Puts a line with the command that is held, as soon as its source is rested. Nothing else is put before the next read.
 pub(crate) fn put_held<C: Core + Drop, K: Sink, Q: Keeper, W: Wait>(
     rt: &W,
     alloc: Global,
@@ -92,7 +133,6 @@ pub(crate) fn put_held<C: Core + Drop, K: Sink, Q: Keeper, W: Wait>(
     id: u32,
     next: &mut u64,
     held: &mut Option<Cmd>,
-    goes_on: bool,
 ) -> Result<bool, Halt>
     requires turn { IsPassOf turn.now pass.old }
     requires known { id < 16 }
@@ -107,20 +147,43 @@ pub(crate) fn put_held<C: Core + Drop, K: Sink, Q: Keeper, W: Wait>(
     ensures halt { OnErr result (IsSome (view pass.new).noted) }
 {
     let read = Snapshot::of(held);
-    let Some(mut bus) = take_rested(rt, alloc, turn, pass, id, true) else {
+    let Some(bus) = take_rested(rt, alloc, turn, pass, id, true) else {
         return Err(Halt::Stopped);
     };
     let Some(cmd) = held.take() else {
         unreachable!()
     };
-    let before = bus.core().journal().len();
-    bus.line(alloc, id, *next, cmd, goes_on);
-    let was_put = bus.core().journal().len() > before;
-    let is_due = bus.first().is_some() || !bus.rested(id);
-    turn.give(rt, pass, bus, read);
-    if !was_put {
+    put_into(rt, alloc, turn, pass, bus, id, next, cmd, read, false)
+}
+
+/// Puts a line with the first of these commands, as soon as its source is rested. It is taken from them only then.
+pub(crate) fn put_next<C: Core + Drop, K: Sink, Q: Keeper, W: Wait>(
+    rt: &W,
+    alloc: Global,
+    turn: &Turn<C, K, Q>,
+    pass: &mut Pass<C, K, Q>,
+    id: u32,
+    next: &mut u64,
+    cmds: &mut VecDeque<Cmd>,
+) -> Result<bool, Halt>
+    requires turn { IsPassOf turn.now pass.old }
+    requires known { id < 16 }
+    requires takes { Takes next.old id (view pass.old) }
+    requires some { 0 < deque_len cmds.old }
+    requires open { AreOpen cmds.old.items }
+    ensures turn { IsPassOf turn.now pass.new }
+    ensures sits { Sits next.new id (view pass.new) }
+    ensures ok { OnOk result (PutFirst id cmds.old.items cmds.new.items (view pass.old) (view pass.new)) }
+    ensures next { OnOk result (Takes next.new id (view pass.new)) }
+    ensures some { OnErr result (PutSome id cmds.old.items (view pass.old) (view pass.new)) }
+    ensures halt { OnErr result (IsSome (view pass.new).noted) }
+{
+    let Some(bus) = take_rested(rt, alloc, turn, pass, id, true) else {
         return Err(Halt::Stopped);
-    }
-    *next += 1;
-    Ok(is_due)
+    };
+    let held = cmds.pop_front();
+    let goes_on = !cmds.is_empty();
+    let read = Snapshot::of(&held);
+    let Some(cmd) = held else { unreachable!() };
+    put_into(rt, alloc, turn, pass, bus, id, next, cmd, read, goes_on)
 }

@@ -20,7 +20,7 @@ use crate::ending::Ending;
 use crate::halt::Halt;
 use crate::lines::read_lines;
 use crate::pieces::{NoPiece, has_more, pull};
-use crate::turns::{put_held, settle, unread};
+use crate::turns::{put_held, put_next, settle, unread};
 use bus_pass::{Pass, Turn};
 use flow_line::read_cmd;
 use ha_io::{Gate, Keeper, Sink, Source};
@@ -249,9 +249,16 @@ impl<S: Source, C: Core + Drop, K: Sink, Q: Keeper> Worker<S, C, K, Q> {
     {
         let mut cmds = cmds;
         let mut is_due = false;
-        'cmds: while let Some(cmd) = cmds.pop_front() {
-            let goes_on = !cmds.is_empty();
-            match self.put_one(rt, alloc, turn, cmd, goes_on) {
+        'cmds: while !cmds.is_empty() {
+            match put_next(
+                rt,
+                alloc,
+                turn,
+                &mut self.pass,
+                self.id,
+                &mut self.next,
+                &mut cmds,
+            ) {
                 Ok(due) => is_due = due,
                 Err(halt) => return Err(halt),
             }
@@ -308,30 +315,6 @@ impl<S: Source, C: Core + Drop, K: Sink, Q: Keeper> Worker<S, C, K, Q> {
     {
         gate.before(self.id, self.next);
         let _floor = turn.floor(rt);
-        self.put_one(rt, alloc, turn, cmd, false)
-    }
-
-    /// Puts a line with this command. Where it `goes_on`, another follows before the next read.
-    fn put_one<W: Wait>(
-        &mut self,
-        rt: &W,
-        alloc: Global,
-        turn: &Turn<C, K, Q>,
-        cmd: Cmd,
-        goes_on: bool,
-    ) -> Result<bool, Halt>
-        requires turn { IsPassOf turn.now self.old.pass }
-        requires known { self.old.id < 16 }
-        requires takes { Takes self.old.next self.old.id (view self.old.pass) }
-        requires fair { (j : Journal) → IsFair j (put_as j cmd) }
-        ensures turn { IsPassOf turn.now self.new.pass }
-        ensures same { (self.new.id ≡ self.old.id) × (self.new.source ≡ self.old.source) × (self.new.end ≡ self.old.end) }
-        ensures sits { Sits self.new.next self.old.id (view self.new.pass) }
-        ensures ok { OnOk result (PutAll self.old.id (cmd ∷ []) (view self.old.pass) (view self.new.pass)) }
-        ensures takes { OnOk result (shuts_source cmd ≡ false → Takes self.new.next self.old.id (view self.new.pass)) }
-        ensures some { OnErr result (PutSome self.old.id (cmd ∷ []) (view self.old.pass) (view self.new.pass)) }
-        ensures halt { IfErr result (λ halt. Halts halt (view self.new.pass).noted) }
-    {
         let mut held = Some(cmd);
         put_held(
             rt,
@@ -341,7 +324,6 @@ impl<S: Source, C: Core + Drop, K: Sink, Q: Keeper> Worker<S, C, K, Q> {
             self.id,
             &mut self.next,
             &mut held,
-            goes_on,
         )
     }
 

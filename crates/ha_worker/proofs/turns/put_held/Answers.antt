@@ -1,65 +1,22 @@
-use Rattle.std.proofs.Common.{◌≡◌, ◌∙◌, ◌<◌, Some, arith, length, rules}
+use Rattle.std.proofs.Common.{[], ◌∷◌, ◌≡◌, Some, rules}
+use Rattle.std.proofs.lemmas.Result.{on_err_weaker, on_ok_weaker}
 use Rattle.crossbeam_channel.specs.Claims.{view}
-use Rattle.ha_worker.proofs.TurnLemmas.{few_lines, line_may, line_next, line_runs, line_unshut, was_put, was_refused}
+use Rattle.ha_worker.proofs.LineLemmas.{all_behind, some_behind}
+use Rattle.ha_worker.proofs.TurnLemmas.{holds_next}
 use Rattle.ha_worker.proofs.turns.put_held.Goals as goal
 
-pub line-requires-clause-next : goal.line-requires-clause-next
-line-requires-clause-next g c κs within =
-    line_next c.args.next.now c.args.id (view c.args.pass.now) (view c.take_rested.new.pass) c.in-Some.bus c.requires.takes c.in-Some.ensures.lines c.in-Some.ensures.some
-
-pub line-requires-clause-unshut : goal.line-requires-clause-unshut
-line-requires-clause-unshut g c κs within =
-    line_unshut c.args.next.now c.args.id (view c.args.pass.now) (view c.take_rested.new.pass) c.in-Some.bus c.requires.takes c.in-Some.ensures.lines c.in-Some.ensures.some
-
-pub give-requires-clause-may : goal.give-requires-clause-may
-give-requires-clause-may g c κs within =
-    let held : c.args.held.now ≡ Some c.in-Some-take.cmd = search rules in
-    rw (c.of-read.ensures ∙ held)
-    (line_may c.args.next.now c.args.id (view c.args.pass.now) (view c.take_rested.new.pass) c.in-Some.bus c.requires.takes c.in-Some.ensures.lines c.in-Some.ensures.some
-    c.in-Some-take.cmd c.line.new.self c.requires.known c.first.ensures.stands.right c.line.ensures)
-
-pub give-requires-clause-running : goal.give-requires-clause-running
-give-requires-clause-running g c κs within =
-    line_runs c.args.next.now c.args.id (view c.args.pass.now) (view c.take_rested.new.pass) c.in-Some.bus c.requires.takes c.in-Some.ensures.lines c.in-Some.ensures.some
-    c.in-Some-take.cmd c.line.new.self c.requires.known c.first.ensures.stands.right c.line.ensures
-
-pub returns-then-not-was_put-clause-some : goal.returns-then-not-was_put-clause-some
-returns-then-not-was_put-clause-some g c =
-    let held : c.args.held.now ≡ Some c.in-Some-take.cmd = search rules in
-    let same : length c.in-Some.bus.journal < length c.line.new.self.journal → ⊥ = search rules in
-    rw held
-    (was_refused c.args.next.now c.args.id (view c.args.pass.now) (view c.take_rested.new.pass) c.in-Some.bus c.requires.takes c.in-Some.ensures.lines c.in-Some.ensures.some
-    c.in-Some-take.cmd c.line.new.self c.requires.known c.first.ensures.stands.right (view c.give.new.pass) (rw (c.of-read.ensures ∙ held) at c.give.ensures.gave) c.line.ensures same).some
-
-pub overflow_add-next : goal.overflow_add-next
-overflow_add-next g c =
-    let longer : length c.in-Some.bus.journal < length c.line.new.self.journal = search rules in
-    omega (
-      arith,
-      c.first.ensures.stands.room,
-      longer,
-      few_lines c.args.next.now c.args.id (view c.args.pass.now) (view c.take_rested.new.pass) c.in-Some.bus c.requires.takes c.in-Some.ensures.lines c.in-Some.ensures.some (omega (arith, c.first.ensures.stands.room, longer)),
-    )
-
-pub returns-clause-sits : goal.returns-clause-sits
-returns-clause-sits g c =
-    let held : c.args.held.now ≡ Some c.in-Some-take.cmd = search rules in
-    let longer : length c.in-Some.bus.journal < length c.line.new.self.journal = search rules in
-    (was_put c.args.next.now c.args.id (view c.args.pass.now) (view c.take_rested.new.pass) c.in-Some.bus c.requires.takes c.in-Some.ensures.lines c.in-Some.ensures.some
-    c.in-Some-take.cmd c.line.new.self c.requires.known c.first.ensures.stands.right (view c.give.new.pass) (rw (c.of-read.ensures ∙ held) at c.give.ensures.gave) c.line.ensures longer).sits
+pub put_into-requires-clause-holds : goal.put_into-requires-clause-holds
+put_into-requires-clause-holds g c κs within =
+    holds_next c.args.next.now c.args.id (view c.args.pass.now) (view c.take_rested.new.pass) c.in-Some.bus c.requires.takes c.in-Some.ensures.lines c.in-Some.ensures.some
 
 pub returns-clause-ok : goal.returns-clause-ok
 returns-clause-ok g c =
     let held : c.args.held.now ≡ Some c.in-Some-take.cmd = search rules in
-    let longer : length c.in-Some.bus.journal < length c.line.new.self.journal = search rules in
     rw held
-    (was_put c.args.next.now c.args.id (view c.args.pass.now) (view c.take_rested.new.pass) c.in-Some.bus c.requires.takes c.in-Some.ensures.lines c.in-Some.ensures.some
-    c.in-Some-take.cmd c.line.new.self c.requires.known c.first.ensures.stands.right (view c.give.new.pass) (rw (c.of-read.ensures ∙ held) at c.give.ensures.gave) c.line.ensures longer).put
+    (on_ok_weaker c.put_into.result (λ p. all_behind c.args.id (c.in-Some-take.cmd ∷ []) (view c.args.pass.now) (view c.take_rested.new.pass) (view c.put_into.new.pass) c.in-Some.ensures.lines p) c.put_into.ensures.ok)
 
-pub returns-clause-next : goal.returns-clause-next
-returns-clause-next g c =
+pub returns-clause-some : goal.returns-clause-some
+returns-clause-some g c =
     let held : c.args.held.now ≡ Some c.in-Some-take.cmd = search rules in
-    let longer : length c.in-Some.bus.journal < length c.line.new.self.journal = search rules in
     rw held
-    (was_put c.args.next.now c.args.id (view c.args.pass.now) (view c.take_rested.new.pass) c.in-Some.bus c.requires.takes c.in-Some.ensures.lines c.in-Some.ensures.some
-    c.in-Some-take.cmd c.line.new.self c.requires.known c.first.ensures.stands.right (view c.give.new.pass) (rw (c.of-read.ensures ∙ held) at c.give.ensures.gave) c.line.ensures longer).takes_next
+    (on_err_weaker c.put_into.result (λ p. some_behind c.args.id (c.in-Some-take.cmd ∷ []) (view c.args.pass.now) (view c.take_rested.new.pass) (view c.put_into.new.pass) c.in-Some.ensures.lines p) c.put_into.ensures.some)
