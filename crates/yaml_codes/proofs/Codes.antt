@@ -43,7 +43,7 @@ use Rattle.yaml_codes.proofs.Spelled.{Ascends, ascends_start, numbered_ascends, 
 
 -- ---- no leaf is too high
 
-low_or_not : (ps : List Piece) → Low ps ⊎ (Low ps → ⊥)
+pub low_or_not : (ps : List Piece) → Low ps ⊎ (Low ps → ⊥)
 low_or_not [] = inl tt
 low_or_not (p ∷ ps) = by p.what (low_or_not ps)
   where
@@ -129,7 +129,7 @@ module _ (k : ℕ) (p : List RawLine) (early : AllIn (λ m. m ≤ k) p) (rises :
   outcome : Outcome k [] (without_start p) (all_pieces (without_start p))
   outcome = pieces_come k (suc (length (without_start p))) [] (without_start p) (omega arith) (start_in (AllIn (λ m. m ≤ k)) (λ l rest i. i.1) p early, start_in Rises (λ l rest i. i.1) p rises, omega arith)
 
-  on_pieces : AllOn (λ m. m ≤ k) (all_pieces (without_start p)).pieces
+  pub on_pieces : AllOn (λ m. m ≤ k) (all_pieces (without_start p)).pieces
   on_pieces =
       let on_lines : AllIn (λ m. m ≤ k) (without_start p) = start_in (AllIn (λ m. m ≤ k)) (λ l rest i. i.1) p early in
       let d : Adds (λ m. m ≤ k) (AllIn (λ m. m ≤ k)) [] (all_pieces (without_start p)) = adds_pieces (λ m. m ≤ k) (AllIn (λ m. m ≤ k)) (λ l rest i. i) (suc (length (without_start p))) [] (without_start p) on_lines in
@@ -145,6 +145,12 @@ module _ (k : ℕ) (p : List RawLine) (early : AllIn (λ m. m ≤ k) p) (rises :
       let is : Ahead k (all_pieces (without_start p)) (read_lines (p ++ b)) = subst (λ (ls : List RawLine). Ahead k (all_pieces (without_start p)) (all_pieces ls)) (sym s.are) h in
       high (low_back is.alike (low_parts is.front is.tail (subst Low is.are low)).0)
 
+-- why no text with these lines is in the notation: a fault of a line alone, a leaf that is too high, or a fault of pieces that stays
+pub data Why (k : ℕ) (p : List RawLine) : Type 0 where
+  bad_line : (g : Fault) → line_fault p ≡ Some g → Why k p
+  too_tall : (Low (all_pieces (without_start p)).pieces → ⊥) → Why k p
+  lost : ((b : List RawLine) → AllLate k b → (v : Fault) × ((read_lines (p ++ b)).fault ≡ Some v) × (v.line ≤ k)) → Why k p
+
 module _ (k : ℕ) (p : List RawLine) (f : Fault) (early : AllIn (λ m. m ≤ k) p) (rises : Rises p) (at : f.line ≡ k) (code : IsTreeCode f.code) where
   no_structure : f.code ≢ Structure
   no_structure e = let q : false ≡ true = subst IsTreeCode e code in cc
@@ -152,10 +158,10 @@ module _ (k : ℕ) (p : List RawLine) (f : Fault) (early : AllIn (λ m. m ≤ k)
   on_them : AllOn (λ m. m ≤ k) (all_pieces (without_start p)).pieces
   on_them = on_pieces k p early rises
 
-  -- with these lines behind the first some text is in the notation, and has the fault; or else none is
+  -- with these lines behind the first some text is in the notation, and has the fault; or else none is, for a reason
   data Found_or_not : Type 0 where
     goes : (close : List RawLine) → (close ≡ []) ⊎ ((x : RawLine) × IsClosing k x × (close ≡ x ∷ [])) → Plain (p ++ close) → AllOn (λ m. m ≤ k) (read_lines (p ++ close)).pieces → in_tree (p ++ close) ≡ Some f → Found_or_not
-    never : ((b : List RawLine) → AllLate k b → Plain (p ++ b) → ⊥) → Found_or_not
+    never : Why k p → ((b : List RawLine) → AllLate k b → Plain (p ++ b) → ⊥) → Found_or_not
 
   module _ (was : ((line_fault p ≡ Some f) ⊎ (((read_lines p).fault ≡ Some f) ⊎ (in_tree p ≡ Some f)))) where
     become : (b : List RawLine) → AllLate k b → Become k p (p ++ b)
@@ -163,7 +169,7 @@ module _ (k : ℕ) (p : List RawLine) (f : Fault) (early : AllIn (λ m. m ≤ k)
 
     clean_or_not : (o : Option Fault) → line_fault p ≡ o → (line_fault p ≡ None → Found_or_not) → Found_or_not
     clean_or_not None e go = go e
-    clean_or_not (Some g) e go = never (λ b late plain. let q : Some g ≡ None = sym (lines_keep b p false g e) ∙ plain.clean in cc)
+    clean_or_not (Some g) e go = never (bad_line g e) (λ b late plain. let q : Some g ≡ None = sym (lines_keep b p false g e) ∙ plain.clean in cc)
 
     -- the fault is that of the tree, where a text goes on without one of pieces
     of_tree : line_fault p ≡ None → (b : List RawLine) → AllLate k b → (read_lines (p ++ b)).fault ≡ None → in_tree p ≡ Some f
@@ -178,7 +184,7 @@ module _ (k : ℕ) (p : List RawLine) (f : Fault) (early : AllIn (λ m. m ≤ k)
 
     low_case : Low (all_pieces (without_start p)).pieces ⊎ (Low (all_pieces (without_start p)).pieces → ⊥) → (Low (all_pieces (without_start p)).pieces → Found_or_not) → Found_or_not
     low_case (inl l) go = go l
-    low_case (inr h) go = never (λ b late plain. too_high k p early rises h b late plain.low)
+    low_case (inr h) go = never (too_tall h) (λ b late plain. too_high k p early rises h b late plain.low)
 
     by_itself : line_fault p ≡ None → (read_lines p).fault ≡ None → Found_or_not
     by_itself clean read =
@@ -211,12 +217,13 @@ module _ (k : ℕ) (p : List RawLine) (f : Fault) (early : AllIn (λ m. m ≤ k)
     by_outcome clean None i h = by_itself clean i
     by_outcome clean (Some o) i (is_clear none) = absurd (let q : Some o ≡ None = sym i ∙ none in cc)
     by_outcome clean (Some o) i (is_closed x c h) = by_closing clean o i x c h
-    by_outcome clean (Some o) i (is_lost h) =
-        never (λ b late plain.
-        (let s : Starts k (without_start p) (without_start (p ++ b)) = start_follows k b late p in
-        let v = h s.behind_them s.late (suc (length ((without_start p) ++ s.behind_them))) (omega (arith, length-append (without_start p) s.behind_them)) in
-        let q : Some v.0 ≡ None = sym (ap (λ (ls : List RawLine). (all_pieces ls).fault) s.are ∙ v.1) ∙ plain.read in
-        cc))
+    by_outcome clean (Some o) i (is_lost h) = never (lost stays) (λ b late plain. let v = stays b late in let q : Some v.0 ≡ None = sym v.1 ∙ plain.read in cc)
+      where
+        stays : (b : List RawLine) → AllLate k b → (v : Fault) × ((read_lines (p ++ b)).fault ≡ Some v) × (v.line ≤ k)
+        stays b late =
+            let s : Starts k (without_start p) (without_start (p ++ b)) = start_follows k b late p in
+            let v = h s.behind_them s.late (suc (length ((without_start p) ++ s.behind_them))) (omega (arith, length-append (without_start p) s.behind_them)) in
+            (v.0, ap (λ (ls : List RawLine). (all_pieces ls).fault) s.are ∙ v.1, v.2)
 
     found_or_not : Found_or_not
     found_or_not = clean_or_not (line_fault p) refl (λ clean. by_outcome clean (read_lines p).fault refl (outcome k p early rises))
@@ -268,31 +275,42 @@ module _ (text : List ℕ) (f : Fault) (e : tree text ≡ Err f) (code : IsTreeC
         | inr c ↦ absurd (let q : false ≡ true = subst IsTreeCode c code in cc)
       ]
 
-  by : Found_or_not (length First_lines) First_lines f early rises (sym long) code → n.HasNotation f.line text (n.Breaks f.line f.code) ⊎ n.IsUnspelled f.line text
-  by (goes close is plain on tree_is) =
+  goes_on : (close : List RawLine) → (close ≡ []) ⊎ ((x : RawLine) × IsClosing (length First_lines) x × (close ≡ x ∷ [])) → Plain (First_lines ++ close)
+      → AllOn (λ m. m ≤ length First_lines) (read_lines (First_lines ++ close)).pieces → in_tree (First_lines ++ close) ≡ Some f → n.HasNotation f.line text (n.Breaks f.line f.code)
+  goes_on close is plain on tree_is =
       let t = completed_text text First_lines Others close (cut f.line (lines text)) is in
       let sp = spelled_text t.0 (First_lines ++ close) t.1 plain in
       let up = numbered_ascends 1 (First_lines ++ close) (all_numbered t.0 (First_lines ++ close) t.1) in
       let r = shown (length First_lines) First_lines f early rises (sym long) code (First_lines ++ close) sp.1 up plain on tree_is in
       let shows : Shows f.line f.code 64 r.0 = subst (λ (m : ℕ). Shows m f.code 64 r.0) long r.2 in
-      inl (t.0, r.0, same_front f.line text t.0 First_lines close refl long t.1, n.in_notation sp.0 r.1, breaks_by f.line f.code (number_of f.code == 4) r.0 refl code shows)
-  by (never no_text) =
+      (t.0, r.0, same_front f.line text t.0 First_lines close refl long t.1, n.in_notation sp.0 r.1, breaks_by f.line f.code (number_of f.code == 4) r.0 refl code shows)
+
+  by : Found_or_not (length First_lines) First_lines f early rises (sym long) code → n.HasNotation f.line text (n.Breaks f.line f.code) ⊎ n.IsUnspelled f.line text
+  by (goes close is plain on tree_is) = inl (goes_on close is plain on tree_is)
+  by (never why no_text) =
       inr (λ other root same in_it.
       (let b : List RawLine = drop f.line (lines other) in
       let is = cut_same f.line text other same in
       let late = numbered_behind 1 (length First_lines) First_lines b (omega arith) (all_numbered other (First_lines ++ b) is) in
       no_text b late (notation_read other root (First_lines ++ b) is in_it)))
 
+  why_not : Found_or_not (length First_lines) First_lines f early rises (sym long) code → n.IsUnspelled f.line text → Why (length First_lines) First_lines
+  why_not (goes close is plain on tree_is) none = absurd (let h = goes_on close is plain on tree_is in none h.0 h.1 h.2 h.3)
+  why_not (never why no_text) none = why
+
+  pub why_unspelled : n.IsUnspelled f.line text → Why (length First_lines) First_lines
+  why_unspelled = why_not (found_or_not (length First_lines) First_lines f early rises (sym long) code was)
+
   pub breaks : n.HasNotation f.line text (n.Breaks f.line f.code) ⊎ n.IsUnspelled f.line text
   breaks = by (found_or_not (length First_lines) First_lines f early rises (sym long) code was)
 
 -- ---- the other codes
 
-three_codes : (c : Code) → (c ≡ RepeatedKey) ⊎ (c ≡ Limit) → IsTreeCode c
+pub three_codes : (c : Code) → (c ≡ RepeatedKey) ⊎ (c ≡ Limit) → IsTreeCode c
 three_codes c (inl e) = subst IsTreeCode (sym e) refl
 three_codes c (inr e) = subst IsTreeCode (sym e) refl
 
-two_codes : (c : Code) → IsTreeCode c → (c ≡ RepeatedKey) ⊎ (c ≡ Limit)
+pub two_codes : (c : Code) → IsTreeCode c → (c ≡ RepeatedKey) ⊎ (c ≡ Limit)
 two_codes c h = elim (tested (number_of c == 4)) [
   | inl e ↦ inl (same_code c RepeatedKey (eqb-true (number_of c) 4 e))
   | inr e ↦ let h' : (number_of c == 12) ≡ true = rw e at h in inr (same_code c Limit (eqb-true (number_of c) 12 h'))

@@ -1,11 +1,12 @@
 -- Scalars and flow that are refused with C3 begin with a sign of what is left out.
-use Rattle.std.proofs.Common.{◌≡◌, ℕ, ◌+◌, ◌-◌, Bool, true, false, cond, ◌||◌, ◌&&◌, List, [], ◌∷◌, ◌++◌, drop, Option, Some, None, Result, Ok, Err, refl, sym, ap, subst, ◌∙◌}
+use Rattle.std.proofs.Common.{◌≡◌, ℕ, ◌≤◌, ◌<◌, ◌⊎◌, inl, inr, ◌+◌, ◌-◌, Bool, true, false, cond, ◌||◌, ◌&&◌, List, [], ◌∷◌, ◌++◌, drop, Option, Some, None, Result, Ok, Err, refl, sym, ap, subst, ◌∙◌, arith}
 use Rattle.std.specs.Prelude.{◌==◌, not, nat_lt}
 use Rattle.std.proofs.lemmas.Bool.{eqb-true}
 use Rattle.yaml_scan.specs.declared.line.RawLine.{RawLine}
 use Rattle.yaml_scan.specs.declared.fault.Fault.{Fault}
 use Rattle.yaml_scan.specs.declared.fault.Code.{Code}
 use Rattle.yaml_scan.specs.declared.fault.Code.TheVariants.{Structure, LeftOut, RepeatedKey}
+use Rattle.yaml_scan.specs.Codes.{number_of}
 use Rattle.yaml_scan.specs.Answers.{Reading}
 use Rattle.yaml_scan.specs.Words.{sees, is_empty, nothing_left, times, folded, has_colon, has_comment, only_blanks, without_blanks}
 use Rattle.yaml_scan.specs.Plain.{text_of, further, plain}
@@ -16,11 +17,11 @@ use Rattle.yaml_tree.specs.declared.starts.Start.{Start}
 use Rattle.yaml_tree.specs.declared.starts.Start.TheVariants as starts
 use Rattle.yaml_tree.specs.Blocks.{IsHead, clipped, stripped}
 use Rattle.yaml_tree.specs.Flow.{Ended, flow}
-use Rattle.yaml_tree.specs.Leaves.{scalar, flow_by, leaf_by, colon_behind}
+use Rattle.yaml_tree.specs.Leaves.{Leafs, scalar, flow_by, leaf_by, colon_behind}
 use Rattle.yaml_tree.specs.Starts.{start, left_out, no_plain}
 use Rattle.yaml_tree.proofs.LinesFound.{and_true}
-use Rattle.yaml_codes.specs.Signs.{IsSign, sign, head, flow_key, in_flow}
-use Rattle.yaml_codes.proofs.FlowSigns.{flow_left}
+use Rattle.yaml_codes.specs.Signs.{IsSign, sign, head, flow_key, in_flow, RepeatsInFlow, again, IsHighFlow, high}
+use Rattle.yaml_codes.proofs.FlowSigns.{flow_left, flow_codes}
 
 -- a fault has this
 abbrev pub Fails : {A F : Type 0} → (F → Type 0) → Result A F → Type 0
@@ -74,7 +75,7 @@ quoted_fails floor n quote bytes ls =
 
 -- the line n has more behind `|` or `>` than may stand there
 abbrev IsWrongHead : ℕ → List ℕ → Fault → Type 0
-IsWrongHead n bytes f = (f.line ≡ n) × ((strip : Bool) → IsHead bytes strip → ⊥)
+IsWrongHead n bytes f = (f.line ≡ n) × (f.code ≡ LeftOut) × ((strip : Bool) → IsHead bytes strip → ⊥)
 
 -- a dash is no blank and no comment
 dash_left : (bytes : List ℕ) → sees 45 bytes ≡ true → nothing_left false bytes ≡ true → ⊥
@@ -111,30 +112,40 @@ module _ (n : ℕ) (bytes : List ℕ) where
   unfolding block
   block_fails floor fold ls =
       either (IsWrongHead n bytes) (sees 45 bytes) _ _
-      (λ dashed. either (IsWrongHead n bytes) (nothing_left false (drop 1 bytes)) _ _ (λ e. opening_fails fold true floor ls 0) (λ more. (refl, dash_head bytes more dashed)))
-      (λ other. either (IsWrongHead n bytes) (nothing_left false bytes) _ _ (λ e. opening_fails fold false floor ls 0) (λ more. (refl, no_dash_head bytes more other)))
+      (λ dashed. either (IsWrongHead n bytes) (nothing_left false (drop 1 bytes)) _ _ (λ e. opening_fails fold true floor ls 0) (λ more. (refl, refl, dash_head bytes more dashed)))
+      (λ other. either (IsWrongHead n bytes) (nothing_left false bytes) _ _ (λ e. opening_fails fold false floor ls 0) (λ more. (refl, refl, no_dash_head bytes more other)))
 
 -- ---- leaves
 
--- It is told on the line n, with a reason, where the code is C3; and with that code where a thing is marked that is left out.
-abbrev pub IsTold : ℕ → Type 0 → Wrong → Type 0
-IsTold n Reason w = (w.fault.code ≡ LeftOut → (w.fault.line ≡ n) × Reason) × (w.left_out ≡ true → w.fault ≡ record { line = n; code = LeftOut })
+-- With such a code it is told on the line n, for a reason; and with C3 where a thing is marked that is left out.
+abbrev pub IsTold : ℕ → (Code → Type 0) → Type 0 → Wrong → Type 0
+IsTold n W Reason w = (W w.fault.code → (w.fault.line ≡ n) × Reason) × (w.left_out ≡ true → w.fault ≡ record { line = n; code = LeftOut })
 
-pub with_structure : (c : Code) → c ≡ Structure → c ≡ LeftOut → ⊥
-with_structure c e e' = let q : Structure ≡ LeftOut = sym e ∙ e' in cc
+-- more than 64 nodes stand in one another for this cause
+abbrev pub IfTooHigh : Type 0 → Leafs → Type 0
+IfTooHigh Cause (Ok x) = 64 < x.0.1 → Cause
+IfTooHigh Cause (Err w) = Unit {0}
 
-scalar_fails : (n : ℕ) (Reason : Type 0) (is_plain : Bool) (r : Reading (List ℕ)) → Fails (λ (f : Fault). f.code ≡ LeftOut → (f.line ≡ n) × Reason) r → Fails (IsTold n Reason) (scalar n is_plain r)
-scalar_fails n Reason is_plain (Ok x) h = tt
-scalar_fails n Reason is_plain (Err f) h = (h, λ e. absurd cc)
+scalar_fails : (n : ℕ) (W : Code → Type 0) (Reason : Type 0) (is_plain : Bool) (r : Reading (List ℕ)) → Fails (λ (f : Fault). W f.code → (f.line ≡ n) × Reason) r → Fails (IsTold n W Reason) (scalar n is_plain r)
+scalar_fails n W Reason is_plain (Ok x) h = tt
+scalar_fails n W Reason is_plain (Err f) h = (h, λ e. absurd cc)
 
-with_other : (n : ℕ) (Reason : Type 0) (r : Reading (List ℕ)) → Fails IsStructure r → Fails (λ (f : Fault). f.code ≡ LeftOut → (f.line ≡ n) × Reason) r
-with_other n Reason (Ok x) h = tt
-with_other n Reason (Err f) h = λ e. absurd (with_structure f.code h e)
+with_other : (n : ℕ) (W : Code → Type 0) (Reason : Type 0) → (W Structure → ⊥) → (r : Reading (List ℕ)) → Fails IsStructure r → Fails (λ (f : Fault). W f.code → (f.line ≡ n) × Reason) r
+with_other n W Reason other (Ok x) h = tt
+with_other n W Reason other (Err f) h = λ e. absurd (other (subst W h e))
+
+-- ---- C3
+
+abbrev pub IsOut : Code → Type 0
+IsOut c = c ≡ LeftOut
+
+pub structure_in : IsOut Structure → ⊥
+structure_in e = cc
 
 with_head : (n : ℕ) (key : Bool) (b : ℕ) (bytes : List ℕ) (r : Reading (List ℕ)) → start b bytes ≡ starts.InLines → Fails (IsWrongHead n bytes) r
-    → Fails (λ (f : Fault). f.code ≡ LeftOut → (f.line ≡ n) × IsSign n key (b ∷ bytes)) r
+    → Fails (λ (f : Fault). IsOut f.code → (f.line ≡ n) × IsSign n key (b ∷ bytes)) r
 with_head n key b bytes (Ok x) s h = tt
-with_head n key b bytes (Err f) s h = λ e. (h.0, head s h.1)
+with_head n key b bytes (Err f) s h = λ e. (h.0, head s h.2)
 
 left_is : (b : ℕ) (bytes : List ℕ) → start b bytes ≡ starts.LeftOut → left_out b bytes ≡ true
 left_is b bytes e = by (b == 34 || b == 39) (b == 91 || b == 123) (b == 124 || b == 62) (left_out b bytes) (no_plain b bytes) e
@@ -147,22 +158,88 @@ left_is b bytes e = by (b == 34 || b == 39) (b == 91 || b == 123) (b == 124 || b
     by false false false false true e = absurd cc
     by false false false false false e = absurd cc
 
-flow_fails : (n : ℕ) (key : Bool) (b : ℕ) (bytes : List ℕ) (r : Result Ended Code) (ls : List RawLine) → start b bytes ≡ starts.InBrackets → flow n (b == 123) bytes ≡ r → Fails (IsTold n (IsSign n key (b ∷ bytes))) (flow_by key n r ls)
+flow_fails : (n : ℕ) (key : Bool) (b : ℕ) (bytes : List ℕ) (r : Result Ended Code) (ls : List RawLine) → start b bytes ≡ starts.InBrackets → flow n (b == 123) bytes ≡ r
+    → Fails (IsTold n IsOut (IsSign n key (b ∷ bytes))) (flow_by key n r ls)
 flow_fails n key b bytes (Err code) ls s is =
     ((λ e. (refl, let r = flow_left n (b == 123) bytes (is ∙ ap (λ (c : Code). Err c) e) in in_flow s r.1 r.2)), λ e. absurd cc)
 flow_fails n key b bytes (Ok f) ls s is =
-    either (IsTold n (IsSign n key (b ∷ bytes))) (key && colon_behind (without_blanks f.rest)) _ _
+    either (IsTold n IsOut (IsSign n key (b ∷ bytes))) (key && colon_behind (without_blanks f.rest)) _ _
     (λ e. let both = and_true key (colon_behind (without_blanks f.rest)) e in ((λ c. (refl, subst (λ (k : Bool). IsSign n k (b ∷ bytes)) (sym both.0) (flow_key s is both.1))), λ o. refl))
-    (λ e. either (IsTold n (IsSign n key (b ∷ bytes))) (not (nothing_left false f.rest)) _ _ (λ e. ((λ c. absurd (with_structure Structure refl c)), λ o. absurd cc))
-    (λ e. either (IsTold n (IsSign n key (b ∷ bytes))) f.repeated _ _ (λ e. ((λ c. absurd (let q : RepeatedKey ≡ LeftOut = c in cc)), λ o. absurd cc)) (λ e. tt)))
+    (λ e. either (IsTold n IsOut (IsSign n key (b ∷ bytes))) (not (nothing_left false f.rest)) _ _ (λ e. ((λ c. absurd (structure_in c)), λ o. absurd cc))
+    (λ e. either (IsTold n IsOut (IsSign n key (b ∷ bytes))) f.repeated _ _ (λ e. ((λ c. absurd (let q : RepeatedKey ≡ LeftOut = c in cc)), λ o. absurd cc)) (λ e. tt)))
 
-pub leaf_fails : (t : Start) (floor : ℕ) (key : Bool) (n b : ℕ) (bytes : List ℕ) (ls : List RawLine) → start b bytes ≡ t → Fails (IsTold n (IsSign n key (b ∷ bytes))) (leaf_by t floor key n b bytes ls)
+pub leaf_fails : (t : Start) (floor : ℕ) (key : Bool) (n b : ℕ) (bytes : List ℕ) (ls : List RawLine) → start b bytes ≡ t → Fails (IsTold n IsOut (IsSign n key (b ∷ bytes))) (leaf_by t floor key n b bytes ls)
 leaf_fails starts.InQuotes floor key n b bytes ls s =
-    scalar_fails n (IsSign n key (b ∷ bytes)) false (quoted floor n b bytes ls) (with_other n (IsSign n key (b ∷ bytes)) (quoted floor n b bytes ls) (quoted_fails floor n b bytes ls))
+    scalar_fails n IsOut (IsSign n key (b ∷ bytes)) false (quoted floor n b bytes ls) (with_other n IsOut (IsSign n key (b ∷ bytes)) structure_in (quoted floor n b bytes ls) (quoted_fails floor n b bytes ls))
 leaf_fails starts.InBrackets floor key n b bytes ls s = flow_fails n key b bytes (flow n (b == 123) bytes) ls s refl
 leaf_fails starts.InLines floor key n b bytes ls s =
-    scalar_fails n (IsSign n key (b ∷ bytes)) false (block floor n (b == 62) bytes ls) (with_head n key b bytes (block floor n (b == 62) bytes ls) s (block_fails n bytes floor (b == 62) ls))
+    scalar_fails n IsOut (IsSign n key (b ∷ bytes)) false (block floor n (b == 62) bytes ls) (with_head n key b bytes (block floor n (b == 62) bytes ls) s (block_fails n bytes floor (b == 62) ls))
 leaf_fails starts.LeftOut floor key n b bytes ls s = ((λ c. (refl, sign (left_is b bytes s))), λ o. refl)
-leaf_fails starts.Refused floor key n b bytes ls s = ((λ c. absurd (with_structure Structure refl c)), λ o. absurd cc)
+leaf_fails starts.Refused floor key n b bytes ls s = ((λ c. absurd (structure_in c)), λ o. absurd cc)
 leaf_fails starts.Plain floor key n b bytes ls s =
-    scalar_fails n (IsSign n key (b ∷ bytes)) true (plain floor n (b ∷ bytes) ls) (with_other n (IsSign n key (b ∷ bytes)) (plain floor n (b ∷ bytes) ls) (plain_fails floor n (b ∷ bytes) ls))
+    scalar_fails n IsOut (IsSign n key (b ∷ bytes)) true (plain floor n (b ∷ bytes) ls) (with_other n IsOut (IsSign n key (b ∷ bytes)) structure_in (plain floor n (b ∷ bytes) ls) (plain_fails floor n (b ∷ bytes) ls))
+
+-- ---- C4 in flow
+
+abbrev pub IsRule : Code → Type 0
+IsRule c = 4 ≤ number_of c
+
+pub structure_no_rule : IsRule Structure → ⊥
+structure_no_rule le = omega (arith, le)
+
+pub left_out_no_rule : IsRule LeftOut → ⊥
+left_out_no_rule le = omega (arith, le)
+
+no_rule : (c : Code) → (c ≡ Structure) ⊎ (c ≡ LeftOut) → IsRule c → ⊥
+no_rule c (inl e) h = structure_no_rule (subst IsRule e h)
+no_rule c (inr e) h = left_out_no_rule (subst IsRule e h)
+
+without_rule : (n : ℕ) (bytes : List ℕ) (Reason : Type 0) (r : Reading (List ℕ)) → Fails (IsWrongHead n bytes) r → Fails (λ (f : Fault). IsRule f.code → (f.line ≡ n) × Reason) r
+without_rule n bytes Reason (Ok x) h = tt
+without_rule n bytes Reason (Err f) h = λ e. absurd (left_out_no_rule (subst IsRule h.1 e))
+
+flow_repeats : (n : ℕ) (key : Bool) (b : ℕ) (bytes : List ℕ) (r : Result Ended Code) (ls : List RawLine) → start b bytes ≡ starts.InBrackets → flow n (b == 123) bytes ≡ r
+    → Fails (IsTold n IsRule (RepeatsInFlow n key (b ∷ bytes))) (flow_by key n r ls)
+flow_repeats n key b bytes (Err code) ls s is = ((λ e. absurd (no_rule code (flow_codes n (b == 123) bytes code is) e)), λ e. absurd cc)
+flow_repeats n key b bytes (Ok f) ls s is =
+    either (IsTold n IsRule (RepeatsInFlow n key (b ∷ bytes))) (key && colon_behind (without_blanks f.rest)) _ _ (λ e. ((λ c. absurd (left_out_no_rule c)), λ o. refl))
+    (λ e. either (IsTold n IsRule (RepeatsInFlow n key (b ∷ bytes))) (not (nothing_left false f.rest)) _ _ (λ e. ((λ c. absurd (structure_no_rule c)), λ o. absurd cc))
+    (λ e. either (IsTold n IsRule (RepeatsInFlow n key (b ∷ bytes))) f.repeated _ _ (λ e. ((λ c. (refl, again s is e)), λ o. absurd cc)) (λ e. tt)))
+
+pub leaf_repeats : (t : Start) (floor : ℕ) (key : Bool) (n b : ℕ) (bytes : List ℕ) (ls : List RawLine) → start b bytes ≡ t → Fails (IsTold n IsRule (RepeatsInFlow n key (b ∷ bytes))) (leaf_by t floor key n b bytes ls)
+leaf_repeats starts.InQuotes floor key n b bytes ls s =
+    scalar_fails n IsRule (RepeatsInFlow n key (b ∷ bytes)) false (quoted floor n b bytes ls)
+    (with_other n IsRule (RepeatsInFlow n key (b ∷ bytes)) structure_no_rule (quoted floor n b bytes ls) (quoted_fails floor n b bytes ls))
+leaf_repeats starts.InBrackets floor key n b bytes ls s = flow_repeats n key b bytes (flow n (b == 123) bytes) ls s refl
+leaf_repeats starts.InLines floor key n b bytes ls s =
+    scalar_fails n IsRule (RepeatsInFlow n key (b ∷ bytes)) false (block floor n (b == 62) bytes ls)
+    (without_rule n bytes (RepeatsInFlow n key (b ∷ bytes)) (block floor n (b == 62) bytes ls) (block_fails n bytes floor (b == 62) ls))
+leaf_repeats starts.LeftOut floor key n b bytes ls s = ((λ c. absurd (left_out_no_rule c)), λ o. refl)
+leaf_repeats starts.Refused floor key n b bytes ls s = ((λ c. absurd (structure_no_rule c)), λ o. absurd cc)
+leaf_repeats starts.Plain floor key n b bytes ls s =
+    scalar_fails n IsRule (RepeatsInFlow n key (b ∷ bytes)) true (plain floor n (b ∷ bytes) ls)
+    (with_other n IsRule (RepeatsInFlow n key (b ∷ bytes)) structure_no_rule (plain floor n (b ∷ bytes) ls) (plain_fails floor n (b ∷ bytes) ls))
+
+-- ---- the height of leaves
+
+scalar_high : (n : ℕ) (Cause : Type 0) (is_plain : Bool) (r : Reading (List ℕ)) → IfTooHigh Cause (scalar n is_plain r)
+scalar_high n Cause is_plain (Ok x) = λ lt. absurd (omega (arith, lt))
+scalar_high n Cause is_plain (Err f) = tt
+
+high_either : (Cause : Type 0) (b : Bool) (r s : Leafs) → IfTooHigh Cause r → IfTooHigh Cause s → IfTooHigh Cause (cond b r s)
+high_either Cause true r s p q = p
+high_either Cause false r s p q = q
+
+flow_high : (n : ℕ) (key : Bool) (b : ℕ) (bytes : List ℕ) (r : Result Ended Code) (ls : List RawLine) → start b bytes ≡ starts.InBrackets → flow n (b == 123) bytes ≡ r → IfTooHigh (IsHighFlow n key (b ∷ bytes)) (flow_by key n r ls)
+flow_high n key b bytes (Err code) ls s is = tt
+flow_high n key b bytes (Ok f) ls s is =
+    high_either (IsHighFlow n key (b ∷ bytes)) (key && colon_behind (without_blanks f.rest)) _ _ tt
+    (high_either (IsHighFlow n key (b ∷ bytes)) (not (nothing_left false f.rest)) _ _ tt (high_either (IsHighFlow n key (b ∷ bytes)) f.repeated _ _ tt (λ lt. high s is lt)))
+
+pub leaf_high : (t : Start) (floor : ℕ) (key : Bool) (n b : ℕ) (bytes : List ℕ) (ls : List RawLine) → start b bytes ≡ t → IfTooHigh (IsHighFlow n key (b ∷ bytes)) (leaf_by t floor key n b bytes ls)
+leaf_high starts.InQuotes floor key n b bytes ls s = scalar_high n (IsHighFlow n key (b ∷ bytes)) false (quoted floor n b bytes ls)
+leaf_high starts.InBrackets floor key n b bytes ls s = flow_high n key b bytes (flow n (b == 123) bytes) ls s refl
+leaf_high starts.InLines floor key n b bytes ls s = scalar_high n (IsHighFlow n key (b ∷ bytes)) false (block floor n (b == 62) bytes ls)
+leaf_high starts.LeftOut floor key n b bytes ls s = tt
+leaf_high starts.Refused floor key n b bytes ls s = tt
+leaf_high starts.Plain floor key n b bytes ls s = scalar_high n (IsHighFlow n key (b ∷ bytes)) true (plain floor n (b ∷ bytes) ls)

@@ -9,3 +9,4 @@ mod LeafSigns
 mod PieceSigns
 mod LayoutSigns
 mod Signs
+mod InLine

@@ -1,8 +1,9 @@
 -- Lines whose pieces are refused with C3 have a sign of what is left out; and a piece that is marked as left out is refused so.
-use Rattle.std.proofs.Common.{◌≡◌, ℕ, zero, suc, ◌+◌, ◌-◌, Bool, true, false, cond, ◌&&◌, inl, inr, List, [], ◌∷◌, ◌++◌, length, drop, take, Option, Some, None, Ok, Err, refl, sym, ap, subst, ◌∙◌, append_assoc}
+use Rattle.std.proofs.Common.{◌≡◌, ℕ, zero, suc, ◌+◌, ◌-◌, ◌<◌, Bool, true, false, cond, ◌&&◌, inl, inr, List, [], ◌∷◌, ◌++◌, length, drop, take, Option, Some, None, Ok, Err, refl, sym, ap, subst, ◌∙◌, append_assoc, arith}
 use Rattle.std.specs.Prelude.{◌==◌, not}
 use Rattle.yaml_scan.specs.declared.line.RawLine.{RawLine}
 use Rattle.yaml_scan.specs.declared.fault.Fault.{Fault}
+use Rattle.yaml_scan.specs.declared.fault.Code.{Code}
 use Rattle.yaml_scan.specs.declared.fault.Code.TheVariants.{Structure, LeftOut}
 use Rattle.yaml_scan.specs.Words.{sees, is_blank, is_empty, is_some, breaks, nothing_left, colon_at, trimmed, without_blanks}
 use Rattle.yaml_scan.specs.Quoted.{State, opened, run}
@@ -11,17 +12,17 @@ use Rattle.yaml_tree.specs.declared.piece.What.{What}
 use Rattle.yaml_tree.specs.declared.piece.What.TheVariants.{Dash, Key, Leaf}
 use Rattle.yaml_tree.specs.declared.starts.Start.{Start}
 use Rattle.yaml_tree.specs.declared.starts.Start.TheVariants as starts
-use Rattle.yaml_tree.specs.Keys.{IsKey}
+use Rattle.yaml_tree.specs.Keys.{IsKeyText, IsKey}
 use Rattle.yaml_tree.specs.Leaves.{Leafs, leaf_by, colon_behind}
 use Rattle.yaml_tree.specs.Starts.{start, is_merge}
-use Rattle.yaml_tree.specs.Pieces.{Found, found, floor, dash, key as key_piece, leaf, leaf_found, leaf_at, value_at, keyed, plain_key, quoted_key, node_by, heads, is_spaced, line_heads, is_over, go_on, pieces}
+use Rattle.yaml_tree.specs.Pieces.{Found, found, floor, dash, key as key_piece, leaf, leaf_found, leaf_at, value_at, keyed, plain_key, quoted_key, node_by, heads, is_spaced, line_heads, is_over, go_on, pieces, all_pieces}
 use Rattle.yaml_tree.proofs.KeysFound.{plain_key_found, quoted_key_found}
 use Rattle.yaml_tree.proofs.KeyTexts.{key_text_found}
 use Rattle.yaml_tree.proofs.PiecesFound.{at_found}
 use Rattle.yaml_laws.proofs.Orders.{tested}
 use Rattle.yaml_laws.proofs.WalkedPieces.{Adds, adds_line}
-use Rattle.yaml_codes.specs.Signs.{Begins, here, blank, dash as behind_dash, value, IsSign, merge}
-use Rattle.yaml_codes.proofs.LeafSigns.{Fails, IsTold, with_structure, leaf_fails}
+use Rattle.yaml_codes.specs.Signs.{Begins, here, blank, dash as behind_dash, value}
+use Rattle.yaml_codes.proofs.LeafSigns.{Fails, IsTold, IfTooHigh}
 
 -- ---- pieces that are marked as left out
 
@@ -58,110 +59,57 @@ one_more P (q ∷ qs) p h i = (h.0, one_more P qs p h.1 i)
 never : (P : ℕ → Type 0) (n : ℕ) → Nowhere n → P n
 never P n h = absurd h
 
--- A fault with C3 has a reason, and what is marked has such a fault.
-pub record Says (Reason : Fault → Type 0) (r : Found) : Type 0 where
-  pub reason : (f : Fault) → r.fault ≡ Some f → f.code ≡ LeftOut → Reason f
+-- a leaf with more than 64 nodes in one another stands on such a line
+abbrev pub IfHigh : (ℕ → Type 0) → ℕ → What → Type 0
+IfHigh P n Dash = Unit {0}
+IfHigh P n (Key k) = Unit {0}
+IfHigh P n (Leaf x height out) = 64 < height → P n
+
+abbrev pub AllHigh : (ℕ → Type 0) → List Piece → Type 0
+AllHigh P [] = Unit {0}
+AllHigh P (p ∷ ps) = IfHigh P p.line p.what × AllHigh P ps
+
+high_more : (P : ℕ → Type 0) (ps : List Piece) (p : Piece) → AllHigh P ps → IfHigh P p.line p.what → AllHigh P (ps ++ p ∷ [])
+high_more P [] p h i = (i, tt)
+high_more P (q ∷ qs) p h i = (h.0, high_more P qs p h.1 i)
+
+-- ---- what is told
+
+-- A fault with such a code has a reason, what is marked has a fault with C3, and what is too high has a cause.
+pub record Says (W : Code → Type 0) (Reason : Fault → Type 0) (Cause : ℕ → Type 0) (r : Found) : Type 0 where
+  pub reason : (f : Fault) → r.fault ≡ Some f → W f.code → Reason f
   pub marked : AllOut (Marked r.fault) r.pieces
+  pub high : AllHigh Cause r.pieces
 
-module _ {Reason : Fault → Type 0} where
-  either : (b : Bool) (r s : Found) → (b ≡ true → Says Reason r) → (b ≡ false → Says Reason s) → Says Reason (cond b r s)
-  either true r s p q = p refl
-  either false r s p q = q refl
+-- the line with this number, among these lines, and where on it a node begins that has this
+pub record Shown (X : ℕ → Bool → List ℕ → Type 0) (all : List RawLine) (n : ℕ) : Type 0 where
+  pub before : List RawLine
+  pub l : RawLine
+  pub behind : List RawLine
+  pub are : all ≡ before ++ l ∷ behind
+  pub number : l.line ≡ n
+  pub key : Bool
+  pub left : List ℕ
+  pub begins : Begins key l.content left
+  pub has : X l.line key left
 
-  says_found : (ps : List Piece) (ls : List RawLine) → AllOut Nowhere ps → Says Reason (found ps ls)
-  says_found ps ls h = record { reason = λ f e c. absurd cc; marked = weaker Nowhere (Marked None) (never (Marked None)) ps h }
+-- the last ones of all lines
+abbrev pub IsLast : List RawLine → List RawLine → Type 0
+IsLast all ls = (before : List RawLine) × (all ≡ before ++ ls)
 
-  leaf_says : (n : ℕ) (T : Type 0) → ((f : Fault) → f.line ≡ n → T → Reason f) → (ps : List Piece) (column : ℕ) (r : Leafs) (ls : List RawLine) → AllOut Nowhere ps → Fails (IsTold n T) r
-      → Says Reason (leaf_found ps n column r ls)
-  leaf_says n T go ps column (Ok x) ls h told = says_found (ps ++ leaf n column x.0.0 x.0.1 false ∷ []) x.1 (one_more Nowhere ps (leaf n column x.0.0 x.0.1 false) h (λ e. absurd cc))
-  leaf_says n T go ps column (Err w) ls h told =
-      record {
-        reason = λ f e c.
-            (let same : w.fault ≡ f = cc in
-            let r = told.0 (ap (λ (g : Fault). g.code) same ∙ c) in
-            go f (ap (λ (g : Fault). g.line) (sym same) ∙ r.0) r.1);
-        marked = one_more (Marked (Some w.fault)) ps _ (weaker Nowhere (Marked (Some w.fault)) (never (Marked (Some w.fault))) ps h) (λ e. ap (λ (g : Fault). Some g) (told.1 e));
-      }
+pub last_less : (all : List RawLine) (l : RawLine) (ls : List RawLine) → IsLast all (l ∷ ls) → IsLast all ls
+last_less all l ls h = (h.0 ++ l ∷ [], h.1 ∙ sym (append_assoc h.0 (l ∷ []) ls))
 
--- ---- a line
+last_parts : (all : List RawLine) (l : RawLine) (ls : List RawLine) → IsLast all (l ∷ ls) → Unit {0} × IsLast all ls
+last_parts all l ls h = (tt, last_less all l ls h)
 
--- the sign of a line
-abbrev pub Signed : ℕ → List ℕ → Type 0
-Signed n content = (key : Bool) × (rest : List ℕ) × Begins key content rest × IsSign n key rest
+no_bad : (bad : Option ℕ) → is_some bad ≡ false → bad ≡ None
+no_bad None e = refl
+no_bad (Some x) e = absurd cc
 
-module _ (n : ℕ) (content : List ℕ) where
-  abbrev Reason : Fault → Type 0
-  Reason f = (f.line ≡ n) × Signed n content
-
-  leaf_at_says : (key : Bool) (ps : List Piece) (column : ℕ) (bytes : List ℕ) (ls : List RawLine) → AllOut Nowhere ps → ((b : ℕ) (rest : List ℕ) → bytes ≡ b ∷ rest → Begins key content (b ∷ rest))
-      → Says Reason (leaf_at ps n key column bytes ls)
-  leaf_at_says key ps column [] ls h begins = says_found ps ls h
-  leaf_at_says key ps column (b ∷ rest) ls h begins =
-      leaf_says n (IsSign n key (b ∷ rest)) (λ f is s. (is, (key, b ∷ rest, begins b rest refl, s))) ps column (leaf_by (start b rest) (floor ps) key n b rest ls) ls h
-      (leaf_fails (start b rest) (floor ps) key n b rest ls refl)
-
-  spoiled_says : (ps : List Piece) (column : ℕ) (ls : List RawLine) → AllOut Nowhere ps → Says Reason (leaf_found ps n column (Err (record { fault = record { line = n; code = Structure }; left_out = false })) ls)
-  spoiled_says ps column ls h = leaf_says n ⊥ (λ f is s. absurd s) ps column (Err (record { fault = record { line = n; code = Structure }; left_out = false })) ls h ((λ c. absurd (with_structure Structure refl c)), λ o. absurd cc)
-
-  value_says : (ps : List Piece) (column : ℕ) (bytes : List ℕ) (ls : List RawLine) → AllOut Nowhere ps → ((b : ℕ) (rest : List ℕ) → without_blanks bytes ≡ b ∷ rest → Begins false content (b ∷ rest))
-      → Says Reason (value_at ps n column bytes ls)
-  value_says ps column bytes ls h begins =
-      either (nothing_left false bytes) _ _ (λ e. says_found ps ls h) (λ e. leaf_at_says false ps (column + (length bytes - length (without_blanks bytes))) (without_blanks bytes) ls h begins)
-
-  -- what stands where a node begins
-  module _ (bytes : List ℕ) (wrap : (key : Bool) (rest : List ℕ) → Begins key bytes rest → Begins key content rest) where
-    keyed_says : (ps : List Piece) (column : ℕ) (text : List ℕ) (behind : ℕ) (after : List ℕ) (ls : List RawLine) → AllOut Nowhere ps → (is_empty text ≡ false → IsKey column bytes text behind after)
-        → Says Reason (keyed ps n column text behind after ls)
-    keyed_says ps column text behind after ls h is =
-        either (is_empty text) _ _ (λ e. spoiled_says ps column ls h)
-        (λ e. value_says (ps ++ key_piece n column text ∷ []) behind after ls (one_more Nowhere ps (key_piece n column text) h tt) (λ b rest i. wrap false (b ∷ rest) (value (is e) (at_found after behind b rest i))))
-
-  module _ (b : ℕ) (rest : List ℕ) (wrap : (key : Bool) (r : List ℕ) → Begins key (b ∷ rest) r → Begins key content r) (begins : Begins true (b ∷ rest) (b ∷ rest)) where
-    node_begins : (c : ℕ) (r : List ℕ) → b ∷ rest ≡ c ∷ r → Begins true content (c ∷ r)
-    node_begins c r e = subst (Begins true content) e (wrap true (b ∷ rest) begins)
-
-    plain_says : (ps : List Piece) (column : ℕ) (o : Option ℕ) (ls : List RawLine) → AllOut Nowhere ps → start b rest ≡ starts.Plain → colon_at false 0 (b ∷ rest) ≡ o → Says Reason (plain_key ps n column (b ∷ rest) o ls)
-    plain_says ps column None ls h s c = leaf_at_says true ps column (b ∷ rest) ls h node_begins
-    plain_says ps column (Some at) ls h s c =
-        either (is_merge (trimmed (take at (b ∷ rest)))) _ _
-        (λ e. leaf_says n (IsSign n true (b ∷ rest)) (λ f is t. (is, (true, b ∷ rest, node_begins b rest refl, t))) ps column (Err (record { fault = record { line = n; code = LeftOut }; left_out = true })) ls h
-        ((λ q. (refl, merge (key_text_found (b ∷ rest) at column c) e)), λ o. refl))
-        (λ e. keyed_says (b ∷ rest) wrap ps column (trimmed (take at (b ∷ rest))) (column + at + 1) (drop (at + 1) (b ∷ rest)) ls h (λ some. plain_key_found column b rest at s c e some))
-
-    no_bad : (bad : Option ℕ) → is_some bad ≡ false → bad ≡ None
-    no_bad None e = refl
-    no_bad (Some x) e = absurd cc
-
-    colon_or_not : (c : Bool) → not c ≡ false → c ≡ true
-    colon_or_not true e = refl
-    colon_or_not false e = absurd cc
-
-    quoted_says : (ps : List Piece) (column : ℕ) (s : State) (o : Option (List ℕ)) (ls : List RawLine) → AllOut Nowhere ps → start b rest ≡ starts.InQuotes → run (opened b n) rest ≡ (s, o)
-        → Says Reason (quoted_key ps n column (b ∷ rest) s o ls)
-    quoted_says ps column s None ls h i r = leaf_at_says true ps column (b ∷ rest) ls h node_begins
-    quoted_says ps column s (Some behind) ls h i r =
-        either (not (colon_behind behind)) _ _ (λ e. leaf_at_says true ps column (b ∷ rest) ls h node_begins)
-        (λ c. either (is_some s.bad) _ _ (λ e. spoiled_says ps column ls h)
-        (λ e. keyed_says (b ∷ rest) wrap ps column s.text (column + (length (b ∷ rest) - length behind) + 1) (drop 1 behind) ls h
-        (λ some. quoted_key_found n column b rest s behind i r (no_bad s.bad e) (colon_or_not (colon_behind behind) c) some)))
-
-    node_says : (t : Start) (ps : List Piece) (column : ℕ) (ls : List RawLine) → AllOut Nowhere ps → start b rest ≡ t → Says Reason (node_by t ps n column b rest ls)
-    node_says starts.InQuotes ps column ls h s = quoted_says ps column (run (opened b n) rest).0 (run (opened b n) rest).1 ls h s refl
-    node_says starts.Plain ps column ls h s = plain_says ps column (colon_at false 0 (b ∷ rest)) ls h s refl
-    node_says starts.InBrackets ps column ls h s = leaf_at_says true ps column (b ∷ rest) ls h node_begins
-    node_says starts.InLines ps column ls h s = leaf_at_says true ps column (b ∷ rest) ls h node_begins
-    node_says starts.LeftOut ps column ls h s = leaf_at_says true ps column (b ∷ rest) ls h node_begins
-    node_says starts.Refused ps column ls h s = leaf_at_says true ps column (b ∷ rest) ls h node_begins
-
-  heads_says : (bytes : List ℕ) (ps : List Piece) (spaced : Bool) (column : ℕ) (ls : List RawLine) → AllOut Nowhere ps → ((key : Bool) (rest : List ℕ) → Begins key bytes rest → Begins key content rest)
-      → Says Reason (heads ps n spaced column bytes ls)
-  unfolding heads
-  heads_says [] ps spaced column ls h wrap = says_found ps ls h
-  heads_says (b ∷ rest) ps spaced column ls h wrap =
-      either (is_blank b) _ _ (λ e. heads_says rest ps (b == 32) (column + 1) ls h (λ key r g. wrap key r (blank e g)))
-      (λ no_blank. either (b == 35 && spaced) _ _ (λ e. says_found ps ls h)
-      (λ e. either (b == 45 && breaks rest) _ _ (λ d. heads_says rest (ps ++ dash n column ∷ []) false (column + 1) ls (one_more Nowhere ps (dash n column) h tt) (λ key r g. wrap key r (behind_dash d g)))
-      (λ d. node_says b rest wrap (here no_blank d) (start b rest) ps column ls h refl)))
+colon_or_not : (c : Bool) → not c ≡ false → c ≡ true
+colon_or_not true e = refl
+colon_or_not false e = absurd cc
 
 behind_blanks : (bytes : List ℕ) (key : Bool) (rest : List ℕ) → Begins key (without_blanks bytes) rest → Begins key bytes rest
 unfolding without_blanks
@@ -171,53 +119,132 @@ behind_blanks (b ∷ bytes) key rest g = elim (tested (is_blank b)) [
   | inr e ↦ rw e at g
 ]
 
-line_says : (l : RawLine) (ps : List Piece) (ls : List RawLine) → AllOut Nowhere ps → Says (λ (f : Fault). (f.line ≡ l.line) × Signed l.line l.content) (line_heads ps l ls)
-unfolding line_heads
-line_says l ps ls h =
-    either (sees 9 l.content) _ _ (λ e. heads_says l.line l.content (without_blanks l.content) ps (is_spaced true l.content) l.indent ls h (behind_blanks l.content))
-    (λ e. heads_says l.line l.content l.content ps true l.indent ls h (λ key rest g. g))
+-- What scalars, flow and the key `<<` give for such codes (W): a reason (T) where they are refused, a cause (H) where flow is too high.
+module _ (W : Code → Type 0) (T H : ℕ → Bool → List ℕ → Type 0) (other : W Structure → ⊥)
+    (tells : (t : Start) (floor : ℕ) (key : Bool) (n b : ℕ) (bytes : List ℕ) (ls : List RawLine) → start b bytes ≡ t → Fails (IsTold n W (T n key (b ∷ bytes))) (leaf_by t floor key n b bytes ls))
+    (tops : (t : Start) (floor : ℕ) (key : Bool) (n b : ℕ) (bytes : List ℕ) (ls : List RawLine) → start b bytes ≡ t → IfTooHigh (H n key (b ∷ bytes)) (leaf_by t floor key n b bytes ls))
+    (merges : (n column behind : ℕ) (bytes k after : List ℕ) → W LeftOut → IsKeyText column bytes k behind after → is_merge k ≡ true → T n true bytes) where
+  module _ {Reason : Fault → Type 0} {Cause : ℕ → Type 0} where
+    either : (b : Bool) (r s : Found) → (b ≡ true → Says W Reason Cause r) → (b ≡ false → Says W Reason Cause s) → Says W Reason Cause (cond b r s)
+    either true r s p q = p refl
+    either false r s p q = q refl
 
--- ---- all lines
+    says_found : (ps : List Piece) (ls : List RawLine) → AllOut Nowhere ps → AllHigh Cause ps → Says W Reason Cause (found ps ls)
+    says_found ps ls h g = record { reason = λ f e c. absurd cc; marked = weaker Nowhere (Marked None) (never (Marked None)) ps h; high = g }
 
--- the line of the fault, with its sign, among these lines
-pub record Shown (all : List RawLine) (f : Fault) : Type 0 where
-  pub before : List RawLine
-  pub l : RawLine
-  pub behind : List RawLine
-  pub are : all ≡ before ++ l ∷ behind
-  pub number : l.line ≡ f.line
-  pub signed : Signed l.line l.content
+    leaf_says : (n : ℕ) (U V : Type 0) → ((f : Fault) → f.line ≡ n → U → Reason f) → (V → Cause n) → (ps : List Piece) (column : ℕ) (r : Leafs) (ls : List RawLine) → AllOut Nowhere ps → AllHigh Cause ps
+        → Fails (IsTold n W U) r → IfTooHigh V r → Says W Reason Cause (leaf_found ps n column r ls)
+    leaf_says n U V go rise ps column (Ok x) ls h g told high =
+        says_found (ps ++ leaf n column x.0.0 x.0.1 false ∷ []) x.1 (one_more Nowhere ps (leaf n column x.0.0 x.0.1 false) h (λ e. absurd cc)) (high_more Cause ps (leaf n column x.0.0 x.0.1 false) g (λ lt. rise (high lt)))
+    leaf_says n U V go rise ps column (Err w) ls h g told high =
+        record {
+          reason = λ f e c.
+              (let same : w.fault ≡ f = cc in
+              let r = told.0 (subst (λ (z : Fault). W z.code) (sym same) c) in
+              go f (ap (λ (z : Fault). z.line) (sym same) ∙ r.0) r.1);
+          marked = one_more (Marked (Some w.fault)) ps _ (weaker Nowhere (Marked (Some w.fault)) (never (Marked (Some w.fault))) ps h) (λ e. ap (λ (z : Fault). Some z) (told.1 e));
+          high = high_more Cause ps _ g (λ lt. absurd (omega (arith, lt)));
+        }
 
--- the last ones of all lines
-abbrev pub IsLast : List RawLine → List RawLine → Type 0
-IsLast all ls = (before : List RawLine) × (all ≡ before ++ ls)
+  -- ---- a line
 
-module _ (all : List RawLine) where
-  pub last_less : (l : RawLine) (ls : List RawLine) → IsLast all (l ∷ ls) → IsLast all ls
-  last_less l ls h = (h.0 ++ l ∷ [], h.1 ∙ sym (append_assoc h.0 (l ∷ []) ls))
+  module _ (n : ℕ) (content : List ℕ) (Reason : Fault → Type 0) (Cause : ℕ → Type 0)
+      (reasons : (key : Bool) (rest : List ℕ) → Begins key content rest → (f : Fault) → f.line ≡ n → T n key rest → Reason f)
+      (causes : (key : Bool) (rest : List ℕ) → Begins key content rest → H n key rest → Cause n) where
+    leaf_at_says : (key : Bool) (ps : List Piece) (column : ℕ) (bytes : List ℕ) (ls : List RawLine) → AllOut Nowhere ps → AllHigh Cause ps → ((b : ℕ) (rest : List ℕ) → bytes ≡ b ∷ rest → Begins key content (b ∷ rest))
+        → Says W Reason Cause (leaf_at ps n key column bytes ls)
+    leaf_at_says key ps column [] ls h g begins = says_found ps ls h g
+    leaf_at_says key ps column (b ∷ rest) ls h g begins =
+        leaf_says n (T n key (b ∷ rest)) (H n key (b ∷ rest)) (reasons key (b ∷ rest) (begins b rest refl)) (causes key (b ∷ rest) (begins b rest refl)) ps column (leaf_by (start b rest) (floor ps) key n b rest ls) ls h g
+        (tells (start b rest) (floor ps) key n b rest ls refl) (tops (start b rest) (floor ps) key n b rest ls refl)
 
-  last_parts : (l : RawLine) (ls : List RawLine) → IsLast all (l ∷ ls) → Unit {0} × IsLast all ls
-  last_parts l ls h = (tt, last_less l ls h)
+    spoiled_says : (ps : List Piece) (column : ℕ) (ls : List RawLine) → AllOut Nowhere ps → AllHigh Cause ps
+        → Says W Reason Cause (leaf_found ps n column (Err (record { fault = record { line = n; code = Structure }; left_out = false })) ls)
+    spoiled_says ps column ls h g =
+        leaf_says n ⊥ ⊥ (λ f is s. absurd s) (λ s. absurd s) ps column (Err (record { fault = record { line = n; code = Structure }; left_out = false })) ls h g ((λ c. absurd (other c)), λ o. absurd cc) tt
 
-  shown_line : (l : RawLine) (ls : List RawLine) → IsLast all (l ∷ ls) → (r : Found) → Says (λ (f : Fault). (f.line ≡ l.line) × Signed l.line l.content) r → Says (Shown all) r
-  shown_line l ls last r s =
-      record { reason = λ f e c. (let q = s.reason f e c in record { before = last.0; l = l; behind = ls; are = last.1; number = sym q.0; signed = q.1 }); marked = s.marked }
+    value_says : (ps : List Piece) (column : ℕ) (bytes : List ℕ) (ls : List RawLine) → AllOut Nowhere ps → AllHigh Cause ps → ((b : ℕ) (rest : List ℕ) → without_blanks bytes ≡ b ∷ rest → Begins false content (b ∷ rest))
+        → Says W Reason Cause (value_at ps n column bytes ls)
+    value_says ps column bytes ls h g begins =
+        either (nothing_left false bytes) _ _ (λ e. says_found ps ls h g) (λ e. leaf_at_says false ps (column + (length bytes - length (without_blanks bytes))) (without_blanks bytes) ls h g begins)
 
-  go_says : (f : Found) (o : Option Fault) (more : List Piece → List RawLine → Found) → f.fault ≡ o → Says (Shown all) f → (AllOut Nowhere f.pieces → Says (Shown all) (more f.pieces f.rest)) → Says (Shown all) (go_on f o more)
-  go_says f None more e s go = go (weaker (Marked f.fault) Nowhere (λ n h. absurd (let q : None ≡ Some (record { line = n; code = LeftOut }) = sym e ∙ h in cc)) f.pieces s.marked)
-  go_says f (Some g) more e s go = s
+    -- what stands where a node begins
+    module _ (b : ℕ) (rest : List ℕ) (wrap : (key : Bool) (r : List ℕ) → Begins key (b ∷ rest) r → Begins key content r) (begins : Begins true (b ∷ rest) (b ∷ rest)) where
+      keyed_says : (ps : List Piece) (column : ℕ) (text : List ℕ) (behind : ℕ) (after : List ℕ) (ls : List RawLine) → AllOut Nowhere ps → AllHigh Cause ps → (is_empty text ≡ false → IsKey column (b ∷ rest) text behind after)
+          → Says W Reason Cause (keyed ps n column text behind after ls)
+      keyed_says ps column text behind after ls h g is =
+          either (is_empty text) _ _ (λ e. spoiled_says ps column ls h g)
+          (λ e. value_says (ps ++ key_piece n column text ∷ []) behind after ls (one_more Nowhere ps (key_piece n column text) h tt) (high_more Cause ps (key_piece n column text) g tt)
+          (λ c r i. wrap false (c ∷ r) (value (is e) (at_found after behind c r i))))
 
-  pub pieces_say : (k : ℕ) (ps : List Piece) (ls : List RawLine) → AllOut Nowhere ps → IsLast all ls → Says (Shown all) (pieces k ps ls)
-  unfolding pieces
-  pieces_say zero ps ls h last = says_found ps ls h
-  pieces_say (suc k) ps [] h last = says_found ps [] h
-  pieces_say (suc k) ps (l ∷ ls) h last =
-      let f : Found = line_heads ps l ls in
-      let d : Adds (λ (m : ℕ). Unit {0}) (IsLast all) ps f = adds_line (λ m. Unit {0}) (IsLast all) last_parts l ps ls tt (last_less l ls last) in
-      either (is_over ps l) _ _ (λ e. says_found ps (l ∷ ls) h) (λ e. go_says f f.fault (pieces k) refl (shown_line l ls last f (line_says l ps ls h)) (λ h'. pieces_say k f.pieces f.rest h' d.left))
+      node_begins : (c : ℕ) (r : List ℕ) → b ∷ rest ≡ c ∷ r → Begins true content (c ∷ r)
+      node_begins c r e = subst (Begins true content) e (wrap true (b ∷ rest) begins)
 
-pub pieces_shown : (k : ℕ) (ls : List RawLine) (f : Fault) (all : List RawLine) → IsLast all ls → (pieces k [] ls).fault ≡ Some f → f.code ≡ LeftOut → Shown all f
-pieces_shown k ls f all last = (pieces_say all k [] ls tt last).reason f
+      plain_says : (ps : List Piece) (column : ℕ) (o : Option ℕ) (ls : List RawLine) → AllOut Nowhere ps → AllHigh Cause ps → start b rest ≡ starts.Plain → colon_at false 0 (b ∷ rest) ≡ o
+          → Says W Reason Cause (plain_key ps n column (b ∷ rest) o ls)
+      plain_says ps column None ls h g s c = leaf_at_says true ps column (b ∷ rest) ls h g node_begins
+      plain_says ps column (Some at) ls h g s c =
+          either (is_merge (trimmed (take at (b ∷ rest)))) _ _
+          (λ e. leaf_says n (T n true (b ∷ rest)) ⊥ (reasons true (b ∷ rest) (node_begins b rest refl)) (λ s. absurd s) ps column (Err (record { fault = record { line = n; code = LeftOut }; left_out = true })) ls h g
+          ((λ q. (refl, merges n column (column + at + 1) (b ∷ rest) (trimmed (take at (b ∷ rest))) (drop (at + 1) (b ∷ rest)) q (key_text_found (b ∷ rest) at column c) e)), λ o. refl) tt)
+          (λ e. keyed_says ps column (trimmed (take at (b ∷ rest))) (column + at + 1) (drop (at + 1) (b ∷ rest)) ls h g (λ some. plain_key_found column b rest at s c e some))
 
-pub pieces_marked : (k : ℕ) (ls : List RawLine) → AllOut (λ (n : ℕ). (pieces k [] ls).fault ≡ Some (record { line = n; code = LeftOut })) (pieces k [] ls).pieces
-pieces_marked k ls = (pieces_say ls k [] ls tt ([], refl)).marked
+      quoted_says : (ps : List Piece) (column : ℕ) (s : State) (o : Option (List ℕ)) (ls : List RawLine) → AllOut Nowhere ps → AllHigh Cause ps → start b rest ≡ starts.InQuotes → run (opened b n) rest ≡ (s, o)
+          → Says W Reason Cause (quoted_key ps n column (b ∷ rest) s o ls)
+      quoted_says ps column s None ls h g i r = leaf_at_says true ps column (b ∷ rest) ls h g node_begins
+      quoted_says ps column s (Some behind) ls h g i r =
+          either (not (colon_behind behind)) _ _ (λ e. leaf_at_says true ps column (b ∷ rest) ls h g node_begins)
+          (λ c. either (is_some s.bad) _ _ (λ e. spoiled_says ps column ls h g)
+          (λ e. keyed_says ps column s.text (column + (length (b ∷ rest) - length behind) + 1) (drop 1 behind) ls h g
+          (λ some. quoted_key_found n column b rest s behind i r (no_bad s.bad e) (colon_or_not (colon_behind behind) c) some)))
+
+      node_says : (t : Start) (ps : List Piece) (column : ℕ) (ls : List RawLine) → AllOut Nowhere ps → AllHigh Cause ps → start b rest ≡ t → Says W Reason Cause (node_by t ps n column b rest ls)
+      node_says starts.InQuotes ps column ls h g s = quoted_says ps column (run (opened b n) rest).0 (run (opened b n) rest).1 ls h g s refl
+      node_says starts.Plain ps column ls h g s = plain_says ps column (colon_at false 0 (b ∷ rest)) ls h g s refl
+      node_says starts.InBrackets ps column ls h g s = leaf_at_says true ps column (b ∷ rest) ls h g node_begins
+      node_says starts.InLines ps column ls h g s = leaf_at_says true ps column (b ∷ rest) ls h g node_begins
+      node_says starts.LeftOut ps column ls h g s = leaf_at_says true ps column (b ∷ rest) ls h g node_begins
+      node_says starts.Refused ps column ls h g s = leaf_at_says true ps column (b ∷ rest) ls h g node_begins
+
+    heads_says : (bytes : List ℕ) (ps : List Piece) (spaced : Bool) (column : ℕ) (ls : List RawLine) → AllOut Nowhere ps → AllHigh Cause ps → ((key : Bool) (rest : List ℕ) → Begins key bytes rest → Begins key content rest)
+        → Says W Reason Cause (heads ps n spaced column bytes ls)
+    unfolding heads
+    heads_says [] ps spaced column ls h g wrap = says_found ps ls h g
+    heads_says (b ∷ rest) ps spaced column ls h g wrap =
+        either (is_blank b) _ _ (λ e. heads_says rest ps (b == 32) (column + 1) ls h g (λ key r i. wrap key r (blank e i)))
+        (λ no_blank. either (b == 35 && spaced) _ _ (λ e. says_found ps ls h g)
+        (λ e. either (b == 45 && breaks rest) _ _ (λ d. heads_says rest (ps ++ dash n column ∷ []) false (column + 1) ls (one_more Nowhere ps (dash n column) h tt) (high_more Cause ps (dash n column) g tt) (λ key r i. wrap key r (behind_dash d i)))
+        (λ d. node_says b rest wrap (here no_blank d) (start b rest) ps column ls h g refl)))
+
+  -- ---- all lines
+
+  module _ (all : List RawLine) where
+    abbrev Tells : Found → Type 0
+    Tells r = Says W (λ (f : Fault). Shown T all f.line) (λ (m : ℕ). Shown H all m) r
+
+    line_says : (l : RawLine) (ps : List Piece) (ls : List RawLine) → IsLast all (l ∷ ls) → AllOut Nowhere ps → AllHigh (λ (m : ℕ). Shown H all m) ps → Tells (line_heads ps l ls)
+    unfolding line_heads
+    line_says l ps ls last h g =
+        let reasons : (key : Bool) (rest : List ℕ) → Begins key l.content rest → (f : Fault) → f.line ≡ l.line → T l.line key rest → Shown T all f.line = λ key rest i f same t.
+        record { before = last.0; l = l; behind = ls; are = last.1; number = sym same; key = key; left = rest; begins = i; has = t } in
+        let causes : (key : Bool) (rest : List ℕ) → Begins key l.content rest → H l.line key rest → Shown H all l.line = λ key rest i t.
+        record { before = last.0; l = l; behind = ls; are = last.1; number = refl; key = key; left = rest; begins = i; has = t } in
+        either (sees 9 l.content) _ _ (λ e. heads_says l.line l.content (λ f. Shown T all f.line) (λ m. Shown H all m) reasons causes (without_blanks l.content) ps (is_spaced true l.content) l.indent ls h g (behind_blanks l.content))
+        (λ e. heads_says l.line l.content (λ f. Shown T all f.line) (λ m. Shown H all m) reasons causes l.content ps true l.indent ls h g (λ key rest i. i))
+
+    go_says : (f : Found) (o : Option Fault) (more : List Piece → List RawLine → Found) → f.fault ≡ o → Tells f → (AllOut Nowhere f.pieces → Tells (more f.pieces f.rest)) → Tells (go_on f o more)
+    go_says f None more e s go = go (weaker (Marked f.fault) Nowhere (λ n h. absurd (let q : None ≡ Some (record { line = n; code = LeftOut }) = sym e ∙ h in cc)) f.pieces s.marked)
+    go_says f (Some v) more e s go = s
+
+    pub pieces_say : (k : ℕ) (ps : List Piece) (ls : List RawLine) → AllOut Nowhere ps → AllHigh (λ (m : ℕ). Shown H all m) ps → IsLast all ls → Says W (λ (f : Fault). Shown T all f.line) (λ (m : ℕ). Shown H all m) (pieces k ps ls)
+    unfolding pieces
+    pieces_say zero ps ls h g last = says_found ps ls h g
+    pieces_say (suc k) ps [] h g last = says_found ps [] h g
+    pieces_say (suc k) ps (l ∷ ls) h g last =
+        let f : Found = line_heads ps l ls in
+        let d : Adds (λ (m : ℕ). Unit {0}) (IsLast all) ps f = adds_line (λ m. Unit {0}) (IsLast all) (last_parts all) l ps ls tt (last_less all l ls last) in
+        let s : Says W (λ (f : Fault). Shown T all f.line) (λ (m : ℕ). Shown H all m) f = line_says l ps ls last h g in
+        either (is_over ps l) _ _ (λ e. says_found ps (l ∷ ls) h g) (λ e. go_says f f.fault (pieces k) refl s (λ h'. pieces_say k f.pieces f.rest h' s.high d.left))
+
+    pub all_say : (ls : List RawLine) → IsLast all ls → Says W (λ (f : Fault). Shown T all f.line) (λ (m : ℕ). Shown H all m) (all_pieces ls)
+    all_say ls last = pieces_say (suc (length ls)) [] ls tt tt last

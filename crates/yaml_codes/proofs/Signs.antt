@@ -1,5 +1,5 @@
 -- C3 stands at a line with a sign of what is left out.
-use Rattle.std.proofs.Common.{◌≡◌, ℕ, suc, Bool, true, false, cond, ◌||◌, ◌&&◌, ◌⊎◌, inl, inr, List, [], ◌∷◌, ◌++◌, length, Option, Some, None, Err, refl, sym, ap, ◌∙◌, append_assoc}
+use Rattle.std.proofs.Common.{◌≡◌, ℕ, Bool, true, false, cond, ◌||◌, ◌&&◌, ◌⊎◌, inl, inr, List, [], ◌∷◌, ◌++◌, Option, Some, None, Ok, Err, refl, sym, ap, ◌∙◌, append_assoc}
 use Rattle.std.specs.Prelude.{not}
 use Rattle.std.specs.Str.{is_utf8}
 use Rattle.yaml_scan.specs.declared.line.RawLine.{RawLine}
@@ -7,6 +7,7 @@ use Rattle.yaml_scan.specs.declared.fault.Fault.{Fault}
 use Rattle.yaml_scan.specs.declared.fault.Code.TheVariants.{Tab, LeftOut, NotUtf8}
 use Rattle.yaml_scan.specs.Words.{sees}
 use Rattle.yaml_scan.specs.Lines.{lines, line_fault, fault, tab_fault, mark_fault, utf8_fault, one_fault, or_else, fault_from, is_blank_line, is_directive, is_mark, least, without_start}
+use Rattle.yaml_tree.specs.Leaves.{Leafs, leaf_by}
 use Rattle.yaml_tree.specs.Tree.{tree}
 use Rattle.yaml_laws.specs.Refused.{IsOneOf}
 use Rattle.yaml_laws.proofs.FollowedLines.{start_in}
@@ -14,8 +15,9 @@ use Rattle.yaml_laws.proofs.Whole.{read_lines, in_tree}
 use Rattle.yaml_laws.proofs.Cuts.{one_of, told_text}
 use Rattle.yaml_laws.proofs.Orders.{least_in}
 use Rattle.yaml_tree.proofs.LinesFound.{and_true}
-use Rattle.yaml_codes.specs.Signs.{HasSign, directive, mark, node, IsLeftOut}
-use Rattle.yaml_codes.proofs.PieceSigns.{IsLast, last_less, Shown, pieces_shown, pieces_marked}
+use Rattle.yaml_codes.specs.Signs.{IsSign, merge, HasSign, directive, mark, node, IsLeftOut}
+use Rattle.yaml_codes.proofs.LeafSigns.{IsOut, IfTooHigh, structure_in, leaf_fails}
+use Rattle.yaml_codes.proofs.PieceSigns.{IsLast, last_less, Shown, Says, all_say}
 use Rattle.yaml_codes.proofs.LayoutSigns.{document_marked}
 
 -- ---- lines alone
@@ -97,18 +99,25 @@ line_sign all before (l ∷ ls) begun f are has e c =
 
 -- ---- the text
 
-shown_sign : (all : List RawLine) (f : Fault) → Shown all f → HasIt all f
-shown_sign all f s = record { before = s.before; l = s.l; behind = s.behind; are = s.are; number = s.number; has_sign = node s.signed.2 s.signed.3 }
+says_sign : (ls : List RawLine) → Says IsOut (λ (f : Fault). Shown IsSign ls f.line) (λ (m : ℕ). Shown (λ n key bytes. Unit {0}) ls m) (read_lines ls)
+says_sign ls =
+    all_say IsOut IsSign (λ n key bytes. Unit {0}) structure_in leaf_fails (λ t floor key n b bytes ls s. never_high (leaf_by t floor key n b bytes ls)) (λ n column behind bytes k after e t m. merge t m) ls (without_start ls)
+    (start_in (IsLast ls) (last_less ls) ls ([], refl))
+  where
+    never_high : (r : Leafs) → IfTooHigh (Unit {0}) r
+    never_high (Ok x) = λ lt. tt
+    never_high (Err w) = tt
 
 pieces_sign : (ls : List RawLine) (f : Fault) → (read_lines ls).fault ≡ Some f → f.code ≡ LeftOut → HasIt ls f
 pieces_sign ls f e c =
-    shown_sign ls f (pieces_shown (suc (length (without_start ls))) (without_start ls) f ls (start_in (IsLast ls) (last_less ls) ls ([], refl)) e c)
+    let s = (says_sign ls).reason f e c in
+    record { before = s.before; l = s.l; behind = s.behind; are = s.are; number = s.number; has_sign = node s.begins s.has }
 
 tree_sign : (ls : List RawLine) (f : Fault) → in_tree ls ≡ Some f → f.code ≡ LeftOut → HasIt ls f
 tree_sign ls f e c =
     let g : Fault = record { line = f.line; code = LeftOut } in
     let is : (read_lines ls).fault ≡ Some g =
-    document_marked (λ n. (read_lines ls).fault ≡ Some (record { line = n; code = LeftOut })) (read_lines ls).pieces f (pieces_marked (suc (length (without_start ls))) (without_start ls)) e c in
+    document_marked (λ n. (read_lines ls).fault ≡ Some (record { line = n; code = LeftOut })) (read_lines ls).pieces f (says_sign ls).marked e c in
     let h = pieces_sign ls g is refl in
     record { before = h.before; l = h.l; behind = h.behind; are = h.are; number = h.number; has_sign = h.has_sign }
 
