@@ -17,7 +17,7 @@ use Rattle.trig_set.proofs.numbers.Numbers.TheSendSync as numbers
 use Rattle.state_table.specs.contracts.table.StateTable as StateTable
 use Rattle.wait_set.specs.contracts.asked.Asked as Asked
 use Rattle.wait_set.specs.contracts.waits.Waits as Waits
-use Rattle.wait_set.proofs.waits.Pending.TheSendSync as pending
+use Rattle.wait_set.proofs.pending.Pending.TheSendSync as pending
 use Rattle.switch_book.proofs.book.Switches.TheSendSync as switches
 use Rattle.engine_parts.specs.contracts.parts.Parts as Parts
 use Rattle.engine_parts.proofs.ready.Ready.TheSendSync as ready
