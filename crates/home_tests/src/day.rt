@@ -447,11 +447,11 @@ pub fn words_end<R: Abort + Threads + Wait + Sync + Alloc<A = Global>>(
 }
 
 /// Whether the day ends well with these calls and error lines.
-pub fn gives<R: Abort + Threads + Wait + Sync + Alloc<A = Global>>(
+pub fn gives<'a, R: Abort + Threads + Wait + Sync + Alloc<A = Global>>(
     rt: &R,
     day: &Day<'_>,
-    calls: &[&str],
-    errors: &str,
+    calls: &'a [&'a str],
+    errors: &'a str,
 ) -> bool {
     ends(
         rt,
@@ -462,11 +462,11 @@ pub fn gives<R: Abort + Threads + Wait + Sync + Alloc<A = Global>>(
 }
 
 /// Whether an evening of the home ends well with these calls and no error.
-pub fn calls<R: Abort + Threads + Wait + Sync + Alloc<A = Global>>(
+pub fn calls<'a, R: Abort + Threads + Wait + Sync + Alloc<A = Global>>(
     rt: &R,
     home: &str,
     lines: &[&str],
-    calls: &[&str],
+    calls: &'a [&'a str],
 ) -> bool {
     gives(rt, &evening(home, lines), calls, "")
 }
