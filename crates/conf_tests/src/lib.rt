@@ -9,6 +9,8 @@ mod automations;
 #[cfg(test)]
 mod conditions;
 #[cfg(test)]
+mod editor;
+#[cfg(test)]
 mod pasted;
 #[cfg(test)]
 mod triggers;

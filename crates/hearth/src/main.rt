@@ -3,9 +3,9 @@
 
 use ha_engine::Engine;
 use ha_io::{DirPlace, FileKeeper, FileSink, OpenGate};
-use ha_top::hearth;
+use ha_top::{Outcome, hearth};
 use std::process::ExitCode;
-use std::{env, io};
+use std::{env, io, mem};
 
 /// The file that keeps the switches, in the folder that the program runs in.
 const STORE: &str = "hearth_store.json";
@@ -27,5 +27,14 @@ fn main(rt: HostRuntime) -> io::Result<ExitCode> {
         keep,
         &OpenGate::make(),
     );
-    Ok(ExitCode::from(outcome.status.number()))
+    // the memory of the journal and the records goes with the program, and is not given back entry by entry
+    let Outcome {
+        status,
+        journal,
+        records,
+        ..
+    } = outcome;
+    mem::forget(journal);
+    mem::forget(records);
+    Ok(ExitCode::from(status.number()))
 }

@@ -15,6 +15,8 @@ mod long_templates;
 #[cfg(test)]
 mod printed;
 #[cfg(test)]
+mod template_trees;
+#[cfg(test)]
 mod templates;
 #[cfg(test)]
 mod texts;

@@ -15,4 +15,6 @@ mod play;
 #[cfg(test)]
 mod repeats;
 #[cfg(test)]
+mod said;
+#[cfg(test)]
 mod waits;
