@@ -1,6 +1,7 @@
-//! What a plain Rust program does for the same reports, for bench/run to compare with: it parses each line, looks up the rules that the line
-//! concerns, and writes their calls. It keeps no journal, no records and no attributes, has no conditions, and refuses nothing. `stock HOME
-//! LINES` reads a configuration of the form that bench/run writes: each automation has one trigger on a state, and calls of services.
+//! What a plain Rust program does for the same reports, for bench/run to compare with: it parses each line, looks up the rules that the
+//! line concerns, and writes their calls. It keeps no journal, no records and no attributes, has no conditions, and refuses nothing.
+//! `stock HOME LINES` reads a configuration of the form that bench/run writes: each automation has one trigger on a state, and calls of
+//! services.
 #![allow(dead_code)]
 
 use std::collections::HashMap;

@@ -1,5 +1,5 @@
-# The automations of a configuration, as far as a trace is explained by them: names, modes, triggers, how many conditions, and which services
-# and events their actions name. automations counts them from 1.
+# The automations of a configuration, as far as a trace is explained by them: names, modes, triggers, how many conditions, and which
+# services and events their actions name. automations counts them from 1.
 
 function configure(text, root, list, i) {
     root = yaml(text)

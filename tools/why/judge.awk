@@ -1,9 +1,9 @@
-# Which automations an entry may have asked to run, by their triggers (docs/FORMATS.md, docs/MEANING.md). Decided is whether it moves a trigger
-# on states, on numbers of states, on events or on starts; another one may fire where the entry is one at which such can. The entry is told
-# by `entry_is` (start, ask, event, moment, change or other) and what stands beside it, as why.awk sets it.
+# Which automations an entry may have asked to run, by their triggers (docs/FORMATS.md, docs/MEANING.md). Decided is whether it moves a
+# trigger on states, on numbers of states, on events or on starts; another one may fire where the entry is one at which such can. The entry
+# is told by `entry_is` (start, ask, event, moment, change or other) and what stands beside it, as why.awk sets it.
 
-# The answer of an automation: fires, may, off or no (one of its triggers looks at this), or apart. `because` has a row for each such trigger,
-# and `movers` names those that fire or may.
+# The answer of an automation: fires, may, off or no (one of its triggers looks at this), or apart. `because` has a row for each such
+# trigger, and `movers` names those that fire or may.
 function answer(a, i, best, found, list) {
     because = movers = ""
     if (entry_is == "ask") return name[a] in asked ? "fires" : "apart"
@@ -168,7 +168,8 @@ function fits(t, of_side, has, text, n) {
     return !n || !has || !is_among(n, 0, text)
 }
 
-# A numeric trigger moves where a reported number comes into its bounds; whether the last number was out of them is told for a state's alone.
+# A numeric trigger moves where a reported number comes into its bounds; whether the last number was out of them is told for a state's
+# alone.
 function numeric_answer(t, i, text, number) {
     if (!stands[i] || by_switch) return says("no", "not met, no number is reported")
     text = new_state[i]

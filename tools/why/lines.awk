@@ -1,7 +1,8 @@
-# The lines of a trace, read one after the other: each has the form of docs/TRACE.md, but what stands in attributes and data is not looked at.
+# The lines of a trace, read one after the other: each has the form of docs/TRACE.md, but what stands in attributes and data is not looked
+# at.
 
-# What a line is: boot, line, step or end, or nothing. Its parts are then in `turn` (the source or worker), `number` (of the line or the run),
-# `branch`, `rest` (the command or item) and `act` (which one that is).
+# What a line is: boot, line, step or end, or nothing. Its parts are then in `turn` (the source or worker), `number` (of the line or the
+# run), `branch`, `rest` (the command or item) and `act` (which one that is).
 function scan(text, head, field) {
     is = ""
     if (text !~ /\}$/ || text ~ /[\001-\037]/) return 0
@@ -73,8 +74,8 @@ function rewind(k) {
     here = sources = ended = broken = 0
 }
 
-# From which line on a run that takes its first step now can have begun. A source's line stands only if no step was due at some time since its line
-# before; while there is one source, none was due when its last line came.
+# From which line on a run that takes its first step now can have begun. A source's line stands only if no step was due at some time since
+# its line before; while there is one source, none was due when its last line came.
 function earliest(k, from, line) {
     from = 1
     for (k in line_before) {

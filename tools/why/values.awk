@@ -1,5 +1,5 @@
-# Values as a trace prints them, read into a tree of numbered nodes: kind[n] is null, flag, number, text, list or map, word[n] is what a leaf
-# says, and shown[n] how it is printed. A list or map has size[n] parts part[n, i] from 1; in a map each has its key[n, i].
+# Values as a trace prints them, read into a tree of numbered nodes: kind[n] is null, flag, number, text, list or map, word[n] is what a
+# leaf says, and shown[n] how it is printed. A list or map has size[n] parts part[n, i] from 1; in a map each has its key[n, i].
 
 function node(of_kind, text) {
     kind[++nodes] = of_kind

@@ -1,6 +1,6 @@
-# Tells of one line of a trace what it says, and what the trace tells of why: of a step its run, the automation, what asked for it, and how it
-# ended; of another line which runs began at it, or why none did. The trace is TRACE and the line WANTED, counted from 1, of the environment.
-# The trace is read twice: up to the lines that matter, and then all of it.
+# Tells of one line of a trace what it says, and what the trace tells of why: of a step its run, the automation, what asked for it, and how
+# it ended; of another line which runs began at it, or why none did. The trace is TRACE and the line WANTED, counted from 1, of the
+# environment. The trace is read twice: up to the lines that matter, and then all of it.
 
 BEGIN {
     FS = "\n"
@@ -278,7 +278,8 @@ function settle(run, a, n) {
     for (a = 1; a <= automations; a++) if (goes_on(a, n)) may_be[run, a] = 0
 }
 
-# Which automations the run can be of, by the lines that can have asked for it; a run that waited in a queue begins at a step of an earlier one.
+# Which automations the run can be of, by the lines that can have asked for it; a run that waited in a queue begins at a step of an earlier
+# one.
 function find_askers(run, line, a) {
     for (line = from_line[run]; line < here; line++) {
         for (a = 1; a <= automations; a++) {
