@@ -173,7 +173,7 @@ module _ (k : ℕ) (p a : List RawLine) (early : AllIn (λ m. m ≤ k) p) (rises
   by_outcome : line_fault p ≡ None → (o : Option Fault) → (read_lines p).fault ≡ o → Outcome k [] First (all_pieces First) → Completed k p
   by_outcome e None i h = by_itself e i
   by_outcome e (Some o) i (is_clear none) = absurd (let q : Some o ≡ None = sym i ∙ none in cc)
-  by_outcome e (Some o) i (is_closed x c h) = by_closing e o i x c h
+  by_outcome e (Some o) i (is_closed x c h q) = by_closing e o i x c h
   by_outcome e (Some o) i (is_lost h) =
       let s : Starts k First (without_start (p ++ a)) = start_follows k a late p in
       let v = h s.behind_them s.late (suc (length (First ++ s.behind_them))) (omega (arith, length-append First s.behind_them)) in
