@@ -215,7 +215,7 @@ module _ (k : ℕ) (p : List RawLine) (f : Fault) (early : AllIn (λ m. m ≤ k)
     by_outcome : line_fault p ≡ None → (o : Option Fault) → (read_lines p).fault ≡ o → Outcome k [] (without_start p) (all_pieces (without_start p)) → Found_or_not
     by_outcome clean None i h = by_itself clean i
     by_outcome clean (Some o) i (is_clear none) = absurd (let q : Some o ≡ None = sym i ∙ none in cc)
-    by_outcome clean (Some o) i (is_closed x c h) = by_closing clean o i x c h
+    by_outcome clean (Some o) i (is_closed x c h q) = by_closing clean o i x c h
     by_outcome clean (Some o) i (is_lost h) = never (lost stays) (λ b late plain. let v = stays b late in let q : Some v.0 ≡ None = sym v.1 ∙ plain.read in cc)
       where
         stays : (b : List RawLine) → AllLate k b → (v : Fault) × ((read_lines (p ++ b)).fault ≡ Some v) × (v.line ≤ k)

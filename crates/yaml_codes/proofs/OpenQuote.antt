@@ -7,6 +7,7 @@ use Rattle.yaml_scan.specs.declared.fault.Code.TheVariants.{Structure}
 use Rattle.yaml_scan.specs.Codes.{number_of}
 use Rattle.yaml_scan.specs.Lines.{lines, line_fault, without_start}
 use Rattle.yaml_tree.specs.declared.node.Node.{Node}
+use Rattle.yaml_tree.specs.Nodes.{null}
 use Rattle.yaml_tree.specs.Pieces.{Found, found, pieces, all_pieces}
 use Rattle.yaml_tree.specs.Tree.{tree}
 use Rattle.yaml_tree.proofs.Low.{Low}
@@ -16,11 +17,12 @@ use Rattle.yaml_laws.proofs.WalkedPieces.{OnFault}
 use Rattle.yaml_laws.proofs.FollowedScalars.{Late, AllLate}
 use Rattle.yaml_laws.proofs.FollowedLines.{Rises, Follows, comes, stays, deeper, closes, start_in, Starts, start_follows}
 use Rattle.yaml_laws.proofs.Numbers.{Numbered, numbered_rises, numbered_front, numbered_behind}
-use Rattle.yaml_laws.proofs.Whole.{read_lines, in_tree}
+use Rattle.yaml_laws.proofs.Whole.{read_lines, in_tree, told, Become}
 use Rattle.yaml_laws.proofs.Cuts.{one_of, numbered_become, early_lines, all_numbered, told_text, cut, cut_same, on_a_line}
 use Rattle.yaml_laws.proofs.Completed.{lines_keep, closing_keeps, start_behind, nothing_read}
-use Rattle.yaml_laws.proofs.Outcomes.{Outcome, is_clear, is_lost, is_closed, pieces_come}
+use Rattle.yaml_laws.proofs.Outcomes.{OpenIn, Outcome, is_clear, is_lost, is_closed, pieces_come}
 use Rattle.yaml_laws.proofs.Written.{completed_text}
+use Rattle.yaml_laws.proofs.QuoteLines.{begins_there, opens_there, last_alike}
 use Rattle.yaml_codes.specs.Notation as n
 use Rattle.yaml_codes.proofs.Layouts.{IsTreeCode}
 use Rattle.yaml_codes.proofs.Codes.{low_or_not, low_on, Plain, notation_read, spelled_text, too_high, in_tree_code}
@@ -94,16 +96,31 @@ module _ (text other : List ℕ) (f : Fault) (root : Node) (same : SameLines f.l
         | inr l ↦ let q : 2 ≡ 12 = sym (ap number_of c) ∙ ap number_of l in omega (arith, q)
       ]
 
+  own_become : Become (length Front) Front (Front ++ Behind)
+  own_become = numbered_become Front Behind own_lines
+
+  own_told : told (Front ++ Behind) ≡ Some f
+  own_told = told_text text (Front ++ Behind) f (cut f.line (lines text)) e
+
+  -- the refusal is no fault of a line alone, and none of the tree
+  no_line : line_fault (Front ++ Behind) ≡ Some f → ⊥
+  no_line j = stays_none (line_fault Front) (line_fault (Front ++ Behind)) (front_clean (line_fault Front) refl) own_become.alone j
+
+  no_tree : in_tree (Front ++ Behind) ≡ Some f → ⊥
+  no_tree j = let h = was_structure (in_tree Front) (in_tree (Front ++ Behind)) own_become.of_tree j in no_tree_fault h.0 h.1 h.2
+
   not_clear : (read_lines Front).fault ≡ None → ⊥
   not_clear none =
-      let become = numbered_become Front Behind own_lines in
-      elim (one_of (Front ++ Behind) f (told_text text (Front ++ Behind) f (cut f.line (lines text)) e)) [
-        | inl j ↦ stays_none (line_fault Front) (line_fault (Front ++ Behind)) (front_clean (line_fault Front) refl) become.alone j
+      elim (one_of (Front ++ Behind) f own_told) [
+        | inl j ↦ no_line j
         | inr r ↦ elim r [
-          | inl j ↦ stays_none (read_lines Front).fault (read_lines (Front ++ Behind)).fault none become.of_piece j
-          | inr j ↦ let h = was_structure (in_tree Front) (in_tree (Front ++ Behind)) become.of_tree j in no_tree_fault h.0 h.1 h.2
+          | inl j ↦ stays_none (read_lines Front).fault (read_lines (Front ++ Behind)).fault none own_become.of_piece j
+          | inr j ↦ no_tree j
         ]
       ]
+
+  begins : (q : OpenIn (length Front) [] (without_start Front) (all_pieces (without_start Front))) → q.l.line ≡ f.line
+  begins q = begins_there (length Front) Front Behind (numbered_behind 1 (length Front) Front Behind (omega arith) own_lines) f (sym front_long) own_told no_line no_tree q ∙ front_long
 
   quoted_by : Outcome (length Front) [] (without_start Front) (all_pieces (without_start Front)) → n.EndsQuoted f.line text
   quoted_by (is_clear none) = absurd (not_clear none)
@@ -111,7 +128,7 @@ module _ (text other : List ℕ) (f : Fault) (root : Node) (same : SameLines f.l
       let s : Starts (length Front) (without_start Front) (without_start (Front ++ Instead)) = start_follows (length Front) Instead other_late Front in
       let v = h s.behind_them s.late (suc (length (without_start Front ++ s.behind_them))) (omega (arith, length-append (without_start Front) s.behind_them)) in
       absurd (let q : Some v.0 ≡ None = sym (ap (λ (ls : List RawLine). (all_pieces ls).fault) s.are ∙ v.1) ∙ plain_other.read in cc)
-  quoted_by (is_closed x c h) =
+  quoted_by (is_closed x c h q) =
       let low : Low (all_pieces (without_start Front)).pieces =
       elim (low_or_not (all_pieces (without_start Front)).pieces) [
         | inl l ↦ l
@@ -128,7 +145,18 @@ module _ (text other : List ℕ) (f : Fault) (root : Node) (same : SameLines f.l
         low = subst Low (sym pieces_are) (low_on r.2 low);
       } in
       let t = completed_text text Front Behind (x ∷ []) (cut f.line (lines text)) (inr (x, c, refl)) in
-      record { closed = t.0; close = x; pieces = (read_lines (Front ++ x ∷ [])).pieces; lines_are = t.1; quote = c.1; is_spelled = (spelled_text t.0 (Front ++ x ∷ []) t.1 plain).0 }
+      let a = last_alike q.front q.l.line q.column 1 false (null q.l.line) (all_pieces (without_start Front)).pieces r.0 q.last r.2 in
+      let last : n.EndsOn q.l.line (read_lines (Front ++ x ∷ [])).pieces = (a.0, q.column, a.1, pieces_are ∙ a.2) in
+      record {
+        closed = t.0;
+        close = x;
+        pieces = (read_lines (Front ++ x ∷ [])).pieces;
+        lines_are = t.1;
+        quote = c.1;
+        is_spelled = (spelled_text t.0 (Front ++ x ∷ []) t.1 plain).0;
+        last = subst (λ (m : ℕ). n.EndsOn m (read_lines (Front ++ x ∷ [])).pieces) (begins q) last;
+        opens = opens_there text f.line (length Front) Front Behind (cut f.line (lines text)) q (begins q);
+      }
     where
       starts : (q : List RawLine) → without_start Front ≡ q → without_start (Front ++ x ∷ []) ≡ without_start Front ++ x ∷ []
       starts [] i = absurd (not_clear (nothing_read (without_start Front) i))

@@ -50,16 +50,6 @@ pub record IsFirstLine (text : List ℕ) (n : ℕ) : Type 0 where
 abbrev pub IsTooDeep : ℕ → List ℕ → Type 0
 IsTooDeep n text = (other : List ℕ) × (f : Fault) × SameLines n text other × (tree other ≡ Err f) × (f.code ≡ Limit) × (f.line ≤ n)
 
--- The first n lines end inside a quoted scalar: with one more line, which holds the closing quote alone, they are a text of the
--- grammar.
-pub record EndsInQuotes (n : ℕ) (text : List ℕ) : Type 0 where
-  pub closed : List ℕ
-  pub close : RawLine
-  pub root : Node
-  pub lines_are : lines closed ≡ take n (lines text) ++ close ∷ []
-  pub quote : (close.content ≡ 34 ∷ []) ⊎ (close.content ≡ 39 ∷ [])
-  pub in_grammar : IsText closed root
-
 -- ---- lines alone
 
 -- one of these lines
@@ -94,3 +84,16 @@ pub data Opens (n : ℕ) : List ℕ → Type 0 where
 -- the line of the text with this number has one
 abbrev pub OpensQuote : ℕ → List ℕ → Type 0
 OpensQuote n text = (l : RawLine) × IsLineOf text l × (l.line ≡ n) × Opens n l.content
+
+-- ---- texts that end within quotes
+
+-- The first n lines end inside a quoted scalar, which begins on the last of them: with one more line, which holds the closing quote alone,
+-- they are a text of the grammar.
+pub record EndsInQuotes (n : ℕ) (text : List ℕ) : Type 0 where
+  pub closed : List ℕ
+  pub close : RawLine
+  pub root : Node
+  pub lines_are : lines closed ≡ take n (lines text) ++ close ∷ []
+  pub quote : (close.content ≡ 34 ∷ []) ⊎ (close.content ≡ 39 ∷ [])
+  pub in_grammar : IsText closed root
+  pub opens : OpensQuote n text
