@@ -3,6 +3,7 @@ pub mod Layouts
 pub mod Spelled
 pub mod Allowed
 pub mod Codes
+pub mod FirstPieces
 pub mod OpenQuote
 pub mod Grammar
 mod FlowSigns

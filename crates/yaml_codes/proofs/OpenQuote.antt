@@ -7,15 +7,19 @@ use Rattle.yaml_scan.specs.declared.fault.Code.TheVariants.{Structure}
 use Rattle.yaml_scan.specs.Codes.{number_of}
 use Rattle.yaml_scan.specs.Lines.{lines, line_fault, without_start}
 use Rattle.yaml_tree.specs.declared.node.Node.{Node}
+use Rattle.yaml_tree.specs.declared.piece.Piece.{Piece}
 use Rattle.yaml_tree.specs.Nodes.{null}
-use Rattle.yaml_tree.specs.Pieces.{Found, found, pieces, all_pieces}
+use Rattle.yaml_tree.specs.Pieces.{Found, found, pieces, all_pieces, is_begun}
 use Rattle.yaml_tree.specs.Tree.{tree}
 use Rattle.yaml_tree.proofs.Low.{Low}
 use Rattle.yaml_laws.specs.Refused.{SameLines}
+use Rattle.yaml_tree.proofs.LinesFound.{lines_read}
+use Rattle.yaml_tree.proofs.AllLines.{start_clean, pieces_read}
+use Rattle.yaml_laws.proofs.Followed.{Alike}
 use Rattle.yaml_laws.proofs.Walked.{AllIn}
 use Rattle.yaml_laws.proofs.WalkedPieces.{OnFault}
 use Rattle.yaml_laws.proofs.FollowedScalars.{Late, AllLate}
-use Rattle.yaml_laws.proofs.FollowedLines.{Rises, Follows, comes, stays, deeper, closes, start_in, Starts, start_follows}
+use Rattle.yaml_laws.proofs.FollowedLines.{Rises, Fits, Follows, comes, stays, deeper, closes, Ahead, pieces_follow, start_in, Starts, start_follows}
 use Rattle.yaml_laws.proofs.Numbers.{Numbered, numbered_rises, numbered_front, numbered_behind}
 use Rattle.yaml_laws.proofs.Whole.{read_lines, in_tree, told, Become}
 use Rattle.yaml_laws.proofs.Cuts.{one_of, numbered_become, early_lines, all_numbered, told_text, cut, cut_same, on_a_line}
@@ -25,7 +29,17 @@ use Rattle.yaml_laws.proofs.Written.{completed_text}
 use Rattle.yaml_laws.proofs.QuoteLines.{begins_there, opens_there, last_alike}
 use Rattle.yaml_codes.specs.Notation as n
 use Rattle.yaml_codes.proofs.Layouts.{IsTreeCode}
-use Rattle.yaml_codes.proofs.Codes.{low_or_not, low_on, Plain, notation_read, spelled_text, too_high, in_tree_code}
+use Rattle.yaml_codes.proofs.Codes.{low_or_not, low_on, Plain, notation_read, spelled_text, too_high, low_node, in_tree_code}
+use Rattle.yaml_codes.proofs.FirstPieces.{alike_between, first_notation}
+
+-- the pieces of a text in the notation are in it
+notation_of : (other : List ℕ) (root : Node) (ls : List RawLine) → lines other ≡ ls → n.IsNotationText other root → n.IsNotation (read_lines ls).pieces root
+notation_of other root ls e (n.in_notation {ps = ps} (n.spelled {ls = xs} l c p) t) =
+    let same : xs ≡ ls = sym (lines_read l) ∙ e in
+    let k = start_clean xs false c in
+    let begun : is_begun [] ≡ true → k.0 ≡ true = λ e. absurd cc in
+    let q = pieces_read (suc (length (without_start xs))) [] k.0 (without_start xs) ps (omega arith) begun k.1 p (low_node t tt) in
+    subst (λ (zs : List RawLine). n.IsNotation (read_lines zs).pieces root) same (subst (λ (qs : List Piece). n.IsNotation qs root) (sym q.0) t)
 
 module _ (text other : List ℕ) (f : Fault) (root : Node) (same : SameLines f.line text other) (e : tree text ≡ Err f) (structure : f.code ≡ Structure) (in_it : n.IsNotationText other root) where
   abbrev Front : List RawLine
@@ -60,6 +74,9 @@ module _ (text other : List ℕ) (f : Fault) (root : Node) (same : SameLines f.l
 
   front_rises : Rises Front
   front_rises = numbered_rises 1 Front (numbered_front 1 Front Behind own_lines)
+
+  front_fits : Fits (length Front) (length (without_start Front)) (without_start Front)
+  front_fits = (start_in (AllIn (λ m. m ≤ length Front)) (λ l rest i. i.1) Front front_early, start_in Rises (λ l rest i. i.1) Front front_rises, omega arith)
 
   not_late : (g : Fault) → g ≡ f → length Front < g.line → ⊥
   not_late g is lt = let l = front_long in let same_line : g.line ≡ f.line = ap (λ (z : Fault). z.line) is in omega (arith, l, same_line, lt)
@@ -119,6 +136,16 @@ module _ (text other : List ℕ) (f : Fault) (root : Node) (same : SameLines f.l
         ]
       ]
 
+  -- the pieces of the first lines are in the notation, whatever their leaves hold
+  first_tree : (qs : List Piece) → Alike (all_pieces (without_start Front)).pieces qs → (x : Node) × n.IsNotation qs x
+  first_tree qs al =
+      let s : Starts (length Front) (without_start Front) (without_start (Front ++ Instead)) = start_follows (length Front) Instead other_late Front in
+      let h : Ahead (length Front) (all_pieces (without_start Front)) (all_pieces (without_start Front ++ s.behind_them)) =
+      pieces_follow (length Front) s.behind_them s.late (suc (length (without_start Front))) (suc (length (without_start Front ++ s.behind_them))) [] (without_start Front) (omega arith) (omega (arith, length-append (without_start Front) s.behind_them)) front_fits in
+      let t : n.IsNotation (read_lines (Front ++ Instead)).pieces root = notation_of other root (Front ++ Instead) other_are in_it in
+      let t' : n.IsNotation (h.front ++ h.tail) root = subst (λ (ps : List Piece). n.IsNotation ps root) (ap (λ (ls : List RawLine). (all_pieces ls).pieces) s.are ∙ h.are) t in
+      first_notation h.tail h.front qs root t' (alike_between h.alike al)
+
   begins : (q : OpenIn (length Front) [] (without_start Front) (all_pieces (without_start Front))) → q.l.line ≡ f.line
   begins q = begins_there (length Front) Front Behind (numbered_behind 1 (length Front) Front Behind (omega arith) own_lines) f (sym front_long) own_told no_line no_tree q ∙ front_long
 
@@ -154,6 +181,8 @@ module _ (text other : List ℕ) (f : Fault) (root : Node) (same : SameLines f.l
         lines_are = t.1;
         quote = c.1;
         is_spelled = (spelled_text t.0 (Front ++ x ∷ []) t.1 plain).0;
+        root = (first_tree r.0 r.2).0;
+        in_notation = subst (λ (ps : List Piece). n.IsNotation ps (first_tree r.0 r.2).0) (sym pieces_are) (first_tree r.0 r.2).1;
         last = subst (λ (m : ℕ). n.EndsOn m (read_lines (Front ++ x ∷ [])).pieces) (begins q) last;
         opens = opens_there text f.line (length Front) Front Behind (cut f.line (lines text)) q (begins q);
       }
@@ -164,5 +193,4 @@ module _ (text other : List ℕ) (f : Fault) (root : Node) (same : SameLines f.l
 
   pub open_quote : n.EndsQuoted f.line text
   open_quote =
-      quoted_by (pieces_come (length Front) (suc (length (without_start Front))) [] (without_start Front) (omega arith)
-      (start_in (AllIn (λ m. m ≤ length Front)) (λ l rest i. i.1) Front front_early, start_in Rises (λ l rest i. i.1) Front front_rises, omega arith))
+      quoted_by (pieces_come (length Front) (suc (length (without_start Front))) [] (without_start Front) (omega arith) front_fits)

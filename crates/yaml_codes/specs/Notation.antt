@@ -96,14 +96,16 @@ pub data Breaks (n : ℕ) : Code → Node → Type 0 where
 abbrev pub EndsOn : ℕ → List Piece → Type 0
 EndsOn n ps = (before : List Piece) × (column : ℕ) × (x : Node) × (ps ≡ before ++ leaf n column x 1 false ∷ [])
 
--- The first n lines end inside a quoted scalar, which begins on the last of them and is not closed on it: they have pieces with one more
--- line, which holds the closing quote alone, and the last piece is that scalar.
+-- The first n lines end inside a quoted scalar, which begins on the last of them and is not closed on it: with one more line, which holds
+-- the closing quote alone, they are in the notation, and the last of their pieces is a leaf of the line n.
 pub record EndsQuoted (n : ℕ) (text : List ℕ) : Type 0 where
   pub closed : List ℕ
   pub close : RawLine
   pub pieces : List Piece
   pub lines_are : lines closed ≡ take n (lines text) ++ close ∷ []
   pub quote : (close.content ≡ 34 ∷ []) ⊎ (close.content ≡ 39 ∷ [])
+  pub root : Node
   pub is_spelled : IsSpelled closed pieces
+  pub in_notation : IsNotation pieces root
   pub last : EndsOn n pieces
   pub opens : OpensQuote n text

@@ -1,4 +1,5 @@
--- A scalar whose lines end within it: it is read, or a line with the closing quote ends it, or whatever follows it has a fault.
+-- A scalar whose lines end within it: it is read, or a line with the closing quote ends it, or whatever follows it has a fault. Where the
+-- quote can be closed, a fault that lines behind it give stands on the quote's own line or behind all these.
 use Rattle.std.proofs.Common.{◌≡◌, ℕ, suc, ◌+◌, ◌-◌, ◌≤◌, ◌<◌, Bool, true, false, cond, ◌||◌, ◌&&◌, ◌⊎◌, inl, inr, List, [], ◌∷◌, ◌++◌, drop, Option, Some, None, Result, Ok, Err, refl, ap, ◌∙◌, arith}
 use Rattle.std.specs.Prelude.{◌==◌, not, nat_lt, nat_le}
 use Rattle.std.proofs.lemmas.Bool.{ltb-true}
