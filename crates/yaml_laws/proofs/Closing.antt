@@ -33,7 +33,8 @@ pub record Stays {A F : Type 0} (k : ℕ) (own : F) (at : F → Fault) (R : Rest
   pub first : R [] ≡ Err own
   pub others : (a : List RawLine) → AllLate k a → Ends at (OwnLine k (at own).line) (AllLate k) (R a)
 
--- What is read where these lines follow the first k. A quote that a line closes has this fault of its own, and so begins there (W).
+-- What is read where these lines follow the first k. Where a line closes a quote, `own` is the fault without that line, and W says how the
+-- quote began.
 pub data Closable {A F : Type 0} (k : ℕ) (own : F) (at : F → Fault) (W : Type 0) (R : Rest A F) : Type 0 where
   reads : {x : A × List RawLine} → R [] ≡ Ok x → Closable k own at W R
   never : ((a : List RawLine) → AllLate k a → (f : F) × (R a ≡ Err f) × ((at f).line ≤ k)) → Closable k own at W R
