@@ -3,6 +3,8 @@ pub mod Layouts
 pub mod Spelled
 pub mod Allowed
 pub mod Codes
+pub mod FirstPieces
+pub mod OpenQuote
 pub mod Grammar
 mod FlowSigns
 mod LeafSigns
