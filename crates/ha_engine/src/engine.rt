@@ -1,6 +1,7 @@
 //! The engine: the journal with its records, and the parts that stand for it.
 ghost use Rattle.std.specs.Prelude.{◌≡◌, ◌↔◌, ◌<◌, ◌-◌, ◌++◌, ◌∷◌, [], ℕ, List, Some, IfOk, IfErr, OnOk, OnErr, Err, true, false, length, take, count_by, is_some, vec_len, vec_capacity};
 ghost use Rattle.std.specs.List.{list_any};
+ghost use Rattle.ha_model.specs.declared.journal.Cmd.{Cmd as Said};
 ghost use Rattle.ha_model.specs.declared.journal.Cmd.TheVariants.{Refused};
 ghost use Rattle.ha_model.specs.declared.journal.Entry.TheVariants.{Line};
 ghost use Rattle.ha_model.specs.RecordSteps.{more};
@@ -9,7 +10,7 @@ ghost use Rattle.ha_model.specs.declared.journal.Item as item_lem;
 ghost use Rattle.ha_model.specs.Words.{same};
 ghost use Rattle.ha_model.specs.States.{automation_named};
 ghost use Rattle.ha_model.specs.declared.journal.Entry.{Entry as Item};
-ghost use Rattle.ha_model.specs.Journal.{automations};
+ghost use Rattle.ha_model.specs.Journal.{Journal, automations};
 ghost use Rattle.ha_model.specs.Lawful.{Right, IsFair, is_line_of, shuts, is_quiet, is_rested, pick, ready};
 ghost use Rattle.ha_model.specs.Sights.{switch_of, changes_switch};
 ghost use Rattle.ha_model.specs.Texts.{store_text};
@@ -127,13 +128,34 @@ fn settle_cmd(alloc: Global, journal: &[Entry], cmd: &mut Cmd)
     }
 }
 
+/// Makes of the command of a line that was read the one that stands in the journal, behind these entries.
+fn settle_entry(alloc: Global, before: &[Entry], last: &mut Entry)
+    ensures { (source number : ℕ) (cmd : Said) → last.old ≡ Line source number cmd → last.new ≡ Line source number (put_as_lem before.now cmd) }
+{
+    match last {
+        Entry::Line { cmd, .. } => settle_cmd(alloc, before, cmd),
+        Entry::Boot { .. } | Entry::Step { .. } => {}
+    }
+}
+
+/// The same of the last entry, where it stands.
+fn settle_last(alloc: Global, journal: &mut [Entry])
+    ensures last { (j : Journal) (source number : ℕ) (cmd : Said) → journal.old ≡ more j (Line source number cmd) → journal.new ≡ more j (Line source number (put_as_lem j cmd)) }
+    ensures len { length journal.new ≡ length journal.old }
+{
+    match journal.split_last_mut() {
+        Some((last, before)) => settle_entry(alloc, before, last),
+        None => {}
+    }
+}
+
 impl Engine {
     /// Puts a line of a source.
     pub(crate) fn append_line(
         &mut self,
         source: u32,
         number: u64,
-        mut cmd: Cmd,
+        cmd: Cmd,
     ) -> Result<(), CoreFault>
         requires usable { self.old.is_spent ≡ false }
         requires known { source < 16 }
@@ -155,8 +177,8 @@ impl Engine {
             self.spent = true;
             return Err(CoreFault::Memory);
         }
-        settle_cmd(self.alloc, self.journal.as_slice(), &mut cmd);
         push_line(&mut self.journal, source, number, cmd);
+        settle_last(self.alloc, self.journal.as_mut_slice());
         match follow_line(
             self.alloc,
             self.journal.as_slice(),
