@@ -69,7 +69,7 @@ deeper_floor c ps (i.other {p = p} d) = rw (no_dash p.what d) refl
 mutual
   node_less : {line floor : ℕ} {ps rest : List Piece} {x : Node} → n.IsNode line floor ps x rest → length rest ≤ length ps
   node_less (n.absent e) = omega arith
-  node_less (n.one_leaf le h) = omega arith
+  node_less (n.one_leaf le) = omega arith
   node_less (n.list le i) = items_less i
   node_less (n.map le i) = pairs_less i
 
@@ -122,7 +122,7 @@ mutual
   node_told : {line floor : ℕ} {ps rest : List Piece} {x : Node} → n.IsNode line floor ps x rest → (depth : ℕ) → Told (node depth line floor ps) x rest
   node_told {line = line} {floor = floor} {ps = ps} h zero = inr (record { line = (head line floor (front ps)).line; code = Limit }, refl, refl)
   node_told {line = line} {floor = floor} {ps = ps} (n.absent e) (suc depth) = absent_told (suc depth) line floor (node depth) ps e
-  node_told {floor = floor} (n.one_leaf {n = m} {indent = c} {height = height} {ps = ps} {x = x} le h) (suc depth) =
+  node_told {floor = floor} (n.one_leaf {n = m} {indent = c} {height = height} {ps = ps} {x = x} le) (suc depth) =
       rw (le-ltb c floor le) (told_leaf (nat_lt (suc depth) height) m x ps)
   node_told {floor = floor} {rest = rest} (n.list {n = m} {indent = c} {ps = ps} {xs = xs} le i) (suc depth) =
       rw (le-ltb c floor le) (told_made (listed m) (list (node depth) c (dash m c ∷ ps)) xs rest (items_told i depth (suc (length (dash m c ∷ ps))) [] (omega arith)))

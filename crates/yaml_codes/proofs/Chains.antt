@@ -28,11 +28,11 @@ abbrev pub Linked : List Piece → Type 0
 Linked [] = Unit {0}
 Linked (p ∷ ps) = Chained p ps
 
--- the flow of a leaf has 64 nodes in one another at most, and as many as it says, all on its line
+-- the flow of a leaf has as many nodes in one another as it says, all on its line
 abbrev pub IsSized : ℕ → What → Type 0
 IsSized n Dash = Unit {0}
 IsSized n (Key k) = Unit {0}
-IsSized n (Leaf x height out) = (height ≤ 64) × IsWithin n 0 x × ((depth : ℕ) → depth < height → IsWithin n depth x)
+IsSized n (Leaf x height out) = IsWithin n 0 x × ((depth : ℕ) → depth < height → IsWithin n depth x)
 
 abbrev pub AllSized : List Piece → Type 0
 AllSized [] = Unit {0}
@@ -86,7 +86,7 @@ chain_piece line floor p ps le c sized inner (Leaf x height out) is =
     let e : p ≡ leaf p.line p.column x height out = piece_is p p.column (Leaf x height out) refl is in
     let s : IsSized p.line (Leaf x height out) = subst (IsSized p.line) is sized in
     let none : ps ≡ [] = none_next p ps x height out is c in
-    (x, subst (λ (qs : List Piece). IsNode line floor (p ∷ qs) x []) (sym none) (subst (λ (q : Piece). IsNode line floor (q ∷ []) x []) (sym e) (one_leaf le s.0)), s.1)
+    (x, subst (λ (qs : List Piece). IsNode line floor (p ∷ qs) x []) (sym none) (subst (λ (q : Piece). IsNode line floor (q ∷ []) x []) (sym e) (one_leaf le)), s.0)
 
 pub chain_node : (ps : List Piece) (line floor : ℕ) → IsFrom floor ps → Linked ps → AllSized ps → Whole line floor ps
 chain_node [] line floor from linked sized = (null line, absent i.no_piece, tt)

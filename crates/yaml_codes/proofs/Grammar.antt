@@ -20,7 +20,7 @@ use Rattle.yaml_laws.proofs.Indented.{same_texts}
 use Rattle.yaml_laws.proofs.Whole.{read_lines, in_tree, told, ok_told}
 use Rattle.yaml_codes.specs.Notation as n
 use Rattle.yaml_codes.proofs.Allowed.{Told, document_told}
-use Rattle.yaml_codes.proofs.Codes.{low_node}
+use Rattle.yaml_codes.proofs.Lows.{low_from, low_to, block_low}
 
 module _ (N : Nodes) (to : (line floor : ℕ) (ps : List Piece) (x : Node) (rest : List Piece) → N line floor ps x rest → n.IsNode line floor ps x rest) where
   items_to : {c : ℕ} {ps rest : List Piece} {xs : List Node} → i.IsItems N c ps xs rest → n.IsItems c ps xs rest
@@ -37,7 +37,7 @@ module _ (N : Nodes) (to : (line floor : ℕ) (ps : List Piece) (x : Node) (rest
 
   over_to : {depth line floor : ℕ} {ps rest : List Piece} {x : Node} → depth ≤ 64 → i.IsBlockOver depth N line floor ps x rest → n.IsNode line floor ps x rest
   over_to low (i.absent a) = n.absent a
-  over_to low (i.one_leaf le h) = n.one_leaf le (omega (arith, low, h))
+  over_to low (i.one_leaf le h) = n.one_leaf le
   over_to low (i.list le r) = n.list le (items_to r)
   over_to low (i.map le r d) = n.map le (pairs_to r)
 
@@ -47,7 +47,7 @@ block_to zero low line floor ps x rest h = absurd h
 block_to (suc depth) low line floor ps x rest h = over_to (i.IsBlock depth) (block_to depth (omega (arith, low))) low h
 
 by_indent : (text : List ℕ) (root : Node) → i.IsTextByIndent text root → n.IsNotationText text root
-by_indent text root (i.text {ps = ps} l c p t) = n.in_notation (n.spelled l c p) (block_to 64 (omega arith) 1 0 ps root [] t)
+by_indent text root (i.text {ps = ps} l c p t) = n.in_notation (n.spelled l c p (low_to ps (block_low 64 (omega arith) 1 0 ps root [] t tt))) (block_to 64 (omega arith) 1 0 ps root [] t)
 
 pub grammar_in : (text : List ℕ) (root : Node) → IsText text root → n.IsNotationText text root
 grammar_in text root t = by_indent text root ((same_texts text root).0 t)
@@ -58,11 +58,11 @@ judged_is : (o : Option Fault) (r : Answer Node) (root : Node) → o ≡ None �
 judged_is o r root e e' = rw (e, e') refl
 
 document_is : (ls : List RawLine) (root : Node) (text : List ℕ) → lines text ≡ ls → n.IsNotationText text root → in_tree ls ≡ None → document (read_lines ls).pieces ≡ Ok (root, [])
-document_is ls root text e (n.in_notation {ps = ps} (n.spelled {ls = xs} l c p) t) none =
+document_is ls root text e (n.in_notation {ps = ps} (n.spelled {ls = xs} l c p low) t) none =
     let same : xs ≡ ls = sym (lines_read l) ∙ e in
     let k = start_clean xs false c in
     let begun : is_begun [] ≡ true → k.0 ≡ true = λ e. absurd cc in
-    let q = pieces_read (suc (length (without_start xs))) [] k.0 (without_start xs) ps (omega arith) begun k.1 p (low_node t tt) in
+    let q = pieces_read (suc (length (without_start xs))) [] k.0 (without_start xs) ps (omega arith) begun k.1 p (low_from low) in
     let are : (read_lines ls).pieces ≡ ps = ap (λ (ys : List RawLine). (read_lines ys).pieces) (sym same) ∙ q.0 in
     by (document ps) (document_told ps root t) (ap document are) (ap (λ (qs : List Piece). fault_of (document qs)) (sym are) ∙ none)
   where

@@ -26,6 +26,10 @@ use Rattle.yaml_codes.proofs.Chains.{Chained, IsSized, AllSized, IsFrom, piece_i
 abbrev pub IsTreeCode : Code → Type 0
 IsTreeCode c = (number_of c == 4 || number_of c == 12) ≡ true
 
+-- C4 or a greater one
+abbrev pub IsRule : Code → Type 0
+IsRule c = 4 ≤ number_of c
+
 -- ---- what a code shows in a node in which so many more may stand in one another
 
 abbrev pub ShowsBy : ℕ → Bool → ℕ → Node → Type 0
@@ -45,14 +49,14 @@ in_map at m depth false xs ys k o x h = n.in_map xs ys k o h
 
 -- ---- keys that stand already
 
-abbrev Earlier : List ℕ → List Pair → Type 0
+abbrev pub Earlier : List ℕ → List Pair → Type 0
 Earlier k found = (ps qs : List Pair) × (first : ℕ) × (x : Node) × (found ≡ ps ++ (k, first, x) ∷ qs)
 
 earlier_by : (p : Pair) (ps : List Pair) (k : List ℕ) (a b : Bool) → bytes_eq p.0 k ≡ a → (b ≡ true → Earlier k ps) → (a || b) ≡ true → Earlier k (p ∷ ps)
 earlier_by p ps k true b h more e = let same : p.0 ≡ k = (bytes_eq-Decides p.0 k).0 h in ([], ps, p.1, p.2, ap (λ (l : List ℕ). (l, p.1, p.2) ∷ ps) same)
 earlier_by p ps k false b h more e = let r = more e in (p ∷ r.0, r.1, r.2, r.3, ap (λ (qs : List Pair). p ∷ qs) r.4)
 
-earlier : (k : List ℕ) (found : List Pair) → has_key found k ≡ true → Earlier k found
+pub earlier : (k : List ℕ) (found : List Pair) → has_key found k ≡ true → Earlier k found
 earlier k [] e = absurd cc
 earlier k (p ∷ ps) e = earlier_by p ps k (bytes_eq p.0 k) (has_key ps k) refl (earlier k ps) e
 
@@ -71,7 +75,7 @@ module _ (at : ℕ) where
 
   -- what the fault of a node shows, where it stands on the line
   abbrev Fails : (Node → Type 0) → ℕ → Fault → Type 0
-  Fails P depth f = f.line ≡ at → IsTreeCode f.code → (x : Node) × P x × Shows at f.code depth x
+  Fails P depth f = f.line ≡ at → IsRule f.code → (x : Node) × P x × Shows at f.code depth x
 
   abbrev Gives : ℕ → ℕ → ℕ → List Piece → Answer Node → Type 0
   Gives depth line floor ps (Ok x) = n.IsNode line floor ps x.0 x.1 × Fit x.1
@@ -79,7 +83,7 @@ module _ (at : ℕ) where
 
   abbrev GivesRow : {A : Type 0} → (List Piece → List A → List Piece → Type 0) → (List A → Node) → ℕ → List A → List Piece → Answer (List A) → Type 0
   GivesRow {A} Are make depth found ps (Ok x) = (xs : List A) × (x.0 ≡ found ++ xs) × Are ps xs x.1 × Fit x.1
-  GivesRow {A} Are make depth found ps (Err f) = f.line ≡ at → IsTreeCode f.code → (xs : List A) × Are ps xs [] × Shows at f.code depth (make (found ++ xs))
+  GivesRow {A} Are make depth found ps (Err f) = f.line ≡ at → IsRule f.code → (xs : List A) × Are ps xs [] × Shows at f.code depth (make (found ++ xs))
 
   -- where the holder stands on the line, so does what stands in it
   abbrev Held : ℕ → ℕ → List Piece → Type 0
@@ -109,7 +113,7 @@ module _ (at : ℕ) where
     data ListTurn (column : ℕ) (p : Piece) (ps : List Piece) (t : Result Bool Fault) : Type 0 where
       goes : t ≡ Ok true → p ≡ dash p.line column → ListTurn column p ps t
       over : t ≡ Ok false → i.IsOver column (p ∷ ps) → ListTurn column p ps t
-      wrong : {f : Fault} → t ≡ Err f → (IsTreeCode f.code → ⊥) → ListTurn column p ps t
+      wrong : {f : Fault} → t ≡ Err f → (IsRule f.code → ⊥) → ListTurn column p ps t
 
     list_there : (column : ℕ) (p : Piece) (ps : List Piece) → p.column ≡ column → (w : What) → p.what ≡ w → ListTurn column p ps (dash_on w)
     list_there column p ps e Dash is = goes refl (piece_is p column Dash e is)
@@ -120,7 +124,7 @@ module _ (at : ℕ) where
     list_turn column p ps =
         elim (place_of column p (dash_on p.what)) [
           | is_left lt e ↦ over e (i.lower lt)
-          | is_right lt e ↦ wrong e (λ c. cc)
+          | is_right lt e ↦ wrong e (λ c. omega (arith, c))
           | is_there eq e ↦ subst (ListTurn column p ps) (sym e) (list_there column p ps eq p.what refl)
         ]
 
@@ -136,7 +140,7 @@ module _ (at : ℕ) where
 
       list_rows : (k : ℕ) (found : List Node) (ps : List Piece) → Fit ps → Items found ps (row (list_on column) (λ _. item inner) k found ps)
       unfolding row item
-      list_rows zero found ps fit = λ e c. absurd cc
+      list_rows zero found ps fit = λ e c. absurd (omega (arith, c))
       list_rows (suc k) found [] fit = row_end (λ (qs : List Piece) (xs : List Node) (rest : List Piece). n.IsItems column qs xs rest) (listed m) (suc depth) found [] (n.no_item i.nothing) fit
       list_rows (suc k) found (p ∷ ps) fit =
           let go : Node × List Piece → Answer (List Node) = λ x. row (list_on column) (λ _. item inner) k (found ++ x.0 ∷ []) x.1 in
@@ -160,14 +164,14 @@ module _ (at : ℕ) where
     data MapTurn (column : ℕ) (p : Piece) (ps : List Piece) (t : Result Bool Fault) : Type 0 where
       goes : (k : List ℕ) → t ≡ Ok true → p.column ≡ column → p.what ≡ Key k → MapTurn column p ps t
       over : t ≡ Ok false → i.IsLeft column (p ∷ ps) → MapTurn column p ps t
-      wrong : {f : Fault} → t ≡ Err f → (IsTreeCode f.code → ⊥) → MapTurn column p ps t
+      wrong : {f : Fault} → t ≡ Err f → (IsRule f.code → ⊥) → MapTurn column p ps t
 
-    no_tree_code : (b : Bool) → IsTreeCode (cond b LeftOut Structure) → ⊥
-    no_tree_code true c = cc
-    no_tree_code false c = cc
+    no_tree_code : (b : Bool) → IsRule (cond b LeftOut Structure) → ⊥
+    no_tree_code true c = omega (arith, c)
+    no_tree_code false c = omega (arith, c)
 
     map_there : (column : ℕ) (p : Piece) (ps : List Piece) → p.column ≡ column → (w : What) → p.what ≡ w → MapTurn column p ps (key_on p.line w)
-    map_there column p ps e Dash is = wrong refl (λ c. cc)
+    map_there column p ps e Dash is = wrong refl (λ c. omega (arith, c))
     map_there column p ps e (Key k) is = goes k refl e is
     map_there column p ps e (Leaf x height out) is = wrong refl (no_tree_code out)
 
@@ -175,7 +179,7 @@ module _ (at : ℕ) where
     map_turn column p ps =
         elim (place_of column p (key_on p.line p.what)) [
           | is_left lt e ↦ over e (i.lower lt)
-          | is_right lt e ↦ wrong e (λ c. cc)
+          | is_right lt e ↦ wrong e (λ c. omega (arith, c))
           | is_there eq e ↦ subst (MapTurn column p ps) (sym e) (map_there column p ps eq p.what refl)
         ]
 
@@ -247,7 +251,7 @@ module _ (at : ℕ) where
 
       map_rows : (k : ℕ) (found : List Pair) (ps : List Piece) → Fit ps → Keys found ps (row (map_on column) (pair inner) k found ps)
       unfolding row pair
-      map_rows zero found ps fit = λ e c. absurd cc
+      map_rows zero found ps fit = λ e c. absurd (omega (arith, c))
       map_rows (suc k) found [] fit = row_end (λ (qs : List Piece) (xs : List Pair) (rest : List Piece). n.IsPairs column qs xs rest) (mapped m) (suc depth) found [] (n.no_pair i.no_piece) fit
       map_rows (suc k) found (p ∷ ps) fit =
           let go : Pair × List Piece → Answer (List Pair) = λ x. row (map_on column) (pair inner) k (found ++ x.0 ∷ []) x.1 in
@@ -304,12 +308,12 @@ module _ (at : ℕ) where
     node_here line floor p ps le fit (Leaf x height out) is =
         let s : IsSized p.line (Leaf x height out) = subst (IsSized p.line) is fit.1 in
         let e : p ≡ leaf_piece p.line p.column x height out = piece_is p p.column (Leaf x height out) refl is in
-        let whole : n.IsNode line floor (p ∷ ps) x ps = subst (λ (q : Piece). n.IsNode line floor (q ∷ ps) x ps) (sym e) (n.one_leaf le s.0) in
+        let whole : n.IsNode line floor (p ∷ ps) x ps = subst (λ (q : Piece). n.IsNode line floor (q ∷ ps) x ps) (sym e) (n.one_leaf le) in
         subst (λ (w : What). Gives (suc depth) line floor (p ∷ ps) (leaf_of (suc depth) p.line w ps)) (sym is)
         (elim (tested (nat_lt (suc depth) height)) [
           | inl h ↦ rw h (λ same code.
               (let none : ps ≡ [] = none_next p ps x height out is (fit.0 same) in
-              (x, subst (λ (rest : List Piece). n.IsNode line floor (p ∷ ps) x rest) none whole, subst (λ (l : ℕ). n.IsWithin l (suc depth) x) same (s.2 (suc depth) (ltb-true (suc depth) height h)))))
+              (x, subst (λ (rest : List Piece). n.IsNode line floor (p ∷ ps) x rest) none whole, subst (λ (l : ℕ). n.IsWithin l (suc depth) x) same (s.1 (suc depth) (ltb-true (suc depth) height h)))))
           | inr h ↦ rw h (whole, fit.2)
         ])
 
@@ -342,15 +346,15 @@ module _ (at : ℕ) where
   unfolding Reads
   node_is depth = node_reads depth
 
-  ended_code : (root : Node) (ps : List Piece) (f : Fault) → ended root (front ps) ps ≡ Err f → IsTreeCode f.code → ⊥
+  ended_code : (root : Node) (ps : List Piece) (f : Fault) → ended root (front ps) ps ≡ Err f → IsRule f.code → ⊥
   ended_code root [] f e c = cc
   ended_code root (p ∷ ps) f e c =
       let q : record { line = p.line; code = Structure } ≡ f = cc in
-      let c' : IsTreeCode Structure = subst (λ (z : Fault). IsTreeCode z.code) (sym q) c in
-      absurd (let z : false ≡ true = c' in cc)
+      let c' : IsRule Structure = subst (λ (z : Fault). IsRule z.code) (sym q) c in
+      omega (arith, c')
 
   -- a repeated key or the depth of a node on this line is the fault of the whole
-  pub document_shows : (ps : List Piece) (f : Fault) → Fit ps → document ps ≡ Err f → f.line ≡ at → IsTreeCode f.code → (root : Node) × n.IsNotation ps root × Shows at f.code 64 root
+  pub document_shows : (ps : List Piece) (f : Fault) → Fit ps → document ps ≡ Err f → f.line ≡ at → IsRule f.code → (root : Node) × n.IsNotation ps root × Shows at f.code 64 root
   unfolding document
   document_shows ps f fit e same code = by (node 64 1 0 ps) (node_is 64 1 0 ps (λ _. from_first ps) fit) e
     where
@@ -364,3 +368,20 @@ module _ (at : ℕ) where
           let q : d ≡ f = cc in
           let g' : Fails (λ x. n.IsNode 1 0 ps x []) 64 f = subst (λ (z : Fault). Fails (λ x. n.IsNode 1 0 ps x []) 64 z) q g in
           g' same code
+
+  -- where it has no fault, or such a one on this line, it is in the notation
+  pub document_has : (ps : List Piece) → Fit ps → ((f : Fault) → document ps ≡ Err f → (f.line ≡ at) × IsRule f.code) → (root : Node) × n.IsNotation ps root
+  unfolding document
+  document_has ps fit only = by (node 64 1 0 ps) (node_is 64 1 0 ps (λ _. from_first ps) fit) only
+    where
+      from_first : (qs : List Piece) → IsFrom 0 qs
+      from_first [] = tt
+      from_first (p ∷ qs) = omega arith
+
+      at_end : (x : Node) (rest : List Piece) → n.IsNode 1 0 ps x rest → ((f : Fault) → ended x (front rest) rest ≡ Err f → (f.line ≡ at) × IsRule f.code) → (root : Node) × n.IsNotation ps root
+      at_end x [] h only = (x, h)
+      at_end x (p ∷ rest) h only = absurd (let c = (only (record { line = p.line; code = Structure }) refl).1 in omega (arith, c))
+
+      by : (r : Answer Node) → Gives 64 1 0 ps r → ((f : Fault) → (r >>= λ root. ended root.0 (front root.1) root.1) ≡ Err f → (f.line ≡ at) × IsRule f.code) → (root : Node) × n.IsNotation ps root
+      by (Ok x) g only = at_end x.0 x.1 g.0 only
+      by (Err d) g only = let c = only d refl in let h = g c.0 c.1 in (h.0, h.1)

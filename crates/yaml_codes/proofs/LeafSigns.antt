@@ -1,12 +1,11 @@
 -- Scalars and flow that are refused with C3 begin with a sign of what is left out.
-use Rattle.std.proofs.Common.{◌≡◌, ℕ, ◌≤◌, ◌<◌, ◌⊎◌, inl, inr, ◌+◌, ◌-◌, Bool, true, false, cond, ◌||◌, ◌&&◌, List, [], ◌∷◌, ◌++◌, drop, Option, Some, None, Result, Ok, Err, refl, sym, ap, subst, ◌∙◌, arith}
+use Rattle.std.proofs.Common.{◌≡◌, ℕ, ◌⊎◌, inl, inr, ◌+◌, ◌-◌, Bool, true, false, cond, ◌||◌, ◌&&◌, List, [], ◌∷◌, ◌++◌, drop, Option, Some, None, Result, Ok, Err, refl, sym, ap, subst, ◌∙◌, arith}
 use Rattle.std.specs.Prelude.{◌==◌, not, nat_lt}
 use Rattle.std.proofs.lemmas.Bool.{eqb-true}
 use Rattle.yaml_scan.specs.declared.line.RawLine.{RawLine}
 use Rattle.yaml_scan.specs.declared.fault.Fault.{Fault}
 use Rattle.yaml_scan.specs.declared.fault.Code.{Code}
 use Rattle.yaml_scan.specs.declared.fault.Code.TheVariants.{Structure, LeftOut, RepeatedKey}
-use Rattle.yaml_scan.specs.Codes.{number_of}
 use Rattle.yaml_scan.specs.Answers.{Reading}
 use Rattle.yaml_scan.specs.Words.{sees, is_empty, nothing_left, times, folded, has_colon, has_comment, only_blanks, without_blanks}
 use Rattle.yaml_scan.specs.Plain.{text_of, further, plain}
@@ -17,11 +16,12 @@ use Rattle.yaml_tree.specs.declared.starts.Start.{Start}
 use Rattle.yaml_tree.specs.declared.starts.Start.TheVariants as starts
 use Rattle.yaml_tree.specs.Blocks.{IsHead, clipped, stripped}
 use Rattle.yaml_tree.specs.Flow.{Ended, flow}
-use Rattle.yaml_tree.specs.Leaves.{Leafs, scalar, flow_by, leaf_by, colon_behind}
+use Rattle.yaml_tree.specs.Leaves.{scalar, flow_by, leaf_by, colon_behind}
 use Rattle.yaml_tree.specs.Starts.{start, left_out, no_plain}
 use Rattle.yaml_tree.proofs.LinesFound.{and_true}
-use Rattle.yaml_codes.specs.Signs.{IsSign, sign, head, flow_key, in_flow, RepeatsInFlow, again, IsHighFlow, high}
-use Rattle.yaml_codes.proofs.FlowSigns.{flow_left, flow_codes}
+use Rattle.yaml_codes.specs.Signs.{IsSign, sign, head, flow_key, in_flow}
+use Rattle.yaml_codes.proofs.Layouts.{IsRule}
+use Rattle.yaml_codes.proofs.FlowSigns.{flow_left}
 
 -- a fault has this
 abbrev pub Fails : {A F : Type 0} → (F → Type 0) → Result A F → Type 0
@@ -34,7 +34,7 @@ either P false r s p q = q refl
 
 -- ---- scalars
 
-abbrev IsStructure : Fault → Type 0
+abbrev pub IsStructure : Fault → Type 0
 IsStructure f = f.code ≡ Structure
 
 further_fails : (floor : ℕ) (ls : List RawLine) (text : List ℕ) (blanks : ℕ) → Fails IsStructure (further floor text blanks ls)
@@ -46,7 +46,7 @@ further_fails floor (l ∷ ls) text blanks =
     (λ e. either IsStructure (has_colon l.content) _ _ (λ e. refl)
     (λ e. either IsStructure (has_comment l.content) _ _ (λ e. tt) (λ e. further_fails floor ls (text ++ folded blanks ++ text_of l.content) 0))))
 
-plain_fails : (floor n : ℕ) (bytes : List ℕ) (ls : List RawLine) → Fails IsStructure (plain floor n bytes ls)
+pub plain_fails : (floor n : ℕ) (bytes : List ℕ) (ls : List RawLine) → Fails IsStructure (plain floor n bytes ls)
 unfolding plain
 plain_fails floor n bytes ls =
     either IsStructure (has_colon bytes) _ _ (λ e. refl) (λ e. either IsStructure (has_comment bytes) _ _ (λ e. tt) (λ e. further_fails floor ls (text_of bytes) 0))
@@ -67,14 +67,14 @@ quoted_further_fails floor first (l ∷ ls) blanks s =
     either IsStructure (only_blanks l.content) _ _ (λ e. quoted_further_fails floor first ls (blanks + 1) s)
     (λ e. either IsStructure (nat_lt l.indent floor) _ _ (λ e. refl) (λ e. led_fails r.0 r.1 ls (quoted_further floor first 0 r.0 ls) (quoted_further_fails floor first ls 0 r.0)))
 
-quoted_fails : (floor n quote : ℕ) (bytes : List ℕ) (ls : List RawLine) → Fails IsStructure (quoted floor n quote bytes ls)
+pub quoted_fails : (floor n quote : ℕ) (bytes : List ℕ) (ls : List RawLine) → Fails IsStructure (quoted floor n quote bytes ls)
 unfolding quoted
 quoted_fails floor n quote bytes ls =
     let r : State × Option (List ℕ) = run (opened quote n) bytes in
     led_fails r.0 r.1 ls (quoted_further floor n 0 r.0 ls) (quoted_further_fails floor n ls 0 r.0)
 
 -- the line n has more behind `|` or `>` than may stand there
-abbrev IsWrongHead : ℕ → List ℕ → Fault → Type 0
+abbrev pub IsWrongHead : ℕ → List ℕ → Fault → Type 0
 IsWrongHead n bytes f = (f.line ≡ n) × (f.code ≡ LeftOut) × ((strip : Bool) → IsHead bytes strip → ⊥)
 
 -- a dash is no blank and no comment
@@ -108,7 +108,7 @@ module _ (n : ℕ) (bytes : List ℕ) where
       either (IsWrongHead n bytes) (is_empty l.content) _ _ (λ e. opening_fails fold strip floor ls (k + 1))
       (λ e. either (IsWrongHead n bytes) (nat_lt l.indent floor) _ _ (λ e. tt) (λ e. body_fails strip l.indent (l ∷ ls) (begun fold k)))
 
-  block_fails : (floor : ℕ) (fold : Bool) (ls : List RawLine) → Fails (IsWrongHead n bytes) (block floor n fold bytes ls)
+  pub block_fails : (floor : ℕ) (fold : Bool) (ls : List RawLine) → Fails (IsWrongHead n bytes) (block floor n fold bytes ls)
   unfolding block
   block_fails floor fold ls =
       either (IsWrongHead n bytes) (sees 45 bytes) _ _
@@ -120,11 +120,6 @@ module _ (n : ℕ) (bytes : List ℕ) where
 -- With such a code it is told on the line n, for a reason; and with C3 where a thing is marked that is left out.
 abbrev pub IsTold : ℕ → (Code → Type 0) → Type 0 → Wrong → Type 0
 IsTold n W Reason w = (W w.fault.code → (w.fault.line ≡ n) × Reason) × (w.left_out ≡ true → w.fault ≡ record { line = n; code = LeftOut })
-
--- more than 64 nodes stand in one another for this cause
-abbrev pub IfTooHigh : Type 0 → Leafs → Type 0
-IfTooHigh Cause (Ok x) = 64 < x.0.1 → Cause
-IfTooHigh Cause (Err w) = Unit {0}
 
 scalar_fails : (n : ℕ) (W : Code → Type 0) (Reason : Type 0) (is_plain : Bool) (r : Reading (List ℕ)) → Fails (λ (f : Fault). W f.code → (f.line ≡ n) × Reason) r → Fails (IsTold n W Reason) (scalar n is_plain r)
 scalar_fails n W Reason is_plain (Ok x) h = tt
@@ -179,10 +174,7 @@ leaf_fails starts.Refused floor key n b bytes ls s = ((λ c. absurd (structure_i
 leaf_fails starts.Plain floor key n b bytes ls s =
     scalar_fails n IsOut (IsSign n key (b ∷ bytes)) true (plain floor n (b ∷ bytes) ls) (with_other n IsOut (IsSign n key (b ∷ bytes)) structure_in (plain floor n (b ∷ bytes) ls) (plain_fails floor n (b ∷ bytes) ls))
 
--- ---- C4 in flow
-
-abbrev pub IsRule : Code → Type 0
-IsRule c = 4 ≤ number_of c
+-- ---- codes of rules
 
 pub structure_no_rule : IsRule Structure → ⊥
 structure_no_rule le = omega (arith, le)
@@ -190,56 +182,6 @@ structure_no_rule le = omega (arith, le)
 pub left_out_no_rule : IsRule LeftOut → ⊥
 left_out_no_rule le = omega (arith, le)
 
-no_rule : (c : Code) → (c ≡ Structure) ⊎ (c ≡ LeftOut) → IsRule c → ⊥
+pub no_rule : (c : Code) → (c ≡ Structure) ⊎ (c ≡ LeftOut) → IsRule c → ⊥
 no_rule c (inl e) h = structure_no_rule (subst IsRule e h)
 no_rule c (inr e) h = left_out_no_rule (subst IsRule e h)
-
-without_rule : (n : ℕ) (bytes : List ℕ) (Reason : Type 0) (r : Reading (List ℕ)) → Fails (IsWrongHead n bytes) r → Fails (λ (f : Fault). IsRule f.code → (f.line ≡ n) × Reason) r
-without_rule n bytes Reason (Ok x) h = tt
-without_rule n bytes Reason (Err f) h = λ e. absurd (left_out_no_rule (subst IsRule h.1 e))
-
-flow_repeats : (n : ℕ) (key : Bool) (b : ℕ) (bytes : List ℕ) (r : Result Ended Code) (ls : List RawLine) → start b bytes ≡ starts.InBrackets → flow n (b == 123) bytes ≡ r
-    → Fails (IsTold n IsRule (RepeatsInFlow n key (b ∷ bytes))) (flow_by key n r ls)
-flow_repeats n key b bytes (Err code) ls s is = ((λ e. absurd (no_rule code (flow_codes n (b == 123) bytes code is) e)), λ e. absurd cc)
-flow_repeats n key b bytes (Ok f) ls s is =
-    either (IsTold n IsRule (RepeatsInFlow n key (b ∷ bytes))) (key && colon_behind (without_blanks f.rest)) _ _ (λ e. ((λ c. absurd (left_out_no_rule c)), λ o. refl))
-    (λ e. either (IsTold n IsRule (RepeatsInFlow n key (b ∷ bytes))) (not (nothing_left false f.rest)) _ _ (λ e. ((λ c. absurd (structure_no_rule c)), λ o. absurd cc))
-    (λ e. either (IsTold n IsRule (RepeatsInFlow n key (b ∷ bytes))) f.repeated _ _ (λ e. ((λ c. (refl, again s is e)), λ o. absurd cc)) (λ e. tt)))
-
-pub leaf_repeats : (t : Start) (floor : ℕ) (key : Bool) (n b : ℕ) (bytes : List ℕ) (ls : List RawLine) → start b bytes ≡ t → Fails (IsTold n IsRule (RepeatsInFlow n key (b ∷ bytes))) (leaf_by t floor key n b bytes ls)
-leaf_repeats starts.InQuotes floor key n b bytes ls s =
-    scalar_fails n IsRule (RepeatsInFlow n key (b ∷ bytes)) false (quoted floor n b bytes ls)
-    (with_other n IsRule (RepeatsInFlow n key (b ∷ bytes)) structure_no_rule (quoted floor n b bytes ls) (quoted_fails floor n b bytes ls))
-leaf_repeats starts.InBrackets floor key n b bytes ls s = flow_repeats n key b bytes (flow n (b == 123) bytes) ls s refl
-leaf_repeats starts.InLines floor key n b bytes ls s =
-    scalar_fails n IsRule (RepeatsInFlow n key (b ∷ bytes)) false (block floor n (b == 62) bytes ls)
-    (without_rule n bytes (RepeatsInFlow n key (b ∷ bytes)) (block floor n (b == 62) bytes ls) (block_fails n bytes floor (b == 62) ls))
-leaf_repeats starts.LeftOut floor key n b bytes ls s = ((λ c. absurd (left_out_no_rule c)), λ o. refl)
-leaf_repeats starts.Refused floor key n b bytes ls s = ((λ c. absurd (structure_no_rule c)), λ o. absurd cc)
-leaf_repeats starts.Plain floor key n b bytes ls s =
-    scalar_fails n IsRule (RepeatsInFlow n key (b ∷ bytes)) true (plain floor n (b ∷ bytes) ls)
-    (with_other n IsRule (RepeatsInFlow n key (b ∷ bytes)) structure_no_rule (plain floor n (b ∷ bytes) ls) (plain_fails floor n (b ∷ bytes) ls))
-
--- ---- the height of leaves
-
-scalar_high : (n : ℕ) (Cause : Type 0) (is_plain : Bool) (r : Reading (List ℕ)) → IfTooHigh Cause (scalar n is_plain r)
-scalar_high n Cause is_plain (Ok x) = λ lt. absurd (omega (arith, lt))
-scalar_high n Cause is_plain (Err f) = tt
-
-high_either : (Cause : Type 0) (b : Bool) (r s : Leafs) → IfTooHigh Cause r → IfTooHigh Cause s → IfTooHigh Cause (cond b r s)
-high_either Cause true r s p q = p
-high_either Cause false r s p q = q
-
-flow_high : (n : ℕ) (key : Bool) (b : ℕ) (bytes : List ℕ) (r : Result Ended Code) (ls : List RawLine) → start b bytes ≡ starts.InBrackets → flow n (b == 123) bytes ≡ r → IfTooHigh (IsHighFlow n key (b ∷ bytes)) (flow_by key n r ls)
-flow_high n key b bytes (Err code) ls s is = tt
-flow_high n key b bytes (Ok f) ls s is =
-    high_either (IsHighFlow n key (b ∷ bytes)) (key && colon_behind (without_blanks f.rest)) _ _ tt
-    (high_either (IsHighFlow n key (b ∷ bytes)) (not (nothing_left false f.rest)) _ _ tt (high_either (IsHighFlow n key (b ∷ bytes)) f.repeated _ _ tt (λ lt. high s is lt)))
-
-pub leaf_high : (t : Start) (floor : ℕ) (key : Bool) (n b : ℕ) (bytes : List ℕ) (ls : List RawLine) → start b bytes ≡ t → IfTooHigh (IsHighFlow n key (b ∷ bytes)) (leaf_by t floor key n b bytes ls)
-leaf_high starts.InQuotes floor key n b bytes ls s = scalar_high n (IsHighFlow n key (b ∷ bytes)) false (quoted floor n b bytes ls)
-leaf_high starts.InBrackets floor key n b bytes ls s = flow_high n key b bytes (flow n (b == 123) bytes) ls s refl
-leaf_high starts.InLines floor key n b bytes ls s = scalar_high n (IsHighFlow n key (b ∷ bytes)) false (block floor n (b == 62) bytes ls)
-leaf_high starts.LeftOut floor key n b bytes ls s = tt
-leaf_high starts.Refused floor key n b bytes ls s = tt
-leaf_high starts.Plain floor key n b bytes ls s = scalar_high n (IsHighFlow n key (b ∷ bytes)) true (plain floor n (b ∷ bytes) ls)

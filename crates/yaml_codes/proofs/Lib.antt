@@ -2,6 +2,7 @@ pub mod Chains
 pub mod Layouts
 pub mod Spelled
 pub mod Allowed
+pub mod Lows
 pub mod Codes
 pub mod Grammar
 mod FlowSigns
@@ -9,4 +10,10 @@ mod LeafSigns
 mod PieceSigns
 mod LayoutSigns
 mod Signs
-mod InLine
+mod LooseSteps
+mod LooseSpots
+mod LooseRead
+mod LooseHeads
+mod LooseLines
+mod KeysAgain
+mod Rules

@@ -1,5 +1,5 @@
 -- Lines whose pieces are refused with C3 have a sign of what is left out; and a piece that is marked as left out is refused so.
-use Rattle.std.proofs.Common.{◌≡◌, ℕ, zero, suc, ◌+◌, ◌-◌, ◌<◌, Bool, true, false, cond, ◌&&◌, inl, inr, List, [], ◌∷◌, ◌++◌, length, drop, take, Option, Some, None, Ok, Err, refl, sym, ap, subst, ◌∙◌, append_assoc, arith}
+use Rattle.std.proofs.Common.{◌≡◌, ℕ, zero, suc, ◌+◌, ◌-◌, Bool, true, false, cond, ◌&&◌, inl, inr, List, [], ◌∷◌, ◌++◌, length, drop, take, Option, Some, None, Ok, Err, refl, sym, ap, subst, ◌∙◌, append_assoc}
 use Rattle.std.specs.Prelude.{◌==◌, not}
 use Rattle.yaml_scan.specs.declared.line.RawLine.{RawLine}
 use Rattle.yaml_scan.specs.declared.fault.Fault.{Fault}
@@ -22,7 +22,7 @@ use Rattle.yaml_tree.proofs.PiecesFound.{at_found}
 use Rattle.yaml_laws.proofs.Orders.{tested}
 use Rattle.yaml_laws.proofs.WalkedPieces.{Adds, adds_line}
 use Rattle.yaml_codes.specs.Signs.{Begins, here, blank, dash as behind_dash, value}
-use Rattle.yaml_codes.proofs.LeafSigns.{Fails, IsTold, IfTooHigh}
+use Rattle.yaml_codes.proofs.LeafSigns.{Fails, IsTold}
 
 -- ---- pieces that are marked as left out
 
@@ -59,27 +59,12 @@ one_more P (q ∷ qs) p h i = (h.0, one_more P qs p h.1 i)
 never : (P : ℕ → Type 0) (n : ℕ) → Nowhere n → P n
 never P n h = absurd h
 
--- a leaf with more than 64 nodes in one another stands on such a line
-abbrev pub IfHigh : (ℕ → Type 0) → ℕ → What → Type 0
-IfHigh P n Dash = Unit {0}
-IfHigh P n (Key k) = Unit {0}
-IfHigh P n (Leaf x height out) = 64 < height → P n
-
-abbrev pub AllHigh : (ℕ → Type 0) → List Piece → Type 0
-AllHigh P [] = Unit {0}
-AllHigh P (p ∷ ps) = IfHigh P p.line p.what × AllHigh P ps
-
-high_more : (P : ℕ → Type 0) (ps : List Piece) (p : Piece) → AllHigh P ps → IfHigh P p.line p.what → AllHigh P (ps ++ p ∷ [])
-high_more P [] p h i = (i, tt)
-high_more P (q ∷ qs) p h i = (h.0, high_more P qs p h.1 i)
-
 -- ---- what is told
 
--- A fault with such a code has a reason, what is marked has a fault with C3, and what is too high has a cause.
-pub record Says (W : Code → Type 0) (Reason : Fault → Type 0) (Cause : ℕ → Type 0) (r : Found) : Type 0 where
+-- A fault with such a code has a reason, and what is marked has a fault with C3.
+pub record Says (W : Code → Type 0) (Reason : Fault → Type 0) (r : Found) : Type 0 where
   pub reason : (f : Fault) → r.fault ≡ Some f → W f.code → Reason f
   pub marked : AllOut (Marked r.fault) r.pieces
-  pub high : AllHigh Cause r.pieces
 
 -- the line with this number, among these lines, and where on it a node begins that has this
 pub record Shown (X : ℕ → Bool → List ℕ → Type 0) (all : List RawLine) (n : ℕ) : Type 0 where
@@ -119,132 +104,127 @@ behind_blanks (b ∷ bytes) key rest g = elim (tested (is_blank b)) [
   | inr e ↦ rw e at g
 ]
 
--- What scalars, flow and the key `<<` give for such codes (W): a reason (T) where they are refused, a cause (H) where flow is too high.
-module _ (W : Code → Type 0) (T H : ℕ → Bool → List ℕ → Type 0) (other : W Structure → ⊥)
+-- What scalars, flow and the key `<<` give for such codes (W) where they are refused: a reason (T).
+module _ (W : Code → Type 0) (T : ℕ → Bool → List ℕ → Type 0) (other : W Structure → ⊥)
     (tells : (t : Start) (floor : ℕ) (key : Bool) (n b : ℕ) (bytes : List ℕ) (ls : List RawLine) → start b bytes ≡ t → Fails (IsTold n W (T n key (b ∷ bytes))) (leaf_by t floor key n b bytes ls))
-    (tops : (t : Start) (floor : ℕ) (key : Bool) (n b : ℕ) (bytes : List ℕ) (ls : List RawLine) → start b bytes ≡ t → IfTooHigh (H n key (b ∷ bytes)) (leaf_by t floor key n b bytes ls))
     (merges : (n column behind : ℕ) (bytes k after : List ℕ) → W LeftOut → IsKeyText column bytes k behind after → is_merge k ≡ true → T n true bytes) where
-  module _ {Reason : Fault → Type 0} {Cause : ℕ → Type 0} where
-    either : (b : Bool) (r s : Found) → (b ≡ true → Says W Reason Cause r) → (b ≡ false → Says W Reason Cause s) → Says W Reason Cause (cond b r s)
+  module _ {Reason : Fault → Type 0} where
+    either : (b : Bool) (r s : Found) → (b ≡ true → Says W Reason r) → (b ≡ false → Says W Reason s) → Says W Reason (cond b r s)
     either true r s p q = p refl
     either false r s p q = q refl
 
-    says_found : (ps : List Piece) (ls : List RawLine) → AllOut Nowhere ps → AllHigh Cause ps → Says W Reason Cause (found ps ls)
-    says_found ps ls h g = record { reason = λ f e c. absurd cc; marked = weaker Nowhere (Marked None) (never (Marked None)) ps h; high = g }
+    says_found : (ps : List Piece) (ls : List RawLine) → AllOut Nowhere ps → Says W Reason (found ps ls)
+    says_found ps ls h = record { reason = λ f e c. absurd cc; marked = weaker Nowhere (Marked None) (never (Marked None)) ps h }
 
-    leaf_says : (n : ℕ) (U V : Type 0) → ((f : Fault) → f.line ≡ n → U → Reason f) → (V → Cause n) → (ps : List Piece) (column : ℕ) (r : Leafs) (ls : List RawLine) → AllOut Nowhere ps → AllHigh Cause ps
-        → Fails (IsTold n W U) r → IfTooHigh V r → Says W Reason Cause (leaf_found ps n column r ls)
-    leaf_says n U V go rise ps column (Ok x) ls h g told high =
-        says_found (ps ++ leaf n column x.0.0 x.0.1 false ∷ []) x.1 (one_more Nowhere ps (leaf n column x.0.0 x.0.1 false) h (λ e. absurd cc)) (high_more Cause ps (leaf n column x.0.0 x.0.1 false) g (λ lt. rise (high lt)))
-    leaf_says n U V go rise ps column (Err w) ls h g told high =
+    leaf_says : (n : ℕ) (U : Type 0) → ((f : Fault) → f.line ≡ n → U → Reason f) → (ps : List Piece) (column : ℕ) (r : Leafs) (ls : List RawLine) → AllOut Nowhere ps
+        → Fails (IsTold n W U) r → Says W Reason (leaf_found ps n column r ls)
+    leaf_says n U go ps column (Ok x) ls h told =
+        says_found (ps ++ leaf n column x.0.0 x.0.1 false ∷ []) x.1 (one_more Nowhere ps (leaf n column x.0.0 x.0.1 false) h (λ e. absurd cc))
+    leaf_says n U go ps column (Err w) ls h told =
         record {
           reason = λ f e c.
               (let same : w.fault ≡ f = cc in
               let r = told.0 (subst (λ (z : Fault). W z.code) (sym same) c) in
               go f (ap (λ (z : Fault). z.line) (sym same) ∙ r.0) r.1);
           marked = one_more (Marked (Some w.fault)) ps _ (weaker Nowhere (Marked (Some w.fault)) (never (Marked (Some w.fault))) ps h) (λ e. ap (λ (z : Fault). Some z) (told.1 e));
-          high = high_more Cause ps _ g (λ lt. absurd (omega (arith, lt)));
         }
 
   -- ---- a line
 
-  module _ (n : ℕ) (content : List ℕ) (Reason : Fault → Type 0) (Cause : ℕ → Type 0)
-      (reasons : (key : Bool) (rest : List ℕ) → Begins key content rest → (f : Fault) → f.line ≡ n → T n key rest → Reason f)
-      (causes : (key : Bool) (rest : List ℕ) → Begins key content rest → H n key rest → Cause n) where
-    leaf_at_says : (key : Bool) (ps : List Piece) (column : ℕ) (bytes : List ℕ) (ls : List RawLine) → AllOut Nowhere ps → AllHigh Cause ps → ((b : ℕ) (rest : List ℕ) → bytes ≡ b ∷ rest → Begins key content (b ∷ rest))
-        → Says W Reason Cause (leaf_at ps n key column bytes ls)
-    leaf_at_says key ps column [] ls h g begins = says_found ps ls h g
-    leaf_at_says key ps column (b ∷ rest) ls h g begins =
-        leaf_says n (T n key (b ∷ rest)) (H n key (b ∷ rest)) (reasons key (b ∷ rest) (begins b rest refl)) (causes key (b ∷ rest) (begins b rest refl)) ps column (leaf_by (start b rest) (floor ps) key n b rest ls) ls h g
-        (tells (start b rest) (floor ps) key n b rest ls refl) (tops (start b rest) (floor ps) key n b rest ls refl)
+  module _ (n : ℕ) (content : List ℕ) (Reason : Fault → Type 0)
+      (reasons : (key : Bool) (rest : List ℕ) → Begins key content rest → (f : Fault) → f.line ≡ n → T n key rest → Reason f) where
+    leaf_at_says : (key : Bool) (ps : List Piece) (column : ℕ) (bytes : List ℕ) (ls : List RawLine) → AllOut Nowhere ps → ((b : ℕ) (rest : List ℕ) → bytes ≡ b ∷ rest → Begins key content (b ∷ rest))
+        → Says W Reason (leaf_at ps n key column bytes ls)
+    leaf_at_says key ps column [] ls h begins = says_found ps ls h
+    leaf_at_says key ps column (b ∷ rest) ls h begins =
+        leaf_says n (T n key (b ∷ rest)) (reasons key (b ∷ rest) (begins b rest refl)) ps column (leaf_by (start b rest) (floor ps) key n b rest ls) ls h
+        (tells (start b rest) (floor ps) key n b rest ls refl)
 
-    spoiled_says : (ps : List Piece) (column : ℕ) (ls : List RawLine) → AllOut Nowhere ps → AllHigh Cause ps
-        → Says W Reason Cause (leaf_found ps n column (Err (record { fault = record { line = n; code = Structure }; left_out = false })) ls)
-    spoiled_says ps column ls h g =
-        leaf_says n ⊥ ⊥ (λ f is s. absurd s) (λ s. absurd s) ps column (Err (record { fault = record { line = n; code = Structure }; left_out = false })) ls h g ((λ c. absurd (other c)), λ o. absurd cc) tt
+    spoiled_says : (ps : List Piece) (column : ℕ) (ls : List RawLine) → AllOut Nowhere ps
+        → Says W Reason (leaf_found ps n column (Err (record { fault = record { line = n; code = Structure }; left_out = false })) ls)
+    spoiled_says ps column ls h =
+        leaf_says n ⊥ (λ f is s. absurd s) ps column (Err (record { fault = record { line = n; code = Structure }; left_out = false })) ls h ((λ c. absurd (other c)), λ o. absurd cc)
 
-    value_says : (ps : List Piece) (column : ℕ) (bytes : List ℕ) (ls : List RawLine) → AllOut Nowhere ps → AllHigh Cause ps → ((b : ℕ) (rest : List ℕ) → without_blanks bytes ≡ b ∷ rest → Begins false content (b ∷ rest))
-        → Says W Reason Cause (value_at ps n column bytes ls)
-    value_says ps column bytes ls h g begins =
-        either (nothing_left false bytes) _ _ (λ e. says_found ps ls h g) (λ e. leaf_at_says false ps (column + (length bytes - length (without_blanks bytes))) (without_blanks bytes) ls h g begins)
+    value_says : (ps : List Piece) (column : ℕ) (bytes : List ℕ) (ls : List RawLine) → AllOut Nowhere ps → ((b : ℕ) (rest : List ℕ) → without_blanks bytes ≡ b ∷ rest → Begins false content (b ∷ rest))
+        → Says W Reason (value_at ps n column bytes ls)
+    value_says ps column bytes ls h begins =
+        either (nothing_left false bytes) _ _ (λ e. says_found ps ls h) (λ e. leaf_at_says false ps (column + (length bytes - length (without_blanks bytes))) (without_blanks bytes) ls h begins)
 
     -- what stands where a node begins
     module _ (b : ℕ) (rest : List ℕ) (wrap : (key : Bool) (r : List ℕ) → Begins key (b ∷ rest) r → Begins key content r) (begins : Begins true (b ∷ rest) (b ∷ rest)) where
-      keyed_says : (ps : List Piece) (column : ℕ) (text : List ℕ) (behind : ℕ) (after : List ℕ) (ls : List RawLine) → AllOut Nowhere ps → AllHigh Cause ps → (is_empty text ≡ false → IsKey column (b ∷ rest) text behind after)
-          → Says W Reason Cause (keyed ps n column text behind after ls)
-      keyed_says ps column text behind after ls h g is =
-          either (is_empty text) _ _ (λ e. spoiled_says ps column ls h g)
-          (λ e. value_says (ps ++ key_piece n column text ∷ []) behind after ls (one_more Nowhere ps (key_piece n column text) h tt) (high_more Cause ps (key_piece n column text) g tt)
+      keyed_says : (ps : List Piece) (column : ℕ) (text : List ℕ) (behind : ℕ) (after : List ℕ) (ls : List RawLine) → AllOut Nowhere ps → (is_empty text ≡ false → IsKey column (b ∷ rest) text behind after)
+          → Says W Reason (keyed ps n column text behind after ls)
+      keyed_says ps column text behind after ls h is =
+          either (is_empty text) _ _ (λ e. spoiled_says ps column ls h)
+          (λ e. value_says (ps ++ key_piece n column text ∷ []) behind after ls (one_more Nowhere ps (key_piece n column text) h tt)
           (λ c r i. wrap false (c ∷ r) (value (is e) (at_found after behind c r i))))
 
       node_begins : (c : ℕ) (r : List ℕ) → b ∷ rest ≡ c ∷ r → Begins true content (c ∷ r)
       node_begins c r e = subst (Begins true content) e (wrap true (b ∷ rest) begins)
 
-      plain_says : (ps : List Piece) (column : ℕ) (o : Option ℕ) (ls : List RawLine) → AllOut Nowhere ps → AllHigh Cause ps → start b rest ≡ starts.Plain → colon_at false 0 (b ∷ rest) ≡ o
-          → Says W Reason Cause (plain_key ps n column (b ∷ rest) o ls)
-      plain_says ps column None ls h g s c = leaf_at_says true ps column (b ∷ rest) ls h g node_begins
-      plain_says ps column (Some at) ls h g s c =
+      plain_says : (ps : List Piece) (column : ℕ) (o : Option ℕ) (ls : List RawLine) → AllOut Nowhere ps → start b rest ≡ starts.Plain → colon_at false 0 (b ∷ rest) ≡ o
+          → Says W Reason (plain_key ps n column (b ∷ rest) o ls)
+      plain_says ps column None ls h s c = leaf_at_says true ps column (b ∷ rest) ls h node_begins
+      plain_says ps column (Some at) ls h s c =
           either (is_merge (trimmed (take at (b ∷ rest)))) _ _
-          (λ e. leaf_says n (T n true (b ∷ rest)) ⊥ (reasons true (b ∷ rest) (node_begins b rest refl)) (λ s. absurd s) ps column (Err (record { fault = record { line = n; code = LeftOut }; left_out = true })) ls h g
-          ((λ q. (refl, merges n column (column + at + 1) (b ∷ rest) (trimmed (take at (b ∷ rest))) (drop (at + 1) (b ∷ rest)) q (key_text_found (b ∷ rest) at column c) e)), λ o. refl) tt)
-          (λ e. keyed_says ps column (trimmed (take at (b ∷ rest))) (column + at + 1) (drop (at + 1) (b ∷ rest)) ls h g (λ some. plain_key_found column b rest at s c e some))
+          (λ e. leaf_says n (T n true (b ∷ rest)) (reasons true (b ∷ rest) (node_begins b rest refl)) ps column (Err (record { fault = record { line = n; code = LeftOut }; left_out = true })) ls h
+          ((λ q. (refl, merges n column (column + at + 1) (b ∷ rest) (trimmed (take at (b ∷ rest))) (drop (at + 1) (b ∷ rest)) q (key_text_found (b ∷ rest) at column c) e)), λ o. refl))
+          (λ e. keyed_says ps column (trimmed (take at (b ∷ rest))) (column + at + 1) (drop (at + 1) (b ∷ rest)) ls h (λ some. plain_key_found column b rest at s c e some))
 
-      quoted_says : (ps : List Piece) (column : ℕ) (s : State) (o : Option (List ℕ)) (ls : List RawLine) → AllOut Nowhere ps → AllHigh Cause ps → start b rest ≡ starts.InQuotes → run (opened b n) rest ≡ (s, o)
-          → Says W Reason Cause (quoted_key ps n column (b ∷ rest) s o ls)
-      quoted_says ps column s None ls h g i r = leaf_at_says true ps column (b ∷ rest) ls h g node_begins
-      quoted_says ps column s (Some behind) ls h g i r =
-          either (not (colon_behind behind)) _ _ (λ e. leaf_at_says true ps column (b ∷ rest) ls h g node_begins)
-          (λ c. either (is_some s.bad) _ _ (λ e. spoiled_says ps column ls h g)
-          (λ e. keyed_says ps column s.text (column + (length (b ∷ rest) - length behind) + 1) (drop 1 behind) ls h g
+      quoted_says : (ps : List Piece) (column : ℕ) (s : State) (o : Option (List ℕ)) (ls : List RawLine) → AllOut Nowhere ps → start b rest ≡ starts.InQuotes → run (opened b n) rest ≡ (s, o)
+          → Says W Reason (quoted_key ps n column (b ∷ rest) s o ls)
+      quoted_says ps column s None ls h i r = leaf_at_says true ps column (b ∷ rest) ls h node_begins
+      quoted_says ps column s (Some behind) ls h i r =
+          either (not (colon_behind behind)) _ _ (λ e. leaf_at_says true ps column (b ∷ rest) ls h node_begins)
+          (λ c. either (is_some s.bad) _ _ (λ e. spoiled_says ps column ls h)
+          (λ e. keyed_says ps column s.text (column + (length (b ∷ rest) - length behind) + 1) (drop 1 behind) ls h
           (λ some. quoted_key_found n column b rest s behind i r (no_bad s.bad e) (colon_or_not (colon_behind behind) c) some)))
 
-      node_says : (t : Start) (ps : List Piece) (column : ℕ) (ls : List RawLine) → AllOut Nowhere ps → AllHigh Cause ps → start b rest ≡ t → Says W Reason Cause (node_by t ps n column b rest ls)
-      node_says starts.InQuotes ps column ls h g s = quoted_says ps column (run (opened b n) rest).0 (run (opened b n) rest).1 ls h g s refl
-      node_says starts.Plain ps column ls h g s = plain_says ps column (colon_at false 0 (b ∷ rest)) ls h g s refl
-      node_says starts.InBrackets ps column ls h g s = leaf_at_says true ps column (b ∷ rest) ls h g node_begins
-      node_says starts.InLines ps column ls h g s = leaf_at_says true ps column (b ∷ rest) ls h g node_begins
-      node_says starts.LeftOut ps column ls h g s = leaf_at_says true ps column (b ∷ rest) ls h g node_begins
-      node_says starts.Refused ps column ls h g s = leaf_at_says true ps column (b ∷ rest) ls h g node_begins
+      node_says : (t : Start) (ps : List Piece) (column : ℕ) (ls : List RawLine) → AllOut Nowhere ps → start b rest ≡ t → Says W Reason (node_by t ps n column b rest ls)
+      node_says starts.InQuotes ps column ls h s = quoted_says ps column (run (opened b n) rest).0 (run (opened b n) rest).1 ls h s refl
+      node_says starts.Plain ps column ls h s = plain_says ps column (colon_at false 0 (b ∷ rest)) ls h s refl
+      node_says starts.InBrackets ps column ls h s = leaf_at_says true ps column (b ∷ rest) ls h node_begins
+      node_says starts.InLines ps column ls h s = leaf_at_says true ps column (b ∷ rest) ls h node_begins
+      node_says starts.LeftOut ps column ls h s = leaf_at_says true ps column (b ∷ rest) ls h node_begins
+      node_says starts.Refused ps column ls h s = leaf_at_says true ps column (b ∷ rest) ls h node_begins
 
-    heads_says : (bytes : List ℕ) (ps : List Piece) (spaced : Bool) (column : ℕ) (ls : List RawLine) → AllOut Nowhere ps → AllHigh Cause ps → ((key : Bool) (rest : List ℕ) → Begins key bytes rest → Begins key content rest)
-        → Says W Reason Cause (heads ps n spaced column bytes ls)
+    heads_says : (bytes : List ℕ) (ps : List Piece) (spaced : Bool) (column : ℕ) (ls : List RawLine) → AllOut Nowhere ps → ((key : Bool) (rest : List ℕ) → Begins key bytes rest → Begins key content rest)
+        → Says W Reason (heads ps n spaced column bytes ls)
     unfolding heads
-    heads_says [] ps spaced column ls h g wrap = says_found ps ls h g
-    heads_says (b ∷ rest) ps spaced column ls h g wrap =
-        either (is_blank b) _ _ (λ e. heads_says rest ps (b == 32) (column + 1) ls h g (λ key r i. wrap key r (blank e i)))
-        (λ no_blank. either (b == 35 && spaced) _ _ (λ e. says_found ps ls h g)
-        (λ e. either (b == 45 && breaks rest) _ _ (λ d. heads_says rest (ps ++ dash n column ∷ []) false (column + 1) ls (one_more Nowhere ps (dash n column) h tt) (high_more Cause ps (dash n column) g tt) (λ key r i. wrap key r (behind_dash d i)))
-        (λ d. node_says b rest wrap (here no_blank d) (start b rest) ps column ls h g refl)))
+    heads_says [] ps spaced column ls h wrap = says_found ps ls h
+    heads_says (b ∷ rest) ps spaced column ls h wrap =
+        either (is_blank b) _ _ (λ e. heads_says rest ps (b == 32) (column + 1) ls h (λ key r i. wrap key r (blank e i)))
+        (λ no_blank. either (b == 35 && spaced) _ _ (λ e. says_found ps ls h)
+        (λ e. either (b == 45 && breaks rest) _ _ (λ d. heads_says rest (ps ++ dash n column ∷ []) false (column + 1) ls (one_more Nowhere ps (dash n column) h tt) (λ key r i. wrap key r (behind_dash d i)))
+        (λ d. node_says b rest wrap (here no_blank d) (start b rest) ps column ls h refl)))
 
   -- ---- all lines
 
   module _ (all : List RawLine) where
     abbrev Tells : Found → Type 0
-    Tells r = Says W (λ (f : Fault). Shown T all f.line) (λ (m : ℕ). Shown H all m) r
+    Tells r = Says W (λ (f : Fault). Shown T all f.line) r
 
-    line_says : (l : RawLine) (ps : List Piece) (ls : List RawLine) → IsLast all (l ∷ ls) → AllOut Nowhere ps → AllHigh (λ (m : ℕ). Shown H all m) ps → Tells (line_heads ps l ls)
+    line_says : (l : RawLine) (ps : List Piece) (ls : List RawLine) → IsLast all (l ∷ ls) → AllOut Nowhere ps → Tells (line_heads ps l ls)
     unfolding line_heads
-    line_says l ps ls last h g =
+    line_says l ps ls last h =
         let reasons : (key : Bool) (rest : List ℕ) → Begins key l.content rest → (f : Fault) → f.line ≡ l.line → T l.line key rest → Shown T all f.line = λ key rest i f same t.
         record { before = last.0; l = l; behind = ls; are = last.1; number = sym same; key = key; left = rest; begins = i; has = t } in
-        let causes : (key : Bool) (rest : List ℕ) → Begins key l.content rest → H l.line key rest → Shown H all l.line = λ key rest i t.
-        record { before = last.0; l = l; behind = ls; are = last.1; number = refl; key = key; left = rest; begins = i; has = t } in
-        either (sees 9 l.content) _ _ (λ e. heads_says l.line l.content (λ f. Shown T all f.line) (λ m. Shown H all m) reasons causes (without_blanks l.content) ps (is_spaced true l.content) l.indent ls h g (behind_blanks l.content))
-        (λ e. heads_says l.line l.content (λ f. Shown T all f.line) (λ m. Shown H all m) reasons causes l.content ps true l.indent ls h g (λ key rest i. i))
+        either (sees 9 l.content) _ _ (λ e. heads_says l.line l.content (λ f. Shown T all f.line) reasons (without_blanks l.content) ps (is_spaced true l.content) l.indent ls h (behind_blanks l.content))
+        (λ e. heads_says l.line l.content (λ f. Shown T all f.line) reasons l.content ps true l.indent ls h (λ key rest i. i))
 
     go_says : (f : Found) (o : Option Fault) (more : List Piece → List RawLine → Found) → f.fault ≡ o → Tells f → (AllOut Nowhere f.pieces → Tells (more f.pieces f.rest)) → Tells (go_on f o more)
     go_says f None more e s go = go (weaker (Marked f.fault) Nowhere (λ n h. absurd (let q : None ≡ Some (record { line = n; code = LeftOut }) = sym e ∙ h in cc)) f.pieces s.marked)
     go_says f (Some v) more e s go = s
 
-    pub pieces_say : (k : ℕ) (ps : List Piece) (ls : List RawLine) → AllOut Nowhere ps → AllHigh (λ (m : ℕ). Shown H all m) ps → IsLast all ls → Says W (λ (f : Fault). Shown T all f.line) (λ (m : ℕ). Shown H all m) (pieces k ps ls)
+    pub pieces_say : (k : ℕ) (ps : List Piece) (ls : List RawLine) → AllOut Nowhere ps → IsLast all ls → Says W (λ (f : Fault). Shown T all f.line) (pieces k ps ls)
     unfolding pieces
-    pieces_say zero ps ls h g last = says_found ps ls h g
-    pieces_say (suc k) ps [] h g last = says_found ps [] h g
-    pieces_say (suc k) ps (l ∷ ls) h g last =
+    pieces_say zero ps ls h last = says_found ps ls h
+    pieces_say (suc k) ps [] h last = says_found ps [] h
+    pieces_say (suc k) ps (l ∷ ls) h last =
         let f : Found = line_heads ps l ls in
         let d : Adds (λ (m : ℕ). Unit {0}) (IsLast all) ps f = adds_line (λ m. Unit {0}) (IsLast all) (last_parts all) l ps ls tt (last_less all l ls last) in
-        let s : Says W (λ (f : Fault). Shown T all f.line) (λ (m : ℕ). Shown H all m) f = line_says l ps ls last h g in
-        either (is_over ps l) _ _ (λ e. says_found ps (l ∷ ls) h g) (λ e. go_says f f.fault (pieces k) refl s (λ h'. pieces_say k f.pieces f.rest h' s.high d.left))
+        let s : Says W (λ (f : Fault). Shown T all f.line) f = line_says l ps ls last h in
+        either (is_over ps l) _ _ (λ e. says_found ps (l ∷ ls) h) (λ e. go_says f f.fault (pieces k) refl s (λ h'. pieces_say k f.pieces f.rest h' d.left))
 
-    pub all_say : (ls : List RawLine) → IsLast all ls → Says W (λ (f : Fault). Shown T all f.line) (λ (m : ℕ). Shown H all m) (all_pieces ls)
-    all_say ls last = pieces_say (suc (length ls)) [] ls tt tt last
+    pub all_say : (ls : List RawLine) → IsLast all ls → Says W (λ (f : Fault). Shown T all f.line) (all_pieces ls)
+    all_say ls last = pieces_say (suc (length ls)) [] ls tt last

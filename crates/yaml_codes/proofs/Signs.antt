@@ -1,5 +1,5 @@
 -- C3 stands at a line with a sign of what is left out.
-use Rattle.std.proofs.Common.{◌≡◌, ℕ, Bool, true, false, cond, ◌||◌, ◌&&◌, ◌⊎◌, inl, inr, List, [], ◌∷◌, ◌++◌, Option, Some, None, Ok, Err, refl, sym, ap, ◌∙◌, append_assoc}
+use Rattle.std.proofs.Common.{◌≡◌, ℕ, Bool, true, false, cond, ◌||◌, ◌&&◌, ◌⊎◌, inl, inr, List, [], ◌∷◌, ◌++◌, Option, Some, None, Err, refl, sym, ap, ◌∙◌, append_assoc}
 use Rattle.std.specs.Prelude.{not}
 use Rattle.std.specs.Str.{is_utf8}
 use Rattle.yaml_scan.specs.declared.line.RawLine.{RawLine}
@@ -7,7 +7,6 @@ use Rattle.yaml_scan.specs.declared.fault.Fault.{Fault}
 use Rattle.yaml_scan.specs.declared.fault.Code.TheVariants.{Tab, LeftOut, NotUtf8}
 use Rattle.yaml_scan.specs.Words.{sees}
 use Rattle.yaml_scan.specs.Lines.{lines, line_fault, fault, tab_fault, mark_fault, utf8_fault, one_fault, or_else, fault_from, is_blank_line, is_directive, is_mark, least, without_start}
-use Rattle.yaml_tree.specs.Leaves.{Leafs, leaf_by}
 use Rattle.yaml_tree.specs.Tree.{tree}
 use Rattle.yaml_laws.specs.Refused.{IsOneOf}
 use Rattle.yaml_laws.proofs.FollowedLines.{start_in}
@@ -16,7 +15,7 @@ use Rattle.yaml_laws.proofs.Cuts.{one_of, told_text}
 use Rattle.yaml_laws.proofs.Orders.{least_in}
 use Rattle.yaml_tree.proofs.LinesFound.{and_true}
 use Rattle.yaml_codes.specs.Signs.{IsSign, merge, HasSign, directive, mark, node, IsLeftOut}
-use Rattle.yaml_codes.proofs.LeafSigns.{IsOut, IfTooHigh, structure_in, leaf_fails}
+use Rattle.yaml_codes.proofs.LeafSigns.{IsOut, structure_in, leaf_fails}
 use Rattle.yaml_codes.proofs.PieceSigns.{IsLast, last_less, Shown, Says, all_say}
 use Rattle.yaml_codes.proofs.LayoutSigns.{document_marked}
 
@@ -99,14 +98,10 @@ line_sign all before (l ∷ ls) begun f are has e c =
 
 -- ---- the text
 
-says_sign : (ls : List RawLine) → Says IsOut (λ (f : Fault). Shown IsSign ls f.line) (λ (m : ℕ). Shown (λ n key bytes. Unit {0}) ls m) (read_lines ls)
+says_sign : (ls : List RawLine) → Says IsOut (λ (f : Fault). Shown IsSign ls f.line) (read_lines ls)
 says_sign ls =
-    all_say IsOut IsSign (λ n key bytes. Unit {0}) structure_in leaf_fails (λ t floor key n b bytes ls s. never_high (leaf_by t floor key n b bytes ls)) (λ n column behind bytes k after e t m. merge t m) ls (without_start ls)
+    all_say IsOut IsSign structure_in leaf_fails (λ n column behind bytes k after e t m. merge t m) ls (without_start ls)
     (start_in (IsLast ls) (last_less ls) ls ([], refl))
-  where
-    never_high : (r : Leafs) → IfTooHigh (Unit {0}) r
-    never_high (Ok x) = λ lt. tt
-    never_high (Err w) = tt
 
 pieces_sign : (ls : List RawLine) (f : Fault) → (read_lines ls).fault ≡ Some f → f.code ≡ LeftOut → HasIt ls f
 pieces_sign ls f e c =

@@ -1,2 +1,4 @@
+pub mod LooseFlow
+pub mod LooseText
 pub mod Notation
 pub mod Signs

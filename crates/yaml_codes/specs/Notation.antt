@@ -1,4 +1,4 @@
--- The notation of blocks: their grammar by indents (`yaml_laws`' `Indents`), where the keys of a map may stand again, and blocks may
+-- The notation of blocks: their grammar by indents (`yaml_laws`' `Indents`), where the keys of a map may stand again, and nodes may
 -- stand in one another as deep as they like. `P ps x rest`: the pieces are a spelling of x, and then the rest.
 use Rattle.std.specs.Prelude.{◌≡◌, ◌≤◌, ◌+◌, ◌⊎◌, ℕ, suc, Bool, false, List, [], ◌∷◌, ◌++◌, take}
 use Rattle.yaml_scan.specs.declared.fault.Code.{Code}
@@ -13,12 +13,13 @@ use Rattle.yaml_tree.specs.Pieces.{dash, key, leaf}
 use Rattle.yaml_tree.specs.Spelling.{IsLines, AreClean, IsPieces}
 use Rattle.yaml_laws.specs.Indents.{IsLeft, IsNoDash, IsOver}
 use Rattle.yaml_laws.specs.Refused.{SameLines}
+use Rattle.yaml_codes.specs.LooseText.{AreOrderly, IsLoosePieces}
 
 mutual
-  -- A node at this indent or deeper. Where none is, it is null, on the line of what holds it. Flow has 64 nodes in one another at most.
+  -- A node at this indent or deeper. Where none is, it is null, on the line of what holds it.
   pub data IsNode : ℕ → ℕ → List Piece → Node → List Piece → Type 0 where
     absent : {line floor : ℕ} {ps : List Piece} → IsLeft floor ps → IsNode line floor ps (null line) ps
-    one_leaf : {line floor n indent height : ℕ} {out : Bool} {ps : List Piece} {x : Node} → floor ≤ indent → height ≤ 64
+    one_leaf : {line floor n indent height : ℕ} {out : Bool} {ps : List Piece} {x : Node} → floor ≤ indent
         → IsNode line floor (leaf n indent x height out ∷ ps) x ps
     list : {line floor n indent : ℕ} {ps rest : List Piece} {xs : List Node} → floor ≤ indent → IsItems indent (dash n indent ∷ ps) xs rest
         → IsNode line floor (dash n indent ∷ ps) (listed n xs) rest
@@ -48,14 +49,27 @@ mutual
 abbrev pub IsNotation : List Piece → Node → Type 0
 IsNotation ps root = IsNode 1 0 ps root []
 
+-- no flow has more than 64 nodes in one another
+pub data AreLow : List Piece → Type 0 where
+  no_piece : AreLow []
+  low_dash : {n indent : ℕ} {ps : List Piece} → AreLow ps → AreLow (dash n indent ∷ ps)
+  low_key : {n indent : ℕ} {k : List ℕ} {ps : List Piece} → AreLow ps → AreLow (key n indent k ∷ ps)
+  low_leaf : {n indent height : ℕ} {x : Node} {out : Bool} {ps : List Piece} → height ≤ 64 → AreLow ps
+      → AreLow (leaf n indent x height out ∷ ps)
+
 -- The pieces of a whole text, as `Spelling.IsText` has them: those of its lines, all of them clean, behind a `---` at the front.
 pub data IsSpelled (text : List ℕ) (ps : List Piece) : Type 0 where
   spelled : {ls : List RawLine} → IsLines 1 (without_mark text) ls → AreClean false ls
-      → IsPieces [] (without_start ls) ps → IsSpelled text ps
+      → IsPieces [] (without_start ls) ps → AreLow ps → IsSpelled text ps
 
--- what the text's pieces are in the notation
+-- what the text's pieces are in the notation, with flow as in the grammar
 pub data IsNotationText (text : List ℕ) (root : Node) : Type 0 where
   in_notation : {ps : List Piece} → IsSpelled text ps → IsNotation ps root → IsNotationText text root
+
+-- what they are with flow in which keys may stand again, as high as it likes, and whether or not they are UTF-8
+pub data IsLooseText (text : List ℕ) (root : Node) : Type 0 where
+  loosely : {ls : List RawLine} {ps : List Piece} → IsLines 1 (without_mark text) ls → AreOrderly false ls
+      → IsLoosePieces [] (without_start ls) ps → IsNotation ps root → IsLooseText text root
 
 -- ---- what a tree has
 
@@ -81,7 +95,7 @@ pub data IsWithin (n : ℕ) : ℕ → Node → Type 0 where
 
 -- some text that has the first n lines is in the notation, with such a tree
 abbrev pub HasNotation : ℕ → List ℕ → (Node → Type 0) → Type 0
-HasNotation n text P = (other : List ℕ) × (root : Node) × SameLines n text other × IsNotationText other root × P root
+HasNotation n text P = (other : List ℕ) × (root : Node) × SameLines n text other × IsLooseText other root × P root
 
 -- no text that has them is in the notation
 abbrev pub IsUnspelled : ℕ → List ℕ → Type 0

@@ -1,6 +1,5 @@
 -- What C3 stands for: a sign of what the profile leaves out, where a node or a key begins on the refused line.
-use Rattle.std.specs.Prelude.{◌≡◌, ◌≤◌, ◌<◌, ◌==◌, ℕ, Bool, true, false, List, [], ◌∷◌, ◌++◌, Ok}
-use Rattle.std.specs.Str.{is_utf8}
+use Rattle.std.specs.Prelude.{◌≡◌, ◌==◌, ℕ, Bool, true, false, List, [], ◌∷◌, ◌++◌, Ok}
 use Rattle.yaml_scan.specs.declared.line.RawLine.{RawLine}
 use Rattle.yaml_scan.specs.Lines.{lines, is_blank_line, is_directive, is_mark}
 use Rattle.yaml_scan.specs.Words.{is_blank, trimmed, without_blanks}
@@ -12,7 +11,7 @@ use Rattle.yaml_tree.specs.Keys.{IsKeyText, IsKey}
 use Rattle.yaml_tree.specs.Leaves.{colon_behind}
 use Rattle.yaml_tree.specs.Spelling.{IsAt, is_dash}
 use Rattle.yaml_tree.specs.Starts.{start, left_out, is_merge}
-use Rattle.yaml_laws.specs.Refused.{IsOneOf, IsLineOf}
+use Rattle.yaml_laws.specs.Refused.{IsOneOf}
 
 -- The second bytes are what is left of the first where a node begins, or a key too: behind blanks and dashes, or as the value of a key.
 pub data Begins : Bool → List ℕ → List ℕ → Type 0 where
@@ -67,24 +66,3 @@ pub record IsLeftOut (text : List ℕ) (n : ℕ) : Type 0 where
   pub lines_are : lines text ≡ before ++ l ∷ behind
   pub number : l.line ≡ n
   pub has_sign : HasSign before l
-
--- ---- the two rules in flow
-
--- flow of the line n in which a key stands already in its map
-pub data RepeatsInFlow (n : ℕ) : Bool → List ℕ → Type 0 where
-  again : {key : Bool} {b : ℕ} {bytes : List ℕ} {e : Ended} → start b bytes ≡ starts.InBrackets → flow n (b == 123) bytes ≡ Ok e
-      → e.repeated ≡ true → RepeatsInFlow n key (b ∷ bytes)
-
--- flow of the line n with more than 64 nodes in one another
-pub data IsHighFlow (n : ℕ) : Bool → List ℕ → Type 0 where
-  high : {key : Bool} {b : ℕ} {bytes : List ℕ} {e : Ended} → start b bytes ≡ starts.InBrackets → flow n (b == 123) bytes ≡ Ok e
-      → 64 < e.height → IsHighFlow n key (b ∷ bytes)
-
--- On the line n, which is not UTF-8 or has flow in which a key stands again, or on one up to it, which has flow that is too high, a rule is
--- broken within the line.
-pub data BreaksInLine (text : List ℕ) (n : ℕ) : Type 0 where
-  not_utf8 : (l : RawLine) → IsLineOf text l → l.line ≡ n → is_utf8 l.content ≡ false → BreaksInLine text n
-  repeats : (l : RawLine) {key : Bool} {bytes : List ℕ} → IsLineOf text l → l.line ≡ n → Begins key l.content bytes
-      → RepeatsInFlow l.line key bytes → BreaksInLine text n
-  too_high : (l : RawLine) {key : Bool} {bytes : List ℕ} → IsLineOf text l → l.line ≤ n → Begins key l.content bytes
-      → IsHighFlow l.line key bytes → BreaksInLine text n

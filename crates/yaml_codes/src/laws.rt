@@ -7,7 +7,7 @@ ghost use Rattle.yaml_tree.specs.Spelling.{IsText};
 ghost use Rattle.yaml_tree.specs.Tree.{tree};
 ghost use Rattle.yaml_laws.specs.Refused.{SameLines};
 ghost use Rattle.yaml_codes.specs.Notation.{Breaks, EndsQuoted, HasNotation, IsNotationText, IsUnspelled};
-ghost use Rattle.yaml_codes.specs.Signs.{BreaksInLine, IsLeftOut};
+ghost use Rattle.yaml_codes.specs.Signs.{IsLeftOut};
 
 /// Each text of the grammar is in the notation, with its tree; and a text in the notation that is not refused is in the grammar, with that
 /// tree.
@@ -17,17 +17,9 @@ pub fn the_grammar_is_notation_that_is_not_refused()
 {}
 
 /// C4 and C12 stand at a line that goes on in the notation, where a rule on its trees is broken at the line: C4 at a key that stands
-/// already in its map, C12 at a node that stands in 64 others. Or else no text with these lines is in the notation.
+/// already in its map, C12 at a node that stands in 64 others.
 pub fn a_code_of_the_tree_names_its_rule()
-    ensures { (text : List ℕ) (f : Fault) → tree text ≡ Err f → (f.code ≡ RepeatedKey) ⊎ (f.code ≡ Limit)
-        → HasNotation f.line text (Breaks f.line f.code) ⊎ IsUnspelled f.line text }
-{}
-
-/// Where no text in the notation has the lines up to one with C4 or C12, that line is not UTF-8, or it has flow in which a key stands
-/// again, or it or one before it has flow with more than 64 nodes in one another.
-pub fn a_rule_may_be_broken_in_flow()
-    ensures { (text : List ℕ) (f : Fault) → tree text ≡ Err f → (f.code ≡ RepeatedKey) ⊎ (f.code ≡ Limit) → IsUnspelled f.line text
-        → BreaksInLine text f.line }
+    ensures { (text : List ℕ) (f : Fault) → tree text ≡ Err f → (f.code ≡ RepeatedKey) ⊎ (f.code ≡ Limit) → HasNotation f.line text (Breaks f.line f.code) }
 {}
 
 /// A text in the notation is refused for one of these two rules alone.

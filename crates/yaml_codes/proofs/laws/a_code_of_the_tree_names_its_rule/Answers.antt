@@ -1,4 +1,4 @@
-use Rattle.yaml_codes.proofs.Codes.{names_rule}
+use Rattle.yaml_codes.proofs.Rules.{names_rule}
 use Rattle.yaml_codes.proofs.laws.a_code_of_the_tree_names_its_rule.Goals as goal
 
 pub returns : goal.returns
