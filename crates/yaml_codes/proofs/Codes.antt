@@ -14,7 +14,7 @@ use Rattle.yaml_tree.specs.declared.piece.Piece.{Piece}
 use Rattle.yaml_tree.specs.declared.piece.What.{What}
 use Rattle.yaml_tree.specs.declared.piece.What.TheVariants.{Dash, Key, Leaf}
 use Rattle.yaml_tree.specs.Layout.{Answer, document}
-use Rattle.yaml_tree.specs.Pieces.{Found, found, pieces, all_pieces, is_begun}
+use Rattle.yaml_tree.specs.Pieces.{Found, found, all_pieces, is_begun}
 use Rattle.yaml_tree.specs.Tree.{tree, fault_of}
 use Rattle.yaml_tree.specs.Spelling.{none as no_byte, IsLines, IsPieces}
 use Rattle.yaml_tree.proofs.LinesFound.{lines_found, lines_read, clean_found, clean_read}

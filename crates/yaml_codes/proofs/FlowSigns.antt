@@ -8,7 +8,6 @@ use Rattle.yaml_scan.specs.Words.{is_blank, is_empty, is_some, has_colon, colon_
 use Rattle.yaml_scan.specs.Quoted.{State, opened, is_closed, step as quoted_step, run as quoted_run}
 use Rattle.yaml_tree.specs.declared.node.Node.{Node}
 use Rattle.yaml_tree.specs.declared.flow.Frame.{Frame}
-use Rattle.yaml_tree.specs.declared.starts.Start.TheVariants as starts
 use Rattle.yaml_tree.specs.Nodes.{null}
 use Rattle.yaml_tree.specs.Starts.{left_out, no_plain, is_merge}
 use Rattle.yaml_tree.specs.Brackets.{IsWord}

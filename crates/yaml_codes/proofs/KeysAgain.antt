@@ -7,10 +7,10 @@ use Rattle.yaml_scan.specs.Words.{sees, without_blanks}
 use Rattle.yaml_tree.specs.declared.node.Node.{Node}
 use Rattle.yaml_tree.specs.declared.piece.Piece.{Piece}
 use Rattle.yaml_tree.specs.Nodes.{Pair}
-use Rattle.yaml_tree.specs.Pieces.{Found, found, floor, heads, is_spaced, line_heads, is_over, go_on, pieces}
+use Rattle.yaml_tree.specs.Pieces.{Found, found, heads, is_spaced, line_heads, is_over, go_on, pieces}
 use Rattle.yaml_laws.proofs.Followed.{Alike, none as no_piece, more as more_alike}
 use Rattle.yaml_laws.proofs.FollowedScalars.{Late}
-use Rattle.yaml_laws.proofs.FollowedLines.{deeper, go_none, go_some}
+use Rattle.yaml_laws.proofs.FollowedLines.{go_none, go_some}
 use Rattle.yaml_laws.proofs.Laid.{AllOn}
 use Rattle.yaml_codes.specs.LooseText.{IsLooseHeads}
 use Rattle.yaml_codes.specs.Notation as n

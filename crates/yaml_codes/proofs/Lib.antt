@@ -17,3 +17,8 @@ mod LooseHeads
 mod LooseLines
 mod KeysAgain
 mod Rules
+mod LooseOf
+mod LooseTold
+mod LoosePieces
+mod LooseNodes
+mod LooseCodes

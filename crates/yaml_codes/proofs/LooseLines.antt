@@ -27,18 +27,18 @@ use Rattle.yaml_codes.proofs.LooseHeads.{AnyRepeats, Ends, reads, again, other, 
 
 -- ---- orderly lines
 
-or_left : (a b : Bool) → a ≡ true → (a || b) ≡ true
+pub or_left : (a b : Bool) → a ≡ true → (a || b) ≡ true
 or_left true b e = refl
 or_left false b e = absurd cc
 
-or_right : (a : Bool) → (a || true) ≡ true
+pub or_right : (a : Bool) → (a || true) ≡ true
 or_right true = refl
 or_right false = refl
 
 abbrev Later : List RawLine → Bool → Type 0
 Later ls begun = (after : Bool) × (begun ≡ true → after ≡ true) × AreOrderly after ls
 
-still_orderly : {ls ls' : List RawLine} → IsEnd ls' ls → (begun : Bool) → AreOrderly begun ls → Later ls' begun
+pub still_orderly : {ls ls' : List RawLine} → IsEnd ls' ls → (begun : Bool) → AreOrderly begun ls → Later ls' begun
 still_orderly all begun c = (begun, λ (e : begun ≡ true). e, c)
 still_orderly (later {l = l} i) begun (one_line t d m r) =
     let s = still_orderly i (begun || not (is_blank_line l)) r in
@@ -59,7 +59,7 @@ start_orderly (l ∷ ls) begun (one_line t d m r) =
     picked (is_blank_line l) (is_start l) (without_start ls) ls (l ∷ ls) (start_orderly ls (begun || not (is_blank_line l)) r) (begun || not (is_blank_line l), r) (begun, one_line t d m r)
 
 -- an orderly line ends no pieces
-not_over : (ps : List Piece) (begun : Bool) (l : RawLine) (ls : List RawLine) → (is_begun ps ≡ true → begun ≡ true) → AreOrderly begun (l ∷ ls) → is_over ps l ≡ false
+pub not_over : (ps : List Piece) (begun : Bool) (l : RawLine) (ls : List RawLine) → (is_begun ps ≡ true → begun ≡ true) → AreOrderly begun (l ∷ ls) → is_over ps l ≡ false
 not_over ps begun l ls some (one_line t d m r) =
     elim (tested (is_begun ps)) [
       | inr h ↦ rw h refl
@@ -73,10 +73,10 @@ not_over ps begun l ls some (one_line t d m r) =
     marks true false false false b m d = refl
     marks false mark directive some b m d = absurd cc
 
-orderly_line : {begun : Bool} {l : RawLine} {ls : List RawLine} → AreOrderly begun (l ∷ ls) → sees 9 l.content ≡ false
+pub orderly_line : {begun : Bool} {l : RawLine} {ls : List RawLine} → AreOrderly begun (l ∷ ls) → sees 9 l.content ≡ false
 orderly_line (one_line t d m r) = t
 
-orderly_behind : {begun : Bool} {l : RawLine} {ls : List RawLine} → AreOrderly begun (l ∷ ls) → AreOrderly (begun || not (is_blank_line l)) ls
+pub orderly_behind : {begun : Bool} {l : RawLine} {ls : List RawLine} → AreOrderly begun (l ∷ ls) → AreOrderly (begun || not (is_blank_line l)) ls
 orderly_behind (one_line t d m r) = r
 
 no_such : (n : ℕ) (f g : Fault) → NoLater f g → f.line ≡ n → g.line ≡ n → 4 ≤ number_of f.code → number_of g.code ≤ 3 → ⊥
@@ -177,12 +177,12 @@ all_end P all h = h
 all_end P (later i) h = all_end P i h.1
 
 -- a blank line has no pieces
-blank_heads : (content : List ℕ) (ps : List Piece) (n column : ℕ) (ls : List RawLine) → (is_empty content || sees 35 content) ≡ true → heads ps n true column content ls ≡ found ps ls
+pub blank_heads : (content : List ℕ) (ps : List Piece) (n column : ℕ) (ls : List RawLine) → (is_empty content || sees 35 content) ≡ true → heads ps n true column content ls ≡ found ps ls
 unfolding heads
 blank_heads [] ps n column ls e = refl
 blank_heads (b ∷ rest) ps n column ls e = subst (λ (c : ℕ). heads ps n true column (c ∷ rest) ls ≡ found ps ls) (sym (eqb-true b 35 e)) refl
 
-line_is : (ps : List Piece) (l : RawLine) (ls : List RawLine) → sees 9 l.content ≡ false → line_heads ps l ls ≡ heads ps l.line true l.indent l.content ls
+pub line_is : (ps : List Piece) (l : RawLine) (ls : List RawLine) → sees 9 l.content ≡ false → line_heads ps l ls ≡ heads ps l.line true l.indent l.content ls
 unfolding line_heads
 line_is ps l ls t = rw t refl
 

@@ -14,7 +14,7 @@ use Rattle.yaml_scan.specs.Lines.{lines, line_fault, without_mark, without_start
 use Rattle.yaml_tree.specs.declared.node.Node.{Node}
 use Rattle.yaml_tree.specs.declared.piece.Piece.{Piece}
 use Rattle.yaml_tree.specs.Layout.{Answer, document}
-use Rattle.yaml_tree.specs.Pieces.{Found, found, pieces, all_pieces}
+use Rattle.yaml_tree.specs.Pieces.{Found, found, all_pieces}
 use Rattle.yaml_tree.specs.Spelling.{none as no_byte, IsLines}
 use Rattle.yaml_tree.specs.Tree.{tree, fault_of}
 use Rattle.yaml_tree.proofs.LinesFound.{lines_found}

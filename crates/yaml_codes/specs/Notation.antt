@@ -101,6 +101,10 @@ HasNotation n text P = (other : List ℕ) × (root : Node) × SameLines n text o
 abbrev pub IsUnspelled : ℕ → List ℕ → Type 0
 IsUnspelled n text = (other : List ℕ) (root : Node) → SameLines n text other → IsNotationText other root → ⊥
 
+-- none is in the loose notation either
+abbrev pub IsNoText : ℕ → List ℕ → Type 0
+IsNoText n text = (other : List ℕ) (root : Node) → SameLines n text other → IsLooseText other root → ⊥
+
 -- a key on the line stands already in its map, or a node on it stands in 64 others
 pub data Breaks (n : ℕ) : Code → Node → Type 0 where
   repeats : {root : Node} → Has (Repeats n) root → Breaks n RepeatedKey root

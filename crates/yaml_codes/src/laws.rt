@@ -6,30 +6,34 @@ ghost use Rattle.yaml_tree.specs.declared.node.Node.{Node};
 ghost use Rattle.yaml_tree.specs.Spelling.{IsText};
 ghost use Rattle.yaml_tree.specs.Tree.{tree};
 ghost use Rattle.yaml_laws.specs.Refused.{SameLines};
-ghost use Rattle.yaml_codes.specs.Notation.{Breaks, EndsQuoted, HasNotation, IsNotationText, IsUnspelled};
+ghost use Rattle.yaml_codes.specs.Notation.{Breaks, EndsQuoted, HasNotation, IsLooseText, IsNoText, IsNotationText, IsUnspelled};
 ghost use Rattle.yaml_codes.specs.Signs.{IsLeftOut};
 
-/// Each text of the grammar is in the notation, with its tree; and a text in the notation that is not refused is in the grammar, with that
-/// tree.
+/// Each text of the grammar is in the notation, and so in the loose one, with its tree; and a text in the loose notation that is not
+/// refused is in the grammar, with that tree.
 pub fn the_grammar_is_notation_that_is_not_refused()
     ensures grammar { (text : List ℕ) (root : Node) → IsText text root → IsNotationText text root }
-    ensures notation { (text : List ℕ) (root x : Node) → IsNotationText text root → tree text ≡ Ok x → IsText text root }
+    ensures loosely { (text : List ℕ) (root : Node) → IsNotationText text root → IsLooseText text root }
+    ensures notation { (text : List ℕ) (root x : Node) → IsLooseText text root → tree text ≡ Ok x → IsText text root }
 {}
 
-/// C4 and C12 stand at a line that goes on in the notation, where a rule on its trees is broken at the line: C4 at a key that stands
+/// C4 and C12 stand at a line that goes on in the loose notation, where a rule on its trees is broken at the line: C4 at a key that stands
 /// already in its map, C12 at a node that stands in 64 others.
 pub fn a_code_of_the_tree_names_its_rule()
     ensures { (text : List ℕ) (f : Fault) → tree text ≡ Err f → (f.code ≡ RepeatedKey) ⊎ (f.code ≡ Limit) → HasNotation f.line text (Breaks f.line f.code) }
 {}
 
-/// A text in the notation is refused for one of these two rules alone.
+/// A text in the notation is refused for one of these two rules alone, and one in the loose notation for one of them or as no UTF-8.
 pub fn notation_breaks_no_other_rule()
-    ensures { (text : List ℕ) (root : Node) (f : Fault) → IsNotationText text root → tree text ≡ Err f → (f.code ≡ RepeatedKey) ⊎ (f.code ≡ Limit) }
+    ensures notation { (text : List ℕ) (root : Node) (f : Fault) → IsNotationText text root → tree text ≡ Err f → (f.code ≡ RepeatedKey) ⊎ (f.code ≡ Limit) }
+    ensures loosely { (text : List ℕ) (root : Node) (f : Fault) → IsLooseText text root → tree text ≡ Err f
+        → (f.code ≡ RepeatedKey) ⊎ ((f.code ≡ Limit) ⊎ (f.code ≡ NotUtf8)) }
 {}
 
-/// C1, C3 and C13 stand at a line with which no text of the notation goes on.
+/// C1 and C3 stand at a line with which no text of the loose notation goes on, and C13 at one with which none of the notation does.
 pub fn what_is_left_out_is_no_notation()
-    ensures { (text : List ℕ) (f : Fault) → tree text ≡ Err f → (f.code ≡ LeftOut) ⊎ ((f.code ≡ Tab) ⊎ (f.code ≡ NotUtf8)) → IsUnspelled f.line text }
+    ensures left_out { (text : List ℕ) (f : Fault) → tree text ≡ Err f → (f.code ≡ LeftOut) ⊎ (f.code ≡ Tab) → IsNoText f.line text }
+    ensures not_utf8 { (text : List ℕ) (f : Fault) → tree text ≡ Err f → f.code ≡ NotUtf8 → IsUnspelled f.line text }
 {}
 
 /// C2 too stands at a line with which no text of the notation goes on, unless the lines up to it end inside a quoted scalar.
