@@ -1,5 +1,5 @@
 -- What C4 and C12 tell of their line.
-use Rattle.std.proofs.Common.{◌≡◌, ◌≢◌, ℕ, suc, ◌≤◌, ◌<◌, true, false, ◌⊎◌, inl, inr, List, [], ◌∷◌, ◌++◌, length, take, drop, Option, Some, None, Ok, Err, refl, sym, ap, subst, ◌∙◌, arith, length-append}
+use Rattle.std.proofs.Common.{◌≡◌, ◌≢◌, ℕ, suc, ◌≤◌, ◌<◌, true, false, ◌⊎◌, inl, inr, List, [], ◌∷◌, ◌++◌, length, take, drop, Option, Some, None, Err, refl, sym, ap, subst, ◌∙◌, arith, length-append}
 use Rattle.std.specs.Prelude.{◌==◌, nat_le}
 use Rattle.std.proofs.lemmas.Bool.{leb-true, leb-false, eqb-true}
 use Rattle.std.proofs.lemmas.List.{length-take-le}
@@ -69,10 +69,6 @@ low_on (more_alike dash a) l = (tt, low_on a l.1)
 low_on (more_alike key a) l = (tt, low_on a l.1)
 low_on (more_alike leaf a) l = (l.0, low_on a l.1)
 
-on_alike : (P : ℕ → Type 0) {ps qs : List Piece} → Alike ps qs → AllOn P ps → AllOn P qs
-on_alike P no_piece h = h
-on_alike P (more_alike w a) h = (h.0, on_alike P a h.1)
-
 -- ---- a text in the notation
 
 record Plain (ls : List RawLine) : Type 0 where
@@ -100,14 +96,7 @@ spelled_text other ls e plain =
 
 -- ---- the first lines
 
-fault_is : (r : Answer Node) (f : Fault) → fault_of r ≡ Some f → r ≡ Err f
-fault_is (Ok x) f e = absurd cc
-fault_is (Err g) f e = let q : g ≡ f = cc in ap (λ (z : Fault). Err z) q
-
 module _ (k : ℕ) (p : List RawLine) (early : AllIn (λ m. m ≤ k) p) (rises : Rises p) where
-  outcome : Outcome k [] (without_start p) (all_pieces (without_start p))
-  outcome = pieces_come k (suc (length (without_start p))) [] (without_start p) (omega arith) (start_in (AllIn (λ m. m ≤ k)) (λ l rest i. i.1) p early, start_in Rises (λ l rest i. i.1) p rises, omega arith)
-
   pub on_pieces : AllOn (λ m. m ≤ k) (all_pieces (without_start p)).pieces
   on_pieces =
       let on_lines : AllIn (λ m. m ≤ k) (without_start p) = start_in (AllIn (λ m. m ≤ k)) (λ l rest i. i.1) p early in

@@ -17,6 +17,7 @@ mod LooseHeads
 mod LooseLines
 mod KeysAgain
 mod Rules
+mod TooDeep
 mod LooseOf
 mod LooseTold
 mod LoosePieces

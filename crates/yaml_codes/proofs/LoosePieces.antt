@@ -119,12 +119,6 @@ module _ (n : ℕ) where
   more_as ps whole p ls f like (reads_as qs e s) = reads_as (p ∷ qs) (e ∙ ap (λ (xs : List Piece). found xs ls) (append_assoc ps (p ∷ []) qs)) (one_more (like true) s)
   more_as ps whole p ls f like (stops_as qs e e' s) = stops_as (p ∷ qs) (e ∙ append_assoc ps (p ∷ []) qs) e' (one_more (like false) s)
 
-  exactly : (ps whole : List Piece) (ls : List RawLine) (f : Found) → Same true whole whole → f ≡ found (ps ++ whole) ls → HeadsAs ps whole ls f
-  exactly ps whole ls f s e = reads_as whole e s
-
-  leaf_itself : (column height : ℕ) (x : Node) → Same true (leaf n column x height false ∷ []) (leaf n column x height false ∷ [])
-  leaf_itself column height x = one_more (same_leaf (λ e le. refl)) no_more
-
   as_leaf : (ps : List Piece) (column own height : ℕ) (x : Node) (ls : List RawLine) (f : Found) → f ≡ found (ps ++ leaf n column x own false ∷ []) ls → HeadsAs ps (leaf n column x height false ∷ []) ls f
   as_leaf ps column own height x ls f e = reads_as (leaf n column x own false ∷ []) e (one_more (same_leaf (λ e le. refl)) no_more)
 

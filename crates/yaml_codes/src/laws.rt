@@ -1,11 +1,11 @@
 //! Laws of the definitions alone. Each is a function that does nothing; its contract is the law.
-ghost use Rattle.std.specs.Prelude.{◌≡◌, ◌⊎◌, ℕ, List, Err, Ok};
+ghost use Rattle.std.specs.Prelude.{◌≡◌, ◌≤◌, ◌⊎◌, ℕ, List, Err, Ok};
 ghost use Rattle.yaml_scan.specs.declared.fault.Code.TheVariants.{LeftOut, Limit, NotUtf8, RepeatedKey, Structure, Tab};
 ghost use Rattle.yaml_scan.specs.declared.fault.Fault.{Fault};
 ghost use Rattle.yaml_tree.specs.declared.node.Node.{Node};
 ghost use Rattle.yaml_tree.specs.Spelling.{IsText};
 ghost use Rattle.yaml_tree.specs.Tree.{tree};
-ghost use Rattle.yaml_laws.specs.Refused.{SameLines};
+ghost use Rattle.yaml_laws.specs.Refused.{IsTooDeep, SameLines};
 ghost use Rattle.yaml_codes.specs.Notation.{Breaks, EndsQuoted, HasNotation, IsLooseText, IsNoText, IsNotationText, IsUnspelled};
 ghost use Rattle.yaml_codes.specs.Signs.{IsLeftOut};
 
@@ -21,6 +21,12 @@ pub fn the_grammar_is_notation_that_is_not_refused()
 /// already in its map, C12 at a node that stands in 64 others.
 pub fn a_code_of_the_tree_names_its_rule()
     ensures { (text : List ℕ) (f : Fault) → tree text ≡ Err f → (f.code ≡ RepeatedKey) ⊎ (f.code ≡ Limit) → HasNotation f.line text (Breaks f.line f.code) }
+{}
+
+/// Where a node is too deep on the first n lines, a text that has them up to one is in the loose notation, and a node on that line stands
+/// in 64 others.
+pub fn what_is_too_deep_stands_in_64_others()
+    ensures { (n : ℕ) (text : List ℕ) → IsTooDeep n text → (m : ℕ) × (m ≤ n) × HasNotation m text (Breaks m Limit) }
 {}
 
 /// A text in the notation is refused for one of these two rules alone, and one in the loose notation for one of them or as no UTF-8.
