@@ -1,5 +1,5 @@
 -- What C4 and C12 tell of their line.
-use Rattle.std.proofs.Common.{◌≡◌, ◌≢◌, ℕ, suc, ◌≤◌, ◌<◌, true, false, ◌⊎◌, inl, inr, List, [], ◌∷◌, ◌++◌, length, take, drop, Option, Some, None, Err, refl, sym, ap, subst, ◌∙◌, arith, length-append}
+use Rattle.std.proofs.Common.{◌≡◌, ◌≢◌, ℕ, suc, ◌≤◌, true, false, ◌⊎◌, inl, inr, List, [], ◌∷◌, ◌++◌, length, take, drop, Option, Some, None, Err, refl, sym, ap, subst, ◌∙◌, arith, length-append}
 use Rattle.std.specs.Prelude.{◌==◌, nat_le}
 use Rattle.std.proofs.lemmas.Bool.{leb-true, leb-false, eqb-true}
 use Rattle.std.proofs.lemmas.List.{length-take-le}
@@ -14,26 +14,21 @@ use Rattle.yaml_tree.specs.declared.piece.Piece.{Piece}
 use Rattle.yaml_tree.specs.declared.piece.What.{What}
 use Rattle.yaml_tree.specs.declared.piece.What.TheVariants.{Dash, Key, Leaf}
 use Rattle.yaml_tree.specs.Layout.{Answer, document}
-use Rattle.yaml_tree.specs.Pieces.{Found, found, all_pieces, is_begun}
+use Rattle.yaml_tree.specs.Pieces.{all_pieces, is_begun}
 use Rattle.yaml_tree.specs.Tree.{tree, fault_of}
 use Rattle.yaml_tree.specs.Spelling.{none as no_byte, IsLines, IsPieces}
 use Rattle.yaml_tree.proofs.LinesFound.{lines_found, lines_read, clean_found, clean_read}
 use Rattle.yaml_tree.proofs.AllLines.{start_clean, pieces_found, pieces_read}
 use Rattle.yaml_tree.proofs.Low.{Low, low_parts}
-use Rattle.yaml_laws.specs.Refused.{SameLines}
 use Rattle.yaml_laws.proofs.Laid.{AllOn}
 use Rattle.yaml_laws.proofs.Followed.{dash, key, leaf, Alike, none as no_piece, more as more_alike}
 use Rattle.yaml_laws.proofs.Walked.{AllIn}
-use Rattle.yaml_laws.proofs.WalkedPieces.{OnFault, Adds, adds_pieces}
-use Rattle.yaml_laws.proofs.FollowedScalars.{Late, AllLate}
+use Rattle.yaml_laws.proofs.WalkedPieces.{Adds, adds_pieces}
+use Rattle.yaml_laws.proofs.FollowedScalars.{AllLate}
 use Rattle.yaml_laws.proofs.FollowedLines.{Rises, Follows, comes, stays, deeper, closes, Ahead, pieces_follow, start_in, Starts, start_follows}
-use Rattle.yaml_laws.proofs.Numbers.{Numbered, numbered_rises, numbered_front, numbered_behind}
 use Rattle.yaml_laws.proofs.Whole.{read_lines, in_tree, told, err_told}
 use Rattle.yaml_laws.proofs.Orders.{tested, same_code}
 use Rattle.yaml_laws.proofs.Cuts.{one_remains, one_of, each_was, numbered_become, early_lines, all_numbered, told_text, cut, cut_same, on_a_line}
-use Rattle.yaml_laws.proofs.Completed.{lines_keep, closing_keeps, start_behind, nothing_read}
-use Rattle.yaml_laws.proofs.Outcomes.{Outcome, is_clear, is_lost, is_closed, pieces_come}
-use Rattle.yaml_laws.proofs.Written.{completed_text}
 use Rattle.yaml_codes.specs.Notation as n
 use Rattle.yaml_codes.proofs.Layouts.{IsTreeCode}
 use Rattle.yaml_codes.proofs.Allowed.{Told, document_told}
@@ -63,7 +58,7 @@ low_back (more_alike dash a) l = (tt, low_back a l.1)
 low_back (more_alike key a) l = (tt, low_back a l.1)
 low_back (more_alike leaf a) l = (l.0, low_back a l.1)
 
-low_on : {ps qs : List Piece} → Alike ps qs → Low ps → Low qs
+pub low_on : {ps qs : List Piece} → Alike ps qs → Low ps → Low qs
 low_on no_piece l = l
 low_on (more_alike dash a) l = (tt, low_on a l.1)
 low_on (more_alike key a) l = (tt, low_on a l.1)
@@ -71,12 +66,12 @@ low_on (more_alike leaf a) l = (l.0, low_on a l.1)
 
 -- ---- a text in the notation
 
-record Plain (ls : List RawLine) : Type 0 where
-  clean : line_fault ls ≡ None
-  read : (read_lines ls).fault ≡ None
-  low : Low (read_lines ls).pieces
+pub record Plain (ls : List RawLine) : Type 0 where
+  pub clean : line_fault ls ≡ None
+  pub read : (read_lines ls).fault ≡ None
+  pub low : Low (read_lines ls).pieces
 
-notation_read : (other : List ℕ) (root : Node) (ls : List RawLine) → lines other ≡ ls → n.IsNotationText other root → Plain ls
+pub notation_read : (other : List ℕ) (root : Node) (ls : List RawLine) → lines other ≡ ls → n.IsNotationText other root → Plain ls
 notation_read other root ls e (n.in_notation {ps = ps} (n.spelled {ls = xs} l c p are_low) t) =
     let same : xs ≡ ls = sym (lines_read l) ∙ e in
     let k = start_clean xs false c in
@@ -85,7 +80,7 @@ notation_read other root ls e (n.in_notation {ps = ps} (n.spelled {ls = xs} l c 
     let q = pieces_read (suc (length (without_start xs))) [] k.0 (without_start xs) ps (omega arith) begun k.1 p low in
     subst Plain same (record { clean = clean_read xs false c; read = q.1; low = subst Low (sym q.0) low })
 
-spelled_text : (other : List ℕ) (ls : List RawLine) → lines other ≡ ls → Plain ls → n.IsSpelled other (read_lines ls).pieces × IsPieces [] (without_start ls) (read_lines ls).pieces
+pub spelled_text : (other : List ℕ) (ls : List RawLine) → lines other ≡ ls → Plain ls → n.IsSpelled other (read_lines ls).pieces × IsPieces [] (without_start ls) (read_lines ls).pieces
 spelled_text other ls e plain =
     let behind : List RawLine = without_start ls in
     let clean = clean_found ls false plain.clean in
@@ -104,7 +99,7 @@ module _ (k : ℕ) (p : List RawLine) (early : AllIn (λ m. m ≤ k) p) (rises :
       subst (λ (ps : List Piece). AllOn (λ m. m ≤ k) ps) (sym d.are) d.on_lines
 
   -- where the pieces of the first lines are too high, so are those of all texts that have them
-  too_high : (Low (all_pieces (without_start p)).pieces → ⊥) → (b : List RawLine) → AllLate k b → Low (read_lines (p ++ b)).pieces → ⊥
+  pub too_high : (Low (all_pieces (without_start p)).pieces → ⊥) → (b : List RawLine) → AllLate k b → Low (read_lines (p ++ b)).pieces → ⊥
   too_high high b late low =
       let s : Starts k (without_start p) (without_start (p ++ b)) = start_follows k b late p in
       let h : Ahead k (all_pieces (without_start p)) (all_pieces ((without_start p) ++ s.behind_them)) =
@@ -126,7 +121,7 @@ two_codes c h = elim (tested (number_of c == 4)) [
 ]
 
 -- a text in the notation has no fault of lines and pieces, and of its tree one with the two codes
-in_tree_code : (ls : List RawLine) (root : Node) (g : Fault) → (other : List ℕ) → lines other ≡ ls → n.IsNotationText other root → in_tree ls ≡ Some g → IsTreeCode g.code
+pub in_tree_code : (ls : List RawLine) (root : Node) (g : Fault) → (other : List ℕ) → lines other ≡ ls → n.IsNotationText other root → in_tree ls ≡ Some g → IsTreeCode g.code
 in_tree_code ls root g other e (n.in_notation {ps = ps} (n.spelled {ls = xs} l c p low) t) i =
     let same : xs ≡ ls = sym (lines_read l) ∙ e in
     let k = start_clean xs false c in
@@ -199,119 +194,3 @@ pub other_codes : (text : List ℕ) (f : Fault) → tree text ≡ Err f → (f.c
 other_codes text f e (inl c) = let h = of_code f.code LeftOut c (λ t. cc) (by_number LeftOut 3 refl refl) in no_notation text f e h.1 h.0
 other_codes text f e (inr (inl c)) = let h = of_code f.code Tab c (λ t. cc) (by_number Tab 1 refl refl) in no_notation text f e h.1 h.0
 other_codes text f e (inr (inr c)) = let h = of_code f.code NotUtf8 c (λ t. cc) (by_number NotUtf8 13 refl refl) in no_notation text f e h.1 h.0
-
--- ---- an open quote
-
-module _ (text other : List ℕ) (f : Fault) (root : Node) (same : SameLines f.line text other) (e : tree text ≡ Err f) (structure : f.code ≡ Structure) (in_it : n.IsNotationText other root) where
-  abbrev Front : List RawLine
-  Front = take f.line (lines text)
-
-  abbrev Behind : List RawLine
-  Behind = drop f.line (lines text)
-
-  abbrev Instead : List RawLine
-  Instead = drop f.line (lines other)
-
-  front_long : length Front ≡ f.line
-  front_long = length-take-le f.line (lines text) (on_a_line text f e)
-
-  own_lines : Numbered 1 (Front ++ Behind)
-  own_lines = all_numbered text (Front ++ Behind) (cut f.line (lines text))
-
-  other_are : lines other ≡ Front ++ Instead
-  other_are = cut_same f.line text other same
-
-  other_lines : Numbered 1 (Front ++ Instead)
-  other_lines = all_numbered other (Front ++ Instead) other_are
-
-  plain_other : Plain (Front ++ Instead)
-  plain_other = notation_read other root (Front ++ Instead) other_are in_it
-
-  other_late : AllLate (length Front) Instead
-  other_late = numbered_behind 1 (length Front) Front Instead (omega arith) other_lines
-
-  front_early : AllIn (λ m. m ≤ length Front) Front
-  front_early = early_lines Front Behind own_lines
-
-  front_rises : Rises Front
-  front_rises = numbered_rises 1 Front (numbered_front 1 Front Behind own_lines)
-
-  not_late : (g : Fault) → g ≡ f → length Front < g.line → ⊥
-  not_late g is lt = let l = front_long in let same_line : g.line ≡ f.line = ap (λ (z : Fault). z.line) is in omega (arith, l, same_line, lt)
-
-  some_fault : (g h : Fault) → Some g ≡ Some h → g ≡ h
-  some_fault g h q = cc
-
-  late_no : (o : Option Fault) → OnFault (Late (length Front)) o → o ≡ Some f → ⊥
-  late_no None l q = cc
-  late_no (Some g) l q = not_late g (some_fault g f q) l
-
-  front_clean : (o : Option Fault) → line_fault Front ≡ o → line_fault Front ≡ None
-  front_clean None q = q
-  front_clean (Some g) q = absurd (let z : Some g ≡ None = sym (lines_keep Instead Front false g q) ∙ plain_other.clean in cc)
-
-  -- what was no fault of the first lines is none of them when lines follow
-  stays_none : (x y : Option Fault) → x ≡ None → Follows (length Front) x y → y ≡ Some f → ⊥
-  stays_none x y q (comes l) z = late_no y l z
-  stays_none x y q stays z = cc
-  stays_none x y q (deeper c lt) z = cc
-  stays_none x y q (closes c o) z = cc
-
-  -- the first lines have a fault of this code in their tree
-  was_structure : (x y : Option Fault) → Follows (length Front) x y → y ≡ Some f → (h : Fault) × (x ≡ Some h) × (h.code ≡ Structure)
-  was_structure x y (comes l) z = absurd (late_no y l z)
-  was_structure x y (stays {f = h}) z = (h, refl, subst (λ (g : Fault). g.code ≡ Structure) (sym (some_fault h f z)) structure)
-  was_structure x y (deeper {f = h} {g = g} c lt) z = absurd (not_late g (some_fault g f z) lt)
-  was_structure x y (closes {f = h} c o) z = (h, refl, c)
-
-  no_tree_fault : (h : Fault) → in_tree Front ≡ Some h → h.code ≡ Structure → ⊥
-  no_tree_fault h i c =
-      elim ((numbered_become Front Instead other_lines).too_deep_only h i) [
-        | inl j ↦ let q : false ≡ true = subst IsTreeCode c (in_tree_code (Front ++ Instead) root h other other_are in_it j) in cc
-        | inr l ↦ let q : 2 ≡ 12 = sym (ap number_of c) ∙ ap number_of l in omega (arith, q)
-      ]
-
-  not_clear : (read_lines Front).fault ≡ None → ⊥
-  not_clear none =
-      let become = numbered_become Front Behind own_lines in
-      elim (one_of (Front ++ Behind) f (told_text text (Front ++ Behind) f (cut f.line (lines text)) e)) [
-        | inl j ↦ stays_none (line_fault Front) (line_fault (Front ++ Behind)) (front_clean (line_fault Front) refl) become.alone j
-        | inr r ↦ elim r [
-          | inl j ↦ stays_none (read_lines Front).fault (read_lines (Front ++ Behind)).fault none become.of_piece j
-          | inr j ↦ let h = was_structure (in_tree Front) (in_tree (Front ++ Behind)) become.of_tree j in no_tree_fault h.0 h.1 h.2
-        ]
-      ]
-
-  quoted_by : Outcome (length Front) [] (without_start Front) (all_pieces (without_start Front)) → n.EndsQuoted f.line text
-  quoted_by (is_clear none) = absurd (not_clear none)
-  quoted_by (is_lost h) =
-      let s : Starts (length Front) (without_start Front) (without_start (Front ++ Instead)) = start_follows (length Front) Instead other_late Front in
-      let v = h s.behind_them s.late (suc (length (without_start Front ++ s.behind_them))) (omega (arith, length-append (without_start Front) s.behind_them)) in
-      absurd (let q : Some v.0 ≡ None = sym (ap (λ (ls : List RawLine). (all_pieces ls).fault) s.are ∙ v.1) ∙ plain_other.read in cc)
-  quoted_by (is_closed x c h) =
-      let low : Low (all_pieces (without_start Front)).pieces =
-      elim (low_or_not (all_pieces (without_start Front)).pieces) [
-        | inl l ↦ l
-        | inr high ↦ absurd (too_high (length Front) Front front_early front_rises high Instead other_late plain_other.low)
-      ] in
-      let r = h (suc (length (without_start Front ++ x ∷ []))) (omega (arith, length-append (without_start Front) (x ∷ []))) in
-      let is : without_start (Front ++ x ∷ []) ≡ without_start Front ++ x ∷ [] = starts (without_start Front) refl in
-      let read_is : read_lines (Front ++ x ∷ []) ≡ found r.0 [] = ap all_pieces is ∙ r.1 in
-      let pieces_are : (read_lines (Front ++ x ∷ [])).pieces ≡ r.0 = ap (λ (g : Found). g.pieces) read_is in
-      let plain : Plain (Front ++ x ∷ []) =
-      record {
-        clean = closing_keeps (length Front) x c Front false (front_clean (line_fault Front) refl);
-        read = ap (λ (g : Found). g.fault) read_is;
-        low = subst Low (sym pieces_are) (low_on r.2 low);
-      } in
-      let t = completed_text text Front Behind (x ∷ []) (cut f.line (lines text)) (inr (x, c, refl)) in
-      record { closed = t.0; close = x; pieces = (read_lines (Front ++ x ∷ [])).pieces; lines_are = t.1; quote = c.1; is_spelled = (spelled_text t.0 (Front ++ x ∷ []) t.1 plain).0 }
-    where
-      starts : (q : List RawLine) → without_start Front ≡ q → without_start (Front ++ x ∷ []) ≡ without_start Front ++ x ∷ []
-      starts [] i = absurd (not_clear (nothing_read (without_start Front) i))
-      starts (y ∷ ys) i = start_behind (x ∷ []) Front y ys i
-
-  pub open_quote : n.EndsQuoted f.line text
-  open_quote =
-      quoted_by (pieces_come (length Front) (suc (length (without_start Front))) [] (without_start Front) (omega arith)
-      (start_in (AllIn (λ m. m ≤ length Front)) (λ l rest i. i.1) Front front_early, start_in Rises (λ l rest i. i.1) Front front_rises, omega arith))

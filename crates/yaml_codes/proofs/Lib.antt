@@ -4,6 +4,8 @@ pub mod Spelled
 pub mod Allowed
 pub mod Lows
 pub mod Codes
+pub mod FirstPieces
+pub mod OpenQuote
 pub mod Grammar
 mod FlowSigns
 mod LeafSigns

@@ -270,7 +270,7 @@ module _ (text : List ℕ) (f : Fault) (e : tree text ≡ Err f) (code : IsTreeC
           let l = h s.behind_them s.late (suc (length ((without_start Front) ++ s.behind_them))) (omega (arith, length-append (without_start Front) s.behind_them)) in
           let at : (read_lines All).fault ≡ Some l.0 = ap (λ (ls : List RawLine). (all_pieces ls).fault) s.are ∙ l.1 in
           by_rule v is (lost_rule v l.0 at l.2 (read_lines Front).fault refl is become.of_piece) w
-      by (Some v) is w (is_closed x c h) =
+      by (Some v) is w (is_closed x c h q) =
           let r = h (suc (length ((without_start Front) ++ x ∷ []))) (omega (arith, length-append (without_start Front) (x ∷ []))) in
           let starts_so : without_start (Front ++ x ∷ []) ≡ (without_start Front) ++ x ∷ [] = starts (without_start Front) refl in
           by_close x c r.0 (ap all_pieces starts_so ∙ r.1) r.2 (whole_of (suc (length Front)) (Front ++ x ∷ []) (closing_orderly (length Front) x c Front false orderly) (ascends_close x c) (early_close x c))

@@ -12,7 +12,7 @@ use Rattle.yaml_tree.specs.Nodes.{Pair, null, listed, mapped}
 use Rattle.yaml_tree.specs.Pieces.{dash, key, leaf}
 use Rattle.yaml_tree.specs.Spelling.{IsLines, AreClean, IsPieces}
 use Rattle.yaml_laws.specs.Indents.{IsLeft, IsNoDash, IsOver}
-use Rattle.yaml_laws.specs.Refused.{SameLines}
+use Rattle.yaml_laws.specs.Refused.{SameLines, OpensQuote}
 use Rattle.yaml_codes.specs.LooseText.{AreOrderly, IsLoosePieces}
 
 mutual
@@ -110,11 +110,20 @@ pub data Breaks (n : ℕ) : Code → Node → Type 0 where
   repeats : {root : Node} → Has (Repeats n) root → Breaks n RepeatedKey root
   too_deep : {root : Node} → IsWithin n 64 root → Breaks n Limit root
 
--- The first n lines end inside a quoted scalar: they have pieces with one more line, which holds the closing quote alone.
+-- the last of the pieces is a leaf of the line n
+abbrev pub EndsOn : ℕ → List Piece → Type 0
+EndsOn n ps = (before : List Piece) × (column : ℕ) × (x : Node) × (ps ≡ before ++ leaf n column x 1 false ∷ [])
+
+-- The first n lines end inside a quoted scalar, which begins on the last of them and is not closed on it: with one more line, which holds
+-- the closing quote alone, they are in the notation, and the last of their pieces is a leaf of the line n.
 pub record EndsQuoted (n : ℕ) (text : List ℕ) : Type 0 where
   pub closed : List ℕ
   pub close : RawLine
   pub pieces : List Piece
   pub lines_are : lines closed ≡ take n (lines text) ++ close ∷ []
   pub quote : (close.content ≡ 34 ∷ []) ⊎ (close.content ≡ 39 ∷ [])
+  pub root : Node
   pub is_spelled : IsSpelled closed pieces
+  pub in_notation : IsNotation pieces root
+  pub last : EndsOn n pieces
+  pub opens : OpensQuote n text

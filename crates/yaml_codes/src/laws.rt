@@ -42,7 +42,8 @@ pub fn what_is_left_out_is_no_notation()
     ensures not_utf8 { (text : List ℕ) (f : Fault) → tree text ≡ Err f → f.code ≡ NotUtf8 → IsUnspelled f.line text }
 {}
 
-/// C2 too stands at a line with which no text of the notation goes on, unless the lines up to it end inside a quoted scalar.
+/// C2 too stands at a line with which no text of the notation goes on, unless the lines up to it end inside a quoted scalar. That scalar then
+/// begins on this line, is not closed on it, and with one more line, which closes it, they are in the notation.
 pub fn an_open_quote_may_go_on()
     ensures { (text other : List ℕ) (f : Fault) (root : Node) → SameLines f.line text other → tree text ≡ Err f → f.code ≡ Structure → IsNotationText other root
         → EndsQuoted f.line text }

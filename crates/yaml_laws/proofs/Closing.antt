@@ -1,5 +1,6 @@
--- A scalar whose lines end within it: it is read, or a line with the closing quote ends it, or whatever follows it has a fault.
-use Rattle.std.proofs.Common.{◌≡◌, ℕ, suc, ◌+◌, ◌-◌, ◌≤◌, Bool, true, false, cond, ◌||◌, ◌&&◌, ◌⊎◌, inl, inr, List, [], ◌∷◌, ◌++◌, drop, Option, Some, None, Result, Ok, Err, refl, ap, ◌∙◌, arith}
+-- A scalar whose lines end within it: it is read, or a line with the closing quote ends it, or whatever follows it has a fault. Where the
+-- quote can be closed, a fault that lines behind it give stands on the quote's own line or behind all these.
+use Rattle.std.proofs.Common.{◌≡◌, ℕ, suc, ◌+◌, ◌-◌, ◌≤◌, ◌<◌, Bool, true, false, cond, ◌||◌, ◌&&◌, ◌⊎◌, inl, inr, List, [], ◌∷◌, ◌++◌, drop, Option, Some, None, Result, Ok, Err, refl, ap, ◌∙◌, arith}
 use Rattle.std.specs.Prelude.{◌==◌, not, nat_lt, nat_le}
 use Rattle.std.proofs.lemmas.Bool.{ltb-true}
 use Rattle.yaml_scan.specs.declared.line.RawLine.{RawLine}
@@ -13,7 +14,7 @@ use Rattle.yaml_scan.specs.Plain.{text_of, further, plain}
 use Rattle.yaml_scan.specs.Quoted.{State, opened, escape, digits_behind, hex, shifted, is_character, noted, awaits, spoiled, usual_step, character, escaped, digit_step, step_by, step, is_closed, is_digits, run, led, finished_by, next_line, further as quoted_further, quoted}
 use Rattle.yaml_scan.specs.Block.{State as Block, added, begun, body, opening, headed, block}
 use Rattle.yaml_laws.proofs.Orders.{tested}
-use Rattle.yaml_laws.proofs.Walked.{AllIn, it, BadIn, Fair, opened_fair, next_fair, run_fair}
+use Rattle.yaml_laws.proofs.Walked.{AllIn, Ends, it, closes_ends, BadIn, Fair, open_closes, opened_fair, next_fair, run_fair}
 use Rattle.yaml_laws.proofs.FollowedScalars.{AllLate}
 
 -- a line behind the first k that holds the closing quote alone
@@ -23,18 +24,35 @@ IsClosing k x = (x.line ≡ suc k) × ((x.content ≡ 34 ∷ []) ⊎ (x.content 
 abbrev pub Rest : Type 0 → Type 0 → Type 0
 Rest A F = List RawLine → Result (A × List RawLine) F
 
--- what is read where these lines follow the first k
-pub data Closable {A F : Type 0} (k : ℕ) (at : F → Fault) (R : Rest A F) : Type 0 where
-  reads : {x : A × List RawLine} → R [] ≡ Ok x → Closable k at R
-  never : ((a : List RawLine) → AllLate k a → (f : F) × (R a ≡ Err f) × ((at f).line ≤ k)) → Closable k at R
-  closing : (x : RawLine) → IsClosing k x → (t : A) → R (x ∷ []) ≡ Ok (t, []) → Closable k at R
+-- the line n, or one behind the first k
+abbrev pub OwnLine : ℕ → ℕ → ℕ → Type 0
+OwnLine k n m = (m ≡ n) ⊎ (k < m)
 
-pub either : {A F : Type 0} {k : ℕ} {at : F → Fault} (b : Bool) (R S : Rest A F) → Closable k at R → Closable k at S → Closable k at (λ a. cond b (R a) (S a))
+-- The fault of an open quote, where nothing follows. Where lines follow, one stands on its line or behind the first k.
+pub record Stays {A F : Type 0} (k : ℕ) (own : F) (at : F → Fault) (R : Rest A F) : Type 0 where
+  pub first : R [] ≡ Err own
+  pub others : (a : List RawLine) → AllLate k a → Ends at (OwnLine k (at own).line) (AllLate k) (R a)
+
+-- What is read where these lines follow the first k. Where a line closes a quote, `own` is the fault without that line, and W says how the
+-- quote began.
+pub data Closable {A F : Type 0} (k : ℕ) (own : F) (at : F → Fault) (W : Type 0) (R : Rest A F) : Type 0 where
+  reads : {x : A × List RawLine} → R [] ≡ Ok x → Closable k own at W R
+  never : ((a : List RawLine) → AllLate k a → (f : F) × (R a ≡ Err f) × ((at f).line ≤ k)) → Closable k own at W R
+  closing : (x : RawLine) → IsClosing k x → (t : A) → R (x ∷ []) ≡ Ok (t, []) → Stays k own at R → W → Closable k own at W R
+
+pub either : {A F : Type 0} {k : ℕ} {own : F} {at : F → Fault} {W : Type 0} (b : Bool) (R S : Rest A F) → Closable k own at W R → Closable k own at W S → Closable k own at W (λ a. cond b (R a) (S a))
 either true R S p q = p
 either false R S p q = q
 
-pub stopped : {A F : Type 0} {k : ℕ} {at : F → Fault} (f : F) → (at f).line ≤ k → Closable {A = A} k at (λ a. Err f)
+pub stopped : {A F : Type 0} {k : ℕ} {own : F} {at : F → Fault} {W : Type 0} (f : F) → (at f).line ≤ k → Closable {A = A} k own at W (λ a. Err f)
 stopped f le = never (λ a late. (f, refl, le))
+
+-- the fault of a quote that is open on the line n
+abbrev pub own_fault : ℕ → Fault
+own_fault n = record { line = n; code = Structure }
+
+pub own_parts : (k n : ℕ) (l : RawLine) (ls : List RawLine) → AllLate k (l ∷ ls) → OwnLine k n l.line × AllLate k ls
+own_parts k n l ls h = (inr h.0, h.1)
 
 -- ---- what reading a line keeps: the quote, and the first bad escape
 
@@ -147,7 +165,7 @@ module _ (k : ℕ) where
   abbrev Early_state : State → Type 0
   Early_state s = Fair (λ m. m ≤ k) Firsts (λ l ls h. h) s
 
-  further_closable : (floor : ℕ) (ls : List RawLine) (text : List ℕ) (blanks : ℕ) → Firsts ls → Closable k it (λ a. further floor text blanks (ls ++ a))
+  further_closable : {own : Fault} {W : Type 0} (floor : ℕ) (ls : List RawLine) (text : List ℕ) (blanks : ℕ) → Firsts ls → Closable k own it W (λ a. further floor text blanks (ls ++ a))
   unfolding further
   further_closable floor [] text blanks f = reads refl
   further_closable floor (l ∷ ls) text blanks f =
@@ -157,7 +175,7 @@ module _ (k : ℕ) where
       (either (has_comment l.content) _ _ (reads refl)
       (further_closable floor ls (text ++ folded blanks ++ text_of l.content) 0 f.1))))
 
-  pub plain_closable : (floor n : ℕ) (bytes : List ℕ) (ls : List RawLine) → n ≤ k → Firsts ls → Closable k it (λ a. plain floor n bytes (ls ++ a))
+  pub plain_closable : {own : Fault} {W : Type 0} (floor n : ℕ) (bytes : List ℕ) (ls : List RawLine) → n ≤ k → Firsts ls → Closable k own it W (λ a. plain floor n bytes (ls ++ a))
   unfolding plain
   plain_closable floor n bytes ls le f =
       either (has_colon bytes) _ _ (stopped (record { line = n; code = Structure }) le) (either (has_comment bytes) _ _ (reads refl) (further_closable floor ls (text_of bytes) 0 f))
@@ -170,8 +188,9 @@ module _ (k : ℕ) where
   digits_spoil s le none digits = (s.line, le, λ blanks n. rw (digits, none) refl)
 
   -- the lines end within the scalar
-  open_closable : (floor first blanks : ℕ) (s : State) → (s.quote ≡ 34) ⊎ (s.quote ≡ 39) → first ≤ k → Early_state s → Closable k it (λ a. quoted_further floor first blanks s a)
-  open_closable floor first blanks s q le f =
+  open_closable : {W : Type 0} (floor first blanks : ℕ) (s : State) → (s.quote ≡ 34) ⊎ (s.quote ≡ 39) → first ≤ k → Early_state s → W → Closable k (own_fault first) it W (λ a. quoted_further floor first blanks s a)
+  unfolding quoted_further
+  open_closable floor first blanks s q le f w =
       elim (bad_early s.bad s refl f.1) [
         | inl spoilt ↦ never (λ a late. spoilt_fails k floor first a blanks s le spoilt)
         | inr none ↦ elim (tested (is_digits s.last)) [
@@ -179,56 +198,58 @@ module _ (k : ℕ) where
           | inr usual ↦
               let c = closes_now floor first blanks (suc k) s.quote s q refl none usual in
               closing (record { line = suc k; indent = floor; content = s.quote ∷ [] }) (refl, elim q [ inl e ↦ inl (ap (λ (b : ℕ). b ∷ []) e) | inr e ↦ inr (ap (λ (b : ℕ). b ∷ []) e) ]) c.0 c.1
+              (record { first = refl; others = λ a late. closes_ends (quoted_further floor first blanks s a) (open_closes (OwnLine k first) (AllLate k) (own_parts k first) floor first a blanks s (inl refl) none usual late) }) w
         ]
       ]
 
-  finished_closable : (bad : Option ℕ) (s : State) (rest : List ℕ) (ls : List RawLine) → BadIn (λ m. m ≤ k) Firsts (λ l ls h. h) bad → s.line ≤ k → Closable k it (λ a. finished_by bad s rest (ls ++ a))
+  finished_closable : {own : Fault} {W : Type 0} (bad : Option ℕ) (s : State) (rest : List ℕ) (ls : List RawLine) → BadIn (λ m. m ≤ k) Firsts (λ l ls h. h) bad → s.line ≤ k → Closable k own it W (λ a. finished_by bad s rest (ls ++ a))
   finished_closable (Some n) s rest ls b le = stopped (record { line = n; code = Structure }) b
   finished_closable None s rest ls b le = either (nothing_left false rest) _ _ (reads refl) (stopped (record { line = s.line; code = Structure }) le)
 
-  led_closable : (s : State) (end : Option (List ℕ)) (ls : List RawLine) (more : Rest (List ℕ) Fault) → Early_state s → Closable k it more → Closable k it (λ a. led s end (ls ++ a) (more a))
+  led_closable : {own : Fault} {W : Type 0} (s : State) (end : Option (List ℕ)) (ls : List RawLine) (more : Rest (List ℕ) Fault) → Early_state s → (end ≡ None → Closable k own it W more) → Closable k own it W (λ a. led s end (ls ++ a) (more a))
   led_closable s (Some rest) ls more f c = finished_closable s.bad s rest ls f.1 f.0
-  led_closable s None ls more f c = c
+  led_closable s None ls more f c = c refl
 
   same_quote : (s t : State) → t.quote ≡ s.quote → (s.quote ≡ 34) ⊎ (s.quote ≡ 39) → (t.quote ≡ 34) ⊎ (t.quote ≡ 39)
   same_quote s t e (inl q) = inl (e ∙ q)
   same_quote s t e (inr q) = inr (e ∙ q)
 
-  quoted_further_closable : (floor first : ℕ) (ls : List RawLine) (blanks : ℕ) (s : State) → (s.quote ≡ 34) ⊎ (s.quote ≡ 39) → first ≤ k → Early_state s → Firsts ls
-      → Closable k it (λ a. quoted_further floor first blanks s (ls ++ a))
+  quoted_further_closable : {W : Type 0} (floor first : ℕ) (ls : List RawLine) (blanks : ℕ) (s : State) → (s.quote ≡ 34) ⊎ (s.quote ≡ 39) → first ≤ k → Early_state s → Firsts ls → W
+      → Closable k (own_fault first) it W (λ a. quoted_further floor first blanks s (ls ++ a))
   unfolding quoted_further
-  quoted_further_closable floor first [] blanks s q le fair f = open_closable floor first blanks s q le fair
-  quoted_further_closable floor first (l ∷ ls) blanks s q le fair f =
+  quoted_further_closable floor first [] blanks s q le fair f w = open_closable floor first blanks s q le fair w
+  quoted_further_closable floor first (l ∷ ls) blanks s q le fair f w =
       let r : State × Option (List ℕ) = run (next_line s blanks l.line) (without_blanks l.content) in
       let fair' : Early_state r.0 = run_fair (λ m. m ≤ k) Firsts (λ l ls h. h) (without_blanks l.content) (next_line s blanks l.line) (next_fair (λ m. m ≤ k) Firsts (λ l ls h. h) s blanks l.line fair f.0) in
       let q' : (r.0.quote ≡ 34) ⊎ (r.0.quote ≡ 39) = same_quote s r.0 (run_keeps (without_blanks l.content) (next_line s blanks l.line)).quote q in
-      either (only_blanks l.content) _ _ (quoted_further_closable floor first ls (blanks + 1) s q le fair f.1)
+      either (only_blanks l.content) _ _ (quoted_further_closable floor first ls (blanks + 1) s q le fair f.1 w)
       (either (nat_lt l.indent floor) _ _ (stopped (record { line = first; code = Structure }) le)
-      (led_closable r.0 r.1 ls (λ a. quoted_further floor first 0 r.0 (ls ++ a)) fair' (quoted_further_closable floor first ls 0 r.0 q' le fair' f.1)))
+      (led_closable r.0 r.1 ls (λ a. quoted_further floor first 0 r.0 (ls ++ a)) fair' (λ e. quoted_further_closable floor first ls 0 r.0 q' le fair' f.1 w)))
 
-  pub quoted_closable : (floor n quote : ℕ) (bytes : List ℕ) (ls : List RawLine) → (quote ≡ 34) ⊎ (quote ≡ 39) → n ≤ k → Firsts ls → Closable k it (λ a. quoted floor n quote bytes (ls ++ a))
+  pub quoted_closable : (floor n quote : ℕ) (bytes : List ℕ) (ls : List RawLine) → (quote ≡ 34) ⊎ (quote ≡ 39) → n ≤ k → Firsts ls
+      → Closable k (own_fault n) it ((run (opened quote n) bytes).1 ≡ None) (λ a. quoted floor n quote bytes (ls ++ a))
   unfolding quoted
   quoted_closable floor n quote bytes ls q le f =
       let r : State × Option (List ℕ) = run (opened quote n) bytes in
       let fair : Early_state r.0 = opened_fair (λ m. m ≤ k) Firsts (λ l ls h. h) quote n bytes le in
       let q' : (r.0.quote ≡ 34) ⊎ (r.0.quote ≡ 39) = same_quote (opened quote n) r.0 (run_keeps bytes (opened quote n)).quote q in
-      led_closable r.0 r.1 ls (λ a. quoted_further floor n 0 r.0 (ls ++ a)) fair (quoted_further_closable floor n ls 0 r.0 q' le fair f)
+      led_closable r.0 r.1 ls (λ a. quoted_further floor n 0 r.0 (ls ++ a)) fair (λ e. quoted_further_closable floor n ls 0 r.0 q' le fair f e)
 
-  body_closable : (strip : Bool) (indent : ℕ) (ls : List RawLine) (b : Block) → Closable k it (λ a. body strip indent b (ls ++ a))
+  body_closable : {own : Fault} {W : Type 0} (strip : Bool) (indent : ℕ) (ls : List RawLine) (b : Block) → Closable k own it W (λ a. body strip indent b (ls ++ a))
   unfolding body
   body_closable strip indent [] b = reads refl
   body_closable strip indent (l ∷ ls) b =
       either (not (is_empty l.content) && nat_lt l.indent indent) _ _ (reads refl) (body_closable strip indent ls (added b (times (l.indent - indent) 32 ++ l.content)))
 
-  opening_closable : (fold strip : Bool) (floor : ℕ) (ls : List RawLine) (n : ℕ) → Closable k it (λ a. opening fold strip floor n (ls ++ a))
+  opening_closable : {own : Fault} {W : Type 0} (fold strip : Bool) (floor : ℕ) (ls : List RawLine) (n : ℕ) → Closable k own it W (λ a. opening fold strip floor n (ls ++ a))
   unfolding opening
   opening_closable fold strip floor [] n = reads refl
   opening_closable fold strip floor (l ∷ ls) n =
       either (is_empty l.content) _ _ (opening_closable fold strip floor ls (n + 1)) (either (nat_lt l.indent floor) _ _ (reads refl) (body_closable strip l.indent (l ∷ ls) (begun fold n)))
 
-  headed_closable : (fold strip : Bool) (floor n : ℕ) (head : List ℕ) (ls : List RawLine) → n ≤ k → Closable k it (λ a. headed fold strip floor n head (ls ++ a))
+  headed_closable : {own : Fault} {W : Type 0} (fold strip : Bool) (floor n : ℕ) (head : List ℕ) (ls : List RawLine) → n ≤ k → Closable k own it W (λ a. headed fold strip floor n head (ls ++ a))
   headed_closable fold strip floor n head ls le = either (nothing_left false head) _ _ (opening_closable fold strip floor ls 0) (stopped (record { line = n; code = left_out_code }) le)
 
-  pub block_closable : (floor n : ℕ) (fold : Bool) (head : List ℕ) (ls : List RawLine) → n ≤ k → Closable k it (λ a. block floor n fold head (ls ++ a))
+  pub block_closable : {own : Fault} {W : Type 0} (floor n : ℕ) (fold : Bool) (head : List ℕ) (ls : List RawLine) → n ≤ k → Closable k own it W (λ a. block floor n fold head (ls ++ a))
   unfolding block
   block_closable floor n fold head ls le = either (sees 45 head) _ _ (headed_closable fold true floor n (drop 1 head) ls le) (headed_closable fold false floor n head ls le)

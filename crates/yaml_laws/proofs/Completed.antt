@@ -21,7 +21,7 @@ use Rattle.yaml_laws.proofs.FollowedLines.{Rises, start_in, Starts, start_follow
 use Rattle.yaml_laws.proofs.Whole.{read_lines, in_tree, told, parts_on, Become, agree_same}
 use Rattle.yaml_laws.proofs.Cuts.{some_of, no_later_each}
 use Rattle.yaml_laws.proofs.Closing.{IsClosing}
-use Rattle.yaml_laws.proofs.Outcomes.{Outcome, is_clear, is_lost, is_closed, pieces_come}
+use Rattle.yaml_laws.proofs.Outcomes.{OpenIn, Outcome, is_clear, is_lost, is_closed, pieces_come}
 
 some_is : (f g : Fault) → Some f ≡ Some g → f ≡ g
 some_is f g e = cc
@@ -102,7 +102,7 @@ same_in_tree k xs qs on al =
 -- What makes the first lines a text by themselves: nothing, or a line that closes a quote. Or else a node in them is too deep.
 pub record Completed (k : ℕ) (p : List RawLine) : Type 0 where
   pub close : List RawLine
-  pub is : (close ≡ []) ⊎ ((x : RawLine) × IsClosing k x × (close ≡ x ∷ []))
+  pub is : (close ≡ []) ⊎ ((x : RawLine) × IsClosing k x × (close ≡ x ∷ []) × OpenIn k [] (without_start p) (all_pieces (without_start p)))
   pub so : (told (p ++ close) ≡ None) ⊎ ((g : Fault) × (told (p ++ close) ≡ Some g) × (in_tree p ≡ Some g) × (g.code ≡ Limit) × (g.line ≤ k))
 
 -- a text without faults of lines and pieces has the one of its tree
@@ -154,8 +154,8 @@ module _ (k : ℕ) (p a : List RawLine) (early : AllIn (λ m. m ≤ k) p) (rises
 
   -- a line closes the quote
   by_closing : line_fault p ≡ None → (o : Fault) → (read_lines p).fault ≡ Some o → (x : RawLine) → IsClosing k x
-      → ((n : ℕ) → length First < n → (qs : List Piece) × (pieces n [] (First ++ x ∷ []) ≡ found qs []) × Alike (all_pieces First).pieces qs) → Completed k p
-  by_closing e o bad x c h =
+      → ((n : ℕ) → length First < n → (qs : List Piece) × (pieces n [] (First ++ x ∷ []) ≡ found qs []) × Alike (all_pieces First).pieces qs) → OpenIn k [] First (all_pieces First) → Completed k p
+  by_closing e o bad x c h q =
       let r = h (suc (length (First ++ x ∷ []))) (omega (arith, length-append First (x ∷ []))) in
       let is : without_start (p ++ x ∷ []) ≡ First ++ x ∷ [] = starts First refl in
       let here : read_lines (p ++ x ∷ []) ≡ found r.0 [] = ap all_pieces is ∙ r.1 in
@@ -164,7 +164,7 @@ module _ (k : ℕ) (p a : List RawLine) (early : AllIn (λ m. m ≤ k) p) (rises
       let on : AllOn (λ m. m ≤ k) (all_pieces First).pieces = subst (λ (ps : List Piece). AllOn (λ m. m ≤ k) ps) (sym d.are) d.on_lines in
       let tree : in_tree (p ++ x ∷ []) ≡ in_tree p = ap (λ (f : Found). fault_of (document f.pieces)) here ∙ sym (same_in_tree k (all_pieces First).pieces r.0 on r.2) in
       let same : told (p ++ x ∷ []) ≡ in_tree p = told_tree (p ++ x ∷ []) (closing_keeps k x c p false e) (ap (λ (f : Found). f.fault) here) ∙ tree in
-      record { close = x ∷ []; is = inr (x, c, refl); so = tree_so (x ∷ []) same (in_tree p) refl }
+      record { close = x ∷ []; is = inr (x, c, refl, q); so = tree_so (x ∷ []) same (in_tree p) refl }
     where
       starts : (q : List RawLine) → First ≡ q → without_start (p ++ x ∷ []) ≡ First ++ x ∷ []
       starts [] i = absurd (let q : Some o ≡ None = sym bad ∙ nothing_read First i in cc)
@@ -173,7 +173,7 @@ module _ (k : ℕ) (p a : List RawLine) (early : AllIn (λ m. m ≤ k) p) (rises
   by_outcome : line_fault p ≡ None → (o : Option Fault) → (read_lines p).fault ≡ o → Outcome k [] First (all_pieces First) → Completed k p
   by_outcome e None i h = by_itself e i
   by_outcome e (Some o) i (is_clear none) = absurd (let q : Some o ≡ None = sym i ∙ none in cc)
-  by_outcome e (Some o) i (is_closed x c h) = by_closing e o i x c h
+  by_outcome e (Some o) i (is_closed x c h q) = by_closing e o i x c h q
   by_outcome e (Some o) i (is_lost h) =
       let s : Starts k First (without_start (p ++ a)) = start_follows k a late p in
       let v = h s.behind_them s.late (suc (length (First ++ s.behind_them))) (omega (arith, length-append First s.behind_them)) in

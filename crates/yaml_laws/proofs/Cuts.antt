@@ -48,7 +48,7 @@ one_moves k f g a o le n (stays {f = h}) e = subst (λ (z : Fault). NoLater f z)
 one_moves k f g a o le n (deeper {g = v} c lt) e = subst (λ (z : Fault). NoLater f z) (some_is v g e) (inl (omega (arith, lt, le)))
 one_moves k f g a o le n (closes {f = h} c opened) e = open_moves k f h g o le (n h refl) c opened e
 
-one_comes : (k : ℕ) (g : Fault) (a o : Option Fault) → a ≡ None → Follows k a o → o ≡ Some g → k < g.line
+pub one_comes : (k : ℕ) (g : Fault) (a o : Option Fault) → a ≡ None → Follows k a o → o ≡ Some g → k < g.line
 one_comes k g a o n (comes l) e = late_is k o g l e
 one_comes k g a o n stays e = absurd cc
 one_comes k g a o n (deeper c lt) e = absurd cc

@@ -12,6 +12,7 @@ pub mod Cuts
 pub mod Closing
 pub mod ClosingPieces
 pub mod Outcomes
+pub mod QuoteLines
 pub mod Completed
 pub mod Written
 pub mod FirstLine

@@ -1,5 +1,5 @@
 -- Scalars over lines of a kind: what is left are such lines, and a fault stands on such a line.
-use Rattle.std.proofs.Common.{ℕ, ◌+◌, ◌-◌, Bool, true, false, cond, ◌||◌, ◌&&◌, List, [], ◌∷◌, ◌++◌, drop, Option, Some, None, Result, Ok, Err}
+use Rattle.std.proofs.Common.{◌≡◌, ℕ, ◌+◌, ◌-◌, Bool, true, false, cond, ◌||◌, ◌&&◌, List, [], ◌∷◌, ◌++◌, drop, Option, Some, None, Result, Ok, Err}
 use Rattle.std.specs.Prelude.{◌==◌, not, nat_lt, nat_le}
 use Rattle.yaml_scan.specs.declared.line.RawLine.{RawLine}
 use Rattle.yaml_scan.specs.declared.fault.Fault.{Fault}
@@ -133,6 +133,17 @@ module _ (P : ℕ → Type 0) (S : List RawLine → Type 0) (parts : (l : RawLin
       let r : State × Option (List ℕ) = run (next_line s blanks l.line) (without_blanks l.content) in
       let fair : Fair r.0 = run_fair (without_blanks l.content) (next_line s blanks l.line) (next_fair s blanks l.line f q.0) in
       closes_either (only_blanks l.content) _ _ (further_closes floor first ls (blanks + 1) s p f q.1)
+      (closes_either (nat_lt l.indent floor) _ _ (stops p) (led_closes r.0 r.1 ls (quoted_further floor first 0 r.0 ls) fair q.1 (further_closes floor first ls 0 r.0 p fair q.1)))
+
+  -- the same where the quote is open behind lines of another kind, with no bad escape in them
+  pub open_closes : (floor first : ℕ) (ls : List RawLine) (blanks : ℕ) (s : State) → P first → s.bad ≡ None → is_digits s.last ≡ false → S ls → Closes P S (quoted_further floor first blanks s ls)
+  unfolding quoted_further
+  open_closes floor first [] blanks s p none usual h = stops p
+  open_closes floor first (l ∷ ls) blanks s p none usual h =
+      let q = parts l ls h in
+      let r : State × Option (List ℕ) = run (next_line s blanks l.line) (without_blanks l.content) in
+      let fair : Fair r.0 = run_fair (without_blanks l.content) (next_line s blanks l.line) (q.0, rw (usual, none) tt) in
+      closes_either (only_blanks l.content) _ _ (open_closes floor first ls (blanks + 1) s p none usual q.1)
       (closes_either (nat_lt l.indent floor) _ _ (stops p) (led_closes r.0 r.1 ls (quoted_further floor first 0 r.0 ls) fair q.1 (further_closes floor first ls 0 r.0 p fair q.1)))
 
   pub opened_fair : (quote n : ℕ) (bytes : List ℕ) → P n → Fair (run (opened quote n) bytes).0

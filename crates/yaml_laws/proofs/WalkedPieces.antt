@@ -52,7 +52,7 @@ module _ (P : ℕ → Type 0) (S : List RawLine → Type 0) (parts : (l : RawLin
 
   -- ---- leaves
 
-  scalar_ends : (n : ℕ) (is_plain : Bool) (r : Reading (List ℕ)) → Ends it P S r → Ends of_wrong P S (scalar n is_plain r)
+  pub scalar_ends : (n : ℕ) (is_plain : Bool) (r : Reading (List ℕ)) → Ends it P S r → Ends of_wrong P S (scalar n is_plain r)
   scalar_ends n is_plain (Ok x) (leaves s) = leaves s
   scalar_ends n is_plain (Err f) (stops p) = stops p
 

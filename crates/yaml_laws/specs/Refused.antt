@@ -1,15 +1,17 @@
 -- What a text is in terms of another that begins with its lines, and the order of faults.
-use Rattle.std.specs.Prelude.{◌≡◌, ◌≤◌, ◌<◌, ◌⊎◌, ℕ, ◌+◌, List, [], ◌∷◌, ◌++◌, take, Err, true, false}
+use Rattle.std.specs.Prelude.{◌≡◌, ◌≤◌, ◌<◌, ◌⊎◌, ℕ, ◌+◌, List, [], ◌∷◌, ◌++◌, take, None, Err, true, false}
 use Rattle.yaml_scan.specs.declared.line.RawLine.{RawLine}
 use Rattle.yaml_scan.specs.declared.fault.Fault.{Fault}
 use Rattle.yaml_scan.specs.declared.fault.Code.{Code}
 use Rattle.yaml_scan.specs.declared.fault.Code.TheVariants.{Tab, Structure, Limit, NotUtf8}
 use Rattle.yaml_scan.specs.Codes.{number_of}
 use Rattle.yaml_scan.specs.Lines.{lines}
-use Rattle.yaml_scan.specs.Words.{sees}
+use Rattle.yaml_scan.specs.Quoted.{opened, run}
+use Rattle.yaml_scan.specs.Words.{sees, is_blank}
 use Rattle.std.specs.Str.{is_utf8}
 use Rattle.yaml_tree.specs.declared.node.Node.{Node}
-use Rattle.yaml_tree.specs.Spelling.{IsText}
+use Rattle.yaml_tree.specs.Keys.{IsKey}
+use Rattle.yaml_tree.specs.Spelling.{IsText, IsAt, is_dash}
 use Rattle.yaml_tree.specs.Tree.{tree}
 
 -- f stands on a line before g, or on its line, and then its code is not greater
@@ -48,16 +50,6 @@ pub record IsFirstLine (text : List ℕ) (n : ℕ) : Type 0 where
 abbrev pub IsTooDeep : ℕ → List ℕ → Type 0
 IsTooDeep n text = (other : List ℕ) × (f : Fault) × SameLines n text other × (tree other ≡ Err f) × (f.code ≡ Limit) × (f.line ≤ n)
 
--- The first n lines end inside a quoted scalar: with one more line, which holds the closing quote alone, they are a text of the
--- grammar.
-pub record EndsInQuotes (n : ℕ) (text : List ℕ) : Type 0 where
-  pub closed : List ℕ
-  pub close : RawLine
-  pub root : Node
-  pub lines_are : lines closed ≡ take n (lines text) ++ close ∷ []
-  pub quote : (close.content ≡ 34 ∷ []) ⊎ (close.content ≡ 39 ∷ [])
-  pub in_grammar : IsText closed root
-
 -- ---- lines alone
 
 -- one of these lines
@@ -73,3 +65,35 @@ IsLineOf text l = IsOneOf (lines text) l
 -- bytes that are not UTF-8.
 abbrev pub IsBad : Code → RawLine → Type 0
 IsBad code l = ((code ≡ Tab) × (sees 9 l.content ≡ true)) ⊎ ((code ≡ NotUtf8) × (is_utf8 l.content ≡ false))
+
+-- ---- a quote that is open at the end of its line
+
+-- here a quoted scalar begins that is not closed on the line n
+abbrev pub IsOpen : ℕ → List ℕ → Type 0
+IsOpen n [] = ⊥
+IsOpen n (b ∷ bytes) = ((b ≡ 34) ⊎ (b ≡ 39)) × ((run (opened b n) bytes).1 ≡ None)
+
+-- In these bytes of the line n such a scalar begins: behind blanks and dashes, or there as the value of a key.
+pub data Opens (n : ℕ) : List ℕ → Type 0 where
+  here : {bytes : List ℕ} → IsOpen n bytes → Opens n bytes
+  blank : {b : ℕ} {bytes : List ℕ} → is_blank b ≡ true → Opens n bytes → Opens n (b ∷ bytes)
+  dash : {b : ℕ} {bytes : List ℕ} → is_dash (b ∷ bytes) ≡ true → Opens n bytes → Opens n (b ∷ bytes)
+  value : {column behind at : ℕ} {bytes k after rest : List ℕ} → IsKey column bytes k behind after → IsAt behind after at rest
+      → IsOpen n rest → Opens n bytes
+
+-- the line of the text with this number has one
+abbrev pub OpensQuote : ℕ → List ℕ → Type 0
+OpensQuote n text = (l : RawLine) × IsLineOf text l × (l.line ≡ n) × Opens n l.content
+
+-- ---- texts that end within quotes
+
+-- The first n lines end inside a quoted scalar, which begins on the last of them: with one more line, which holds the closing quote alone,
+-- they are a text of the grammar.
+pub record EndsInQuotes (n : ℕ) (text : List ℕ) : Type 0 where
+  pub closed : List ℕ
+  pub close : RawLine
+  pub root : Node
+  pub lines_are : lines closed ≡ take n (lines text) ++ close ∷ []
+  pub quote : (close.content ≡ 34 ∷ []) ⊎ (close.content ≡ 39 ∷ [])
+  pub in_grammar : IsText closed root
+  pub opens : OpensQuote n text

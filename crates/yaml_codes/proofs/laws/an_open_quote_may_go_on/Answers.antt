@@ -1,4 +1,4 @@
-use Rattle.yaml_codes.proofs.Codes.{open_quote}
+use Rattle.yaml_codes.proofs.OpenQuote.{open_quote}
 use Rattle.yaml_codes.proofs.laws.an_open_quote_may_go_on.Goals as goal
 
 pub returns : goal.returns
