@@ -14,8 +14,8 @@ use Rattle.yaml_tree.specs.Pieces.{dash, key}
 use Rattle.yaml_tree.specs.Layout.{◌>>=◌, Answer, Nodes, stop, front, is_dash, value_floor, at_column, dash_on, key_on, list_on, map_on, row_by, row, rows, item, pair, list, map, made, head, node_at, node, ended, document}
 use Rattle.yaml_laws.specs.Indents as i
 use Rattle.yaml_laws.proofs.Orders.{tested}
-use Rattle.yaml_codes.specs.Notation as n
-use Rattle.yaml_codes.proofs.Layouts.{IsTreeCode}
+use Rattle.yaml_rules.specs.Notation as n
+use Rattle.yaml_rules.proofs.Layouts.{IsTreeCode}
 
 -- it is read, or refused for one of the two codes
 abbrev pub Told : {A : Type 0} → Answer A → A → List Piece → Type 0

@@ -1,7 +1,7 @@
 -- What C4 and C12 tell of their line.
 use Rattle.std.proofs.Common.{◌≡◌, ◌≢◌, ℕ, suc, ◌≤◌, true, false, ◌⊎◌, inl, inr, List, [], ◌∷◌, ◌++◌, length, take, drop, Option, Some, None, Err, refl, sym, ap, subst, ◌∙◌, arith, length-append}
 use Rattle.std.specs.Prelude.{◌==◌, nat_le}
-use Rattle.std.proofs.lemmas.Bool.{leb-true, leb-false, eqb-true}
+use Rattle.std.proofs.lemmas.Bool.{leb-true, leb-false}
 use Rattle.std.proofs.lemmas.List.{length-take-le}
 use Rattle.yaml_scan.specs.declared.line.RawLine.{RawLine}
 use Rattle.yaml_scan.specs.declared.fault.Fault.{Fault}
@@ -20,17 +20,16 @@ use Rattle.yaml_tree.specs.Spelling.{none as no_byte, IsLines, IsPieces}
 use Rattle.yaml_tree.proofs.LinesFound.{lines_found, lines_read, clean_found, clean_read}
 use Rattle.yaml_tree.proofs.AllLines.{start_clean, pieces_found, pieces_read}
 use Rattle.yaml_tree.proofs.Low.{Low, low_parts}
-use Rattle.yaml_laws.proofs.Laid.{AllOn}
 use Rattle.yaml_laws.proofs.Followed.{dash, key, leaf, Alike, none as no_piece, more as more_alike}
 use Rattle.yaml_laws.proofs.Walked.{AllIn}
-use Rattle.yaml_laws.proofs.WalkedPieces.{Adds, adds_pieces}
 use Rattle.yaml_laws.proofs.FollowedScalars.{AllLate}
 use Rattle.yaml_laws.proofs.FollowedLines.{Rises, Follows, comes, stays, deeper, closes, Ahead, pieces_follow, start_in, Starts, start_follows}
 use Rattle.yaml_laws.proofs.Whole.{read_lines, in_tree, told, err_told}
-use Rattle.yaml_laws.proofs.Orders.{tested, same_code}
+use Rattle.yaml_laws.proofs.Orders.{tested}
 use Rattle.yaml_laws.proofs.Cuts.{one_remains, one_of, each_was, numbered_become, early_lines, all_numbered, told_text, cut, cut_same, on_a_line}
-use Rattle.yaml_codes.specs.Notation as n
-use Rattle.yaml_codes.proofs.Layouts.{IsTreeCode}
+use Rattle.yaml_rules.specs.Notation as n
+use Rattle.yaml_rules.proofs.Layouts.{IsTreeCode}
+use Rattle.yaml_rules.proofs.Firsts.{three_codes, two_codes}
 use Rattle.yaml_codes.proofs.Allowed.{Told, document_told}
 use Rattle.yaml_codes.proofs.Lows.{low_from, low_to}
 
@@ -92,12 +91,6 @@ spelled_text other ls e plain =
 -- ---- the first lines
 
 module _ (k : ℕ) (p : List RawLine) (early : AllIn (λ m. m ≤ k) p) (rises : Rises p) where
-  pub on_pieces : AllOn (λ m. m ≤ k) (all_pieces (without_start p)).pieces
-  on_pieces =
-      let on_lines : AllIn (λ m. m ≤ k) (without_start p) = start_in (AllIn (λ m. m ≤ k)) (λ l rest i. i.1) p early in
-      let d : Adds (λ m. m ≤ k) (AllIn (λ m. m ≤ k)) [] (all_pieces (without_start p)) = adds_pieces (λ m. m ≤ k) (AllIn (λ m. m ≤ k)) (λ l rest i. i) (suc (length (without_start p))) [] (without_start p) on_lines in
-      subst (λ (ps : List Piece). AllOn (λ m. m ≤ k) ps) (sym d.are) d.on_lines
-
   -- where the pieces of the first lines are too high, so are those of all texts that have them
   pub too_high : (Low (all_pieces (without_start p)).pieces → ⊥) → (b : List RawLine) → AllLate k b → Low (read_lines (p ++ b)).pieces → ⊥
   too_high high b late low =
@@ -109,16 +102,6 @@ module _ (k : ℕ) (p : List RawLine) (early : AllIn (λ m. m ≤ k) p) (rises :
       high (low_back is.alike (low_parts is.front is.tail (subst Low is.are low)).0)
 
 -- ---- the other codes
-
-pub three_codes : (c : Code) → (c ≡ RepeatedKey) ⊎ (c ≡ Limit) → IsTreeCode c
-three_codes c (inl e) = subst IsTreeCode (sym e) refl
-three_codes c (inr e) = subst IsTreeCode (sym e) refl
-
-pub two_codes : (c : Code) → IsTreeCode c → (c ≡ RepeatedKey) ⊎ (c ≡ Limit)
-two_codes c h = elim (tested (number_of c == 4)) [
-  | inl e ↦ inl (same_code c RepeatedKey (eqb-true (number_of c) 4 e))
-  | inr e ↦ let h' : (number_of c == 12) ≡ true = rw e at h in inr (same_code c Limit (eqb-true (number_of c) 12 h'))
-]
 
 -- a text in the notation has no fault of lines and pieces, and of its tree one with the two codes
 pub in_tree_code : (ls : List RawLine) (root : Node) (g : Fault) → (other : List ℕ) → lines other ≡ ls → n.IsNotationText other root → in_tree ls ≡ Some g → IsTreeCode g.code

@@ -8,7 +8,7 @@ use Rattle.yaml_tree.specs.Nodes.{Pair, null, listed, mapped}
 use Rattle.yaml_tree.specs.Pieces.{dash as dash_piece, key as key_piece, leaf as leaf_piece}
 use Rattle.yaml_laws.specs.Indents as i
 use Rattle.yaml_laws.proofs.Followed.{LikeWhat, dash, key, leaf, Alike, none, more}
-use Rattle.yaml_codes.specs.Notation as n
+use Rattle.yaml_rules.specs.Notation as n
 
 -- ---- alike pieces
 

@@ -7,7 +7,7 @@ use Rattle.yaml_tree.specs.Nodes.{Pair}
 use Rattle.yaml_tree.specs.Spelling.{IsText}
 use Rattle.yaml_laws.specs.Indents as i
 use Rattle.yaml_laws.proofs.Indented.{same_texts}
-use Rattle.yaml_codes.specs.Notation as n
+use Rattle.yaml_rules.specs.Notation as n
 use Rattle.yaml_codes.proofs.Lows.{low_to, block_low}
 
 module _ (N : Nodes) (to : (line floor : ℕ) (ps : List Piece) (x : Node) (rest : List Piece) → N line floor ps x rest → n.IsNode line floor ps x rest) where

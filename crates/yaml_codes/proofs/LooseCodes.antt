@@ -25,12 +25,12 @@ use Rattle.yaml_laws.proofs.Cuts.{one_of, none_of, each_was, early_lines, number
 use Rattle.yaml_laws.proofs.FollowedLines.{Follows, comes, stays, deeper, closes}
 use Rattle.yaml_laws.proofs.Orders.{least_in}
 use Rattle.yaml_laws.proofs.Whole.{read_lines, in_tree, told, ok_told, err_told}
-use Rattle.yaml_codes.specs.LooseText.{AreOrderly, line as one_line}
-use Rattle.yaml_codes.specs.Notation as n
+use Rattle.yaml_rules.specs.LooseText.{AreOrderly, line as one_line}
+use Rattle.yaml_rules.specs.Notation as n
 use Rattle.yaml_codes.proofs.Allowed.{Told, document_told}
-use Rattle.yaml_codes.proofs.Codes.{two_codes}
-use Rattle.yaml_codes.proofs.Layouts.{IsTreeCode}
-use Rattle.yaml_codes.proofs.LooseLines.{start_orderly}
+use Rattle.yaml_rules.proofs.Firsts.{two_codes}
+use Rattle.yaml_rules.proofs.Layouts.{IsTreeCode}
+use Rattle.yaml_rules.proofs.LooseLines.{start_orderly}
 use Rattle.yaml_codes.proofs.LooseNodes.{IsFront, front_is, notation_front, notation_same}
 use Rattle.yaml_codes.proofs.LoosePieces.{no_more, less_exact, PiecesAs, all_as, front_as, pieces_as}
 

@@ -8,7 +8,7 @@ use Rattle.yaml_tree.specs.Nodes.{Pair, null, listed, mapped}
 use Rattle.yaml_tree.specs.Pieces.{leaf}
 use Rattle.yaml_tree.proofs.Low.{Low}
 use Rattle.yaml_laws.specs.Indents as i
-use Rattle.yaml_codes.specs.Notation as n
+use Rattle.yaml_rules.specs.Notation as n
 use Rattle.yaml_codes.proofs.LoosePieces.{SameWhat, same_dash, same_key, same_leaf, Same, no_more, one_more}
 
 -- ---- a front

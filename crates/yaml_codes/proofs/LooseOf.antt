@@ -6,9 +6,9 @@ use Rattle.yaml_tree.specs.declared.piece.Piece.{Piece}
 use Rattle.yaml_tree.specs.Nodes.{Pair}
 use Rattle.yaml_tree.specs.Brackets as b
 use Rattle.yaml_tree.specs.Spelling as s
-use Rattle.yaml_codes.specs.LooseFlow as l
-use Rattle.yaml_codes.specs.LooseText as t
-use Rattle.yaml_codes.specs.Notation as n
+use Rattle.yaml_rules.specs.LooseFlow as l
+use Rattle.yaml_rules.specs.LooseText as t
+use Rattle.yaml_rules.specs.Notation as n
 
 mutual
   pub flow_loosely : {at height : ℕ} {bytes rest : List ℕ} {x : Node} → b.IsFlow at bytes x height rest → l.IsFlow at bytes x height rest

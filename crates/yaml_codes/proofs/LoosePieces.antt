@@ -29,11 +29,11 @@ use Rattle.yaml_tree.proofs.PiecesFound.{floor_more, at_longer}
 use Rattle.yaml_tree.proofs.PiecesRead.{heads_read, key_no_comment}
 use Rattle.yaml_tree.proofs.Shorter.{end_shorter}
 use Rattle.yaml_laws.proofs.FollowedLines.{go_none, go_some}
-use Rattle.yaml_codes.specs.LooseFlow.{IsFlow}
-use Rattle.yaml_codes.specs.LooseText.{AreOrderly, of_grammar, in_brackets, IsLooseHeads, nothing, dash as dash_is, leaf as leaf_is, key as key_is, key_value, IsLoosePieces, none as no_pieces, line as a_line}
-use Rattle.yaml_codes.proofs.Spelled.{loose_end}
-use Rattle.yaml_codes.proofs.LooseHeads.{the_repeated}
-use Rattle.yaml_codes.proofs.LooseLines.{or_left, or_right, still_orderly, not_over, orderly_line, orderly_behind, blank_heads, line_is}
+use Rattle.yaml_rules.specs.LooseFlow.{IsFlow}
+use Rattle.yaml_rules.specs.LooseText.{AreOrderly, of_grammar, in_brackets, IsLooseHeads, nothing, dash as dash_is, leaf as leaf_is, key as key_is, key_value, IsLoosePieces, none as no_pieces, line as a_line}
+use Rattle.yaml_rules.proofs.Spelled.{loose_end}
+use Rattle.yaml_rules.proofs.LooseHeads.{the_repeated}
+use Rattle.yaml_rules.proofs.LooseLines.{or_left, or_right, still_orderly, not_over, orderly_line, orderly_behind, blank_heads, line_is}
 use Rattle.yaml_codes.proofs.LooseOf.{flow_loosely}
 use Rattle.yaml_codes.proofs.LooseTold.{flow_read}
 

@@ -19,8 +19,8 @@ use Rattle.yaml_tree.proofs.QuotesFound.{at_last}
 use Rattle.yaml_tree.proofs.BracketWords.{cut, Told, alone, before, word_told, next_of}
 use Rattle.yaml_tree.proofs.OneLine.{inside_read, inside_shorter}
 use Rattle.yaml_tree.proofs.BracketSteps.{list_frame, map_frame, Goes, there, by, goes_on, quote_is, run_goes, kept_is, is_spaced, after_no_blank, after_no_colon, cut_is, plain_is}
-use Rattle.yaml_codes.specs.LooseFlow.{IsFlow, plain as plain_is_flow, quoted as quoted_is, list as list_is, map as map_is, IsItems, no_item, last_item, more_items, IsPair, key_alone, no_value, key_value, IsPairs, no_pair, last_pair, more_pairs}
-use Rattle.yaml_codes.proofs.LooseSteps.{at, shuts, scalar_step, list_opens, map_opens, list_closes, map_closes, key_closes, key_goes_on}
+use Rattle.yaml_rules.specs.LooseFlow.{IsFlow, plain as plain_is_flow, quoted as quoted_is, list as list_is, map as map_is, IsItems, no_item, last_item, more_items, IsPair, key_alone, no_value, key_value, IsPairs, no_pair, last_pair, more_pairs}
+use Rattle.yaml_rules.proofs.LooseSteps.{at, shuts, scalar_step, list_opens, map_opens, list_closes, map_closes, key_closes, key_goes_on}
 
 -- ---- how a token begins
 

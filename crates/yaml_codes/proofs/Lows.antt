@@ -8,7 +8,7 @@ use Rattle.yaml_tree.specs.Nodes.{Pair}
 use Rattle.yaml_tree.proofs.Low.{Low}
 use Rattle.yaml_laws.specs.Indents as i
 use Rattle.yaml_tree.specs.Grammar.{Nodes}
-use Rattle.yaml_codes.specs.Notation.{AreLow, no_piece, low_dash, low_key, low_leaf}
+use Rattle.yaml_rules.specs.Notation.{AreLow, no_piece, low_dash, low_key, low_leaf}
 
 pub low_from : {ps : List Piece} → AreLow ps → Low ps
 low_from no_piece = tt

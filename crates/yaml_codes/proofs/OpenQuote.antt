@@ -27,8 +27,8 @@ use Rattle.yaml_laws.proofs.Completed.{lines_keep, closing_keeps, start_behind, 
 use Rattle.yaml_laws.proofs.Outcomes.{OpenIn, Outcome, is_clear, is_lost, is_closed, pieces_come}
 use Rattle.yaml_laws.proofs.Written.{completed_text}
 use Rattle.yaml_laws.proofs.QuoteLines.{begins_there, opens_there, last_alike}
-use Rattle.yaml_codes.specs.Notation as n
-use Rattle.yaml_codes.proofs.Layouts.{IsTreeCode}
+use Rattle.yaml_rules.specs.Notation as n
+use Rattle.yaml_rules.proofs.Layouts.{IsTreeCode}
 use Rattle.yaml_codes.proofs.Codes.{low_or_not, low_on, Plain, notation_read, spelled_text, too_high, in_tree_code}
 use Rattle.yaml_codes.proofs.Lows.{low_from}
 use Rattle.yaml_codes.proofs.FirstPieces.{alike_between, first_notation}

@@ -1,13 +1,12 @@
 //! Laws of the definitions alone. Each is a function that does nothing; its contract is the law.
-ghost use Rattle.std.specs.Prelude.{◌≡◌, ◌≤◌, ◌⊎◌, ℕ, List, Err, Ok};
+ghost use Rattle.std.specs.Prelude.{◌≡◌, ◌⊎◌, ℕ, List, Err, Ok};
 ghost use Rattle.yaml_scan.specs.declared.fault.Code.TheVariants.{LeftOut, Limit, NotUtf8, RepeatedKey, Structure, Tab};
 ghost use Rattle.yaml_scan.specs.declared.fault.Fault.{Fault};
 ghost use Rattle.yaml_tree.specs.declared.node.Node.{Node};
 ghost use Rattle.yaml_tree.specs.Spelling.{IsText};
 ghost use Rattle.yaml_tree.specs.Tree.{tree};
-ghost use Rattle.yaml_laws.specs.Refused.{IsTooDeep, SameLines};
-ghost use Rattle.yaml_codes.specs.Notation.{Breaks, EndsQuoted, HasNotation, IsLooseText, IsNoText, IsNotationText, IsUnspelled};
-ghost use Rattle.yaml_codes.specs.Signs.{IsLeftOut};
+ghost use Rattle.yaml_laws.specs.Refused.{SameLines};
+ghost use Rattle.yaml_rules.specs.Notation.{EndsQuoted, IsLooseText, IsNoText, IsNotationText, IsUnspelled};
 
 /// Each text of the grammar is in the notation, and so in the loose one, with its tree; and a text in the loose notation that is not
 /// refused is in the grammar, with that tree.
@@ -15,18 +14,6 @@ pub fn the_grammar_is_notation_that_is_not_refused()
     ensures grammar { (text : List ℕ) (root : Node) → IsText text root → IsNotationText text root }
     ensures loosely { (text : List ℕ) (root : Node) → IsNotationText text root → IsLooseText text root }
     ensures notation { (text : List ℕ) (root x : Node) → IsLooseText text root → tree text ≡ Ok x → IsText text root }
-{}
-
-/// C4 and C12 stand at a line that goes on in the loose notation, where a rule on its trees is broken at the line: C4 at a key that stands
-/// already in its map, C12 at a node that stands in 64 others.
-pub fn a_code_of_the_tree_names_its_rule()
-    ensures { (text : List ℕ) (f : Fault) → tree text ≡ Err f → (f.code ≡ RepeatedKey) ⊎ (f.code ≡ Limit) → HasNotation f.line text (Breaks f.line f.code) }
-{}
-
-/// Where a node is too deep on the first n lines, a text that has them up to one is in the loose notation, and a node on that line stands
-/// in 64 others.
-pub fn what_is_too_deep_stands_in_64_others()
-    ensures { (n : ℕ) (text : List ℕ) → IsTooDeep n text → (m : ℕ) × (m ≤ n) × HasNotation m text (Breaks m Limit) }
 {}
 
 /// A text in the notation is refused for one of these two rules alone, and one in the loose notation for one of them or as no UTF-8.
@@ -47,9 +34,4 @@ pub fn what_is_left_out_is_no_notation()
 pub fn an_open_quote_may_go_on()
     ensures { (text other : List ℕ) (f : Fault) (root : Node) → SameLines f.line text other → tree text ≡ Err f → f.code ≡ Structure → IsNotationText other root
         → EndsQuoted f.line text }
-{}
-
-/// C3 stands at a line with a sign of what the profile leaves out, where a node or a key begins.
-pub fn what_is_left_out_has_its_sign()
-    ensures { (text : List ℕ) (f : Fault) → tree text ≡ Err f → f.code ≡ LeftOut → IsLeftOut text f.line }
 {}

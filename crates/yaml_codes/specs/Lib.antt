@@ -1,4 +1,0 @@
-pub mod LooseFlow
-pub mod LooseText
-pub mod Notation
-pub mod Signs
