@@ -14,8 +14,8 @@ use Rattle.yaml_tree.specs.Pieces.{dash, key}
 use Rattle.yaml_tree.specs.Layout.{◌>>=◌, Answer, Nodes, stop, front, is_dash, value_floor, at_column, dash_on, key_on, list_on, map_on, row_by, row, rows, item, pair, list, map, made, head, node_at, node, ended, document}
 use Rattle.yaml_laws.specs.Indents as i
 use Rattle.yaml_laws.proofs.Orders.{tested}
-use Rattle.yaml_codes.specs.Notation as n
-use Rattle.yaml_codes.proofs.Layouts.{IsTreeCode}
+use Rattle.yaml_rules.specs.Notation as n
+use Rattle.yaml_rules.proofs.Layouts.{IsTreeCode}
 
 -- it is read, or refused for one of the two codes
 abbrev pub Told : {A : Type 0} → Answer A → A → List Piece → Type 0
@@ -69,7 +69,7 @@ deeper_floor c ps (i.other {p = p} d) = rw (no_dash p.what d) refl
 mutual
   node_less : {line floor : ℕ} {ps rest : List Piece} {x : Node} → n.IsNode line floor ps x rest → length rest ≤ length ps
   node_less (n.absent e) = omega arith
-  node_less (n.one_leaf le h) = omega arith
+  node_less (n.one_leaf le) = omega arith
   node_less (n.list le i) = items_less i
   node_less (n.map le i) = pairs_less i
 
@@ -122,7 +122,7 @@ mutual
   node_told : {line floor : ℕ} {ps rest : List Piece} {x : Node} → n.IsNode line floor ps x rest → (depth : ℕ) → Told (node depth line floor ps) x rest
   node_told {line = line} {floor = floor} {ps = ps} h zero = inr (record { line = (head line floor (front ps)).line; code = Limit }, refl, refl)
   node_told {line = line} {floor = floor} {ps = ps} (n.absent e) (suc depth) = absent_told (suc depth) line floor (node depth) ps e
-  node_told {floor = floor} (n.one_leaf {n = m} {indent = c} {height = height} {ps = ps} {x = x} le h) (suc depth) =
+  node_told {floor = floor} (n.one_leaf {n = m} {indent = c} {height = height} {ps = ps} {x = x} le) (suc depth) =
       rw (le-ltb c floor le) (told_leaf (nat_lt (suc depth) height) m x ps)
   node_told {floor = floor} {rest = rest} (n.list {n = m} {indent = c} {ps = ps} {xs = xs} le i) (suc depth) =
       rw (le-ltb c floor le) (told_made (listed m) (list (node depth) c (dash m c ∷ ps)) xs rest (items_told i depth (suc (length (dash m c ∷ ps))) [] (omega arith)))

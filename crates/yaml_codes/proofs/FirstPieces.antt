@@ -8,7 +8,7 @@ use Rattle.yaml_tree.specs.Nodes.{Pair, null, listed, mapped}
 use Rattle.yaml_tree.specs.Pieces.{dash as dash_piece, key as key_piece, leaf as leaf_piece}
 use Rattle.yaml_laws.specs.Indents as i
 use Rattle.yaml_laws.proofs.Followed.{LikeWhat, dash, key, leaf, Alike, none, more}
-use Rattle.yaml_codes.specs.Notation as n
+use Rattle.yaml_rules.specs.Notation as n
 
 -- ---- alike pieces
 
@@ -153,10 +153,10 @@ module _ (tail : List Piece) where
   mutual
     first_node : {line floor : ℕ} {all rest : List Piece} {x : Node} → n.IsNode line floor all x rest → (front qs : List Piece) → all ≡ front ++ tail → Alike front qs → Cut (n.IsNode line floor) rest qs
     first_node {line} {floor} {all} {rest} (n.absent l) front qs e a = record { x = null line; ys = qs; is = n.absent (left_first all front qs l e a); left = within front e a }
-    first_node {line} {floor} {all} {rest} (n.one_leaf {n = m} {indent = column} {height = height} {out = out} {ps = ps} {x = x} le h) front qs e a =
+    first_node {line} {floor} {all} {rest} (n.one_leaf {n = m} {indent = column} {height = height} {out = out} {ps = ps} {x = x} le) front qs e a =
         elim (same_leaf m column height x out ps qs (first _ ps front qs e a)) [
           | inl z ↦ none_left (n.IsNode line floor) (null line) rest qs (n.absent i.no_piece) z
-          | inr s ↦ record { x = s.0; ys = s.1.left; is = subst (λ (zs : List Piece). n.IsNode line floor zs s.0 s.1.left) (sym s.1.begins) (n.one_leaf le h); left = within s.1.front s.1.are s.1.alike }
+          | inr s ↦ record { x = s.0; ys = s.1.left; is = subst (λ (zs : List Piece). n.IsNode line floor zs s.0 s.1.left) (sym s.1.begins) (n.one_leaf le); left = within s.1.front s.1.are s.1.alike }
         ]
     first_node {line} {floor} {all} {rest} (n.list {n = m} {indent = column} {ps = ps} le h) front qs e a =
         let c = first_items h front qs e a in

@@ -9,7 +9,7 @@ use Rattle.yaml_scan.specs.Lines.{lines, line_fault, without_start}
 use Rattle.yaml_tree.specs.declared.node.Node.{Node}
 use Rattle.yaml_tree.specs.declared.piece.Piece.{Piece}
 use Rattle.yaml_tree.specs.Nodes.{null}
-use Rattle.yaml_tree.specs.Pieces.{Found, found, pieces, all_pieces, is_begun}
+use Rattle.yaml_tree.specs.Pieces.{Found, found, all_pieces, is_begun}
 use Rattle.yaml_tree.specs.Tree.{tree}
 use Rattle.yaml_tree.proofs.Low.{Low}
 use Rattle.yaml_laws.specs.Refused.{SameLines}
@@ -27,18 +27,19 @@ use Rattle.yaml_laws.proofs.Completed.{lines_keep, closing_keeps, start_behind, 
 use Rattle.yaml_laws.proofs.Outcomes.{OpenIn, Outcome, is_clear, is_lost, is_closed, pieces_come}
 use Rattle.yaml_laws.proofs.Written.{completed_text}
 use Rattle.yaml_laws.proofs.QuoteLines.{begins_there, opens_there, last_alike}
-use Rattle.yaml_codes.specs.Notation as n
-use Rattle.yaml_codes.proofs.Layouts.{IsTreeCode}
-use Rattle.yaml_codes.proofs.Codes.{low_or_not, low_on, Plain, notation_read, spelled_text, too_high, low_node, in_tree_code}
+use Rattle.yaml_rules.specs.Notation as n
+use Rattle.yaml_rules.proofs.Layouts.{IsTreeCode}
+use Rattle.yaml_codes.proofs.Codes.{low_or_not, low_on, Plain, notation_read, spelled_text, too_high, in_tree_code}
+use Rattle.yaml_codes.proofs.Lows.{low_from}
 use Rattle.yaml_codes.proofs.FirstPieces.{alike_between, first_notation}
 
 -- the pieces of a text in the notation are in it
 notation_of : (other : List ℕ) (root : Node) (ls : List RawLine) → lines other ≡ ls → n.IsNotationText other root → n.IsNotation (read_lines ls).pieces root
-notation_of other root ls e (n.in_notation {ps = ps} (n.spelled {ls = xs} l c p) t) =
+notation_of other root ls e (n.in_notation {ps = ps} (n.spelled {ls = xs} l c p low) t) =
     let same : xs ≡ ls = sym (lines_read l) ∙ e in
     let k = start_clean xs false c in
     let begun : is_begun [] ≡ true → k.0 ≡ true = λ e. absurd cc in
-    let q = pieces_read (suc (length (without_start xs))) [] k.0 (without_start xs) ps (omega arith) begun k.1 p (low_node t tt) in
+    let q = pieces_read (suc (length (without_start xs))) [] k.0 (without_start xs) ps (omega arith) begun k.1 p (low_from low) in
     subst (λ (zs : List RawLine). n.IsNotation (read_lines zs).pieces root) same (subst (λ (qs : List Piece). n.IsNotation qs root) (sym q.0) t)
 
 module _ (text other : List ℕ) (f : Fault) (root : Node) (same : SameLines f.line text other) (e : tree text ≡ Err f) (structure : f.code ≡ Structure) (in_it : n.IsNotationText other root) where

@@ -6,38 +6,27 @@ ghost use Rattle.yaml_tree.specs.declared.node.Node.{Node};
 ghost use Rattle.yaml_tree.specs.Spelling.{IsText};
 ghost use Rattle.yaml_tree.specs.Tree.{tree};
 ghost use Rattle.yaml_laws.specs.Refused.{SameLines};
-ghost use Rattle.yaml_codes.specs.Notation.{Breaks, EndsQuoted, HasNotation, IsNotationText, IsUnspelled};
-ghost use Rattle.yaml_codes.specs.Signs.{BreaksInLine, IsLeftOut};
+ghost use Rattle.yaml_rules.specs.Notation.{EndsQuoted, IsLooseText, IsNoText, IsNotationText, IsUnspelled};
 
-/// Each text of the grammar is in the notation, with its tree; and a text in the notation that is not refused is in the grammar, with that
-/// tree.
+/// Each text of the grammar is in the notation, and so in the loose one, with its tree; and a text in the loose notation that is not
+/// refused is in the grammar, with that tree.
 pub fn the_grammar_is_notation_that_is_not_refused()
     ensures grammar { (text : List ℕ) (root : Node) → IsText text root → IsNotationText text root }
-    ensures notation { (text : List ℕ) (root x : Node) → IsNotationText text root → tree text ≡ Ok x → IsText text root }
+    ensures loosely { (text : List ℕ) (root : Node) → IsNotationText text root → IsLooseText text root }
+    ensures notation { (text : List ℕ) (root x : Node) → IsLooseText text root → tree text ≡ Ok x → IsText text root }
 {}
 
-/// C4 and C12 stand at a line that goes on in the notation, where a rule on its trees is broken at the line: C4 at a key that stands
-/// already in its map, C12 at a node that stands in 64 others. Or else no text with these lines is in the notation.
-pub fn a_code_of_the_tree_names_its_rule()
-    ensures { (text : List ℕ) (f : Fault) → tree text ≡ Err f → (f.code ≡ RepeatedKey) ⊎ (f.code ≡ Limit)
-        → HasNotation f.line text (Breaks f.line f.code) ⊎ IsUnspelled f.line text }
-{}
-
-/// Where no text in the notation has the lines up to one with C4 or C12, that line is not UTF-8, or it has flow in which a key stands
-/// again, or it or one before it has flow with more than 64 nodes in one another.
-pub fn a_rule_may_be_broken_in_flow()
-    ensures { (text : List ℕ) (f : Fault) → tree text ≡ Err f → (f.code ≡ RepeatedKey) ⊎ (f.code ≡ Limit) → IsUnspelled f.line text
-        → BreaksInLine text f.line }
-{}
-
-/// A text in the notation is refused for one of these two rules alone.
+/// A text in the notation is refused for one of these two rules alone, and one in the loose notation for one of them or as no UTF-8.
 pub fn notation_breaks_no_other_rule()
-    ensures { (text : List ℕ) (root : Node) (f : Fault) → IsNotationText text root → tree text ≡ Err f → (f.code ≡ RepeatedKey) ⊎ (f.code ≡ Limit) }
+    ensures notation { (text : List ℕ) (root : Node) (f : Fault) → IsNotationText text root → tree text ≡ Err f → (f.code ≡ RepeatedKey) ⊎ (f.code ≡ Limit) }
+    ensures loosely { (text : List ℕ) (root : Node) (f : Fault) → IsLooseText text root → tree text ≡ Err f
+        → (f.code ≡ RepeatedKey) ⊎ ((f.code ≡ Limit) ⊎ (f.code ≡ NotUtf8)) }
 {}
 
-/// C1, C3 and C13 stand at a line with which no text of the notation goes on.
+/// C1 and C3 stand at a line with which no text of the loose notation goes on, and C13 at one with which none of the notation does.
 pub fn what_is_left_out_is_no_notation()
-    ensures { (text : List ℕ) (f : Fault) → tree text ≡ Err f → (f.code ≡ LeftOut) ⊎ ((f.code ≡ Tab) ⊎ (f.code ≡ NotUtf8)) → IsUnspelled f.line text }
+    ensures left_out { (text : List ℕ) (f : Fault) → tree text ≡ Err f → (f.code ≡ LeftOut) ⊎ (f.code ≡ Tab) → IsNoText f.line text }
+    ensures not_utf8 { (text : List ℕ) (f : Fault) → tree text ≡ Err f → f.code ≡ NotUtf8 → IsUnspelled f.line text }
 {}
 
 /// C2 too stands at a line with which no text of the notation goes on, unless the lines up to it end inside a quoted scalar. That scalar then
@@ -45,9 +34,4 @@ pub fn what_is_left_out_is_no_notation()
 pub fn an_open_quote_may_go_on()
     ensures { (text other : List ℕ) (f : Fault) (root : Node) → SameLines f.line text other → tree text ≡ Err f → f.code ≡ Structure → IsNotationText other root
         → EndsQuoted f.line text }
-{}
-
-/// C3 stands at a line with a sign of what the profile leaves out, where a node or a key begins.
-pub fn what_is_left_out_has_its_sign()
-    ensures { (text : List ℕ) (f : Fault) → tree text ≡ Err f → f.code ≡ LeftOut → IsLeftOut text f.line }
 {}

@@ -1,5 +1,10 @@
+use Rattle.std.proofs.Common.{inr}
 use Rattle.yaml_codes.proofs.Codes.{other_codes}
+use Rattle.yaml_codes.proofs.LooseCodes.{left_out_or_tab}
 use Rattle.yaml_codes.proofs.laws.what_is_left_out_is_no_notation.Goals as goal
 
-pub returns : goal.returns
-returns c = other_codes
+pub returns-clause-left_out : goal.returns-clause-left_out
+returns-clause-left_out c = left_out_or_tab
+
+pub returns-clause-not_utf8 : goal.returns-clause-not_utf8
+returns-clause-not_utf8 c = λ text f e u. other_codes text f e (inr (inr u))

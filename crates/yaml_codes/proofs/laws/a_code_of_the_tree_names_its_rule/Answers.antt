@@ -1,5 +1,0 @@
-use Rattle.yaml_codes.proofs.Codes.{names_rule}
-use Rattle.yaml_codes.proofs.laws.a_code_of_the_tree_names_its_rule.Goals as goal
-
-pub returns : goal.returns
-returns c = names_rule

@@ -1,0 +1,12 @@
+pub mod Chains
+pub mod Layouts
+pub mod Spelled
+pub mod LooseSteps
+pub mod LooseSpots
+pub mod LooseRead
+pub mod LooseHeads
+pub mod LooseLines
+pub mod KeysAgain
+pub mod Firsts
+pub mod Rules
+pub mod TooDeep

@@ -1,0 +1,3 @@
+pub mod LooseFlow
+pub mod LooseText
+pub mod Notation

@@ -1,0 +1,5 @@
+pub mod FlowSigns
+pub mod LeafSigns
+mod PieceSigns
+mod LayoutSigns
+mod Signs
