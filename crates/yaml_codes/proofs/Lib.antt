@@ -2,10 +2,11 @@ mod Allowed
 mod Lows
 mod Codes
 mod FirstPieces
-mod OpenQuote
+mod HighLeaf
 mod Grammar
 mod LooseOf
 mod LooseTold
 mod LoosePieces
 mod LooseNodes
 mod LooseCodes
+mod OpenQuote
