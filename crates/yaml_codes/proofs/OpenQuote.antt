@@ -1,5 +1,5 @@
 -- What C2 tells of its line where some text of the loose notation goes on from it: a quote is open.
-use Rattle.std.proofs.Common.{◌≡◌, ℕ, suc, ◌+◌, ◌≤◌, ◌<◌, Bool, true, false, cond, ◌||◌, ◌&&◌, ◌⊎◌, inl, inr, List, [], ◌∷◌, ◌++◌, length, take, drop, Option, Some, None, Err, refl, sym, ap, subst, ◌∙◌, append_assoc, arith, length-append}
+use Rattle.std.proofs.Common.{◌≡◌, ℕ, suc, ◌≤◌, ◌<◌, Bool, true, false, cond, ◌||◌, ◌&&◌, ◌⊎◌, inl, inr, List, [], ◌∷◌, ◌++◌, length, take, drop, Option, Some, None, Err, refl, sym, ap, subst, ◌∙◌, append_assoc, arith, length-append}
 use Rattle.std.specs.Prelude.{not}
 use Rattle.std.specs.Str.{is_utf8}
 use Rattle.std.proofs.lemmas.List.{length-take-le}
@@ -40,9 +40,10 @@ use Rattle.yaml_rules.specs.Notation as n
 use Rattle.yaml_rules.proofs.Firsts.{on_pieces}
 use Rattle.yaml_rules.proofs.KeysAgain.{on_on}
 use Rattle.yaml_rules.proofs.Layouts.{Fit}
-use Rattle.yaml_rules.proofs.LooseLines.{start_orderly, closing_orderly, Whole, all_read, key_again, refused, pieces_whole}
+use Rattle.yaml_rules.proofs.LooseLines.{closing_orderly, Whole, all_read, key_again, refused}
 use Rattle.yaml_rules.proofs.Spelled.{Ascends, ascends_start, numbered_ascends, pieces_fit}
 use Rattle.yaml_codes.specs.OpenText.{IsUtf8At, loosely_spelled, EndsLoosely}
+use Rattle.yaml_codes.proofs.ClosedLines.{alike_then, whole_of, early_closed, ascends_closed}
 use Rattle.yaml_codes.proofs.Codes.{low_or_not, low_back, low_on, Plain, notation_read, spelled_text}
 use Rattle.yaml_codes.proofs.FirstPieces.{alike_between, first_notation}
 use Rattle.yaml_codes.proofs.HighLeaf.{high_refused, LastLow, last_low, before_line}
@@ -89,12 +90,6 @@ bad_line (l ∷ ls) begun g (one_line t d m r) e = by (one_fault begun l) refl e
     by (Some h) is e go = let r = one_bad begun l g t d m (is ∙ e) in (l, inl refl, r.0, r.1)
 
 -- ---- pieces
-
-alike_back : {ps qs : List Piece} → Alike ps qs → Alike qs ps
-alike_back {ps = ps} a = alike_between a (alike_itself ps)
-
-alike_then : {ps qs rs : List Piece} → Alike ps qs → Alike qs rs → Alike ps rs
-alike_then a b = alike_between (alike_back a) b
 
 record Split (ps qs zs : List Piece) : Type 0 where
   former : List Piece
@@ -294,25 +289,11 @@ module _ (text other : List ℕ) (f : Fault) (root : Node) (same : SameLines f.l
     closed_orderly : AreOrderly false Closed
     closed_orderly = closing_orderly (length Front) x c Front false front_orderly
 
-    closed_early : AllIn (λ m. m ≤ suc (length Front)) Closed
-    closed_early = early Front front_early
-      where
-        early : (ls : List RawLine) → AllIn (λ m. m ≤ length Front) ls → AllIn (λ m. m ≤ suc (length Front)) (ls ++ x ∷ [])
-        early [] h = (let q = c.0 in omega (arith, q), tt)
-        early (l ∷ ls) h = (let le = h.0 in omega (arith, le), early ls h.1)
-
     closed_ascends : Ascends 1 Closed
-    closed_ascends = up Front 1 (omega arith) front_ascends front_early
-      where
-        up : (ls : List RawLine) (m : ℕ) → m ≤ suc (length Front) → Ascends m ls → AllIn (λ j. j ≤ length Front) ls → Ascends m (ls ++ x ∷ [])
-        up [] m le h o = (let q = c.0 in omega (arith, q, le), tt)
-        up (l ∷ ls) m le h o = (h.0, up ls (l.line + 1) (let k = o.0 in omega (arith, k)) h.1 o.1)
+    closed_ascends = ascends_closed (length Front) x c Front 1 (omega arith) front_ascends front_early
 
     closed_whole : Whole (suc (length Front)) [] (without_start Closed) (read_lines Closed)
-    closed_whole =
-        let s = start_orderly Closed false closed_orderly in
-        pieces_whole (suc (length Front)) (suc (length (without_start Closed))) [] [] s.0 (without_start Closed) 1 (omega arith) (λ h. absurd cc) s.1 none tt
-        (start_in (Ascends 1) ascends_start Closed closed_ascends) (start_in (AllIn (λ m. m ≤ suc (length Front))) (λ l rest i. i.1) Closed closed_early)
+    closed_whole = whole_of (suc (length Front)) Closed closed_orderly closed_ascends (early_closed (length Front) x c Front front_early)
 
     module _ (q : OpenIn (length Front) [] (without_start Front) (all_pieces (without_start Front))) (qs : List Piece) (read_is : read_lines Closed ≡ found qs []) (al : Alike (read_lines Front).pieces qs) where
       begins : q.l.line ≡ length Front

@@ -1,4 +1,4 @@
--- What a text ends with that is in the loose notation once a quote is closed.
+-- Texts that begin with some lines and are in the loose notation: any, or one with a line behind them that closes a quote.
 use Rattle.std.specs.Prelude.{◌≡◌, ◌⊎◌, ℕ, true, false, List, [], ◌∷◌, ◌++◌, take}
 use Rattle.std.specs.Str.{is_utf8}
 use Rattle.yaml_scan.specs.declared.line.RawLine.{RawLine}
@@ -6,9 +6,13 @@ use Rattle.yaml_scan.specs.Lines.{lines, without_mark, without_start}
 use Rattle.yaml_tree.specs.declared.node.Node.{Node}
 use Rattle.yaml_tree.specs.declared.piece.Piece.{Piece}
 use Rattle.yaml_tree.specs.Spelling.{IsLines}
-use Rattle.yaml_laws.specs.Refused.{IsLineOf, OpensQuote}
+use Rattle.yaml_laws.specs.Refused.{SameLines, IsLineOf, OpensQuote}
 use Rattle.yaml_rules.specs.LooseText.{AreOrderly, IsLoosePieces}
-use Rattle.yaml_rules.specs.Notation.{IsNotation, EndsOn}
+use Rattle.yaml_rules.specs.Notation.{IsNotation, IsLooseText, EndsOn}
+
+-- some text that has the first n lines is in the loose notation
+abbrev pub GoesOnLoosely : ℕ → List ℕ → Type 0
+GoesOnLoosely n text = (other : List ℕ) × (root : Node) × SameLines n text other × IsLooseText other root
 
 -- the line of the text with this number is UTF-8
 abbrev pub IsUtf8At : ℕ → List ℕ → Type 0

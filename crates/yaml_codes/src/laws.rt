@@ -7,7 +7,7 @@ ghost use Rattle.yaml_tree.specs.Spelling.{IsText};
 ghost use Rattle.yaml_tree.specs.Tree.{tree};
 ghost use Rattle.yaml_laws.specs.Refused.{SameLines};
 ghost use Rattle.yaml_rules.specs.Notation.{EndsQuoted, IsLooseText, IsNoText, IsNotationText, IsUnspelled};
-ghost use Rattle.yaml_codes.specs.OpenText.{EndsLoosely, IsUtf8At};
+ghost use Rattle.yaml_codes.specs.OpenText.{EndsLoosely, GoesOnLoosely, IsUtf8At};
 
 /// Each text of the grammar is in the notation, and so in the loose one, with its tree; and a text in the loose notation that is not
 /// refused is in the grammar, with that tree.
@@ -24,10 +24,12 @@ pub fn notation_breaks_no_other_rule()
         → (f.code ≡ RepeatedKey) ⊎ ((f.code ≡ Limit) ⊎ (f.code ≡ NotUtf8)) }
 {}
 
-/// C1 and C3 stand at a line with which no text of the loose notation goes on, and C13 at one with which none of the notation does.
+/// C1 and C3 stand at a line with which no text of the loose notation goes on. C13 stands at one with which none of the notation does, but
+/// some text of the loose one.
 pub fn what_is_left_out_is_no_notation()
     ensures left_out { (text : List ℕ) (f : Fault) → tree text ≡ Err f → (f.code ≡ LeftOut) ⊎ (f.code ≡ Tab) → IsNoText f.line text }
     ensures not_utf8 { (text : List ℕ) (f : Fault) → tree text ≡ Err f → f.code ≡ NotUtf8 → IsUnspelled f.line text }
+    ensures loosely { (text : List ℕ) (f : Fault) → tree text ≡ Err f → f.code ≡ NotUtf8 → GoesOnLoosely f.line text }
 {}
 
 /// C2 too stands at a line with which no text of the notation goes on, unless the lines up to it end inside a quoted scalar. That scalar then
