@@ -32,12 +32,12 @@ pub fn what_is_left_out_is_no_notation()
     ensures loosely { (text : List ℕ) (f : Fault) → tree text ≡ Err f → f.code ≡ NotUtf8 → GoesOnLoosely f.line text }
 {}
 
-/// C2 too stands at a line with which no text of the notation goes on, unless the lines up to it end inside a quoted scalar. That scalar then
-/// begins on this line, is not closed on it, and with one more line, which closes it, they are in the notation. So it is with the loose
-/// notation, where they are in the loose one, and in the notation too if the line is UTF-8.
+/// C2 too stands at a line with which no text of the notation goes on, unless the lines up to it end inside a quoted scalar. That scalar
+/// then begins on this line, is not closed on it, and with one more line, which closes it, they are in the notation. So it is with the
+/// loose notation, where they are in the loose one, and in the notation too if the line is UTF-8.
 pub fn an_open_quote_may_go_on()
-    ensures notation { (text other : List ℕ) (f : Fault) (root : Node) → SameLines f.line text other → tree text ≡ Err f → f.code ≡ Structure → IsNotationText other root
-        → EndsQuoted f.line text }
-    ensures loosely { (text other : List ℕ) (f : Fault) (root : Node) → SameLines f.line text other → tree text ≡ Err f → f.code ≡ Structure → IsLooseText other root
-        → EndsLoosely f.line text × (IsUtf8At f.line text → EndsQuoted f.line text) }
+    ensures notation { (text other : List ℕ) (f : Fault) (root : Node) → SameLines f.line text other → tree text ≡ Err f
+        → f.code ≡ Structure → IsNotationText other root → EndsQuoted f.line text }
+    ensures loosely { (text other : List ℕ) (f : Fault) (root : Node) → SameLines f.line text other → tree text ≡ Err f
+        → f.code ≡ Structure → IsLooseText other root → EndsLoosely f.line text × (IsUtf8At f.line text → EndsQuoted f.line text) }
 {}
