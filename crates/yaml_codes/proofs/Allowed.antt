@@ -23,10 +23,10 @@ Told r x rest = (r ≡ Ok (x, rest)) ⊎ ((f : Fault) × (r ≡ Err f) × IsTree
 
 -- ---- what stands next
 
-here_is : (column : ℕ) (p : Piece) (same : Result Bool Fault) → p.column ≡ column → at_column column p same ≡ same
+pub here_is : (column : ℕ) (p : Piece) (same : Result Bool Fault) → p.column ≡ column → at_column column p same ≡ same
 here_is column p same e = let a = le-ltb p.column column (omega arith) in let b = le-ltb column p.column (omega arith) in rw (a, b) refl
 
-left_is : (column : ℕ) (p : Piece) (same : Result Bool Fault) → p.column < column → at_column column p same ≡ Ok false
+pub left_is : (column : ℕ) (p : Piece) (same : Result Bool Fault) → p.column < column → at_column column p same ≡ Ok false
 left_is column p same lt = rw (lt-ltb p.column column lt) refl
 
 no_dash : (w : What) → w ≢ Dash → is_dash w ≡ false
@@ -34,7 +34,7 @@ no_dash Dash h = absurd (h refl)
 no_dash (Key k) h = refl
 no_dash (Leaf x height out) h = refl
 
-dash_off : (w : What) → w ≢ Dash → dash_on w ≡ Ok false
+pub dash_off : (w : What) → w ≢ Dash → dash_on w ≡ Ok false
 dash_off Dash h = absurd (h refl)
 dash_off (Key k) h = refl
 dash_off (Leaf x height out) h = refl
@@ -49,7 +49,7 @@ map_over column ps i.no_piece = refl
 map_over column ps (i.lower {p = p} lt) = left_is column p (key_on p.line p.what) lt
 
 -- the column from which on a value stands
-own_floor : (m c : ℕ) (ps : List Piece) → value_floor c (front (dash m c ∷ ps)) ≡ c
+pub own_floor : (m c : ℕ) (ps : List Piece) → value_floor c (front (dash m c ∷ ps)) ≡ c
 own_floor m c ps = rw (eq-eqb c c refl) refl
 
 unequal : (a b : ℕ) → a ≢ b → (a == b) ≡ false
@@ -59,7 +59,7 @@ apart : (a b : Bool) → b ≡ false → (a && b) ≡ false
 apart true b e = e
 apart false b e = refl
 
-deeper_floor : (c : ℕ) (ps : List Piece) → i.IsNoDash c ps → value_floor c (front ps) ≡ c + 1
+pub deeper_floor : (c : ℕ) (ps : List Piece) → i.IsNoDash c ps → value_floor c (front ps) ≡ c + 1
 deeper_floor c ps i.nothing = refl
 deeper_floor c ps (i.elsewhere {p = p} away) = rw (apart (is_dash p.what) (p.column == c) (unequal p.column c away)) refl
 deeper_floor c ps (i.other {p = p} d) = rw (no_dash p.what d) refl
@@ -67,21 +67,21 @@ deeper_floor c ps (i.other {p = p} d) = rw (no_dash p.what d) refl
 -- ---- no more is left than there was
 
 mutual
-  node_less : {line floor : ℕ} {ps rest : List Piece} {x : Node} → n.IsNode line floor ps x rest → length rest ≤ length ps
+  pub node_less : {line floor : ℕ} {ps rest : List Piece} {x : Node} → n.IsNode line floor ps x rest → length rest ≤ length ps
   node_less (n.absent e) = omega arith
   node_less (n.one_leaf le) = omega arith
   node_less (n.list le i) = items_less i
   node_less (n.map le i) = pairs_less i
 
-  items_less : {indent : ℕ} {ps rest : List Piece} {xs : List Node} → n.IsItems indent ps xs rest → length rest ≤ length ps
+  pub items_less : {indent : ℕ} {ps rest : List Piece} {xs : List Node} → n.IsItems indent ps xs rest → length rest ≤ length ps
   items_less (n.no_item o) = omega arith
   items_less (n.item x i) = let a = node_less x in let b = items_less i in omega (arith, a, b)
 
-  value_less : {indent line : ℕ} {ps rest : List Piece} {x : Node} → n.IsValue indent line ps x rest → length rest ≤ length ps
+  pub value_less : {indent line : ℕ} {ps rest : List Piece} {x : Node} → n.IsValue indent line ps x rest → length rest ≤ length ps
   value_less (n.own_list x) = node_less x
   value_less (n.deeper d x) = node_less x
 
-  pairs_less : {indent : ℕ} {ps rest : List Piece} {xs : List Pair} → n.IsPairs indent ps xs rest → length rest ≤ length ps
+  pub pairs_less : {indent : ℕ} {ps rest : List Piece} {xs : List Pair} → n.IsPairs indent ps xs rest → length rest ≤ length ps
   pairs_less (n.no_pair o) = omega arith
   pairs_less (n.pair x i) = let a = value_less x in let b = pairs_less i in omega (arith, a, b)
 

@@ -1,5 +1,5 @@
 -- What C4 and C12 tell of their line.
-use Rattle.std.proofs.Common.{◌≡◌, ◌≢◌, ℕ, suc, ◌≤◌, true, false, ◌⊎◌, inl, inr, List, [], ◌∷◌, ◌++◌, length, take, drop, Option, Some, None, Err, refl, sym, ap, subst, ◌∙◌, arith, length-append}
+use Rattle.std.proofs.Common.{◌≡◌, ◌≢◌, ℕ, suc, ◌≤◌, true, false, ◌⊎◌, inl, inr, List, [], ◌∷◌, ◌++◌, length, take, drop, Option, Some, None, Err, refl, sym, ap, subst, ◌∙◌, arith}
 use Rattle.std.specs.Prelude.{◌==◌, nat_le}
 use Rattle.std.proofs.lemmas.Bool.{leb-true, leb-false}
 use Rattle.std.proofs.lemmas.List.{length-take-le}
@@ -19,11 +19,9 @@ use Rattle.yaml_tree.specs.Tree.{tree, fault_of}
 use Rattle.yaml_tree.specs.Spelling.{none as no_byte, IsLines, IsPieces}
 use Rattle.yaml_tree.proofs.LinesFound.{lines_found, lines_read, clean_found, clean_read}
 use Rattle.yaml_tree.proofs.AllLines.{start_clean, pieces_found, pieces_read}
-use Rattle.yaml_tree.proofs.Low.{Low, low_parts}
+use Rattle.yaml_tree.proofs.Low.{Low}
 use Rattle.yaml_laws.proofs.Followed.{dash, key, leaf, Alike, none as no_piece, more as more_alike}
-use Rattle.yaml_laws.proofs.Walked.{AllIn}
-use Rattle.yaml_laws.proofs.FollowedScalars.{AllLate}
-use Rattle.yaml_laws.proofs.FollowedLines.{Rises, Follows, comes, stays, deeper, closes, Ahead, pieces_follow, start_in, Starts, start_follows}
+use Rattle.yaml_laws.proofs.FollowedLines.{Follows, comes, stays, deeper, closes}
 use Rattle.yaml_laws.proofs.Whole.{read_lines, in_tree, told, err_told}
 use Rattle.yaml_laws.proofs.Orders.{tested}
 use Rattle.yaml_laws.proofs.Cuts.{one_remains, one_of, each_was, numbered_become, early_lines, all_numbered, told_text, cut, cut_same, on_a_line}
@@ -51,7 +49,7 @@ low_or_not (p ∷ ps) = by p.what (low_or_not ps)
       | inr e ↦ inr (λ l. let lt = leb-false height 64 e in let le = l.0 in omega (arith, lt, le))
     ]
 
-low_back : {ps qs : List Piece} → Alike ps qs → Low qs → Low ps
+pub low_back : {ps qs : List Piece} → Alike ps qs → Low qs → Low ps
 low_back no_piece l = l
 low_back (more_alike dash a) l = (tt, low_back a l.1)
 low_back (more_alike key a) l = (tt, low_back a l.1)
@@ -87,19 +85,6 @@ spelled_text other ls e plain =
     let begun : is_begun [] ≡ true → c.0 ≡ true = λ e. absurd cc in
     let p : IsPieces [] behind (all_pieces behind).pieces = pieces_found (suc (length behind)) [] c.0 behind (omega arith) begun c.1 (plain.read, plain.low) in
     (n.spelled (subst (λ (xs : List RawLine). IsLines 1 (without_mark other) xs) e (lines_found (without_mark other) [] 1 no_byte)) clean p (low_to (all_pieces behind).pieces plain.low), p)
-
--- ---- the first lines
-
-module _ (k : ℕ) (p : List RawLine) (early : AllIn (λ m. m ≤ k) p) (rises : Rises p) where
-  -- where the pieces of the first lines are too high, so are those of all texts that have them
-  pub too_high : (Low (all_pieces (without_start p)).pieces → ⊥) → (b : List RawLine) → AllLate k b → Low (read_lines (p ++ b)).pieces → ⊥
-  too_high high b late low =
-      let s : Starts k (without_start p) (without_start (p ++ b)) = start_follows k b late p in
-      let h : Ahead k (all_pieces (without_start p)) (all_pieces ((without_start p) ++ s.behind_them)) =
-      pieces_follow k s.behind_them s.late (suc (length (without_start p))) (suc (length ((without_start p) ++ s.behind_them))) [] (without_start p) (omega arith) (omega (arith, length-append (without_start p) s.behind_them))
-      (start_in (AllIn (λ m. m ≤ k)) (λ l rest i. i.1) p early, start_in Rises (λ l rest i. i.1) p rises, omega arith) in
-      let is : Ahead k (all_pieces (without_start p)) (read_lines (p ++ b)) = subst (λ (ls : List RawLine). Ahead k (all_pieces (without_start p)) (all_pieces ls)) (sym s.are) h in
-      high (low_back is.alike (low_parts is.front is.tail (subst Low is.are low)).0)
 
 -- ---- the other codes
 

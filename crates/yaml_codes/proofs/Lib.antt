@@ -2,10 +2,14 @@ mod Allowed
 mod Lows
 mod Codes
 mod FirstPieces
-mod OpenQuote
+mod ClosedLines
+mod HighLeaf
+mod Covered
 mod Grammar
 mod LooseOf
 mod LooseTold
 mod LoosePieces
 mod LooseNodes
 mod LooseCodes
+mod NotUtf8
+mod OpenQuote

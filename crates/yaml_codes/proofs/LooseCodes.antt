@@ -40,7 +40,7 @@ IsOfRule c = (c ≡ RepeatedKey) ⊎ ((c ≡ Limit) ⊎ (c ≡ NotUtf8))
 
 -- ---- lines
 
-if_none : (b : Bool) (d g : Fault) → b ≡ false → cond b (Some d) None ≡ Some g → ⊥
+pub if_none : (b : Bool) (d g : Fault) → b ≡ false → cond b (Some d) None ≡ Some g → ⊥
 if_none true d g e h = cc
 if_none false d g e h = cc
 
@@ -69,13 +69,13 @@ line_utf8 (l ∷ ls) begun g (one_line t d m r) e = by (one_fault begun l) refl 
 
 -- ---- a text in the loose notation
 
-record Loosely (ls : List RawLine) (root : Node) : Type 0 where
-  whole : List Piece
-  orderly : AreOrderly false ls
-  pieces : PiecesAs whole (read_lines ls)
-  notation : n.IsNotation whole root
+pub record Loosely (ls : List RawLine) (root : Node) : Type 0 where
+  pub whole : List Piece
+  pub orderly : AreOrderly false ls
+  pub pieces : PiecesAs whole (read_lines ls)
+  pub notation : n.IsNotation whole root
 
-loosely_read : (other : List ℕ) (root : Node) (ls : List RawLine) → lines other ≡ ls → n.IsLooseText other root → Loosely ls root
+pub loosely_read : (other : List ℕ) (root : Node) (ls : List RawLine) → lines other ≡ ls → n.IsLooseText other root → Loosely ls root
 loosely_read other root ls e (n.loosely {ls = xs} {ps = ps} l o p t) =
     let same : xs ≡ ls = sym (lines_read l) ∙ e in
     let k = start_orderly xs false o in
@@ -90,7 +90,7 @@ tree_code r y g (inr f) i =
     subst (λ (z : Fault). IsTreeCode z.code) q f.2
 
 -- the pieces that are read are in the notation too
-read_notation : (ls : List RawLine) (root : Node) → Loosely ls root → (y : Node) × n.IsNotation (read_lines ls).pieces y
+pub read_notation : (ls : List RawLine) (root : Node) → Loosely ls root → (y : Node) × n.IsNotation (read_lines ls).pieces y
 read_notation ls root l = by l.whole l.pieces l.notation
   where
     by : (whole : List Piece) → PiecesAs whole (read_lines ls) → n.IsNotation whole root → (y : Node) × n.IsNotation (read_lines ls).pieces y
@@ -103,7 +103,7 @@ of_tree_code : (c : Code) → IsTreeCode c → IsOfRule c
 of_tree_code c h = elim (two_codes c h) [ inl e ↦ inl e | inr e ↦ inr (inl e) ]
 
 -- each of its faults is one of a rule
-each_of_rule : (ls : List RawLine) (root : Node) (g : Fault) → Loosely ls root → (line_fault ls ≡ Some g) ⊎ (((read_lines ls).fault ≡ Some g) ⊎ (in_tree ls ≡ Some g)) → IsOfRule g.code
+pub each_of_rule : (ls : List RawLine) (root : Node) (g : Fault) → Loosely ls root → (line_fault ls ≡ Some g) ⊎ (((read_lines ls).fault ≡ Some g) ⊎ (in_tree ls ≡ Some g)) → IsOfRule g.code
 each_of_rule ls root g l (inl h) = inr (inr (line_utf8 ls false g l.orderly h))
 each_of_rule ls root g l (inr (inl h)) = by l.whole l.pieces
   where
