@@ -93,7 +93,7 @@ pub data IsWithin (n : ℕ) : ℕ → Node → Type 0 where
 
 -- ---- what the codes C4 and C12 say
 
--- some text that has the first n lines is in the notation, with such a tree
+-- some text that has the first n lines is in the loose notation, with such a tree
 abbrev pub HasNotation : ℕ → List ℕ → (Node → Type 0) → Type 0
 HasNotation n text P = (other : List ℕ) × (root : Node) × SameLines n text other × IsLooseText other root × P root
 
