@@ -17,8 +17,8 @@ use ha_model::{Condition, Env, Template, TplFault, Value, Word};
 use std::alloc::{AllocError, Global};
 use tpl_eval::render;
 
-/// Whether the condition holds for the view and the variables of a run. Of `and`, `or` and `not` only those inside are tested that decide, in
-/// their order.
+/// Whether the condition holds for the view and the variables of a run. Of `and`, `or` and `not` only those inside are tested that decide,
+/// in their order.
 #[cycle(condition)]
 pub fn test(
     alloc: Global,

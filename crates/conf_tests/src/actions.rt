@@ -43,7 +43,8 @@ fn turns(kind: &RepeatKind) -> (u8, usize) {
     }
 }
 
-/// The kind of an action, as its place in the format's table (a condition is 13, a repeat is told by its own kind), and how many parts it has.
+/// The kind of an action, as its place in the format's table (a condition is 13, a repeat is told by its own kind), and how many parts it
+/// has.
 fn kind(action: &Action) -> (u8, usize) {
     match &action.kind {
         ActionKind::Call { target, .. } => (1, target.len()),

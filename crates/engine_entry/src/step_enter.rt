@@ -1,5 +1,5 @@
-//! What a step itself changes: the switches of the automations that its item names, with their states and triggers. The answer lists the states
-//! that it changes, as they were.
+//! What a step itself changes: the switches of the automations that its item names, with their states and triggers. The answer lists the
+//! states that it changes, as they were.
 ghost use Rattle.std.specs.Prelude.{◌≡◌, ◌||◌, [], false, not, nat_eq, ℕ, Option, IfOk, OnOk, List};
 ghost use Rattle.std.specs.BTreeSet.{contains};
 ghost use Rattle.std.specs.Ordering.{nat_cmp};

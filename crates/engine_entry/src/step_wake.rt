@@ -1,5 +1,5 @@
-//! A step whose own changes were made: its wait and its delay are taken in, the triggers and the waits are told of it, and the runs that it wakes are
-//! listed anew.
+//! A step whose own changes were made: its wait and its delay are taken in, the triggers and the waits are told of it, and the runs that it
+//! wakes are listed anew.
 ghost use Rattle.std.specs.Prelude.{◌≡◌, ◌<◌, ℕ, List, Option, IfOk, OnOk, length};
 ghost use Rattle.timer_queue.specs.Timers.{Timer};
 ghost use Rattle.ha_model.specs.declared.steps.Progress.{Progress as Far};

@@ -65,7 +65,8 @@ pub fn attempts_are_firings()
     ensures { (j : Journal) (p : ℕ) (os : List Owner) → filter is_automation os ≡ owners_on j p → attempts_by (firings j p os) ≡ fired j p }
 {}
 
-/// The gate of a picked branch is open for the step that is told the end of its wait; and what the frames of its run then give is a right step.
+/// The gate of a picked branch is open for the step that is told the end of its wait; and what the frames of its run then give is a right
+/// step.
 pub fn picked_steps_are_right()
     ensures gate { (j : Journal) (delays : List Timer) (w : Waits) (s : ℕ) (b : Branch) → TellsEnds w j → (rs : Records) (r : Record) (f : Frames) → r.serial ≡ s → LiveKept j delays w r f
         → may_step rs j r b ≡ true → IsOpen (gate_at b (fronts f (spots j r.serial))) (next_spot j b) (ends w s b) }
@@ -81,8 +82,8 @@ pub fn stepped_frames_are_kept()
         → LiveKept (more j (Step k s b item)) delays' w' r f' }
 {}
 
-/// Behind a line, where the waits stand for it, the ready pairs before it agree, but for the runs of delays that are over and of waits that ended there;
-/// and the branches of these may be listed anew.
+/// Behind a line, where the waits stand for it, the ready pairs before it agree, but for the runs of delays that are over and of waits that
+/// ended there; and the branches of these may be listed anew.
 pub fn lines_wake_runs()
     ensures pairs { (j : Journal) (rs : Records) (source number : ℕ) (cmd : Cmd) (delays : List Timer) (w w' : Waits) (os : List (Option Frames)) → Right j rs → TellsEnds w j → TellsEnds w' (more j (Line source number cmd))
         → ((s : ℕ) → AsksKept w w' s) → ((s : ℕ) → EndsGrow w w' s) → SlotsKept j delays w rs os
@@ -92,8 +93,8 @@ pub fn lines_wake_runs()
         → Waking rs (more j (Line source number cmd)) w' os at }
 {}
 
-/// Behind a step the ready pairs before it agree, but for its own run and those of delays that are over and of waits that ended there; and the branches
-/// of these may be listed anew, where the frames of the run that made the step are kept.
+/// Behind a step the ready pairs before it agree, but for its own run and those of delays that are over and of waits that ended there; and
+/// the branches of these may be listed anew, where the frames of the run that made the step are kept.
 pub fn steps_wake_runs()
     ensures pairs { (j : Journal) (rs : Records) (k s : ℕ) (b : Branch) (item : Item) (delays delays' : List Timer) (w w' : Waits) (os : List (Option Frames)) → Right j rs → OthersTold w w' s
         → TellsEnds w j → TellsEnds w' (more j (Step k s b item)) → SlotsKept j delays w rs os
@@ -109,8 +110,8 @@ pub fn runs_that_went_end()
         → RunsKept gone k rs delays w os pairs → RunsKept nobody k rs' delays w os pairs }
 {}
 
-/// One run more is kept with its branches. That of a new run, whose frames just began: its outer branch may step, where it runs and its script has
-/// an action.
+/// One run more is kept with its branches. That of a new run, whose frames just began: its outer branch may step, where it runs and its
+/// script has an action.
 pub fn one_run_more_is_kept()
     ensures added { (k : Journal) (rs : Records) (delays : List Timer) (w : Waits) (new : Record) (f : Frames) (os : List (Option Frames)) (pairs : List (ℕ × Branch)) (bs : List Branch) → LiveKept k delays w new f
         → ready_branches rs k new ≡ bs → RunsKept nobody k rs delays w os pairs → RunsKept nobody k (rs ++ new ∷ []) delays w (os ++ Some f ∷ []) (pairs ++ pairs_of (suc (length rs)) bs) }

@@ -13,8 +13,8 @@ use std::alloc::{AllocError, Global};
 /// A core that can be booted. A run is proved over each such core; the engine is the one that the program hands in. It may move between
 /// threads.
 pub trait Boots: Core + Drop + Send {
-    /// The core after its first entry, the boot, of a configuration with its text, the stored switches, the start and the zone's text. The error
-    /// is want of memory alone.
+    /// The core after its first entry, the boot, of a configuration with its text, the stored switches, the start and the zone's text. The
+    /// error is want of memory alone.
     fn boot(
         alloc: Global,
         text: Word,

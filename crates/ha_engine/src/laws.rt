@@ -17,8 +17,8 @@ ghost use Rattle.ha_model.specs.Records.{Records, actions_of, is_restart_mode, l
 ghost use Rattle.script_step.specs.Gates.{first_fronts};
 ghost use Rattle.ha_ready.specs.ReadyPairs.{ready_branches, pairs_of};
 
-/// The records with one that its mode admits are a table again; those that it replaces went, and all runs are kept: the new one with its outer
-/// branch, where it begins, and with none where it waits.
+/// The records with one that its mode admits are a table again; those that it replaces went, and all runs are kept: the new one with its
+/// outer branch, where it begins, and with none where it waits.
 pub fn admitted_runs_are_kept()
     ensures table { (k : Journal) (rs : Records) → IsTable k rs → (a : ℕ) (mode : Mode) (place order : ℕ) (env : Pairs) → place < length k → IsTable k (joined mode a place rs (new_run rs a mode place order env)) }
     ensures kept { (k : Journal) (rs : Records) → IsTable k rs → (a : ℕ) (mode : Mode) (place order : ℕ) (env : Pairs) → place < length k → (f : Frames) → f.serial ≡ suc (length rs)

@@ -8,7 +8,7 @@ ghost use Rattle.ha_model.specs.StateStep.{next_object as next_object_lem};
 use crate::config::{Config, Trigger};
 use crate::template::Template;
 use ha_clock::Moment;
-use ha_value::{EntityId, Many, Num, Plain, Value, Word};
+use ha_value::{EntityId, Many, Num, Plain, Value, Word, copy_pairs};
 use std::alloc::{AllocError, Global};
 
 /// A command of a source's line.
@@ -220,7 +220,7 @@ pub fn next_object(
     ensures { IfOk result (λ made. made ≡ next_object_lem (option_copied before.entry) text.now attributes.now now) }
 {
     let made_text = text.copy(alloc)?;
-    let made_attributes = attributes.copy(alloc)?;
+    let made_attributes = copy_pairs(alloc, attributes.as_slice())?;
     match before {
         None => Ok(StateObject {
             text: made_text,

@@ -20,7 +20,9 @@ pub use config::{
 pub use data::as_data;
 pub use faults::{CoreFault, TplFault};
 pub use ha_clock::{Moment, Span};
-pub use ha_value::{Boxed, EntityId, Many, Num, Plain, Value, Word};
+pub use ha_value::{
+    Boxed, EntityId, Many, Num, Plain, Value, Word, copy_pairs, push_text, push_value,
+};
 pub use journal::{
     Branch, Cmd, EndCause, Entry, Env, Item, Record, StateObject, WaitAsk, WaitEnd, next_object,
     same_data, same_id, same_text,

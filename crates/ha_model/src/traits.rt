@@ -30,7 +30,8 @@ pub trait Answers {
     /// What the place sees.
     ghost sight: { Self → Sight };
 
-    /// The rendered text, with blanks and breaks trimmed at both ends, as a `Value::Text`. Fault exactly where the template's meaning is one.
+    /// The rendered text, with blanks and breaks trimmed at both ends, as a `Value::Text`. Fault exactly where the template's meaning is
+    /// one.
     fn render(&self, alloc: Global, template: &Template, env: &Env) -> Result<Value, TplFault>
         ensures text { IfOk result (λ v. option_map Value.Text (rendered (sight self.now) template.now env.now) ≡ Some v) }
         ensures fault { IfErr result (λ e. e ≡ TplFault.Fault → rendered (sight self.now) template.now env.now ≡ None) };
@@ -90,9 +91,9 @@ pub trait Core: Sized {
         ensures stays { OnErr result ((entries self.new ≡ entries self.old) × (runs self.new ≡ runs self.old)) }
         ensures spent { (is_spent self.new ≡ true) ↔ (result ≡ Err CoreFault.Memory) };
 
-    /// Puts one step of worker `worker`: of the ready pairs of run and branch that at the place of the worker's number, modulo how many there
-    /// are. Full exactly where the journal has 1,048,576 entries: all is then as before. After Memory the core is spent, its journal and
-    /// records as before.
+    /// Puts one step of worker `worker`: of the ready pairs of run and branch that at the place of the worker's number, modulo how many
+    /// there are. Full exactly where the journal has 1,048,576 entries: all is then as before. After Memory the core is spent, its journal
+    /// and records as before.
     fn put_step(&mut self, worker: u32) -> Result<(), CoreFault>
         requires usable { is_spent self.old ≡ false }
         requires busy { is_quiet (runs self.old) (entries self.old) ≡ false }

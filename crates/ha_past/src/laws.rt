@@ -1,4 +1,5 @@
-//! Laws of the definitions alone. Each is a function that does nothing; its contract is the law. `more j x` is the journal `j` with one more entry.
+//! Laws of the definitions alone. Each is a function that does nothing; its contract is the law. `more j x` is the journal `j` with one
+//! more entry.
 ghost use Rattle.std.specs.Prelude.{◌≡◌, ◌<◌, ◌≤◌, ◌-◌, ℕ, suc, Bool, true, Option, None, length, is_some, option_map, flat_map, if◌then◌else◌};
 ghost use Rattle.std.specs.List.{enumerate_from};
 ghost use Rattle.ha_value.specs.declared.value.EntityId.{EntityId};

@@ -56,7 +56,8 @@ pub fn a_picked_pair_may_step()
     ensures { (j : Journal) (rs : Records) (k s : ℕ) (b : Branch) → Right j rs → pick k (ready rs j) ≡ Some (s, b) → IsPicked rs j s b }
 {}
 
-/// The firings at a place stay as they are with one more entry, and a wait has the end that it had, or else the one that the entry gives it.
+/// The firings at a place stay as they are with one more entry, and a wait has the end that it had, or else the one that the entry gives
+/// it.
 pub fn waits_of_one_more()
     ensures firings { (j : Journal) (x : Entry) → HasEntry j → (ts : List Trigger) (since q : ℕ) → q < length j → firings (more j x) ts since q ≡ firings j ts since q }
     ensures end { (j : Journal) (x : Entry) → HasEntry j → (ask : Ask) (p : ℕ) → p ≤ length j → wait_end (more j x) ask p

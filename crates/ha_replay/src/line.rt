@@ -48,8 +48,8 @@ fn unput(fault: CoreFault) -> TraceFault
     }
 }
 
-/// Whether a source's line stands next: no step closes so far, the source is rested and open, the number is its next one, and the automation
-/// that the command names, if it names one, is there.
+/// Whether a source's line stands next: no step closes so far, the source is rested and open, the number is its next one, and the
+/// automation that the command names, if it names one, is there.
 fn is_due<C: Core>(core: &C, line: &PrintedLine, closing: bool) -> bool
     requires usable { C.is_spent core.now ≡ false }
     requires stands { Stands (reached (C.entries core.now) (C.runs core.now) closing) }

@@ -135,8 +135,8 @@ fn go_round<
 }
 
 /// Runs a core whose journal is the boot alone on its sources: the boot is written, then a worker for each source works in a thread of its
-/// own, until all sources are through, or a first fault of the bus or want of memory ends it. Then come the closing steps and the end of the
-/// trace.
+/// own, until all sources are through, or a first fault of the bus or want of memory ends it. Then come the closing steps and the end of
+/// the trace.
 pub fn run_core<
     R: Threads + Wait + Sync,
     C: Core + Drop + Send,

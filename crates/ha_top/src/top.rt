@@ -17,9 +17,10 @@ use std::alloc::Global;
 use std::sync::Wait;
 use std::thread::Threads;
 
-/// Runs the words: reads the configuration and the store, opens the sources and the trace, boots, puts each line of the sources as it comes, with
-/// the steps that it begins, and writes the service calls to `out`, the errors and the status line to `err`, the journal to the trace, and the
-/// switches to `keep`. Each source has a worker, in a thread of its own where one can be made. It may wait for a worker's turn.
+/// Runs the words: reads the configuration and the store, opens the sources and the trace, boots, puts each line of the sources as it
+/// comes, with the steps that it begins, and writes the service calls to `out`, the errors and the status line to `err`, the journal to the
+/// trace, and the switches to `keep`. Each source has a worker, in a thread of its own where one can be made. It may wait for a worker's
+/// turn.
 pub fn run_live<R: Threads + Wait + Sync, E: Boots, P: Place, Q: Keeper, G: Gate>(
     rt: &R,
     alloc: Global,

@@ -4,3 +4,4 @@ pub mod ReturnLemmas
 pub mod NumberLemmas
 pub mod DigitLemmas
 pub mod PrintLemmas
+pub mod PlaceLemmas

@@ -7,10 +7,16 @@ use std::alloc::{AllocError, Global};
 /// How many bytes have room in the place of a string.
 pub const ROOM: usize = 22;
 
+/// The bytes of a short text, and what is left of its room.
+#[derive(Clone, Copy)]
+pub struct Row {
+    bytes: [u8; 22],
+}
+
 #[derive(Drop)]
 pub enum Held {
     /// So many bytes at the front.
-    Here { len: u8, bytes: [u8; 22] },
+    Here { len: u8, row: Row },
     Far(Box<String>),
 }
 
@@ -22,17 +28,24 @@ fn put(held: &mut [u8; 22], len: usize, more: &[u8])
     held[len..len + more.len()].copy_from_slice(more);
 }
 
-/// So many bytes and more of them.
-fn joined(bytes: &[u8; 22], len: u8, more: &[u8]) -> Held
-    requires { len + length more.now ≤ 22 }
-    ensures value { bytes_of result ≡ take len bytes.now ++ more.now }
-    ensures text { IsUtf8 (take len bytes.now) → IsUtf8 more.now → IsText result }
+/// These bytes behind the others, where they stand.
+fn push_here(len: &mut u8, row: &mut Row, more: &[u8])
+    requires { len.old + length more.now ≤ 22 }
+    ensures value { take len.new row.new.bytes ≡ take len.old row.old.bytes ++ more.now }
+    ensures text { IsUtf8 (take len.old row.old.bytes) → IsUtf8 more.now → IsText (Held.Here len.new row.new) }
 {
-    let mut all = *bytes;
-    put(&mut all, len as usize, more);
+    put(&mut row.bytes, *len as usize, more);
+    *len = *len + more.len() as u8;
+}
+
+/// The empty text.
+pub fn none() -> Held
+    ensures value { bytes_of result ≡ [] }
+    ensures text { IsText result }
+{
     Held::Here {
-        len: len + more.len() as u8,
-        bytes: all,
+        len: 0,
+        row: Row { bytes: [0; 22] },
     }
 }
 
@@ -42,7 +55,10 @@ pub fn here(text: &str) -> Held
     ensures value { bytes_of result ≡ text.now }
     ensures text { IsText result }
 {
-    joined(&[0; 22], 0, text.as_bytes())
+    let mut len = 0;
+    let mut row = Row { bytes: [0; 22] };
+    push_here(&mut len, &mut row, text.as_bytes());
+    Held::Here { len, row }
 }
 
 /// A string of its own.
@@ -77,7 +93,7 @@ pub fn bytes(held: &Held) -> &[u8]
     ensures utf8 { IsUtf8 result.now }
 {
     match held {
-        Held::Here { len, bytes } => &bytes[..*len as usize],
+        Held::Here { len, row } => &row.bytes[..*len as usize],
         Held::Far(text) => text.as_str().as_bytes(),
     }
 }
@@ -89,9 +105,9 @@ pub fn copied(alloc: Global, held: &Held) -> Result<Held, AllocError>
     ensures text { IfOk result (λ made. IsText made) }
 {
     match held {
-        Held::Here { len, bytes } => Ok(Held::Here {
+        Held::Here { len, row } => Ok(Held::Here {
             len: *len,
-            bytes: *bytes,
+            row: *row,
         }),
         Held::Far(text) => far(alloc, String::from_str(alloc, text.as_str())?),
     }
@@ -104,8 +120,9 @@ pub fn string_of(alloc: Global, held: Held) -> Result<String, AllocError>
 {
     match held {
         Held::Far(text) => Ok(Box::into_inner(text)),
-        Held::Here { len, bytes } => {
-            Ok(String::from_str(alloc, text_of(&bytes[..len as usize]))?)
+        Held::Here { len, row } => {
+            let bytes = &row.bytes[..len as usize];
+            Ok(String::from_str(alloc, text_of(bytes))?)
         }
     }
 }
@@ -120,7 +137,19 @@ fn both(alloc: Global, front: &str, more: &str) -> Result<String, AllocError>
     Ok(text)
 }
 
-/// More is appended.
+/// A string of its own, of a short text and more. It stands apart, so that what is pushed in place stays small.
+#[inline(never)]
+fn grown(alloc: Global, len: u8, row: &Row, more: &str) -> Result<Held, AllocError>
+    requires within { len ≤ 22 }
+    requires utf8 { IsUtf8 (take len row.now.bytes) }
+    ensures value { IfOk result (λ held. bytes_of held ≡ take len row.now.bytes ++ more.now) }
+    ensures text { IfOk result (λ held. IsText held) }
+{
+    let front = text_of(&row.bytes[..len as usize]);
+    far(alloc, both(alloc, front, more)?)
+}
+
+/// More is appended: where it stands, if there is room.
 pub fn push_str(alloc: Global, held: &mut Held, more: &str) -> Result<(), AllocError>
     requires { IsText held.old }
     ensures text { IsText held.new }
@@ -129,36 +158,96 @@ pub fn push_str(alloc: Global, held: &mut Held, more: &str) -> Result<(), AllocE
 {
     match held {
         Held::Far(text) => text.push_str(more),
-        Held::Here { .. } => {
-            let all = more_of(alloc, held, more)?;
-            *held = all;
+        Held::Here { len, row } => {
+            if more.len() <= ROOM - *len as usize {
+                push_here(len, row, more.as_bytes());
+                return Ok(());
+            }
+            let made = grown(alloc, *len, row, more)?;
+            *held = made;
             Ok(())
         }
     }
 }
 
-/// A short text and more.
-fn grown(alloc: Global, bytes: &[u8; 22], len: u8, more: &str) -> Result<Held, AllocError>
+/// A short text in the place of any.
+fn set_here(held: &mut Held, len: u8, row: &Row)
     requires within { len ≤ 22 }
-    requires utf8 { IsUtf8 (take len bytes.now) }
-    ensures value { IfOk result (λ held. bytes_of held ≡ take len bytes.now ++ more.now) }
-    ensures text { IfOk result (λ held. IsText held) }
-{
-    if more.len() <= ROOM - len as usize {
-        return Ok(joined(bytes, len, more.as_bytes()));
-    }
-    let front = text_of(&bytes[..len as usize]);
-    far(alloc, both(alloc, front, more)?)
-}
-
-/// A short text and more.
-fn more_of(alloc: Global, held: &Held, more: &str) -> Result<Held, AllocError>
-    requires { IsText held.now }
-    ensures value { IfOk result (λ all. bytes_of all ≡ bytes_of held.now ++ more.now) }
-    ensures text { IfOk result (λ all. IsText all) }
+    requires utf8 { IsUtf8 (take len row.now.bytes) }
+    ensures value { bytes_of held.new ≡ take len row.now.bytes }
+    ensures text { IsText held.new }
 {
     match held {
-        Held::Here { len, bytes } => grown(alloc, bytes, *len, more),
-        Held::Far(text) => far(alloc, both(alloc, text.as_str(), more)?),
+        Held::Here {
+            len: place,
+            row: room,
+        } => {
+            *place = len;
+            *room = *row;
+        }
+        Held::Far(_) => {
+            *held = Held::Here { len, row: *row };
+        }
     }
+}
+
+/// A copy of a string, in the place of any.
+#[inline(never)]
+fn copy_far(alloc: Global, text: &str, to: &mut Held) -> Result<(), AllocError>
+    requires { IsText to.old }
+    ensures text { IsText to.new }
+    ensures ok { OnOk result (bytes_of to.new ≡ text.now) }
+    ensures err { OnErr result (bytes_of to.new ≡ bytes_of to.old) }
+{
+    let made = far(alloc, String::from_str(alloc, text)?)?;
+    *to = made;
+    Ok(())
+}
+
+/// A copy in the place of any. The bytes of a short text are not looked at, and go from place to place at once.
+pub fn copy_to(alloc: Global, held: &Held, to: &mut Held) -> Result<(), AllocError>
+    requires from { IsText held.now }
+    requires to { IsText to.old }
+    ensures text { IsText to.new }
+    ensures ok { OnOk result (bytes_of to.new ≡ bytes_of held.now) }
+    ensures err { OnErr result (bytes_of to.new ≡ bytes_of to.old) }
+{
+    match held {
+        Held::Here { len, row } => {
+            set_here(to, *len, row);
+            Ok(())
+        }
+        Held::Far(text) => copy_far(alloc, text.as_str(), to),
+    }
+}
+
+/// A short text in the place of any.
+pub fn write_here(held: &mut Held, text: &str)
+    requires { length text.now ≤ 22 }
+    ensures value { bytes_of held.new ≡ text.now }
+    ensures text { IsText held.new }
+{
+    match held {
+        Held::Here { len, row } => {
+            *len = 0;
+            push_here(len, row, text.as_bytes());
+        }
+        Held::Far(_) => {
+            *held = here(text);
+        }
+    }
+}
+
+/// A text in the place of any.
+pub fn set_str(alloc: Global, held: &mut Held, text: &str) -> Result<(), AllocError>
+    requires { IsText held.old }
+    ensures text { IsText held.new }
+    ensures ok { OnOk result (bytes_of held.new ≡ text.now) }
+    ensures err { OnErr result (bytes_of held.new ≡ bytes_of held.old) }
+{
+    if text.len() <= ROOM {
+        write_here(held, text);
+        return Ok(());
+    }
+    copy_far(alloc, text, held)
 }

@@ -16,7 +16,7 @@ mod word;
 
 pub use cut::{is_blank, trim_blanks, without_cr};
 pub use id::EntityFault;
-pub use many::Many;
+pub use many::{Many, push_text, push_value};
 pub use num::NumFault;
 pub use plain::Plain;
 pub use sqlite_items::Boxed;

@@ -21,7 +21,8 @@ fn is_yes_word(text: &[u8]) -> bool
         || (is_word(text, b"yes") || (is_word(text, b"on") || is_word(text, b"enable")))
 }
 
-/// Whether a rendered text, without blanks at its ends, is a number other than zero, or one of the words `true`, `yes`, `on` and `enable` in any case.
+/// Whether a rendered text, without blanks at its ends, is a number other than zero, or one of the words `true`, `yes`, `on` and `enable`
+/// in any case.
 #[tactic(auto, unfolding(crate::specs::Truth::says_yes_text))]
 pub fn says_yes_text(text: &[u8]) -> bool
     ensures { result ≡ says_yes_text text.now }

@@ -81,11 +81,11 @@ pub struct Worker<S: Source, C: Core + Drop, K: Sink, Q: Keeper> {
 }
 
 impl<S: Source, C: Core + Drop, K: Sink, Q: Keeper> Worker<S, C, K, Q> {
-    /// Reads its source to its end and puts each line, in order. A piece of at most 65,536 bytes is read, with the commands of its lines, and
-    /// the gate is called for each of them, while others may hold the bus. Then it waits for the floor, and puts them: in each turn one step,
-    /// where its source is not rested, else the line. What a line began is stepped before the next piece is asked for. A failed read puts
-    /// Lost, more than 67,108,864 bytes put TooLong; a begun line is then dropped. A first fault of the bus ends it, and so does want of
-    /// memory, of which it tells the bus.
+    /// Reads its source to its end and puts each line, in order. A piece of at most 65,536 bytes is read, with the commands of its lines,
+    /// and the gate is called for each of them, while others may hold the bus. Then it waits for the floor, and puts them: in each turn one
+    /// step, where its source is not rested, else the line. What a line began is stepped before the next piece is asked for. A failed read
+    /// puts Lost, more than 67,108,864 bytes put TooLong; a begun line is then dropped. A first fault of the bus ends it, and so does want
+    /// of memory, of which it tells the bus.
     pub fn work<W: Wait, G: Gate>(
         &mut self,
         rt: &W,
@@ -162,7 +162,8 @@ impl<S: Source, C: Core + Drop, K: Sink, Q: Keeper> Worker<S, C, K, Q> {
         Ok(read_past(&mut self.source))
     }
 
-    /// Reads the commands of all whole lines that are held, passes the gate with each of them, and puts them, with the steps that they begin.
+    /// Reads the commands of all whole lines that are held, passes the gate with each of them, and puts them, with the steps that they
+    /// begin.
     fn put_piece<W: Wait, G: Gate>(
         &mut self,
         rt: &W,

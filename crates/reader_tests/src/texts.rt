@@ -51,8 +51,8 @@ fn push_last(cut: &mut LineCut, shown: &mut Vec<u8>) -> Result<(), AllocError> {
     }
 }
 
-/// The lines of a stream that comes in these pieces, each behind a bar, with a mark behind each piece; then the last line behind a dash, where
-/// the stream ends within one.
+/// The lines of a stream that comes in these pieces, each behind a bar, with a mark behind each piece; then the last line behind a dash,
+/// where the stream ends within one.
 fn in_pieces(alloc: Global, pieces: &[&[u8]], mark: &[u8]) -> Result<Vec<u8>, AllocError> {
     let mut cut = LineCut::make(alloc);
     let mut shown = Vec::new(alloc);

@@ -1,5 +1,5 @@
-//! The home that a rehearsal makes up: one configuration, and as many lines as are asked for. Nothing outside decides them, so a rehearsal is
-//! the same wherever it runs.
+//! The home that a rehearsal makes up: one configuration, and as many lines as are asked for. Nothing outside decides them, so a rehearsal
+//! is the same wherever it runs.
 #![tactic(auto)]
 
 mod config;

@@ -42,8 +42,8 @@ fn report_line(alloc: Global, sensor: u32, x: u32) -> Result<Word, AllocError>
     Ok(line)
 }
 
-/// Line `i`, counted from 0, where `x` is the number at place `i + 1`: the moment `30 * (i + 1)` seconds after the start where `i` is 4 more
-/// than a multiple of 5, else the report of `x` by the sensor of `i`'s parity.
+/// Line `i`, counted from 0, where `x` is the number at place `i + 1`: the moment `30 * (i + 1)` seconds after the start where `i` is 4
+/// more than a multiple of 5, else the report of `x` by the sensor of `i`'s parity.
 pub fn rehearse_line(alloc: Global, i: u32, x: u32) -> Result<Word, AllocError>
     requires { i < 100_000 }
     ensures { IfOk result (λ line. line ≡ line_text i x) }

@@ -4,7 +4,7 @@ ghost use Rattle.ha_model.specs.Words.{has_name};
 ghost use Rattle.ha_model.specs.Scripts.{flat, outer, add_inside, set_name};
 ghost use Rattle.script_step.specs.Cuts.{add_at, is_own, named_block, total};
 
-use ha_model::{Env, Many, Plain, Value, Word, same_text};
+use ha_model::{Env, Many, Plain, Value, Word, copy_pairs, same_text};
 use std::alloc::{AllocError, Global};
 use std::marker::Model;
 
@@ -60,7 +60,7 @@ impl Scopes {
             sizes.push(*size)?;
         }
         Ok(Scopes {
-            pairs: self.pairs.copy(alloc)?,
+            pairs: copy_pairs(alloc, self.pairs.as_slice())?,
             sizes,
         })
     }

@@ -32,7 +32,8 @@ fn text_of(alloc: Global, tests: &str, actions: &str) -> Result<String, AllocErr
     Ok(text)
 }
 
-/// The home of an automation with these conditions and actions, at eight in the evening of the first of May 2024; none where they are refused.
+/// The home of an automation with these conditions and actions, at eight in the evening of the first of May 2024; none where they are
+/// refused.
 pub fn home_of(alloc: Global, tests: &str, actions: &str) -> Result<Option<Home>, AllocError>
     ensures { IfOk result (λ made. IfSome made (λ home. IsSoundConfig home.config)) }
 {
@@ -70,8 +71,8 @@ fn follow(alloc: Global, home: &mut Home, cmd: &Cmd) -> Result<bool, AllocError>
     }
 }
 
-/// The line of a source for a short form: `r E S` reports that entity E has the state S, `m T` is the moment T of the first of May 2024, and
-/// every other line stands as it is.
+/// The line of a source for a short form: `r E S` reports that entity E has the state S, `m T` is the moment T of the first of May 2024,
+/// and every other line stands as it is.
 fn line_of(alloc: Global, said: &str) -> Result<String, AllocError> {
     let mut text = String::new(alloc);
     if let Some(rest) = said.strip_prefix("m ") {

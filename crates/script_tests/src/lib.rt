@@ -1,5 +1,5 @@
-//! Tests of scripts and of conditions: what the steps of a run give, one after the other, how waits end, and what conditions are on what a place
-//! sees. What is wanted stands in the rules' own words, and was worked out by hand.
+//! Tests of scripts and of conditions: what the steps of a run give, one after the other, how waits end, and what conditions are on what a
+//! place sees. What is wanted stands in the rules' own words, and was worked out by hand.
 #![tactic(auto)]
 
 #[cfg(test)]

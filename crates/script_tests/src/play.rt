@@ -278,8 +278,8 @@ fn fire(
     seen(alloc, home, run, &fired)
 }
 
-/// What comes next: a step, from its branch; a line; or `fires P` and a line, at which a trigger of the kind P fires for the wait. Whether it
-/// can come.
+/// What comes next: a step, from its branch; a line; or `fires P` and a line, at which a trigger of the kind P fires for the wait. Whether
+/// it can come.
 fn next(alloc: Global, home: &mut Home, run: &mut Run, said: &str) -> Result<bool, AllocError> {
     if said.starts_with('[') {
         return step(alloc, home, run, said);

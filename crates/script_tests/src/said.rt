@@ -69,8 +69,8 @@ fn are_switches(switches: &[(u32, bool, bool)], said: &str) -> bool {
     }
 }
 
-/// Whether the item is the one that is said: `nothing`, a code such as `F1`, switches, `asks` or `tests and asks` for one automation, `fires`
-/// and a type of events, or a call.
+/// Whether the item is the one that is said: `nothing`, a code such as `F1`, switches, `asks` or `tests and asks` for one automation,
+/// `fires` and a type of events, or a call.
 fn is_item(alloc: Global, item: &Item, said: &str) -> Result<bool, AllocError> {
     match item {
         Item::Nothing => Ok(said == "nothing"),

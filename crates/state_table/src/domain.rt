@@ -5,7 +5,8 @@ ghost use Rattle.ha_model.specs.StateStep.{next_object as next_object_lem};
 ghost use Rattle.state_table.specs.Domain.{change_of, ChangesName, SaysTheSame};
 
 use ha_model::{
-    Change, Many, Moment, Plain, StateObject, Value, Word, next_object, same_data, same_text,
+    Change, Many, Moment, Plain, StateObject, Value, Word, copy_pairs, next_object, same_data,
+    same_text,
 };
 use std::alloc::{AllocError, Global};
 use std::collections::BTreeMap;
@@ -32,7 +33,7 @@ fn set_attributes(
     if same_data(held, attributes) {
         return Ok(());
     }
-    *held = attributes.copy(alloc)?;
+    *held = copy_pairs(alloc, attributes.as_slice())?;
     Ok(())
 }
 
@@ -74,7 +75,7 @@ fn update(
     if same_data(&object.attributes, attributes) {
         return Ok(Change::Same);
     }
-    object.attributes = attributes.copy(alloc)?;
+    object.attributes = copy_pairs(alloc, attributes.as_slice())?;
     object.updated = now;
     Ok(Change::Attributes)
 }

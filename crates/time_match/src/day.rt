@@ -70,7 +70,8 @@ fn has_time(rule: &TriggerRule, first: u32, end: u32) -> bool
     }
 }
 
-/// Whether one of the `count` seconds that end with the second of the day `last` is a time of the rule; those before midnight are of the day before.
+/// Whether one of the `count` seconds that end with the second of the day `last` is a time of the rule; those before midnight are of the
+/// day before.
 pub(crate) fn has_time_back(rule: &TriggerRule, last: u32, count: u64) -> bool
     requires { last < 86_400 }
     ensures { IsTrue result ↔ HasTimeBack rule.now last count }

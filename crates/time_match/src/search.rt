@@ -1,4 +1,5 @@
-//! The seconds that the clock passes: of a clock that is set forward and back each is looked at, and of a steady one the second of the day decides.
+//! The seconds that the clock passes: of a clock that is set forward and back each is looked at, and of a steady one the second of the day
+//! decides.
 ghost use Rattle.std.specs.Prelude.{◌≡◌, ◌≤◌, ◌<◌, ◌-◌, ◌*◌, ◌/◌, max};
 ghost use Rattle.ha_clock.specs.Local.{last_moment, second_of_day};
 ghost use Rattle.ha_clock.specs.Passed.{holds_in, passed_count};

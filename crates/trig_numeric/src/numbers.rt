@@ -33,7 +33,8 @@ fn fixed_read_back(fixed: i64) -> Option<Num>
     in_range(Num::Fixed(fixed))
 }
 
-/// The number of an attribute's text: of a number, as it is printed, and of a text. There is none exactly where that is no number text, or its number is out of range.
+/// The number of an attribute's text: of a number, as it is printed, and of a text. There is none exactly where that is no number text, or
+/// its number is out of range.
 pub fn number_of(value: &Value) -> Option<Num>
     ensures { result ≡ option_and_then read_number (attribute_text value.now) }
 {

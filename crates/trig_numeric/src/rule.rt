@@ -29,7 +29,8 @@ pub fn in_bounds(above: Option<Num>, below: Option<Num>, number: &Num) -> bool
     over && under
 }
 
-/// Whether the state's number, or that of the named attribute, is in the bounds of a numeric trigger; none exactly where there is no number.
+/// Whether the state's number, or that of the named attribute, is in the bounds of a numeric trigger; none exactly where there is no
+/// number.
 pub fn numeric_in(rule: &TriggerRule, state: Option<&StateObject>) -> Option<bool>
     requires { is_numeric rule.now ≡ true }
     ensures { result ≡ rule_in rule.now (option_copied state.entry) }

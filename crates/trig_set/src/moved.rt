@@ -113,7 +113,8 @@ pub fn opens(entry: &Entry) -> bool
     )
 }
 
-/// Whether what the `for` of a trigger watches stays as it was; `is` and `was` say whether the trigger's template is true after the entry and was before.
+/// Whether what the `for` of a trigger watches stays as it was; `is` and `was` say whether the trigger's template is true after the entry
+/// and was before.
 pub fn stays(
     scene: &Scene<'_>,
     rule: &TriggerRule,

@@ -284,8 +284,8 @@ fn ruled(
     }
 }
 
-/// The variables with which the entry moves a trigger, after its since or as a start trigger; none where it does not. `is` and `was` say whether
-/// the trigger's template is true after the entry and was before.
+/// The variables with which the entry moves a trigger, after its since or as a start trigger; none where it does not. `is` and `was` say
+/// whether the trigger's template is true after the entry and was before.
 pub fn given(
     alloc: Global,
     scene: &Scene<'_>,

@@ -133,8 +133,8 @@ impl TrigSet {
         leaves(&self.index, entity)
     }
 
-    /// Notes the next entry, a report of an entity that concerns nobody, after which Now is `to`: nothing fires. It needs no states. After an
-    /// error the set may only be dropped.
+    /// Notes the next entry, a report of an entity that concerns nobody, after which Now is `to`: nothing fires. It needs no states. After
+    /// an error the set may only be dropped.
     pub fn note_left(
         &mut self,
         alloc: Global,
@@ -159,8 +159,8 @@ impl TrigSet {
     }
 
     /// Notes the next entry: what fires at it, in the order of the owners' numbers, and there of triggers and entities. `before` has states
-    /// before the entry, among them that of each entity whose state the entry changes; `answers` holds what is seen after it. After an error
-    /// the set may only be dropped.
+    /// before the entry, among them that of each entity whose state the entry changes; `answers` holds what is seen after it. After an
+    /// error the set may only be dropped.
     pub fn note<A: Answers>(
         &mut self,
         alloc: Global,

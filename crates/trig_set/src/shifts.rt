@@ -14,7 +14,8 @@ ghost use Rattle.trig_set.specs.Shifts.{AreMade, IsMade, face_of_switch, is_auto
 
 use crate::scene::Shift;
 use ha_model::{
-    Answers, Cmd, EntityId, Entry, Many, Moment, Plain, StateObject, Value, Word, same_id,
+    Answers, Cmd, EntityId, Entry, Many, Moment, Plain, StateObject, Value, Word, copy_pairs,
+    same_id,
 };
 use std::alloc::{AllocError, Global};
 
@@ -46,7 +47,7 @@ fn state(
 {
     Ok(StateObject {
         text: text.copy(alloc)?,
-        attributes: attributes.copy(alloc)?,
+        attributes: copy_pairs(alloc, attributes.as_slice())?,
         changed: now,
         updated: now,
     })
@@ -157,8 +158,8 @@ fn push_shift<A: Answers>(
     Ok(())
 }
 
-/// The states of the listed entities before and after the entry. After it, an automation has what its switch says; an entity that is reported has
-/// what the report says; one that is removed, or any at a Restart, is gone; and any other has the state before.
+/// The states of the listed entities before and after the entry. After it, an automation has what its switch says; an entity that is
+/// reported has what the report says; one that is removed, or any at a Restart, is gone; and any other has the state before.
 pub fn shifts_of<A: Answers>(
     alloc: Global,
     entry: &Entry,

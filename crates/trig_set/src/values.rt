@@ -5,7 +5,10 @@ ghost use Rattle.ha_value.specs.declared.value.Value.TheVariants.{Pairs as Map};
 ghost use Rattle.ha_value.specs.Ids.{entity_text};
 ghost use Rattle.ha_model.specs.Triggers as triggers;
 
-use ha_model::{EntityId, Many, Num, Plain, StateObject, Trigger, Value, Word};
+use ha_model::{
+    EntityId, Many, Num, Plain, StateObject, Trigger, Value, Word, copy_pairs, push_text,
+    push_value,
+};
 use itoa::Buffer;
 use std::alloc::{AllocError, Global};
 
@@ -24,7 +27,7 @@ fn add(
 ) -> Result<(), AllocError>
     ensures { OnOk result (pairs.new ≡ pairs.old ++ (name.now, value) ∷ []) }
 {
-    pairs.push((Word::from_str(alloc, name)?, value))?;
+    push_value(alloc, pairs, name, value)?;
     Ok(())
 }
 
@@ -45,13 +48,8 @@ fn head(
     ensures { IfOk result (λ ps. ps ≡ triggers.head_pairs [] platform.now trigger.now) }
 {
     let mut pairs = Many::with_room(alloc, count)?;
-    add(alloc, &mut pairs, "platform", text(alloc, platform)?)?;
-    add(
-        alloc,
-        &mut pairs,
-        "id",
-        Value::Text(trigger.id.copy(alloc)?),
-    )?;
+    push_text(alloc, &mut pairs, "platform", platform)?;
+    push_text(alloc, &mut pairs, "id", trigger.id.as_str())?;
     add(alloc, &mut pairs, "idx", decimal(alloc, trigger.idx)?)?;
     Ok(pairs)
 }
@@ -67,30 +65,15 @@ fn object_pairs(
     ensures { IfOk result (λ ps. ps ≡ (codes "entity_id", Value.Text (entity_text entity.now)) ∷ (codes "domain", Value.Text entity.now.domain) ∷ (codes "object_id", Value.Text entity.now.object) ∷ (codes "state", Value.Text state.now.text) ∷ (codes "attributes", Map state.now.attributes) ∷ []) }
 {
     let mut pairs = Many::with_room(alloc, 5)?;
-    add(alloc, &mut pairs, "entity_id", Value::Text(id.copy(alloc)?))?;
-    add(
-        alloc,
-        &mut pairs,
-        "domain",
-        Value::Text(entity.domain.copy(alloc)?),
-    )?;
-    add(
-        alloc,
-        &mut pairs,
-        "object_id",
-        Value::Text(entity.object.copy(alloc)?),
-    )?;
-    add(
-        alloc,
-        &mut pairs,
-        "state",
-        Value::Text(state.text.copy(alloc)?),
-    )?;
+    push_text(alloc, &mut pairs, "entity_id", id.as_str())?;
+    push_text(alloc, &mut pairs, "domain", entity.domain.as_str())?;
+    push_text(alloc, &mut pairs, "object_id", entity.object.as_str())?;
+    push_text(alloc, &mut pairs, "state", state.text.as_str())?;
     add(
         alloc,
         &mut pairs,
         "attributes",
-        Value::Pairs(state.attributes.copy(alloc)?),
+        Value::Pairs(copy_pairs(alloc, state.attributes.as_slice())?),
     )?;
     Ok(pairs)
 }
@@ -134,7 +117,7 @@ fn states_pairs(
 {
     let id = entity.print(alloc)?;
     let mut pairs = Many::with_room(alloc, 5)?;
-    add(alloc, &mut pairs, "entity_id", Value::Text(id.copy(alloc)?))?;
+    push_text(alloc, &mut pairs, "entity_id", id.as_str())?;
     add(
         alloc,
         &mut pairs,
@@ -235,13 +218,13 @@ fn event_pairs(
     ensures { IfOk result (λ ps. ps ≡ (codes "event_type", Value.Text kind.now) ∷ (codes "data", Map pairs.now) ∷ []) }
 {
     let mut event = Many::with_room(alloc, 2)?;
+    push_text(alloc, &mut event, "event_type", kind.as_str())?;
     add(
         alloc,
         &mut event,
-        "event_type",
-        Value::Text(kind.copy(alloc)?),
+        "data",
+        Value::Pairs(copy_pairs(alloc, pairs.as_slice())?),
     )?;
-    add(alloc, &mut event, "data", Value::Pairs(pairs.copy(alloc)?))?;
     Ok(event)
 }
 

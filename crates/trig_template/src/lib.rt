@@ -7,7 +7,8 @@ ghost use Rattle.ha_model.specs.Templates.{rendered, says};
 use ha_model::{Answers, Many, Template, true_in};
 use std::alloc::{AllocError, Global};
 
-/// Whether the template of a trigger is true, in the empty environment: its text is a number other than zero, or one of `true`, `yes`, `on` and
+/// Whether the template of a trigger is true, in the empty environment: its text is a number other than zero, or one of `true`, `yes`, `on`
+/// and
 /// `enable` in any case. One that fails is not true.
 pub fn template_true<A: Answers>(
     alloc: Global,

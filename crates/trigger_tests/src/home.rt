@@ -352,8 +352,8 @@ pub fn goes(
     home.goes_on(alloc, rows)
 }
 
-/// Whether exactly the wanted triggers fire at each of these entries, from eight in the evening on, and none at the later ones, before which
-/// they are detached: alone, or where `all` with all that are attached.
+/// Whether exactly the wanted triggers fire at each of these entries, from eight in the evening on, and none at the later ones, before
+/// which they are detached: alone, or where `all` with all that are attached.
 pub fn goes_until_detached(
     alloc: Global,
     triggers: &Many<Trigger>,

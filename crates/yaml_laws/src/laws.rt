@@ -34,8 +34,8 @@ pub fn a_refusal_is_told_by_its_lines()
 {}
 
 /// The line of a refusal is the first with which no text of the grammar goes on: with the lines before it some text does, if on them no
-/// node is too deep. With its own some text may go on too where the code is C2; these lines then end inside a quoted scalar, which begins on
-/// the refused one.
+/// node is too deep. With its own some text may go on too where the code is C2; these lines then end inside a quoted scalar, which begins
+/// on the refused one.
 pub fn a_refused_line_is_the_first()
     ensures before { (text : List ℕ) (f : Fault) (n : ℕ) → tree text ≡ Err f → f.line ≡ n + 1 → HasTree n text ⊎ IsTooDeep n text }
     ensures first { (text : List ℕ) (f : Fault) (n : ℕ) → tree text ≡ Err f → f.line ≡ n + 1 → f.code ≢ Structure → IsFirstLine text n ⊎ IsTooDeep n text }

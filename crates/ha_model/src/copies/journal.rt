@@ -2,7 +2,7 @@
 ghost use Rattle.std.specs.Prelude.{◌≡◌, ◌↔◌, IsTrue, IfOk};
 
 use crate::journal::{Cmd, Entry, Item};
-use ha_value::Plain;
+use ha_value::{Plain, copy_pairs};
 use std::alloc::{AllocError, Global};
 
 impl Plain for Cmd {
@@ -15,14 +15,14 @@ impl Plain for Cmd {
             } => Ok(Cmd::Report {
                 entity: entity.copy(alloc)?,
                 text: text.copy(alloc)?,
-                attributes: attributes.copy(alloc)?,
+                attributes: copy_pairs(alloc, attributes.as_slice())?,
             }),
             Cmd::Gone { entity } => Ok(Cmd::Gone {
                 entity: entity.copy(alloc)?,
             }),
             Cmd::Event { kind, pairs } => Ok(Cmd::Event {
                 kind: kind.copy(alloc)?,
-                pairs: pairs.copy(alloc)?,
+                pairs: copy_pairs(alloc, pairs.as_slice())?,
             }),
             Cmd::Moment(at) => Ok(Cmd::Moment(*at)),
             Cmd::Switch { name, on, stop } => Ok(Cmd::Switch {
@@ -117,7 +117,7 @@ impl Plain for Item {
             }),
             Item::Fired { kind, pairs } => Ok(Item::Fired {
                 kind: kind.copy(alloc)?,
-                pairs: pairs.copy(alloc)?,
+                pairs: copy_pairs(alloc, pairs.as_slice())?,
             }),
             Item::Switched(targets) => Ok(Item::Switched(targets.copy(alloc)?)),
             Item::Triggered { automations, skip } => Ok(Item::Triggered {

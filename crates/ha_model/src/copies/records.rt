@@ -4,7 +4,7 @@ ghost use Rattle.std.specs.Prelude.{◌≡◌, ◌↔◌, IsTrue, IfOk};
 use crate::copies::times::same_due;
 use crate::journal::{EndCause, Record, StateObject, WaitAsk, WaitEnd};
 use crate::steps::{Change, Firing, Progress, StepOut};
-use ha_value::Plain;
+use ha_value::{Plain, copy_pairs};
 use std::alloc::{AllocError, Global};
 
 impl Plain for EndCause {
@@ -25,7 +25,7 @@ impl Plain for Record {
             number: self.number,
             place: self.place,
             order: self.order,
-            env: self.env.copy(alloc)?,
+            env: copy_pairs(alloc, self.env.as_slice())?,
             begin: self.begin,
             end: self.end,
             calls: self.calls,
@@ -49,7 +49,7 @@ impl Plain for StateObject {
     fn copy(&self, alloc: Global) -> Result<StateObject, AllocError> {
         Ok(StateObject {
             text: self.text.copy(alloc)?,
-            attributes: self.attributes.copy(alloc)?,
+            attributes: copy_pairs(alloc, self.attributes.as_slice())?,
             changed: self.changed,
             updated: self.updated,
         })
@@ -89,7 +89,7 @@ impl Plain for WaitAsk {
             test: self.test.copy(alloc)?,
             triggers: self.triggers.copy(alloc)?,
             due: self.due,
-            env: self.env.copy(alloc)?,
+            env: copy_pairs(alloc, self.env.as_slice())?,
         })
     }
 
@@ -129,7 +129,7 @@ impl Plain for Firing {
             owner: self.owner,
             trigger: self.trigger,
             entity: self.entity.copy(alloc)?,
-            env: self.env.copy(alloc)?,
+            env: copy_pairs(alloc, self.env.as_slice())?,
         })
     }
 

@@ -60,7 +60,8 @@ fn copy_expr(alloc: Global, expr: &Expr) -> Result<Expr, AllocError>
     }
 }
 
-// A chain of operators is as deep as it is long: the copy of a level stands here, apart from the choice of its kind, so that a level takes little of the stack.
+// A chain of operators is as deep as it is long: the copy of a level stands here, apart from the choice of its kind, so that a level takes
+// little of the stack.
 #[cycle(copy_expr)]
 #[inline(never)]
 fn copy_boxed(alloc: Global, expr: &Boxed<Expr>) -> Result<Boxed<Expr>, AllocError>

@@ -3,7 +3,7 @@ ghost use Rattle.std.specs.Prelude.{◌≡◌, ◌↔◌, IsTrue, IfOk};
 
 use crate::config::{Match, Trigger, TriggerRule, Unit};
 use crate::copies::times::same_hold;
-use ha_value::Plain;
+use ha_value::{Plain, copy_pairs};
 use std::alloc::{AllocError, Global};
 
 impl Plain for Match {
@@ -69,7 +69,7 @@ impl Plain for TriggerRule {
             }),
             TriggerRule::Event { kinds, pairs } => Ok(TriggerRule::Event {
                 kinds: kinds.copy(alloc)?,
-                pairs: pairs.copy(alloc)?,
+                pairs: copy_pairs(alloc, pairs.as_slice())?,
             }),
             TriggerRule::Time(seconds) => Ok(TriggerRule::Time(seconds.copy(alloc)?)),
             TriggerRule::Pattern {
