@@ -14,7 +14,7 @@ use Rattle.reading.specs.Answer.{◌>>=◌, Answer, front}
 use Rattle.reading.specs.Bytes.{sees, skip_digits}
 use Rattle.reading.proofs.Basics.{bind_ok, ok_parts, chosen, chosen_is, Sound, Complete}
 use Rattle.reading.proofs.Bytes.{sees_front}
-use Rattle.flow_line.specs.Bytes.{begins_number}
+use Rattle.ha_value.specs.Numbers.{begins_number}
 use Rattle.flow_line.specs.Text.{Reads, byte_in}
 use Rattle.flow_line.specs.Reading.{skip_sign, digits, numeral, in_range, numeric, start_of}
 use Rattle.flow_line.specs.Grammar.{extends, IsNumber, number as number_of}

@@ -8,7 +8,7 @@ use Rattle.reading.specs.Answer.{Answer, front}
 use Rattle.reading.proofs.Basics.{chosen_is}
 use Rattle.flow_line.specs.declared.fault.Code.{Code}
 use Rattle.flow_line.specs.declared.fault.Code.TheVariants.{Syntax, RepeatedKey, Depth, Range}
-use Rattle.flow_line.specs.Bytes.{begins_number}
+use Rattle.ha_value.specs.Numbers.{begins_number}
 use Rattle.flow_line.specs.Text.{string}
 use Rattle.flow_line.specs.Reading.{numeral}
 use Rattle.flow_line.specs.Grammar.{IsNumber, number as number_of, IsUnbounded}

@@ -23,7 +23,7 @@ use Rattle.ha_model.proofs.Rolls.{depth_of-roll, is_sound_value-roll, print_valu
 use Rattle.reading.specs.Bytes.{skip, is_blank}
 use Rattle.reading.specs.Spelling.{IsClosed}
 use Rattle.std.specs.Prelude.{◌==◌}
-use Rattle.flow_line.specs.Bytes.{begins_number}
+use Rattle.ha_value.specs.Numbers.{begins_number}
 use Rattle.flow_line.specs.Reading.{has_key}
 use Rattle.flow_line.specs.Grammar.{IsString, IsPair, pair, IsValueOver, null, yes, no, numeric, text, list, map as map_of, IsValue, IsDocument}
 use Rattle.flow_line.proofs.Sound.{utf8-roll}

@@ -14,7 +14,8 @@ use Rattle.reading.proofs.Bytes.{length-skip, length-skip_digits, length-drop_on
 use Rattle.reading.proofs.Shorter.{Leaves, kept, refused, bind, either, made_leaves, weaker, fault_by, repeat_leaves, expect_leaves, closed_leaves, Within, Below, below_of, below_shorter, below_within}
 use Rattle.reading.proofs.Solid.{stops_within}
 use Rattle.flow_line.specs.declared.fault.Code.TheVariants.{Syntax, Depth}
-use Rattle.flow_line.specs.Bytes.{is_in, begins_number}
+use Rattle.ha_value.specs.Numbers.{begins_number}
+use Rattle.flow_line.specs.Bytes.{is_in}
 use Rattle.flow_line.specs.Text.{Reads, byte_in, character, goes_on, over, characters, text, string}
 use Rattle.flow_line.specs.Reading.{skip_sign, digits, numeral, in_range, number, has_key, key, pair, items, pairs, Start, of_null, of_true, of_false, quote, bracket, brace, numeric, nothing, start_of, value_by, value, ended, document}
 use Rattle.flow_line.proofs.ByteRanges.{Fault}

@@ -5,7 +5,7 @@ use Rattle.std.proofs.lemmas.Bool.{eqb-true}
 use Rattle.ha_value.specs.declared.value.Value.TheVariants.{Number}
 use Rattle.reading.specs.Answer.{front, made}
 use Rattle.reading.proofs.Basics.{chosen_is}
-use Rattle.flow_line.specs.Bytes.{begins_number}
+use Rattle.ha_value.specs.Numbers.{begins_number}
 use Rattle.flow_line.specs.Reading.{number, value, start_of, numeric}
 
 no_number : (k : ℕ) → begins_number k ≡ false → (b : ℕ) → begins_number b ≡ true → (b == k) ≡ false

@@ -9,7 +9,7 @@ use Rattle.reading.specs.Bytes.{skip, is_blank}
 use Rattle.reading.specs.Spelling.{Never, IsClosed}
 use Rattle.reading.proofs.Bytes.{skip_none}
 use Rattle.reading.proofs.Frames.{Frames, blanks_of, byte_at, closed_framed}
-use Rattle.flow_line.specs.Bytes.{begins_number}
+use Rattle.ha_value.specs.Numbers.{begins_number}
 use Rattle.flow_line.specs.Grammar.{IsNumber, IsPair, pair as pair_of, IsValueOver, null, yes, no, numeric as number_of, text as text_of, list, map}
 use Rattle.flow_line.proofs.Numbers.{number_front}
 use Rattle.flow_line.proofs.NumberLaws.{Free, blank_free, number_framed}

@@ -14,7 +14,7 @@ use Rattle.reading.proofs.Basics.{bind_err, chosen_is, ok_parts, Sound, Complete
 use Rattle.reading.proofs.Bytes.{byte_left, expect_found, sees_front}
 use Rattle.flow_line.specs.declared.fault.Code.{Code}
 use Rattle.flow_line.specs.declared.fault.Code.TheVariants.{Syntax, RepeatedKey, Depth}
-use Rattle.flow_line.specs.Bytes.{begins_number}
+use Rattle.ha_value.specs.Numbers.{begins_number}
 use Rattle.flow_line.specs.Text.{Reads, text, string}
 use Rattle.flow_line.specs.Reading.{numeral, has_key, key, pair, items, Start, of_null, of_true, of_false, quote, bracket, brace, numeric, nothing, start_of, ended}
 use Rattle.flow_line.specs.Grammar.{IsNumber, number as number_of}

@@ -1,14 +1,10 @@
 -- Single bytes of the notation.
-use Rattle.std.specs.Prelude.{ℕ, Bool, not, ◌||◌, ◌&&◌, ◌==◌, nat_le, if◌then◌else◌, Option, Some, None}
-use Rattle.std.specs.Char.{is_ascii_digit}
+use Rattle.std.specs.Prelude.{ℕ, Bool, not, ◌&&◌, ◌==◌, nat_le, if◌then◌else◌, Option, Some, None}
 use Rattle.std.specs.Option.{unwrap_or}
 use Rattle.reading.specs.Bytes.{hex}
 
 abbrev pub is_in : ℕ → ℕ → ℕ → Bool
 is_in low high b = nat_le low b && nat_le b high
-
-abbrev pub begins_number : ℕ → Bool
-begins_number b = is_ascii_digit b || b == 45 || b == 43
 
 -- a character, or its first byte, that may stand in a string as it is: no control character below 32, no quote and no backslash
 abbrev pub stands_as_is : ℕ → Bool

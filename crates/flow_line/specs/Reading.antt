@@ -11,7 +11,7 @@ use Rattle.reading.specs.Answer.{◌>>=◌, front, made, stop}
 use Rattle.reading.specs.Bytes.{sees, skip, skip_digits, expect}
 use Rattle.reading.specs.Rows.{closed_by}
 use Rattle.flow_line.specs.declared.fault.Code.TheVariants.{Syntax, RepeatedKey, Depth, Range}
-use Rattle.flow_line.specs.Bytes.{begins_number}
+use Rattle.ha_value.specs.Numbers.{begins_number}
 use Rattle.flow_line.specs.Text.{Reads, byte_in, text, string}
 
 -- ---- numbers

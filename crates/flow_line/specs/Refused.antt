@@ -11,7 +11,7 @@ use Rattle.flow_line.specs.declared.fault.FlowFault.{FlowFault}
 use Rattle.flow_line.specs.declared.fault.FlowFault.TheVariants as faults
 use Rattle.flow_line.specs.declared.fault.Code.{Code}
 use Rattle.flow_line.specs.declared.fault.Code.TheVariants.{Syntax, RepeatedKey, Depth, Range}
-use Rattle.flow_line.specs.Bytes.{begins_number}
+use Rattle.ha_value.specs.Numbers.{begins_number}
 use Rattle.flow_line.specs.Grammar.{IsString, IsNumber, IsPair, IsValueOver, IsDocument, IsUnbounded}
 
 abbrev pub number_of : Code → ℕ

@@ -1,7 +1,7 @@
 //! Single bytes of the notation.
 
 ghost use Rattle.std.specs.Prelude.{◌≡◌, ◌≤◌, ◌<◌, true};
-ghost use Rattle.flow_line.specs.Bytes.{begins_number, hex_value, is_in, is_plain, stands_as_is, unescaped};
+ghost use Rattle.flow_line.specs.Bytes.{hex_value, is_in, is_plain, stands_as_is, unescaped};
 
 use reading::hex;
 
@@ -10,12 +10,6 @@ pub fn is_in(low: u8, high: u8, b: u8) -> bool
     ensures { result ≡ is_in low high b }
 {
     low <= b && b <= high
-}
-
-pub fn begins_number(b: u8) -> bool
-    ensures { result ≡ begins_number b }
-{
-    b.is_ascii_digit() || b == b'-' || b == b'+'
 }
 
 /// Whether a character that begins with this byte may stand in a string as it is.

@@ -7,10 +7,9 @@ ghost use Rattle.reading.specs.declared.fault.Stop.{Stop};
 ghost use Rattle.flow_line.specs.declared.fault.Code.TheVariants.{Syntax};
 ghost use Rattle.flow_line.specs.Reading.{document, items, key, number, pair, pairs, value};
 
-use crate::bytes::begins_number;
 use crate::fault::Code;
 use crate::found_pairs::FoundPairs;
-use ha_value::{Many, Plain, Value, Word};
+use ha_value::{Many, Plain, Value, Word, begins_number};
 use reading::{Bad, Reader, Stop};
 use std::alloc::Global;
 use std::marker::Model;

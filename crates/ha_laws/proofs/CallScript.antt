@@ -6,7 +6,7 @@ use Rattle.std.proofs.lemmas.Bool.Decides.{nat_tests}
 use Rattle.ha_value.specs.declared.value.EntityId.{EntityId}
 use Rattle.ha_value.specs.Ids.{entity_text, is_entity, is_name, is_name_byte, read_entity}
 use Rattle.ha_value.specs.Lists.{trimmed, before_end}
-use Rattle.ha_value.specs.Truth.{is_blank}
+use Rattle.ha_value.specs.Truth.{is_blank, is_blank_or_break}
 use Rattle.ha_value.proofs.PrintLemmas.{id_is_read}
 use Rattle.ha_model.specs.declared.template.Piece.TheVariants.{outs-Text}
 use Rattle.ha_model.specs.declared.config.Action.{Action}
@@ -16,7 +16,7 @@ use Rattle.ha_model.specs.declared.config.ActionKind.TheFolds.{fold_out-ActionKi
 use Rattle.ha_model.specs.declared.config.ActionKind.TheVariants.{outs-Call}
 use Rattle.ha_model.specs.declared.journal.Item.{Item}
 use Rattle.ha_model.specs.declared.journal.Record.{Record}
-use Rattle.ha_model.specs.Words.{Text, Pairs, same, is_blank_or_break, without_breaks, without_blanks, is_empty_text, parts_between_commas}
+use Rattle.ha_model.specs.Words.{Text, Pairs, same, without_breaks, without_blanks, is_empty_text, parts_between_commas}
 use Rattle.ha_model.specs.Values.{bounded}
 use Rattle.ha_model.specs.States.{Sight}
 use Rattle.ha_model.specs.Templates.{pieces_of, rendered}

@@ -52,6 +52,10 @@ rounded (negsuc n) (negsuc d) = pos (nearest (suc n) (suc d))
 
 -- ---- number text: perhaps a sign, digits, and perhaps a dot with digits
 
+-- a byte with which number text begins: a digit or a sign
+abbrev pub begins_number : ℕ → Bool
+begins_number c = is_ascii_digit c || nat_eq c 45 || nat_eq c 43
+
 abbrev pub has_minus : List ℕ → Bool
 has_minus [] = false
 has_minus (c ∷ cs) = nat_eq c 45

@@ -29,6 +29,10 @@ truth v = truth_by_kind (out-Value v)
 abbrev pub is_blank : ℕ → Bool
 is_blank c = nat_eq c 32 || nat_eq c 9
 
+-- a space, a tab or a line break
+abbrev pub is_blank_or_break : ℕ → Bool
+is_blank_or_break c = is_blank c || (nat_eq c 10 || nat_eq c 13)
+
 abbrev pub yes_words : List (List ℕ)
 yes_words = codes "true" ∷ codes "yes" ∷ codes "on" ∷ codes "enable" ∷ []
 

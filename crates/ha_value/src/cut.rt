@@ -1,7 +1,7 @@
 //! Cutting a text: at its first byte of a kind, and at its ends.
 ghost use Rattle.std.specs.Prelude.{◌≡◌, ◌≤◌, length, Some, None, MatchOption};
 ghost use Rattle.ha_value.specs.Lists.{after_first, after_front, before_end, before_first, trimmed, without_cr};
-ghost use Rattle.ha_value.specs.Truth.{is_blank};
+ghost use Rattle.ha_value.specs.Truth.{is_blank, is_blank_or_break};
 
 /// What stands before the first such byte, and what follows that byte, where there is one.
 #[tactic(auto, using(crate::proofs::CutLemmas::cuts))]
@@ -22,6 +22,13 @@ pub fn is_blank(byte: u8) -> bool
     ensures { result ≡ is_blank byte }
 {
     byte == b' ' || byte == b'\t'
+}
+
+/// Whether the byte is a space, a tab or a line break (LF or CR).
+pub fn is_blank_or_break(byte: u8) -> bool
+    ensures { result ≡ is_blank_or_break byte }
+{
+    is_blank(byte) || (byte == b'\n' || byte == b'\r')
 }
 
 #[tactic(auto, using(crate::proofs::CutLemmas::cuts))]

@@ -14,10 +14,10 @@ mod truth;
 mod value;
 mod word;
 
-pub use cut::{is_blank, trim_blanks, without_cr};
+pub use cut::{is_blank, is_blank_or_break, trim_blanks, without_cr};
 pub use id::EntityFault;
 pub use many::{Many, push_text, push_value};
-pub use num::NumFault;
+pub use num::{NumFault, begins_number};
 pub use plain::Plain;
 pub use sqlite_items::Boxed;
 pub use truth::says_yes_text;

@@ -10,6 +10,7 @@ mod round;
 
 use crate::plain::Plain;
 use crate::value::Num;
+pub use read::begins_number;
 use std::alloc::{AllocError, Global};
 use std::cmp::Ordering;
 use thiserror::Error;

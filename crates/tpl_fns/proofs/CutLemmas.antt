@@ -6,7 +6,7 @@ use Rattle.std.specs.Str.{IsUtf8, IsCharBoundary}
 use Rattle.std.proofs.lemmas.Str.{IsCharBoundary-after_ascii}
 use Rattle.ha_value.specs.Lists.{after_front, before_end}
 use Rattle.ha_value.proofs.CutLemmas.{after_front-found, before_end-found}
-use Rattle.ha_model.specs.Words.{is_blank_or_break}
+use Rattle.ha_value.specs.Truth.{is_blank_or_break}
 
 blank_is_ascii : (c : ℕ) → is_blank_or_break c ≡ true → c < 128
 blank_is_ascii c h = grind (arith, nat_tests)

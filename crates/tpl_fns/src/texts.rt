@@ -3,22 +3,17 @@ ghost use Rattle.std.specs.Prelude.{◌≡◌, ◌≤◌, ◌<◌, ◌^◌, ◌+
 ghost use Rattle.ha_value.specs.Lists.{after_front, before_end};
 ghost use Rattle.ha_model.specs.Filters as filters;
 ghost use Rattle.ha_model.specs.Values as values;
-ghost use Rattle.ha_model.specs.Words.{is_blank_or_break, lower, upper, replaced_all, without_breaks as without_breaks_lem};
+ghost use Rattle.ha_model.specs.Words.{lower, upper, replaced_all, without_breaks as without_breaks_lem};
 ghost use Rattle.ha_value.specs.Numbers.{print_number};
+ghost use Rattle.ha_value.specs.Truth.{is_blank_or_break};
 ghost use Rattle.tpl_fns.specs.Outcome.{Adds, Gives};
 
 use ha_model::{Num, TplFault, Value, Word};
+use ha_value::is_blank_or_break;
 use std::alloc::{AllocError, Global};
 
 /// The bytes that a text made in a template may have.
 pub const TEXT_LIMIT: usize = 65_536;
-
-/// Whether the byte is a space, a tab or a line break.
-fn is_blank_or_break(byte: u8) -> bool
-    ensures { result ≡ is_blank_or_break byte }
-{
-    byte == b' ' || byte == b'\t' || (byte == b'\n' || byte == b'\r')
-}
 
 fn without_front(text: &str) -> &str
     ensures { result.now ≡ after_front is_blank_or_break text.now }

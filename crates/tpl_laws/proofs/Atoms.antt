@@ -14,7 +14,8 @@ use Rattle.reading.specs.Answer.{made, front}
 use Rattle.reading.proofs.Basics.{chosen as chosen_of, chosen_is}
 use Rattle.tpl_parse.specs.declared.token.Token.{Token}
 use Rattle.tpl_parse.specs.declared.table.Function.{Function}
-use Rattle.tpl_parse.specs.Token.{is_space, spaces, next_is, past, begins_name, ends_before, is_reserved}
+use Rattle.ha_value.specs.Truth.{is_blank_or_break}
+use Rattle.tpl_parse.specs.Token.{spaces, next_is, past, begins_name, ends_before, is_reserved}
 use Rattle.tpl_parse.specs.Names.{all_functions, function_row, function_named, any_from}
 use Rattle.tpl_parse.specs.Literal.{number, string, word, skip_word}
 use Rattle.tpl_parse.specs.Reading.{Inner, arguments, constant, not_called, call_or_name, by_word, word_atom, Start, numeric, bracket, group, letter, nothing, quoted, start_of, in_group, atom_by, atom, enclosed}
@@ -48,8 +49,8 @@ view b =
     by_test b (is_ascii_digit b) _ _ a_digit (λ _. by_test b (b == 34 || b == 39) _ _ a_quote (λ _. by_test b (b == 91) _ _ (λ h. a_bracket (eqb-true b 91 h)) (λ _.
     by_test b (b == 40) _ _ (λ h. a_group (eqb-true b 40 h)) (λ _. by_test b (begins_name b) _ _ a_letter (λ _. no_start)))))
 
-digit_solid : (b : ℕ) → is_ascii_digit b ≡ true → is_space b ≡ false
-digit_solid b h = elim (chosen_is (is_space b)) [
+digit_solid : (b : ℕ) → is_ascii_digit b ≡ true → is_blank_or_break b ≡ false
+digit_solid b h = elim (chosen_is (is_blank_or_break b)) [
   | inl k ↦ absurd (grind (arith, h, k))
   | inr k ↦ k
 ]
@@ -63,8 +64,8 @@ never_grows : (token : Token) → ((b : ℕ) → ends_before token (Some b) ≡ 
 never_grows token h None = refl
 never_grows token h (Some b) = h b
 
-quote_solid : (b : ℕ) → is_quote b ≡ true → is_space b ≡ false
-quote_solid b h = elim (chosen_is (is_space b)) [
+quote_solid : (b : ℕ) → is_quote b ≡ true → is_blank_or_break b ≡ false
+quote_solid b h = elim (chosen_is (is_blank_or_break b)) [
   | inl k ↦ absurd (grind (arith, h, k))
   | inr k ↦ k
 ]
@@ -87,7 +88,7 @@ module _ (u : List ℕ) (b : ℕ) (s : List ℕ) (at : spaces u ≡ b ∷ s) whe
   byte_parts : u ≡ (blanks ++ b ∷ []) ++ s
   byte_parts = all_parts ∙ sym (append_assoc blanks (b ∷ []) s)
 
-  byte_shown : (is_space b ≡ false) → (o : List ℕ) → spaces ((blanks ++ b ∷ []) ++ o) ≡ b ∷ o
+  byte_shown : (is_blank_or_break b ≡ false) → (o : List ℕ) → spaces ((blanks ++ b ∷ []) ++ o) ≡ b ∷ o
   unfolding spaces
   byte_shown h o = ap spaces (append_assoc blanks (b ∷ []) o) ∙ (blanks_of u).gone (b ∷ o) ∙ rw h refl
 

@@ -11,7 +11,8 @@ use Rattle.tpl_parse.specs.declared.table.Function.{Function}
 use Rattle.tpl_parse.specs.declared.expression.Last.{Last}
 use Rattle.tpl_parse.specs.declared.expression.Level.{Level}
 use Rattle.tpl_parse.specs.declared.expression.Part.{Part}
-use Rattle.tpl_parse.specs.Token.{Reads, is_space, spaces, next_is, past, behind, reach, text_of}
+use Rattle.ha_value.specs.Truth.{is_blank_or_break}
+use Rattle.tpl_parse.specs.Token.{Reads, spaces, next_is, past, behind, reach, text_of}
 use Rattle.tpl_parse.specs.Names.{filter_row, function_row, takes_behind}
 use Rattle.tpl_parse.specs.Reading.{Inner, choice_reach, enclosed, no_end, open_reach, tokens_behind}
 use Rattle.tpl_parse.specs.Grammar.{Takes, Holder, of_list, of_call, of_filter, closing, counts_of, made_of, is_within, allows, Phrase, an_expression, a_negation, with_filters, with_sign, with_parts, an_atom, operands, operand_of, in_brackets, more_items, Is, chosen, chain, no_operand, compared, alone, filtered, no_filter, unsigned, asked, no_part, of_string, some_items, last_item, one_item, close}
@@ -151,7 +152,7 @@ takes_next token q = takes_at token (32 ∷ (text_of token ++ 32 ∷ q)) q (toke
 pub spaces_suffix : (b rest : List ℕ) → length (spaces rest) ≤ length (spaces (b ++ rest))
 unfolding spaces
 spaces_suffix [] rest = omega arith
-spaces_suffix (x ∷ b) rest = elim (chosen_is (is_space x)) [
+spaces_suffix (x ∷ b) rest = elim (chosen_is (is_blank_or_break x)) [
   | inl h ↦ rw h (spaces_suffix b rest)
   | inr h ↦ rw h (omega (arith, spaces_within rest, length-append b rest))
 ]

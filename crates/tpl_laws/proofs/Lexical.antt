@@ -12,7 +12,8 @@ use Rattle.reading.proofs.Bytes.{sees_front}
 use Rattle.reading.proofs.Solid.{Solid, IsSolid, Halted}
 use Rattle.reading.proofs.Characters.{character_solid, ascii_read}
 use Rattle.tpl_parse.specs.declared.token.Token.{Token}
-use Rattle.tpl_parse.specs.Token.{begins_name, in_name, is_reserved, is_space, spaces, text_of, all_words}
+use Rattle.ha_value.specs.Truth.{is_blank_or_break}
+use Rattle.tpl_parse.specs.Token.{begins_name, in_name, is_reserved, spaces, text_of, all_words}
 use Rattle.tpl_parse.specs.Literal.{unescaped, escape, escape_at, character, plain_or, string_character, string_turns, string, name, name_at, unreserved, skip_word, word}
 use Rattle.tpl_parse.specs.Names.{function_named}
 use Rattle.tpl_parse.specs.Grammar.{IsCharacter, character as character_is, IsString, close, escape as escaped, itself, IsRun, end, other, more as one_more, IsWord, IsName, name as name_is, is_variable}
@@ -105,8 +106,8 @@ reserved_longer w h =
     ((refl, refl), ((refl, refl), ((refl, refl), ((refl, refl), ((refl, refl), ((refl, refl), ((refl, refl), ((refl, refl), ((refl, refl), ((refl, refl), ((refl, refl), ((refl, refl), ((refl, refl), ((refl, refl), ((refl, refl), ((refl, refl), ((refl, refl), tt))))))))))))))))) h in
     subst (λ (v : List ℕ). IsFree (v ++ 95 ∷ [])) p.2 p.1
 
-not_space : (b : ℕ) → begins_name b ≡ true → is_space b ≡ false
-not_space b h = elim (chosen_is (is_space b)) [
+not_space : (b : ℕ) → begins_name b ≡ true → is_blank_or_break b ≡ false
+not_space b h = elim (chosen_is (is_blank_or_break b)) [
   | inl k ↦ absurd (grind (arith, h, k))
   | inr k ↦ k
 ]

@@ -6,7 +6,8 @@ use Rattle.std.proofs.lemmas.Bool.{and_parts, eqb-true, eq-eqb, cases_lt}
 use Rattle.reading.specs.Answer.{front}
 use Rattle.reading.proofs.Basics.{chosen_is}
 use Rattle.tpl_parse.specs.declared.token.Token.{Token}
-use Rattle.tpl_parse.specs.Token.{common, is_longer, ends_before, is_space, spaces, stands, next_is, past, reach, text_of}
+use Rattle.ha_value.specs.Truth.{is_blank_or_break}
+use Rattle.tpl_parse.specs.Token.{common, is_longer, ends_before, spaces, stands, next_is, past, reach, text_of}
 use Rattle.tpl_parse.specs.Grammar.{Takes, takes}
 use Rattle.tpl_parse.proofs.Apart.{stands_parts}
 use Rattle.tpl_parse.proofs.Ahead.{starts, stands_is}
@@ -26,7 +27,7 @@ unfolding spaces
 blanks_of [] = record { blanks = []; parts = refl; gone = λ o. refl }
 blanks_of (b ∷ u) =
     let p = blanks_of u in
-    elim (chosen_is (is_space b)) [
+    elim (chosen_is (is_blank_or_break b)) [
       | inl h ↦ record { blanks = b ∷ p.blanks; parts = rw h (ap (λ (v : List ℕ). b ∷ v) p.parts); gone = λ o. rw h (p.gone o) }
       | inr h ↦ record { blanks = []; parts = rw h refl; gone = λ o. refl }
     ]
@@ -34,18 +35,18 @@ blanks_of (b ∷ u) =
 -- a text that no blank begins
 abbrev pub is_solid : List ℕ → Bool
 is_solid [] = false
-is_solid (b ∷ w) = not (is_space b)
+is_solid (b ∷ w) = not (is_blank_or_break b)
 
 pub solid_at : (w r : List ℕ) → is_solid w ≡ true → spaces (w ++ r) ≡ w ++ r
 unfolding spaces
 solid_at [] r h = absurd cc
-solid_at (b ∷ w) r h = elim (chosen_is (is_space b)) [ inl k ↦ absurd (let v = rw k at h in cc) | inr k ↦ rw k refl ]
+solid_at (b ∷ w) r h = elim (chosen_is (is_blank_or_break b)) [ inl k ↦ absurd (let v = rw k at h in cc) | inr k ↦ rw k refl ]
 
 -- no blank, and no dot but alone
 abbrev pub is_begun : List ℕ → Bool
 is_begun [] = false
-is_begun (b ∷ []) = not (is_space b)
-is_begun (b ∷ c ∷ w) = not (is_space b) && not (b == 46)
+is_begun (b ∷ []) = not (is_blank_or_break b)
+is_begun (b ∷ c ∷ w) = not (is_blank_or_break b) && not (b == 46)
 
 pub token_begun : (token : Token) → is_begun (text_of token) ≡ true
 token_begun Token.Set = refl
@@ -54,7 +55,7 @@ token_begun _ = refl
 pub begun_solid : (w : List ℕ) → is_begun w ≡ true → is_solid w ≡ true
 begun_solid [] h = absurd cc
 begun_solid (b ∷ []) h = h
-begun_solid (b ∷ c ∷ w) h = (and_parts (not (is_space b)) (not (b == 46)) h).0
+begun_solid (b ∷ c ∷ w) h = (and_parts (not (is_blank_or_break b)) (not (b == 46)) h).0
 
 -- a blank makes no token longer
 never_longer : (token : Token) → is_longer token 32 ≡ false
@@ -183,7 +184,7 @@ module _ (x : ℕ) (w s u : List ℕ) (at : spaces u ≡ x ∷ s) (solid : is_so
 dot_alone : (x : ℕ) (w s : List ℕ) → is_begun (x ∷ w) ≡ true → (e r : List ℕ) → w ≡ e → Like (x ∷ s) (x ∷ (e ++ 32 ∷ r))
 dot_alone x [] s h [] r is = like_behind (x ∷ []) (like_blank s r)
 dot_alone x [] s h (b ∷ e) r is = absurd cc
-dot_alone x (c ∷ w) s h e r is = like_from x s (e ++ 32 ∷ r) (let k = (and_parts (not (is_space x)) (not (x == 46)) h).1 in no_dot (x == 46) k) where
+dot_alone x (c ∷ w) s h e r is = like_from x s (e ++ 32 ∷ r) (let k = (and_parts (not (is_blank_or_break x)) (not (x == 46)) h).1 in no_dot (x == 46) k) where
   no_dot : (t : Bool) → not t ≡ true → t ≡ false
   no_dot true h = absurd cc
   no_dot false h = refl

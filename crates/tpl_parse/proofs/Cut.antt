@@ -5,7 +5,8 @@ use Rattle.std.proofs.Math.ListN.{length-drop}
 use Rattle.reading.specs.Answer.{◌>>=◌, made}
 use Rattle.reading.proofs.Basics.{chosen_is}
 use Rattle.tpl_parse.specs.declared.token.Token.{Token}
-use Rattle.tpl_parse.specs.Token.{Reads, is_space, spaces, stands, next_is, past, reach, text_of}
+use Rattle.ha_value.specs.Truth.{is_blank_or_break}
+use Rattle.tpl_parse.specs.Token.{Reads, spaces, stands, next_is, past, reach, text_of}
 use Rattle.tpl_parse.proofs.Next.{Fault}
 use Rattle.tpl_parse.proofs.Shorter.{Read, Within, Keeps, made_within, later, length-spaces}
 use Rattle.tpl_parse.proofs.Ahead.{starts, stands_is, is_ahead, any_ahead, all_clear, reaches, stands_long, starts_same, starts_past}
@@ -79,7 +80,7 @@ pub data Split (c : List ℕ) : Type 0 where
   blank : ((x : List ℕ) → spaces (c ++ x) ≡ spaces x) → Split c
   shown : (e : ℕ) (d : List ℕ) → ((x : List ℕ) → spaces (c ++ x) ≡ e ∷ (d ++ x)) → Split c
 
-split_more : (b : ℕ) (c : List ℕ) → is_space b ≡ true → Split c → Split (b ∷ c)
+split_more : (b : ℕ) (c : List ℕ) → is_blank_or_break b ≡ true → Split c → Split (b ∷ c)
 unfolding spaces
 split_more b c h (blank s) = blank (λ x. rw h (s x))
 split_more b c h (shown e d s) = shown e d (λ x. rw h (s x))
@@ -87,7 +88,7 @@ split_more b c h (shown e d s) = shown e d (λ x. rw h (s x))
 pub split : (c : List ℕ) → Split c
 unfolding spaces
 split [] = blank (λ x. refl)
-split (b ∷ c) = elim (chosen_is (is_space b)) [ inl h ↦ split_more b c h (split c) | inr h ↦ shown b c (λ x. rw h refl) ]
+split (b ∷ c) = elim (chosen_is (is_blank_or_break b)) [ inl h ↦ split_more b c h (split c) | inr h ↦ shown b c (λ x. rw h refl) ]
 
 pub all_blank : {A : Type 0} (rule : Reads A) → Skips rule → Keeps rule → (c a : List ℕ) → spaces (c ++ a) ≡ spaces a → Within (length a) (rule (c ++ a))
 all_blank {A} rule skips keeps c a s = subst (λ (r : Read A). Within (length a) r) (ap rule (sym s) ∙ skips (c ++ a)) (later rule keeps (spaces a) (length a) (length-spaces a))

@@ -3,7 +3,8 @@ use Rattle.std.proofs.Common.{◌≡◌, ℕ, suc, ◌-◌, ◌≤◌, ◌<◌, 
 use Rattle.std.proofs.lemmas.Bool.{cond-true}
 use Rattle.reading.specs.declared.fault.Bad.{Bad}
 use Rattle.tpl_parse.specs.declared.token.Token.{Token}
-use Rattle.tpl_parse.specs.Token.{is_space, spaces, stands, next_is, past, behind, text_of}
+use Rattle.ha_value.specs.Truth.{is_blank_or_break}
+use Rattle.tpl_parse.specs.Token.{spaces, stands, next_is, past, behind, text_of}
 use Rattle.tpl_parse.specs.Literal.{before}
 use Rattle.tpl_parse.specs.Grammar.{Takes, takes}
 use Rattle.tpl_parse.proofs.Apart.{Quiet, stands_parts}
@@ -20,7 +21,7 @@ unfolding spaces
 spaces_within [] = omega arith
 spaces_within (b ∷ t) =
     let h = spaces_within t in
-    elim (is_space b) as (λ x. length (cond x (spaces t) (b ∷ t)) ≤ length (b ∷ t)) [ true ↦ omega (arith, h) | false ↦ omega arith ]
+    elim (is_blank_or_break b) as (λ x. length (cond x (spaces t) (b ∷ t)) ≤ length (b ∷ t)) [ true ↦ omega (arith, h) | false ↦ omega arith ]
 
 pub has_text : (token : Token) → 0 < length (text_of token)
 has_text Token.Set = omega arith

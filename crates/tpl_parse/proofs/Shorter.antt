@@ -23,7 +23,8 @@ use Rattle.tpl_parse.specs.declared.table.Function.{Function}
 use Rattle.tpl_parse.specs.declared.expression.Last.{Last}
 use Rattle.tpl_parse.specs.declared.expression.Level.{Level}
 use Rattle.tpl_parse.specs.declared.expression.Part.{Part}
-use Rattle.tpl_parse.specs.Token.{Reads, text_of, is_space, spaces, reach, next_is, past, behind, in_name, want}
+use Rattle.ha_value.specs.Truth.{is_blank_or_break}
+use Rattle.tpl_parse.specs.Token.{Reads, text_of, spaces, reach, next_is, past, behind, in_name, want}
 use Rattle.tpl_parse.specs.Names.{any_from, filter_named, filter_row, filters_reach, function_named, function_row, takes_behind}
 use Rattle.tpl_parse.specs.Literal.{before, before_range_end, begins_places, behind_number, character, escape_at, filter_name, filter_or, standing, in_range, name, number, plain_or, skip_word, string, string_character, string_turns, unreserved, word}
 use Rattle.tpl_parse.specs.Reading.{Inner, Start, numeric, quoted, bracket, group, letter, nothing, after_item, after_operator, arguments, at_place, atom, atom_by, behind_operator, by_word, call_or_name, chain, comparator, compared, comparison, comparisons, conjunction, constant, disjunction, enclosed, ending, expression, filter_arguments, filter_turns, filtered, in_group, inside, item_turns, items_in, joined, negation, not_called, opened, operand, operand_turns, operator, operators, pair, part_turns, product, reached, signed, start_of, sum, none_test, tested, with_else, with_right, word_atom, no_end, tested_last, tested_printed}
@@ -61,7 +62,7 @@ length-drop_some n t = omega (arith, length-drop n t)
 pub length-spaces : (t : List ℕ) → length (spaces t) ≤ length t
 unfolding spaces
 length-spaces [] = omega arith
-length-spaces (b ∷ t) = elim (chosen_is (is_space b)) [ inl h ↦ rw h (omega (arith, length-spaces t)) | inr h ↦ rw h (omega arith) ]
+length-spaces (b ∷ t) = elim (chosen_is (is_blank_or_break b)) [ inl h ↦ rw h (omega (arith, length-spaces t)) | inr h ↦ rw h (omega arith) ]
 
 pub length-past : (token : Token) (t : List ℕ) → length (past token t) ≤ length t
 length-past token t = omega (arith, length-drop_some (length (text_of token)) (spaces t), length-spaces t)

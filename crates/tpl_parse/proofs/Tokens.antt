@@ -3,7 +3,8 @@ use Rattle.std.proofs.Common.{◌≡◌, ℕ, suc, ◌≤◌, Bool, true, false,
 use Rattle.std.specs.Prelude.{◌==◌}
 use Rattle.std.specs.List.{find}
 use Rattle.tpl_parse.specs.declared.token.Token.{Token}
-use Rattle.tpl_parse.specs.Token.{common, is_space, spaces, stands}
+use Rattle.ha_value.specs.Truth.{is_blank_or_break}
+use Rattle.tpl_parse.specs.Token.{common, spaces, stands}
 
 pub common_within : (a b : List ℕ) → common a b ≤ length b
 unfolding common
@@ -18,8 +19,8 @@ unfolding spaces
 spaces_twice [] = refl
 spaces_twice (b ∷ rest) =
     let h : spaces (spaces rest) ≡ spaces rest = spaces_twice rest in
-    let go : (t : Bool) → is_space b ≡ t → spaces (cond t (spaces rest) (b ∷ rest)) ≡ cond t (spaces rest) (b ∷ rest) = λ t. elim t as (λ t. is_space b ≡ t → spaces (cond t (spaces rest) (b ∷ rest)) ≡ cond t (spaces rest) (b ∷ rest)) [ true ↦ λ e. h | false ↦ λ e. rw e refl ] in
-    go (is_space b) refl
+    let go : (t : Bool) → is_blank_or_break b ≡ t → spaces (cond t (spaces rest) (b ∷ rest)) ≡ cond t (spaces rest) (b ∷ rest) = λ t. elim t as (λ t. is_blank_or_break b ≡ t → spaces (cond t (spaces rest) (b ∷ rest)) ≡ cond t (spaces rest) (b ∷ rest)) [ true ↦ λ e. h | false ↦ λ e. rw e refl ] in
+    go (is_blank_or_break b) refl
 
 pub found_operator : {A : Type 0} (rows : List (Token × A)) (text old new : List ℕ) (r : Option (Token × A)) (row : Token × A)
     → text ≡ new → new ≡ spaces old → r ≡ find (λ row. stands row.0 text) rows → r ≡ Some row → find (λ row. stands row.0 (spaces old)) rows ≡ Some row

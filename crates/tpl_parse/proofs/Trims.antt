@@ -8,7 +8,8 @@ use Rattle.std.proofs.lemmas.Option.{slice_get_within, get_or_from_slice_get}
 use Rattle.std.proofs.lemmas.Str.{IsUtf8-past_char, IsUtf8-take, IsCharBoundary-before_ascii, encode_ascii}
 use Rattle.std.proofs.Math.Seq.{take-append_seam, take-suc}
 use Rattle.reading.proofs.Basics.{chosen_is}
-use Rattle.tpl_parse.specs.Token.{is_space, spaces}
+use Rattle.ha_value.specs.Truth.{is_blank_or_break}
+use Rattle.tpl_parse.specs.Token.{spaces}
 use Rattle.tpl_parse.specs.declared.token.Token.{Token}
 use Rattle.tpl_parse.specs.Pieces.{Choosing, none_open, statements, trimmed}
 
@@ -29,32 +30,32 @@ reverse_take text n lt = ap reverse (take-suc text n 0 lt) ∙ reverse-append (t
 
 -- ---- the loop from the end
 
-pub trim_on : (text : List ℕ) (to : ℕ) → 0 < to → to ≤ length text → is_space (get_or text (to - 1) 0) ≡ true → spaces (reverse (take (to - 1) text)) ≡ spaces (reverse (take to text))
+pub trim_on : (text : List ℕ) (to : ℕ) → 0 < to → to ≤ length text → is_blank_or_break (get_or text (to - 1) 0) ≡ true → spaces (reverse (take (to - 1) text)) ≡ spaces (reverse (take to text))
 unfolding spaces
 trim_on text zero some le e = absurd (omega arith)
 trim_on text (suc n) some le e =
     let back : suc n - 1 ≡ n = omega arith in
-    let space : is_space (get_or text n 0) ≡ true = rw back at e in
+    let space : is_blank_or_break (get_or text n 0) ≡ true = rw back at e in
     rw (back, reverse_take text n (omega arith), space) refl
 
-pub trim_ends : (text : List ℕ) (to : ℕ) → to ≤ length text → (0 < to → is_space (get_or text (to - 1) 0) ≡ false) → spaces (reverse (take to text)) ≡ spaces (reverse text) → take to text ≡ reverse (spaces (reverse text))
+pub trim_ends : (text : List ℕ) (to : ℕ) → to ≤ length text → (0 < to → is_blank_or_break (get_or text (to - 1) 0) ≡ false) → spaces (reverse (take to text)) ≡ spaces (reverse text) → take to text ≡ reverse (spaces (reverse text))
 unfolding spaces
 trim_ends text zero le last e = rw (← e) refl
 trim_ends text (suc n) le last e =
     let back : suc n - 1 ≡ n = omega arith in
-    let none : is_space (get_or text n 0) ≡ false = rw back at (last (omega arith)) in
+    let none : is_blank_or_break (get_or text n 0) ≡ false = rw back at (last (omega arith)) in
     let stays : spaces (reverse (take (suc n) text)) ≡ reverse (take (suc n) text) = rw (reverse_take text n (omega arith), none) refl in
     sym (reverse-reverse (take (suc n) text)) ∙ ap reverse (sym stays ∙ e)
 
 -- ---- what is left is UTF-8
 
-space_low : (b : ℕ) → is_space b ≡ true → b < 128
+space_low : (b : ℕ) → is_blank_or_break b ≡ true → b < 128
 space_low b h = grind (arith, h)
 
 pub front_utf8 : (text : List ℕ) → IsUtf8 text → IsUtf8 (spaces text)
 unfolding spaces
 front_utf8 [] u = u
-front_utf8 (b ∷ text) u = elim (chosen_is (is_space b)) [
+front_utf8 (b ∷ text) u = elim (chosen_is (is_blank_or_break b)) [
   | inl h ↦ rw h (front_utf8 text (IsUtf8-past_char (b ∷ text) text b u (ap (λ (t : List ℕ). t ++ text) (sym (encode_ascii b (space_low b h))))))
   | inr h ↦ rw h u
 ]
@@ -70,7 +71,7 @@ last_ascii xs b low u =
 end_utf8 : (back : List ℕ) → IsUtf8 (reverse back) → IsUtf8 (reverse (spaces back))
 unfolding spaces
 end_utf8 [] u = u
-end_utf8 (b ∷ back) u = elim (chosen_is (is_space b)) [
+end_utf8 (b ∷ back) u = elim (chosen_is (is_blank_or_break b)) [
   | inl h ↦ rw h (end_utf8 back (last_ascii (reverse back) b (space_low b h) (subst IsUtf8 (reverse-append (b ∷ []) back) u)))
   | inr h ↦ rw h u
 ]

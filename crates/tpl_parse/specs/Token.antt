@@ -4,6 +4,7 @@ use Rattle.std.specs.Prelude.{if◌then◌else◌, List, [], ◌∷◌, length, 
 use Rattle.std.specs.List.{fold, list_any}
 use Rattle.std.specs.Str.{bytes_eq}
 use Rattle.std.specs.Char.{is_ascii_alphabetic, is_ascii_digit}
+use Rattle.ha_value.specs.Truth.{is_blank_or_break}
 use Rattle.reading.specs.Answer.{Rule, front, stop}
 use Rattle.reading.specs.declared.fault.Bad.{Bad}
 use Rattle.tpl_parse.specs.declared.token.Token.{Token}
@@ -125,13 +126,10 @@ reach tokens rest = fold (λ far token. max far (common (text_of token) rest)) 0
 
 -- ---- blanks, and a token behind them
 
-abbrev pub is_space : ℕ → Bool
-is_space b = b == 32 || b == 9 || b == 10 || b == 13
-
 -- without the blanks and breaks at the front
 unfoldable pub spaces : List ℕ → List ℕ
 spaces [] = []
-spaces (b ∷ rest) = if is_space b then spaces rest else b ∷ rest
+spaces (b ∷ rest) = if is_blank_or_break b then spaces rest else b ∷ rest
 
 abbrev pub next_is : Token → List ℕ → Bool
 next_is token rest = stands token (spaces rest)

@@ -5,7 +5,7 @@ ghost use Rattle.ha_model.specs.declared.template.Piece.{Piece};
 ghost use Rattle.tpl_parse.specs.Pieces.{Choosing, arms_with, begun, closed, fallback_of, next_arm, none_open, statements, template_of, trimmed, with_piece, with_text};
 ghost use Rattle.tpl_parse.specs.Token.{spaces};
 
-use crate::parser::{Parser, is_space};
+use crate::parser::Parser;
 use crate::token::Token;
 use crate::tree::{discard, discard_arms, discard_pieces};
 use ha_model::{Boxed, Expr, Many, Piece, Template, Word};
@@ -267,7 +267,7 @@ fn without_end(text: &[u8]) -> &[u8]
     ensures { result.now ≡ reverse (spaces (reverse text.now)) }
 {
     let mut to = text.len();
-    'bytes: while 0 < to && is_space(text[to - 1]) {
+    'bytes: while 0 < to && is_blank_or_break(text[to - 1]) {
         to -= 1;
     }
     &text[..to]

@@ -5,9 +5,10 @@ ghost use Rattle.reading.specs.declared.fault.Stop.{Stop};
 ghost use Rattle.reading.specs.Answer.{Gives, front};
 ghost use Rattle.reading.specs.Bytes.{sees};
 ghost use Rattle.tpl_parse.specs.Literal.{before};
-ghost use Rattle.tpl_parse.specs.Token.{behind, is_space, next_is, reach, spaces, want};
+ghost use Rattle.tpl_parse.specs.Token.{behind, next_is, reach, spaces, want};
 
 use crate::token::{Token, reach, stands};
+use ha_value::is_blank_or_break;
 use reading::{Bad, Reader, Stop};
 use std::marker::Model;
 
@@ -26,13 +27,6 @@ impl<'a> Model for Parser<'a> {
     ghost Value = { List ℕ };
 
     ghost view = { λ p. p.bytes };
-}
-
-/// Blanks and breaks.
-pub fn is_space(b: u8) -> bool
-    ensures { result ≡ is_space b }
-{
-    b == b' ' || b == b'\t' || b == b'\n' || b == b'\r'
 }
 
 impl<'a> Parser<'a> {
@@ -117,7 +111,7 @@ impl<'a> Parser<'a> {
         ensures { self.new ≡ spaces self.old }
     {
         while let Some(b) = self.peek()
-            && is_space(b)
+            && is_blank_or_break(b)
         {
             self.bump();
         }

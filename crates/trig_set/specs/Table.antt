@@ -1,10 +1,10 @@
 -- The latest numbers of entities and their attributes.
-use Rattle.std.specs.Prelude.{◌≡◌, Bool, false, ◌||◌, nat_eq, Option, None, Some, String, [], ◌∷◌, is_some, option_and_then, if◌then◌else◌}
-use Rattle.std.specs.Char.{is_ascii_digit}
+use Rattle.std.specs.Prelude.{◌≡◌, Bool, false, Option, None, Some, String, [], ◌∷◌, is_some, option_and_then, if◌then◌else◌}
 use Rattle.std.specs.BTreeSet.{BTreeSet, contains_text}
 use Rattle.std.specs.BTreeMap.{BTreeMap, get_by_text}
 use Rattle.ha_value.specs.declared.value.EntityId.{EntityId}
 use Rattle.ha_value.specs.declared.value.Num.{Num}
+use Rattle.ha_value.specs.Numbers.{begins_number}
 use Rattle.ha_model.specs.Conditions.{number_watched}
 use Rattle.ha_model.specs.Records.{or_else}
 use Rattle.ha_model.specs.Words.{Text, Pairs, same, first_pair}
@@ -30,9 +30,9 @@ number_given own ps None = own
 number_given own ps (Some name) = number_watched (Some name) [] ps
 
 -- the text begins with a sign or a digit: no other is a number
-abbrev pub begins_number : Text → Bool
-begins_number [] = false
-begins_number (c ∷ cs) = (nat_eq c 43 || nat_eq c 45) || is_ascii_digit c
+abbrev pub begins_as_number : Text → Bool
+begins_as_number [] = false
+begins_as_number (c ∷ cs) = begins_number c
 
 -- with the names of these pairs, and the numbers that they give over those before
 pub record SoFar {Y Z : Type 0} (seen : BTreeSet (String Z))

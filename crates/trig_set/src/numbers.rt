@@ -7,11 +7,12 @@ ghost use Rattle.ha_model.specs.Conditions.{number_watched};
 ghost use Rattle.ha_model.specs.Entries.{opens_segment};
 ghost use Rattle.ha_model.specs.Triggers.{report_number};
 ghost use Rattle.ha_past.specs.Looks.{or_else};
-ghost use Rattle.trig_set.specs.Table.{begins_number, number_at, number_given, number_of, numbers_in};
+ghost use Rattle.trig_set.specs.Table.{begins_as_number, number_at, number_given, number_of, numbers_in};
 
 use crate::attributes::put_attributes;
 use crate::moved::opens;
 use ha_model::{Cmd, EntityId, Entry, Many, Num, Value, Word};
+use ha_value::begins_number;
 use std::alloc::{AllocError, Global};
 use std::collections::BTreeMap;
 
@@ -127,12 +128,12 @@ impl Numbers {
 }
 
 /// Whether a text begins as numbers do, with a sign or a digit.
-fn begins_number(text: &[u8]) -> bool
-    ensures { result ≡ begins_number text.now }
+fn begins_as_number(text: &[u8]) -> bool
+    ensures { result ≡ begins_as_number text.now }
 {
     match text {
         [] => false,
-        [first, ..] => *first == b'+' || *first == b'-' || first.is_ascii_digit(),
+        [first, ..] => begins_number(*first),
     }
 }
 
@@ -140,7 +141,7 @@ fn begins_number(text: &[u8]) -> bool
 fn gives_none(text: &Word, attributes: &Many<(Word, Value)>) -> bool
     ensures { result ≡ true → (name : Option Text) → number_watched name text.now attributes.now ≡ None }
 {
-    attributes.is_empty() && !begins_number(text.bytes())
+    attributes.is_empty() && !begins_as_number(text.bytes())
 }
 
 /// The text as a key.

@@ -5,12 +5,19 @@ ghost use Rattle.std.specs.List.{list_all};
 ghost use Rattle.std.specs.Ordering.{nat_cmp};
 ghost use Rattle.std.specs.Str.Parse.{digits_value};
 ghost use Rattle.ha_value.specs.Lists.{some_all};
-ghost use Rattle.ha_value.specs.Numbers.{has_minus, is_in_range, kept_in_range, nearer, nearest, number_from, read_number, signed, without_sign};
+ghost use Rattle.ha_value.specs.Numbers.{begins_number, has_minus, is_in_range, kept_in_range, nearer, nearest, number_from, read_number, signed, without_sign};
 
 use crate::cut::cut_at;
 use crate::num::{FIXED_LIMIT, WHOLE_LIMIT};
 use crate::value::Num;
 use std::cmp::Ordering;
+
+/// Whether number text may begin with the byte: a digit or a sign.
+pub fn begins_number(byte: u8) -> bool
+    ensures { result ≡ begins_number byte }
+{
+    byte.is_ascii_digit() || byte == b'-' || byte == b'+'
+}
 
 fn has_minus(text: &[u8]) -> bool
     ensures { result ≡ has_minus text.now }

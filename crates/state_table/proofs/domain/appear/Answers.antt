@@ -1,4 +1,4 @@
-use Rattle.std.proofs.Common.{◌≡◌, ap, subst}
+use Rattle.std.proofs.Common.{subst}
 use Rattle.std.specs.Prelude.{Some}
 use Rattle.state_table.specs.Domain.{ChangesName}
 use Rattle.state_table.proofs.DomainLemmas.{changes-name}

@@ -1,6 +1,6 @@
 use Rattle.std.proofs.Common.{◌≡◌, ℕ, ◌<◌, ◌≤◌, true, length, get_or}
 use Rattle.std.specs.Str.{IsCharBoundary}
-use Rattle.ha_model.specs.Words.{is_blank_or_break}
+use Rattle.ha_value.specs.Truth.{is_blank_or_break}
 use Rattle.tpl_fns.proofs.texts.without_end.Given as goal
 
 abbrev pub invariant-loop-end : goal.invariant-loop-end
