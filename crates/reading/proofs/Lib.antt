@@ -8,3 +8,4 @@ pub mod RowLaws
 pub mod Rows
 pub mod Shorter
 pub mod Solid
+pub mod Turns

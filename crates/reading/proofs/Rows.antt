@@ -1,5 +1,5 @@
 -- Reading items one after the other, as a loop does.
-use Rattle.std.proofs.Common.{◌≡◌, ℕ, zero, suc, ◌<◌, Bool, true, false, cond, List, [], ◌∷◌, ◌++◌, length, drop, Ok, Err, refl, sym, ap, ◌∙◌, arith}
+use Rattle.std.proofs.Common.{◌≡◌, ℕ, suc, ◌<◌, Bool, true, false, cond, List, [], ◌∷◌, ◌++◌, length, drop, Ok, Err, refl, sym, ap, ◌∙◌, arith}
 use Rattle.std.specs.Prelude.{codes}
 use Rattle.reading.specs.declared.fault.Bad.{Bad}
 use Rattle.reading.specs.declared.fault.Stop.{Stop}
@@ -8,14 +8,13 @@ use Rattle.reading.specs.Answer.{◌>>=◌, Answer, Rule, Gives}
 use Rattle.reading.specs.Bytes.{sees, skip, expect}
 use Rattle.reading.specs.Rows.{repeat, after_item, row, closed_by}
 use Rattle.reading.proofs.Bytes.{length-skip, expect_found}
+use Rattle.reading.proofs.Turns as turns
 
 -- ---- lists in brackets
 
 -- what is left to read, behind what was found, makes up the whole
-pub record Continues {C A : Type 0} (code : C) (end : ℕ) (item : List A → Rule ℕ (Bad C) A) (found : List A) (rest : List ℕ) (total : Answer ℕ (Bad C) (List A)) : Type 0 where
-  pub turns : ℕ
-  pub enough : length rest < turns
-  pub reads : row code end item turns found rest ≡ total
+abbrev pub Continues : {C A : Type 0} → C → ℕ → (List A → Rule ℕ (Bad C) A) → List A → List ℕ → Answer ℕ (Bad C) (List A) → Type 0
+Continues code end item = turns.Continues (row code end item)
 
 module _ {C A : Type 0} (code : C) (end : ℕ) (item : List A → Rule ℕ (Bad C) A) where
   abbrev Total : Type 0
@@ -31,31 +30,19 @@ module _ {C A : Type 0} (code : C) (end : ℕ) (item : List A → Rule ℕ (Bad 
 
   pub begins : (text : List ℕ) → sees end (skip text) ≡ false → Continues code end item [] (skip text) (closed_by code end item text)
   unfolding closed_by
-  begins text h = record { turns = suc (length (skip text)); enough = omega arith; reads = sym (rw h refl) }
+  begins text h = turns.begins (row code end item) [] (skip text) (closed_by code end item text) (rw h refl)
 
   -- no item comes
   pub item_fails : (found : List A) (rest : List ℕ) (total : Total) (e : Stop (Bad C)) (new : List ℕ)
       → Continues code end item found rest total → Gives (item found rest) (Err e) new → Gives {A = List A} total (Err e) new
   unfolding row
   item_fails found rest total stops.Memory new so_far given = tt
-  item_fails found rest total (stops.Fault f) new so_far given =
-      let go : (n : ℕ) → length rest < n → row code end item n found rest ≡ total → total ≡ Err f = λ n.
-      elim n as (λ n. length rest < n → row code end item n found rest ≡ total → total ≡ Err f) [
-        | zero ↦ λ lt _. absurd (omega arith)
-        | suc n ↦ λ lt so. sym so ∙ rw given refl
-      ] in
-      go so_far.turns so_far.enough so_far.reads
+  item_fails found rest total (stops.Fault f) new so_far given = turns.ends (row code end item) found rest total so_far (Err f) (λ n. rw given refl)
 
   module _ (found : List A) (rest : List ℕ) (total : Total) (x : A) (after : List ℕ) (so_far : Continues code end item found rest total) (given : item found rest ≡ Ok (x, after)) where
-    after_one : (turns : ℕ) × (length rest < suc turns) × (after_item code end (found ++ x ∷ []) (row code end item turns (found ++ x ∷ [])) after ≡ total)
+    after_one : (n : ℕ) → row code end item (suc n) found rest ≡ after_item code end (found ++ x ∷ []) (row code end item n (found ++ x ∷ [])) after
     unfolding row
-    after_one =
-        let go : (n : ℕ) → length rest < n → row code end item n found rest ≡ total → (turns : ℕ) × (length rest < suc turns) × (after_item code end (found ++ x ∷ []) (row code end item turns (found ++ x ∷ [])) after ≡ total) = λ n.
-        elim n as (λ n. length rest < n → row code end item n found rest ≡ total → (turns : ℕ) × (length rest < suc turns) × (after_item code end (found ++ x ∷ []) (row code end item turns (found ++ x ∷ [])) after ≡ total)) [
-          | zero ↦ λ lt _. absurd (omega arith)
-          | suc n ↦ λ lt so. (n, lt, sym (rw given refl) ∙ so)
-        ] in
-        go so_far.turns so_far.enough so_far.reads
+    after_one n = rw given refl
 
     module _ (s : List ℕ) (skipped : s ≡ skip after) (r : Bool) (seen : r ≡ sees end s) where
       -- the end comes
@@ -63,7 +50,7 @@ module _ {C A : Type 0} (code : C) (end : ℕ) (item : List A → Rule ℕ (Bad 
       ends all new e seen_end moved =
           let h : sees end (skip after) ≡ true = ap (sees end) (sym skipped) ∙ sym seen ∙ seen_end in
           let n : new ≡ drop 1 (skip after) = moved ∙ ap (λ (b : Bool). cond b (drop 1 s) s) (sym seen ∙ seen_end) ∙ ap (drop 1) skipped in
-          rw (e, n) (sym after_one.2 ∙ rw h refl)
+          rw (e, n) (turns.ends (row code end item) found rest total so_far (Ok (found ++ x ∷ [], drop 1 (skip after))) (λ k. after_one k ∙ rw h refl))
 
       -- neither the end nor a comma
       pub comma_fails : (e : Stop (Bad C)) (u new : List ℕ) → r ≡ false → u ≡ cond (sees end s) (drop 1 s) s → Gives (expect code (codes ",") u) (Err e) new → Gives {A = List A} total (Err e) new
@@ -71,7 +58,7 @@ module _ {C A : Type 0} (code : C) (end : ℕ) (item : List A → Rule ℕ (Bad 
       comma_fails (stops.Fault f) u new not_yet moved g =
           let h : sees end (skip after) ≡ false = ap (sees end) (sym skipped) ∙ sym seen ∙ not_yet in
           let n : u ≡ skip after = moved ∙ ap (λ (b : Bool). cond b (drop 1 s) s) (sym seen ∙ not_yet) ∙ skipped in
-          sym after_one.2 ∙ rw (h, ← n, g) refl
+          turns.ends (row code end item) found rest total so_far (Err f) (λ k. after_one k ∙ rw (h, ← n, g) refl)
 
       -- a comma, and one more
       pub goes_on : (all : List A) (u behind next : List ℕ) → all ≡ found ++ x ∷ [] → r ≡ false → u ≡ cond (sees end s) (drop 1 s) s → expect code (codes ",") u ≡ Ok (tt, behind) → next ≡ skip behind
@@ -80,48 +67,38 @@ module _ {C A : Type 0} (code : C) (end : ℕ) (item : List A → Rule ℕ (Bad 
           let h : sees end (skip after) ≡ false = ap (sees end) (sym skipped) ∙ sym seen ∙ not_yet in
           let n : u ≡ skip after = moved ∙ ap (λ (b : Bool). cond b (drop 1 s) s) (sym seen ∙ not_yet) ∙ skipped in
           let g' : expect code (codes ",") (skip after) ≡ Ok (tt, behind) = ap (expect code (codes ",")) (sym n) ∙ g in
-          rw (e, then) (record { turns = after_one.0; enough = omega (arith, after_one.1, ap length then); reads = sym (rw (h, g') refl) ∙ after_one.2 })
+          rw (e, then) (turns.goes_on (row code end item) found rest total so_far (found ++ x ∷ []) (skip behind) (λ k. after_one k ∙ rw (h, g') refl) (omega (arith, ap length then)))
 
 -- ---- items as long as a test says so
 
 -- what is left to read, behind what was found, makes up the whole
-pub record Repeats {T F A : Type 0} (over : F) (on : List A → Rule T F Bool) (item : List A → Rule T F A) (found : List A) (rest : List T) (total : Answer T F (List A)) : Type 0 where
-  pub turns : ℕ
-  pub enough : length rest < turns
-  pub reads : repeat over on item turns found rest ≡ total
+abbrev pub Repeats : {T F A : Type 0} → F → (List A → Rule T F Bool) → (List A → Rule T F A) → List A → List T → Answer T F (List A) → Type 0
+Repeats over on item = turns.Continues (repeat over on item)
 
 module _ {T F A : Type 0} (over : F) (on : List A → Rule T F Bool) (item : List A → Rule T F A) where
   pub repeat_begins : (n : ℕ) (rest : List T) → length rest < n → Repeats over on item [] rest (repeat over on item n [] rest)
-  repeat_begins n rest enough = record { turns = n; enough = enough; reads = refl }
+  repeat_begins n rest enough = record { count = n; enough = enough; reads = refl }
 
   module _ (found : List A) (rest : List T) (total : Answer T F (List A)) (so_far : Repeats over on item found rest total) where
-    one_turn : (turns : ℕ) × (length rest < suc turns) × ((on found rest >>= λ go. cond go.0 (item found go.1 >>= λ x. repeat over on item turns (found ++ x.0 ∷ []) x.1) (Ok (found, go.1))) ≡ total)
-    unfolding repeat
-    one_turn =
-        let go : (n : ℕ) → length rest < n → repeat over on item n found rest ≡ total
-        → (turns : ℕ) × (length rest < suc turns) × ((on found rest >>= λ go. cond go.0 (item found go.1 >>= λ x. repeat over on item turns (found ++ x.0 ∷ []) x.1) (Ok (found, go.1))) ≡ total) = λ n.
-        elim n as (λ n. length rest < n → repeat over on item n found rest ≡ total
-        → (turns : ℕ) × (length rest < suc turns) × ((on found rest >>= λ go. cond go.0 (item found go.1 >>= λ x. repeat over on item turns (found ++ x.0 ∷ []) x.1) (Ok (found, go.1))) ≡ total)) [
-          | zero ↦ λ lt _. absurd (omega arith)
-          | suc n ↦ λ lt so. (n, lt, so)
-        ] in
-        go so_far.turns so_far.enough so_far.reads
-
     -- the test fails
     pub test_fails : (e : Stop F) (new : List T) → Gives (on found rest) (Err e) new → Gives {A = List A} total (Err e) new
+    unfolding repeat
     test_fails stops.Memory new g = tt
-    test_fails (stops.Fault f) new g = sym one_turn.2 ∙ rw g refl
+    test_fails (stops.Fault f) new g = turns.ends (repeat over on item) found rest total so_far (Err f) (λ n. rw g refl)
 
     -- no more
     pub no_more : (after : List T) → on found rest ≡ Ok (false, after) → total ≡ Ok (found, after)
-    no_more after g = sym one_turn.2 ∙ rw g refl
+    unfolding repeat
+    no_more after g = turns.ends (repeat over on item) found rest total so_far (Ok (found, after)) (λ n. rw g refl)
 
     -- no item comes
     pub repeat_fails : (after : List T) (e : Stop F) (new : List T) → on found rest ≡ Ok (true, after) → Gives (item found after) (Err e) new → Gives {A = List A} total (Err e) new
+    unfolding repeat
     repeat_fails after stops.Memory new g h = tt
-    repeat_fails after (stops.Fault f) new g h = sym one_turn.2 ∙ rw (g, h) refl
+    repeat_fails after (stops.Fault f) new g h = turns.ends (repeat over on item) found rest total so_far (Err f) (λ n. rw (g, h) refl)
 
     -- one more
     pub one_more : (after : List T) (x : A) (next : List T) → on found rest ≡ Ok (true, after) → item found after ≡ Ok (x, next) → length next < length rest
         → (all : List A) → all ≡ found ++ x ∷ [] → Repeats over on item all next total
-    one_more after x next g h less all e = rw e (record { turns = one_turn.0; enough = omega (arith, one_turn.1); reads = sym (rw (g, h) refl) ∙ one_turn.2 })
+    unfolding repeat
+    one_more after x next g h less all e = rw e (turns.goes_on (repeat over on item) found rest total so_far (found ++ x ∷ []) next (λ n. rw (g, h) refl) less)

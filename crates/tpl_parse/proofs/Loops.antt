@@ -12,6 +12,7 @@ use Rattle.reading.specs.declared.fault.Stop.{Stop}
 use Rattle.reading.specs.declared.fault.Stop.TheVariants as stops
 use Rattle.reading.specs.Answer.{Answer, Gives, front}
 use Rattle.reading.proofs.Basics.{chosen_is}
+use Rattle.reading.proofs.Turns.{Continues, begins, ends, goes_on}
 use Rattle.tpl_parse.specs.declared.token.Token.{Token}
 use Rattle.tpl_parse.specs.declared.expression.Level.{Level}
 use Rattle.tpl_parse.specs.declared.expression.Part.{Part}
@@ -25,35 +26,6 @@ use Rattle.tpl_parse.specs.Literal.{filter_name, name}
 use Rattle.tpl_parse.specs.Reading.{Inner, arguments, at_place, atom, behind_operator, call_or_name, chain, comparison, enclosed, ending, expression, filter_arguments, filter_turns, inside, item_turns, negation, not_called, open_reach, opened, operand, operand_turns, operator, operator_of, operators, pair, part_turns}
 use Rattle.tpl_parse.proofs.Shorter.{IsOpen, Keeps, enclosed_keeps, filter_arguments_keeps, filter_name_keeps, inside_opens, length-spaces, name_keeps, opened_opens, operand_keeps, no_longer_than}
 use Rattle.tpl_parse.proofs.Tokens.{common_within, spaces_twice}
-
--- ---- what was found, and the turns that are left, give the whole
-
-pub record Continues {S A : Type 0} (turns : ℕ → S → Reads A) (found : S) (rest : List ℕ) (total : Answer ℕ (Bad (Unit {0})) A) : Type 0 where
-  pub count : ℕ
-  pub enough : length rest < count
-  pub reads : turns count found rest ≡ total
-
-module _ {S A : Type 0} (turns : ℕ → S → Reads A) (found : S) (rest : List ℕ) (total : Answer ℕ (Bad (Unit {0})) A) where
-  pub begins : total ≡ turns (suc (length rest)) found rest → Continues turns found rest total
-  begins e = record { count = suc (length rest); enough = omega arith; reads = sym e }
-
-  module _ (so_far : Continues turns found rest total) where
-    one_turn : (n : ℕ) × (length rest < suc n) × (turns (suc n) found rest ≡ total)
-    one_turn =
-        let go : (n : ℕ) → length rest < n → turns n found rest ≡ total → (n : ℕ) × (length rest < suc n) × (turns (suc n) found rest ≡ total) = λ n.
-        elim n as (λ n. length rest < n → turns n found rest ≡ total → (n : ℕ) × (length rest < suc n) × (turns (suc n) found rest ≡ total)) [
-          | zero ↦ λ lt _. absurd (omega arith)
-          | suc n ↦ λ lt so. (n, lt, so)
-        ] in
-        go so_far.count so_far.enough so_far.reads
-
-    -- this turn is the last
-    pub ends : (answer : Answer ℕ (Bad (Unit {0})) A) → ((n : ℕ) → turns (suc n) found rest ≡ answer) → total ≡ answer
-    ends answer turn = sym one_turn.2 ∙ turn one_turn.0
-
-    -- a turn more
-    pub goes_on : (next : S) (after : List ℕ) → ((n : ℕ) → turns (suc n) found rest ≡ turns n next after) → length after < length rest → Continues turns next after total
-    goes_on next after turn less = record { count = one_turn.0; enough = omega (arith, one_turn.1); reads = sym (turn one_turn.0) ∙ one_turn.2 }
 
 -- ---- each turn takes a byte
 

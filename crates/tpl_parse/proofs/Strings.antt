@@ -9,7 +9,7 @@ use Rattle.reading.proofs.Basics.{bind_ok, ok_parts, made_ok, made_err}
 use Rattle.tpl_parse.specs.Leaves.{Leaves}
 use Rattle.tpl_parse.specs.Token.{Reads}
 use Rattle.tpl_parse.specs.Literal.{character, escape_at, plain_or, string_character, string_turns, string}
-use Rattle.tpl_parse.proofs.Loops.{Continues, begins, ends, goes_on}
+use Rattle.reading.proofs.Turns.{Continues, begins, ends, goes_on}
 use Rattle.tpl_parse.proofs.Utf8.{Fault, character_found}
 
 -- a step that went well

@@ -13,7 +13,7 @@ use Rattle.tpl_parse.proofs.Shorter.{no_longer_than}
 use Rattle.tpl_parse.specs.Token.{Reads, none_of, past, spaces, stands}
 use Rattle.tpl_parse.specs.Literal.{before, character}
 use Rattle.tpl_parse.specs.Pieces.{Found, behind_sign, finished, one_of, sign_of, tag_by, with_text, tag_at, ended, text_turns, text, comment_ends, comment_turns, comment, piece_turns, template}
-use Rattle.tpl_parse.proofs.Loops.{Continues, begins, ends, goes_on}
+use Rattle.reading.proofs.Turns.{Continues, begins, ends, goes_on}
 use Rattle.tpl_parse.specs.Leaves.{Leaves}
 use Rattle.std.proofs.Math.ListN.{length-drop}
 use Rattle.tpl_parse.proofs.PiecesShorter.{length-behind_sign, tag_by_keeps, text_keeps}

@@ -1,7 +1,8 @@
 use Rattle.std.proofs.Common.{ℕ, ◌+◌, ◌-◌, ◌*◌, ◌<◌, length}
 use Rattle.tpl_parse.specs.declared.expression.Level.{Level}
 use Rattle.tpl_parse.specs.Reading.{arguments, chain, expression, filtered, opened, operand, operators, reached}
-use Rattle.tpl_parse.proofs.Loops.{Continues, further, further_filters, further_items, further_parts}
+use Rattle.reading.proofs.Turns.{Continues}
+use Rattle.tpl_parse.proofs.Loops.{further, further_filters, further_items, further_parts}
 use Rattle.tpl_parse.proofs.parser.Parser.+read.Given as goal
 
 -- Each rule calls the next one of the grammar, and a bracket, `else`, `not` and a sign open what is less deep.

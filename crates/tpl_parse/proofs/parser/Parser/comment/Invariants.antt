@@ -1,6 +1,6 @@
 use Rattle.std.proofs.Common.{length}
 use Rattle.tpl_parse.specs.Pieces.{comment}
-use Rattle.tpl_parse.proofs.Loops.{Continues}
+use Rattle.reading.proofs.Turns.{Continues}
 use Rattle.tpl_parse.proofs.Texts.{comment_turn}
 use Rattle.tpl_parse.proofs.parser.Parser.comment.Given as goal
 

@@ -1,6 +1,6 @@
 use Rattle.std.proofs.Common.{length}
 use Rattle.tpl_parse.specs.Literal.{string}
-use Rattle.tpl_parse.proofs.Loops.{Continues}
+use Rattle.reading.proofs.Turns.{Continues}
 use Rattle.tpl_parse.proofs.Strings.{turn}
 use Rattle.tpl_parse.proofs.parser.Parser.string.Given as goal
 

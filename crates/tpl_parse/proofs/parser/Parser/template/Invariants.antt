@@ -1,6 +1,6 @@
 use Rattle.std.proofs.Common.{length}
 use Rattle.tpl_parse.specs.Pieces.{template}
-use Rattle.tpl_parse.proofs.Loops.{Continues}
+use Rattle.reading.proofs.Turns.{Continues}
 use Rattle.tpl_parse.proofs.Texts.{piece_turn}
 use Rattle.tpl_parse.proofs.parser.Parser.template.Given as goal
 

@@ -1,6 +1,6 @@
 use Rattle.std.proofs.Common.{length}
 use Rattle.tpl_parse.specs.Pieces.{text}
-use Rattle.tpl_parse.proofs.Loops.{Continues}
+use Rattle.reading.proofs.Turns.{Continues}
 use Rattle.tpl_parse.proofs.Utf8.{Chars}
 use Rattle.tpl_parse.proofs.Texts.{text_turn}
 use Rattle.tpl_parse.proofs.parser.Parser.text.Given as goal
