@@ -9,6 +9,7 @@ use crate::parser::Parser;
 use crate::token::Token;
 use crate::tree::{discard, discard_arms, discard_pieces};
 use ha_model::{Boxed, Expr, Many, Piece, Template, Word};
+use ha_value::is_blank_or_break;
 use std::alloc::{AllocError, Global};
 use std::marker::Model;
 
