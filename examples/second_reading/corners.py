@@ -1,0 +1,130 @@
+"""Homes at the bounds, made by hand, for the comparison alone."""
+
+from __future__ import annotations
+
+from typing import Any
+
+from .generate import Home
+from .rows import GO, call, event, go, moment, on, report
+
+START = "2024-05-01T20:00:00Z"
+LAST = "2999-12-31T23:59:5"
+
+
+def home(automations: list[dict[str, Any]], lines: list[str], start: str = START, **more: Any) -> Home:
+    """A home in UTC."""
+    return Home(automations, lines, start, "UTC", **more)
+
+
+def deep(levels: int) -> str:
+    """A report with an attribute nested in so many lists."""
+    return '{"report":"light.x","state":"on","attributes":{"b":' + "[" * levels + "]" * levels + "}}"
+
+
+def long_line(size: int) -> str:
+    """An event's line of so many bytes."""
+    front = '{"event":"go","data":{"n":"'
+    return front + "x" * (size - len(front) - 3) + '"}}'
+
+
+def doubled(times: int, tail: str) -> list[dict[str, Any]]:
+    """A text that is doubled, then seen."""
+    return [go([{"variables": {"v": "x"}}, {"repeat": {"count": times, "sequence": [{"variables": {"v": "{{ v ~ v }}"}}]}},
+                call(n="{{ v|length }}"), call(n=tail)])]
+
+
+def lists(rows: int, more: str = "") -> list[dict[str, Any]]:
+    """A list of lists with many values."""
+    row = "[" + ", ".join("1" for _ in range(255)) + "]"
+    whole = "{% set a = " + row + " %}{% set b = [" + ", ".join("a" for _ in range(rows)) + more + "] %}{{ b|length }}"
+    return [go([call(n=whole)])]
+
+
+def attributes(*numbers: str) -> list[str]:
+    """Reports with numbers as they are written."""
+    return ['{"report":"light.x","state":"on","attributes":{"b":%s}}' % number for number in numbers]
+
+
+NUMBERS = ("1000000000000", "1000000000000.0", "1000000000000.0000004", "1000000000000.0000005", "1000000000000.0000006", "1000000000001",
+           "-1000000000000.0000005", "00012", "-0", "-0.0", "+5", "0.0000005", "0.0000015", "0.00000050000000000000001", "1.", ".5",
+           "1e3", "99999999999999999999999", "0.1234567", "2.50", "-0.0000001")
+
+HOMES = {
+    "while without end": home([go([{"repeat": {"while": "{{ true }}", "sequence": []}}, call()])], [event("go"), event("go")]),
+    "until without end in a branch": home([go([{"parallel": [[{"repeat": {"until": "{{ false }}", "sequence": []}}],
+                                                             [{"delay": 5}, call()]]}, call("notify.y")])],
+                                          [event("go"), moment("20:00:05")]),
+    "turns of turns": home([go([{"repeat": {"count": 30, "sequence": [{"repeat": {"for_each": [1, 2, 3], "sequence": [
+        call(n="{{ repeat.item }}")]}}, call(n="{{ repeat.index ~ repeat.last }}")]}}])], [event("go")]),
+    "text of 65,536": home(doubled(16, "{{ v ~ '' }}"), [event("go")]),
+    "text of 131,072": home(doubled(17, "{{ v }}"), [event("go")]),
+    "joined pieces": home(doubled(16, "{{ v }} "), [event("go")]),
+    "joined pieces, then more": home(doubled(16, " {{ v|length }}"), [event("go")]),
+    "upper of 65,536": home(doubled(16, "{{ (v|upper)|length }}"), [event("go")]),
+    "replace makes it longer": home(doubled(15, "{{ v|replace('x', 'yyy')|length }}"), [event("go")]),
+    "list of 65,280": home(lists(255), [event("go")]),
+    "list of 65,536": home(lists(256), [event("go")]),
+    "list of 65,537": home(lists(256, ", 1"), [event("go")]),
+    "list of 65,538": home(lists(256, ", [1]"), [event("go")]),
+    "list with a list that is too long": home([go([call(n="{{ ['" + "é" * 4000 + "', [], ['']]|length }}")])], [event("go")]),
+    "string of a long text": home(doubled(16, "{{ (v|string)|length ~ (v ~ '' == v) }}"), [event("go")]),
+    "twice what is at the bound": home(doubled(15, "{{ (v ~ v)|length }} {{ (v + v)|trim|length }}"), [event("go")]),
+    "three times": home(doubled(15, "{{ (v ~ v ~ v)|length }}"), [event("go")]),
+    "arms": home(doubled(15, "{% if true %}{{ v }}{{ v }}{% endif %}{{ '' }}"), [event("go")]),
+    "arms, and one more": home(doubled(15, "{% if true %}{{ v }}{{ v }}{% endif %}{{ ' ' }}"), [event("go")]),
+    "list of 66,000": home(lists(258), [event("go")]),
+    "numbers of attributes": home([on({"trigger": "state", "entity_id": "light.x", "attribute": "b"}, mode="parallel", actions=[
+        call(n="{{ trigger.to_state.attributes.b }}")])], attributes(*NUMBERS)),
+    "numbers of states": home([on({"trigger": "numeric_state", "entity_id": "light.x", "above": 0}, mode="parallel", actions=[
+        call(n="{{ states('light.x')|float(-1) }}")])], [report("light.x", text) for number in NUMBERS for text in ("-1", number)]),
+    "depth": home([], [deep(30), deep(31), deep(32), deep(64)]),
+    "long lines": home([go([call(n="{{ trigger.event.data.n|length }}")], mode="parallel")],
+                       [long_line(65_535), long_line(65_536), long_line(65_537), " " * 70_000, " " * 65_536 + "x"]),
+    "long states": home([on({"trigger": "state", "entity_id": "light.x"}, mode="parallel", actions=[
+        call(n="{{ states('light.x')|length }}")])],
+        [report("light.x", "é" * 255), report("light.x", "é" * 256), report("light.x", "😀" * 255),
+         report("light.x", "\n\t\u0000" * 85)]),
+    "line ends": home([go([call()], mode="parallel")], [event("go") + "\r", "\r", "  \t\r", event("go") + "\r\r", "", event("go") + "\r"]),
+    "end of time": home([go([{"delay": 5}, call()]), on({"trigger": "state", "entity_id": "light.x", "for": 5}, alias="b"),
+                         go([{"wait_template": "{{ false }}", "timeout": "24:00"}, call()], alias="c"),
+                         go([{"wait_template": "{{ false }}", "timeout": 1}, call(n="{{ wait.remaining }}")], alias="d")],
+                        [report("light.x", "on"), event("go"), moment(LAST + "9Z"), '{"moment":"2999-12-31T23:59:59.999Z"}',
+                         '{"moment":"3000-01-01T00:00:00Z"}', event("go")], start=LAST + "8Z"),
+    "days": home([go([{"delay": {"days": 366}}, call()]),
+                  on({"trigger": "state", "entity_id": "light.x", "for": {"days": 365}}, alias="b")],
+                 [report("light.x", "on"), event("go"), moment("2025-05-01T19:59:59Z"), moment("2025-05-01T20:00:00Z"),
+                  moment("2025-05-02T20:00:00Z")]),
+    "stored names": home([go([call()])], [event("go")], stored={"a": False, "none": True, "zz": False}),
+    "many branches": home([go([{"parallel": [[{"delay": n % 3}, call(n=n)] for n in range(40)]}, call("notify.end")])],
+                          [event("go"), moment("20:00:01"), moment("20:00:02")]),
+    "many runs": home([go([{"wait_for_trigger": {"trigger": "event", "event_type": "pong"}, "timeout": 3}, call(n="{{ wait.remaining }}")],
+                          mode="parallel", max=50)],
+                          [event("go")] * 60 + [moment("20:00:01.5"), event("pong"), event("go"), moment("20:00:05")]),
+    "long queue": home([go([{"delay": 1}, call(n="{{ trigger.event.data.n }}")], mode="queued", max=8)],
+                       [event("go", n=n) for n in range(12)] + [moment(f"20:00:0{n}") for n in range(1, 10)]),
+    "queue is stopped": home([go([{"delay": 1}, call(n="{{ trigger.event.data.n }}")], mode="queued", max=8)],
+                             [event("go", n=n) for n in range(4)] + ['{"switch":"automation.a","to":"off"}', moment("20:00:09"),
+                              '{"switch":"automation.a","to":"on"}', event("go", n=9), moment("20:00:10")]),
+    "queue turns itself off": home([go([call(n="{{ trigger.event.data.n }}"), {"delay": 1}, {
+        "action": "automation.turn_off", "target": {"entity_id": "automation.a"}, "data": {"stop_actions": False}}, call("notify.y")],
+        mode="queued")], [event("go", n=n) for n in range(3)] + [moment(f"20:00:0{n}") for n in range(1, 6)]),
+    "starts": home([on({"trigger": "homeassistant", "event": "start"}, mode=mode, alias=mode,
+                       actions=[call(n="{{ trigger.platform }}"), {"delay": 2}, call()]) for mode in ("single", "restart", "queued")],
+                   ['{"restart":true}', moment("20:00:01"), '{"restart":true}', '{"restart":true}', moment("20:00:03")]),
+    "starts without lines": home([on({"trigger": "homeassistant", "event": "start"}, actions=[call(), {"event": "go"}]),
+                                  {"alias": "b"} | GO | {"actions": [call("notify.b")]}], []),
+    "keys in a line": home([go([call(n="{{ trigger.event.data.n }}")], mode="parallel")],
+                           ['{ "data" : { "n" : 1 } , "event" : "go" }', '{"\\u0065vent":"go"}', '{"event":"go","event":"go"}',
+                            '{"event":"go","data":{"a":1,"\\u0061":2}}', '{"event":"go","gone":"light.x"}', '{"event":"go","x":1}',
+                            '{"event":5}', '{"event":null}', "[]", '"x"', "5", '{"event":"go"}x', ' {"event":"go"}', '{"event":"go"} ',
+                            '{"event":"go","data":[]}', '{"restart":false}', '{"restart":1}', '{"moment":5}', '{"switch":"automation.a"}',
+                            '{"switch":"automation.a","to":"x"}', '{"switch":"light.x","to":"on"}', '{"trigger":"automation.A"}',
+                            '{"report":"automation.a","state":"on"}', '{"gone":"automation.a"}', '{"report":"light.x.y","state":"on"}',
+                            '{"switch":"automation.none","to":"on","stop_actions":5}',
+                            '{"event":"\\ud83d\\ude00","data":{"n":"\\/\\b\\f"}}',
+                            '{"event":"\\ud83d"}', '{"event":"\\udc00"}', '{"event":"go\\u0000"}', '{"event":"go","data":{"n":1,}}',
+                            '{"moment":"2024-02-30T00:00:00Z"}', '{"moment":"2024-05-01T24:00:00Z"}', '{"moment":"2024-05-01T20:00:60Z"}',
+                            '{"moment":"2024-05-01T20:00:01.Z"}', '{"moment":"2024-05-01T20:00:01.1234Z"}',
+                            '{"moment":"2024-05-01t20:00:01Z"}', '{"moment":"1969-12-31T23:59:59Z"}',
+                            '{"moment":"2024-05-01T20:00:01.5Z"}']),
+}

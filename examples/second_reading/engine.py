@@ -1,0 +1,229 @@
+"""The core: lines and steps are put, runs are admitted, begin and end; and what is written."""
+
+from __future__ import annotations
+
+from dataclasses import dataclass
+from typing import Any, Mapping, Optional
+
+from .clock import print_moment, read_moment, read_zone
+from .conditions import Pairs, test_all
+from .config import Automation, read_config
+from .journal import NOTHING, Entry, Journal
+from .lines import Command, commands_of, print_command, print_text, print_value, refused, target_automation
+from .script import Script, Thread
+from .triggers import firings
+
+LIMIT = 1_048_576
+BY_HAND: Pairs = [("trigger", {"platform": None})]
+
+
+class Full(Exception):
+    """The journal has as many entries as it may have."""
+
+
+@dataclass
+class Record:
+    """An admitted attempt: its run begins and ends at places."""
+
+    serial: int
+    automation: int
+    number: int
+    pairs: Pairs
+    begin: Optional[int] = None
+    end: Optional[tuple[int, str]] = None
+    calls: int = 0
+    script: Optional[Script] = None
+    thread: Optional[Thread] = None
+
+    def is_live(self) -> bool:
+        """From its admission to its end."""
+        return self.end is None
+
+
+class Engine:
+    """The journal of one source with its records, and the lines that come of them."""
+
+    def __init__(self, config: list[Automation], start: int, zone: str, stored: Mapping[str, bool],
+                 limit: int = LIMIT) -> None:
+        self.config = config
+        self.journal = Journal(config, start, read_zone(zone), stored)
+        self.limit = limit
+        self.records: list[Record] = []
+        self.calls: list[str] = []
+        self.errors: list[str] = []
+        self.trace: list[str] = []
+        self.lines = 0
+        self.attend(0)
+
+    # Entries
+
+    def put_line(self, command: Command) -> None:
+        """Puts the next line of the source."""
+        name = target_automation(command)
+        if name is not None and name not in self.journal.numbers:
+            command = refused(9)
+        place = self.put(Entry(command=command))
+        self.trace.append(f'{{"source":0,"number":{self.lines},"cmd":{print_command(command)}}}')
+        if "refused" in command:
+            self.errors.append(f"source 0 line {self.lines}: {command['refused']}")
+        self.lines += 1
+        self.attend(place)
+
+    def ready(self) -> list[tuple[Record, tuple[int, ...]]]:
+        """The pairs of a run and a branch that may step, by serial, then branch."""
+        count = len(self.journal.entries)
+        return [(record, branch) for record in self.records if record.thread is not None and record.is_live()
+                for branch in record.thread.ready(count)]
+
+    def put_step(self, record: Record, branch: tuple[int, ...]) -> None:
+        """Puts a step of a run's branch."""
+        assert record.script is not None and record.thread is not None
+        self.check_room()
+        record.script.item = NOTHING
+        record.thread.step(branch, len(self.journal.entries))
+        item = record.script.item
+        place = self.put(Entry(serial=record.serial, branch=branch, item=item))
+        self.trace.append(f'{{"worker":0,"run":{record.serial},"branch":[{",".join(map(str, branch))}],'
+                          f'"item":{print_value(item)}}}')
+        self.write(record, item)
+        if record.thread.status is not None:
+            record.end = (place, record.thread.status)
+        self.attend(place)
+
+    def write(self, record: Record, item: dict[str, Any]) -> None:
+        """The call line or error line of a step."""
+        if "failed" in item:
+            self.errors.append(f"run {record.serial} failed {item['failed']}")
+        if "call" in item:
+            record.calls += 1
+            name = print_text(self.config[record.automation].name)
+            self.calls.append(f'{{"run":{name},"number":{record.number},"call":{record.calls},'
+                              + print_value(item["call"])[1:])
+
+    def put(self, entry: Entry) -> int:
+        """Puts an entry, if there is room."""
+        self.check_room()
+        return self.journal.append(entry)
+
+    def check_room(self) -> None:
+        """Whether one more entry has room."""
+        if len(self.journal.entries) >= self.limit:
+            raise Full
+
+    # Ends, begins and attempts
+
+    def attend(self, place: int) -> None:
+        """What an entry does to runs: ends, begins of queued runs, and attempts."""
+        entry = self.journal.entries[place]
+        if entry.is_start():
+            self.end_all(None, place, "restarted")
+        for name, _, stop in entry.switched():
+            if stop:
+                self.end_all(self.journal.numbers[name], place, "switched_off")
+        self.begin_queued(place)
+        for automation, pairs in self.attempts(place):
+            self.admit(automation, pairs, place)
+
+    def end_all(self, automation: Optional[int], place: int, cause: str) -> None:
+        """Ends the live runs of an automation, or of all."""
+        for record in self.records:
+            if record.is_live() and automation in (None, record.automation):
+                record.end = (place, cause)
+
+    def begin_queued(self, place: int) -> None:
+        """The queued runs whose predecessor ended here begin."""
+        for automation in range(len(self.config)):
+            live = [one for one in self.records if one.automation == automation and one.is_live()]
+            if live and live[0].begin is None:
+                self.begin(live[0], place)
+
+    def begin(self, record: Record, place: int) -> None:
+        """Begins a run."""
+        record.begin = place
+        record.script = Script(self.journal)
+        actions = self.config[record.automation].actions
+        record.thread = Thread((), record.script.run(actions, [list(record.pairs)]))
+
+    def attempts(self, place: int) -> list[tuple[int, Pairs]]:
+        """The attempts of an entry that pass, in order."""
+        entry, sight = self.journal.entries[place], self.journal.after[place]
+        named, skip = named_attempts(entry)
+        if named is not None:
+            tried = [(self.journal.numbers[name], BY_HAND) for name in named]
+        else:
+            tried = [(at, [("trigger", fired)]) for at, one in enumerate(self.config) if sight.on[at]
+                     for fired in firings(self.journal, one.triggers, sight.since[at], place)]
+        return [(at, pairs) for at, pairs in tried
+                if skip or test_all(self.config[at].tests, sight, self.journal.zone, pairs)]
+
+    def admit(self, automation: int, pairs: Pairs, place: int) -> None:
+        """Admits an attempt by its automation's mode, or refuses it."""
+        mode, most = self.config[automation].mode, self.config[automation].max
+        live = [one for one in self.records if one.automation == automation and one.is_live()]
+        if mode == "single" and live or mode in ("queued", "parallel") and len(live) >= most:
+            return
+        if mode == "restart":
+            self.end_all(automation, place, "replaced")
+        number = 1 + sum(one.automation == automation for one in self.records)
+        record = Record(len(self.records) + 1, automation, number, pairs)
+        self.records.append(record)
+        if mode != "queued" or not live:
+            self.begin(record, place)
+
+    # The whole
+
+    def run(self, commands: list[Command]) -> int:
+        """Puts all lines with the steps that they cause, and tells the status."""
+        try:
+            for command in commands:
+                self.put_line(command)
+                self.settle()
+            self.settle()
+        except Full:
+            return 7
+        return 0
+
+    def settle(self) -> None:
+        """Steps until the journal is quiet."""
+        while ready := self.ready():
+            self.put_step(*ready[0])
+
+    def store_text(self) -> str:
+        """The switches, by name."""
+        on = {one.name: self.journal.after[-1].on[at] for at, one in enumerate(self.config)}
+        return print_value({"switches": dict(sorted(on.items()))})[:-1] + ',"version":1}'
+
+
+def named_attempts(entry: Entry) -> tuple[Optional[list[str]], bool]:
+    """The automations that a command or call names, and whether their conditions are skipped."""
+    if entry.command and "trigger" in entry.command:
+        return [entry.command["trigger"].split(".")[1]], entry.command["skip_condition"]
+    if entry.item and "triggered" in entry.item:
+        return entry.item["triggered"]["automations"], entry.item["triggered"]["skip_condition"]
+    return None, False
+
+
+@dataclass
+class Outcome:
+    """What `run` writes, and its status."""
+
+    status: int
+    calls: list[str]
+    errors: list[str]
+    store: str
+    trace: list[str]
+    engine: Engine
+
+
+def run_home(automations: list[dict[str, Any]], source: bytes, start: str = "2024-05-01T20:00:00Z",
+             zone: str = "UTC", text: str = "", stored: Optional[dict[str, bool]] = None,
+             limit: int = LIMIT) -> Outcome:
+    """What a home's lines come to."""
+    began = read_moment(start)
+    assert began is not None
+    engine = Engine(read_config(automations), began, zone, stored or {}, limit)
+    status = engine.run(commands_of(source))
+    boot = print_value({"boot": {"config": text, "stored": stored, "start": print_moment(began), "zone": zone}})
+    end = [f'{{"end":{len(engine.journal.entries)}}}'] if status == 0 else []
+    errors = engine.errors + (["hearth: journal full"] if status == 7 else [])
+    return Outcome(status, engine.calls, errors, engine.store_text(), [boot] + engine.trace + end, engine)

@@ -1,0 +1,157 @@
+"""The journal, with what stands after each entry: states, Now and switches."""
+
+from __future__ import annotations
+
+from dataclasses import dataclass, replace
+from typing import Any, Mapping, Optional
+
+from .clock import Zone
+from .config import Automation
+from .lines import Command
+from .values import Num, Value, attribute_text, read_number, same
+
+Item = dict[str, Any]
+NOTHING: Item = {"nothing": True}
+
+
+@dataclass(frozen=True)
+class StateObject:
+    """An entity's text and attributes, and when these changed last."""
+
+    text: str
+    attributes: dict[str, Value]
+    changed: int
+    updated: int
+
+    def watched(self, attribute: Optional[str]) -> Optional[str]:
+        """The state text, or the text of an attribute, if it has one."""
+        return self.text if attribute is None else attribute_text(self.attributes.get(attribute))
+
+
+@dataclass(frozen=True)
+class Entry:
+    """The boot, a line with its command, or a step of a run with its item."""
+
+    command: Optional[Command] = None
+    serial: int = 0
+    branch: tuple[int, ...] = ()
+    item: Optional[Item] = None
+
+    def is_start(self) -> bool:
+        """Whether it is the boot or a restart."""
+        return self.item is None and (self.command is None or "restart" in self.command)
+
+    def event(self) -> Optional[tuple[str, dict[str, Value]]]:
+        """The type and data of the event that the entry is."""
+        if self.command and "event" in self.command:
+            return self.command["event"], self.command["data"]
+        if self.item and "fired" in self.item:
+            return self.item["fired"]["event"], self.item["fired"]["data"]
+        return None
+
+    def switched(self) -> list[tuple[str, bool, bool]]:
+        """The automations whose switch is set: name, new value, and whether runs are stopped."""
+        if self.command and "switch" in self.command:
+            on = self.command["to"] == "on"
+            return [(self.command["switch"].split(".")[1], on, self.command["stop_actions"] and not on)]
+        return [(one["automation"], one["on"], one["stop"]) for one in (self.item or {}).get("switched", [])]
+
+
+@dataclass(frozen=True)
+class Sight:
+    """What stands after an entry. `since` has, per automation, the place after which it can fire."""
+
+    states: Mapping[str, StateObject]
+    now: int
+    on: tuple[bool, ...]
+    since: tuple[int, ...]
+
+    def state_text(self, entity: str) -> Optional[str]:
+        """The text of an entity, if it is there."""
+        return self.states[entity].text if entity in self.states else None
+
+    def state_attributes(self, entity: str) -> Mapping[str, Value]:
+        """The attributes of an entity."""
+        return self.states[entity].attributes if entity in self.states else {}
+
+
+class Journal:
+    """All entries so far, and the sight after each of them."""
+
+    def __init__(self, config: list[Automation], start: int, zone: Zone, stored: Mapping[str, bool]) -> None:
+        self.config = config
+        self.zone = zone
+        self.numbers = {one.name: at for at, one in enumerate(config)}
+        on = tuple(stored.get(one.name, True) if one.initial is None else one.initial for one in config)
+        self.entries = [Entry()]
+        self.after = [self.started(start, on, 0)]
+
+    def started(self, now: int, on: tuple[bool, ...], place: int) -> Sight:
+        """The sight after a boot or restart."""
+        return Sight({f"automation.{one.name}": switch_object(on[at], now) for at, one in enumerate(self.config)},
+                     now, on, tuple(place for _ in on))
+
+    def append(self, entry: Entry) -> int:
+        """Puts an entry and tells its place."""
+        before, place = self.after[-1], len(self.entries)
+        self.entries.append(entry)
+        self.after.append(self.changed(before, entry, place))
+        return place
+
+    def changed(self, before: Sight, entry: Entry, place: int) -> Sight:
+        """The sight after an entry."""
+        command = entry.command or {}
+        if "restart" in command:
+            on = tuple(old if one.initial is None else one.initial for one, old in zip(self.config, before.on))
+            return self.started(before.now, on, place)
+        if "moment" in command:
+            return replace(before, now=max(before.now, command["moment"]))
+        if "report" in command:
+            return replace(before, states={**before.states, command["report"]: reported(before, command)})
+        if "gone" in command:
+            return replace(before, states={k: v for k, v in before.states.items() if k != command["gone"]})
+        for name, on_now, _ in entry.switched():
+            before = self.with_switch(before, self.numbers[name], on_now, place)
+        return before
+
+    def with_switch(self, before: Sight, at: int, on: bool, place: int) -> Sight:
+        """The sight with a switch set."""
+        if before.on[at] == on:
+            return before
+        name = f"automation.{self.config[at].name}"
+        since = before.since[:at] + ((place if on else before.since[at]),) + before.since[at + 1:]
+        return Sight({**before.states, name: switch_object(on, before.now)}, before.now,
+                     before.on[:at] + (on,) + before.on[at + 1:], since)
+
+    def latest_number(self, entity: str, attribute: Optional[str], end: int) -> Optional[Num]:
+        """The latest number that a report of an entity gave, before place `end` and after the last restart."""
+        for entry in reversed(self.entries[:end]):
+            if entry.is_start():
+                return None
+            number = reported_number(entry, entity, attribute)
+            if number is not None:
+                return number
+        return None
+
+
+def switch_object(on: bool, now: int) -> StateObject:
+    """The state of an automation's entity."""
+    return StateObject("on" if on else "off", {}, now, now)
+
+
+def reported(before: Sight, command: Command) -> StateObject:
+    """An entity's state after a report."""
+    old = before.states.get(command["report"])
+    text, attributes = command["state"], command["attributes"]
+    changed = old.changed if old and old.text == text else before.now
+    still = old and old.text == text and same(old.attributes, attributes)
+    return StateObject(text, attributes, changed, old.updated if old and still else before.now)
+
+
+def reported_number(entry: Entry, entity: str, attribute: Optional[str]) -> Optional[Num]:
+    """The number that an entry reports for an entity's text or attribute."""
+    command = entry.command or {}
+    if command.get("report") != entity:
+        return None
+    text = command["state"] if attribute is None else attribute_text(command["attributes"].get(attribute))
+    return None if text is None else read_number(text)
