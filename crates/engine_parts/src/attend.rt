@@ -8,6 +8,7 @@ ghost use Rattle.wait_set.specs.Asked.{WaitTable};
 ghost use Rattle.engine_parts.specs.Kept.{AreSound, Going, Looks, nobody};
 ghost use Rattle.engine_parts.specs.Owners.{attempts_by};
 ghost use Rattle.engine_parts.specs.Stages.{Entered, Noted, RunsBefore, Told, Untold};
+ghost use Rattle.engine_parts.specs.Without.{without_owners};
 
 use crate::last::{configuration, last_entry};
 use crate::note::note;
@@ -35,6 +36,7 @@ fn note_last<'a>(
     requires looks { Looks journal.now states.now zone.now at }
     requires sound { AreSound journal.now }
     requires untold { Untold journal.now triggers.old waits.old before.now }
+    ensures attached { OnOk result (attached triggers.new ≡ attached triggers.old) }
     ensures told { OnOk result (Told journal.entry.now waits.old triggers.new waits.new) }
     ensures fired { IfOk result (λ fired. fired ≡ firings journal.entry.now (length journal.entry.now - 1) (attached triggers.old)) }
 {
@@ -59,6 +61,7 @@ pub fn note_entry(
     before: &Many<(EntityId, Option<StateObject>)>,
 ) -> Result<Many<Firing>, AllocError>
     requires { Entered journal.now parts.old before.now }
+    ensures attached { OnOk result (attached parts.new.triggers ≡ attached parts.old.triggers) }
     ensures noted { OnOk result (Noted journal.now parts.old.waits parts.new) }
     ensures fired { IfOk result (λ fired. fired ≡ firings journal.now (length journal.now - 1) (attached parts.old.triggers)) }
     ensures rest { OnOk result (parts.new ≡ record parts.old { triggers = parts.new.triggers; waits = parts.new.waits }) }
@@ -76,8 +79,10 @@ pub fn note_entry(
     Ok(fired)
 }
 
-/// The runs that a line wakes are listed anew.
+/// The runs that a line wakes are listed anew, and the triggers of the waits that ended are detached.
 pub fn wake_line(parts: &mut Parts, alloc: Global, journal: &[Entry]) -> Result<(), AllocError>
+    ensures attached { OnOk result (attached parts.new.triggers ≡ without_owners parts.old.waits.fresh (attached parts.old.triggers)) }
+    ensures waits { parts.new.waits ≡ parts.old.waits }
     ensures going { OnOk result ((rs : Records) (w : WaitTable) → Noted journal.now w parts.old
         → RunsBefore journal.now rs w parts.old.delays parts.old.frames.items parts.old.ready.pairs.items → Going nobody journal.now rs parts.new) }
     ensures rest { parts.new.rested ≡ parts.old.rested }
@@ -103,6 +108,7 @@ pub fn attend(
     before: &Many<(EntityId, Option<StateObject>)>,
 ) -> Result<Many<Firing>, AllocError>
     requires { Entered journal.now parts.old before.now }
+    ensures attached { OnOk result (attached parts.new.triggers ≡ without_owners parts.new.waits.fresh (attached parts.old.triggers)) }
     ensures fired { IfOk result (λ fired. attempts_by fired ≡ fired_lem journal.now (length journal.now - 1)) }
     ensures going { OnOk result ((rs : Records) → RunsBefore journal.now rs parts.old.waits parts.old.delays parts.old.frames.items parts.old.ready.pairs.items
         → Going nobody journal.now rs parts.new) }

@@ -3,11 +3,12 @@ ghost use Rattle.std.specs.Prelude.{◌≡◌, ◌-◌, ◌<◌, ◌≤◌, ◌�
 ghost use Rattle.ha_model.specs.Journal.{Journal};
 ghost use Rattle.ha_model.specs.Records.{Records};
 ghost use Rattle.run_modes.specs.Fits.{AreNumbered};
-ghost use Rattle.trig_set.specs.Stands.{StandsFor};
+ghost use Rattle.trig_set.specs.Stands.{StandsFor, attached};
 ghost use Rattle.wait_set.specs.Asked.{owners_of, without_run};
 ghost use Rattle.engine_parts.specs.Kept.{Going, Gone, Owned};
 ghost use Rattle.engine_parts.specs.Pending.{AreOthers};
 ghost use Rattle.engine_parts.specs.Records.{HasRoom, also};
+ghost use Rattle.engine_parts.specs.Without.{without_owners};
 
 use crate::parts::Parts;
 use crate::ready::drop_pairs;
@@ -17,18 +18,19 @@ use script_step::Frames;
 use trig_set::TrigSet;
 use wait_set::Waits;
 
-/// The triggers of all waits of a run are detached.
+/// The triggers of all waits of a run are detached, and no others.
 fn detach_run(triggers: &mut TrigSet, waits: &Waits, serial: u64)
+    ensures rest { attached triggers.new ≡ without_owners (owners_of serial waits.now.asks) (attached triggers.old) }
     ensures stands { (j : Journal) → StandsFor triggers.old j → StandsFor triggers.new j }
     ensures owned { (j : Journal) → ((i o : ℕ) → slice_get (owners_of serial waits.now.asks) i ≡ Some o → (1024 ≤ o) × AreOthers (o ∷ []) (without_run serial waits.now.asks))
         → Owned j triggers.old (record { asks = without_run serial waits.now.asks; fresh = waits.now.fresh })
         → Owned j triggers.new (record { asks = without_run serial waits.now.asks; fresh = waits.now.fresh }) }
 {
-    'asks: for at in 0..usize::MAX {
-        match waits.owner_of(serial, at) {
-            Some(owner) => detach(triggers, owner),
-            None => return,
-        }
+    let mut at = 0;
+    'asks: while let Some(found) = waits.owner_from(serial, at) {
+        let (owner, behind) = found;
+        detach(triggers, owner);
+        at = behind;
     }
 }
 
@@ -43,6 +45,7 @@ fn clear_slot(frames: &mut Slots<Frames>, serial: u64)
 /// A run goes; it has still to be ended.
 pub fn forget(parts: &mut Parts, serial: u64)
     ensures going { (gone : Gone) (k : Journal) (rs : Records) → AreNumbered 0 rs → 0 < serial → serial ≤ length rs → Going gone k rs parts.old → Going (also gone serial) k rs parts.new }
+    ensures rest { attached parts.new.triggers ≡ without_owners (owners_of serial parts.old.waits.asks) (attached parts.old.triggers) }
     ensures rested { parts.new.rested ≡ parts.old.rested }
     ensures room { (n : ℕ) → HasRoom n parts.old → HasRoom n parts.new }
 {

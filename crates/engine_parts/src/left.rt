@@ -6,6 +6,7 @@ ghost use Rattle.ha_past.specs.Firings.{firings};
 ghost use Rattle.trig_set.specs.Stands.{attached};
 ghost use Rattle.engine_parts.specs.Kept.{AreSound, Going, Looks, nobody};
 ghost use Rattle.engine_parts.specs.Stages.{EnteredLeft, Noted, RunsBefore, Told, UntoldLeft};
+ghost use Rattle.engine_parts.specs.Without.{without_owners};
 
 use crate::attend::wake_line;
 use crate::last::configuration;
@@ -35,6 +36,7 @@ fn note_report<'a>(
     requires looks { Looks journal.now states.now zone.now at }
     requires sound { AreSound journal.now }
     requires untold { UntoldLeft journal.now triggers.old waits.old entity.now text.now attributes.now }
+    ensures attached { OnOk result (attached triggers.new ≡ attached triggers.old) }
     ensures told { OnOk result (Told journal.entry.now waits.old triggers.new waits.new) }
     ensures fired { firings journal.entry.now (length journal.entry.now - 1) (attached triggers.old) ≡ [] }
 {
@@ -55,6 +57,7 @@ fn note_left(
     attributes: &Many<(Word, Value)>,
 ) -> Result<(), AllocError>
     requires { EnteredLeft journal.now parts.old entity.now text.now attributes.now }
+    ensures attached { OnOk result (attached parts.new.triggers ≡ attached parts.old.triggers) }
     ensures noted { OnOk result (Noted journal.now parts.old.waits parts.new) }
     ensures fired { firings journal.now (length journal.now - 1) (attached parts.old.triggers) ≡ [] }
     ensures rest { OnOk result (parts.new ≡ record parts.old { triggers = parts.new.triggers; waits = parts.new.waits }) }
@@ -84,6 +87,7 @@ pub fn attend_left(
     attributes: &Many<(Word, Value)>,
 ) -> Result<(), AllocError>
     requires { EnteredLeft journal.now parts.old entity.now text.now attributes.now }
+    ensures attached { OnOk result (attached parts.new.triggers ≡ without_owners parts.new.waits.fresh (attached parts.old.triggers)) }
     ensures fired { [] ≡ fired_lem journal.now (length journal.now - 1) }
     ensures going { OnOk result ((rs : Records) → RunsBefore journal.now rs parts.old.waits parts.old.delays parts.old.frames.items parts.old.ready.pairs.items
         → Going nobody journal.now rs parts.new) }

@@ -33,6 +33,8 @@ pub mod Places
 pub mod PrintedText
 pub mod PrintedRows
 pub mod PrintedValue
+pub mod Marks
 mod PlainRuns
 mod PlainKeys
 pub mod PlainStrings
+mod ShownStrings

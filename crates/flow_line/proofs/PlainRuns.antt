@@ -1,5 +1,5 @@
 -- Runs of bytes that are printed as they are.
-use Rattle.std.proofs.Common.{◌≡◌, ℕ, zero, suc, ◌+◌, ◌<◌, Bool, true, false, cond, List, [], ◌∷◌, ◌++◌, length, take, drop, Some, None, refl, sym, ap, subst, ◌∙◌, arith, append_assoc, get_or, IsUtf8}
+use Rattle.std.proofs.Common.{◌≡◌, ℕ, zero, suc, ◌+◌, ◌-◌, ◌<◌, Bool, true, false, cond, List, [], ◌∷◌, ◌++◌, length, take, drop, Some, None, refl, sym, ap, subst, ◌∙◌, arith, append_assoc, get_or, IsUtf8}
 use Rattle.std.specs.Prelude.{flat_map, nat_lt, not}
 use Rattle.std.specs.List.{position, position_or_len}
 use Rattle.std.proofs.lemmas.Bool.Decides.{nat_tests}
@@ -12,8 +12,12 @@ use Rattle.std.proofs.lemmas.Str.{IsUtf8-take, IsUtf8-drop, IsCharBoundary-befor
 use Rattle.ha_model.specs.ValueText.{escaped_byte}
 use Rattle.flow_line.specs.Bytes.{stands_as_is}
 
+-- the slice from a place on
+pub from_on : (at : ℕ) (xs : List ℕ) → take (length xs - at) (drop at xs) ≡ drop at xs
+from_on at xs = ap (λ (n : ℕ). take n (drop at xs)) (sym (length-drop at xs)) ∙ take-length (drop at xs)
+
 -- a byte that a printed string has in another form
-abbrev is_escaped : ℕ → Bool
+abbrev pub is_escaped : ℕ → Bool
 is_escaped b = not (stands_as_is b)
 
 -- a byte that is not escaped stays
@@ -24,17 +28,17 @@ ascii : (b : ℕ) → is_escaped b ≡ true → b < 128
 ascii b h = grind (arith, nat_tests)
 
 -- none of so many bytes at the front is escaped
-abbrev AreShown : ℕ → List ℕ → Type 0
+abbrev pub AreShown : ℕ → List ℕ → Type 0
 AreShown at rest = (k : ℕ) → k < at → is_escaped (get_or rest k 0) ≡ false
 
-all_stay : (at : ℕ) (rest : List ℕ) → AreShown at rest → flat_map escaped_byte (take at rest) ≡ take at rest
+pub all_stay : (at : ℕ) (rest : List ℕ) → AreShown at rest → flat_map escaped_byte (take at rest) ≡ take at rest
 all_stay zero rest shown = refl
 all_stay (suc at) [] shown = refl
 all_stay (suc at) (b ∷ rest) shown =
     ap (λ (r : List ℕ). r ++ flat_map escaped_byte (take at rest)) (stays b (shown zero (omega arith)))
     ∙ ap (λ (r : List ℕ). b ∷ r) (all_stay at rest (λ k less. shown (suc k) (omega (arith, less))))
 
-parts : (at : ℕ) (rest : List ℕ) → at < length rest → rest ≡ take at rest ++ get_or rest at 0 ∷ drop (suc at) rest
+pub parts : (at : ℕ) (rest : List ℕ) → at < length rest → rest ≡ take at rest ++ get_or rest at 0 ∷ drop (suc at) rest
 parts zero [] less = absurd (omega (arith, less))
 parts zero (b ∷ rest) less = refl
 parts (suc at) [] less = absurd (omega (arith, less))
@@ -45,7 +49,7 @@ none_found true at e = absurd cc
 none_found false at e = refl
 
 module _ (rest : List ℕ) (at : ℕ) (first : position is_escaped rest ≡ Some at) where
-  found : (at < length rest) × (is_escaped (get_or rest at 0) ≡ true) × AreShown at rest
+  pub found : (at < length rest) × (is_escaped (get_or rest at 0) ≡ true) × AreShown at rest
   found = position-Some is_escaped rest at 0 first
 
   pub small : get_or rest at 0 < 128

@@ -1,5 +1,5 @@
 -- Strings of bytes that stand for themselves.
-use Rattle.std.proofs.Common.{◌≡◌, ℕ, zero, suc, ◌+◌, ◌<◌, Bool, true, false, not, List, [], ◌∷◌, ◌++◌, length, take, drop, Some, Ok, refl, sym, ap, ◌∙◌, arith, append_assoc, get_or, IsUtf8}
+use Rattle.std.proofs.Common.{◌≡◌, ℕ, zero, suc, ◌+◌, ◌<◌, Bool, true, false, not, List, [], ◌∷◌, ◌++◌, length, take, drop, Some, Ok, refl, sym, ap, ◌∙◌, arith, append_assoc, get_or}
 use Rattle.std.specs.Prelude.{◌==◌, ◌&&◌, IsAscii}
 use Rattle.std.specs.List.{position}
 use Rattle.std.specs.Str.{encode_utf8_all}
@@ -14,7 +14,7 @@ use Rattle.reading.specs.Rows.{repeat}
 use Rattle.reading.proofs.Characters.{ascii_read}
 use Rattle.flow_line.specs.declared.fault.Code.TheVariants.{Syntax}
 use Rattle.flow_line.specs.Bytes.{is_in, is_plain, stands_as_is}
-use Rattle.flow_line.specs.Text.{character, characters, goes_on, over, text}
+use Rattle.flow_line.specs.Text.{character, characters, goes_on, over, IsRun}
 use Rattle.flow_line.proofs.ByteRanges.{in_parts}
 
 off : (x : Bool) → not x ≡ true → x ≡ false
@@ -77,14 +77,15 @@ module _ (rest : List ℕ) (at : ℕ) (marked : position (λ b. not (is_plain b)
   plain : ArePlain at rest
   plain = (position-Some (λ b. not (is_plain b)) rest at 0 marked).2
 
-  pub plain_utf8 : IsUtf8 (take at rest)
-  plain_utf8 = IsUtf8-from_ascii (take at rest) (encoded at rest plain).1
-
   -- bytes that stand for themselves up to the quote are the string
-  pub plain_read : sees 34 (drop at rest) ≡ true → text rest ≡ Ok (take at rest, drop (at + 1) rest)
+  pub plain_run : at < length rest → sees 34 (drop at rest) ≡ true → IsRun at rest
   unfolding characters
-  plain_read q =
+  plain_run within q =
       let less : length rest < suc (length rest) = omega arith in
       let next : suc at ≡ at + 1 = omega arith in
-      ap (made encode_utf8_all) (read_on at rest plain q (suc (length rest)) [] less)
-      ∙ ap (λ (v : List ℕ). Ok (v, drop (suc at) rest)) (encoded at rest plain).0 ∙ ap (λ (i : ℕ). Ok (take at rest, drop i rest)) next
+      record {
+        within = within;
+        utf8 = IsUtf8-from_ascii (take at rest) (encoded at rest plain).1;
+        reads = ap (made encode_utf8_all) (read_on at rest plain q (suc (length rest)) [] less)
+            ∙ ap (λ (v : List ℕ). Ok (v, drop (suc at) rest)) (encoded at rest plain).0 ∙ ap (λ (i : ℕ). Ok (take at rest, drop i rest)) next;
+      }

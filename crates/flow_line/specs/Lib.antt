@@ -1,5 +1,6 @@
 pub mod Bytes
 pub mod Grammar
+pub mod Marks
 pub mod Reading
 pub mod Text
 pub mod Refused

@@ -1,6 +1,6 @@
 -- Strings, read from left to right.
-use Rattle.std.specs.Prelude.{ℕ, suc, ◌+◌, ◌*◌, Bool, true, false, not, ◌&&◌, ◌==◌}
-use Rattle.std.specs.Prelude.{if◌then◌else◌, List, [], length, drop, Option, Some, None, Ok, codes}
+use Rattle.std.specs.Prelude.{◌≡◌, ℕ, suc, ◌+◌, ◌*◌, ◌<◌, Bool, true, false, not, ◌&&◌, ◌==◌}
+use Rattle.std.specs.Prelude.{if◌then◌else◌, List, [], length, take, drop, Option, Some, None, Ok, codes, IsUtf8}
 use Rattle.std.specs.Char.Utf16.{surrogate_pair_char}
 use Rattle.std.specs.Str.{encode_utf8_all}
 use Rattle.reading.specs.declared.fault.Bad.{Bad}
@@ -87,6 +87,12 @@ characters rest = repeat over (λ _. goes_on) (λ _. character) (suc (length res
 -- a string behind the opening quote: its characters in UTF-8
 abbrev pub text : Reads (List ℕ)
 text rest = made encode_utf8_all (characters rest)
+
+-- a string behind the opening quote is so many bytes, as they are
+pub record IsRun (at : ℕ) (rest : List ℕ) : Type 0 where
+  pub within : at < length rest
+  pub utf8 : IsUtf8 (take at rest)
+  pub reads : text rest ≡ Ok (take at rest, drop (at + 1) rest)
 
 unfoldable pub string : Reads (List ℕ)
 string rest = do

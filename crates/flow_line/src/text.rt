@@ -3,15 +3,16 @@
 ghost use Rattle.std.specs.Prelude.{◌≡◌, ◌+◌, ◌*◌, ◌≤◌, ◌<◌, ◌^◌, length, drop, not, true, Some, IfOk, IfSome};
 ghost use Rattle.std.specs.List.{position};
 ghost use Rattle.reading.specs.Bytes.{sees};
-ghost use Rattle.flow_line.specs.Bytes.{is_plain};
+ghost use Rattle.flow_line.specs.Bytes.{is_plain, stands_as_is};
 ghost use Rattle.std.specs.Char.{IsScalar};
 ghost use Rattle.reading.specs.Answer.{Gives, front};
-ghost use Rattle.flow_line.specs.Text.{byte_in, character, escape, hex_in, high_digits, string, text, unicode, unit};
+ghost use Rattle.flow_line.specs.Text.{byte_in, character, escape, hex_in, high_digits, string, text, unicode, unit, IsRun};
 
 use crate::bytes::{hex_value, is_in, is_plain, stands_as_is, unescaped};
 use crate::fault::Code;
 use crate::value::{FlowReader, Stopped};
 use ha_value::Word;
+use reading::is_utf8;
 use std::alloc::Global;
 
 /// The character of a code that is one.
@@ -25,12 +26,20 @@ fn scalar(code: u32) -> char
     }
 }
 
-/// The place of the first byte that does not stand for itself.
+/// The place of the first byte that is not plain.
 fn first_marked(bytes: &[u8]) -> Option<usize>
     ensures place { result ≡ position (λ b. not (is_plain b)) bytes.now }
     ensures bound { IfSome result (λ at. at < length bytes.now) }
 {
     bytes.iter().position(|b| !is_plain(*b))
+}
+
+/// The place of the first byte that a string has in another form: a quote, a backslash or a control byte.
+fn first_escaped(bytes: &[u8]) -> Option<usize>
+    ensures place { result ≡ position (λ b. not (stands_as_is b)) bytes.now }
+    ensures bound { IfSome result (λ at. at < length bytes.now) }
+{
+    bytes.iter().position(|b| !stands_as_is(*b))
 }
 
 fn begins_with_quote(bytes: &[u8]) -> bool
@@ -42,15 +51,34 @@ fn begins_with_quote(bytes: &[u8]) -> bool
     }
 }
 
-/// The place of the closing quote, where all bytes before it stand for themselves.
+/// The place of the closing quote, where all bytes before it are plain.
 fn plain_end(bytes: &[u8]) -> Option<usize>
-    ensures bound { IfSome result (λ at. at < length bytes.now) }
-    ensures place { IfSome result (λ at. position (λ b. not (is_plain b)) bytes.now ≡ Some at) }
-    ensures closed { IfSome result (λ at. sees 34 (drop at bytes.now) ≡ true) }
+    ensures { IfSome result (λ at. IsRun at bytes.now) }
 {
     match first_marked(bytes) {
         Some(at) if begins_with_quote(&bytes[at..]) => Some(at),
         _ => None,
+    }
+}
+
+/// The place of the closing quote, where all characters before it stand for themselves, in any language.
+#[inline(never)]
+fn shown_end(bytes: &[u8]) -> Option<usize>
+    ensures { IfSome result (λ at. IsRun at bytes.now) }
+{
+    match first_escaped(bytes) {
+        Some(at) if begins_with_quote(&bytes[at..]) && is_utf8(&bytes[..at]) => Some(at),
+        _ => None,
+    }
+}
+
+/// The place of the closing quote, where the string has no escapes.
+fn run_end(bytes: &[u8]) -> Option<usize>
+    ensures { IfSome result (λ at. IsRun at bytes.now) }
+{
+    match plain_end(bytes) {
+        Some(at) => Some(at),
+        None => shown_end(bytes),
     }
 }
 
@@ -175,11 +203,9 @@ impl<'a> FlowReader<'a> {
         Ok(word)
     }
 
-    /// A string behind its opening quote, of so many bytes that stand for themselves: they are copied at once.
-    fn plain_text(&mut self, alloc: Global, at: usize) -> Result<Word, Stopped>
-        requires within { at < length self.old }
-        requires marked { position (λ b. not (is_plain b)) self.old ≡ Some at }
-        requires closed { sees 34 (drop at self.old) ≡ true }
+    /// A string behind its opening quote that is so many bytes as they are: they are copied at once.
+    fn run(&mut self, alloc: Global, at: usize) -> Result<Word, Stopped>
+        requires { IsRun at self.old }
         ensures { Gives (text self.old) result self.new }
     {
         let rest = self.bytes.rest();
@@ -191,8 +217,8 @@ impl<'a> FlowReader<'a> {
     pub fn text(&mut self, alloc: Global) -> Result<Word, Stopped>
         ensures { Gives (text self.old) result self.new }
     {
-        match plain_end(self.bytes.rest()) {
-            Some(at) => self.plain_text(alloc, at),
+        match run_end(self.bytes.rest()) {
+            Some(at) => self.run(alloc, at),
             None => self.any_text(alloc),
         }
     }

@@ -180,7 +180,7 @@ impl<'a> FlowReader<'a> {
         }
         'pairs: loop {
             let pair = self.pair(alloc, depth, &pairs)?;
-            pairs = pairs.push(alloc, pair)?;
+            pairs = pairs.push(pair)?;
             self.skip_blanks();
             if self.eat(b'}') {
                 return Ok(pairs.into_list());

@@ -1,4 +1,5 @@
 pub mod FirstPlace
+pub mod LastPlace
 pub mod LineLemmas
 pub mod PieceLemmas
 pub mod Shorten

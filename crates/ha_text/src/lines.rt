@@ -5,7 +5,7 @@ ghost use Rattle.std.specs.List.{list_all, position};
 ghost use Rattle.ha_text.specs.Lines.{IsFront, IsNone, NoBreak, IsTaken, SameLines, counted, is_blank, is_open, kept_of, lines_of, longest, whole_lines};
 
 use ha_value::{is_blank, without_cr};
-use memchr::memchr;
+use memchr::{memchr, memrchr};
 use std::alloc::{AllocError, Global};
 use std::marker::Model;
 
@@ -85,15 +85,15 @@ fn end_with(bytes: &mut Vec<u8>, at: usize, first: u8, second: u8)
 }
 
 /// The place behind the last LF, 0 where there is none.
+#[tactic(auto, using(crate::proofs::LastPlace::none_open, crate::proofs::LastPlace::behind_open))]
 fn behind_last_break(piece: &[u8]) -> usize
     ensures bound { result ≤ length piece.now }
     ensures open { is_open (drop result piece.now) ≡ true }
 {
-    let mut at = piece.len();
-    'back: while at > 0 && piece[at - 1] != b'\n' {
-        at -= 1;
+    match memrchr(b'\n', piece) {
+        Some(at) => at + 1,
+        None => 0,
     }
-    at
 }
 
 impl LineCut {

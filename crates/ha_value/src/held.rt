@@ -237,17 +237,3 @@ pub fn write_here(held: &mut Held, text: &str)
         }
     }
 }
-
-/// A text in the place of any.
-pub fn set_str(alloc: Global, held: &mut Held, text: &str) -> Result<(), AllocError>
-    requires { IsText held.old }
-    ensures text { IsText held.new }
-    ensures ok { OnOk result (bytes_of held.new ≡ text.now) }
-    ensures err { OnErr result (bytes_of held.new ≡ bytes_of held.old) }
-{
-    if text.len() <= ROOM {
-        write_here(held, text);
-        return Ok(());
-    }
-    copy_far(alloc, text, held)
-}

@@ -185,12 +185,12 @@ fn goes_with_its_run(alloc: Global) -> Result<bool, AllocError> {
     let mut waits = Waits::make(alloc);
     waits.add(asked(alloc, 1), 7, 3)?;
     let root: Branch = Many::make(alloc);
-    let is_there = waits.owner_of(1, 0) == Some(7) && waits.owner_of(1, 1).is_none();
+    let is_there = waits.owner_from(1, 0) == Some((7, 1)) && waits.owner_from(1, 1).is_none();
     let waits_still = waits.ended(1, &root).is_none() && waits.ended_now().is_empty();
     waits.drop_run(2);
-    let stays = waits.owner_of(1, 0) == Some(7);
+    let stays = waits.owner_from(1, 0) == Some((7, 1));
     waits.drop_run(1);
-    Ok(is_there && waits_still && stays && waits.owner_of(1, 0).is_none())
+    Ok(is_there && waits_still && stays && waits.owner_from(1, 0).is_none())
 }
 
 #[test]

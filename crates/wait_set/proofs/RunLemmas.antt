@@ -1,6 +1,6 @@
 -- The waits of a run, from one to the next.
-use Rattle.std.proofs.Common.{◌≡◌, ℕ, zero, suc, ◌+◌, ◌-◌, ◌<◌, ◌≤◌, List, [], ◌∷◌, length, drop, get_or, map, filter, Bool, true, false, refl, sym, subst, ◌∙◌, arith, inl, inr, All}
-use Rattle.std.specs.Prelude.{Some, None, nat_eq, ◌&&◌, slice_get, if◌then◌else◌}
+use Rattle.std.proofs.Common.{◌≡◌, ℕ, zero, suc, ◌+◌, ◌<◌, ◌≤◌, List, [], ◌∷◌, length, drop, get_or, map, filter, Bool, true, false, refl, sym, subst, ◌∙◌, arith, inl, inr, All}
+use Rattle.std.specs.Prelude.{Some, None, nat_eq, ◌&&◌, if◌then◌else◌}
 use Rattle.std.specs.BTreeSet.{BTreeSet}
 use Rattle.std.proofs.lemmas.Bool.{cases_lt, eqb-true}
 use Rattle.std.proofs.lemmas.Bool.Decides.{eqb_tells}
@@ -66,31 +66,26 @@ owners-skip s (z ∷ zs) (suc from) zero le none = absurd (omega (arith, le))
 owners-skip s (z ∷ zs) (suc from) (suc to) le none =
     owners-skip s zs from to (omega (arith, le)) (λ n d low high lt. none (suc n) d (omega (arith, low)) (omega (arith, high)) (omega (arith, lt)))
 
-owner-next : (s : ℕ) (asks : List Asked) (at left : ℕ) → at < length asks → IsOfRun asks s at → (left ≡ 0 → ⊥) → slice_get (owners_of s (drop (suc at) asks)) (left - 1) ≡ slice_get (owners_of s (drop at asks)) left
-owner-next s [] at left lt of more = absurd (omega (arith, lt))
-owner-next s (z ∷ zs) zero left lt of more =
-    by left more ∙ sym (λ k. slice_get (map {A = Asked} {B = ℕ} (λ a. a.owner) (if of z (omega arith) k then z ∷ filter (λ a. nat_eq a.ask.serial s) zs else filter (λ a. nat_eq a.ask.serial s) zs)) left)
-  where
-    by : (left : ℕ) → (left ≡ 0 → ⊥) → slice_get (owners_of s zs) (left - 1) ≡ slice_get (z.owner ∷ owners_of s zs) left
-    by zero more = absurd (more refl)
-    by (suc left) more = (let e : suc left - 1 ≡ left = omega arith in λ k. slice_get (owners_of s zs) (e k))
-owner-next s (z ∷ zs) (suc at) left lt of more = owner-next s zs at left (omega (arith, lt)) (λ d within. of d (omega (arith, within))) more
-
 -- LEMMA: the owner of one of the run is the first from there on
-pub owner-here : (s : ℕ) (asks : List Asked) (at left owner : ℕ) → at < length asks → IsOfRun asks s at → left ≡ 0 → ((d : Asked) → owner ≡ (get_or asks at d).owner) → Some owner ≡ slice_get (owners_of s (drop at asks)) left
-owner-here s [] at left owner lt of first own = absurd (omega (arith, lt))
-owner-here s (z ∷ zs) zero left owner lt of first own =
-    (λ k. Some (own z k)) ∙ sym (λ k. slice_get (map {A = Asked} {B = ℕ} (λ a. a.owner) (if of z (omega arith) k then z ∷ filter (λ a. nat_eq a.ask.serial s) zs else filter (λ a. nat_eq a.ask.serial s) zs)) (first k))
-owner-here s (z ∷ zs) (suc at) left owner lt of first own = owner-here s zs at left owner (omega (arith, lt)) (λ d within. of d (omega (arith, within))) first own
-
--- LEMMA: behind one of the run, past those of others, is the next owner
-pub owner-more : (s : ℕ) (asks : List Asked) (at next left : ℕ) → at < length asks → IsOfRun asks s at → (left ≡ 0 → ⊥) → at + 1 ≤ next → HasNone asks s (at + 1) next
-    → slice_get (owners_of s (drop next asks)) (left - 1) ≡ slice_get (owners_of s (drop at asks)) left
-owner-more s asks at next left lt of more le none =
-    sym (λ k. slice_get (owners-skip s asks (at + 1) next le none k) (left - 1)) ∙ (λ k. slice_get (owners_of s (drop (one k) asks)) (left - 1)) ∙ owner-next s asks at left lt of more
+pub owners-here : (s : ℕ) (asks : List Asked) (at owner : ℕ) → at < length asks → IsOfRun asks s at → ((d : Asked) → owner ≡ (get_or asks at d).owner) → owners_of s (drop at asks) ≡ owner ∷ owners_of s (drop (at + 1) asks)
+owners-here s asks at owner lt of own = here asks at lt of own ∙ (λ k. owner ∷ owners_of s (drop (one k) asks))
   where
-    one : at + 1 ≡ suc at
+    one : suc at ≡ at + 1
     one = omega arith
+
+    here : (asks : List Asked) (at : ℕ) → at < length asks → IsOfRun asks s at → ((d : Asked) → owner ≡ (get_or asks at d).owner) → owners_of s (drop at asks) ≡ owner ∷ owners_of s (drop (suc at) asks)
+    here [] at lt of own = absurd (omega (arith, lt))
+    here (z ∷ zs) zero lt of own =
+        (λ k. map {A = Asked} {B = ℕ} (λ a. a.owner) (if of z (omega arith) k then z ∷ filter (λ a. nat_eq a.ask.serial s) zs else filter (λ a. nat_eq a.ask.serial s) zs))
+        ∙ sym (λ k. own z k ∷ owners_of s zs)
+    here (z ∷ zs) (suc at) lt of own = here zs at (omega (arith, lt)) (λ d within. of d (omega (arith, within))) own
+
+-- LEMMA: there is none behind all
+pub owners-end : (s : ℕ) (asks : List Asked) (at : ℕ) → length asks ≤ at → owners_of s (drop at asks) ≡ []
+owners-end s [] zero le = refl
+owners-end s [] (suc at) le = refl
+owners-end s (z ∷ zs) zero le = absurd (omega (arith, le))
+owners-end s (z ∷ zs) (suc at) le = owners-end s zs at (omega (arith, le))
 
 -- ---- the one in a branch
 

@@ -1,6 +1,6 @@
 //! The waits of a run, found by the pairs of serials and owners that are kept of them.
 ghost use Rattle.std.specs.Option.{option_copied};
-ghost use Rattle.std.specs.Prelude.{OnOk, ◌≡◌, ◌≤◌, ◌<◌, ℕ, All, IfSome, MatchOption, IsNone, true, false, length, nat_eq, slice_index_or, slice_get};
+ghost use Rattle.std.specs.Prelude.{OnOk, ◌≡◌, ◌≤◌, ◌<◌, ◌∷◌, [], ℕ, All, IfSome, MatchOption, IsNone, true, false, drop, length, nat_eq, slice_index_or};
 ghost use Rattle.wait_set.specs.declared.asked.Asked.{Asked as Wait};
 ghost use Rattle.wait_set.specs.Asked.{owners_of, wait_of};
 ghost use Rattle.wait_set.specs.Concern.{Ascend};
@@ -125,28 +125,28 @@ pub fn next_place(
     seek(asks, runs, serial, from)
 }
 
-/// The owner of one of the waits of a run.
-pub fn owner_at(
+/// The owner of a run's first wait from a place on, and the place behind that wait.
+pub fn owner_from(
     asks: &[Asked],
     runs: &BTreeSet<(u64, u64)>,
     ordered: bool,
     serial: u64,
-    at: usize,
-) -> Option<u64>
+    from: usize,
+) -> Option<(u64, usize)>
     requires paired { All (IsPaired runs.now) asks.now }
     requires order { ordered ≡ true → Ascend asks.now }
-    ensures { result ≡ slice_get (owners_of serial asks.now) at }
+    ensures first { IfSome result (λ found. owners_of serial (drop from asks.now) ≡ found.0 ∷ owners_of serial (drop found.1 asks.now)) }
+    ensures behind { IfSome result (λ found. (from < found.1) × (found.1 ≤ length asks.now)) }
+    ensures none { IsNone result → owners_of serial (drop from asks.now) ≡ [] }
 {
-    let mut left = at;
-    let mut place = next_place(asks, runs, ordered, serial, 0);
-    'asks: while place < asks.len() {
-        if left == 0 {
-            return Some(owner_in(asks, place));
-        }
-        left -= 1;
-        place = next_place(asks, runs, ordered, serial, place + 1);
+    if from >= asks.len() {
+        return None;
     }
-    None
+    let place = next_place(asks, runs, ordered, serial, from);
+    if place >= asks.len() {
+        return None;
+    }
+    Some((owner_in(asks, place), place + 1))
 }
 
 /// The wait of a run in a branch, looked for among the run's own.

@@ -1,5 +1,5 @@
 //! The set of pending and ended waits.
-ghost use Rattle.std.specs.Prelude.{◌≡◌, ◌≤◌, ◌<◌, ◌-◌, suc, take, drop, filter, not, vec_capacity, [], ◌++◌, All, Bool, OnOk, OnErr, None, Some, true, false, length, nat_eq, is_none, is_some, ◌||◌, slice_get, ◌&&◌, ℕ};
+ghost use Rattle.std.specs.Prelude.{◌≡◌, ◌≤◌, ◌<◌, ◌-◌, suc, take, drop, filter, not, vec_capacity, [], ◌∷◌, ◌++◌, All, Bool, IfSome, IsNone, OnOk, OnErr, None, Some, true, false, length, nat_eq, is_none, is_some, ◌||◌, ◌&&◌, ℕ};
 ghost use Rattle.std.specs.List.{list_any};
 ghost use Rattle.ha_model.specs.declared.journal.Entry.{Entry};
 ghost use Rattle.ha_model.specs.Journal.{HasEntry, Journal};
@@ -16,7 +16,7 @@ ghost use Rattle.timer_queue.specs.Timers.{due_of};
 use crate::asked::{Asked, is_of, note_one};
 use crate::concern::concerned;
 use crate::pending::{Pending, list_ask, mark, settle};
-use crate::runs::{ask_of, next_place, owner_at, owner_in, unlist};
+use crate::runs::{ask_of, next_place, owner_from, owner_in, unlist};
 use ha_model::{Answers, Branch, Ended, Firing, Many, Moment, WaitAsk, WaitEnd};
 use std::alloc::{AllocError, Global};
 use std::collections::BTreeSet;
@@ -137,16 +137,19 @@ impl Waits {
         self.fresh.as_slice()
     }
 
-    /// The owner of one of the waits of a run, in the order in which they were asked for.
-    pub fn owner_of(&self, serial: u64, at: usize) -> Option<u64>
-        ensures { result ≡ slice_get (owners_of serial self.now.asks) at }
+    /// The owner of a run's first wait from a place on, and the place behind that wait: so the
+    /// owners of all its waits are found in order, from place 0 on.
+    pub fn owner_from(&self, serial: u64, from: usize) -> Option<(u64, usize)>
+        ensures first { IfSome result (λ found. owners_of serial (drop from self.now.asks) ≡ found.0 ∷ owners_of serial (drop found.1 self.now.asks)) }
+        ensures behind { IfSome result (λ found. (from < found.1) × (found.1 ≤ length self.now.asks)) }
+        ensures none { IsNone result → owners_of serial (drop from self.now.asks) ≡ [] }
     {
-        owner_at(
+        owner_from(
             self.asks.as_slice(),
             &self.pending.runs,
             self.ordered,
             serial,
-            at,
+            from,
         )
     }
 

@@ -4,7 +4,11 @@ use Rattle.engine_parts.specs.declared.parts.Parts.{Parts}
 use Rattle.engine_parts.specs.Owners.{attempts_by}
 use Rattle.engine_parts.specs.Stages.{RunsBefore}
 use Rattle.engine_parts.proofs.AttemptLemmas.{attempts-fired}
+use Rattle.engine_parts.specs.Without.{without_owners}
 use Rattle.engine_parts.proofs.attend.attend.Goals as goal
+
+pub returns-clause-attached : goal.returns-clause-attached
+returns-clause-attached c = c.in_ok-wake_line.ensures.attached ∙ (λ i. without_owners (sym c.wake_line.ensures.waits i).fresh (c.in_ok-fired.ensures.attached i))
 
 pub returns-clause-fired : goal.returns-clause-fired
 returns-clause-fired c =

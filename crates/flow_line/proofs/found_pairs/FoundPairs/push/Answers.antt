@@ -1,22 +1,26 @@
-use Rattle.std.proofs.Common.{◌≡◌, ℕ, true, cond, List, drop, string_bytes, sym, ap, ◌∙◌, arith}
-use Rattle.std.specs.Str.{bytes_eq}
-use Rattle.std.specs.BTreeSet.{contains_text}
-use Rattle.std.proofs.lemmas.Map.Text.{btree_set_updates_text}
+use Rattle.std.proofs.Common.{◌≡◌, ℕ, true, List, [], ◌∷◌, ◌++◌, drop, sym, ap, subst, ◌∙◌, arith}
+use Rattle.std.specs.Prelude.{nat_eq}
+use Rattle.std.specs.BTreeSet.{contains}
+use Rattle.std.specs.Ordering.{nat_cmp}
+use Rattle.flow_line.specs.Marks.{mark_of}
 use Rattle.flow_line.specs.Reading.{has_key}
-use Rattle.flow_line.proofs.FoundKeys.{Pair, one_early, one_later}
+use Rattle.flow_line.proofs.FoundKeys.{Pair, marked_early, marked_later}
 use Rattle.flow_line.proofs.found_pairs.FoundPairs.push.Goals as goal
-use Rattle.flow_line.proofs.found_pairs.FoundPairs.push.Goals.{then-len-ge-FEW+in_ok-from_str+in_ok-insert, else-len-ge-FEW}
+use Rattle.flow_line.proofs.found_pairs.FoundPairs.push.Goals.{then-len-ge-FEW+in_ok-note, else-len-ge-FEW}
 
 pub invariant_of-result : goal.invariant_of-result
-invariant_of-result c = λ q.
+invariant_of-result c = λ q there.
     let list : List Pair = c.self.inside.list in
-    let pushed = ap (λ (ps : List Pair). has_key (drop 64 ps) q) (sym c.in_ok-push.ensures.ok) in
+    let before = contains nat_cmp c.self.inside.marks in
+    let here : has_key (drop 16 (list ++ c.args.pair ∷ [])) q ≡ true = ap (λ (ps : List Pair). has_key (drop 16 ps) q) (sym c.in_ok-push.ensures.ok) ∙ there in
     elim c.if-len-ge-FEW.branch [
-      | then-len-ge-FEW+in_ok-from_str+in_ok-insert w ↦
-          let text : string_bytes w.in_ok-from_str.field-0 ≡ c.args.pair.0 = w.in_ok-from_str.ensures.ok ∙ w.as_str.ensures.value in
-          let more = btree_set_updates_text (string_bytes w.in_ok-from_str.field-0) c.self.inside.later w.insert.new.self true w.in_ok-insert.ensures.updates q in
-          ap (λ s. contains_text s q) w.later-is
-          ∙ one_later 64 list c.args.pair q (contains_text c.self.inside.later q) (contains_text w.insert.new.self q) (omega (arith, c.len.ensures, w.if-len-ge-FEW)) (c.self.invariant q)
-          (more ∙ ap (λ (bs : List ℕ). cond (bytes_eq bs q) true (contains_text c.self.inside.later q)) text) ∙ pushed
-      | else-len-ge-FEW w ↦ ap (λ s. contains_text s q) w.later-is ∙ c.self.invariant q ∙ one_early 64 list c.args.pair q (omega (arith, c.len.ensures, w.if-len-ge-FEW)) ∙ pushed
+      | then-len-ge-FEW+in_ok-note w ↦
+          let after = contains nat_cmp w.note.new.marks in
+          let mark : w.mark_of.result ≡ mark_of c.args.pair.0 = w.mark_of.ensures ∙ ap mark_of w.bytes.ensures.value in
+          let own : after (mark_of c.args.pair.0) ≡ true = subst (λ (m : ℕ). after m ≡ true) mark w.in_ok-note.ensures.own in
+          ap (λ s. contains nat_cmp s (mark_of q)) w.marks-is
+          ∙ marked_later 16 list c.args.pair before after (omega (arith, c.len.ensures, w.if-len-ge-FEW)) c.self.invariant own
+          (λ m apart. w.in_ok-note.ensures.others m (ap (λ (k : ℕ). nat_eq k m) mark ∙ apart)) q here
+      | else-len-ge-FEW w ↦
+          ap (λ s. contains nat_cmp s (mark_of q)) w.marks-is ∙ marked_early 16 list c.args.pair before (omega (arith, c.len.ensures, w.if-len-ge-FEW)) q here
     ]
