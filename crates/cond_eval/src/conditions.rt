@@ -1,11 +1,11 @@
 //! Conditions.
-ghost use Rattle.std.specs.Prelude.{◌≡◌, false, codes, Some, None, IfOk, option_map, option_and_then};
+ghost use Rattle.std.specs.Prelude.{◌≡◌, false, IfOk};
 ghost use Rattle.std.specs.List.{list_all, list_any};
-ghost use Rattle.std.specs.Option.{option_copied, option_map_or};
+ghost use Rattle.std.specs.Option.{option_map_or};
 ghost use Rattle.ha_model.specs.Conditions as conditions;
 ghost use Rattle.ha_model.specs.States.{Sight};
 ghost use Rattle.ha_model.specs.Templates.{is_true_text, rendered};
-ghost use Rattle.ha_model.specs.Values.{field_of, text_of};
+ghost use Rattle.ha_model.specs.Values.{text_of};
 ghost use Rattle.ha_model.specs.Words as words;
 ghost use Rattle.cond_eval.specs.Seen.{seen};
 
@@ -64,7 +64,7 @@ pub fn test(
             before,
             weekdays,
         } => Ok(time_holds(view.zone, view.at, *after, *before, weekdays.as_ref())),
-        Condition::Trigger(ids) => Ok(is_own_id(env.as_slice(), ids.as_slice())),
+        Condition::Trigger(ids) => Ok(is_own_id(env, ids.as_slice())),
     }
 }
 
@@ -125,39 +125,14 @@ fn template_holds(
     }
 }
 
-/// The value of the first pair of that name.
-fn named<'a>(pairs: &'a [(Word, Value)], name: &[u8]) -> Option<&'a Value>
-    ensures { option_copied result ≡ words.first_pair name.now pairs.now }
-{
-    for pair in pairs {
-        if pair.0.bytes() == name {
-            return Some(&pair.1);
-        }
-    }
-    None
-}
-
-/// The id that a trigger's variables name; it is a text.
-fn id_in(variables: &Value) -> Option<&Word>
-    ensures { option_copied result ≡ text_of (field_of variables.now (codes "id")) }
-{
-    let Value::Pairs(pairs) = variables else {
-        return None;
-    };
-    match named(pairs.as_slice(), b"id") {
-        Some(Value::Text(id)) => Some(id),
-        _ => None,
-    }
-}
-
 /// Whether the id of the run's own trigger, whose variables are the first ones, is listed.
-fn is_own_id(env: &[(Word, Value)], ids: &[Word]) -> bool
+fn is_own_id(env: &Env, ids: &[Word]) -> bool
     ensures { (sight : Sight) → result ≡ option_map_or (λ t. words.one_of t ids.now) (conditions.own_id sight env.now) false }
 {
     let Some(first) = env.first() else {
         return false;
     };
-    match id_in(&first.1) {
+    match first.id() {
         Some(id) => is_one_of(id.bytes(), ids),
         None => false,
     }

@@ -26,8 +26,8 @@ use engine_parts::attempts::hold_all;
 use engine_parts::last::{configuration, last_entry};
 use engine_parts::parts::Parts;
 use ha_model::{
-    Action, Answers, Automation, Cmd, Config, Entry, Env, Firing, Item, Many, Mode, Value, Word,
-    same_text,
+    Action, Answers, Automation, Cmd, Config, Entry, Env, Firing, Item, Many, Mode, TriggerData,
+    Value, Word, same_text,
 };
 use script_step::Frames;
 use std::alloc::{AllocError, Global};
@@ -250,9 +250,8 @@ fn env_by_hand(alloc: Global) -> Result<Env, AllocError>
 {
     let mut pairs = Many::with_room(alloc, 1)?;
     pairs.push((Word::from_str(alloc, "platform")?, Value::Null))?;
-    let mut env = Many::with_room(alloc, 1)?;
-    env.push((Word::from_str(alloc, "trigger")?, Value::Pairs(pairs)))?;
-    Ok(env)
+    let trigger = TriggerData::whole(alloc, Value::Pairs(pairs))?;
+    Ok(Env::of_trigger(alloc, trigger))
 }
 
 /// The place of the automation of this name.

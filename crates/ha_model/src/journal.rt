@@ -6,6 +6,7 @@ ghost use Rattle.ha_model.specs.Equal.{same_pairs as same_pairs_lem};
 ghost use Rattle.ha_model.specs.StateStep.{next_object as next_object_lem};
 
 use crate::config::{Config, Trigger};
+use crate::env::Env;
 use crate::template::Template;
 use ha_clock::Moment;
 use ha_value::{EntityId, Many, Num, Plain, Value, Word, copy_pairs};
@@ -80,9 +81,6 @@ pub enum Item {
 
 /// Where a step stands among a script's parallel blocks: the index of the list that it is in, from the outer block to the inner.
 pub type Branch = Many<u32>;
-
-/// The variables that a script sees. Of several pairs of one name the last is seen.
-pub type Env = Many<(Word, Value)>;
 
 /// One entry of the journal.
 #[derive(Drop)]

@@ -5,8 +5,9 @@ ghost use Rattle.ha_model.specs.Conditions.{attribute_text};
 ghost use Rattle.ha_model.specs.Templates.{rendered, says};
 ghost use Rattle.ha_model.specs.Words as words;
 
+use crate::env::Env;
 use crate::faults::TplFault;
-use crate::journal::{Env, same_text};
+use crate::journal::same_text;
 use crate::template::Template;
 use crate::traits::Answers;
 use ha_value::{Plain, Value, Word};
@@ -17,6 +18,21 @@ pub fn first_pair<'a>(name: &Word, pairs: &'a [(Word, Value)]) -> Option<&'a Val
     ensures { option_copied result ≡ words.first_pair name.now pairs.now }
 {
     for pair in pairs {
+        if same_text(&pair.0, name) {
+            return Some(&pair.1);
+        }
+    }
+    None
+}
+
+/// The value of the last pair of that name.
+pub fn last_pair<'a>(name: &Word, pairs: &'a [(Word, Value)]) -> Option<&'a Value>
+    ensures { option_copied result ≡ words.last_pair name.now pairs.now }
+{
+    let mut left = pairs.len();
+    while 0 < left {
+        left -= 1;
+        let pair = &pairs[left];
         if same_text(&pair.0, name) {
             return Some(&pair.1);
         }

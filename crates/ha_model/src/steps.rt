@@ -1,5 +1,6 @@
 //! What the parts of the engine answer each other.
-use crate::journal::{Env, Item, WaitAsk};
+use crate::env::Env;
+use crate::journal::{Item, WaitAsk};
 use ha_value::EntityId;
 
 /// What a report changed.

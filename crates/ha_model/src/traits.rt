@@ -18,8 +18,9 @@ ghost use Rattle.ha_model.specs.Commands.{put_as};
 ghost use Rattle.ha_model.specs.Lawful.{Right, IsFair, is_line_of, shuts, is_rested, is_quiet, ready, pick};
 
 use crate::config::{Condition, Config};
+use crate::env::Env;
 use crate::faults::{CoreFault, TplFault};
-use crate::journal::{Branch, Cmd, Entry, Env, Record, WaitEnd};
+use crate::journal::{Branch, Cmd, Entry, Record, WaitEnd};
 use crate::template::Template;
 use ha_clock::Moment;
 use ha_value::{EntityId, Many, Value, Word};

@@ -1,5 +1,5 @@
 //! The longest chains that a template of 16,384 bytes can hold.
-use ha_model::{Many, Plain};
+use ha_model::{Env, Plain};
 use state_table::StateTable;
 use std::alloc::{AllocError, Global};
 use std::thread::{Threads, join};
@@ -35,7 +35,7 @@ fn goes_through(alloc: Global, text: &[u8]) -> bool {
     let states = StateTable::make(alloc);
     match parse(alloc, text) {
         Ok(template) => {
-            let rendered = render(alloc, &template, &states, &Many::make(alloc)).is_ok();
+            let rendered = render(alloc, &template, &states, &Env::none(alloc)).is_ok();
             match template.copy(alloc) {
                 Ok(copy) => rendered && copy.same(&template),
                 Err(_) => false,

@@ -90,9 +90,9 @@ fn rooms(alloc: Global) -> Result<Value, AllocError> {
 
 /// The name `home`, which stands for that map.
 fn home(alloc: Global) -> Result<Env, AllocError> {
-    let mut env = Many::make(alloc);
-    env.push((Word::from_str(alloc, "home")?, rooms(alloc)?))?;
-    Ok(env)
+    let mut pairs = Many::make(alloc);
+    pairs.push((Word::from_str(alloc, "home")?, rooms(alloc)?))?;
+    Ok(Env::of_pairs(pairs))
 }
 
 /// Whether a short text is a template that renders as this text where `home` is that map.

@@ -1,5 +1,5 @@
 //! Lists in brackets, and how many values they may have.
-use ha_model::{Many, TplFault, Value};
+use ha_model::{Env, TplFault, Value};
 use state_table::StateTable;
 use std::alloc::{AllocError, Global};
 use tpl_eval::render;
@@ -22,7 +22,7 @@ fn rendered(alloc: Global, text: &[u8]) -> Option<Result<Value, TplFault>> {
     }
     let states = StateTable::make(alloc);
     match parse(alloc, text) {
-        Ok(template) => Some(render(alloc, &template, &states, &Many::make(alloc))),
+        Ok(template) => Some(render(alloc, &template, &states, &Env::none(alloc))),
         Err(_) => None,
     }
 }

@@ -1,5 +1,5 @@
 //! Templates from their text to the rendered text.
-use ha_model::{Many, TplFault, Value};
+use ha_model::{Env, TplFault, Value};
 use state_table::StateTable;
 use std::alloc::Global;
 use tpl_eval::render;
@@ -12,7 +12,7 @@ fn rendered(alloc: Global, text: &str) -> Option<Result<Value, TplFault>> {
     }
     let states = StateTable::make(alloc);
     match parse(alloc, text.as_bytes()) {
-        Ok(template) => Some(render(alloc, &template, &states, &Many::make(alloc))),
+        Ok(template) => Some(render(alloc, &template, &states, &Env::none(alloc))),
         Err(_) => None,
     }
 }

@@ -1,7 +1,9 @@
 -- The block that has a name, and a variable that is set.
 use Rattle.std.proofs.Common.{◌≡◌, ◌∙◌, ap, ℕ, zero, suc, ◌+◌, ◌-◌, ◌<◌, ◌≤◌, Bool, true, false, refl, List, [], ◌∷◌, ◌++◌, length, get_or, take, drop, sym, arith}
-use Rattle.std.specs.Prelude.{Option, Some, None, not, ◌&&◌, ◌||◌, is_some, option_map, option_and_then, IfSome, if◌then◌else◌}
+use Rattle.std.specs.Prelude.{Option, Some, None, not, ◌&&◌, ◌||◌, is_some, option_map, option_and_then, slice_get, IfSome, if◌then◌else◌}
 use Rattle.std.specs.List.{list_any}
+use Rattle.std.specs.Option.{option_map_or}
+use Rattle.std.proofs.lemmas.Option.{get_or_from_slice_get, slice_get-get_or}
 use Rattle.ha_value.specs.declared.value.Value.{Value}
 use Rattle.ha_model.specs.declared.config.Form.{Form}
 use Rattle.ha_model.specs.States.{Sight}
@@ -67,6 +69,15 @@ pub name-next : (name : Text) (ps : Pairs) (i to : ℕ) (p : Text × Value) → 
 name-next name ps i to p lt within is =
     let z : to - i ≡ suc (to - (i + 1)) = omega (arith, lt) in
     (λ k. has_name name (take (z k) (drop-at ps i p within is k)))
+
+pub name-at : (name : Text) (ps : Pairs) (i to : ℕ) → i < to → i < length ps
+    → has_name name (take (to - i) (drop i ps)) ≡ (option_map_or (λ (p : Text × Value). same p.0 name) (slice_get ps i) false || has_name name (take (to - (i + 1)) (drop (i + 1) ps)))
+name-at name ps i to lt within =
+    let none : Text × Value = ([], Value.Null) in
+    let p = get_or ps i none in
+    let there = slice_get-get_or ps i none within in
+    name-next name ps i to p lt within (sym (get_or_from_slice_get ps i p p there))
+    ∙ (λ k. option_map_or (λ (q : Text × Value). same q.0 name) (sym there k) false || has_name name (take (to - (i + 1)) (drop (i + 1) ps)))
 
 pub name-none : (name : Text) (ps : Pairs) (i to : ℕ) → to ≤ i → has_name name (take (to - i) (drop i ps)) ≡ false
 name-none name ps i to le = (let z : to - i ≡ 0 = omega (arith, le) in (λ k. has_name name (take (z k) (drop i ps))))

@@ -34,7 +34,7 @@ fn put(alloc: Global, scopes: &mut Scopes, name: &Word, value: Value) -> Result<
     ensures fault { IfErr result (λ e. e ≡ TplFault.Memory) }
 {
     match name_of(alloc, name) {
-        Ok(name) => match scopes.set(name, value) {
+        Ok(name) => match scopes.set(alloc, name, value) {
             Ok(()) => Ok(()),
             Err(_) => Err(TplFault::Memory),
         },

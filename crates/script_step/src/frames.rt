@@ -12,10 +12,7 @@ use crate::sides::end_of;
 use crate::step::step;
 use crate::strand::{End, Stage, Strand};
 use crate::thread::Thread;
-use ha_model::{
-    Action, Answers, Branch, Ended, Env, Many, Moment, Plain, Progress, StepOut, WaitEnd,
-    copy_pairs,
-};
+use ha_model::{Action, Answers, Branch, Ended, Env, Many, Moment, Progress, StepOut, WaitEnd};
 use std::alloc::{AllocError, Global};
 use std::snapshot::Snapshot;
 
@@ -47,7 +44,7 @@ fn progress(root: &Strand) -> Progress
 fn root_of(alloc: Global, actions: &Many<Action>, env: &Env) -> Result<Strand, AllocError>
     ensures { IfOk result (λ made. made ≡ record { thread = first_thread (env.now ∷ []); stage = first_stage actions.now }) }
 {
-    let scopes = Scopes::start(alloc, copy_pairs(alloc, env.as_slice())?)?;
+    let scopes = Scopes::start(alloc, env.copy(alloc)?)?;
     let thread = Thread::start(alloc, scopes);
     if actions.len() == 0 {
         Ok(Strand {

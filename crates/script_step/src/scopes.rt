@@ -4,7 +4,7 @@ ghost use Rattle.ha_model.specs.Words.{has_name};
 ghost use Rattle.ha_model.specs.Scripts.{flat, outer, add_inside, set_name};
 ghost use Rattle.script_step.specs.Cuts.{add_at, is_own, named_block, total};
 
-use ha_model::{Env, Many, Plain, Value, Word, copy_pairs, same_text};
+use ha_model::{Env, Many, Value, Word};
 use std::alloc::{AllocError, Global};
 use std::marker::Model;
 
@@ -46,7 +46,7 @@ impl Scopes {
         ensures { result ≡ [] }
     {
         Scopes {
-            pairs: Many::make(alloc),
+            pairs: Env::none(alloc),
             sizes: Many::make(alloc),
         }
     }
@@ -60,7 +60,7 @@ impl Scopes {
             sizes.push(*size)?;
         }
         Ok(Scopes {
-            pairs: copy_pairs(alloc, self.pairs.as_slice())?,
+            pairs: self.pairs.copy(alloc)?,
             sizes,
         })
     }
@@ -81,11 +81,11 @@ impl Scopes {
     }
 
     /// Opens a block with one variable.
-    pub fn open_with(&mut self, name: Word, value: Value) -> Result<(), AllocError>
+    pub fn open_with(&mut self, alloc: Global, name: Word, value: Value) -> Result<(), AllocError>
         ensures { OnOk result (self.new ≡ self.old ++ ((name, value) ∷ []) ∷ []) }
     {
         self.open()?;
-        self.add_inside(name, value)
+        self.add_inside(alloc, name, value)
     }
 
     /// Drops the innermost block.
@@ -98,13 +98,19 @@ impl Scopes {
     }
 
     /// Adds a pair to the end of block `k`.
-    fn add_at(&mut self, k: usize, name: Word, value: Value) -> Result<(), AllocError>
+    fn add_at(
+        &mut self,
+        alloc: Global,
+        k: usize,
+        name: Word,
+        value: Value,
+    ) -> Result<(), AllocError>
         requires { k < length self.old }
         ensures { OnOk result (self.new ≡ add_at k (name, value) self.old) }
     {
         let size = self.sizes.as_slice()[k];
         let end = end_of(self.sizes.as_slice(), self.pairs.len(), k);
-        self.pairs.insert(end, (name, value))?;
+        self.pairs.insert(alloc, end, name, value)?;
         prove!(size < self.pairs.len());
         self.sizes.set(k, size + 1);
         Ok(())
@@ -118,28 +124,28 @@ impl Scopes {
     }
 
     /// Adds a pair to the innermost block.
-    pub fn add_inside(&mut self, name: Word, value: Value) -> Result<(), AllocError>
+    pub fn add_inside(&mut self, alloc: Global, name: Word, value: Value) -> Result<(), AllocError>
         ensures { OnOk result (self.new ≡ add_inside (name, value) self.old) }
     {
         let blocks = self.blocks();
         if blocks == 0 {
             self.open()?;
-            self.add_at(0, name, value)
+            self.add_at(alloc, 0, name, value)
         } else {
-            self.add_at(blocks - 1, name, value)
+            self.add_at(alloc, blocks - 1, name, value)
         }
     }
 
     /// Sets a variable: in the innermost block that has it, else in the innermost one.
-    pub fn set(&mut self, name: Word, value: Value) -> Result<(), AllocError>
+    pub fn set(&mut self, alloc: Global, name: Word, value: Value) -> Result<(), AllocError>
         ensures { OnOk result (self.new ≡ set_name (name, value) self.old) }
     {
         if is_own(&name) {
-            return self.add_inside(name, value);
+            return self.add_inside(alloc, name, value);
         }
         match self.named_block(&name) {
-            Some(k) => self.add_at(k, name, value),
-            None => self.add_inside(name, value),
+            Some(k) => self.add_at(alloc, k, name, value),
+            None => self.add_inside(alloc, name, value),
         }
     }
 
@@ -149,12 +155,13 @@ impl Scopes {
         ensures within { IfSome result (λ k. k < length self.now) }
     {
         let sizes = self.sizes.as_slice();
-        let pairs = self.pairs.as_slice();
+        let most = self.pairs.len();
         let mut found = None;
         let mut at = 0;
         for k in 0..sizes.len() {
             let end = at + sizes[k];
-            let here = has_name(name, pairs, at, end);
+            prove!(end <= most);
+            let here = has_name(name, &self.pairs, at, end);
             found = later_block(found, k, here);
             at = end;
         }
@@ -178,12 +185,12 @@ fn later_block(found: Option<usize>, k: usize, here: bool) -> Option<usize>
 }
 
 /// Whether one of the pairs from one place up to another has this name.
-fn has_name(name: &Word, pairs: &[(Word, Value)], from: usize, to: usize) -> bool
+fn has_name(name: &Word, pairs: &Env, from: usize, to: usize) -> bool
     requires { to ≤ length pairs.now }
     ensures { result ≡ has_name name.now (take (to - from) (drop from pairs.now)) }
 {
     for i in from..to {
-        if same_text(&pairs[i].0, name) {
+        if pairs.is_named(i, name) {
             return true;
         }
     }

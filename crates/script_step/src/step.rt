@@ -132,7 +132,7 @@ fn end_wait(
         let value = wait_value(alloc, end)?;
         thread
             .scopes
-            .add_inside(Word::from_str(alloc, "wait")?, value)?;
+            .add_inside(alloc, Word::from_str(alloc, "wait")?, value)?;
         Ok(Stage::Ready)
     } else {
         Ok(Stage::Ended(End::Stopped))

@@ -89,7 +89,7 @@ pub fn hold_in_turn<A: Answers>(
     ensures scopes { OnOk result (scopes.new ≡ scopes.old) }
 {
     let value = turn_value(alloc, &Rounds::While, 0, index)?;
-    scopes.open_with(Word::from_str(alloc, "repeat")?, value)?;
+    scopes.open_with(alloc, Word::from_str(alloc, "repeat")?, value)?;
     let holds = all_hold(alloc, answers, tests, scopes.flat())?;
     scopes.close();
     Ok(holds)
@@ -126,7 +126,7 @@ impl Thread {
     {
         let value = turn_value(alloc, &turn.rounds, turn.most, turn.index)?;
         self.scopes
-            .open_with(Word::from_str(alloc, "repeat")?, value)?;
+            .open_with(alloc, Word::from_str(alloc, "repeat")?, value)?;
         self.go_in(0, Some(turn))
     }
 }

@@ -1,7 +1,7 @@
 //! Conditions, on the states and at the moment of a place.
 use crate::home::{home_of, tell, utc, view_of};
 use cond_eval::{View, test};
-use ha_model::{Condition, Env, Many, Value, Word};
+use ha_model::{Condition, Env, Many, TriggerData, Value, Word};
 use std::alloc::{AllocError, Global};
 
 /// The variables of a run whose trigger has the id 7.
@@ -11,9 +11,8 @@ fn seventh(alloc: Global) -> Result<Env, AllocError> {
         Word::from_str(alloc, "id")?,
         Value::Text(Word::from_str(alloc, "7")?),
     ))?;
-    let mut env = Many::make(alloc);
-    env.push((Word::from_str(alloc, "trigger")?, Value::Pairs(trigger)))?;
-    Ok(env)
+    let data = TriggerData::whole(alloc, Value::Pairs(trigger))?;
+    Ok(Env::of_trigger(alloc, data))
 }
 
 /// Whether all of the conditions hold.

@@ -7,7 +7,7 @@ use crate::said::is_said;
 use cond_eval::View;
 use ha_model::{
     Action, Automation, Branch, Config, Ended, Env, Firing, Item, Many, Moment, Num, Plain,
-    Progress, StepOut, Value, WaitAsk, WaitEnd, Word,
+    Progress, StepOut, TriggerData, Value, WaitAsk, WaitEnd, Word,
 };
 use script_step::Frames;
 use std::alloc::{AllocError, Global};
@@ -99,7 +99,7 @@ fn event_env(alloc: Global) -> Result<Env, AllocError> {
     let data = map(alloc, "n", Value::Number(Num::Whole(5)))?;
     let event = map(alloc, "data", data)?;
     let trigger = map(alloc, "event", event)?;
-    one(alloc, (Word::from_str(alloc, "trigger")?, trigger))
+    Ok(Env::of_trigger(alloc, TriggerData::whole(alloc, trigger)?))
 }
 
 /// The script of an automation at its begin.
@@ -234,7 +234,7 @@ fn firing(alloc: Global, owner: u64, trigger: &str) -> Result<Many<Firing>, Allo
         "platform",
         Value::Text(Word::from_str(alloc, trigger)?),
     )?;
-    let env = one(alloc, (Word::from_str(alloc, "trigger")?, value))?;
+    let env = Env::of_trigger(alloc, TriggerData::whole(alloc, value)?);
     one(
         alloc,
         Firing {

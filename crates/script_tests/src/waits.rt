@@ -1,6 +1,6 @@
 //! Delays, and waits with their ends and timeouts.
 use crate::play::goes;
-use ha_model::{Branch, Ended, Many, Progress, WaitAsk};
+use ha_model::{Branch, Ended, Env, Many, Progress, WaitAsk};
 use std::alloc::{AllocError, Global};
 use wait_set::Waits;
 
@@ -176,7 +176,7 @@ fn asked(alloc: Global, serial: u64) -> WaitAsk {
         test: None,
         triggers: Many::make(alloc),
         due: None,
-        env: Many::make(alloc),
+        env: Env::none(alloc),
     }
 }
 

@@ -1,4 +1,3 @@
-pub mod NameLemmas
 pub mod PairLemmas
 pub mod ListLemmas
 pub mod SizeLemmas

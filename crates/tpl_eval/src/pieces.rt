@@ -14,7 +14,7 @@ use crate::held::truth_of;
 use crate::page::{Page, add_shown, append, kept_value};
 use crate::scope::Scope;
 use crate::value::value_of;
-use ha_model::{Expr, Piece, Plain, Template, TplFault, Value, Word};
+use ha_model::{Env, Expr, Piece, Plain, Template, TplFault, Value, Word};
 use state_table::StateTable;
 use std::alloc::Global;
 
@@ -24,7 +24,7 @@ pub fn write_template(
     template: &Template,
     alloc: Global,
     states: &StateTable,
-    env: &[(Word, Value)],
+    env: &Env,
     page: &mut Page,
 ) -> Result<(), TplFault>
     ensures { (sight : Sight) → Sees sight states.now → Writes env.now page.old page.new (pieces_of sight template.now (env.now ++ page.old.set)) result }
@@ -44,7 +44,7 @@ fn write_piece(
     piece: &Piece,
     alloc: Global,
     states: &StateTable,
-    env: &[(Word, Value)],
+    env: &Env,
     page: &mut Page,
 ) -> Result<(), TplFault>
     ensures { (sight : Sight) → Sees sight states.now → Writes env.now page.old page.new (piece_of sight piece.now (env.now ++ page.old.set)) result }
@@ -63,7 +63,7 @@ fn write_choice(
     piece: &Piece,
     alloc: Global,
     states: &StateTable,
-    env: &[(Word, Value)],
+    env: &Env,
     page: &mut Page,
 ) -> Result<(), TplFault>
     requires { is_choice (out-Piece piece.now) ≡ true }
@@ -89,7 +89,7 @@ fn write_choice(
 fn first_true<'a>(
     alloc: Global,
     states: &'a StateTable,
-    env: &'a [(Word, Value)],
+    env: &'a Env,
     set: &'a [(Word, Value)],
     arms: &'a [(Expr, Template)],
 ) -> Result<usize, TplFault>
@@ -109,7 +109,7 @@ fn first_true<'a>(
 fn holds<'a>(
     alloc: Global,
     states: &'a StateTable,
-    env: &'a [(Word, Value)],
+    env: &'a Env,
     set: &'a [(Word, Value)],
     expr: &'a Expr,
 ) -> Result<bool, TplFault>
@@ -128,7 +128,7 @@ fn holds<'a>(
 fn show(
     alloc: Global,
     states: &StateTable,
-    env: &[(Word, Value)],
+    env: &Env,
     expr: &Expr,
     page: &mut Page,
 ) -> Result<(), TplFault>
@@ -148,7 +148,7 @@ fn show(
 fn assign(
     alloc: Global,
     states: &StateTable,
-    env: &[(Word, Value)],
+    env: &Env,
     name: &Word,
     expr: &Expr,
     page: &mut Page,

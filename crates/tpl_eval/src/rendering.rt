@@ -45,7 +45,7 @@ fn text_of(
         text: Word::new(alloc),
         set: Many::make(alloc),
     };
-    match write_template(template, alloc, states, env.as_slice(), &mut page) {
+    match write_template(template, alloc, states, env, &mut page) {
         Ok(()) => trimmed(alloc, &page.text),
         Err(fault) => Err(fault),
     }

@@ -1,12 +1,12 @@
 //! What an expression sees.
-ghost use Rattle.std.specs.Prelude.{◌≡◌, unwrap_or};
-ghost use Rattle.std.specs.Option.{option_copied};
+ghost use Rattle.std.specs.Prelude.{Some, unwrap_or};
 ghost use Rattle.ha_model.specs.Words.{last_pair};
-ghost use Rattle.tpl_eval.specs.Held.{held_value};
+ghost use Rattle.tpl_fns.specs.Outcome.{Gives};
+ghost use Rattle.tpl_eval.specs.Held.{Yields};
 ghost use Rattle.tpl_eval.specs.Scope.{variables};
 
-use crate::held::Held;
-use ha_model::{Value, Word, same_text};
+use crate::held::{Held, made};
+use ha_model::{Env, Seen, TplFault, TriggerData, Value, Word, last_pair};
 use state_table::StateTable;
 use std::alloc::Global;
 
@@ -15,36 +15,40 @@ use std::alloc::Global;
 pub struct Scope<'a> {
     pub alloc: Global,
     pub states: &'a StateTable,
-    pub env: &'a [(Word, Value)],
+    pub env: &'a Env,
     pub set: &'a [(Word, Value)],
 }
 
-/// The value of the last pair of a name.
-fn last_value<'a>(name: &Word, pairs: &'a [(Word, Value)]) -> Option<&'a Value>
-    ensures { option_copied result ≡ last_pair name.now pairs.now }
+/// The variables of a trigger, made.
+fn made_value(alloc: Global, trigger: &TriggerData) -> Result<Value, TplFault>
+    ensures { Gives result (Some trigger.now) }
 {
-    let mut left = pairs.len();
-    while 0 < left {
-        left -= 1;
-        let pair = &pairs[left];
-        if same_text(&pair.0, name) {
-            return Some(&pair.1);
-        }
+    match trigger.value(alloc) {
+        Ok(value) => Ok(value),
+        Err(_) => Err(TplFault::Memory),
     }
-    None
+}
+
+/// The value of a variable of the run, null where there is none. It stands apart, since a name is the end of a chain that may be deep.
+#[inline(never)]
+fn value_in<'a>(alloc: Global, env: &'a Env, name: &Word) -> Result<Held<'a>, TplFault>
+    ensures { Yields result (Some (unwrap_or (last_pair name.now env.now) Value.Null)) }
+{
+    match env.last(name) {
+        Some(Seen::Value(value)) => Ok(Held::Lent(value)),
+        Some(Seen::Trigger(trigger)) => made(made_value(alloc, trigger)),
+        None => Ok(Held::Made(Value::Null)),
+    }
 }
 
 impl<'a> Scope<'a> {
     /// The value of a variable, null where there is none.
-    pub fn named(&self, name: &Word) -> Held<'a>
-        ensures { held_value result ≡ unwrap_or (last_pair name.now (variables self.now)) Value.Null }
+    pub fn named(&self, name: &Word) -> Result<Held<'a>, TplFault>
+        ensures { Yields result (Some (unwrap_or (last_pair name.now (variables self.now)) Value.Null)) }
     {
-        match last_value(name, self.set) {
-            Some(value) => Held::Lent(value),
-            None => match last_value(name, self.env) {
-                Some(value) => Held::Lent(value),
-                None => Held::Made(Value::Null),
-            },
+        match last_pair(name, self.set) {
+            Some(value) => Ok(Held::Lent(value)),
+            None => value_in(self.alloc, self.env, name),
         }
     }
 }

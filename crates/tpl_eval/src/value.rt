@@ -28,7 +28,7 @@ pub fn value_of<'a>(scope: &Scope<'a>, expr: &'a Expr) -> Result<Held<'a>, TplFa
 {
     match expr {
         Expr::Plain(value) => Ok(Held::Lent(value)),
-        Expr::Name(name) => Ok(scope.named(name)),
+        Expr::Name(name) => scope.named(name),
         Expr::List(_) => other_value(scope, expr),
         Expr::Field { .. } => field_value(scope, expr),
         Expr::At { .. } => part_value(scope, expr),

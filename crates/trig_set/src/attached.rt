@@ -15,7 +15,7 @@ ghost use Rattle.trig_set.specs.Scenes.{Shows};
 use crate::scene::Scene;
 use crate::spot::{Spot, step};
 use ha_model::{
-    Answers, Cmd, Entry, Firing, Many, Moment, Plain, Trigger, TriggerRule, Value, Word,
+    Answers, Cmd, Entry, Env, Firing, Many, Moment, Plain, Trigger, TriggerData, TriggerRule,
 };
 use std::alloc::{AllocError, Global};
 use timer_queue::TimerQueue;
@@ -172,16 +172,15 @@ fn ripen(to: Moment, spots: &mut [Spot], timers: &mut TimerQueue)
 }
 
 /// One firing, with its variables.
-fn firing(alloc: Global, owner: u64, spot: &Spot, value: Value) -> Result<Firing, AllocError>
+fn firing(alloc: Global, owner: u64, spot: &Spot, value: TriggerData) -> Result<Firing, AllocError>
     ensures { IfOk result (λ f. f ≡ record { owner = owner; trigger = spot.now.trigger; entity = spot.now.entity; env = (codes "trigger", value) ∷ [] }) }
 {
-    let mut env = Many::with_room(alloc, 1)?;
-    env.push((Word::from_str(alloc, "trigger")?, value))?;
+    let entity = spot.entity.copy(alloc)?;
     Ok(Firing {
         owner,
         trigger: spot.trigger,
-        entity: spot.entity.copy(alloc)?,
-        env,
+        entity,
+        env: Env::of_trigger(alloc, value),
     })
 }
 

@@ -20,6 +20,5 @@ mod scene;
 mod set;
 mod shifts;
 mod spot;
-mod values;
 
 pub use set::TrigSet;

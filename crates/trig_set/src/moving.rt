@@ -22,8 +22,7 @@ use crate::attached::is_moment;
 use crate::event::{data_in, is_named, kind_in};
 use crate::moved::{is_within, opens, reported_number, shift_of};
 use crate::scene::{Scene, Shift};
-use crate::values::{bare_variables, event_variables, numeric_variables, state_variables};
-use ha_model::{EntityId, Entry, Many, Num, Trigger, TriggerRule, Value, Word};
+use ha_model::{EntityId, Entry, Many, Num, Trigger, TriggerData, TriggerRule, Value, Word};
 use std::alloc::{AllocError, Global};
 use time_match::passed;
 use trig_state::state_moves;
@@ -33,11 +32,11 @@ fn started(
     alloc: Global,
     trigger: &Trigger,
     entity: Option<&EntityId>,
-) -> Result<Option<Value>, AllocError>
+) -> Result<Option<TriggerData>, AllocError>
     ensures { IfOk result (λ v. v ≡ (if starts [] trigger.now.rule && is_none (option_copied entity.entry) then Some (Map (head_pairs [] (codes "homeassistant") trigger.now)) else None)) }
 {
     match (&trigger.rule, entity) {
-        (TriggerRule::Start, None) => Ok(Some(bare_variables(alloc, "homeassistant", trigger)?)),
+        (TriggerRule::Start, None) => Ok(Some(TriggerData::bare(alloc, "homeassistant", trigger)?)),
         _ => Ok(None),
     }
 }
@@ -48,11 +47,11 @@ fn of_template(
     trigger: &Trigger,
     is: bool,
     was: bool,
-) -> Result<Option<Value>, AllocError>
+) -> Result<Option<TriggerData>, AllocError>
     ensures { IfOk result (λ v. v ≡ (if is && not was then Some (Map (head_pairs [] (codes "template") trigger.now)) else None)) }
 {
     if is && !was {
-        Ok(Some(bare_variables(alloc, "template", trigger)?))
+        Ok(Some(TriggerData::bare(alloc, "template", trigger)?))
     } else {
         Ok(None)
     }
@@ -64,7 +63,7 @@ fn of_time(
     scene: &Scene<'_>,
     trigger: &Trigger,
     platform: &str,
-) -> Result<Option<Value>, AllocError>
+) -> Result<Option<TriggerData>, AllocError>
     requires { scene.now.to ≤ last_moment }
     ensures { IfOk result (λ v. (zone : Text) → MatchOption (option_copied scene.now.zone) ⊥ (λ z. z ≡ zone)
         → v ≡ (if is_moment_lem scene.now.entry.now && passed trigger.now.rule zone scene.now.from scene.now.to then Some (Map (head_pairs [] platform.now trigger.now)) else None)) }
@@ -73,7 +72,7 @@ fn of_time(
         return Ok(None);
     };
     if is_moment(scene.entry) && passed(&trigger.rule, zone, scene.from, scene.to) {
-        Ok(Some(bare_variables(alloc, platform, trigger)?))
+        Ok(Some(TriggerData::bare(alloc, platform, trigger)?))
     } else {
         Ok(None)
     }
@@ -85,7 +84,7 @@ fn of_state(
     scene: &Scene<'_>,
     trigger: &Trigger,
     entity: &EntityId,
-) -> Result<Option<Value>, AllocError>
+) -> Result<Option<TriggerData>, AllocError>
     requires { is_state trigger.now.rule ≡ true }
     ensures { IfOk result (λ v. (j : Journal) (since : ℕ) → Shows scene.now j since → nat_lt since (length j) ≡ true
         → v ≡ (if looks (sight j (length j)) (sight (more j scene.now.entry.now) (suc (length j))) j trigger.now.rule (is_some trigger.now.hold) (Some entity.now) scene.now.entry.now
@@ -107,7 +106,7 @@ fn of_shift(
     attribute: &Option<Word>,
     entity: &EntityId,
     shift: &Shift,
-) -> Result<Option<Value>, AllocError>
+) -> Result<Option<TriggerData>, AllocError>
     requires { is_state trigger.now.rule ≡ true }
     ensures { IfOk result (λ v. v ≡ (if rule_moves trigger.now.rule (is_some trigger.now.hold) shift.now.old shift.now.new
         then Some (Map (head_pairs [] (codes "state") trigger.now ++ ((codes "entity_id", Value.Text (entity_text entity.now)) ∷ (codes "from_state", state_value [] entity.now shift.now.old) ∷ (codes "to_state", state_value [] entity.now shift.now.new) ∷ (codes "attribute", text_or_null [] attribute.now) ∷ []))) else None)) }
@@ -122,7 +121,7 @@ fn of_shift(
     )? {
         return Ok(None);
     }
-    Ok(Some(state_variables(
+    Ok(Some(TriggerData::of_state(
         alloc,
         trigger,
         attribute,
@@ -138,7 +137,7 @@ fn of_number(
     scene: &Scene<'_>,
     trigger: &Trigger,
     entity: &EntityId,
-) -> Result<Option<Value>, AllocError>
+) -> Result<Option<TriggerData>, AllocError>
     requires { is_numeric trigger.now.rule ≡ true }
     ensures { IfOk result (λ v. (j : Journal) (since : ℕ) → Shows scene.now j since → nat_lt since (length j) ≡ true
         → v ≡ (if looks (sight j (length j)) (sight (more j scene.now.entry.now) (suc (length j))) j trigger.now.rule (is_some trigger.now.hold) (Some entity.now) scene.now.entry.now
@@ -185,14 +184,14 @@ fn of_crossing(
     entity: &EntityId,
     shift: &Shift,
     crosses: bool,
-) -> Result<Option<Value>, AllocError>
+) -> Result<Option<TriggerData>, AllocError>
     ensures { IfOk result (λ v. v ≡ (if crosses
         then Some (Map (head_pairs [] (codes "numeric_state") trigger.now ++ ((codes "entity_id", Value.Text (entity_text entity.now)) ∷ (codes "from_state", state_value [] entity.now shift.now.old) ∷ (codes "to_state", state_value [] entity.now shift.now.new) ∷ (codes "above", number_or_null [] above) ∷ (codes "below", number_or_null [] below) ∷ []))) else None)) }
 {
     if !crosses {
         return Ok(None);
     }
-    Ok(Some(numeric_variables(
+    Ok(Some(TriggerData::of_number(
         alloc,
         trigger,
         above,
@@ -204,7 +203,11 @@ fn of_crossing(
 }
 
 /// An event trigger moves where the entry is an event of one of its kinds that has each of its pairs.
-fn of_event(alloc: Global, entry: &Entry, trigger: &Trigger) -> Result<Option<Value>, AllocError>
+fn of_event(
+    alloc: Global,
+    entry: &Entry,
+    trigger: &Trigger,
+) -> Result<Option<TriggerData>, AllocError>
     requires { is_event trigger.now.rule ≡ true }
     ensures { IfOk result (λ v. (b a : Sight) (j : Journal)
         → v ≡ (if looks b a j trigger.now.rule (is_some trigger.now.hold) None entry.now then Some (given_lem b a (Some entry.now) trigger.now None) else None)) }
@@ -229,14 +232,14 @@ fn of_named(
     kind: &Word,
     fields: &Many<(Word, Value)>,
     named: bool,
-) -> Result<Option<Value>, AllocError>
+) -> Result<Option<TriggerData>, AllocError>
     ensures { IfOk result (λ v. v ≡ (if named
         then Some (Map (head_pairs [] (codes "event") trigger.now ++ ((codes "event", Map ((codes "event_type", Value.Text kind.now) ∷ (codes "data", Map fields.now) ∷ [])) ∷ []))) else None)) }
 {
     if !named {
         return Ok(None);
     }
-    Ok(Some(event_variables(alloc, trigger, kind, fields)?))
+    Ok(Some(TriggerData::of_event(alloc, trigger, kind, fields)?))
 }
 
 /// Elsewhere a trigger that was attached before moves where its rule holds by what is seen before the entry and after it.
@@ -247,7 +250,7 @@ fn ruled(
     is: bool,
     was: bool,
     entity: Option<&EntityId>,
-) -> Result<Option<Value>, AllocError>
+) -> Result<Option<TriggerData>, AllocError>
     requires { scene.now.to ≤ last_moment }
     ensures { IfOk result (λ v. (j : Journal) (since : ℕ) → Shows scene.now j since → nat_lt since (length j) ≡ true → holds_well trigger.now
         → is ≡ is_true (sight (more j scene.now.entry.now) (length (more j scene.now.entry.now))) trigger.now.rule
@@ -294,7 +297,7 @@ pub fn given(
     is: bool,
     was: bool,
     entity: Option<&EntityId>,
-) -> Result<Option<Value>, AllocError>
+) -> Result<Option<TriggerData>, AllocError>
     requires { scene.now.to ≤ last_moment }
     ensures { IfOk result (λ v. (j : Journal) → Shows scene.now j since → holds_well trigger.now
         → is ≡ is_true (sight (more j scene.now.entry.now) (length (more j scene.now.entry.now))) trigger.now.rule

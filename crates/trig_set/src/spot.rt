@@ -12,7 +12,7 @@ ghost use Rattle.trig_set.specs.Scenes.{Shows};
 use crate::moved::stays;
 use crate::moving::given;
 use crate::scene::Scene;
-use ha_model::{EntityId, Moment, Span, Trigger, Value};
+use ha_model::{EntityId, Moment, Span, Trigger, TriggerData};
 use std::alloc::{AllocError, Global};
 
 /// A hold (`for`) that is pending.
@@ -21,7 +21,7 @@ pub struct Held {
     /// It is over where Now is at least this.
     pub due: Moment,
     /// The variables of the trigger, from the entry at which it moved.
-    pub value: Value,
+    pub value: TriggerData,
 }
 
 /// One trigger and one of its entities.
@@ -33,13 +33,13 @@ pub struct Spot {
     pub entity: Option<EntityId>,
     pub hold: Option<Held>,
     /// The variables with which it fires at the entry that is noted.
-    pub fired: Option<Value>,
+    pub fired: Option<TriggerData>,
     /// Whether the trigger's template was true after the entry noted last.
     pub was: bool,
 }
 
 /// The hold that begins where a trigger moves.
-fn begun(to: Moment, span: Span, given: Option<Value>) -> Option<Held>
+fn begun(to: Moment, span: Span, given: Option<TriggerData>) -> Option<Held>
     requires { to ≤ last_moment }
     ensures { option_map holding result ≡ option_map (λ v. record { due = to + span; value = v }) given }
 {
@@ -53,7 +53,7 @@ fn begun(to: Moment, span: Span, given: Option<Value>) -> Option<Held>
 }
 
 /// A hold ends where what it watches did not stay, and begins where the trigger moved and none is pending.
-fn hold(to: Moment, span: Span, stayed: bool, given: Option<Value>, spot: &mut Spot)
+fn hold(to: Moment, span: Span, stayed: bool, given: Option<TriggerData>, spot: &mut Spot)
     requires { to ≤ last_moment }
     ensures hold { option_map holding spot.new.hold ≡ or_else (if stayed then option_map holding spot.old.hold else None) (option_map (λ v. record { due = to + span; value = v }) given) }
     ensures rest { spot.new ≡ record spot.old { hold = spot.new.hold } }
@@ -67,7 +67,7 @@ fn hold(to: Moment, span: Span, stayed: bool, given: Option<Value>, spot: &mut S
 }
 
 /// A trigger with a `for` has its hold, and one without fires where it moved.
-fn settle(to: Moment, span: Option<Span>, stayed: bool, given: Option<Value>, spot: &mut Spot)
+fn settle(to: Moment, span: Option<Span>, stayed: bool, given: Option<TriggerData>, spot: &mut Spot)
     requires { to ≤ last_moment }
     ensures { Settles span to stayed given spot.old spot.new }
 {

@@ -4,7 +4,7 @@
 ghost use Rattle.std.specs.Prelude.{◌≡◌, [], IfOk};
 ghost use Rattle.ha_model.specs.Templates.{rendered, says};
 
-use ha_model::{Answers, Many, Template, true_in};
+use ha_model::{Answers, Env, Template, true_in};
 use std::alloc::{AllocError, Global};
 
 /// Whether the template of a trigger is true, in the empty environment: its text is a number other than zero, or one of `true`, `yes`, `on`
@@ -17,6 +17,6 @@ pub fn template_true<A: Answers>(
 ) -> Result<bool, AllocError>
     ensures { IfOk result (λ b. b ≡ says (rendered (A.sight answers.now) template.now [])) }
 {
-    let env = Many::make(alloc);
+    let env = Env::none(alloc);
     true_in(alloc, template, &env, answers)
 }

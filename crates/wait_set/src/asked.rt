@@ -9,9 +9,7 @@ ghost use Rattle.ha_model.specs.Templates.{rendered, says};
 ghost use Rattle.wait_set.specs.Asked as lem;
 ghost use Rattle.wait_set.specs.Asked.{fired_values, is_late, noted_one, value_of};
 
-use ha_model::{
-    Answers, Branch, Env, Firing, Many, Moment, Num, Plain, Value, WaitAsk, WaitEnd, true_in,
-};
+use ha_model::{Answers, Branch, Env, Firing, Many, Moment, Num, Value, WaitAsk, WaitEnd, true_in};
 use std::alloc::{AllocError, Global};
 
 /// A wait: who owns its triggers, the entry of the step that asked for it, what it waits for, and
@@ -42,8 +40,8 @@ fn firing_of(fired: &[Firing], owner: u64) -> Option<&Firing>
 fn first_value(alloc: Global, env: &Env) -> Result<Value, AllocError>
     ensures { IfOk result (λ v. v ≡ value_of env.now) }
 {
-    match env.get(0) {
-        Some(pair) => pair.1.copy(alloc),
+    match env.first() {
+        Some(seen) => seen.value(alloc),
         None => Ok(Value::Null),
     }
 }

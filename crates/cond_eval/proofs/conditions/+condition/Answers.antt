@@ -1,4 +1,4 @@
-use Rattle.std.proofs.Common.{◌∙◌, ap, sym}
+use Rattle.std.proofs.Common.{◌∙◌, ap, refl, sym}
 use Rattle.std.specs.Prelude.{not}
 use Rattle.cond_eval.specs.Seen.{seen}
 use Rattle.cond_eval.proofs.CaseLemmas.{holds-and, holds-numeric, holds-not, holds-or, holds-state, holds-trigger}
@@ -28,4 +28,4 @@ test-returns-in-Numeric t c =
 pub test-returns-in-Trigger : goal.test-returns-in-Trigger
 test-returns-in-Trigger t c =
     c.is_own_id.ensures (seen c.args.view.now)
-    ∙ sym (holds-trigger (seen c.args.view.now) c.args.env.now c.args.condition.now c.in-Trigger.ids c.as_slice-in-Trigger-2.result.now c.as_slice-in-Trigger.result.now c.in-Trigger.is c.as_slice-in-Trigger-2.ensures c.as_slice-in-Trigger.ensures)
+    ∙ sym (holds-trigger (seen c.args.view.now) c.args.env.now c.args.condition.now c.in-Trigger.ids c.as_slice-in-Trigger.result.now c.args.env.now c.in-Trigger.is c.as_slice-in-Trigger.ensures refl)

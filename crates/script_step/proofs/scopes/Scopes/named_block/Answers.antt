@@ -9,17 +9,17 @@ use Rattle.script_step.proofs.scopes.Scopes.named_block.Goals as goal
 pub overflow_add-end : goal.overflow_add-end
 overflow_add-end c =
     let ns = c.as_slice-sizes.result.now in
-    omega (arith, total-next ns c.loop-k.k c.loop-k-test.true, total-take (c.loop-k.k + 1) ns, c.loop-k.invariant.at, ap total c.as_slice-sizes.ensures, c.self.invariant, ap length c.as_slice-pairs.ensures, c.as_slice-pairs.type_inv.1)
+    omega (arith, total-next ns c.loop-k.k c.loop-k-test.true, total-take (c.loop-k.k + 1) ns, c.loop-k.invariant.at, ap total c.as_slice-sizes.ensures, c.self.invariant, c.len-most.ensures)
 
 pub has_name-here-requires : goal.has_name-here-requires
 has_name-here-requires c =
     let ns = c.as_slice-sizes.result.now in
-    omega (arith, total-next ns c.loop-k.k c.loop-k-test.true, total-take (c.loop-k.k + 1) ns, c.loop-k.invariant.at, ap total c.as_slice-sizes.ensures, c.self.invariant, ap length c.as_slice-pairs.ensures)
+    omega (arith, total-next ns c.loop-k.k c.loop-k-test.true, total-take (c.loop-k.k + 1) ns, c.loop-k.invariant.at, ap total c.as_slice-sizes.ensures, c.self.invariant)
 
 pub loop-k-preserved : goal.loop-k-preserved
 loop-k-preserved c =
     let ns = c.as_slice-sizes.result.now in
-    let ps = c.as_slice-pairs.result.now in
+    let ps = c.self.inside.pairs in
     let k = c.loop-k.k in
     let n = get_or ns k 0 in
     let at = c.loop-k.invariant.at in
@@ -36,6 +36,6 @@ loop-k-preserved c =
 pub returns-clause-within : goal.returns-clause-within
 returns-clause-within c =
     let ns = c.as_slice-sizes.result.now in
-    let ps = c.as_slice-pairs.result.now in
+    let ps = c.self.inside.pairs in
     found-under c.args.name.now (cut (take c.loop-k.k ns) ps) c.loop-k.found (length c.args.self.now) c.loop-k.invariant.found
     (omega (arith, length-cut (take c.loop-k.k ns) ps, take-shorter c.loop-k.k ns, ap length c.as_slice-sizes.ensures, ap length c.self.view_is, length-cut c.self.inside.sizes c.self.inside.pairs))

@@ -1,14 +1,15 @@
-//! The variables of triggers.
+//! The pairs of the variable `trigger`, made of its parts.
 ghost use Rattle.std.specs.Prelude.{◌≡◌, ◌∷◌, ◌++◌, [], decimal, codes, Some, IfOk, OnOk};
 ghost use Rattle.std.specs.Option.{option_copied};
 ghost use Rattle.ha_value.specs.declared.value.Value.TheVariants.{Pairs as Map};
 ghost use Rattle.ha_value.specs.Ids.{entity_text};
+ghost use Rattle.ha_model.specs.TriggerValues.{head};
 ghost use Rattle.ha_model.specs.Triggers as triggers;
+ghost use Rattle.ha_model.specs.Values.{field_of, text_of};
+ghost use Rattle.ha_model.specs.Words as words;
 
-use ha_model::{
-    EntityId, Many, Num, Plain, StateObject, Trigger, Value, Word, copy_pairs, push_text,
-    push_value,
-};
+use crate::journal::StateObject;
+use ha_value::{EntityId, Many, Num, Plain, Value, Word, copy_pairs, push_text, push_value};
 use itoa::Buffer;
 use std::alloc::{AllocError, Global};
 
@@ -38,19 +39,20 @@ fn decimal(alloc: Global, number: u32) -> Result<Value, AllocError>
     text(alloc, room.format(number))
 }
 
-/// The first variables of each trigger, and room for so many in all: the record of a run keeps them for good.
+/// The first pairs of each trigger, and room for so many in all.
 fn head(
     alloc: Global,
     platform: &str,
-    trigger: &Trigger,
+    id: &Word,
+    idx: u32,
     count: usize,
 ) -> Result<Many<(Word, Value)>, AllocError>
-    ensures { IfOk result (λ ps. ps ≡ triggers.head_pairs [] platform.now trigger.now) }
+    ensures { IfOk result (λ ps. ps ≡ head platform.now id.now idx) }
 {
     let mut pairs = Many::with_room(alloc, count)?;
     push_text(alloc, &mut pairs, "platform", platform)?;
-    push_text(alloc, &mut pairs, "id", trigger.id.as_str())?;
-    add(alloc, &mut pairs, "idx", decimal(alloc, trigger.idx)?)?;
+    push_text(alloc, &mut pairs, "id", id.as_str())?;
+    add(alloc, &mut pairs, "idx", decimal(alloc, idx)?)?;
     Ok(pairs)
 }
 
@@ -62,7 +64,12 @@ fn object_pairs(
     state: &StateObject,
 ) -> Result<Many<(Word, Value)>, AllocError>
     requires { id.now ≡ entity_text entity.now }
-    ensures { IfOk result (λ ps. ps ≡ (codes "entity_id", Value.Text (entity_text entity.now)) ∷ (codes "domain", Value.Text entity.now.domain) ∷ (codes "object_id", Value.Text entity.now.object) ∷ (codes "state", Value.Text state.now.text) ∷ (codes "attributes", Map state.now.attributes) ∷ []) }
+    ensures { IfOk result (λ ps. ps
+        ≡ (codes "entity_id", Value.Text (entity_text entity.now))
+        ∷ (codes "domain", Value.Text entity.now.domain)
+        ∷ (codes "object_id", Value.Text entity.now.object)
+        ∷ (codes "state", Value.Text state.now.text)
+        ∷ (codes "attributes", Map state.now.attributes) ∷ []) }
 {
     let mut pairs = Many::with_room(alloc, 5)?;
     push_text(alloc, &mut pairs, "entity_id", id.as_str())?;
@@ -91,7 +98,7 @@ fn object_value(
 }
 
 /// A state as a value, null where there is none.
-fn state_value(
+fn optional_value(
     alloc: Global,
     id: &Word,
     entity: &EntityId,
@@ -113,7 +120,10 @@ fn states_pairs(
     old: Option<&StateObject>,
     new: Option<&StateObject>,
 ) -> Result<Many<(Word, Value)>, AllocError>
-    ensures { IfOk result (λ ps. ps ≡ (codes "entity_id", Value.Text (entity_text entity.now)) ∷ (codes "from_state", triggers.state_value [] entity.now (option_copied old.entry)) ∷ (codes "to_state", triggers.state_value [] entity.now (option_copied new.entry)) ∷ []) }
+    ensures { IfOk result (λ ps. ps
+        ≡ (codes "entity_id", Value.Text (entity_text entity.now))
+        ∷ (codes "from_state", triggers.state_value [] entity.now (option_copied old.entry))
+        ∷ (codes "to_state", triggers.state_value [] entity.now (option_copied new.entry)) ∷ []) }
 {
     let id = entity.print(alloc)?;
     let mut pairs = Many::with_room(alloc, 5)?;
@@ -122,13 +132,13 @@ fn states_pairs(
         alloc,
         &mut pairs,
         "from_state",
-        state_value(alloc, &id, entity, old)?,
+        optional_value(alloc, &id, entity, old)?,
     )?;
     add(
         alloc,
         &mut pairs,
         "to_state",
-        state_value(alloc, &id, entity, new)?,
+        optional_value(alloc, &id, entity, new)?,
     )?;
     Ok(pairs)
 }
@@ -153,18 +163,24 @@ fn number_or_null(number: Option<Num>) -> Value
     }
 }
 
-/// The variables of a state trigger.
-pub fn state_variables(
+/// Of a state trigger.
+pub(crate) fn state_value(
     alloc: Global,
-    trigger: &Trigger,
-    attribute: &Option<Word>,
+    id: &Word,
+    idx: u32,
     entity: &EntityId,
     old: Option<&StateObject>,
     new: Option<&StateObject>,
+    attribute: &Option<Word>,
 ) -> Result<Value, AllocError>
-    ensures { IfOk result (λ v. v ≡ Map (triggers.head_pairs [] (codes "state") trigger.now ++ ((codes "entity_id", Value.Text (entity_text entity.now)) ∷ (codes "from_state", triggers.state_value [] entity.now (option_copied old.entry)) ∷ (codes "to_state", triggers.state_value [] entity.now (option_copied new.entry)) ∷ (codes "attribute", triggers.text_or_null [] attribute.now) ∷ []))) }
+    ensures { IfOk result (λ v. v
+        ≡ Map (head (codes "state") id.now idx
+        ++ ((codes "entity_id", Value.Text (entity_text entity.now))
+        ∷ (codes "from_state", triggers.state_value [] entity.now (option_copied old.entry))
+        ∷ (codes "to_state", triggers.state_value [] entity.now (option_copied new.entry))
+        ∷ (codes "attribute", triggers.text_or_null [] attribute.now) ∷ []))) }
 {
-    let mut pairs = head(alloc, "state", trigger, 7)?;
+    let mut pairs = head(alloc, "state", id, idx, 7)?;
     let mut more = states_pairs(alloc, entity, old, new)?;
     add(
         alloc,
@@ -178,13 +194,17 @@ pub fn state_variables(
 
 fn numeric_pairs(
     alloc: Global,
-    above: Option<Num>,
-    below: Option<Num>,
     entity: &EntityId,
     old: Option<&StateObject>,
     new: Option<&StateObject>,
+    above: Option<Num>,
+    below: Option<Num>,
 ) -> Result<Many<(Word, Value)>, AllocError>
-    ensures { IfOk result (λ ps. ps ≡ (codes "entity_id", Value.Text (entity_text entity.now)) ∷ (codes "from_state", triggers.state_value [] entity.now (option_copied old.entry)) ∷ (codes "to_state", triggers.state_value [] entity.now (option_copied new.entry)) ∷ (codes "above", triggers.number_or_null [] above) ∷ (codes "below", triggers.number_or_null [] below) ∷ []) }
+    ensures { IfOk result (λ ps. ps
+        ≡ (codes "entity_id", Value.Text (entity_text entity.now))
+        ∷ (codes "from_state", triggers.state_value [] entity.now (option_copied old.entry))
+        ∷ (codes "to_state", triggers.state_value [] entity.now (option_copied new.entry))
+        ∷ (codes "above", triggers.number_or_null [] above) ∷ (codes "below", triggers.number_or_null [] below) ∷ []) }
 {
     let mut more = states_pairs(alloc, entity, old, new)?;
     add(alloc, &mut more, "above", number_or_null(above))?;
@@ -192,20 +212,26 @@ fn numeric_pairs(
     Ok(more)
 }
 
-/// The variables of a numeric trigger.
-pub fn numeric_variables(
+/// Of a numeric trigger.
+pub(crate) fn numeric_value(
     alloc: Global,
-    trigger: &Trigger,
-    above: Option<Num>,
-    below: Option<Num>,
+    id: &Word,
+    idx: u32,
     entity: &EntityId,
     old: Option<&StateObject>,
     new: Option<&StateObject>,
+    above: Option<Num>,
+    below: Option<Num>,
 ) -> Result<Value, AllocError>
-    ensures { IfOk result (λ v. v ≡ Map (triggers.head_pairs [] (codes "numeric_state") trigger.now ++ ((codes "entity_id", Value.Text (entity_text entity.now)) ∷ (codes "from_state", triggers.state_value [] entity.now (option_copied old.entry)) ∷ (codes "to_state", triggers.state_value [] entity.now (option_copied new.entry)) ∷ (codes "above", triggers.number_or_null [] above) ∷ (codes "below", triggers.number_or_null [] below) ∷ []))) }
+    ensures { IfOk result (λ v. v
+        ≡ Map (head (codes "numeric_state") id.now idx
+        ++ ((codes "entity_id", Value.Text (entity_text entity.now))
+        ∷ (codes "from_state", triggers.state_value [] entity.now (option_copied old.entry))
+        ∷ (codes "to_state", triggers.state_value [] entity.now (option_copied new.entry))
+        ∷ (codes "above", triggers.number_or_null [] above) ∷ (codes "below", triggers.number_or_null [] below) ∷ []))) }
 {
-    let mut pairs = head(alloc, "numeric_state", trigger, 8)?;
-    pairs.append(numeric_pairs(alloc, above, below, entity, old, new)?)?;
+    let mut pairs = head(alloc, "numeric_state", id, idx, 8)?;
+    pairs.append(numeric_pairs(alloc, entity, old, new, above, below)?)?;
     Ok(Value::Pairs(pairs))
 }
 
@@ -228,24 +254,57 @@ fn event_pairs(
     Ok(event)
 }
 
-/// The variables of an event trigger.
-pub fn event_variables(
+/// Of an event trigger.
+pub(crate) fn event_value(
     alloc: Global,
-    trigger: &Trigger,
+    id: &Word,
+    idx: u32,
     kind: &Word,
     fields: &Many<(Word, Value)>,
 ) -> Result<Value, AllocError>
-    ensures { IfOk result (λ v. v ≡ Map (triggers.head_pairs [] (codes "event") trigger.now ++ ((codes "event", Map ((codes "event_type", Value.Text kind.now) ∷ (codes "data", Map fields.now) ∷ [])) ∷ []))) }
+    ensures { IfOk result (λ v. v
+        ≡ Map (head (codes "event") id.now idx
+        ++ ((codes "event", Map ((codes "event_type", Value.Text kind.now) ∷ (codes "data", Map fields.now) ∷ [])) ∷ []))) }
 {
-    let mut pairs = head(alloc, "event", trigger, 4)?;
+    let mut pairs = head(alloc, "event", id, idx, 4)?;
     let event = event_pairs(alloc, kind, fields)?;
     add(alloc, &mut pairs, "event", Value::Pairs(event))?;
     Ok(Value::Pairs(pairs))
 }
 
-/// The variables of the triggers that have no others.
-pub fn bare_variables(alloc: Global, platform: &str, trigger: &Trigger) -> Result<Value, AllocError>
-    ensures { IfOk result (λ v. v ≡ Map (triggers.head_pairs [] platform.now trigger.now)) }
+/// Of the triggers that have no other pairs.
+pub(crate) fn bare_value(
+    alloc: Global,
+    platform: &str,
+    id: &Word,
+    idx: u32,
+) -> Result<Value, AllocError>
+    ensures { IfOk result (λ v. v ≡ Map (head platform.now id.now idx)) }
 {
-    Ok(Value::Pairs(head(alloc, platform, trigger, 3)?))
+    Ok(Value::Pairs(head(alloc, platform, id, idx, 3)?))
+}
+
+/// The value of the first pair of that name.
+fn named<'a>(pairs: &'a [(Word, Value)], name: &[u8]) -> Option<&'a Value>
+    ensures { option_copied result ≡ words.first_pair name.now pairs.now }
+{
+    for pair in pairs {
+        if pair.0.bytes() == name {
+            return Some(&pair.1);
+        }
+    }
+    None
+}
+
+/// The id that a trigger's variables name; it is a text.
+pub(crate) fn id_in(variables: &Value) -> Option<&Word>
+    ensures { option_copied result ≡ text_of (field_of variables.now (codes "id")) }
+{
+    let Value::Pairs(pairs) = variables else {
+        return None;
+    };
+    match named(pairs.as_slice(), b"id") {
+        Some(Value::Text(id)) => Some(id),
+        _ => None,
+    }
 }

@@ -1,6 +1,6 @@
 use Rattle.std.proofs.Common.{arith, ◌∙◌, sym}
-use Rattle.tpl_eval.proofs.NameLemmas.{last-found, last-passed}
-use Rattle.tpl_eval.proofs.scope.last_value.Goals as goal
+use Rattle.ha_model.proofs.NameLemmas.{last-found, last-passed}
+use Rattle.ha_model.proofs.parts.last_pair.Goals as goal
 
 pub returns-then-same_text : goal.returns-then-same_text
 returns-then-same_text c =

@@ -1,6 +1,6 @@
 use Rattle.std.proofs.Common.{◌≡◌, ◌≤◌, length, take}
 use Rattle.ha_model.specs.Words.{last_pair}
-use Rattle.tpl_eval.proofs.scope.last_value.Given as goal
+use Rattle.ha_model.proofs.parts.last_pair.Given as goal
 
 -- the name is not behind this place
 abbrev pub invariant-loop-left : goal.invariant-loop-left

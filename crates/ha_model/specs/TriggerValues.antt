@@ -1,0 +1,37 @@
+-- The value of the variable `trigger`, by what is kept of a firing; and a list of variables that begins with it.
+use Rattle.std.specs.Prelude.{ℕ, [], ◌∷◌, ◌++◌, Option, Some, None, codes, decimal}
+use Rattle.ha_value.specs.declared.value.Value.{Value}
+use Rattle.ha_value.specs.declared.value.Value.TheVariants.{Pairs as Map}
+use Rattle.ha_value.specs.Ids.{entity_text}
+use Rattle.ha_model.specs.declared.trigger_data.Kind.{Kind}
+use Rattle.ha_model.specs.Variables.{event_pairs, number_or_null, state_value, text_or_null}
+use Rattle.ha_model.specs.Words.{Text, Pairs}
+
+-- what each trigger gives: its platform, its id and its index
+abbrev pub head : Text → Text → ℕ → Pairs
+head platform id idx =
+    (codes "platform", Value.Text platform) ∷ (codes "id", Value.Text id) ∷ (codes "idx", Value.Text (decimal idx)) ∷ []
+
+abbrev pub value_of : Kind → Value
+value_of (Kind.Whole value) = value
+value_of (Kind.Bare platform id idx) = Map (head platform id idx)
+value_of (Kind.State id idx entity old new attribute) =
+    Map (head (codes "state") id idx
+    ++ ((codes "entity_id", Value.Text (entity_text entity))
+    ∷ (codes "from_state", state_value [] entity old)
+    ∷ (codes "to_state", state_value [] entity new)
+    ∷ (codes "attribute", text_or_null [] attribute) ∷ []))
+value_of (Kind.Numeric id idx entity old new above below) =
+    Map (head (codes "numeric_state") id idx
+    ++ ((codes "entity_id", Value.Text (entity_text entity))
+    ∷ (codes "from_state", state_value [] entity old)
+    ∷ (codes "to_state", state_value [] entity new)
+    ∷ (codes "above", number_or_null [] above)
+    ∷ (codes "below", number_or_null [] below) ∷ []))
+value_of (Kind.Event id idx kind pairs) =
+    Map (head (codes "event") id idx ++ ((codes "event", Map (event_pairs [] (kind, pairs))) ∷ []))
+
+-- the variables that a script sees begin with it, where its data is kept
+abbrev pub trigger_pairs : Option Value → Pairs
+trigger_pairs None = []
+trigger_pairs (Some value) = (codes "trigger", value) ∷ []
