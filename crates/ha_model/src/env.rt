@@ -82,11 +82,11 @@ fn is_trigger(name: &Word) -> bool
     name.bytes() == b"trigger".as_slice()
 }
 
-fn copied(alloc: Global, trigger: &Option<TriggerData>) -> Result<Option<TriggerData>, AllocError>
+fn shared(trigger: &Option<TriggerData>) -> Result<Option<TriggerData>, AllocError>
     ensures { IfOk result (λ made. made ≡ trigger.now) }
 {
     match trigger {
-        Some(data) => Ok(Some(data.copy(alloc)?)),
+        Some(data) => Ok(Some(data.share()?)),
         None => Ok(None),
     }
 }
@@ -124,7 +124,7 @@ impl Env {
     pub fn copy(&self, alloc: Global) -> Result<Env, AllocError>
         ensures { IfOk result (λ made. made ≡ self.now) }
     {
-        let trigger = copied(alloc, &self.trigger)?;
+        let trigger = shared(&self.trigger)?;
         let pairs = copy_pairs(alloc, &self.pairs)?;
         Ok(Env {
             trigger,

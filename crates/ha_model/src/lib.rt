@@ -9,6 +9,7 @@ mod faults;
 mod journal;
 mod names;
 mod parts;
+mod shared;
 mod steps;
 mod template;
 mod texts;

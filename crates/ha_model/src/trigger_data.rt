@@ -9,15 +9,16 @@ ghost use Rattle.ha_model.specs.Values.{field_of, text_of};
 
 use crate::config::Trigger;
 use crate::journal::StateObject;
+use crate::shared::Shared;
 use crate::trigger_pairs::{bare_value, event_value, id_in, numeric_value, state_value};
-use ha_value::{Boxed, EntityId, Many, Num, Plain, Value, Word, copy_pairs};
+use ha_value::{EntityId, Many, Num, Plain, Value, Word, copy_pairs};
 use std::alloc::{AllocError, Global};
 use std::marker::Model;
 
-/// The value of the variable `trigger`, as what it is made of.
+/// The value of the variable `trigger`, as what it is made of. A run, its record and its frames share one.
 #[derive(Drop)]
 pub struct TriggerData {
-    kind: Boxed<Kind>,
+    kind: Shared<Kind>,
 }
 
 impl Model for TriggerData {
@@ -83,62 +84,6 @@ fn copied_state(
 }
 
 impl Kind {
-    fn copy(&self, alloc: Global) -> Result<Kind, AllocError>
-        ensures { IfOk result (λ made. made ≡ self.now) }
-    {
-        match self {
-            Kind::Whole(value) => Ok(Kind::Whole(value.copy(alloc)?)),
-            Kind::Bare { platform, id, idx } => Ok(Kind::Bare {
-                platform: platform.copy(alloc)?,
-                id: id.copy(alloc)?,
-                idx: *idx,
-            }),
-            Kind::State {
-                id,
-                idx,
-                entity,
-                old,
-                new,
-                attribute,
-            } => Ok(Kind::State {
-                id: id.copy(alloc)?,
-                idx: *idx,
-                entity: entity.copy(alloc)?,
-                old: old.copy(alloc)?,
-                new: new.copy(alloc)?,
-                attribute: attribute.copy(alloc)?,
-            }),
-            Kind::Numeric {
-                id,
-                idx,
-                entity,
-                old,
-                new,
-                above,
-                below,
-            } => Ok(Kind::Numeric {
-                id: id.copy(alloc)?,
-                idx: *idx,
-                entity: entity.copy(alloc)?,
-                old: old.copy(alloc)?,
-                new: new.copy(alloc)?,
-                above: *above,
-                below: *below,
-            }),
-            Kind::Event {
-                id,
-                idx,
-                kind,
-                pairs,
-            } => Ok(Kind::Event {
-                id: id.copy(alloc)?,
-                idx: *idx,
-                kind: kind.copy(alloc)?,
-                pairs: copy_pairs(alloc, pairs.as_slice())?,
-            }),
-        }
-    }
-
     /// The pairs, made.
     fn value(&self, alloc: Global) -> Result<Value, AllocError>
         ensures { IfOk result (λ v. v ≡ value_of self.now) }
@@ -196,7 +141,7 @@ impl TriggerData {
         ensures { IfOk result (λ d. d ≡ value_of kind) }
     {
         Ok(TriggerData {
-            kind: Boxed::new(alloc, kind)?,
+            kind: Shared::new(alloc, kind)?,
         })
     }
 
@@ -313,10 +258,13 @@ impl TriggerData {
         self.kind.get().value(alloc)
     }
 
-    pub fn copy(&self, alloc: Global) -> Result<TriggerData, AllocError>
+    /// The same data, shared.
+    pub fn share(&self) -> Result<TriggerData, AllocError>
         ensures { IfOk result (λ made. made ≡ self.now) }
     {
-        TriggerData::of(alloc, self.kind.get().copy(alloc)?)
+        Ok(TriggerData {
+            kind: self.kind.share()?,
+        })
     }
 
     /// The id of the trigger, where the value has one that is a text.
