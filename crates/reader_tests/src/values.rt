@@ -1,6 +1,7 @@
 //! Worked numbers, texts, ids and lists, and each public call once with ample memory.
 use ha_value::{
-    Boxed, EntityFault, EntityId, Many, Num, NumFault, Plain, Value, Word, WordFault, says_yes_text,
+    Boxed, EntityFault, EntityId, Many, Num, NumFault, Plain, Value, Word, WordFault, push_text,
+    push_value, says_yes_text,
 };
 use std::alloc::{AllocError, Global};
 use std::cmp::Ordering;
@@ -8,14 +9,6 @@ use std::cmp::Ordering;
 fn is(found: Result<Num, NumFault>, wanted: Num) -> bool {
     match found {
         Ok(number) => number == wanted,
-        Err(_) => false,
-    }
-}
-
-/// Whether it is so, where there is memory for it.
-fn is_true(found: Result<bool, AllocError>) -> bool {
-    match found {
-        Ok(is) => is,
         Err(_) => false,
     }
 }
@@ -217,7 +210,7 @@ fn is_no_id(alloc: Global, text: &str) -> bool {
 fn ids(rt: HostRuntime) {
     let alloc = rt.alloc();
     assert!(rt;
-        is_true(is_id(alloc, "light.hall_2", "hall_2"))
+        is_id(alloc, "light.hall_2", "hall_2").unwrap_or(false)
             && is_no_id(alloc, "Light")
             && is_no_id(alloc, "light.Hall")
     );
@@ -250,9 +243,137 @@ fn truths(rt: HostRuntime) {
         says_yes_text(b" \tEnable ")
             && !says_yes_text(b"0.0")
             && Value::Number(Num::Whole(2)).says_yes()
-            && is_true(is_truth(alloc, "off", true, false))
-            && is_true(is_true_list(alloc))
+            && is_truth(alloc, "off", true, false).unwrap_or(false)
+            && is_true_list(alloc).unwrap_or(false)
     );
+}
+
+/// Whether the value is this text.
+fn is_text_value(value: &Value, wanted: &str) -> bool {
+    match value {
+        Value::Text(text) => text.as_str() == wanted,
+        _ => false,
+    }
+}
+
+/// Whether a text is copied into the place of another, as a word and as a value.
+fn is_copied_over(alloc: Global, text: &str, other: &str) -> Result<bool, AllocError> {
+    let word = Word::from_str(alloc, text)?;
+    let mut place = Word::from_str(alloc, other)?;
+    word.copy_to(alloc, &mut place)?;
+    let mut value = Value::Text(Word::from_str(alloc, other)?);
+    Value::Text(word).copy_to(alloc, &mut value)?;
+    Ok(place.as_str() == text && is_text_value(&value, text))
+}
+
+fn are_copied_over(alloc: Global, texts: &[&str]) -> Result<bool, AllocError> {
+    for text in texts {
+        for other in texts {
+            if !is_copied_over(alloc, text, other)? {
+                return Ok(false);
+            }
+        }
+    }
+    Ok(true)
+}
+
+/// Whether a short text is written over each of the others, and over a number.
+fn is_set_over(alloc: Global, others: &[&str]) -> Result<bool, AllocError> {
+    let mut value = Value::Number(Num::Whole(2));
+    value.set_short_text(alloc, "on");
+    let mut set = is_text_value(&value, "on");
+    for other in others {
+        let mut word = Word::from_str(alloc, other)?;
+        word.set_short("off");
+        let mut value = Value::Text(Word::from_str(alloc, other)?);
+        value.set_short_text(alloc, "");
+        set = set && word.as_str() == "off" && is_text_value(&value, "");
+    }
+    Ok(set)
+}
+
+#[test]
+fn words_over_words(rt: HostRuntime) {
+    let alloc = rt.alloc();
+    let texts = [
+        "",
+        "on",
+        "abcdefghijklmnopqrstuv",
+        "abcdefghijklmnopqrstuvw",
+        "the lamp of the hall of the house",
+    ];
+    assert!(rt;
+        are_copied_over(alloc, &texts).unwrap_or(false)
+            && is_set_over(alloc, &texts).unwrap_or(false)
+    );
+}
+
+/// Two pairs, of which the first has a long name and a long text.
+fn two_pairs(alloc: Global) -> Result<Many<(Word, Value)>, AllocError> {
+    let mut pairs = Many::make(alloc);
+    push_text(
+        alloc,
+        &mut pairs,
+        "name_of_the_lamp_of_the_hall",
+        "the lamp of the hall",
+    )?;
+    push_value(alloc, &mut pairs, "level", Value::Number(Num::Whole(40)))?;
+    Ok(pairs)
+}
+
+fn is_pair(pair: Option<&(Word, Value)>, name: &str, value: &Value) -> bool {
+    match pair {
+        Some(pair) => pair.0.as_str() == name && pair.1.same(value),
+        None => false,
+    }
+}
+
+fn are_two(alloc: Global) -> Result<bool, AllocError> {
+    let pairs = two_pairs(alloc)?;
+    let text = Value::Text(Word::from_str(alloc, "the lamp of the hall")?);
+    Ok(
+        pairs.len() == 2
+            && is_pair(pairs.get(0), "name_of_the_lamp_of_the_hall", &text)
+            && is_pair(pairs.get(1), "level", &Value::Number(Num::Whole(40))),
+    )
+}
+
+/// A value of each kind.
+fn kinds(alloc: Global) -> Result<Many<Value>, AllocError> {
+    let mut kinds = Many::make(alloc);
+    kinds.push(Value::Null)?;
+    kinds.push(Value::Flag(true))?;
+    kinds.push(Value::Number(Num::Whole(2)))?;
+    kinds.push(Value::Text(Word::from_str(alloc, "on")?))?;
+    kinds.push(Value::Items(list_of_none(alloc)?))?;
+    kinds.push(Value::Pairs(two_pairs(alloc)?))?;
+    Ok(kinds)
+}
+
+/// Whether each value, copied into the place of each, is itself and none of the others.
+fn is_each_copied(alloc: Global, kinds: &[Value]) -> Result<bool, AllocError> {
+    for from in 0..kinds.len() {
+        for other in 0..kinds.len() {
+            let mut place = kinds[other].copy(alloc)?;
+            kinds[from].copy_to(alloc, &mut place)?;
+            for at in 0..kinds.len() {
+                if place.same(&kinds[at]) != (at == from) {
+                    return Ok(false);
+                }
+            }
+        }
+    }
+    Ok(true)
+}
+
+fn are_kinds_copied(alloc: Global) -> Result<bool, AllocError> {
+    is_each_copied(alloc, kinds(alloc)?.as_slice())
+}
+
+#[test]
+fn values_over_values(rt: HostRuntime) {
+    let alloc = rt.alloc();
+    assert!(rt; are_two(alloc).unwrap_or(false) && are_kinds_copied(alloc).unwrap_or(false));
 }
 
 /// A list of three numbers, of which the second came last and the first was set anew.
@@ -306,5 +427,5 @@ fn is_list(alloc: Global, wanted: &[u32]) -> Result<bool, AllocError> {
 #[test]
 fn lists(rt: HostRuntime) {
     let alloc = rt.alloc();
-    assert!(rt; is_true(is_list(alloc, &[7, 5, 2])) && is_true(is_held(alloc)));
+    assert!(rt; is_list(alloc, &[7, 5, 2]).unwrap_or(false) && is_held(alloc).unwrap_or(false));
 }

@@ -98,17 +98,9 @@ fn gives(
     }
 }
 
-/// Whether it is so, where there is memory for it.
-fn is_true(found: Result<bool, AllocError>) -> bool {
-    match found {
-        Ok(is) => is,
-        Err(_) => false,
-    }
-}
-
 /// Whether the trace of these parts is given this status, with these calls and errors.
 fn is_given(alloc: Global, parts: &[&str], wanted: Wanted<'_>) -> bool {
-    is_true(gives(alloc, parts, &[], wanted))
+    gives(alloc, parts, &[], wanted).unwrap_or(false)
 }
 
 /// Whether it is refused.
@@ -227,12 +219,13 @@ fn stored_switches_in_their_order(rt: HostRuntime) {
 #[test]
 fn the_read_fails(rt: HostRuntime) {
     assert!(rt;
-        is_true(gives(
+        gives(
             rt.alloc(),
             &[BOOT, FIRST, "{\"end\":2}\n"],
             &[1],
             (4, "", "hearth: source 0 failed\n")
-        ))
+        )
+        .unwrap_or(false)
     );
 }
 
@@ -249,15 +242,15 @@ fn a_home_is_replayed(rt: HostRuntime) {
 
 #[test]
 fn each_front_is_refused(rt: HostRuntime) {
-    assert!(rt; is_true(are_fronts_refused(rt.alloc(), &[HOME, STEPS, LATER, LAST])));
+    assert!(rt; are_fronts_refused(rt.alloc(), &[HOME, STEPS, LATER, LAST]).unwrap_or(false));
 }
 
 #[test]
 fn each_changed_byte_of_a_step_is_refused(rt: HostRuntime) {
-    assert!(rt; is_true(is_each_byte_told(rt.alloc(), &[HOME], STEPS, &[LATER, LAST])));
+    assert!(rt; is_each_byte_told(rt.alloc(), &[HOME], STEPS, &[LATER, LAST]).unwrap_or(false));
 }
 
 #[test]
 fn each_changed_byte_of_the_last_lines_is_refused(rt: HostRuntime) {
-    assert!(rt; is_true(is_each_byte_told(rt.alloc(), &[HOME, STEPS, LATER], LAST, &[])));
+    assert!(rt; is_each_byte_told(rt.alloc(), &[HOME, STEPS, LATER], LAST, &[]).unwrap_or(false));
 }

@@ -31,18 +31,10 @@ fn told(alloc: Global, mode: Mode, max: u32, wanted: &[Admission]) -> Result<boo
     Ok(true)
 }
 
-/// Whether it is so, where there is memory for it.
-fn is_true(found: Result<bool, AllocError>) -> bool {
-    match found {
-        Ok(is) => is,
-        Err(_) => false,
-    }
-}
-
 /// Whether, at each limit, the attempts at one entry are told these in turn.
 fn are_told(alloc: Global, mode: Mode, rows: &[(u32, &[Admission])]) -> bool {
     for row in rows {
-        if !is_true(told(alloc, mode, row.0, row.1)) {
+        if !told(alloc, mode, row.0, row.1).unwrap_or(false) {
             return false;
         }
     }
@@ -236,7 +228,7 @@ fn numbers_go_on(alloc: Global) -> Result<bool, AllocError> {
 
 #[test]
 fn a_refused_attempt_has_no_number(rt: HostRuntime) {
-    assert!(rt; is_true(numbers_go_on(rt.alloc())));
+    assert!(rt; numbers_go_on(rt.alloc()).unwrap_or(false));
 }
 
 fn queue_goes_on(alloc: Global) -> Result<bool, AllocError> {
@@ -256,7 +248,7 @@ fn queue_goes_on(alloc: Global) -> Result<bool, AllocError> {
 
 #[test]
 fn a_queue_begins_in_its_order(rt: HostRuntime) {
-    assert!(rt; is_true(queue_goes_on(rt.alloc())));
+    assert!(rt; queue_goes_on(rt.alloc()).unwrap_or(false));
 }
 
 fn stopped_queue(alloc: Global) -> Result<bool, AllocError> {
@@ -270,7 +262,7 @@ fn stopped_queue(alloc: Global) -> Result<bool, AllocError> {
 
 #[test]
 fn a_waiting_run_that_is_stopped_never_begins(rt: HostRuntime) {
-    assert!(rt; is_true(stopped_queue(rt.alloc())));
+    assert!(rt; stopped_queue(rt.alloc()).unwrap_or(false));
 }
 
 fn stopped_at_an_end(alloc: Global) -> Result<bool, AllocError> {
@@ -285,7 +277,7 @@ fn stopped_at_an_end(alloc: Global) -> Result<bool, AllocError> {
 
 #[test]
 fn a_stop_at_the_entry_of_an_end_begins_none(rt: HostRuntime) {
-    assert!(rt; is_true(stopped_at_an_end(rt.alloc())));
+    assert!(rt; stopped_at_an_end(rt.alloc()).unwrap_or(false));
 }
 
 fn replaced_at_its_begin(alloc: Global) -> Result<bool, AllocError> {
@@ -299,7 +291,7 @@ fn replaced_at_its_begin(alloc: Global) -> Result<bool, AllocError> {
 
 #[test]
 fn a_run_that_is_replaced_where_it_began_has_begun(rt: HostRuntime) {
-    assert!(rt; is_true(replaced_at_its_begin(rt.alloc())));
+    assert!(rt; replaced_at_its_begin(rt.alloc()).unwrap_or(false));
 }
 
 fn done_before_the_next(alloc: Global) -> Result<bool, AllocError> {
@@ -311,7 +303,7 @@ fn done_before_the_next(alloc: Global) -> Result<bool, AllocError> {
 
 #[test]
 fn a_run_that_is_done_is_not_replaced(rt: HostRuntime) {
-    assert!(rt; is_true(done_before_the_next(rt.alloc())));
+    assert!(rt; done_before_the_next(rt.alloc()).unwrap_or(false));
 }
 
 /// Whether the calls of these runs, which are two at most, are counted so.
@@ -331,5 +323,5 @@ fn are_counted(alloc: Global, serials: &[u64], calls: &[u64]) -> Result<bool, Al
 
 #[test]
 fn a_call_counts_for_its_run(rt: HostRuntime) {
-    assert!(rt; is_true(are_counted(rt.alloc(), &[2, 1, 2, 3], &[1, 2])));
+    assert!(rt; are_counted(rt.alloc(), &[2, 1, 2, 3], &[1, 2]).unwrap_or(false));
 }

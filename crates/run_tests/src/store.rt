@@ -95,14 +95,6 @@ fn is_stored_as(
     Ok(switches.store_text(alloc)?.as_str() == again)
 }
 
-/// Whether it is so, where there is memory for it.
-fn is_true(found: Result<bool, AllocError>) -> bool {
-    match found {
-        Ok(is) => is,
-        Err(_) => false,
-    }
-}
-
 #[test]
 fn the_keys_of_a_store_come_in_any_order(rt: HostRuntime) {
     let texts = [
@@ -207,14 +199,14 @@ fn another_version_is_s3(rt: HostRuntime) {
 fn names_are_stored_in_byte_order(rt: HostRuntime) {
     let stored = "{\"switches\":{\"cellar\":true,\"porch\":false},\"version\":1}";
     let again = "{\"switches\":{\"attic\":true,\"porch\":false},\"version\":1}";
-    assert!(rt; is_true(is_stored_as(rt.alloc(), stored, None, again)));
+    assert!(rt; is_stored_as(rt.alloc(), stored, None, again).unwrap_or(false));
 }
 
 #[test]
 fn an_initial_state_stands_over_the_store(rt: HostRuntime) {
     let stored = "{\"switches\":{\"attic\":true},\"version\":1}";
     let again = "{\"switches\":{\"attic\":false,\"porch\":true},\"version\":1}";
-    assert!(rt; is_true(is_stored_as(rt.alloc(), stored, Some(false), again)));
+    assert!(rt; is_stored_as(rt.alloc(), stored, Some(false), again).unwrap_or(false));
 }
 
 /// Whether the porch and the attic are so, and there is no third switch.
@@ -237,5 +229,5 @@ fn go(alloc: Global) -> Result<bool, AllocError> {
 
 #[test]
 fn a_restart_sets_the_initial_states_alone(rt: HostRuntime) {
-    assert!(rt; is_true(go(rt.alloc())));
+    assert!(rt; go(rt.alloc()).unwrap_or(false));
 }

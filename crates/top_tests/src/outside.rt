@@ -59,14 +59,6 @@ fn writes(sink: &mut MemSink, rows: &[(&[u8], Option<usize>)]) -> bool {
     true
 }
 
-/// Whether it is so, where there is memory for it.
-fn is_true(found: Result<bool, AllocError>) -> bool {
-    match found {
-        Ok(is) => is,
-        Err(_) => false,
-    }
-}
-
 fn fails_at_its_second(alloc: Global) -> Result<bool, AllocError> {
     let fails = numbers(alloc, &[2])?;
     let mut source = MemSource::make(text(alloc, "s")?, bytes(alloc, "abc")?, fails);
@@ -84,7 +76,7 @@ fn fails_at_its_second(alloc: Global) -> Result<bool, AllocError> {
 
 #[test]
 fn a_source_gives_what_fits_and_fails_at_its_number(rt: HostRuntime) {
-    assert!(rt; is_true(fails_at_its_second(rt.alloc())));
+    assert!(rt; fails_at_its_second(rt.alloc()).unwrap_or(false));
 }
 
 fn fails_in_both_lists(alloc: Global) -> Result<bool, AllocError> {
@@ -106,7 +98,7 @@ fn fails_in_both_lists(alloc: Global) -> Result<bool, AllocError> {
 
 #[test]
 fn a_write_in_both_lists_fails(rt: HostRuntime) {
-    assert!(rt; is_true(fails_in_both_lists(rt.alloc())));
+    assert!(rt; fails_in_both_lists(rt.alloc()).unwrap_or(false));
 }
 
 fn is_text(found: &[u8], wanted: Option<&[u8]>) -> bool {
@@ -145,7 +137,7 @@ fn keeps_the_old(alloc: Global) -> Result<bool, AllocError> {
 
 #[test]
 fn a_refused_save_leaves_the_text(rt: HostRuntime) {
-    assert!(rt; is_true(keeps_the_old(rt.alloc())));
+    assert!(rt; keeps_the_old(rt.alloc()).unwrap_or(false));
 }
 
 /// A place with one file, whose source and sink fail at their first call, and whose second call fails; none where two files have one name.
@@ -191,7 +183,7 @@ fn is_read_once(alloc: Global) -> Result<bool, AllocError> {
 
 #[test]
 fn a_place_reads_by_name(rt: HostRuntime) {
-    assert!(rt; is_true(is_read_once(rt.alloc())));
+    assert!(rt; is_read_once(rt.alloc()).unwrap_or(false));
 }
 
 /// Whether the file of this name is opened, and the writes take so many bytes, or fail where none is wanted; and then it is flushed, where
@@ -227,7 +219,7 @@ fn is_written_once(alloc: Global) -> Result<bool, AllocError> {
 
 #[test]
 fn a_place_writes_by_name(rt: HostRuntime) {
-    assert!(rt; is_true(is_written_once(rt.alloc())));
+    assert!(rt; is_written_once(rt.alloc()).unwrap_or(false));
 }
 
 #[test]

@@ -1,6 +1,6 @@
 //! Triggers with `for`.
 use crate::home::Step::{Clock, Gone, Has, Restart, Says};
-use crate::home::{Expected, goes_at_eight, goes_until_detached, is_true, row};
+use crate::home::{Expected, goes_at_eight, goes_until_detached, row};
 use crate::triggers::{held, over_twenty, state, text};
 use ha_model::Match;
 use std::alloc::{AllocError, Global};
@@ -25,7 +25,7 @@ fn a_change_cuts_a_hold(rt: HostRuntime) {
         row(Clock(8_000), &[0]),
         row(Clock(20_000), &[]),
     ];
-    assert!(rt; is_true(door_fires(rt.alloc(), &rows)));
+    assert!(rt; door_fires(rt.alloc(), &rows).unwrap_or(false));
 }
 
 #[test]
@@ -38,7 +38,7 @@ fn the_same_state_again_leaves_a_hold(rt: HostRuntime) {
         row(Clock(5_000), &[0]),
         row(Clock(9_000), &[]),
     ];
-    assert!(rt; is_true(door_fires(rt.alloc(), &rows)));
+    assert!(rt; door_fires(rt.alloc(), &rows).unwrap_or(false));
 }
 
 #[test]
@@ -49,7 +49,7 @@ fn what_goes_cuts_a_hold(rt: HostRuntime) {
         row(Gone(DOOR), &[]),
         row(Clock(6_000), &[]),
     ];
-    assert!(rt; is_true(door_fires(rt.alloc(), &rows)));
+    assert!(rt; door_fires(rt.alloc(), &rows).unwrap_or(false));
 }
 
 #[test]
@@ -62,7 +62,7 @@ fn a_restart_cuts_a_hold(rt: HostRuntime) {
         row(Says(DOOR, "on"), &[]),
         row(Clock(11_000), &[0]),
     ];
-    assert!(rt; is_true(door_fires(rt.alloc(), &rows)));
+    assert!(rt; door_fires(rt.alloc(), &rows).unwrap_or(false));
 }
 
 /// Whether an attribute that is to be as it is for five seconds, whatever it is, fires as wanted.
@@ -82,7 +82,7 @@ fn an_absent_attribute_stays_absent_over_a_gone(rt: HostRuntime) {
         row(Clock(5_000), &[]),
         row(Clock(6_000), &[0]),
     ];
-    assert!(rt; is_true(attribute_fires(rt.alloc(), &rows)));
+    assert!(rt; attribute_fires(rt.alloc(), &rows).unwrap_or(false));
 }
 
 #[test]
@@ -95,7 +95,7 @@ fn an_attribute_that_comes_cuts_the_hold_of_its_absence(rt: HostRuntime) {
         row(Clock(5_000), &[]),
         row(Clock(9_000), &[0]),
     ];
-    assert!(rt; is_true(attribute_fires(rt.alloc(), &rows)));
+    assert!(rt; attribute_fires(rt.alloc(), &rows).unwrap_or(false));
 }
 
 fn both_end(alloc: Global) -> Result<bool, AllocError> {
@@ -113,7 +113,7 @@ fn both_end(alloc: Global) -> Result<bool, AllocError> {
 
 #[test]
 fn holds_may_end_together(rt: HostRuntime) {
-    assert!(rt; is_true(both_end(rt.alloc())));
+    assert!(rt; both_end(rt.alloc()).unwrap_or(false));
 }
 
 /// A number in its bounds leaves a hold, and so does a text that is no number.
@@ -133,7 +133,7 @@ fn number_holds(alloc: Global) -> Result<bool, AllocError> {
 
 #[test]
 fn a_number_that_stays_in_its_bounds_holds(rt: HostRuntime) {
-    assert!(rt; is_true(number_holds(rt.alloc())));
+    assert!(rt; number_holds(rt.alloc()).unwrap_or(false));
 }
 
 /// Whether a hold fires no more once its trigger is detached, alone or with all.
@@ -158,6 +158,7 @@ fn ends_detached(alloc: Global, all: bool) -> Result<bool, AllocError> {
 #[test]
 fn what_is_detached_fires_no_more(rt: HostRuntime) {
     assert!(rt;
-        is_true(ends_detached(rt.alloc(), false)) && is_true(ends_detached(rt.alloc(), true))
+        ends_detached(rt.alloc(), false).unwrap_or(false)
+            && ends_detached(rt.alloc(), true).unwrap_or(false)
     );
 }

@@ -39,14 +39,6 @@ pub struct Expected<'a> {
     pub fire: &'a [u32],
 }
 
-/// Whether it is so, where there is memory for it.
-pub fn is_true(found: Result<bool, AllocError>) -> bool {
-    match found {
-        Ok(is) => is,
-        Err(_) => false,
-    }
-}
-
 pub fn row<'a>(step: Step<'a>, fire: &'a [u32]) -> Expected<'a> {
     Expected { step, fire }
 }

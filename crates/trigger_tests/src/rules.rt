@@ -3,7 +3,7 @@ ghost use Rattle.std.specs.Prelude.{IsTrue};
 ghost use Rattle.ha_model.specs.Sound.{is_sound_match};
 
 use crate::home::Step::{Clock, Event, Gone, Has, Restart, Says};
-use crate::home::{EIGHT, goes, goes_at_eight, is_true, row};
+use crate::home::{EIGHT, goes, goes_at_eight, row};
 use crate::triggers::{event, event_two, one, over_twenty, state, text, two};
 use ha_model::{Match, TriggerRule};
 use std::alloc::{AllocError, Global};
@@ -25,8 +25,8 @@ fn at_an_attribute(alloc: Global, to: Match, fire: &[u32]) -> Result<bool, Alloc
 #[test]
 fn an_attribute_fires_a_bare_trigger_alone(rt: HostRuntime) {
     assert!(rt;
-        is_true(at_an_attribute(rt.alloc(), Match::Absent, &[0]))
-            && is_true(at_an_attribute(rt.alloc(), Match::Any, &[]))
+        at_an_attribute(rt.alloc(), Match::Absent, &[0]).unwrap_or(false)
+            && at_an_attribute(rt.alloc(), Match::Any, &[]).unwrap_or(false)
     );
 }
 
@@ -44,7 +44,7 @@ fn reads_again(alloc: Global) -> Result<bool, AllocError> {
 
 #[test]
 fn a_report_equal_to_the_state_fires_nothing(rt: HostRuntime) {
-    assert!(rt; is_true(reads_again(rt.alloc())));
+    assert!(rt; reads_again(rt.alloc()).unwrap_or(false));
 }
 
 fn both_fire(alloc: Global) -> Result<bool, AllocError> {
@@ -60,7 +60,7 @@ fn both_fire(alloc: Global) -> Result<bool, AllocError> {
 
 #[test]
 fn two_triggers_fire_at_one_entry_in_their_order(rt: HostRuntime) {
-    assert!(rt; is_true(both_fire(rt.alloc())));
+    assert!(rt; both_fire(rt.alloc()).unwrap_or(false));
 }
 
 fn comes_into_bounds(alloc: Global) -> Result<bool, AllocError> {
@@ -92,7 +92,10 @@ fn goes_and_comes_back(alloc: Global) -> Result<bool, AllocError> {
 
 #[test]
 fn a_number_fires_once_inside_its_bounds(rt: HostRuntime) {
-    assert!(rt; is_true(comes_into_bounds(rt.alloc())) && is_true(goes_and_comes_back(rt.alloc())));
+    assert!(rt;
+        comes_into_bounds(rt.alloc()).unwrap_or(false)
+            && goes_and_comes_back(rt.alloc()).unwrap_or(false)
+    );
 }
 
 fn is_named_twice(alloc: Global) -> Result<bool, AllocError> {
@@ -113,7 +116,7 @@ fn is_named_twice(alloc: Global) -> Result<bool, AllocError> {
 
 #[test]
 fn an_entity_that_is_named_twice_fires_once(rt: HostRuntime) {
-    assert!(rt; is_true(is_named_twice(rt.alloc())));
+    assert!(rt; is_named_twice(rt.alloc()).unwrap_or(false));
 }
 
 fn comes_with_its_data(alloc: Global) -> Result<bool, AllocError> {
@@ -130,7 +133,7 @@ fn comes_with_its_data(alloc: Global) -> Result<bool, AllocError> {
 
 #[test]
 fn an_event_fires_by_its_type_and_its_data(rt: HostRuntime) {
-    assert!(rt; is_true(comes_with_its_data(rt.alloc())));
+    assert!(rt; comes_with_its_data(rt.alloc()).unwrap_or(false));
 }
 
 fn starts(alloc: Global) -> Result<bool, AllocError> {
@@ -141,5 +144,5 @@ fn starts(alloc: Global) -> Result<bool, AllocError> {
 
 #[test]
 fn a_start_trigger_fires_at_the_boot_alone(rt: HostRuntime) {
-    assert!(rt; is_true(starts(rt.alloc())));
+    assert!(rt; starts(rt.alloc()).unwrap_or(false));
 }

@@ -3,7 +3,7 @@ ghost use Rattle.std.specs.Prelude.{IfOk, IsTrue};
 ghost use Rattle.ha_model.specs.Sound.{is_sound_expr, is_sound_rule, may_hold};
 
 use crate::home::Step::{Clock, Gone, Says};
-use crate::home::{goes_at_eight, is_true, row};
+use crate::home::{goes_at_eight, row};
 use crate::triggers::{held, one};
 use ha_model::{Boxed, Expr, Many, Num, Op, Piece, Template, TriggerRule, Value, Word};
 use std::alloc::{AllocError, Global};
@@ -64,7 +64,7 @@ fn turns_true(alloc: Global) -> Result<bool, AllocError> {
 #[test]
 fn a_template_fires_where_it_turns_true(rt: HostRuntime) {
     // before the first report, and once the entity is gone, it fails, and so is not true
-    assert!(rt; is_true(turns_true(rt.alloc())));
+    assert!(rt; turns_true(rt.alloc()).unwrap_or(false));
 }
 
 fn stays_true(alloc: Global) -> Result<bool, AllocError> {
@@ -82,5 +82,5 @@ fn stays_true(alloc: Global) -> Result<bool, AllocError> {
 
 #[test]
 fn a_template_that_stays_true_holds(rt: HostRuntime) {
-    assert!(rt; is_true(stays_true(rt.alloc())));
+    assert!(rt; stays_true(rt.alloc()).unwrap_or(false));
 }

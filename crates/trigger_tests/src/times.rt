@@ -3,7 +3,7 @@ ghost use Rattle.std.specs.Prelude.{◌&&◌, IsTrue};
 ghost use Rattle.ha_model.specs.Sound.{is_sound_unit};
 
 use crate::home::Step::Clock;
-use crate::home::{EIGHT, Expected, goes, goes_at_eight, is_true, row};
+use crate::home::{EIGHT, Expected, goes, goes_at_eight, row};
 use crate::triggers::one;
 use ha_model::{Many, TriggerRule, Unit};
 use std::alloc::{AllocError, Global};
@@ -33,13 +33,13 @@ fn fires_at_half_past_two(
 fn a_time_that_the_clock_skips_does_not_come(rt: HostRuntime) {
     // twenty minutes later it is ten past three there; a day later half past two has come
     let rows = [row(Clock(1_200_000), &[]), row(Clock(86_400_000), &[0])];
-    assert!(rt; is_true(fires_at_half_past_two(rt.alloc(), BERLIN, SPRING, &rows)));
+    assert!(rt; fires_at_half_past_two(rt.alloc(), BERLIN, SPRING, &rows).unwrap_or(false));
 }
 
 #[test]
 fn a_time_that_comes_twice_fires_twice(rt: HostRuntime) {
     let rows = [row(Clock(2_700_000), &[0]), row(Clock(6_300_000), &[0])];
-    assert!(rt; is_true(fires_at_half_past_two(rt.alloc(), BERLIN, AUTUMN, &rows)));
+    assert!(rt; fires_at_half_past_two(rt.alloc(), BERLIN, AUTUMN, &rows).unwrap_or(false));
 }
 
 #[test]
@@ -51,7 +51,7 @@ fn a_second_is_passed_once(rt: HostRuntime) {
         row(Clock(14_400_999), &[]),
         row(Clock(14_401_000), &[]),
     ];
-    assert!(rt; is_true(fires_at_half_past_two(rt.alloc(), "+02:30", EIGHT, &rows)));
+    assert!(rt; fires_at_half_past_two(rt.alloc(), "+02:30", EIGHT, &rows).unwrap_or(false));
 }
 
 /// Whether a pattern fires as wanted where the clock goes on from eight at once.
@@ -77,13 +77,14 @@ fn passes(
 fn a_pattern_fires_once_for_many_seconds(rt: HostRuntime) {
     let two_days = [row(Clock(172_800_000), &[0])];
     assert!(rt;
-        is_true(passes(
+        passes(
             rt.alloc(),
             Unit::Every,
             Unit::Each(5),
             Unit::Exact(0),
             &two_days
-        ))
+        )
+        .unwrap_or(false)
     );
 }
 
@@ -93,12 +94,14 @@ fn a_pattern_fires_at_its_second(rt: HostRuntime) {
     let five_minutes = [row(Clock(299_999), &[]), row(Clock(300_000), &[0])];
     let three = [row(Clock(25_199_999), &[]), row(Clock(25_200_000), &[0])];
     assert!(rt;
-        is_true(passes(
+        passes(
             rt.alloc(),
             Unit::Every,
             Unit::Each(5),
             Unit::Exact(0),
             &five_minutes
-        )) && is_true(passes(rt.alloc(), Unit::Exact(3), Unit::Every, Unit::Every, &three))
+        )
+        .unwrap_or(false)
+            && passes(rt.alloc(), Unit::Exact(3), Unit::Every, Unit::Every, &three).unwrap_or(false)
     );
 }
