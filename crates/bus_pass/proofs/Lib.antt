@@ -1,4 +1,5 @@
 pub mod Lists
+pub mod HandLemmas
 pub mod Moves
 pub mod BootLemmas
 pub mod OriginLemmas
