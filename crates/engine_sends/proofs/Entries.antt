@@ -1,4 +1,4 @@
--- Entries of the journal, records of runs, states and waits may move between threads.
+-- Entries of the journal, records of runs and waits may move between threads.
 use mathlib.Core.List.{[], ◌∷◌}
 use denote.Builtin.{u64}
 use denote.Struct.Tuple.{Tuple}
@@ -9,10 +9,10 @@ use Rattle.ha_model.specs.contracts.journal.Item as Item
 use Rattle.ha_model.specs.contracts.journal.Entry as Entry
 use Rattle.ha_model.specs.contracts.journal.EndCause as EndCause
 use Rattle.ha_model.specs.contracts.journal.Record as Record
-use Rattle.ha_model.specs.contracts.journal.StateObject as StateObject
 use Rattle.ha_model.specs.contracts.journal.WaitAsk as WaitAsk
 use Rattle.ha_model.specs.contracts.journal.WaitEnd as WaitEnd
 use Rattle.ha_model.proofs.journal.EndCause.TheSendSync as cause
+use Rattle.engine_sends.proofs.Envs.{variables}
 use Rattle.engine_sends.proofs.Scripts.{scripts}
 
 pub command_field : IsSend Cmd.the_field.row
@@ -31,19 +31,13 @@ pub ended_field : IsSend (Option.the_field (Tuple (u64 ∷ EndCause.the_row ∷ 
 ended_field = search (cause.the_send, scripts) depth 60 fits 20000
 
 pub record_field : IsSend Record.the_field.row
-record_field = search (ended_field, scripts) depth 60 fits 20000
+record_field = search (ended_field, variables, scripts) depth 60 fits 20000
 
 pub record_send : IsSend Record.the_row
 record_send = search (record_field, sendable) depth 60 fits 20000
 
-pub state_field : IsSend StateObject.the_field.row
-state_field = search scripts depth 60 fits 20000
-
-pub state_send : IsSend StateObject.the_row
-state_send = search (state_field, sendable) depth 60 fits 20000
-
 pub ask_field : IsSend WaitAsk.the_field.row
-ask_field = search scripts depth 60 fits 20000
+ask_field = search (variables, scripts) depth 60 fits 20000
 
 pub end_field : IsSend WaitEnd.the_field.row
 end_field = search scripts depth 60 fits 20000
@@ -51,4 +45,4 @@ end_field = search scripts depth 60 fits 20000
 pub end_send : IsSend WaitEnd.the_row
 end_send = search (end_field, sendable) depth 60 fits 20000
 
-pub ruleset entries = (entry_send, record_send, state_send, ask_field, end_send, scripts)
+pub ruleset entries = (entry_send, record_send, ask_field, end_send, variables, scripts)

@@ -1,6 +1,7 @@
 mod Values
 mod Templates
 mod Triggers
+mod Envs
 mod Scripts
 mod Entries
 mod Frames

@@ -26,7 +26,7 @@ value_field = search (knot.send-Value, simple) depth 60 fits 20000
 pub value_send : IsSend Value.the_row
 value_send = search (value_field, sendable) depth 60 fits 20000
 
--- named values, as an environment has them
+-- named values, as a state and a command have them
 pub pairs_send : IsSend (Many.the_field (Tuple (Word.the_row ∷ Value.the_row ∷ []))).row
 pairs_send = search (value_send, simple) depth 60 fits 20000
 
