@@ -11,6 +11,11 @@ overflow_add-end c =
     let ns = c.as_slice-sizes.result.now in
     omega (arith, total-next ns c.loop-k.k c.loop-k-test.true, total-take (c.loop-k.k + 1) ns, c.loop-k.invariant.at, ap total c.as_slice-sizes.ensures, c.self.invariant, c.len-most.ensures)
 
+pub prove-unreachable-requires : goal.prove-unreachable-requires
+prove-unreachable-requires c =
+    let ns = c.as_slice-sizes.result.now in
+    omega (arith, total-next ns c.loop-k.k c.loop-k-test.true, total-take (c.loop-k.k + 1) ns, c.loop-k.invariant.at, ap total c.as_slice-sizes.ensures, c.self.invariant, c.len-most.ensures, c.if-prove.true)
+
 pub has_name-here-requires : goal.has_name-here-requires
 has_name-here-requires c =
     let ns = c.as_slice-sizes.result.now in
