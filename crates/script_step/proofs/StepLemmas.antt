@@ -267,16 +267,12 @@ put-back [] i y lt = absurd (omega (arith, lt))
 put-back (x ∷ xs) zero y lt = refl
 put-back (x ∷ xs) (suc i) y lt = ap (λ l. x ∷ l) (put-back xs i y (omega (arith, lt)))
 
--- the list that a side names is there, and may step
-pub may-inner : (strands : List Strand) (lists : List (List Action)) (i : ℕ) (c : Branch) (now : ℕ) (end : Option WaitEnd) → may_side (map may_step strands) lists (i ∷ c) now end ≡ true
-    → (x : Strand) × (slice_get strands i ≡ Some x) × (may_step x (nth_list lists i) c now end ≡ true)
-may-inner strands lists i c now end may = by strands i may
-  where
-    by : (xs : List Strand) (k : ℕ) → option_map_or (λ m. m (nth_list lists i) c now end) (slice_get (map may_step xs) k) false ≡ true
-        → (x : Strand) × (slice_get xs k ≡ Some x) × (may_step x (nth_list lists i) c now end ≡ true)
-    by [] k h = absurd cc
-    by (y ∷ ys) zero h = (y, refl, h)
-    by (y ∷ ys) (suc k) h = by ys k h
+-- the list that a side names may step
+pub may-inner : (strands : List Strand) (lists : List (List Action)) (path c : Branch) (i : ℕ) (now : ℕ) (end : Option WaitEnd) (x : Strand) → path ≡ i ∷ c
+    → may_side (map may_step strands) lists path now end ≡ true → slice_get strands i ≡ Some x → may_step x (nth_list lists i) c now end ≡ true
+may-inner strands lists path c i now end x path_is may get =
+    ap (λ o. option_map_or (λ m. m (nth_list lists i) c now end) o false) (sym (get-map may_step strands i x get))
+    ∙ (λ k. may_side (map may_step strands) lists (sym path_is k) now end) ∙ may
 
 -- ---- what holds in a list of a parallel block
 

@@ -1,9 +1,10 @@
-use Rattle.std.proofs.Common.{length, map, ◌≡◌, ◌∙◌, sym, ap, subst, List, ◌∷◌, ℕ, Some, insert}
+use Rattle.std.proofs.Common.{length, map, ◌≡◌, ◌∙◌, ◌+◌, ◌*◌, ◌<◌, ◌≤◌, sym, ap, subst, arith, rules, true, List, ◌∷◌, ℕ, Some, insert}
+use Rattle.std.proofs.lemmas.List.Edits.{length-remove}
 use Rattle.ha_model.specs.declared.config.Action.{Action}
 use Rattle.script_step.specs.declared.strand.Strand.{Strand}
-use Rattle.script_step.specs.Continuation.{last_action, lists_of}
+use Rattle.script_step.specs.Continuation.{last_action, lists_of, may_step}
 use Rattle.script_step.specs.Step.{IsStep, IsSide}
-use Rattle.script_step.proofs.StepLemmas.{may-ready, may-wait, step-ready, step-wait, step-sides, side-done, put-back, within}
+use Rattle.script_step.proofs.StepLemmas.{may-inner, may-ready, may-wait, step-ready, step-wait, step-sides, side-done, put-back, within}
 use Rattle.std.specs.Prelude.{nat_eq}
 use Rattle.script_step.specs.Sides.{all_settled, standing, is_settled, stage_settled}
 use Rattle.script_step.proofs.WholeLemmas.{plain-whole, whole-lists, whole-sides, strand-stands, settled-set, settled-get, set-many}
@@ -34,6 +35,28 @@ step-returns-in_ok-strands-in-Sides-clause-step g t c =
     let sight = g.A.Answers.sight c.args.answers.now in
     step-sides sight c.args.list.now c.args.path.now c.args.end c.args.strand c.behind-in-Sides.result c.in_ok-strands-in-Sides.item c.in-Sides.strands c.in_ok-strands-in-Sides.strands
     c.in-Sides.is c.in_ok-strands-in-Sides.ensures.step c.behind-in-Sides.ensures.means
+
+pub step_side-step-requires : goal.step_side-step-requires
+step_side-step-requires g t c κs lives =
+    let sight = g.A.Answers.sight c.args.answers.now in
+    let lists = lists_of (last_action c.args.list.now c.args.thread.now) in
+    let i = c.in-Some.first.now in
+    let rest = c.in-Some.rest.now in
+    let inner = c.remove-inner.result in
+    let path_is = c.in-Some.ensures.cases.0 in
+    let measure : 2 * length c.args.path.now ≡ t = c.decreases in
+    let less : 2 * length rest + 1 < t = omega (arith, measure, ap length path_is) in
+    let may : may_step inner c.side_list.result.now rest sight.now c.args.end ≡ true =
+    (λ k. may_step inner (c.side_list.ensures k) rest sight.now c.args.end)
+    ∙ may-inner c.args.strands lists c.args.path.now rest i sight.now c.args.end inner path_is c.requires.may c.remove-inner.ensures.item in
+    (less, (search rules, (may, c.requires.moment)))
+
+pub step_side-insert-requires : goal.step_side-insert-requires
+step_side-insert-requires g t c =
+    let i = c.in-Some.first.now in
+    let lt = within c.args.strands i c.remove-inner.result c.remove-inner.ensures.item in
+    let room : i ≤ length c.remove-inner.new.self = omega (arith, lt, length-remove c.args.strands i lt, ap length c.remove-inner.ensures.rest) in
+    room
 
 pub step_side-returns-clause-step : goal.step_side-returns-clause-step
 step_side-returns-clause-step g t c =
