@@ -5,7 +5,7 @@ ghost use Rattle.ha_model.specs.declared.journal.Record.{Record as Run};
 ghost use Rattle.ha_model.specs.Lawful.{record_of};
 ghost use Rattle.run_modes.specs.Table.{HasBegun};
 
-use ha_model::{EndCause, Many, Mode, Record};
+use ha_model::{EndCause, Env, Mode, Record};
 use run_modes::{Admission, Runs};
 use std::alloc::{AllocError, Global};
 
@@ -17,7 +17,7 @@ fn attempt(
     max: u32,
     place: u64,
 ) -> Result<Admission, AllocError> {
-    runs.attempt(0, mode, max, place, 0, Many::make(alloc))
+    runs.attempt(0, mode, max, place, 0, Env::none(alloc))
 }
 
 /// Whether the attempts at one entry are told these in turn.
