@@ -4,6 +4,7 @@ ghost use Rattle.ha_clock.specs.Local.{last_moment};
 ghost use Rattle.ha_model.specs.Journal.{Journal};
 ghost use Rattle.ha_model.specs.States.{automation_named};
 ghost use Rattle.ha_model.specs.Triggers.{sight as sight_at};
+ghost use Rattle.ha_model.specs.Words.{same};
 ghost use Rattle.cond_eval.specs.Seen.{IsViewOf, is_shown_on, seen};
 
 use crate::conditions::test;
@@ -11,7 +12,6 @@ use crate::view::View;
 use ha_clock::{Moment, Zone};
 use ha_model::{
     Answers, Automation, Condition, Config, EntityId, Env, Template, TplFault, Value, Word,
-    same_text,
 };
 use state_table::StateTable;
 use std::alloc::{AllocError, Global};
@@ -37,19 +37,25 @@ impl<'a> View<'a> {
 fn is_shown_on(states: &StateTable, name: &Word) -> bool
     ensures { result ≡ is_shown_on states.now name.now }
 {
-    match states.find("automation", name.as_str()) {
+    match states.automation(name.as_str()) {
         Some(state) => state.text.as_str() == "on",
         None => false,
     }
 }
 
+fn is_named(automation: &Automation, name: &str) -> bool
+    ensures { result ≡ same automation.now.name name.now }
+{
+    automation.name.bytes() == name.as_bytes()
+}
+
 /// The place of the automation of this name.
-fn place_of(automations: &[Automation], name: &Word) -> Option<u32>
+fn place_of(automations: &[Automation], name: &str) -> Option<u32>
     requires { length automations.now ≤ 2 ^ 32 }
     ensures { result ≡ automation_named automations.now name.now }
 {
     for i in 0..automations.len() {
-        if same_text(&automations[i].name, name) {
+        if is_named(&automations[i], name) {
             return Some(i as u32);
         }
     }
@@ -72,8 +78,8 @@ impl<'a> Answers for View<'a> {
     }
 
     fn automation(&self, id: &EntityId) -> Option<u32> {
-        if id.domain.as_str() == "automation" {
-            place_of(self.config.automations.as_slice(), &id.object)
+        if id.has_domain("automation") {
+            place_of(self.config.automations.as_slice(), id.object())
         } else {
             None
         }

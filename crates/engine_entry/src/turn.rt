@@ -15,7 +15,7 @@ ghost use Rattle.engine_entry.specs.Turned.{entity_named, is_target, less};
 use engine_parts::last::configuration;
 use engine_parts::parts::Parts;
 use engine_parts::see::copied;
-use ha_model::{Automation, EntityId, Entry, Many, Moment, Plain, StateObject, Word};
+use ha_model::{Automation, EntityId, Entry, Many, Moment, StateObject, Word};
 use state_table::StateTable;
 use std::alloc::{AllocError, Global};
 use trig_set::TrigSet;
@@ -24,9 +24,7 @@ use trig_set::TrigSet;
 pub fn entity_of(alloc: Global, name: &Word) -> Result<EntityId, AllocError>
     ensures { IfOk result (λ e. e ≡ entity_named name.now) }
 {
-    let domain = Word::from_str(alloc, "automation")?;
-    let object = name.copy(alloc)?;
-    Ok(EntityId { domain, object })
+    EntityId::of_parts(alloc, "automation", name.as_str())
 }
 
 /// The state of an automation is that of its new switch; the one that it had is listed.

@@ -5,14 +5,13 @@ use Rattle.std.specs.Option.{option_map_or}
 use Rattle.std.specs.BTreeSet.{BTreeSet, IsEmpty as IsEmptySet}
 use Rattle.std.specs.BTreeMap.{is_at}
 use Rattle.std.specs.List.{list_any}
-use Rattle.std.specs.HashMap.{HashMap, IsEmpty, UpdatesBy, get_by_text}
+use Rattle.std.specs.HashMap.{HashMap, UpdatesBy, get_by_text}
 use Rattle.std.specs.Str.{bytes_eq}
 use Rattle.std.specs.String.{string_bytes, string_eq}
-use Rattle.std.specs.Map.{lookup}
 use Rattle.std.proofs.lemmas.Map.Text.{hash_map_updates_text}
 use Rattle.ha_model.specs.Words.{Text, same}
 use Rattle.ha_model.proofs.EqualLemmas.{same-sound}
-use Rattle.event_bus.specs.Lists.{has, has_at}
+use Rattle.event_bus.specs.Lists.{has}
 
 module _ {X Y S : Type 0} (m n : HashMap (String Y) X S) where
   abbrev pub At : Text → Option X → Type 0
@@ -66,18 +65,6 @@ module _ {X Y S : Type 0} (passes : X → Bool) (m n : HashMap (String Y) X S) (
 pub and-true : (b : Bool) → (b && true) ≡ b
 and-true true = refl
 and-true false = refl
-
-pub and-turned : (a b : Bool) → (a && b) ≡ (b && a)
-and-turned true true = refl
-and-turned true false = refl
-and-turned false true = refl
-and-turned false false = refl
-
-pub get-empty : {X Y S : Type 0} (m : HashMap (String Y) X S) → IsEmpty m → (q : Text) → get_by_text m q ≡ None
-get-empty m empty q = ap (lookup (λ k. bytes_eq q (string_bytes k))) empty
-
-pub none-at : {Y S : Type 0} (m : HashMap (String Y) (BTreeSet ℕ) S) → IsEmpty m → (q : Text) (n : ℕ) → has_at m q n ≡ false
-none-at m empty q n = ap (λ o. option_map_or (λ set. has set n) o false) (get-empty m empty q)
 
 pub none-in : (set : BTreeSet ℕ) → IsEmptySet set → (n : ℕ) → has set n ≡ false
 none-in set empty n = ap (list_any (is_at (nat_cmp n))) empty

@@ -5,7 +5,7 @@ ghost use Rattle.ha_model.specs.Words.{Text, one_of};
 ghost use Rattle.event_bus.specs.Lists.{has, has_at};
 ghost use Rattle.event_bus.specs.Subjects.{Subject, by_entity, by_entries, by_kinds, by_moments, concerns, knows};
 
-use crate::lists::{EntityLists, Lists, put, put_at, put_for, take, take_at, take_for};
+use crate::lists::{Lists, put, put_at, put_for, take, take_at, take_for};
 use ha_model::{EntityId, TriggerRule, Word};
 use indexmap::IndexMap;
 use std::alloc::{AllocError, Global};
@@ -15,7 +15,7 @@ use std::collections::BTreeSet;
 /// templates, which each entry concerns.
 #[derive(Drop)]
 pub struct Index {
-    pub entities: EntityLists,
+    pub entities: Lists,
     pub events: Lists,
     pub moments: BTreeSet<u64>,
     pub entries: BTreeSet<u64>,
@@ -187,9 +187,7 @@ impl Index {
     pub fn of_entity(&self, entity: &EntityId) -> Option<&BTreeSet<u64>>
         ensures { (n : ℕ) → option_map_or (λ set. has set n) (option_copied result) false ≡ knows self.now (Subject.Entity entity.now) n }
     {
-        self.entities
-            .get(entity.object.as_str())?
-            .get(entity.domain.as_str())
+        self.entities.get(entity.text().as_str())
     }
 
     /// The owners that an event of a type concerns, in order, if the type is known.

@@ -12,9 +12,6 @@ use std::collections::BTreeSet;
 /// Numbers by name.
 pub type Lists = IndexMap<String, BTreeSet<u64>>;
 
-/// The same, by object id and domain: most ids that concern nobody have an object id that is not known, and are not asked for their domain.
-pub type EntityLists = IndexMap<String, Lists>;
-
 /// The text as a key.
 fn key_of(alloc: Global, word: &Word) -> Result<String, AllocError>
     ensures { IfOk result (λ key. string_bytes key ≡ word.now) }
@@ -73,7 +70,7 @@ pub fn take_at(lists: &mut Lists, name: &Word, number: u64)
 /// Puts a number under an entity. After an error all is as before.
 pub fn put_for(
     alloc: Global,
-    lists: &mut EntityLists,
+    lists: &mut Lists,
     entity: &EntityId,
     number: u64,
 ) -> Result<(), AllocError>
@@ -81,24 +78,13 @@ pub fn put_for(
     ensures others { (e : Entity) (n : ℕ) → nat_eq number n ≡ false → has_for lists.new e n ≡ has_for lists.old e n }
     ensures err { OnErr result ((e : Entity) (n : ℕ) → has_for lists.new e n ≡ has_for lists.old e n) }
 {
-    match lists.get_mut(entity.object.as_str()) {
-        Some(domains) => put_at(alloc, domains, &entity.domain, number),
-        None => {
-            let key = key_of(alloc, &entity.object)?;
-            let mut domains = IndexMap::new(alloc);
-            put_at(alloc, &mut domains, &entity.domain, number)?;
-            lists.insert(key, domains)?;
-            Ok(())
-        }
-    }
+    put_at(alloc, lists, entity.text(), number)
 }
 
 /// Takes a number from under an entity.
-pub fn take_for(lists: &mut EntityLists, entity: &EntityId, number: u64)
+pub fn take_for(lists: &mut Lists, entity: &EntityId, number: u64)
     ensures own { (e : Entity) → has_for lists.new e number ≡ (not (same_entity entity.now e) && has_for lists.old e number) }
     ensures others { (e : Entity) (n : ℕ) → nat_eq number n ≡ false → has_for lists.new e n ≡ has_for lists.old e n }
 {
-    if let Some(domains) = lists.get_mut(entity.object.as_str()) {
-        take_at(domains, &entity.domain, number);
-    }
+    take_at(lists, entity.text(), number);
 }

@@ -1,7 +1,6 @@
 //! The command of a line.
 
 ghost use Rattle.std.specs.Prelude.{◌≡◌, length, option_copied, IfOk};
-ghost use Rattle.ha_value.specs.Ids.{read_entity};
 ghost use Rattle.ha_model.specs.Commands.{put_as, IsFair};
 ghost use Rattle.ha_model.specs.Journal.{Journal};
 ghost use Rattle.ha_model.specs.Words.{characters};
@@ -14,7 +13,7 @@ use crate::read::read_value;
 use crate::refusal::Refusal;
 use ha_clock::read_moment;
 use ha_model::{Cmd, characters};
-use ha_value::{EntityFault, EntityId, Value, Word};
+use ha_value::{EntityId, Value, Word};
 use reading::{Stop, is_utf8};
 use std::alloc::{AllocError, Global};
 
@@ -24,21 +23,10 @@ const LINE_BYTES: usize = 65_536;
 /// A state may have this many characters.
 const STATE_CHARACTERS: usize = 255;
 
-/// The entity id that a text is.
-fn entity_of(alloc: Global, text: &Word) -> Result<Option<EntityId>, AllocError>
-    ensures { IfOk result (λ id. id ≡ read_entity text.now) }
-{
-    match EntityId::read(alloc, text.bytes()) {
-        Ok(id) => Ok(Some(id)),
-        Err(EntityFault::Shape) => Ok(None),
-        Err(EntityFault::Memory) => Err(AllocError),
-    }
-}
-
 fn is_automation(id: &EntityId) -> bool
     ensures { result ≡ is_automation id.now }
 {
-    id.domain.bytes() == b"automation".as_slice()
+    id.has_domain("automation")
 }
 
 /// The entity that is reported: no automation.
@@ -52,14 +40,11 @@ fn reportable(id: Option<EntityId>) -> Result<EntityId, Refused>
 }
 
 /// The name of the automation.
-fn automation(id: Option<EntityId>) -> Result<Word, Refused>
+fn automation(alloc: Global, id: Option<EntityId>) -> Result<Word, Refused>
     ensures { Says (automation id) result }
 {
     match id {
-        Some(id) if is_automation(&id) => {
-            let EntityId { object, .. } = id;
-            Ok(object)
-        }
+        Some(id) if is_automation(&id) => Ok(Word::from_str(alloc, id.object())?),
         _ => Err(Stop::Fault(Refusal::Id)),
     }
 }
@@ -94,7 +79,7 @@ fn report(alloc: Global, pairs: &mut Pairs) -> Result<Cmd, Refused>
     let id = take_text(pairs, b"report")?;
     let text = take_text(pairs, b"state")?;
     let attributes = take_map(alloc, pairs, b"attributes")?;
-    let entity = reportable(entity_of(alloc, &id)?)?;
+    let entity = reportable(EntityId::of_text(id))?;
     let text = state_of(text)?;
     Ok(Cmd::Report {
         entity,
@@ -104,12 +89,12 @@ fn report(alloc: Global, pairs: &mut Pairs) -> Result<Cmd, Refused>
 }
 
 #[tactic(auto, unfolding(crate::specs::Command::gone_of))]
-fn gone(alloc: Global, pairs: &mut Pairs) -> Result<Cmd, Refused>
+fn gone(pairs: &mut Pairs) -> Result<Cmd, Refused>
     ensures exact { Says (gone_of pairs.old) result }
     ensures in_time { IfOk result IsInTime }
 {
     let id = take_text(pairs, b"gone")?;
-    let entity = reportable(entity_of(alloc, &id)?)?;
+    let entity = reportable(EntityId::of_text(id))?;
     Ok(Cmd::Gone { entity })
 }
 
@@ -147,7 +132,7 @@ fn switch(alloc: Global, pairs: &mut Pairs) -> Result<Cmd, Refused>
     let to = take_text(pairs, b"to")?;
     let on = turned(&to)?;
     let stop = take_flag(pairs, b"stop_actions")?;
-    let name = automation(entity_of(alloc, &id)?)?;
+    let name = automation(alloc, EntityId::of_text(id))?;
     Ok(Cmd::Switch { name, on, stop })
 }
 
@@ -158,7 +143,7 @@ fn trigger(alloc: Global, pairs: &mut Pairs) -> Result<Cmd, Refused>
 {
     let id = take_text(pairs, b"trigger")?;
     let skip = take_flag(pairs, b"skip_condition")?;
-    let name = automation(entity_of(alloc, &id)?)?;
+    let name = automation(alloc, EntityId::of_text(id))?;
     Ok(Cmd::Trigger { name, skip })
 }
 
@@ -180,7 +165,7 @@ fn command_by(alloc: Global, command: Command, pairs: &mut Pairs) -> Result<Cmd,
 {
     match command {
         Command::Report => report(alloc, pairs),
-        Command::Gone => gone(alloc, pairs),
+        Command::Gone => gone(pairs),
         Command::Event => event(alloc, pairs),
         Command::Moment => moment(pairs),
         Command::Switch => switch(alloc, pairs),

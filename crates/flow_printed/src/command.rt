@@ -77,7 +77,7 @@ fn switch(alloc: Global, pairs: &mut Pairs) -> Result<Cmd, Unread>
     let stop = take_flag(pairs, b"stop_actions")?;
     end(pairs)?;
     let on = turned(&to)?;
-    let name = automation(entity_of(alloc, &id)?)?;
+    let name = automation(alloc, entity_of(alloc, &id)?)?;
     Ok(Cmd::Switch { name, on, stop })
 }
 
@@ -89,7 +89,7 @@ fn trigger(alloc: Global, pairs: &mut Pairs) -> Result<Cmd, Unread>
     let id = take_text(pairs, b"trigger")?;
     let skip = take_flag(pairs, b"skip_condition")?;
     end(pairs)?;
-    let name = automation(entity_of(alloc, &id)?)?;
+    let name = automation(alloc, entity_of(alloc, &id)?)?;
     Ok(Cmd::Trigger { name, skip })
 }
 

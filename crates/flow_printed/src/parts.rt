@@ -31,7 +31,7 @@ pub fn entity_of(alloc: Global, text: &Word) -> Result<Option<EntityId>, AllocEr
 fn is_automation(id: &EntityId) -> bool
     ensures { result ≡ is_automation id.now }
 {
-    id.domain.bytes() == b"automation".as_slice()
+    id.has_domain("automation")
 }
 
 /// An entity that may be reported: no automation.
@@ -45,14 +45,11 @@ pub fn reportable(id: Option<EntityId>) -> Result<EntityId, Unread>
 }
 
 /// The name of an automation.
-pub fn automation(id: Option<EntityId>) -> Result<Word, Unread>
+pub fn automation(alloc: Global, id: Option<EntityId>) -> Result<Word, Unread>
     ensures { Says (automation id) result }
 {
     match id {
-        Some(id) if is_automation(&id) => {
-            let EntityId { object, .. } = id;
-            Ok(object)
-        }
+        Some(id) if is_automation(&id) => Ok(Word::from_str(alloc, id.object())?),
         _ => Err(Stop::Fault(NoCommand)),
     }
 }

@@ -204,7 +204,7 @@ pub fn same_data(left: &Many<(Word, Value)>, right: &Many<(Word, Value)>) -> boo
 pub fn same_id(left: &EntityId, right: &EntityId) -> bool
     ensures { result ≡ same_entity left.now right.now }
 {
-    same_text(&left.domain, &right.domain) && same_text(&left.object, &right.object)
+    left.same(right)
 }
 
 /// What a Report makes of the object before it.

@@ -73,8 +73,8 @@ fn object_pairs(
 {
     let mut pairs = Many::with_room(alloc, 5)?;
     push_text(alloc, &mut pairs, "entity_id", id.as_str())?;
-    push_text(alloc, &mut pairs, "domain", entity.domain.as_str())?;
-    push_text(alloc, &mut pairs, "object_id", entity.object.as_str())?;
+    push_text(alloc, &mut pairs, "domain", entity.domain())?;
+    push_text(alloc, &mut pairs, "object_id", entity.object())?;
     push_text(alloc, &mut pairs, "state", state.text.as_str())?;
     add(
         alloc,

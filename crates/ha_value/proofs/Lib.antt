@@ -5,3 +5,4 @@ pub mod NumberLemmas
 pub mod DigitLemmas
 pub mod PrintLemmas
 pub mod PlaceLemmas
+pub mod EntityLemmas

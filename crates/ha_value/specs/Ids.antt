@@ -1,5 +1,5 @@
 -- Entity ids: `domain.object_id`, each part one or more of `a` to `z`, `0` to `9` and `_`.
-use Rattle.std.specs.Prelude.{◌≡◌, ℕ, Bool, true, ◌&&◌, ◌||◌, nat_eq, List, ◌∷◌, ◌++◌, Option, Some, None, if◌then◌else◌}
+use Rattle.std.specs.Prelude.{◌≡◌, ℕ, Bool, true, ◌&&◌, ◌||◌, nat_eq, List, ◌∷◌, ◌++◌, Option, Some, None, is_some, if◌then◌else◌}
 use Rattle.std.specs.Char.{is_ascii_lowercase, is_ascii_digit}
 use Rattle.ha_value.specs.declared.value.EntityId.{EntityId}
 use Rattle.ha_value.specs.Lists.{some_all, before_first, after_first}
@@ -26,6 +26,10 @@ entity_from domain (Some object) =
 -- the id that a text is, cut at its dot
 unfoldable pub read_entity : List ℕ → Option EntityId
 read_entity text = entity_from (before_first 46 text) (after_first 46 text)
+
+-- what a table of texts has for an id: no id is kept that has a dot in its domain
+abbrev pub for_id : {X : Type 0} → X → (List ℕ → X) → EntityId → X
+for_id none table e = if is_some (after_first 46 e.domain) then none else table (entity_text e)
 
 -- the text is the id of these two parts
 abbrev pub IsParts : List ℕ → List ℕ → List ℕ → Type 0

@@ -1,8 +1,13 @@
 //! Entity ids: `domain.object_id`.
-ghost use Rattle.std.specs.Prelude.{◌≡◌, ◌↔◌, true, Some, None, Err, IfOk, MatchOption};
-ghost use Rattle.ha_value.specs.Ids.{entity_text, is_entity, is_name, is_name_byte, read_entity, IsParts};
+ghost use Rattle.std.specs.Prelude.{◌≡◌, ◌↔◌, true, Some, None, Err, IfOk, OnErr, OnOk, is_some};
+ghost use Rattle.std.specs.Str.{bytes_eq};
+ghost use Rattle.ha_value.specs.Entities.{IsKept, object_in};
+ghost use Rattle.ha_value.specs.Ids.{entity_text, is_entity, is_name, is_name_byte, read_entity};
+ghost use Rattle.ha_value.specs.Lists.{after_first, before_first};
 
 use crate::cut::cut_at;
+use crate::held::text_of;
+use crate::plain::Plain;
 use crate::value::EntityId;
 use crate::word::Word;
 use std::alloc::{AllocError, Global};
@@ -41,33 +46,52 @@ pub fn is_name(text: &[u8]) -> bool
     true
 }
 
-/// The two parts, where the text is an id.
+/// Whether the text is an id.
 #[tactic(auto, unfolding(crate::specs::Ids::read_entity))]
-fn parts_of(text: &[u8]) -> Option<(&[u8], &[u8])>
-    ensures { MatchOption result (read_entity text.now ≡ None) (λ parts. IsParts text.now parts.0.now parts.1.now) }
+fn is_entity(text: &[u8]) -> bool
+    ensures { result ≡ is_some (read_entity text.now) }
 {
     let (domain, object) = cut_at(text, b'.');
     match object {
-        None => None,
-        Some(object) => {
-            if is_name(domain) && is_name(object) {
-                Some((domain, object))
-            } else {
-                None
-            }
-        }
+        None => false,
+        Some(object) => is_name(domain) && is_name(object),
     }
 }
 
-fn entity_of(alloc: Global, domain: &[u8], object: &[u8]) -> Result<EntityId, AllocError>
-    requires domain { is_name domain.now ≡ true }
-    requires object { is_name object.now ≡ true }
-    ensures value { IfOk result (λ id. id ≡ record { domain = domain.now; object = object.now }) }
+/// What follows the first dot.
+fn behind_dot(text: &str) -> &[u8]
+    ensures { result.now ≡ object_in text.now }
+{
+    match cut_at(text.as_bytes(), b'.').1 {
+        Some(object) => object,
+        None => b"",
+    }
+}
+
+/// Whether the text begins with these bytes and a dot.
+fn begins(text: &[u8], front: &[u8]) -> bool
+    requires kept { IsKept text.now }
+    requires dotless { after_first 46 front.now ≡ None }
+    ensures { result ≡ bytes_eq (before_first 46 text.now) front.now }
+{
+    let end = front.len();
+    if text.len() <= end {
+        return false;
+    }
+    if text[end] != b'.' {
+        return false;
+    }
+    &text[..end] == front
+}
+
+/// The id whose two parts were found in the text.
+fn kept(alloc: Global, text: &[u8]) -> Result<EntityId, AllocError>
+    requires { is_some (read_entity text.now) ≡ true }
+    ensures value { IfOk result (λ id. read_entity text.now ≡ Some id) }
     ensures form { IfOk result (λ id. is_entity id ≡ true) }
 {
     Ok(EntityId {
-        domain: Word::from_bytes(alloc, domain)?,
-        object: Word::from_bytes(alloc, object)?,
+        text: Word::from_bytes(alloc, text)?,
     })
 }
 
@@ -78,22 +102,80 @@ impl EntityId {
         ensures form { IfOk result (λ id. is_entity id ≡ true) }
         ensures shape { (result ≡ Err EntityFault.Shape) ↔ (read_entity text.now ≡ None) }
     {
-        match parts_of(text) {
-            None => Err(EntityFault::Shape),
-            Some((domain, object)) => match entity_of(alloc, domain, object) {
-                Ok(id) => Ok(id),
-                Err(_) => Err(EntityFault::Memory),
-            },
+        if !is_entity(text) {
+            return Err(EntityFault::Shape);
+        }
+        match kept(alloc, text) {
+            Ok(id) => Ok(id),
+            Err(_) => Err(EntityFault::Memory),
         }
     }
 
-    /// The id as it is written.
+    /// The id that the text is, if it is one. The text stays where it is.
+    pub fn of_text(text: Word) -> Option<EntityId>
+        ensures { result ≡ read_entity text }
+    {
+        if is_entity(text.bytes()) {
+            Some(EntityId { text })
+        } else {
+            None
+        }
+    }
+
+    /// The id of two parts.
+    pub fn of_parts(alloc: Global, domain: &str, object: &str) -> Result<EntityId, AllocError>
+        requires { after_first 46 domain.now ≡ None }
+        ensures { IfOk result (λ id. id ≡ record { domain = domain.now; object = object.now }) }
+    {
+        let mut text = Word::from_str(alloc, domain)?;
+        text.push_byte(b'.')?;
+        text.push_str(object)?;
+        Ok(EntityId { text })
+    }
+
+    /// The id as it is written. Its domain has no dot.
+    pub fn text(&self) -> &Word
+        ensures value { result.now ≡ entity_text self.now }
+        ensures domain { after_first 46 self.now.domain ≡ None }
+    {
+        &self.text
+    }
+
+    /// Whether the domain is this one, without a search for the dot.
+    pub fn has_domain(&self, domain: &str) -> bool
+        requires { after_first 46 domain.now ≡ None }
+        ensures { result ≡ bytes_eq self.now.domain domain.now }
+    {
+        begins(self.text.bytes(), domain.as_bytes())
+    }
+
+    /// What stands before the first dot.
+    pub fn domain(&self) -> &str
+        ensures { result.now ≡ self.now.domain }
+    {
+        let (domain, _) = cut_at(self.text.bytes(), b'.');
+        text_of(domain)
+    }
+
+    /// What follows the first dot.
+    pub fn object(&self) -> &str
+        ensures { result.now ≡ self.now.object }
+    {
+        text_of(behind_dot(self.text.as_str()))
+    }
+
+    /// The id as it is written, as a text of its own.
     pub fn print(&self, alloc: Global) -> Result<Word, AllocError>
         ensures { IfOk result (λ w. w ≡ entity_text self.now) }
     {
-        let mut text = Word::from_str(alloc, self.domain.as_str())?;
-        text.push_byte(b'.')?;
-        text.push_str(self.object.as_str())?;
-        Ok(text)
+        self.text.copy(alloc)
+    }
+
+    /// Puts a copy in the place of another id.
+    pub fn copy_to(&self, alloc: Global, to: &mut EntityId) -> Result<(), AllocError>
+        ensures ok { OnOk result (to.new ≡ self.now) }
+        ensures err { OnErr result (to.new ≡ to.old) }
+    {
+        self.text.copy_to(alloc, &mut to.text)
     }
 }

@@ -196,7 +196,7 @@ fn is_id(alloc: Global, text: &str, object: &str) -> Result<bool, AllocError> {
     };
     let printed = id.print(alloc)?;
     let copied = id.copy(alloc)?;
-    Ok(id.object.as_str() == object && printed.as_str() == text && copied.same(&id))
+    Ok(id.object() == object && printed.as_str() == text && copied.same(&id))
 }
 
 fn is_no_id(alloc: Global, text: &str) -> bool {

@@ -18,10 +18,7 @@ fn list(alloc: Global) -> Result<Value, AllocError> {
 }
 
 fn light(alloc: Global) -> Result<EntityId, AllocError> {
-    Ok(EntityId {
-        domain: Word::from_str(alloc, "light")?,
-        object: Word::from_str(alloc, "x")?,
-    })
+    EntityId::of_parts(alloc, "light", "x")
 }
 
 /// A table in which `light.x` is on.

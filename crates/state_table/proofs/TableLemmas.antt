@@ -1,71 +1,28 @@
--- How a table changes with one of its domains, and which journals it then stands for.
+-- How a table changes at one entity, and which journals it then stands for.
 use Rattle.std.proofs.Common.{◌≡◌, ℕ, Bool, true, false, ◌&&◌, Option, subst, sym, refl, ap, ◌∙◌, nat_cmp}
-use Rattle.std.specs.Prelude.{Some, None, String, Result, IfOk, not, option_and_then, if◌then◌else◌}
+use Rattle.std.specs.Prelude.{Some, None, String, Result, IfOk, [], codes, is_some, not, option_map, if◌then◌else◌}
 use Rattle.std.specs.BTreeMap.{BTreeMap, IsEmpty, get_by_text, is_at}
 use Rattle.std.specs.Map.{lookup}
 use Rattle.std.specs.Cmp.Lexicographic.{slice_cmp}
 use Rattle.std.specs.String.{string_bytes}
 use Rattle.ha_value.specs.declared.value.EntityId.{EntityId}
+use Rattle.ha_value.specs.Ids.{entity_text, for_id}
+use Rattle.ha_value.specs.Lists.{after_first}
 use Rattle.ha_model.specs.declared.journal.Cmd.{Cmd}
 use Rattle.ha_model.specs.declared.journal.Entry.TheVariants.{Line}
 use Rattle.ha_model.specs.declared.journal.StateObject.{StateObject}
 use Rattle.ha_model.specs.Words.{Text, Pairs, same, same_entity}
-use Rattle.ha_model.specs.Journal.{Journal, now}
+use Rattle.ha_model.specs.Journal.{Journal, automations, now}
 use Rattle.ha_model.specs.RecordSteps.{more}
 use Rattle.ha_model.specs.StateStep.{next_object}
-use Rattle.ha_model.specs.States.{states}
-use Rattle.ha_model.proofs.EqualLemmas.{same-sound, entity-sound}
+use Rattle.ha_model.specs.States.{automation_named, of_automation, reported, states}
+use Rattle.ha_model.proofs.EqualLemmas.{same-refl, same-sound, entity-sound}
+use Rattle.ha_model.proofs.IdLemmas.{IsPlain, agrees, here, turns}
 use Rattle.state_table.specs.Anew.{is_automation, sets_anew}
-use Rattle.state_table.specs.Domain.{ChangesName, SaysTheSame}
-use Rattle.state_table.proofs.DomainLemmas.{found}
 use Rattle.state_table.proofs.StateLaws.{states-report, states-gone, states-restart}
 
 get_by_text-empty : {X Y : Type 0} (m : BTreeMap (String Y) X) → IsEmpty m → (q : Text) → get_by_text m q ≡ None
 get_by_text-empty m empty q = ap (lookup (is_at (λ k. slice_cmp nat_cmp q (string_bytes k)))) empty
-
-module _ {X Y Z : Type 0} where
-  -- what the maps have at an id
-  abbrev pub at_id : BTreeMap (String Y) (BTreeMap (String Z) X) → EntityId → Option X
-  at_id m q = option_and_then (λ domain. get_by_text domain q.object) (get_by_text m q.domain)
-
-  -- this is the domain of an entity, if there is one
-  abbrev pub IsDomain : BTreeMap (String Y) (BTreeMap (String Z) X) → EntityId → BTreeMap (String Z) X → Type 0
-  IsDomain m e domain = (q : Text) → get_by_text domain q ≡ option_and_then (λ d. get_by_text d q) (get_by_text m e.domain)
-
-  pub domain-there : (m : BTreeMap (String Y) (BTreeMap (String Z) X)) (e : EntityId) (domain : BTreeMap (String Z) X) (bs : Text) → bs ≡ e.domain → Some domain ≡ found m m bs → IsDomain m e domain
-  domain-there m e domain bs f there q = ap (option_and_then (λ d. get_by_text d q)) (there ∙ ap (get_by_text m) f)
-
-  pub domain-new : (m : BTreeMap (String Y) (BTreeMap (String Z) X)) (e : EntityId) (domain : BTreeMap (String Z) X) (bs : Text) → bs ≡ e.domain → None ≡ found m m bs → IsEmpty domain → IsDomain m e domain
-  domain-new m e domain bs f none empty q =
-      get_by_text-empty domain empty q ∙ ap (option_and_then (λ d. get_by_text d q)) (none ∙ ap (get_by_text m) f)
-
-  pub domain-none : (m : BTreeMap (String Y) (BTreeMap (String Z) X)) (e : EntityId) (bs : Text) → bs ≡ e.domain → None ≡ found m m bs → at_id m e ≡ None
-  domain-none m e bs f none = sym (ap (option_and_then (λ d. get_by_text d e.object)) (none ∙ ap (get_by_text m) f))
-
-  module _ (m n : BTreeMap (String Y) (BTreeMap (String Z) X)) (e : EntityId) (domain changed : BTreeMap (String Z) X) (here : IsDomain m e domain) (written : ChangesName m n e.domain (Some changed)) where
-    pub deep-changes : (w : Option X) → ChangesName domain changed e.object w → (q : EntityId) → at_id n q ≡ (if same_entity e q then w else at_id m q)
-    deep-changes w c q = ap (option_and_then (λ d. get_by_text d q.object)) (written q.domain) ∙ by (same e.domain q.domain) refl
-      where
-        by : (b : Bool) → same e.domain q.domain ≡ b
-            → option_and_then (λ d. get_by_text d q.object) (if b then Some changed else get_by_text m q.domain) ≡ (if b && same e.object q.object then w else at_id m q)
-        by true h =
-            let before = here q.object ∙ ap (λ t. option_and_then (λ d. get_by_text d q.object) (get_by_text m t)) (same-sound e.domain q.domain h) in
-            c q.object ∙ (λ i. if same e.object q.object then w else before i)
-        by false h = refl
-
-    pub deep-same : SaysTheSame domain changed → (q : EntityId) → at_id n q ≡ at_id m q
-    deep-same c q = ap (option_and_then (λ d. get_by_text d q.object)) (written q.domain) ∙ by (same e.domain q.domain) refl
-      where
-        by : (b : Bool) → same e.domain q.domain ≡ b → option_and_then (λ d. get_by_text d q.object) (if b then Some changed else get_by_text m q.domain) ≡ at_id m q
-        by true h = c q.object ∙ here q.object ∙ ap (λ t. option_and_then (λ d. get_by_text d q.object) (get_by_text m t)) (same-sound e.domain q.domain h)
-        by false h = refl
-
-module _ {Y Z : Type 0} (m n : BTreeMap (String Y) (BTreeMap (String Z) StateObject)) (e : EntityId) (domain changed : BTreeMap (String Z) StateObject)
-    (here : IsDomain m e domain) (written : ChangesName m n e.domain (Some changed)) (text : Text) (attributes : Pairs) where
-  pub deep-report : (at : ℕ) → ChangesName domain changed e.object (Some (next_object (get_by_text domain e.object) text attributes at))
-      → (q : EntityId) → at_id n q ≡ (if same_entity e q then Some (next_object (at_id m e) text attributes at) else at_id m q)
-  deep-report at c = deep-changes m n e domain changed here written (Some (next_object (at_id m e) text attributes at))
-      (subst (λ o. ChangesName domain changed e.object (Some (next_object o text attributes at))) (here e.object) c)
 
 pub ok-along : {T E : Type 0} (r : Result T E) (f : Option StateObject → T) (a b : Option StateObject) → a ≡ b → IfOk r (λ x. x ≡ f a) → IfOk r (λ x. x ≡ f b)
 ok-along r f a b e h = subst (λ o. IfOk r (λ x. x ≡ f o)) e h
@@ -112,17 +69,75 @@ pub stands-clear : (new : Seen) → ((q : EntityId) → new q ≡ None) → (j :
     → (q : EntityId) → sets_anew j (Line k n Cmd.Restart) q ≡ false → new q ≡ states (more j (Line k n Cmd.Restart)) q
 stands-clear new empty j k n q out = empty q ∙ sym (states-restart j q k n out)
 
-pub empty-at : {X Y Z : Type 0} (m : BTreeMap (String Y) (BTreeMap (String Z) X)) → IsEmpty m → (q : EntityId) → at_id m q ≡ None
-empty-at m empty q = ap (option_and_then (λ d. get_by_text d q.object)) (get_by_text-empty m empty q.domain)
+-- ---- the states of automations by name, and of all others by id
 
-pub put-along : {Y : Type 0} (m n : BTreeMap (String Y) StateObject) (name : Text) (object wanted : StateObject) → object ≡ wanted
-    → ChangesName m n name (Some object) → ChangesName m n name (Some wanted)
-put-along m n name object wanted e h = subst (λ o. ChangesName m n name (Some o)) e h
+abbrev pub Named : Type 0
+Named = Text → Option StateObject
 
--- where there is no such entity, its going changes nothing
-pub nothing-changes : (seen : Seen) (entity : EntityId) → seen entity ≡ None → (q : EntityId) → seen q ≡ (if same_entity entity q then None else seen q)
-nothing-changes seen entity none q = by (same_entity entity q) refl
+abbrev pub seen_in : Named → Named → Seen
+seen_in automations others e = if is_automation e then automations e.object else for_id None others e
+
+apart-by : (a b : Bool) → a ≡ true → b ≡ false → a ≡ b → ⊥
+apart-by a b p q r = absurd (cc)
+
+both-automations : (e q : EntityId) → is_automation e ≡ true → is_automation q ≡ true → same_entity e q ≡ same e.object q.object
+both-automations e q h k =
+    let is : q.domain ≡ e.domain = same-sound _ _ k ∙ sym (same-sound _ _ h) in
+    ap (λ b. b && same e.object q.object) (ap (same e.domain) is ∙ same-refl e.domain)
+
+kinds-apart : (e q : EntityId) → (is_automation e ≡ is_automation q → ⊥) → same_entity e q ≡ false
+kinds-apart e q no = by (same_entity e q) refl
   where
-    by : (b : Bool) → same_entity entity q ≡ b → seen q ≡ (if b then None else seen q)
-    by true h = ap seen (sym (entity-sound entity q h)) ∙ none
-    by false h = refl
+    by : (b : Bool) → same_entity e q ≡ b → b ≡ false
+    by true s = absurd (no (ap is_automation (entity-sound e q s)))
+    by false s = refl
+
+module _ (automations others : Named) (e : EntityId) where
+  pub automation-here : is_automation e ≡ true → seen_in automations others e ≡ automations e.object
+  automation-here is = ap (λ b. if b then automations e.object else for_id None others e) is
+
+  pub other-here : is_automation e ≡ false → IsPlain e → seen_in automations others e ≡ others (entity_text e)
+  other-here is plain = ap (λ b. if b then automations e.object else for_id None others e) is ∙ here None others e plain
+
+  -- LAW: a change at the name of an automation is one at its entity
+  pub automation-changes : (new : Named) (name : Text) (made w : Option StateObject) → made ≡ w → is_automation e ≡ true → name ≡ e.object
+      → ((q : Text) → new q ≡ (if same name q then made else automations q)) → (q : EntityId) → seen_in new others q ≡ (if same_entity e q then w else seen_in automations others q)
+  automation-changes new name made w as is named c q = by (is_automation q) refl
+    where
+      by : (b : Bool) → is_automation q ≡ b → (if b then new q.object else for_id None others q) ≡ (if same_entity e q then w else (if b then automations q.object else for_id None others q))
+      by true h = c q.object ∙ (λ i. if same (named i) q.object then as i else automations q.object)
+          ∙ ap (λ b. if b then w else automations q.object) (sym (both-automations e q is h))
+      by false h = ap (λ b. if b then w else for_id None others q) (sym (kinds-apart e q (apart-by _ _ is h)))
+
+  -- LAW: a change at the text of another id is one at its entity
+  pub other-changes : (new : Named) (text : Text) (made w : Option StateObject) → made ≡ w → is_automation e ≡ false → IsPlain e → text ≡ entity_text e
+      → ((q : Text) → new q ≡ (if same text q then made else others q)) → (q : EntityId) → seen_in automations new q ≡ (if same_entity e q then w else seen_in automations others q)
+  other-changes new text made w as is plain written c q = by (is_automation q) refl
+    where
+      by : (b : Bool) → is_automation q ≡ b → (if b then automations q.object else for_id None new q) ≡ (if same_entity e q then w else (if b then automations q.object else for_id None others q))
+      by true h = ap (λ b. if b then w else automations q.object) (sym (kinds-apart e q (λ s. apart-by _ _ h is (sym s))))
+      by false h = turns None others new e plain (λ b x. if b then w else x) refl (λ t. c t ∙ (λ i. if same (written i) t then as i else others t)) q
+
+module _ (automations others new : Named) where
+  pub automations-agree : ((q : Text) → new q ≡ automations q) → (q : EntityId) → seen_in new others q ≡ seen_in automations others q
+  automations-agree c q = ap (λ x. if is_automation q then x else for_id None others q) (c q.object)
+
+  pub others-agree : ((q : Text) → new q ≡ others q) → (q : EntityId) → seen_in automations new q ≡ seen_in automations others q
+  others-agree c q = ap (λ x. if is_automation q then automations q.object else x) (agrees None others new c q)
+
+-- LAW: where nothing is kept there are no states
+pub empty-seen : {X Y : Type 0} (automations : BTreeMap (String X) StateObject) (others : BTreeMap (String Y) StateObject) → IsEmpty automations → IsEmpty others
+    → (q : EntityId) → seen_in (get_by_text automations) (get_by_text others) q ≡ None
+empty-seen automations others a o q = by (is_automation q) (after_first 46 q.domain)
+  where
+    by : (b : Bool) (dot : Option Text) → (if b then get_by_text automations q.object else (if is_some dot then None else get_by_text others (entity_text q))) ≡ None
+    by true dot = get_by_text-empty automations a q.object
+    by false (Some rest) = refl
+    by false None = get_by_text-empty others o (entity_text q)
+
+pub states-empty : (e : EntityId) → states [] e ≡ None
+states-empty e = by (same e.domain (codes "automation"))
+  where
+    by : (b : Bool) → (if b then option_map (of_automation []) (automation_named (automations []) e.object) else reported [] e) ≡ None
+    by true = refl
+    by false = refl

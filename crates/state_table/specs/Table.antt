@@ -1,16 +1,18 @@
 -- What a table of states says, and which journals it stands for.
-use Rattle.std.specs.Prelude.{◌≡◌, Bool, false, Option, option_and_then, if◌then◌else◌}
+use Rattle.std.specs.Prelude.{◌≡◌, Bool, false, Option, None, if◌then◌else◌}
 use Rattle.std.specs.BTreeMap.{get_by_text}
 use Rattle.ha_value.specs.declared.value.EntityId.{EntityId}
 use Rattle.ha_model.specs.declared.journal.StateObject.{StateObject}
+use Rattle.ha_value.specs.Ids.{for_id}
 use Rattle.ha_model.specs.Words.{same_entity}
 use Rattle.ha_model.specs.Journal.{Journal}
 use Rattle.ha_model.specs.States.{states}
+use Rattle.state_table.specs.Anew.{is_automation}
 use Rattle.state_table.specs.declared.table.StateTable.{StateTable}
 
--- the state of an entity in the table
+-- the state of an entity in the table: that of an automation by its name, that of another entity by its id as it is written
 abbrev pub at : StateTable → EntityId → Option StateObject
-at t e = option_and_then (λ domain. get_by_text domain e.object) (get_by_text t.domains e.domain)
+at t e = if is_automation e then get_by_text t.automations e.object else for_id None (get_by_text t.others) e
 
 -- the table stands for a journal: it has the states after it
 abbrev pub StandsFor : StateTable → Journal → Type 0

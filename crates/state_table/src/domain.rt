@@ -1,4 +1,4 @@
-//! The states of one domain, by object id.
+//! States by name: automations by theirs, all other entities by their ids.
 ghost use Rattle.std.specs.Prelude.{◌≡◌, None, Some, IfOk, OnErr, OnOk, is_some, string_bytes};
 ghost use Rattle.std.specs.BTreeMap.{get_by_text};
 ghost use Rattle.ha_model.specs.StateStep.{next_object as next_object_lem};
@@ -11,14 +11,14 @@ use ha_model::{
 use std::alloc::{AllocError, Global};
 use std::collections::BTreeMap;
 
-/// The states of one domain.
-pub type Domain = BTreeMap<String, StateObject>;
+/// States by name.
+pub type Named = BTreeMap<String, StateObject>;
 
 /// The text as a key.
-pub fn key_of(alloc: Global, word: &Word) -> Result<String, AllocError>
-    ensures { IfOk result (λ key. string_bytes key ≡ word.now) }
+pub fn key_of(alloc: Global, name: &str) -> Result<String, AllocError>
+    ensures { IfOk result (λ key. string_bytes key ≡ name.now) }
 {
-    String::from_str(alloc, word.as_str())
+    String::from_str(alloc, name)
 }
 
 /// The attributes are these; those that are there already are left in their place.
@@ -80,69 +80,69 @@ fn update(
     Ok(Change::Attributes)
 }
 
-/// A first report of the entity with this object id. Its locals are a function's own, so that no other report makes room for them.
+/// A first report of the entity of this name. Its locals are a function's own, so that no other report makes room for them.
 #[inline(never)]
 fn appear(
     alloc: Global,
-    domain: &mut Domain,
-    name: &Word,
+    states: &mut Named,
+    name: &str,
     text: &Word,
     attributes: &Many<(Word, Value)>,
     now: Moment,
 ) -> Result<Change, AllocError>
     ensures change { IfOk result (λ change. change ≡ change_of None text.now attributes.now) }
-    ensures ok { OnOk result (ChangesName domain.old domain.new name.now (Some (next_object_lem None text.now attributes.now now))) }
-    ensures err { OnErr result (SaysTheSame domain.old domain.new) }
+    ensures ok { OnOk result (ChangesName states.old states.new name.now (Some (next_object_lem None text.now attributes.now now))) }
+    ensures err { OnErr result (SaysTheSame states.old states.new) }
 {
     let key = key_of(alloc, name)?;
     let object = next_object(alloc, None, text, attributes, now)?;
-    domain.insert(key, object)?;
+    states.insert(key, object)?;
     Ok(Change::Appeared)
 }
 
-/// A report of the entity with this object id.
+/// A report of the entity of this name.
 pub fn report_in(
     alloc: Global,
-    domain: &mut Domain,
-    name: &Word,
+    states: &mut Named,
+    name: &str,
     text: &Word,
     attributes: &Many<(Word, Value)>,
     now: Moment,
 ) -> Result<Change, AllocError>
-    ensures change { IfOk result (λ change. change ≡ change_of (get_by_text domain.old name.now) text.now attributes.now) }
-    ensures ok { OnOk result (ChangesName domain.old domain.new name.now (Some (next_object_lem (get_by_text domain.old name.now) text.now attributes.now now))) }
-    ensures err { OnErr result (SaysTheSame domain.old domain.new) }
+    ensures change { IfOk result (λ change. change ≡ change_of (get_by_text states.old name.now) text.now attributes.now) }
+    ensures ok { OnOk result (ChangesName states.old states.new name.now (Some (next_object_lem (get_by_text states.old name.now) text.now attributes.now now))) }
+    ensures err { OnErr result (SaysTheSame states.old states.new) }
 {
-    match domain.get_mut(name.as_str()) {
+    match states.get_mut(name) {
         Some(object) => update(alloc, object, text, attributes, now),
-        None => appear(alloc, domain, name, text, attributes, now),
+        None => appear(alloc, states, name, text, attributes, now),
     }
 }
 
-/// Gives the entity with this object id a state.
+/// Gives the entity of this name a state.
 pub fn put_in(
     alloc: Global,
-    domain: &mut Domain,
-    name: &Word,
+    states: &mut Named,
+    name: &str,
     object: StateObject,
 ) -> Result<(), AllocError>
-    ensures ok { OnOk result (ChangesName domain.old domain.new name.now (Some object)) }
-    ensures err { OnErr result (SaysTheSame domain.old domain.new) }
+    ensures ok { OnOk result (ChangesName states.old states.new name.now (Some object)) }
+    ensures err { OnErr result (SaysTheSame states.old states.new) }
 {
-    match domain.get_mut(name.as_str()) {
+    match states.get_mut(name) {
         Some(old) => *old = object,
         None => {
             let key = key_of(alloc, name)?;
-            domain.insert(key, object)?;
+            states.insert(key, object)?;
         }
     }
     Ok(())
 }
 
-/// Takes the state of the entity with this object id away, and says whether there was one.
-pub fn remove_from(domain: &mut Domain, name: &Word) -> bool
-    ensures found { result ≡ is_some (get_by_text domain.old name.now) }
-    ensures rest { ChangesName domain.old domain.new name.now None }
+/// Takes the state of the entity of this name away, and says whether there was one.
+pub fn remove_from(states: &mut Named, name: &str) -> bool
+    ensures found { result ≡ is_some (get_by_text states.old name.now) }
+    ensures rest { ChangesName states.old states.new name.now None }
 {
-    domain.remove(name.as_str()).is_some()
+    states.remove(name).is_some()
 }

@@ -1,8 +1,8 @@
 //! The table of states.
-ghost use Rattle.std.specs.Prelude.{◌≡◌, ◌&&◌, not, true, false, ℕ, [], ◌∷◌, Bool, None, Some, IfOk, OnErr, OnOk, is_some, option_and_then};
+ghost use Rattle.std.specs.Prelude.{◌≡◌, ◌&&◌, not, true, false, ℕ, [], ◌∷◌, Bool, None, Some, codes, IfOk, MatchOption, OnErr, OnOk, is_some, option_and_then};
 ghost use Rattle.std.specs.Option.{option_copied};
 ghost use Rattle.ha_value.specs.declared.value.EntityId.{EntityId};
-ghost use Rattle.ha_value.specs.Ids.{read_entity};
+ghost use Rattle.ha_value.specs.Ids.{IsParts, read_entity};
 ghost use Rattle.ha_model.specs.declared.journal.Cmd.{Cmd};
 ghost use Rattle.ha_model.specs.declared.journal.Entry.TheVariants.{Line};
 ghost use Rattle.ha_model.specs.Words.{same_entity};
@@ -14,16 +14,28 @@ ghost use Rattle.state_table.specs.Domain.{change_of};
 ghost use Rattle.state_table.specs.Anew.{is_automation, sets_anew, switch_object};
 ghost use Rattle.state_table.specs.Table.{at, AgreesWith, ChangesAt, StandsBut, StandsFor};
 
-use crate::domain::{Domain, key_of, put_in, remove_from, report_in};
+use crate::domain::{Named, put_in, remove_from, report_in};
 use crate::names::parts_of;
 use ha_model::{Change, EntityId, Many, Moment, StateObject, Value, Word};
 use std::alloc::{AllocError, Global};
 use std::collections::BTreeMap;
 
-/// The states of all entities: by domain, and there by object id.
+/// The states of all entities. Those of the automations stand apart, so that their names find them.
 #[derive(Drop)]
 pub struct StateTable {
-    domains: BTreeMap<String, Domain>,
+    automations: Named,
+    others: Named,
+}
+
+/// The object id, where the id is that of an automation.
+fn automation_in(entity: &EntityId) -> Option<&str>
+    ensures { MatchOption result (is_automation entity.now ≡ false) (λ name. (is_automation entity.now ≡ true) × (name.now ≡ entity.now.object)) }
+{
+    if entity.has_domain("automation") {
+        Some(entity.object())
+    } else {
+        None
+    }
 }
 
 impl StateTable {
@@ -32,8 +44,11 @@ impl StateTable {
         ensures empty { (e : EntityId) → at result e ≡ None }
         ensures stands { StandsFor result [] }
     {
+        let automations = BTreeMap::new(alloc);
+        let others = BTreeMap::new(alloc);
         StateTable {
-            domains: BTreeMap::new(alloc),
+            automations,
+            others,
         }
     }
 
@@ -41,7 +56,10 @@ impl StateTable {
     pub fn get(&self, entity: &EntityId) -> Option<&StateObject>
         ensures { option_copied result ≡ at self.now entity.now }
     {
-        self.find(entity.domain.as_str(), entity.object.as_str())
+        match automation_in(entity) {
+            Some(name) => self.automations.get(name),
+            None => self.others.get(entity.text().as_str()),
+        }
     }
 
     /// The state of the entity that the text names; none where the text is no entity id.
@@ -49,19 +67,28 @@ impl StateTable {
         ensures { option_copied result ≡ option_and_then (at self.now) (read_entity id.now) }
     {
         match parts_of(id) {
-            Some((domain, object)) => self.find(domain, object),
+            Some((domain, object)) => self.of_parts(id, domain, object),
             None => None,
         }
     }
 
-    /// The state of the entity with this domain and object id.
-    pub fn find(&self, domain: &str, object: &str) -> Option<&StateObject>
+    /// The state of the entity of which these are the id and its two parts.
+    fn of_parts(&self, id: &str, domain: &str, object: &str) -> Option<&StateObject>
+        requires { IsParts id.now domain.now object.now }
         ensures { option_copied result ≡ at self.now (record { domain = domain.now; object = object.now }) }
     {
-        match self.domains.get(domain) {
-            Some(domain) => domain.get(object),
-            None => None,
+        if domain == "automation" {
+            self.automations.get(object)
+        } else {
+            self.others.get(id)
         }
+    }
+
+    /// The state of the automation of this name.
+    pub fn automation(&self, name: &str) -> Option<&StateObject>
+        ensures { option_copied result ≡ at self.now (record { domain = codes "automation"; object = name.now }) }
+    {
+        self.automations.get(name)
     }
 
     /// A report of an entity, after which Now is `now`. After an error the states are as before.
@@ -80,15 +107,16 @@ impl StateTable {
             → StandsFor self.new (more j (Line k n (Cmd.Report entity.now text.now attributes.now)))) }
         ensures err { OnErr result (AgreesWith self.old self.new) }
     {
-        match self.domains.get_mut(entity.domain.as_str()) {
-            Some(domain) => report_in(alloc, domain, &entity.object, text, attributes, now),
-            None => {
-                let key = key_of(alloc, &entity.domain)?;
-                let mut domain = BTreeMap::new(alloc);
-                let change = report_in(alloc, &mut domain, &entity.object, text, attributes, now)?;
-                self.domains.insert(key, domain)?;
-                Ok(change)
-            }
+        match automation_in(entity) {
+            Some(name) => report_in(alloc, &mut self.automations, name, text, attributes, now),
+            None => report_in(
+                alloc,
+                &mut self.others,
+                entity.text().as_str(),
+                text,
+                attributes,
+                now,
+            ),
         }
     }
 
@@ -99,9 +127,9 @@ impl StateTable {
         ensures stands { (j : Journal) (k n : ℕ) → StandsFor self.old j → is_automation entity.now ≡ false
             → StandsFor self.new (more j (Line k n (Cmd.Gone entity.now))) }
     {
-        match self.domains.get_mut(entity.domain.as_str()) {
-            Some(domain) => remove_from(domain, &entity.object),
-            None => false,
+        match automation_in(entity) {
+            Some(name) => remove_from(&mut self.automations, name),
+            None => remove_from(&mut self.others, entity.text().as_str()),
         }
     }
 
@@ -110,7 +138,8 @@ impl StateTable {
         ensures empty { (e : EntityId) → at self.new e ≡ None }
         ensures stands { (j : Journal) (k n : ℕ) → StandsBut (sets_anew j (Line k n Cmd.Restart)) self.new (more j (Line k n Cmd.Restart)) }
     {
-        self.domains.clear();
+        self.automations.clear();
+        self.others.clear();
     }
 
     /// An automation was turned on or off, or booted or restarted, at `now`. After an error the
@@ -129,15 +158,9 @@ impl StateTable {
         ensures err { OnErr result (AgreesWith self.old self.new) }
     {
         let object = switched(alloc, on, now)?;
-        match self.domains.get_mut(entity.domain.as_str()) {
-            Some(domain) => put_in(alloc, domain, &entity.object, object),
-            None => {
-                let key = key_of(alloc, &entity.domain)?;
-                let mut domain = BTreeMap::new(alloc);
-                put_in(alloc, &mut domain, &entity.object, object)?;
-                self.domains.insert(key, domain)?;
-                Ok(())
-            }
+        match automation_in(entity) {
+            Some(name) => put_in(alloc, &mut self.automations, name, object),
+            None => put_in(alloc, &mut self.others, entity.text().as_str(), object),
         }
     }
 }

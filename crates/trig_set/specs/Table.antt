@@ -4,6 +4,7 @@ use Rattle.std.specs.BTreeSet.{BTreeSet, contains_text}
 use Rattle.std.specs.BTreeMap.{BTreeMap, get_by_text}
 use Rattle.ha_value.specs.declared.value.EntityId.{EntityId}
 use Rattle.ha_value.specs.declared.value.Num.{Num}
+use Rattle.ha_value.specs.Ids.{for_id}
 use Rattle.ha_value.specs.Numbers.{begins_number}
 use Rattle.ha_model.specs.Conditions.{number_watched}
 use Rattle.ha_model.specs.Records.{or_else}
@@ -15,14 +16,13 @@ abbrev pub number_of : Option Text → Latest → Option Num
 number_of None l = l.own
 number_of (Some name) l = get_by_text l.attributes name
 
--- the same, of the entity of a domain with this object id
+-- the same, of the entity whose id is this text
 abbrev pub numbers_in : {Y : Type 0} → BTreeMap (String Y) Latest → Text → Option Text → Option Num
-numbers_in domain q name = option_and_then (number_of name) (get_by_text domain q)
+numbers_in entities q name = option_and_then (number_of name) (get_by_text entities q)
 
 -- the number of the entity, or of its attribute
 abbrev pub number_at : Numbers → EntityId → Option Text → Option Num
-number_at t e name =
-    option_and_then (number_of name) (option_and_then (λ domain. get_by_text domain e.object) (get_by_text t.domains e.domain))
+number_at t e name = option_and_then (number_of name) (for_id None (get_by_text t.entities) e)
 
 -- the number that a report gives, where its state text gives this one
 abbrev pub number_given : Option Num → Pairs → Option Text → Option Num

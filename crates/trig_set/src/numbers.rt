@@ -1,7 +1,9 @@
 //! The latest number of each reported entity and attribute since the last Restart.
 ghost use Rattle.std.specs.Prelude.{◌≡◌, Option, None, IfOk, OnOk, string_bytes, true, if◌then◌else◌};
+ghost use Rattle.std.specs.BTreeMap.{get_by_text};
 ghost use Rattle.std.specs.Option.{option_copied};
 ghost use Rattle.ha_value.specs.declared.value.EntityId.{EntityId as Entity};
+ghost use Rattle.ha_value.specs.Ids.{for_id};
 ghost use Rattle.ha_model.specs.Words.{Text, same, same_entity};
 ghost use Rattle.ha_model.specs.Conditions.{number_watched};
 ghost use Rattle.ha_model.specs.Entries.{opens_segment};
@@ -25,10 +27,10 @@ pub struct Latest {
     pub attributes: BTreeMap<String, Num>,
 }
 
-/// The latest numbers, by domain, object id and attribute.
+/// The latest numbers, by id and attribute.
 #[derive(Drop)]
 pub struct Numbers {
-    pub domains: BTreeMap<String, BTreeMap<String, Latest>>,
+    pub entities: BTreeMap<String, Latest>,
 }
 
 impl Numbers {
@@ -36,14 +38,18 @@ impl Numbers {
     pub fn latest(&self, entity: &EntityId, attribute: Option<&Word>) -> Option<Num>
         ensures { result ≡ number_at self.now entity.now (option_copied attribute.entry) }
     {
-        let latest = self
-            .domains
-            .get(entity.domain.as_str())?
-            .get(entity.object.as_str())?;
+        let latest = self.of_entity(entity)?;
         match attribute {
             None => latest.own,
             Some(name) => latest.attributes.get(name.as_str()).copied(),
         }
+    }
+
+    /// The numbers of an entity.
+    fn of_entity(&self, entity: &EntityId) -> Option<&Latest>
+        ensures { option_copied result ≡ for_id None (get_by_text self.now.entities) entity.now }
+    {
+        self.entities.get(entity.text().as_str())
     }
 
     /// The numbers that a report gives; a Boot and a Restart forget all.
@@ -51,7 +57,7 @@ impl Numbers {
         ensures { OnOk result ((e : Entity) (name : Option Text) → number_at self.new e name ≡ (if opens_segment entry.now then None else or_else (report_number e name entry.now) (number_at self.old e name))) }
     {
         if opens(entry) {
-            self.domains.clear();
+            self.entities.clear();
             return Ok(());
         }
         match entry {
@@ -114,16 +120,7 @@ impl Numbers {
         ensures { OnOk result ((e : Entity) (name : Option Text)
             → number_at self.new e name ≡ or_else (if same_entity entity.now e then number_given own attributes.now name else None) (number_at self.old e name)) }
     {
-        match self.domains.get_mut(entity.domain.as_str()) {
-            Some(domain) => put_in(alloc, domain, &entity.object, own, attributes),
-            None => {
-                let key = key_of(alloc, &entity.domain)?;
-                let mut domain = BTreeMap::new(alloc);
-                put_in(alloc, &mut domain, &entity.object, own, attributes)?;
-                self.domains.insert(key, domain)?;
-                Ok(())
-            }
-        }
+        put_in(alloc, &mut self.entities, entity.text(), own, attributes)
     }
 }
 
@@ -151,28 +148,28 @@ pub fn key_of(alloc: Global, word: &Word) -> Result<String, AllocError>
     String::from_str(alloc, word.as_str())
 }
 
-/// The same, of the entity of a domain with this object id.
+/// The same, of the entity with this id.
 fn put_in(
     alloc: Global,
-    domain: &mut BTreeMap<String, Latest>,
-    object: &Word,
+    entities: &mut BTreeMap<String, Latest>,
+    id: &Word,
     own: Option<Num>,
     attributes: &Many<(Word, Value)>,
 ) -> Result<(), AllocError>
     ensures { OnOk result ((q : Text) (name : Option Text)
-        → numbers_in domain.new q name ≡ or_else (if same object.now q then number_given own attributes.now name else None) (numbers_in domain.old q name)) }
+        → numbers_in entities.new q name ≡ or_else (if same id.now q then number_given own attributes.now name else None) (numbers_in entities.old q name)) }
 {
-    match domain.get_mut(object.as_str()) {
+    match entities.get_mut(id.as_str()) {
         Some(latest) => put_numbers(alloc, latest, own, attributes),
         None => {
-            let key = key_of(alloc, object)?;
+            let key = key_of(alloc, id)?;
             let fresh = BTreeMap::new(alloc);
             let mut latest = Latest {
                 own: None,
                 attributes: fresh,
             };
             put_numbers(alloc, &mut latest, own, attributes)?;
-            domain.insert(key, latest)?;
+            entities.insert(key, latest)?;
             Ok(())
         }
     }

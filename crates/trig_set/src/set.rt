@@ -58,7 +58,7 @@ impl TrigSet {
             now: Moment::at(0),
             zone: None,
             numbers: Numbers {
-                domains: BTreeMap::new(alloc),
+                entities: BTreeMap::new(alloc),
             },
         }
     }

@@ -23,7 +23,7 @@ use std::alloc::{AllocError, Global};
 fn is_automation(entity: &EntityId) -> bool
     ensures { result ≡ is_automation entity.now }
 {
-    entity.domain.bytes() == b"automation".as_slice()
+    entity.has_domain("automation")
 }
 
 /// Whether the automation of that name is on, if there is one.

@@ -55,14 +55,10 @@ pub struct Home {
 
 /// The entity of an id.
 pub fn entity(alloc: Global, id: &str) -> Result<EntityId, AllocError> {
-    let (domain, object) = match id.split_once('.') {
-        Some(parts) => parts,
-        None => (id, ""),
-    };
-    Ok(EntityId {
-        domain: Word::from_str(alloc, domain)?,
-        object: Word::from_str(alloc, object)?,
-    })
+    match EntityId::read(alloc, id.as_bytes()) {
+        Ok(entity) => Ok(entity),
+        Err(_) => Err(AllocError),
+    }
 }
 
 /// One pair of a name and a whole number.

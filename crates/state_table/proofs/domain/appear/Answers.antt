@@ -6,7 +6,7 @@ use Rattle.state_table.proofs.domain.appear.Goals as goal
 
 pub returns-clause-ok : goal.returns-clause-ok
 returns-clause-ok c =
-    let m = c.args.domain.now in
+    let m = c.args.states.now in
     let n = c.insert.new.self in
     subst (λ o. ChangesName m n c.args.name.now (Some o)) c.in_ok-object.ensures
     (changes-name m n _ _ _ c.in_ok-key.ensures c.in_ok-insert.ensures.updates)

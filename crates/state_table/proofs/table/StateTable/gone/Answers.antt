@@ -1,24 +1,34 @@
-use Rattle.std.proofs.Common.{rules, None, ◌∙◌, ap}
+use Rattle.std.proofs.Common.{◌∙◌, ap, refl, sym, None}
+use Rattle.std.specs.Prelude.{is_some}
+use Rattle.std.specs.BTreeMap.{get_by_text}
 use Rattle.state_table.specs.Table.{at}
-use Rattle.state_table.proofs.DomainLemmas.{changes-name}
-use Rattle.state_table.proofs.TableLemmas.{at_id, domain-none, domain-there, deep-changes, nothing-changes, stands-gone}
+use Rattle.state_table.proofs.TableLemmas.{automation-changes, automation-here, other-changes, other-here, stands-gone}
 use Rattle.state_table.proofs.table.StateTable.gone.Goals as goal
+
+pub returns-in-Some-clause-found : goal.returns-in-Some-clause-found
+returns-in-Some-clause-found c =
+    let t = c.args.self.now in
+    c.remove_from.ensures.found ∙ ap is_some (ap (get_by_text t.automations) c.in-Some.ensures.1 ∙ sym (automation-here (get_by_text t.automations) (get_by_text t.others) c.args.entity.now c.in-Some.ensures.0))
 
 pub returns-in-Some-clause-rest : goal.returns-in-Some-clause-rest
 returns-in-Some-clause-rest c =
-    let m = c.args.self.now.domains in
-    let changed = c.remove_from.new.domain in
-    let n = c.get_mut.follows.lender changed in
-    deep-changes m n c.args.entity.now c.in-Some.domain.now changed
-    (domain-there m c.args.entity.now c.in-Some.domain.now _ c.as_str.ensures.value c.in-Some.ensures.value)
-    (changes-name m n _ _ _ c.as_str.ensures.value ((c.get_mut.follows.holds changed).3 (search rules))) None c.remove_from.ensures.rest
+    let t = c.args.self.now in
+    automation-changes (get_by_text t.automations) (get_by_text t.others) c.args.entity.now (get_by_text c.remove_from.new.states) _ None None refl c.in-Some.ensures.0 c.in-Some.ensures.1 c.remove_from.ensures.rest
 
 pub returns-in-Some-clause-stands : goal.returns-in-Some-clause-stands
 returns-in-Some-clause-stands c = stands-gone (at c.args.self.now) _ c.args.entity.now (returns-in-Some-clause-rest c)
 
+pub returns-in-None-clause-found : goal.returns-in-None-clause-found
+returns-in-None-clause-found c =
+    let t = c.args.self.now in
+    c.remove_from-in-None.ensures.found
+    ∙ ap is_some (ap (get_by_text t.others) (c.as_str.ensures.value ∙ c.text.ensures.value) ∙ sym (other-here (get_by_text t.automations) (get_by_text t.others) c.args.entity.now c.in-None.ensures c.text.ensures.domain))
+
+pub returns-in-None-clause-rest : goal.returns-in-None-clause-rest
+returns-in-None-clause-rest c =
+    let t = c.args.self.now in
+    other-changes (get_by_text t.automations) (get_by_text t.others) c.args.entity.now (get_by_text c.remove_from-in-None.new.states) _ None None refl c.in-None.ensures c.text.ensures.domain
+    (c.as_str.ensures.value ∙ c.text.ensures.value) c.remove_from-in-None.ensures.rest
+
 pub returns-in-None-clause-stands : goal.returns-in-None-clause-stands
-returns-in-None-clause-stands c =
-    let m = c.args.self.now.domains in
-    let none = domain-none m c.args.entity.now _ c.as_str.ensures.value c.in-None.ensures.value in
-    stands-gone (at c.args.self.now) _ c.args.entity.now
-    (λ q. ap (λ k. at_id k q) c.get_mut.follows.holds-at-none ∙ nothing-changes (at c.args.self.now) c.args.entity.now none q)
+returns-in-None-clause-stands c = stands-gone (at c.args.self.now) _ c.args.entity.now (returns-in-None-clause-rest c)

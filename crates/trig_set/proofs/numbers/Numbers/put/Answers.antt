@@ -1,23 +1,22 @@
-use Rattle.std.proofs.Common.{rules}
+use Rattle.std.proofs.Common.{◌∙◌, ap, refl, sym}
+use Rattle.std.specs.Prelude.{None, if◌then◌else◌}
+use Rattle.ha_past.specs.Looks.{or_else}
+use Rattle.ha_model.specs.Words.{same, same_entity}
+use Rattle.ha_model.proofs.IdLemmas.{turns}
+use Rattle.trig_set.specs.Table.{number_given, numbers_in}
 use Rattle.trig_set.proofs.OnLemmas.{on-then}
-use Rattle.trig_set.proofs.TableLemmas.{changes-name, inserts-name, domain-there, domain-new, deep-put}
+use Rattle.trig_set.proofs.TableLemmas.{number-here}
 use Rattle.trig_set.proofs.numbers.Numbers.put.Goals as goal
 
-pub returns-in-Some : goal.returns-in-Some
-returns-in-Some c =
-    let m = c.args.self.now.domains in
-    let changed = c.put_in.new.domain in
-    let n = c.get_mut.follows.lender changed in
+pub returns : goal.returns
+returns c =
     on-then _ _ c.put_in.result
-    (λ h q name. deep-put m n c.args.entity.now c.in-Some.domain.now changed
-    (domain-there m c.args.entity.now c.in-Some.domain.now _ c.as_str.ensures.value c.in-Some.ensures.value)
-    (changes-name m n _ _ _ c.as_str.ensures.value ((c.get_mut.follows.holds changed).3 (search rules))) name _ (λ o. h o name) q)
+    (λ h e name.
+        let made = number_given c.args.own c.args.attributes.now name in
+        let m = c.args.self.now.entities in
+        let n = c.put_in.new.entities in
+        number-here n e name
+        ∙ turns None (λ q. numbers_in m q name) (λ q. numbers_in n q name) c.args.entity.now c.text.ensures.domain (λ b x. or_else (if b then made else None) x) refl
+        (λ q. h q name ∙ ap (λ t. or_else (if same t q then made else None) (numbers_in m q name)) c.text.ensures.value) e
+        ∙ ap (or_else (if same_entity c.args.entity.now e then made else None)) (sym (number-here m e name)))
     c.put_in.ensures
-
-pub returns-in_ok-insert-in-None : goal.returns-in_ok-insert-in-None
-returns-in_ok-insert-in-None c q name =
-    let m = c.args.self.now.domains in
-    deep-put m c.insert.new.self c.args.entity.now c.new-domain.result c.put_in-in-None.new.domain
-    (domain-new m c.args.entity.now c.new-domain.result _ c.as_str.ensures.value c.in-None.ensures.value c.new-domain.ensures.empty)
-    (inserts-name c.get_mut.follows.lender-at-none m c.insert.new.self c.get_mut.follows.holds-at-none _ _ _ c.in_ok-key-in-None.ensures c.in_ok-insert-in-None.ensures.updates) name _
-    (λ o. c.in_ok-put_in-in-None.ensures o name) q
