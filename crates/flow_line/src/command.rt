@@ -1,6 +1,7 @@
 //! The command of a line.
 
 ghost use Rattle.std.specs.Prelude.{◌≡◌, length, option_copied, IfOk};
+ghost use Rattle.ha_value.specs.Ids.{read_entity};
 ghost use Rattle.ha_model.specs.Commands.{put_as, IsFair};
 ghost use Rattle.ha_model.specs.Journal.{Journal};
 ghost use Rattle.ha_model.specs.Words.{characters};
@@ -13,7 +14,7 @@ use crate::read::read_value;
 use crate::refusal::Refusal;
 use ha_clock::read_moment;
 use ha_model::{Cmd, characters};
-use ha_value::{EntityId, Value, Word};
+use ha_value::{EntityFault, EntityId, Value, Word};
 use reading::{Stop, is_utf8};
 use std::alloc::{AllocError, Global};
 
@@ -22,6 +23,17 @@ const LINE_BYTES: usize = 65_536;
 
 /// A state may have this many characters.
 const STATE_CHARACTERS: usize = 255;
+
+/// The entity id that a text is.
+fn entity_of(alloc: Global, text: &Word) -> Result<Option<EntityId>, AllocError>
+    ensures { IfOk result (λ id. id ≡ read_entity text.now) }
+{
+    match EntityId::read(alloc, text.bytes()) {
+        Ok(id) => Ok(Some(id)),
+        Err(EntityFault::Shape) => Ok(None),
+        Err(EntityFault::Memory) => Err(AllocError),
+    }
+}
 
 fn is_automation(id: &EntityId) -> bool
     ensures { result ≡ is_automation id.now }
@@ -79,7 +91,7 @@ fn report(alloc: Global, pairs: &mut Pairs) -> Result<Cmd, Refused>
     let id = take_text(pairs, b"report")?;
     let text = take_text(pairs, b"state")?;
     let attributes = take_map(alloc, pairs, b"attributes")?;
-    let entity = reportable(EntityId::of_text(id))?;
+    let entity = reportable(entity_of(alloc, &id)?)?;
     let text = state_of(text)?;
     Ok(Cmd::Report {
         entity,
@@ -89,12 +101,12 @@ fn report(alloc: Global, pairs: &mut Pairs) -> Result<Cmd, Refused>
 }
 
 #[tactic(auto, unfolding(crate::specs::Command::gone_of))]
-fn gone(pairs: &mut Pairs) -> Result<Cmd, Refused>
+fn gone(alloc: Global, pairs: &mut Pairs) -> Result<Cmd, Refused>
     ensures exact { Says (gone_of pairs.old) result }
     ensures in_time { IfOk result IsInTime }
 {
     let id = take_text(pairs, b"gone")?;
-    let entity = reportable(EntityId::of_text(id))?;
+    let entity = reportable(entity_of(alloc, &id)?)?;
     Ok(Cmd::Gone { entity })
 }
 
@@ -132,7 +144,7 @@ fn switch(alloc: Global, pairs: &mut Pairs) -> Result<Cmd, Refused>
     let to = take_text(pairs, b"to")?;
     let on = turned(&to)?;
     let stop = take_flag(pairs, b"stop_actions")?;
-    let name = automation(alloc, EntityId::of_text(id))?;
+    let name = automation(alloc, entity_of(alloc, &id)?)?;
     Ok(Cmd::Switch { name, on, stop })
 }
 
@@ -143,7 +155,7 @@ fn trigger(alloc: Global, pairs: &mut Pairs) -> Result<Cmd, Refused>
 {
     let id = take_text(pairs, b"trigger")?;
     let skip = take_flag(pairs, b"skip_condition")?;
-    let name = automation(alloc, EntityId::of_text(id))?;
+    let name = automation(alloc, entity_of(alloc, &id)?)?;
     Ok(Cmd::Trigger { name, skip })
 }
 
@@ -165,7 +177,7 @@ fn command_by(alloc: Global, command: Command, pairs: &mut Pairs) -> Result<Cmd,
 {
     match command {
         Command::Report => report(alloc, pairs),
-        Command::Gone => gone(pairs),
+        Command::Gone => gone(alloc, pairs),
         Command::Event => event(alloc, pairs),
         Command::Moment => moment(pairs),
         Command::Switch => switch(alloc, pairs),

@@ -23,7 +23,7 @@ pub(crate) fn empty_line(alloc: Global) -> Result<Word, AllocError>
 pub(crate) fn push_bare_id(text: &mut Word, id: &EntityId) -> Result<(), AllocError>
     ensures { OnOk result (text.new ≡ text.old ++ flat_map escaped_byte (entity_text id.now)) }
 {
-    push_chars(text, id.text().as_str())?;
+    push_chars(text, id.text())?;
     Ok(())
 }
 
@@ -32,7 +32,7 @@ pub(crate) fn push_id(text: &mut Word, id: &EntityId) -> Result<(), AllocError>
     ensures { OnOk result (text.new ≡ text.old ++ id_text id.now) }
 {
     text.push_byte(b'"')?;
-    push_chars(text, id.text().as_str())?;
+    push_chars(text, id.text())?;
     text.push_byte(b'"')?;
     Ok(())
 }

@@ -96,12 +96,12 @@ pub read_kept : (text : List ℕ) → is_some (read_entity text) ≡ true → Is
 read_kept text h =
     let p = parts_found text h in
     record {
-        written = cut_joined 46 text (object_in text) p.0;
-        domain = name_utf8 (before_first 46 text) (and_left _ _ p.1);
-        object = name_utf8 (object_in text) (and_right (is_name (before_first 46 text)) _ p.1)
+      written = cut_joined 46 text (object_in text) p.0;
+      domain = name_utf8 (before_first 46 text) (and_left _ _ p.1);
+      object = name_utf8 (object_in text) (and_right (is_name (before_first 46 text)) _ p.1);
     }
 
-or_this : Entity → Option Entity → Entity
+abbrev or_this : Entity → Option Entity → Entity
 or_this a None = a
 or_this a (Some e) = e
 
@@ -115,9 +115,18 @@ read_parts text e h =
     let is : entity_in text ≡ e = same_some (entity_in text) e (sym (read_is text some) ∙ h) in
     ((read_kept text some).written ∙ ap entity_text is, ap (λ (x : Entity). after_first 46 x.domain) (sym is) ∙ none_before 46 text)
 
+-- ---- a text that is written piece by piece
+
+dot_between : (front back : List ℕ) → (front ++ 46 ∷ []) ++ back ≡ front ++ 46 ∷ back
+dot_between [] back = refl
+dot_between (x ∷ xs) back = ap (λ l. x ∷ l) (dot_between xs back)
+
+pub dotted : (front back one two three : List ℕ) → one ≡ front → two ≡ one ++ 46 ∷ [] → three ≡ two ++ back → three ≡ front ++ 46 ∷ back
+dotted front back one two three a b c = c ∙ ap (λ t. t ++ back) (b ∙ ap (λ t. t ++ 46 ∷ []) a) ∙ dot_between front back
+
 -- ---- kept texts
 
-joined_utf8 : (front back : List ℕ) → IsUtf8 front → IsUtf8 back → IsUtf8 (front ++ 46 ∷ back)
+pub joined_utf8 : (front back : List ℕ) → IsUtf8 front → IsUtf8 back → IsUtf8 (front ++ 46 ∷ back)
 joined_utf8 front back f b =
     IsUtf8-append front (46 ∷ back) f (IsUtf8-append (46 ∷ []) back (IsUtf8-from_ascii (46 ∷ []) (IsAscii-cons 46 [] (omega arith) IsAscii-nil)) b)
 
@@ -171,11 +180,11 @@ module _ (text front : List ℕ) (kept : IsKept text) where
   joined_by e = kept.written ∙ ap (λ d. d ++ 46 ∷ object_in text) (bytes_sound own front e)
 
   by_false : (bytes_eq own front ≡ true → ⊥) → false ≡ bytes_eq own front
-  by_false no = by (bytes_eq own front) no
+  by_false never = by (bytes_eq own front) never
     where
       by : (b : Bool) → (b ≡ true → ⊥) → false ≡ b
-      by true no = absurd (no refl)
-      by false no = refl
+      by true never = absurd (never refl)
+      by false never = refl
 
   pub too_short : length text ≤ length front → false ≡ bytes_eq own front
   too_short l = by_false (λ e.
@@ -183,7 +192,7 @@ module _ (text front : List ℕ) (kept : IsKept text) where
       absurd (omega (arith, l, longer)))
 
   pub other_byte : (get_or text (length front) 0 ≡ 46 → ⊥) → false ≡ bytes_eq own front
-  other_byte no = by_false (λ e. no (ap (λ t. get_or t (length front) 0) (joined_by e) ∙ byte_between front (object_in text) 46))
+  other_byte never = by_false (λ e. never (ap (λ t. get_or t (length front) 0) (joined_by e) ∙ byte_between front (object_in text) 46))
 
   pub front_tells : length front < length text → get_or text (length front) 0 ≡ 46 → after_first 46 front ≡ None
       → bytes_eq (take (length front) text) front ≡ bytes_eq own front
@@ -194,7 +203,7 @@ module _ (text front : List ℕ) (kept : IsKept text) where
       by false false p q = refl
       by true false p q =
           let whole : text ≡ front ++ 46 ∷ drop (suc (length front)) text =
-              cut_at_byte text (length front) 46 l b ∙ ap (λ t. t ++ 46 ∷ drop (suc (length front)) text) (bytes_sound (take (length front) text) front p) in
+          cut_at_byte text (length front) 46 l b ∙ ap (λ t. t ++ 46 ∷ drop (suc (length front)) text) (bytes_sound (take (length front) text) front p) in
           let is : own ≡ front = ap (before_first 46) whole ∙ before_joined 46 front (drop (suc (length front)) text) plain in
           sym (bytes_along own front is) ∙ q
       by false true p q =

@@ -7,7 +7,7 @@ ghost use Rattle.ha_value.specs.Lists.{after_first, before_first};
 
 use crate::cut::cut_at;
 use crate::held::text_of;
-use crate::plain::Plain;
+use crate::id_text::IdText;
 use crate::value::EntityId;
 use crate::word::Word;
 use std::alloc::{AllocError, Global};
@@ -59,10 +59,10 @@ fn is_entity(text: &[u8]) -> bool
 }
 
 /// What follows the first dot.
-fn behind_dot(text: &str) -> &[u8]
+fn behind_dot(text: &[u8]) -> &[u8]
     ensures { result.now ≡ object_in text.now }
 {
-    match cut_at(text.as_bytes(), b'.').1 {
+    match cut_at(text, b'.').1 {
         Some(object) => object,
         None => b"",
     }
@@ -91,7 +91,7 @@ fn kept(alloc: Global, text: &[u8]) -> Result<EntityId, AllocError>
     ensures form { IfOk result (λ id. is_entity id ≡ true) }
 {
     Ok(EntityId {
-        text: Word::from_bytes(alloc, text)?,
+        text: IdText::from_bytes(alloc, text)?,
     })
 }
 
@@ -111,34 +111,22 @@ impl EntityId {
         }
     }
 
-    /// The id that the text is, if it is one. The text stays where it is.
-    pub fn of_text(text: Word) -> Option<EntityId>
-        ensures { result ≡ read_entity text }
-    {
-        if is_entity(text.bytes()) {
-            Some(EntityId { text })
-        } else {
-            None
-        }
-    }
-
     /// The id of two parts.
     pub fn of_parts(alloc: Global, domain: &str, object: &str) -> Result<EntityId, AllocError>
         requires { after_first 46 domain.now ≡ None }
         ensures { IfOk result (λ id. id ≡ record { domain = domain.now; object = object.now }) }
     {
-        let mut text = Word::from_str(alloc, domain)?;
-        text.push_byte(b'.')?;
-        text.push_str(object)?;
-        Ok(EntityId { text })
+        Ok(EntityId {
+            text: IdText::of_parts(alloc, domain, object)?,
+        })
     }
 
     /// The id as it is written. Its domain has no dot.
-    pub fn text(&self) -> &Word
+    pub fn text(&self) -> &str
         ensures value { result.now ≡ entity_text self.now }
         ensures domain { after_first 46 self.now.domain ≡ None }
     {
-        &self.text
+        self.text.as_str()
     }
 
     /// Whether the domain is this one, without a search for the dot.
@@ -161,14 +149,14 @@ impl EntityId {
     pub fn object(&self) -> &str
         ensures { result.now ≡ self.now.object }
     {
-        text_of(behind_dot(self.text.as_str()))
+        text_of(behind_dot(self.text.bytes()))
     }
 
     /// The id as it is written, as a text of its own.
     pub fn print(&self, alloc: Global) -> Result<Word, AllocError>
         ensures { IfOk result (λ w. w ≡ entity_text self.now) }
     {
-        self.text.copy(alloc)
+        Word::from_str(alloc, self.text.as_str())
     }
 
     /// Puts a copy in the place of another id.

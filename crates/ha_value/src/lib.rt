@@ -6,6 +6,7 @@
 mod cut;
 mod held;
 mod id;
+mod id_text;
 pub mod laws;
 mod many;
 mod num;
