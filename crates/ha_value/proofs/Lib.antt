@@ -6,3 +6,4 @@ pub mod DigitLemmas
 pub mod PrintLemmas
 pub mod PlaceLemmas
 pub mod EntityLemmas
+pub mod NameLemmas

@@ -1,5 +1,5 @@
 -- Entity ids: `domain.object_id`, each part one or more of `a` to `z`, `0` to `9` and `_`.
-use Rattle.std.specs.Prelude.{◌≡◌, ℕ, Bool, true, ◌&&◌, ◌||◌, nat_eq, List, ◌∷◌, ◌++◌, Option, Some, None, is_some, if◌then◌else◌}
+use Rattle.std.specs.Prelude.{◌≡◌, ℕ, Bool, true, false, ◌&&◌, ◌||◌, nat_eq, List, [], ◌∷◌, ◌++◌, Option, Some, None, is_some, if◌then◌else◌}
 use Rattle.std.specs.Char.{is_ascii_lowercase, is_ascii_digit}
 use Rattle.ha_value.specs.declared.value.EntityId.{EntityId}
 use Rattle.ha_value.specs.Lists.{some_all, before_first, after_first}
@@ -35,3 +35,8 @@ for_id none table e = if is_some (after_first 46 e.domain) then none else table 
 abbrev pub IsParts : List ℕ → List ℕ → List ℕ → Type 0
 IsParts text domain object = (is_name domain ≡ true) × (is_name object ≡ true)
     × (read_entity text ≡ Some (record { domain = domain; object = object }))
+
+-- what follows is a dot and a name, and something stands in front
+abbrev pub dot_and_name : Bool → List ℕ → Bool
+dot_and_name front [] = false
+dot_and_name front (c ∷ object) = nat_eq c 46 && (front && is_name object)

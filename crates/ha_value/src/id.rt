@@ -2,8 +2,8 @@
 ghost use Rattle.std.specs.Prelude.{◌≡◌, ◌↔◌, true, Some, None, Err, IfOk, OnErr, OnOk, is_some};
 ghost use Rattle.std.specs.Str.{bytes_eq};
 ghost use Rattle.ha_value.specs.Entities.{IsKept, object_in};
-ghost use Rattle.ha_value.specs.Ids.{entity_text, is_entity, is_name, is_name_byte, read_entity};
-ghost use Rattle.ha_value.specs.Lists.{after_first, before_first};
+ghost use Rattle.ha_value.specs.Ids.{dot_and_name, entity_text, is_entity, is_name, is_name_byte, read_entity};
+ghost use Rattle.ha_value.specs.Lists.{after_first, after_front, before_first};
 
 use crate::cut::cut_at;
 use crate::held::text_of;
@@ -46,16 +46,36 @@ pub fn is_name(text: &[u8]) -> bool
     true
 }
 
-/// Whether the text is an id.
-#[tactic(auto, unfolding(crate::specs::Ids::read_entity))]
+/// What follows the longest front that is made of bytes of names.
+#[tactic(auto, using(crate::proofs::CutLemmas::cuts))]
+fn behind_name(text: &[u8]) -> &[u8]
+    ensures { result.now ≡ after_front is_name_byte text.now }
+{
+    for i in 0..text.len() {
+        if !is_name_byte(text[i]) {
+            return &text[i..];
+        }
+    }
+    &text[text.len()..]
+}
+
+/// Whether a dot and a name follow a front that is not empty.
+fn dot_and_name(front: bool, rest: &[u8]) -> bool
+    ensures { result ≡ dot_and_name front rest.now }
+{
+    match rest {
+        [] => false,
+        [first, object @ ..] => *first == b'.' && (front && is_name(object)),
+    }
+}
+
+/// Whether the text is an id. Each byte is looked at once.
+#[tactic(auto, using(crate::proofs::NameLemmas::is_id))]
 fn is_entity(text: &[u8]) -> bool
     ensures { result ≡ is_some (read_entity text.now) }
 {
-    let (domain, object) = cut_at(text, b'.');
-    match object {
-        None => false,
-        Some(object) => is_name(domain) && is_name(object),
-    }
+    let rest = behind_name(text);
+    dot_and_name(rest.len() < text.len(), rest)
 }
 
 /// What follows the first dot.

@@ -1,0 +1,6 @@
+use Rattle.std.proofs.Common.{◌≡◌, ℕ, ◌<◌, true, get_or}
+use Rattle.ha_value.specs.Ids.{is_name_byte}
+use Rattle.ha_value.proofs.id.behind_name.Given as goal
+
+abbrev pub invariant-loop-i : goal.invariant-loop-i
+invariant-loop-i l = (k : ℕ) → k < l.i → is_name_byte (get_or l.text k 0) ≡ true
