@@ -44,11 +44,9 @@ impl StateTable {
         ensures empty { (e : EntityId) → at result e ≡ None }
         ensures stands { StandsFor result [] }
     {
-        let automations = BTreeMap::new(alloc);
-        let others = BTreeMap::new(alloc);
         StateTable {
-            automations,
-            others,
+            automations: BTreeMap::new(alloc),
+            others: BTreeMap::new(alloc),
         }
     }
 
@@ -58,7 +56,7 @@ impl StateTable {
     {
         match automation_in(entity) {
             Some(name) => self.automations.get(name),
-            None => self.others.get(entity.text().as_str()),
+            None => self.others.get(entity.text()),
         }
     }
 
@@ -112,7 +110,7 @@ impl StateTable {
             None => report_in(
                 alloc,
                 &mut self.others,
-                entity.text().as_str(),
+                entity.text(),
                 text,
                 attributes,
                 now,
@@ -129,7 +127,7 @@ impl StateTable {
     {
         match automation_in(entity) {
             Some(name) => remove_from(&mut self.automations, name),
-            None => remove_from(&mut self.others, entity.text().as_str()),
+            None => remove_from(&mut self.others, entity.text()),
         }
     }
 
@@ -160,7 +158,7 @@ impl StateTable {
         let object = switched(alloc, on, now)?;
         match automation_in(entity) {
             Some(name) => put_in(alloc, &mut self.automations, name, object),
-            None => put_in(alloc, &mut self.others, entity.text().as_str(), object),
+            None => put_in(alloc, &mut self.others, entity.text(), object),
         }
     }
 }
