@@ -11,11 +11,10 @@ use Rattle.ha_model.specs.RecordSteps.{more}
 use Rattle.ha_model.specs.States.{states}
 use Rattle.timer_queue.specs.Timers.{Timer, due_of}
 use Rattle.timer_queue.proofs.TimerLemmas.{later_than}
-use Rattle.ha_model.specs.Words.{Text, same, same_entity}
-use Rattle.ha_model.proofs.EqualLemmas.{and_left, and_right, same-sound}
+use Rattle.ha_model.specs.Words.{Text, same_entity}
+use Rattle.ha_model.proofs.EqualLemmas.{entity-sound}
 use Rattle.ha_past.specs.Firings.{firings_of}
 use Rattle.event_bus.specs.declared.index.Index.{Index}
-use Rattle.event_bus.specs.Lists.{has_in}
 use Rattle.event_bus.specs.Subjects.{Subject, concerns, knows}
 use Rattle.trig_set.specs.declared.owners.Attached.{Attached}
 use Rattle.trig_set.specs.declared.scene.Scene.{Scene}
@@ -50,10 +49,7 @@ unshifted index n e [] aside h = refl
 unshifted index n e (c ∷ cs) aside h = by (same_entity c.entity e) refl (unshifted index n e cs (λ k. aside (suc k)) h)
   where
     by : (b : Bool) → same_entity c.entity e ≡ b → shift_of cs e ≡ None → (if b then Some c else shift_of cs e) ≡ None
-    by true s rest =
-        let d = same-sound c.entity.domain e.domain (and_left _ _ s) in
-        let o = same-sound c.entity.object e.object (and_right (same c.entity.domain e.domain) _ s) in
-        absurd (never (knows index (Subject.Entity e) n) h (sym (λ i. has_in index.entities (d i) (o i) n) ∙ aside 0))
+    by true s rest = absurd (never (knows index (Subject.Entity e) n) h (sym (λ i. knows index (Subject.Entity (entity-sound c.entity e s i)) n) ∙ aside 0))
     by false s rest = rest
 
 -- an entry doesn't concern an owner: no segment opens with it, and the index doesn't have the owner for it; of the entities for which the

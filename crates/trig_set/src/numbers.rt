@@ -49,7 +49,7 @@ impl Numbers {
     fn of_entity(&self, entity: &EntityId) -> Option<&Latest>
         ensures { option_copied result ≡ for_id None (get_by_text self.now.entities) entity.now }
     {
-        self.entities.get(entity.text().as_str())
+        self.entities.get(entity.text())
     }
 
     /// The numbers that a report gives; a Boot and a Restart forget all.
@@ -152,17 +152,17 @@ pub fn key_of(alloc: Global, word: &Word) -> Result<String, AllocError>
 fn put_in(
     alloc: Global,
     entities: &mut BTreeMap<String, Latest>,
-    id: &Word,
+    id: &str,
     own: Option<Num>,
     attributes: &Many<(Word, Value)>,
 ) -> Result<(), AllocError>
     ensures { OnOk result ((q : Text) (name : Option Text)
         → numbers_in entities.new q name ≡ or_else (if same id.now q then number_given own attributes.now name else None) (numbers_in entities.old q name)) }
 {
-    match entities.get_mut(id.as_str()) {
+    match entities.get_mut(id) {
         Some(latest) => put_numbers(alloc, latest, own, attributes),
         None => {
-            let key = key_of(alloc, id)?;
+            let key = String::from_str(alloc, id)?;
             let fresh = BTreeMap::new(alloc);
             let mut latest = Latest {
                 own: None,

@@ -1,5 +1,4 @@
 use Rattle.std.proofs.Common.{◌∙◌, ap, refl, Some, None, rules}
-use Rattle.std.specs.BTreeMap.{get_by_text}
 use Rattle.ha_past.specs.Looks.{or_else}
 use Rattle.trig_set.proofs.OnLemmas.{on-then}
 use Rattle.trig_set.proofs.TableLemmas.{changes-name, inserts-name, put-one, none-yet}
@@ -11,13 +10,13 @@ returns-in-Some c =
     let changed = c.put_numbers.new.latest in
     let n = c.get_mut.follows.lender changed in
     on-then _ _ c.put_numbers.result
-    (λ h q name. put-one m n c.args.id.now changed (changes-name m n _ _ _ c.as_str.ensures.value ((c.get_mut.follows.holds changed).3 (search rules))) (Some c.in-Some.latest.now) (c.in-Some.ensures.value ∙ ap (get_by_text m) c.as_str.ensures.value) name _ (h name) q)
+    (λ h q name. put-one m n c.args.id.now changed (changes-name m n _ _ _ refl ((c.get_mut.follows.holds changed).3 (search rules))) (Some c.in-Some.latest.now) c.in-Some.ensures.value name _ (h name) q)
     c.put_numbers.ensures
 
 pub returns-in_ok-insert-in-None : goal.returns-in_ok-insert-in-None
 returns-in_ok-insert-in-None c q name =
     let m = c.args.entities.now in
     put-one m c.insert.new.self c.args.id.now c.put_numbers-in-None.new.latest
-    (inserts-name c.get_mut.follows.lender-at-none m c.insert.new.self c.get_mut.follows.holds-at-none _ _ _ c.in_ok-key-in-None.ensures c.in_ok-insert-in-None.ensures.updates)
-    None (c.in-None.ensures.value ∙ ap (get_by_text m) c.as_str.ensures.value) name _
+    (inserts-name c.get_mut.follows.lender-at-none m c.insert.new.self c.get_mut.follows.holds-at-none _ _ _ c.in_ok-key-in-None.ensures.ok c.in_ok-insert-in-None.ensures.updates)
+    None c.in-None.ensures.value name _
     (c.in_ok-put_numbers-in-None.ensures name ∙ ap (or_else _) (none-yet _ refl c.new-fresh.ensures.empty name)) q

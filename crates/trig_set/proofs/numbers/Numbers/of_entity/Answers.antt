@@ -7,4 +7,4 @@ use Rattle.trig_set.proofs.numbers.Numbers.of_entity.Goals as goal
 pub returns : goal.returns
 returns c =
     let m = c.args.self.now.entities in
-    c.get.ensures.value ∙ ap (get_by_text m) (c.as_str.ensures.value ∙ c.text.ensures.value) ∙ sym (here None (get_by_text m) c.args.entity.now c.text.ensures.domain)
+    c.get.ensures.value ∙ ap (get_by_text m) c.text.ensures.value ∙ sym (here None (get_by_text m) c.args.entity.now c.text.ensures.domain)
