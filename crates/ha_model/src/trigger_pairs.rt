@@ -56,14 +56,12 @@ fn head(
     Ok(pairs)
 }
 
-/// The parts of a state of an entity, with its id as it is written.
+/// The parts of a state of an entity.
 fn object_pairs(
     alloc: Global,
-    id: &Word,
     entity: &EntityId,
     state: &StateObject,
 ) -> Result<Many<(Word, Value)>, AllocError>
-    requires { id.now ≡ entity_text entity.now }
     ensures { IfOk result (λ ps. ps
         ≡ (codes "entity_id", Value.Text (entity_text entity.now))
         ∷ (codes "domain", Value.Text entity.now.domain)
@@ -72,7 +70,7 @@ fn object_pairs(
         ∷ (codes "attributes", Map state.now.attributes) ∷ []) }
 {
     let mut pairs = Many::with_room(alloc, 5)?;
-    push_text(alloc, &mut pairs, "entity_id", id.as_str())?;
+    push_text(alloc, &mut pairs, "entity_id", entity.text())?;
     push_text(alloc, &mut pairs, "domain", entity.domain())?;
     push_text(alloc, &mut pairs, "object_id", entity.object())?;
     push_text(alloc, &mut pairs, "state", state.text.as_str())?;
@@ -87,28 +85,24 @@ fn object_pairs(
 
 fn object_value(
     alloc: Global,
-    id: &Word,
     entity: &EntityId,
     state: &StateObject,
 ) -> Result<Value, AllocError>
-    requires { id.now ≡ entity_text entity.now }
     ensures { IfOk result (λ v. v ≡ triggers.state_value [] entity.now (Some state.now)) }
 {
-    Ok(Value::Pairs(object_pairs(alloc, id, entity, state)?))
+    Ok(Value::Pairs(object_pairs(alloc, entity, state)?))
 }
 
 /// A state as a value, null where there is none.
 fn optional_value(
     alloc: Global,
-    id: &Word,
     entity: &EntityId,
     state: Option<&StateObject>,
 ) -> Result<Value, AllocError>
-    requires { id.now ≡ entity_text entity.now }
     ensures { IfOk result (λ v. v ≡ triggers.state_value [] entity.now (option_copied state.entry)) }
 {
     match state {
-        Some(state) => object_value(alloc, id, entity, state),
+        Some(state) => object_value(alloc, entity, state),
         None => Ok(Value::Null),
     }
 }
@@ -125,20 +119,19 @@ fn states_pairs(
         ∷ (codes "from_state", triggers.state_value [] entity.now (option_copied old.entry))
         ∷ (codes "to_state", triggers.state_value [] entity.now (option_copied new.entry)) ∷ []) }
 {
-    let id = entity.print(alloc)?;
     let mut pairs = Many::with_room(alloc, 5)?;
-    push_text(alloc, &mut pairs, "entity_id", id.as_str())?;
+    push_text(alloc, &mut pairs, "entity_id", entity.text())?;
     add(
         alloc,
         &mut pairs,
         "from_state",
-        optional_value(alloc, &id, entity, old)?,
+        optional_value(alloc, entity, old)?,
     )?;
     add(
         alloc,
         &mut pairs,
         "to_state",
-        optional_value(alloc, &id, entity, new)?,
+        optional_value(alloc, entity, new)?,
     )?;
     Ok(pairs)
 }
