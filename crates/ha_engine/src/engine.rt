@@ -66,6 +66,12 @@ fn push_line(journal: &mut Vec<Entry>, source: u32, number: u64, cmd: Cmd)
     });
 }
 
+/// Lets a command go that is not put. It stands apart, so that one that is put moves as a whole.
+#[inline(never)]
+fn let_go(cmd: Cmd) {
+    drop(cmd);
+}
+
 /// Whether one of the automations has this name.
 fn any_named(all: &[Automation], name: &Word) -> bool
     ensures { result ≡ list_any (λ a. same a.name name.now) all.now }
@@ -171,9 +177,11 @@ impl Engine {
         ensures spent { (self.new.is_spent ≡ true) ↔ (result ≡ Err CoreFault.Memory) }
     {
         if MOST <= self.journal.len() {
+            let_go(cmd);
             return Err(CoreFault::Full);
         }
         if self.journal.reserve(1).is_err() {
+            let_go(cmd);
             self.spent = true;
             return Err(CoreFault::Memory);
         }
