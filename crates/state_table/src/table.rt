@@ -14,7 +14,7 @@ ghost use Rattle.state_table.specs.Domain.{change_of};
 ghost use Rattle.state_table.specs.Anew.{is_automation, sets_anew, switch_object};
 ghost use Rattle.state_table.specs.Table.{at, AgreesWith, ChangesAt, StandsBut, StandsFor};
 
-use crate::domain::{Named, put_in, remove_from, report_in};
+use crate::domain::{Named, put_in, remove_from, report_in, report_over};
 use crate::names::parts_of;
 use ha_model::{Change, EntityId, Many, Moment, StateObject, Value, Word};
 use std::alloc::{AllocError, Global};
@@ -108,6 +108,35 @@ impl StateTable {
         match automation_in(entity) {
             Some(name) => report_in(alloc, &mut self.automations, name, text, attributes, now),
             None => report_in(
+                alloc,
+                &mut self.others,
+                entity.text(),
+                text,
+                attributes,
+                now,
+            ),
+        }
+    }
+
+    /// A report as above; the answer is the state that the entity had before it.
+    pub fn report_over(
+        &mut self,
+        alloc: Global,
+        entity: &EntityId,
+        text: &Word,
+        attributes: &Many<(Word, Value)>,
+        now: Moment,
+    ) -> Result<Option<StateObject>, AllocError>
+        ensures before { IfOk result (λ before. before ≡ at self.old entity.now) }
+        ensures ok { OnOk result (ChangesAt self.old self.new entity.now (Some (next_object (at self.old entity.now) text.now attributes.now now))) }
+        ensures stands { OnOk result ((j : Journal) (k n : ℕ) → StandsFor self.old j → is_automation entity.now ≡ false
+            → now ≡ now_of (more j (Line k n (Cmd.Report entity.now text.now attributes.now)))
+            → StandsFor self.new (more j (Line k n (Cmd.Report entity.now text.now attributes.now)))) }
+        ensures err { OnErr result (AgreesWith self.old self.new) }
+    {
+        match automation_in(entity) {
+            Some(name) => report_over(alloc, &mut self.automations, name, text, attributes, now),
+            None => report_over(
                 alloc,
                 &mut self.others,
                 entity.text(),
