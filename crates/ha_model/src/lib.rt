@@ -8,6 +8,7 @@ mod env;
 mod faults;
 mod journal;
 mod names;
+mod part;
 mod parts;
 mod shared;
 mod steps;
@@ -33,6 +34,7 @@ pub use journal::{
     same_data, same_id, same_text,
 };
 pub use names::run_name;
+pub use part::Part;
 pub use parts::{attribute_text, first_pair, last_pair, true_in};
 pub use steps::{Change, Firing, Progress, StepOut};
 pub use template::{Expr, Op, Piece, Template};

@@ -3,12 +3,14 @@ ghost use Rattle.std.specs.Prelude.{◌≡◌, ◌∷◌, ◌++◌, [], codes, I
 ghost use Rattle.std.specs.Option.{option_copied};
 ghost use Rattle.ha_value.specs.declared.value.Value.TheVariants.{Pairs as Map};
 ghost use Rattle.ha_value.specs.Ids.{entity_text};
+ghost use Rattle.ha_model.specs.Parts.{part_value};
 ghost use Rattle.ha_model.specs.TriggerValues.{value_of};
 ghost use Rattle.ha_model.specs.Triggers as triggers;
 ghost use Rattle.ha_model.specs.Values.{field_of, text_of};
 
 use crate::config::Trigger;
 use crate::journal::StateObject;
+use crate::part::{Part, kept_field};
 use crate::shared::Shared;
 use crate::trigger_pairs::{bare_value, event_value, id_in, numeric_value, state_value};
 use ha_value::{EntityId, Many, Num, Plain, Value, Word, copy_pairs};
@@ -256,6 +258,13 @@ impl TriggerData {
         ensures { IfOk result (λ v. v ≡ self.now) }
     {
         self.kind.get().value(alloc)
+    }
+
+    /// What the value has under a name, with nothing else of it made.
+    pub fn field(&self, alloc: Global, name: &[u8]) -> Result<Part<'_>, AllocError>
+        ensures { IfOk result (λ p. part_value p ≡ field_of self.now name.now) }
+    {
+        kept_field(alloc, self.kind.get(), name)
     }
 
     /// The same data, shared.

@@ -13,7 +13,7 @@ use ha_value::{EntityId, Many, Num, Plain, Value, Word, copy_pairs, push_text, p
 use itoa::Buffer;
 use std::alloc::{AllocError, Global};
 
-fn text(alloc: Global, text: &str) -> Result<Value, AllocError>
+pub(crate) fn text(alloc: Global, text: &str) -> Result<Value, AllocError>
     ensures { IfOk result (λ v. v ≡ Value.Text text.now) }
 {
     Ok(Value::Text(Word::from_str(alloc, text)?))
@@ -32,7 +32,7 @@ fn add(
     Ok(())
 }
 
-fn decimal(alloc: Global, number: u32) -> Result<Value, AllocError>
+pub(crate) fn decimal(alloc: Global, number: u32) -> Result<Value, AllocError>
     ensures { IfOk result (λ v. v ≡ Value.Text (decimal number)) }
 {
     let mut room = Buffer::new();
@@ -83,7 +83,7 @@ fn object_pairs(
     Ok(pairs)
 }
 
-fn object_value(
+pub(crate) fn object_value(
     alloc: Global,
     entity: &EntityId,
     state: &StateObject,
@@ -137,7 +137,7 @@ fn states_pairs(
 }
 
 /// A text, null where there is none.
-fn text_or_null(alloc: Global, text: &Option<Word>) -> Result<Value, AllocError>
+pub(crate) fn text_or_null(alloc: Global, text: &Option<Word>) -> Result<Value, AllocError>
     ensures { IfOk result (λ v. v ≡ triggers.text_or_null [] text.now) }
 {
     match text {
@@ -147,7 +147,7 @@ fn text_or_null(alloc: Global, text: &Option<Word>) -> Result<Value, AllocError>
 }
 
 /// A number, null where there is none.
-fn number_or_null(number: Option<Num>) -> Value
+pub(crate) fn number_or_null(number: Option<Num>) -> Value
     ensures { result ≡ triggers.number_or_null [] number }
 {
     match number {
@@ -247,6 +247,17 @@ fn event_pairs(
     Ok(event)
 }
 
+/// An event as a value.
+pub(crate) fn event_map(
+    alloc: Global,
+    kind: &Word,
+    pairs: &Many<(Word, Value)>,
+) -> Result<Value, AllocError>
+    ensures { IfOk result (λ v. v ≡ Map ((codes "event_type", Value.Text kind.now) ∷ (codes "data", Map pairs.now) ∷ [])) }
+{
+    Ok(Value::Pairs(event_pairs(alloc, kind, pairs)?))
+}
+
 /// Of an event trigger.
 pub(crate) fn event_value(
     alloc: Global,
@@ -260,8 +271,7 @@ pub(crate) fn event_value(
         ++ ((codes "event", Map ((codes "event_type", Value.Text kind.now) ∷ (codes "data", Map fields.now) ∷ [])) ∷ []))) }
 {
     let mut pairs = head(alloc, "event", id, idx, 4)?;
-    let event = event_pairs(alloc, kind, fields)?;
-    add(alloc, &mut pairs, "event", Value::Pairs(event))?;
+    add(alloc, &mut pairs, "event", event_map(alloc, kind, fields)?)?;
     Ok(Value::Pairs(pairs))
 }
 
@@ -278,7 +288,7 @@ pub(crate) fn bare_value(
 }
 
 /// The value of the first pair of that name.
-fn named<'a>(pairs: &'a [(Word, Value)], name: &[u8]) -> Option<&'a Value>
+pub(crate) fn named<'a>(pairs: &'a [(Word, Value)], name: &[u8]) -> Option<&'a Value>
     ensures { option_copied result ≡ words.first_pair name.now pairs.now }
 {
     for pair in pairs {
