@@ -52,6 +52,7 @@ impl<C: Core + Drop, K: Sink, Q: Keeper> Held<C, K, Q> {
     }
 
     /// As `Bus::core`.
+    #[inline(always)]
     pub fn core(&self) -> &C
         ensures journal { C.entries result.now ≡ self.now.journal }
         ensures records { C.runs result.now ≡ self.now.records }
@@ -61,6 +62,7 @@ impl<C: Core + Drop, K: Sink, Q: Keeper> Held<C, K, Q> {
     }
 
     /// As `Bus::first`.
+    #[inline(always)]
     pub fn first(&self) -> Option<BusFault>
         ensures value { result ≡ self.now.first }
         ensures stands { IsBus self.now }
@@ -69,6 +71,7 @@ impl<C: Core + Drop, K: Sink, Q: Keeper> Held<C, K, Q> {
     }
 
     /// As `Bus::rested`.
+    #[inline(always)]
     pub fn rested(&self, source: u32) -> bool
         requires { self.now.first ≡ None }
         ensures { result ≡ is_rested self.now.records source self.now.journal }
@@ -77,6 +80,7 @@ impl<C: Core + Drop, K: Sink, Q: Keeper> Held<C, K, Q> {
     }
 
     /// As `Bus::line`.
+    #[inline(always)]
     pub fn line(&mut self, alloc: Global, source: u32, number: u64, cmd: Cmd, goes_on: bool)
         requires open { self.old.first ≡ None }
         requires known { source < 16 }
@@ -90,6 +94,7 @@ impl<C: Core + Drop, K: Sink, Q: Keeper> Held<C, K, Q> {
     }
 
     /// As `Bus::step`.
+    #[inline(always)]
     pub fn step(&mut self, alloc: Global, worker: u32, goes_on: bool)
         requires open { self.old.first ≡ None }
         requires busy { is_quiet self.old.records self.old.journal ≡ false }

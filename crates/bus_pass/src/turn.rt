@@ -101,6 +101,7 @@ impl<C: Core + Drop, K: Sink, Q: Keeper> Turn<C, K, Q> {
     }
 
     /// Takes the bus, as soon as the channel holds it.
+    #[inline(always)]
     pub fn take<W: Wait>(&self, rt: &W, pass: &mut Pass<C, K, Q>) -> Held<C, K, Q>
         requires turn { IsPassOf self.now pass.old }
         requires idle { (view pass.old).taken ≡ None }
@@ -129,6 +130,7 @@ impl<C: Core + Drop, K: Sink, Q: Keeper> Turn<C, K, Q> {
     }
 
     /// Gives the bus back, with one entry of the pass's worker more or with none. `read` is the command that was read for it.
+    #[inline(always)]
     pub fn give<W: Wait>(
         &self,
         rt: &W,

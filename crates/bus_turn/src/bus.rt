@@ -190,6 +190,7 @@ impl<C: Core, K: Sink, Q: Keeper> Bus<C, K, Q> {
     /// Puts a line of a source and writes what it gives: its lines in order, call, error and trace, and then the store's text, where a
     /// switch changed. The first fault is kept, and nothing further is written. Where it `goes_on`, the trace's sink may keep its line: the
     /// caller then puts more before it waits for anything.
+    #[inline(always)]
     pub fn line(&mut self, alloc: Global, source: u32, number: u64, cmd: Cmd, goes_on: bool)
         requires open { self.old.first ≡ None }
         requires known { source < 16 }

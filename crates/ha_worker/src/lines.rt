@@ -1,5 +1,5 @@
 //! The commands of the lines that are held.
-ghost use Rattle.std.specs.Prelude.{◌≡◌, ◌++◌, ◌∷◌, [], IfOk, OnOk};
+ghost use Rattle.std.specs.Prelude.{◌≡◌, ◌++◌, ◌∷◌, [], OnOk};
 ghost use Rattle.flow_line.specs.Command.{cmd_of};
 ghost use Rattle.ha_worker.specs.Read.{AreOpen, AreRead};
 
@@ -21,14 +21,18 @@ fn push_cmd(alloc: Global, line: &[u8], cmds: &mut VecDeque<Cmd>) -> Result<(), 
     Ok(())
 }
 
-/// The commands of all whole lines that are held, in order.
-pub(crate) fn read_lines(alloc: Global, cut: &mut LineCut) -> Result<VecDeque<Cmd>, AllocError>
-    ensures read { IfOk result (λ cmds. AreRead cut.old cmds.items cut.new) }
-    ensures open { IfOk result (λ cmds. AreOpen cmds.items) }
+/// Reads the commands of all whole lines that are held, in order, into this list, which is empty.
+pub(crate) fn read_lines(
+    alloc: Global,
+    cut: &mut LineCut,
+    cmds: &mut VecDeque<Cmd>,
+) -> Result<(), AllocError>
+    requires empty { cmds.old.items ≡ [] }
+    ensures read { OnOk result (AreRead cut.old cmds.new.items cut.new) }
+    ensures open { OnOk result (AreOpen cmds.new.items) }
 {
-    let mut cmds = VecDeque::new(alloc);
     'lines: while let Some(line) = cut.take()? {
-        push_cmd(alloc, line.as_slice(), &mut cmds)?;
+        push_cmd(alloc, line.as_slice(), cmds)?;
     }
-    Ok(cmds)
+    Ok(())
 }

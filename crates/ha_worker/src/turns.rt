@@ -86,7 +86,9 @@ pub(crate) fn settle<C: Core + Drop, K: Sink, Q: Keeper, W: Wait>(
 
 /// Puts a line with this command into the bus that is held, and gives it back with what was read. Gives whether another turn is due before
 /// a read that may wait: the source is not rested, or the bus keeps a first fault. Where it `goes_on`, the caller puts more before that
-/// read, and the trace's sink may keep the line until then.
+/// read, so none is told, and the trace's sink may keep the line until then. It is a part of its callers, so that the command is not
+/// moved once more.
+#[inline(always)]
 fn put_into<C: Core + Drop, K: Sink, Q: Keeper, W: Wait>(
     rt: &W,
     alloc: Global,
@@ -115,7 +117,8 @@ fn put_into<C: Core + Drop, K: Sink, Q: Keeper, W: Wait>(
     let before = bus.core().journal().len();
     bus.line(alloc, id, *next, cmd, goes_on);
     let was_put = bus.core().journal().len() > before;
-    let is_due = bus.first().is_some() || !bus.rested(id);
+    let fault = bus.first();
+    let is_due = !goes_on && (fault.is_some() || !bus.rested(id));
     turn.give(rt, pass, bus, read);
     if !was_put {
         return Err(Halt::Stopped);

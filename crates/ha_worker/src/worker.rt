@@ -117,7 +117,8 @@ impl<S: Source, C: Core + Drop, K: Sink, Q: Keeper> Worker<S, C, K, Q> {
         }
     }
 
-    /// Reads the source piece by piece, and puts each whole line, with the steps that it begins, before the next piece is asked for.
+    /// Reads the source piece by piece, and puts each whole line, with the steps that it begins, before the next piece is asked for. One
+    /// list serves for the commands of all pieces, so that its memory is taken once.
     fn feed<W: Wait, G: Gate>(
         &mut self,
         rt: &W,
@@ -142,6 +143,7 @@ impl<S: Source, C: Core + Drop, K: Sink, Q: Keeper> Worker<S, C, K, Q> {
             OnErr result (FedSome self.old.id (view self.old.pass) (view self.new.pass) (s self.old.source) (s self.new.source)) }
         ensures halt { IfErr result (λ halt. Halts halt (view self.new.pass).noted) }
     {
+        let mut cmds = VecDeque::new(alloc);
         let mut room = most_bytes();
         'pieces: while room > 0 {
             match pull(&mut self.source, buffer, room, cut) {
@@ -154,7 +156,7 @@ impl<S: Source, C: Core + Drop, K: Sink, Q: Keeper> Worker<S, C, K, Q> {
                 Err(NoPiece::Failed) => return Ok(Ending::Fails),
                 Err(NoPiece::Memory) => return Err(Halt::Memory),
             }
-            match self.put_piece(rt, alloc, turn, gate, cut) {
+            match self.put_piece(rt, alloc, turn, gate, cut, &mut cmds) {
                 Ok(()) => {}
                 Err(halt) => return Err(halt),
             }
@@ -162,8 +164,8 @@ impl<S: Source, C: Core + Drop, K: Sink, Q: Keeper> Worker<S, C, K, Q> {
         Ok(read_past(&mut self.source))
     }
 
-    /// Reads the commands of all whole lines that are held, passes the gate with each of them, and puts them, with the steps that they
-    /// begin.
+    /// Reads the commands of all whole lines that are held into this list, which is empty, passes the gate with each of them, and puts
+    /// them, with the steps that they begin. The list is then empty again, and keeps its memory; after an error it holds what was not put.
     fn put_piece<W: Wait, G: Gate>(
         &mut self,
         rt: &W,
@@ -171,19 +173,22 @@ impl<S: Source, C: Core + Drop, K: Sink, Q: Keeper> Worker<S, C, K, Q> {
         turn: &Turn<C, K, Q>,
         gate: &G,
         cut: &mut LineCut,
+        cmds: &mut VecDeque<Cmd>,
     ) -> Result<(), Halt>
         requires turn { IsPassOf turn.now self.old.pass }
         requires known { self.old.id < 16 }
         requires takes { Takes self.old.next self.old.id (view self.old.pass) }
+        requires empty { cmds.old.items ≡ [] }
         ensures turn { IsPassOf turn.now self.new.pass }
         ensures same { (self.new.id ≡ self.old.id) × (self.new.source ≡ self.old.source) × (self.new.end ≡ self.old.end) }
         ensures sits { Sits self.new.next self.old.id (view self.new.pass) }
         ensures ok { OnOk result (TookAll self.old.id cut.old cut.new (view self.old.pass) (view self.new.pass)) }
         ensures takes { OnOk result (Takes self.new.next self.old.id (view self.new.pass)) }
         ensures some { OnErr result (PutSome self.old.id (map cmd_of (whole_lines cut.old)) (view self.old.pass) (view self.new.pass)) }
+        ensures empty { OnOk result (cmds.new.items ≡ []) }
         ensures halt { IfErr result (λ halt. Halts halt (view self.new.pass).noted) }
     {
-        let Ok(cmds) = read_lines(alloc, cut) else {
+        let Ok(()) = read_lines(alloc, cut, cmds) else {
             return Err(Halt::Memory);
         };
         if cmds.is_empty() {
@@ -206,18 +211,19 @@ impl<S: Source, C: Core + Drop, K: Sink, Q: Keeper> Worker<S, C, K, Q> {
         rt: &W,
         alloc: Global,
         turn: &Turn<C, K, Q>,
-        cmds: VecDeque<Cmd>,
+        cmds: &mut VecDeque<Cmd>,
     ) -> Result<(), Halt>
         requires turn { IsPassOf turn.now self.old.pass }
         requires known { self.old.id < 16 }
         requires takes { Takes self.old.next self.old.id (view self.old.pass) }
-        requires open { AreOpen cmds.items }
+        requires open { AreOpen cmds.old.items }
         ensures turn { IsPassOf turn.now self.new.pass }
         ensures same { (self.new.id ≡ self.old.id) × (self.new.source ≡ self.old.source) × (self.new.end ≡ self.old.end) }
         ensures sits { Sits self.new.next self.old.id (view self.new.pass) }
-        ensures ok { OnOk result (PutAll self.old.id cmds.items (view self.old.pass) (view self.new.pass)) }
+        ensures ok { OnOk result (PutAll self.old.id cmds.old.items (view self.old.pass) (view self.new.pass)) }
         ensures takes { OnOk result (Takes self.new.next self.old.id (view self.new.pass)) }
-        ensures some { OnErr result (PutSome self.old.id cmds.items (view self.old.pass) (view self.new.pass)) }
+        ensures some { OnErr result (PutSome self.old.id cmds.old.items (view self.old.pass) (view self.new.pass)) }
+        ensures empty { OnOk result (cmds.new.items ≡ []) }
         ensures halt { IfErr result (λ halt. Halts halt (view self.new.pass).noted) }
     {
         let _floor = turn.floor(rt);
@@ -234,21 +240,21 @@ impl<S: Source, C: Core + Drop, K: Sink, Q: Keeper> Worker<S, C, K, Q> {
         rt: &W,
         alloc: Global,
         turn: &Turn<C, K, Q>,
-        cmds: VecDeque<Cmd>,
+        cmds: &mut VecDeque<Cmd>,
     ) -> Result<bool, Halt>
         requires turn { IsPassOf turn.now self.old.pass }
         requires known { self.old.id < 16 }
         requires takes { Takes self.old.next self.old.id (view self.old.pass) }
-        requires open { AreOpen cmds.items }
+        requires open { AreOpen cmds.old.items }
         ensures turn { IsPassOf turn.now self.new.pass }
         ensures same { (self.new.id ≡ self.old.id) × (self.new.source ≡ self.old.source) × (self.new.end ≡ self.old.end) }
         ensures sits { Sits self.new.next self.old.id (view self.new.pass) }
-        ensures ok { OnOk result (PutAll self.old.id cmds.items (view self.old.pass) (view self.new.pass)) }
+        ensures ok { OnOk result (PutAll self.old.id cmds.old.items (view self.old.pass) (view self.new.pass)) }
         ensures takes { OnOk result (Takes self.new.next self.old.id (view self.new.pass)) }
-        ensures some { OnErr result (PutSome self.old.id cmds.items (view self.old.pass) (view self.new.pass)) }
+        ensures some { OnErr result (PutSome self.old.id cmds.old.items (view self.old.pass) (view self.new.pass)) }
+        ensures empty { OnOk result (cmds.new.items ≡ []) }
         ensures halt { IfErr result (λ halt. Halts halt (view self.new.pass).noted) }
     {
-        let mut cmds = cmds;
         let mut is_due = false;
         'cmds: while !cmds.is_empty() {
             match put_next(
@@ -258,7 +264,7 @@ impl<S: Source, C: Core + Drop, K: Sink, Q: Keeper> Worker<S, C, K, Q> {
                 &mut self.pass,
                 self.id,
                 &mut self.next,
-                &mut cmds,
+                cmds,
             ) {
                 Ok(due) => is_due = due,
                 Err(halt) => return Err(halt),

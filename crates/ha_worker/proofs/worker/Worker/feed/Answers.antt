@@ -11,6 +11,7 @@ pieces-init g c = record {
   same_id = refl;
   same_end = refl;
   takes = c.requires.takes;
+  empty = c.new-cmds.ensures.items;
   reading = start_reading c.args.self.now.id (view c.args.self.now.pass) (source_of g.S.Source.faults g.S.Source.left g.S.Source.name c.args.self.now.source) c.args.cut.now c.most_bytes-room.result c.requires.fresh c.most_bytes-room.ensures;
 }
 
@@ -46,6 +47,7 @@ pieces-preserved g c =
       same_id = e.same.0 ∙ i.same_id;
       same_end = e.same.2 ∙ i.same_end;
       takes = rw i.same_id at c.in-Ok-put_piece.ensures.takes;
+      empty = c.in-Ok-put_piece.ensures.empty;
       reading = rw e.same.1
           (read_on c.args.self.now.id (view c.args.self.now.pass) (view c.pieces.self.pass) (s c.args.self.now.source) (s c.pieces.self.source) (s c.pull.new.source) c.pieces.cut p.0 c.pieces.room i.reading (omega (arith, p.2, p.3)) p.4 c.pull.ensures.never_falls c.pull.ensures.same_name c.pull.new.cut p.1
           (view c.put_piece.new.self.pass) c.put_piece.new.cut _ (omega (arith, p.2, p.3)) (rw i.same_id at c.in-Ok-put_piece.ensures.ok));

@@ -22,7 +22,7 @@ cmds-preserved g c =
     let i = c.cmds.invariant in
     let p = c.in-Ok.ensures.ok in
     let are_open = rw p.parts at i.open_all in
-    let next = put_next c.args.self.now.id c.args.cmds.items i.put c.put_next.new.cmds.items p.first (view c.args.self.now.pass) (view c.cmds.self.pass) (view c.put_next.new.pass)
+    let next = put_next c.args.self.now.id c.args.cmds.now.items i.put c.put_next.new.cmds.items p.first (view c.args.self.now.pass) (view c.cmds.self.pass) (view c.put_next.new.pass)
     (rw p.parts at i.parts) i.all (rw i.same_id at p.put) in
     record {
       put = i.put ++ (p.first ∷ []);
@@ -39,4 +39,4 @@ cmds-preserved g c =
 pub returns-in-Err-clause-some : goal.returns-in-Err-clause-some
 returns-in-Err-clause-some g c =
     let i = c.cmds.invariant in
-    some_left c.args.self.now.id c.args.cmds.items i.put c.cmds.cmds.items (view c.args.self.now.pass) (view c.cmds.self.pass) (view c.put_next.new.pass) i.parts i.all (rw i.same_id at c.in-Err.ensures.some)
+    some_left c.args.self.now.id c.args.cmds.now.items i.put c.cmds.cmds.items (view c.args.self.now.pass) (view c.cmds.self.pass) (view c.put_next.new.pass) i.parts i.all (rw i.same_id at c.in-Err.ensures.some)

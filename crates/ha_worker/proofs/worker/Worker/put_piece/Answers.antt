@@ -6,5 +6,5 @@ use Rattle.ha_worker.proofs.worker.Worker.put_piece.Goals as goal
 pub returns-clause-some : goal.returns-clause-some
 returns-clause-some g c =
     on_err_weaker c.put_read.result
-    (λ p. some_read c.args.self.now.id c.args.cut.now c.read_lines.new.cut c.in-Ok.cmds.items (view c.args.self.now.pass) (view c.put_read.new.self.pass) c.in-Ok.ensures.read p)
+    (λ p. some_read c.args.self.now.id c.args.cut.now c.read_lines.new.cut c.read_lines.new.cmds.items (view c.args.self.now.pass) (view c.put_read.new.self.pass) c.in-Ok.ensures.read p)
     c.put_read.ensures.some
