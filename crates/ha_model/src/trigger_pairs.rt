@@ -83,11 +83,7 @@ fn object_pairs(
     Ok(pairs)
 }
 
-fn object_value(
-    alloc: Global,
-    entity: &EntityId,
-    state: &StateObject,
-) -> Result<Value, AllocError>
+fn object_value(alloc: Global, entity: &EntityId, state: &StateObject) -> Result<Value, AllocError>
     ensures { IfOk result (λ v. v ≡ triggers.state_value [] entity.now (Some state.now)) }
 {
     Ok(Value::Pairs(object_pairs(alloc, entity, state)?))
