@@ -211,6 +211,12 @@ fn ids(rt: HostRuntime) {
     let alloc = rt.alloc();
     assert!(rt;
         is_id(alloc, "light.hall_2", "hall_2").unwrap_or(false)
+            && is_id(
+                alloc,
+                "binary_sensor.kitchen_ceiling_motion_detector_2",
+                "kitchen_ceiling_motion_detector_2"
+            )
+            .unwrap_or(false)
             && is_no_id(alloc, "Light")
             && is_no_id(alloc, "light.Hall")
     );
