@@ -55,6 +55,7 @@ impl Model for Engine {
 const MOST: usize = 1_048_576;
 
 /// Appends a line; there is room for it.
+#[inline(always)]
 fn push_line(journal: &mut Vec<Entry>, source: u32, number: u64, cmd: Cmd)
     requires { vec_len journal.old < vec_capacity journal.old }
     ensures { journal.new.items ≡ more journal.old.items (Line source number cmd) }
@@ -157,6 +158,7 @@ fn settle_last(alloc: Global, journal: &mut [Entry])
 
 impl Engine {
     /// Puts a line of a source.
+    #[inline(always)]
     pub(crate) fn append_line(
         &mut self,
         source: u32,
