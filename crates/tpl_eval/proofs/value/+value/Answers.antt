@@ -27,7 +27,7 @@ at_part-returns-in-Ok t c = λ sight h.
     let env = variables c.args.scope.now in
     let known = rw c.in-Ok.is at (c.part_of.ensures sight h) in
     let e = value-part sight env c.args.expr.now c.in-At.base c.get.result.now c.in-At.index c.get-in-Ok.result.now (part_value c.in-Ok.part) c.in-At.is c.get.ensures c.get-in-Ok.ensures known in
-    subst (λ (o : Option Value). Leads c.part_in.result o) (sym e) (c.part_in.ensures (value_of sight c.get-in-Ok.result.now env) (c.value_of-in-Ok.ensures sight h))
+    subst (λ (o : Option Value). Leads c.part_in.result o) (sym e) (c.part_in.ensures (value_of sight c.get-in-Ok.result.now env) (c.value_of.ensures sight h))
 
 pub filter_value-returns-in-Ok : goal.filter_value-returns-in-Ok
 filter_value-returns-in-Ok t c = λ sight h.
