@@ -13,3 +13,5 @@ mod lists;
 mod states;
 #[cfg(test)]
 mod texts;
+#[cfg(test)]
+mod triggers;

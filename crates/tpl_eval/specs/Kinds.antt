@@ -23,6 +23,12 @@ abbrev pub is_at : Expr-F Expr → Bool
 is_at (Expr-F.At base index) = true
 is_at _ = false
 
+-- one step of a path
+abbrev pub is_step : Expr-F Expr → Bool
+is_step (Expr-F.Field base name) = true
+is_step (Expr-F.At base index) = true
+is_step _ = false
+
 abbrev pub is_filter : Expr-F Expr → Bool
 is_filter (Expr-F.Filter name base args) = true
 is_filter _ = false

@@ -3,12 +3,12 @@ ghost use Rattle.std.specs.Prelude.{◌≡◌, [], Option, Some, option_map, unw
 ghost use Rattle.std.specs.Option.{option_copied};
 ghost use Rattle.ha_value.specs.declared.value.Value.{Value};
 ghost use Rattle.ha_value.specs.Truth.{truth};
-ghost use Rattle.ha_model.specs.Values.{field_of, part_at};
+ghost use Rattle.ha_model.specs.Values.{part_at};
 ghost use Rattle.tpl_fns.specs.Outcome.{Gives};
 ghost use Rattle.tpl_eval.specs.Held.{held_value, Puts, Yields};
 ghost use Rattle.tpl_eval.specs.Sizes.{PutsWithin};
 
-use crate::parts::{field, part};
+use crate::parts::part;
 use crate::sizes::take_size;
 use ha_model::{Many, TplFault, Value, Word};
 use std::alloc::Global;
@@ -80,23 +80,8 @@ fn copied_or_null(alloc: Global, part: Option<&Value>) -> Result<Value, TplFault
     }
 }
 
-/// What a map has under a name.
-pub fn field_in<'a>(
-    alloc: Global,
-    base: Result<Held<'a>, TplFault>,
-    name: &Word,
-) -> Result<Held<'a>, TplFault>
-    ensures { (given : Option Value) → Yields base.entry given → Yields result (option_map (λ v. field_of v name.now) given) }
-{
-    match base {
-        Ok(Held::Lent(value)) => Ok(lent_or_null(field(value, name.bytes()))),
-        Ok(Held::Made(value)) => made(copied_or_null(alloc, field(&value, name.bytes()))),
-        Err(fault) => Err(fault),
-    }
-}
-
 /// What a map or a list has at an index.
-fn part_of<'a>(alloc: Global, base: Held<'a>, index: &Value) -> Result<Held<'a>, TplFault>
+pub fn part_of<'a>(alloc: Global, base: Held<'a>, index: &Value) -> Result<Held<'a>, TplFault>
     ensures { Yields result (Some (part_at (held_value base.entry) index.now)) }
 {
     match base {
@@ -105,20 +90,6 @@ fn part_of<'a>(alloc: Global, base: Held<'a>, index: &Value) -> Result<Held<'a>,
             Ok(value) => Ok(Held::Made(value)),
             Err(fault) => Err(fault),
         },
-    }
-}
-
-/// What a map or a list has at an index, once that is known.
-pub fn part_in<'a>(
-    alloc: Global,
-    base: Held<'a>,
-    index: Result<Held<'a>, TplFault>,
-) -> Result<Held<'a>, TplFault>
-    ensures { (given : Option Value) → Yields index.entry given → Yields result (option_map (part_at (held_value base.entry)) given) }
-{
-    match index {
-        Ok(index) => part_of(alloc, base, index.get()),
-        Err(fault) => Err(fault),
     }
 }
 

@@ -7,6 +7,7 @@ mod operators;
 mod page;
 mod pairs;
 mod parts;
+mod paths;
 mod pieces;
 mod rendering;
 mod scope;

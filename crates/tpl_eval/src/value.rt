@@ -6,18 +6,19 @@ ghost use Rattle.ha_model.specs.Templates.{all_of, value_of as value_lem};
 ghost use Rattle.ha_model.specs.Values.{bounded_items};
 ghost use Rattle.ha_model.specs.declared.template.Expr.TheViews.{out-Expr};
 ghost use Rattle.tpl_fns.specs.Outcome.{Gives};
-ghost use Rattle.tpl_eval.specs.Held.{Yields};
-ghost use Rattle.tpl_eval.specs.Kinds.{is_at, is_field, is_filter, is_pair, is_pick, makes_no_chain};
+ghost use Rattle.tpl_eval.specs.Held.{Leads, Yields};
+ghost use Rattle.tpl_eval.specs.Kinds.{is_at, is_field, is_filter, is_pair, is_pick, is_step, makes_no_chain};
 ghost use Rattle.tpl_eval.specs.Pairs.{paired};
 ghost use Rattle.tpl_eval.specs.Scope.{variables};
 ghost use Rattle.tpl_eval.specs.Seen.{Sees};
 
-use crate::held::{Held, add, add_within, empty_text, field_in, made, part_in, truth_of};
+use crate::held::{Held, add, add_within, empty_text, made, truth_of};
 use crate::pairs::{Begun, begin, operate_on};
+use crate::paths::{begun, field_in, held_at_end, part_in};
 use crate::scope::Scope;
 use crate::sizes::most_values;
 use crate::steps::{called, filter_with, inverted, negated, none_tested};
-use ha_model::{Expr, Many, Op, TplFault, Value};
+use ha_model::{Expr, Many, Op, Part, TplFault, Value};
 
 /// The value of an expression. A chain of operators is as deep as it is long, so what is done at one link stands in functions of its own,
 /// and a link takes little of the stack.
@@ -28,10 +29,10 @@ pub fn value_of<'a>(scope: &Scope<'a>, expr: &'a Expr) -> Result<Held<'a>, TplFa
 {
     match expr {
         Expr::Plain(value) => Ok(Held::Lent(value)),
-        Expr::Name(name) => scope.named(name),
+        Expr::Name(name) => scope.value_of(name),
         Expr::List(_) => other_value(scope, expr),
-        Expr::Field { .. } => field_value(scope, expr),
-        Expr::At { .. } => part_value(scope, expr),
+        Expr::Field { .. } => step_value(scope, expr),
+        Expr::At { .. } => step_value(scope, expr),
         Expr::Filter { .. } => filter_value(scope, expr),
         Expr::Function { .. } => other_value(scope, expr),
         Expr::Negate(_) => other_value(scope, expr),
@@ -93,29 +94,57 @@ fn values_of<'a>(scope: &Scope<'a>, exprs: &'a [Expr]) -> Result<Many<Value>, Tp
     Ok(all)
 }
 
+/// What the last step of a path leads to.
 #[cycle(value)]
 #[inline(never)]
-fn field_value<'a>(scope: &Scope<'a>, expr: &'a Expr) -> Result<Held<'a>, TplFault>
-    requires { is_field (out-Expr expr.now) ≡ true }
+fn step_value<'a>(scope: &Scope<'a>, expr: &'a Expr) -> Result<Held<'a>, TplFault>
+    requires { is_step (out-Expr expr.now) ≡ true }
     ensures { (sight : Sight) → Sees sight scope.now.states.now → Yields result (value_lem sight expr.now (variables scope.now)) }
 {
-    let Expr::Field { base, name } = expr else {
-        unreachable!()
-    };
-    field_in(scope.alloc, value_of(scope, base.get()), name)
+    match expr {
+        Expr::Field { .. } => held_at_end(scope.alloc, field_part(scope, expr)),
+        Expr::At { .. } => held_at_end(scope.alloc, at_part(scope, expr)),
+        _ => unreachable!(),
+    }
+}
+
+/// What an expression leads to, where a step follows.
+#[cycle(value)]
+#[inline(never)]
+fn part_of<'a>(scope: &Scope<'a>, expr: &'a Expr) -> Result<Part<'a>, TplFault>
+    ensures { (sight : Sight) → Sees sight scope.now.states.now → Leads result (value_lem sight expr.now (variables scope.now)) }
+{
+    match expr {
+        Expr::Name(name) => Ok(scope.named(name)),
+        Expr::Field { .. } => field_part(scope, expr),
+        Expr::At { .. } => at_part(scope, expr),
+        _ => begun(value_of(scope, expr)),
+    }
 }
 
 #[cycle(value)]
 #[inline(never)]
-fn part_value<'a>(scope: &Scope<'a>, expr: &'a Expr) -> Result<Held<'a>, TplFault>
+fn field_part<'a>(scope: &Scope<'a>, expr: &'a Expr) -> Result<Part<'a>, TplFault>
+    requires { is_field (out-Expr expr.now) ≡ true }
+    ensures { (sight : Sight) → Sees sight scope.now.states.now → Leads result (value_lem sight expr.now (variables scope.now)) }
+{
+    let Expr::Field { base, name } = expr else {
+        unreachable!()
+    };
+    field_in(scope.alloc, part_of(scope, base.get()), name)
+}
+
+#[cycle(value)]
+#[inline(never)]
+fn at_part<'a>(scope: &Scope<'a>, expr: &'a Expr) -> Result<Part<'a>, TplFault>
     requires { is_at (out-Expr expr.now) ≡ true }
-    ensures { (sight : Sight) → Sees sight scope.now.states.now → Yields result (value_lem sight expr.now (variables scope.now)) }
+    ensures { (sight : Sight) → Sees sight scope.now.states.now → Leads result (value_lem sight expr.now (variables scope.now)) }
 {
     let Expr::At { base, index } = expr else {
         unreachable!()
     };
-    match value_of(scope, base.get()) {
-        Ok(held) => part_in(scope.alloc, held, value_of(scope, index.get())),
+    match part_of(scope, base.get()) {
+        Ok(part) => part_in(scope.alloc, part, value_of(scope, index.get())),
         Err(fault) => Err(fault),
     }
 }

@@ -1,19 +1,20 @@
 use Rattle.std.proofs.Common.{◌∙◌, sym, subst}
 use Rattle.std.specs.Prelude.{Option, Some}
 use Rattle.ha_value.specs.declared.value.Value.{Value}
+use Rattle.ha_model.specs.Parts.{part_value}
 use Rattle.ha_model.specs.Templates.{value_of}
-use Rattle.tpl_eval.specs.Held.{held_value, Yields}
+use Rattle.tpl_eval.specs.Held.{held_value, Leads, Yields}
 use Rattle.tpl_eval.specs.Scope.{variables}
 use Rattle.tpl_eval.proofs.ListLemmas.{continues-more, continues-fault, values}
 use Rattle.tpl_eval.proofs.ItemLemmas.{items-fault, items-more}
 use Rattle.tpl_eval.proofs.StepLemmas.{value-field, value-none, value-part, value-filter, value-pair, pick-first, pick-second, pick-none, list-fault}
 use Rattle.tpl_eval.proofs.value.+value.Goals as goal
 
-pub field_value-returns : goal.field_value-returns
-field_value-returns t c = λ sight h.
+pub field_part-returns : goal.field_part-returns
+field_part-returns t c = λ sight h.
     let env = variables c.args.scope.now in
     let e = value-field sight env c.args.expr.now c.in-Field.base c.get.result.now c.in-Field.name c.in-Field.is c.get.ensures in
-    subst (λ (o : Option Value). Yields c.field_in.result o) (sym e) (c.field_in.ensures (value_of sight c.get.result.now env) (c.value_of.ensures sight h))
+    subst (λ (o : Option Value). Leads c.field_in.result o) (sym e) (c.field_in.ensures (value_of sight c.get.result.now env) (c.part_of.ensures sight h))
 
 pub other_value-returns-in-IsNone : goal.other_value-returns-in-IsNone
 other_value-returns-in-IsNone t c = λ sight h.
@@ -21,12 +22,12 @@ other_value-returns-in-IsNone t c = λ sight h.
     let e = value-none sight env c.args.expr.now c.in-IsNone.base c.get-in-IsNone.result.now c.in-IsNone.holds c.in-IsNone.is c.get-in-IsNone.ensures in
     subst (λ (o : Option Value). Yields c.none_tested.result o) (sym e) (c.none_tested.ensures (value_of sight c.get-in-IsNone.result.now env) (c.value_of-in-IsNone.ensures sight h))
 
-pub part_value-returns-in-Ok : goal.part_value-returns-in-Ok
-part_value-returns-in-Ok t c = λ sight h.
+pub at_part-returns-in-Ok : goal.at_part-returns-in-Ok
+at_part-returns-in-Ok t c = λ sight h.
     let env = variables c.args.scope.now in
-    let known = rw c.in-Ok.is at (c.value_of.ensures sight h) in
-    let e = value-part sight env c.args.expr.now c.in-At.base c.get.result.now c.in-At.index c.get-in-Ok.result.now (held_value c.in-Ok.held) c.in-At.is c.get.ensures c.get-in-Ok.ensures known in
-    subst (λ (o : Option Value). Yields c.part_in.result o) (sym e) (c.part_in.ensures (value_of sight c.get-in-Ok.result.now env) (c.value_of-in-Ok.ensures sight h))
+    let known = rw c.in-Ok.is at (c.part_of.ensures sight h) in
+    let e = value-part sight env c.args.expr.now c.in-At.base c.get.result.now c.in-At.index c.get-in-Ok.result.now (part_value c.in-Ok.part) c.in-At.is c.get.ensures c.get-in-Ok.ensures known in
+    subst (λ (o : Option Value). Leads c.part_in.result o) (sym e) (c.part_in.ensures (value_of sight c.get-in-Ok.result.now env) (c.value_of.ensures sight h))
 
 pub filter_value-returns-in-Ok : goal.filter_value-returns-in-Ok
 filter_value-returns-in-Ok t c = λ sight h.
