@@ -10,23 +10,18 @@ pub returns-in-State : goal.returns-in-State
 returns-in-State c =
     let s = c.in-State in
     rw s.is (c.either.ensures c.args.name.now (head (codes "state") s.id s.idx)
-    ((codes "entity_id", Value.Text (entity_text s.entity))
-    ∷ (codes "from_state", state_value [] s.entity s.old) ∷ (codes "to_state", state_value [] s.entity s.new)
-    ∷ (codes "attribute", text_or_null [] s.attribute) ∷ [])
+    ((codes "entity_id", Value.Text (entity_text s.entity)) ∷ (codes "from_state", state_value [] s.entity s.old) ∷ (codes "to_state", state_value [] s.entity s.new) ∷ (codes "attribute", text_or_null [] s.attribute) ∷ [])
     c.head_field.ensures c.later_of_state.ensures)
 
 pub returns-in-Numeric : goal.returns-in-Numeric
 returns-in-Numeric c =
     let s = c.in-Numeric in
     rw s.is (c.either-in-Numeric.ensures c.args.name.now (head (codes "numeric_state") s.id s.idx)
-    ((codes "entity_id", Value.Text (entity_text s.entity))
-    ∷ (codes "from_state", state_value [] s.entity s.old) ∷ (codes "to_state", state_value [] s.entity s.new)
-    ∷ (codes "above", number_or_null [] s.above) ∷ (codes "below", number_or_null [] s.below) ∷ [])
+    ((codes "entity_id", Value.Text (entity_text s.entity)) ∷ (codes "from_state", state_value [] s.entity s.old) ∷ (codes "to_state", state_value [] s.entity s.new) ∷ (codes "above", number_or_null [] s.above) ∷ (codes "below", number_or_null [] s.below) ∷ [])
     c.head_field-in-Numeric.ensures c.later_of_number.ensures)
 
 pub returns-in-Event : goal.returns-in-Event
 returns-in-Event c =
     let s = c.in-Event in
-    rw s.is (c.either-in-Event.ensures c.args.name.now (head (codes "event") s.id s.idx)
-    ((codes "event", Map (event_pairs [] (s.kind, s.pairs))) ∷ [])
+    rw s.is (c.either-in-Event.ensures c.args.name.now (head (codes "event") s.id s.idx) ((codes "event", Map (event_pairs [] (s.kind, s.pairs))) ∷ [])
     c.head_field-in-Event.ensures c.later_of_event.ensures)
