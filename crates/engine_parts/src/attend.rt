@@ -8,6 +8,7 @@ ghost use Rattle.wait_set.specs.Asked.{WaitTable};
 ghost use Rattle.engine_parts.specs.Kept.{AreSound, Going, Looks, nobody};
 ghost use Rattle.engine_parts.specs.Owners.{attempts_by};
 ghost use Rattle.engine_parts.specs.Stages.{Entered, Noted, RunsBefore, Told, Untold};
+ghost use Rattle.engine_parts.specs.Waiting.{EndsGrow};
 ghost use Rattle.engine_parts.specs.Without.{without_owners};
 
 use crate::last::{configuration, last_entry};
@@ -109,6 +110,7 @@ pub fn attend(
 ) -> Result<Many<Firing>, AllocError>
     requires { Entered journal.now parts.old before.now }
     ensures attached { OnOk result (attached parts.new.triggers ≡ without_owners parts.new.waits.fresh (attached parts.old.triggers)) }
+    ensures ended { OnOk result ((serial : ℕ) → EndsGrow parts.old.waits parts.new.waits serial) }
     ensures fired { IfOk result (λ fired. attempts_by fired ≡ fired_lem journal.now (length journal.now - 1)) }
     ensures going { OnOk result ((rs : Records) → RunsBefore journal.now rs parts.old.waits parts.old.delays parts.old.frames.items parts.old.ready.pairs.items
         → Going nobody journal.now rs parts.new) }

@@ -37,6 +37,7 @@ fn detach_run(triggers: &mut TrigSet, waits: &Waits, serial: u64)
 /// The slot of a run is emptied.
 fn clear_slot(frames: &mut Slots<Frames>, serial: u64)
     ensures slot { serial - 1 < length frames.old.items → frames.new.items ≡ set frames.old.items (serial - 1) None }
+    ensures beyond { length frames.old.items ≤ serial - 1 → frames.new.items ≡ frames.old.items }
     ensures spare { frames.new.spare ≡ frames.old.spare }
 {
     frames.drop_at(serial.saturating_sub(1) as usize);
@@ -46,6 +47,7 @@ fn clear_slot(frames: &mut Slots<Frames>, serial: u64)
 pub fn forget(parts: &mut Parts, serial: u64)
     ensures going { (gone : Gone) (k : Journal) (rs : Records) → AreNumbered 0 rs → 0 < serial → serial ≤ length rs → Going gone k rs parts.old → Going (also gone serial) k rs parts.new }
     ensures rest { attached parts.new.triggers ≡ without_owners (owners_of serial parts.old.waits.asks) (attached parts.old.triggers) }
+    ensures waits { parts.new.waits.asks ≡ without_run serial parts.old.waits.asks }
     ensures rested { parts.new.rested ≡ parts.old.rested }
     ensures room { (n : ℕ) → HasRoom n parts.old → HasRoom n parts.new }
 {

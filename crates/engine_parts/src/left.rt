@@ -1,11 +1,12 @@
 //! A report of an entity that concerns nobody: nothing fires, and its old state is asked by nobody.
-ghost use Rattle.std.specs.Prelude.{◌≡◌, ◌-◌, [], OnOk, length};
+ghost use Rattle.std.specs.Prelude.{◌≡◌, ◌-◌, ℕ, [], OnOk, length};
 ghost use Rattle.ha_model.specs.Attempts.{fired as fired_lem};
 ghost use Rattle.ha_model.specs.Records.{Records};
 ghost use Rattle.ha_past.specs.Firings.{firings};
 ghost use Rattle.trig_set.specs.Stands.{attached};
 ghost use Rattle.engine_parts.specs.Kept.{AreSound, Going, Looks, nobody};
 ghost use Rattle.engine_parts.specs.Stages.{EnteredLeft, Noted, RunsBefore, Told, UntoldLeft};
+ghost use Rattle.engine_parts.specs.Waiting.{EndsGrow};
 ghost use Rattle.engine_parts.specs.Without.{without_owners};
 
 use crate::attend::wake_line;
@@ -88,6 +89,7 @@ pub fn attend_left(
 ) -> Result<(), AllocError>
     requires { EnteredLeft journal.now parts.old entity.now text.now attributes.now }
     ensures attached { OnOk result (attached parts.new.triggers ≡ without_owners parts.new.waits.fresh (attached parts.old.triggers)) }
+    ensures ended { OnOk result ((serial : ℕ) → EndsGrow parts.old.waits parts.new.waits serial) }
     ensures fired { [] ≡ fired_lem journal.now (length journal.now - 1) }
     ensures going { OnOk result ((rs : Records) → RunsBefore journal.now rs parts.old.waits parts.old.delays parts.old.frames.items parts.old.ready.pairs.items
         → Going nobody journal.now rs parts.new) }

@@ -46,6 +46,7 @@ fn list_test(testing: &mut BTreeSet<u64>, ask: &WaitAsk, owner: u64) -> Result<(
 /// The wait of this owner is pending no more.
 pub(crate) fn settle(pending: &mut Pending, owner: u64)
     ensures timers { pending.new.timers ≡ removed owner pending.old.timers }
+    ensures gone { has pending.new.testing owner ≡ false }
     ensures testing { (n : ℕ) → nat_eq owner n ≡ false → has pending.new.testing n ≡ has pending.old.testing n }
     ensures runs { pending.new.runs ≡ pending.old.runs }
 {

@@ -23,7 +23,8 @@ pub fn list_run(runs: &mut BTreeSet<(u64, u64)>, serial: u64, owner: u64) -> Res
 
 /// The owner is listed with the run no more.
 pub fn unlist(runs: &mut BTreeSet<(u64, u64)>, serial: u64, owner: u64)
-    ensures { (s o : ℕ) → nat_eq owner o ≡ false → has_pair runs.new s o ≡ has_pair runs.old s o }
+    ensures gone { has_pair runs.new serial owner ≡ false }
+    ensures others { (s o : ℕ) → nat_eq owner o ≡ false → has_pair runs.new s o ≡ has_pair runs.old s o }
 {
     runs.remove(&(serial, owner));
 }

@@ -2,7 +2,9 @@ use Rattle.std.proofs.Common.{◌-◌, length, sym, ap, subst, ◌∙◌}
 use Rattle.trig_set.specs.Stands.{attached}
 use Rattle.engine_parts.specs.declared.parts.Parts.{Parts}
 use Rattle.engine_parts.specs.Owners.{attempts_by}
+use Rattle.wait_set.specs.Asked.{WaitTable}
 use Rattle.engine_parts.specs.Stages.{RunsBefore}
+use Rattle.engine_parts.specs.Waiting.{EndsGrow}
 use Rattle.engine_parts.proofs.AttemptLemmas.{attempts-fired}
 use Rattle.engine_parts.specs.Without.{without_owners}
 use Rattle.engine_parts.proofs.attend.attend.Goals as goal
@@ -19,3 +21,7 @@ pub returns-clause-going : goal.returns-clause-going
 returns-clause-going c rs before =
     c.in_ok-wake_line.ensures.going rs c.args.parts.now.waits c.in_ok-fired.ensures.noted
     (subst (λ (p : Parts). RunsBefore c.args.journal.now rs c.args.parts.now.waits p.delays p.frames.items p.ready.pairs.items) (sym c.in_ok-fired.ensures.rest) before)
+
+pub returns-clause-ended : goal.returns-clause-ended
+returns-clause-ended c serial =
+    subst (λ (w : WaitTable). EndsGrow c.args.parts.now.waits w serial) (sym c.wake_line.ensures.waits) (c.in_ok-fired.ensures.noted.told.grow serial)

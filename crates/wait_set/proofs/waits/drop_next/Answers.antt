@@ -26,4 +26,4 @@ returns-clause-kept c =
     subst (λ xs. AreKept xs new.timers new.testing runs c.args.ordered) (sym c.cut.ensures.items)
     (kept-cut place c.owner_in-owner.result asks old.timers new.timers old.testing new.testing old.runs runs c.args.ordered lt
     (λ d. c.owner_in-owner.ensures d ∙ (λ k. (get_or (c.as_slice-2.ensures.value k) place d).owner))
-    c.settle.ensures.timers c.settle.ensures.testing (λ s n other. c.unlist.ensures s n other ∙ (λ k. has_pair (c.settle.ensures.runs k) s n)) c.requires.kept)
+    c.settle.ensures.timers c.settle.ensures.testing (λ s n other. c.unlist.ensures.others s n other ∙ (λ k. has_pair (c.settle.ensures.runs k) s n)) c.requires.kept)

@@ -23,7 +23,7 @@ returns-clause-found c =
     let lt : place < length asks = omega (arith, c.if-at-len.false, c.len.ensures) in
     subst (λ xs. AreFound xs c.unlist.new.runs c.args.ordered) (sym c.cut.ensures.items)
     (found-cut place c.owner_in.result asks c.args.runs.now c.unlist.new.runs c.args.ordered lt
-    (λ d. c.owner_in.ensures d ∙ (λ k. (get_or (c.as_slice-2.ensures.value k) place d).owner)) c.unlist.ensures c.requires.found)
+    (λ d. c.owner_in.ensures d ∙ (λ k. (get_or (c.as_slice-2.ensures.value k) place d).owner)) c.unlist.ensures.others c.requires.found)
 
 pub returns-clause-others : goal.returns-clause-others
 returns-clause-others c o none =
@@ -33,5 +33,5 @@ returns-clause-others c o none =
     let x = c.index.result.now in
     let own : c.owner_in.result ≡ x.owner = c.owner_in.ensures x ∙ (λ k. (get_or (c.as_slice-2.ensures.value k) place x).owner) ∙ sym (ap (λ (a : Asked). a.owner) c.index.ensures) in (
       (λ k. list_any (λ a. nat_eq a.owner o) (c.cut.ensures.items k)) ∙ any-cut o place asks none,
-      λ s. c.unlist.ensures s o ((λ k. nat_eq (own k) o) ∙ other-owner place asks x o lt c.index.ensures none),
+      λ s. c.unlist.ensures.others s o ((λ k. nat_eq (own k) o) ∙ other-owner place asks x o lt c.index.ensures none),
     )
