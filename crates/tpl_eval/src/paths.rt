@@ -97,7 +97,8 @@ fn at_part<'a>(alloc: Global, part: Part<'a>, index: &Value) -> Result<Part<'a>,
     }
 }
 
-/// What a map or a list has at an index, once that is known.
+/// What a map or a list has at an index, once that is known. It stands apart, since what calls it is a link of a chain that may be deep.
+#[inline(never)]
 pub fn part_in<'a>(
     alloc: Global,
     base: Part<'a>,
