@@ -1,6 +1,7 @@
 -- Pieces, one after the other.
-use Rattle.std.proofs.Common.{◌≡◌, ◌∙◌, ap, ℕ, zero, suc, ◌+◌, ◌<◌, ◌≤◌, refl, List, [], ◌∷◌, ◌++◌, length, get_or, drop, map, sym, subst, arith, drop-cons, append_assoc, append-nil, length-append}
-use Rattle.std.specs.Prelude.{Option, Some, None, Ok, Err, option_map, option_and_then, unwrap_or}
+use Rattle.std.proofs.Common.{◌≡◌, ◌∙◌, ap, ℕ, zero, suc, ◌+◌, ◌<◌, ◌≤◌, refl, List, [], ◌∷◌, ◌++◌, length, get_or, drop, map, sym, subst, arith, rules, drop-cons, append_assoc, append-nil, length-append}
+use Rattle.std.specs.Prelude.{Option, Some, None, Result, Ok, Err, option_map, option_and_then, unwrap_or}
+use Rattle.ha_value.specs.declared.value.Value.{Value}
 use Rattle.ha_model.specs.declared.faults.TplFault.{TplFault}
 use Rattle.ha_model.specs.declared.template.Expr.{Expr}
 use Rattle.ha_model.specs.declared.template.Template.{Template}
@@ -14,7 +15,7 @@ use Rattle.ha_model.specs.States.{Sight}
 use Rattle.ha_model.specs.Words.{Text, Pairs}
 use Rattle.ha_model.specs.Templates.{choose_arm, joined, piece_step, pieces_of, PieceMeaning, TemplateMeaning}
 use Rattle.tpl_eval.specs.declared.page.Page.{Page}
-use Rattle.tpl_eval.specs.Pieces.{arms_of, behind, piece_of, Chooses, TooLong, Writes}
+use Rattle.tpl_eval.specs.Pieces.{arms_of, behind, piece_of, Chooses, Sets, TooLong, Writes}
 use Rattle.tpl_eval.proofs.ArmLemmas.{get_here, get_past}
 
 abbrev Written : Type 0
@@ -121,3 +122,18 @@ module _ (sight : Sight) (env : Pairs) where
     choice-none place known le =
         choice-by x arms found fallback h e ∙ known (pieces_of sight fallback)
         ∙ (λ k. unwrap_or (option_map (λ y. pieces_of sight y.1) (get_past found place le k)) (pieces_of sight fallback) env)
+
+-- a name that is set writes nothing
+set-here : (env : Pairs) (old new : Page) (name : Text) (v : Value) → new.set ≡ old.set ++ ((name, v) ∷ []) → new.text ≡ old.text
+    → ◌≡◌ {A = Written} (Some (old.text ++ [], (env ++ old.set) ++ ((name, v) ∷ []))) (Some (new.text, env ++ new.set))
+set-here env old new name v set text =
+    let front : old.text ++ [] ≡ new.text = append-nil old.text ∙ sym text in
+    let left : (env ++ old.set) ++ ((name, v) ∷ []) ≡ env ++ new.set = append_assoc env old.set ((name, v) ∷ []) ∙ ap (λ (l : Pairs). env ++ l) (sym set) in
+    λ i. Some (front i, left i)
+
+pub set-writes : {Y : Type 0} (env : Pairs) (old new : Page) (name : Text) (v : Value) (given : Option Value) (result : Result Y TplFault) → given ≡ Some v
+    → Sets old new name v result → Writes env old new (option_map (λ w. ([], (env ++ old.set) ++ ((name, w) ∷ []))) given) result
+set-writes env old new name v given (Ok x) is set =
+    rw is (set-here env old new name v set.0 set.1, λ short. subst (λ (t : Text). length t ≤ 65_536) (sym set.1) short)
+set-writes env old new name v given (Err TplFault.Fault) is set = absurd set
+set-writes env old new name v given (Err TplFault.Memory) is set = search rules
