@@ -10,4 +10,5 @@ pub mod Order
 pub mod Known
 pub mod Queued
 pub mod Concerned
+pub mod Places
 pub mod Left

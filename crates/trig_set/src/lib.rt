@@ -16,6 +16,7 @@ mod noted;
 mod numbers;
 mod ordered;
 mod owners;
+mod places;
 mod scene;
 mod set;
 mod shifts;
