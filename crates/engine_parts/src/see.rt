@@ -68,11 +68,9 @@ pub fn see_report(
     ensures listed { IfOk result (λ before. (j : Journal) (k n : ℕ) → StandsFor states.old j → is_automation entity.now ≡ false
         → AreListed j (Line k n (cmd.Cmd.Report entity.now text.now attributes.now)) before) }
 {
-    let before = listed(alloc, states, entity)?;
-    match states.report(alloc, entity, text, attributes, now) {
-        Ok(_) => Ok(before),
-        Err(error) => Err(error),
-    }
+    let before = states.report_over(alloc, entity, text, attributes, now)?;
+    let list = one(alloc, entity, before)?;
+    Ok(list)
 }
 
 /// An entity goes: it leaves the table, and what it had is handed out.

@@ -1,6 +1,6 @@
 -- Maps with text keys, with one name changed.
 use Rattle.std.proofs.Common.{◌≡◌, ℕ, Bool, true, false, refl, sym, ap, subst, ◌∙◌, nat_cmp, Ok, Err}
-use Rattle.std.specs.Prelude.{Option, Some, None, OnErr, OnOk, Result, String, not, ◌&&◌, ◌||◌, if◌then◌else◌}
+use Rattle.std.specs.Prelude.{Option, Some, OnErr, OnOk, Result, String, not, ◌&&◌, ◌||◌, if◌then◌else◌}
 use Rattle.std.specs.Option.{option_map_or}
 use Rattle.std.specs.BTreeSet.{BTreeSet, IsEmpty as IsEmptySet}
 use Rattle.std.specs.BTreeMap.{is_at}

@@ -34,7 +34,7 @@ fn put_names(
     ensures others { (q : Text) (n : ℕ) → nat_eq number n ≡ false → has_at lists.new q n ≡ has_at lists.old q n }
 {
     for at in 0..names.len() {
-        put_at(alloc, lists, &names[at], number)?;
+        put_at(alloc, lists, names[at].as_str(), number)?;
     }
     Ok(())
 }
@@ -45,7 +45,7 @@ fn take_names(lists: &mut Lists, names: &[Word], number: u64)
     ensures others { (q : Text) (n : ℕ) → nat_eq number n ≡ false → has_at lists.new q n ≡ has_at lists.old q n }
 {
     for at in 0..names.len() {
-        take_at(lists, &names[at], number);
+        take_at(lists, names[at].as_str(), number);
     }
 }
 
@@ -187,7 +187,7 @@ impl Index {
     pub fn of_entity(&self, entity: &EntityId) -> Option<&BTreeSet<u64>>
         ensures { (n : ℕ) → option_map_or (λ set. has set n) (option_copied result) false ≡ knows self.now (Subject.Entity entity.now) n }
     {
-        self.entities.get(entity.text().as_str())
+        self.entities.get(entity.text())
     }
 
     /// The owners that an event of a type concerns, in order, if the type is known.

@@ -4,7 +4,7 @@ ghost use Rattle.ha_value.specs.declared.value.EntityId.{EntityId as Entity};
 ghost use Rattle.ha_model.specs.Words.{Text, same, same_entity};
 ghost use Rattle.event_bus.specs.Lists.{has, has_at, has_for};
 
-use ha_model::{EntityId, Word};
+use ha_model::EntityId;
 use indexmap::IndexMap;
 use std::alloc::{AllocError, Global};
 use std::collections::BTreeSet;
@@ -13,10 +13,10 @@ use std::collections::BTreeSet;
 pub type Lists = IndexMap<String, BTreeSet<u64>>;
 
 /// The text as a key.
-fn key_of(alloc: Global, word: &Word) -> Result<String, AllocError>
-    ensures { IfOk result (λ key. string_bytes key ≡ word.now) }
+fn key_of(alloc: Global, name: &str) -> Result<String, AllocError>
+    ensures { IfOk result (λ key. string_bytes key ≡ name.now) }
 {
-    String::from_str(alloc, word.as_str())
+    String::from_str(alloc, name)
 }
 
 /// Puts a number into a set. After an error it is as before.
@@ -40,12 +40,12 @@ pub fn take(set: &mut BTreeSet<u64>, number: u64)
 }
 
 /// Puts a number under a name. After an error all is as before.
-pub fn put_at(alloc: Global, lists: &mut Lists, name: &Word, number: u64) -> Result<(), AllocError>
+pub fn put_at(alloc: Global, lists: &mut Lists, name: &str, number: u64) -> Result<(), AllocError>
     ensures own { OnOk result ((q : Text) → has_at lists.new q number ≡ (same name.now q || has_at lists.old q number)) }
     ensures others { (q : Text) (n : ℕ) → nat_eq number n ≡ false → has_at lists.new q n ≡ has_at lists.old q n }
     ensures err { OnErr result ((q : Text) (n : ℕ) → has_at lists.new q n ≡ has_at lists.old q n) }
 {
-    match lists.get_mut(name.as_str()) {
+    match lists.get_mut(name) {
         Some(set) => put(set, number),
         None => {
             let key = key_of(alloc, name)?;
@@ -58,11 +58,11 @@ pub fn put_at(alloc: Global, lists: &mut Lists, name: &Word, number: u64) -> Res
 }
 
 /// Takes a number from under a name.
-pub fn take_at(lists: &mut Lists, name: &Word, number: u64)
+pub fn take_at(lists: &mut Lists, name: &str, number: u64)
     ensures own { (q : Text) → has_at lists.new q number ≡ (not (same name.now q) && has_at lists.old q number) }
     ensures others { (q : Text) (n : ℕ) → nat_eq number n ≡ false → has_at lists.new q n ≡ has_at lists.old q n }
 {
-    if let Some(set) = lists.get_mut(name.as_str()) {
+    if let Some(set) = lists.get_mut(name) {
         take(set, number);
     }
 }

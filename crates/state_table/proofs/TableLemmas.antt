@@ -86,10 +86,10 @@ both-automations e q h k =
     ap (λ b. b && same e.object q.object) (ap (same e.domain) is ∙ same-refl e.domain)
 
 kinds-apart : (e q : EntityId) → (is_automation e ≡ is_automation q → ⊥) → same_entity e q ≡ false
-kinds-apart e q no = by (same_entity e q) refl
+kinds-apart e q never = by (same_entity e q) refl
   where
     by : (b : Bool) → same_entity e q ≡ b → b ≡ false
-    by true s = absurd (no (ap is_automation (entity-sound e q s)))
+    by true s = absurd (never (ap is_automation (entity-sound e q s)))
     by false s = refl
 
 module _ (automations others : Named) (e : EntityId) where
@@ -102,21 +102,21 @@ module _ (automations others : Named) (e : EntityId) where
   -- LAW: a change at the name of an automation is one at its entity
   pub automation-changes : (new : Named) (name : Text) (made w : Option StateObject) → made ≡ w → is_automation e ≡ true → name ≡ e.object
       → ((q : Text) → new q ≡ (if same name q then made else automations q)) → (q : EntityId) → seen_in new others q ≡ (if same_entity e q then w else seen_in automations others q)
-  automation-changes new name made w as is named c q = by (is_automation q) refl
+  automation-changes new name made w equal is named c q = by (is_automation q) refl
     where
       by : (b : Bool) → is_automation q ≡ b → (if b then new q.object else for_id None others q) ≡ (if same_entity e q then w else (if b then automations q.object else for_id None others q))
-      by true h = c q.object ∙ (λ i. if same (named i) q.object then as i else automations q.object)
+      by true h = c q.object ∙ (λ i. if same (named i) q.object then equal i else automations q.object)
           ∙ ap (λ b. if b then w else automations q.object) (sym (both-automations e q is h))
       by false h = ap (λ b. if b then w else for_id None others q) (sym (kinds-apart e q (apart-by _ _ is h)))
 
   -- LAW: a change at the text of another id is one at its entity
   pub other-changes : (new : Named) (text : Text) (made w : Option StateObject) → made ≡ w → is_automation e ≡ false → IsPlain e → text ≡ entity_text e
       → ((q : Text) → new q ≡ (if same text q then made else others q)) → (q : EntityId) → seen_in automations new q ≡ (if same_entity e q then w else seen_in automations others q)
-  other-changes new text made w as is plain written c q = by (is_automation q) refl
+  other-changes new text made w equal is plain written c q = by (is_automation q) refl
     where
       by : (b : Bool) → is_automation q ≡ b → (if b then automations q.object else for_id None new q) ≡ (if same_entity e q then w else (if b then automations q.object else for_id None others q))
       by true h = ap (λ b. if b then w else automations q.object) (sym (kinds-apart e q (λ s. apart-by _ _ h is (sym s))))
-      by false h = turns None others new e plain (λ b x. if b then w else x) refl (λ t. c t ∙ (λ i. if same (written i) t then as i else others t)) q
+      by false h = turns None others new e plain (λ b x. if b then w else x) refl (λ t. c t ∙ (λ i. if same (written i) t then equal i else others t)) q
 
 module _ (automations others new : Named) where
   pub automations-agree : ((q : Text) → new q ≡ automations q) → (q : EntityId) → seen_in new others q ≡ seen_in automations others q

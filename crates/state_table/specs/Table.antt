@@ -2,8 +2,8 @@
 use Rattle.std.specs.Prelude.{◌≡◌, Bool, false, Option, None, if◌then◌else◌}
 use Rattle.std.specs.BTreeMap.{get_by_text}
 use Rattle.ha_value.specs.declared.value.EntityId.{EntityId}
-use Rattle.ha_model.specs.declared.journal.StateObject.{StateObject}
 use Rattle.ha_value.specs.Ids.{for_id}
+use Rattle.ha_model.specs.declared.journal.StateObject.{StateObject}
 use Rattle.ha_model.specs.Words.{same_entity}
 use Rattle.ha_model.specs.Journal.{Journal}
 use Rattle.ha_model.specs.States.{states}

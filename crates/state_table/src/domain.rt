@@ -119,6 +119,47 @@ pub fn report_in(
     }
 }
 
+/// The same, and the answer is the state as it was.
+fn update_over(
+    alloc: Global,
+    object: &mut StateObject,
+    text: &Word,
+    attributes: &Many<(Word, Value)>,
+    now: Moment,
+) -> Result<Option<StateObject>, AllocError>
+    ensures before { IfOk result (λ before. before ≡ Some object.old) }
+    ensures ok { OnOk result (object.new ≡ next_object_lem (Some object.old) text.now attributes.now now) }
+    ensures err { OnErr result (object.new ≡ object.old) }
+{
+    let before = object.copy(alloc)?;
+    match update(alloc, object, text, attributes, now) {
+        Ok(_) => Ok(Some(before)),
+        Err(error) => Err(error),
+    }
+}
+
+/// A report of the entity of this name; the answer is the state that it had.
+pub fn report_over(
+    alloc: Global,
+    states: &mut Named,
+    name: &str,
+    text: &Word,
+    attributes: &Many<(Word, Value)>,
+    now: Moment,
+) -> Result<Option<StateObject>, AllocError>
+    ensures before { IfOk result (λ before. before ≡ get_by_text states.old name.now) }
+    ensures ok { OnOk result (ChangesName states.old states.new name.now (Some (next_object_lem (get_by_text states.old name.now) text.now attributes.now now))) }
+    ensures err { OnErr result (SaysTheSame states.old states.new) }
+{
+    match states.get_mut(name) {
+        Some(object) => update_over(alloc, object, text, attributes, now),
+        None => match appear(alloc, states, name, text, attributes, now) {
+            Ok(_) => Ok(None),
+            Err(error) => Err(error),
+        },
+    }
+}
+
 /// Gives the entity of this name a state.
 pub fn put_in(
     alloc: Global,

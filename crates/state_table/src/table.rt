@@ -14,7 +14,7 @@ ghost use Rattle.state_table.specs.Domain.{change_of};
 ghost use Rattle.state_table.specs.Anew.{is_automation, sets_anew, switch_object};
 ghost use Rattle.state_table.specs.Table.{at, AgreesWith, ChangesAt, StandsBut, StandsFor};
 
-use crate::domain::{Named, put_in, remove_from, report_in};
+use crate::domain::{Named, put_in, remove_from, report_in, report_over};
 use crate::names::parts_of;
 use ha_model::{Change, EntityId, Many, Moment, StateObject, Value, Word};
 use std::alloc::{AllocError, Global};
@@ -44,11 +44,9 @@ impl StateTable {
         ensures empty { (e : EntityId) → at result e ≡ None }
         ensures stands { StandsFor result [] }
     {
-        let automations = BTreeMap::new(alloc);
-        let others = BTreeMap::new(alloc);
         StateTable {
-            automations,
-            others,
+            automations: BTreeMap::new(alloc),
+            others: BTreeMap::new(alloc),
         }
     }
 
@@ -58,7 +56,7 @@ impl StateTable {
     {
         match automation_in(entity) {
             Some(name) => self.automations.get(name),
-            None => self.others.get(entity.text().as_str()),
+            None => self.others.get(entity.text()),
         }
     }
 
@@ -112,7 +110,36 @@ impl StateTable {
             None => report_in(
                 alloc,
                 &mut self.others,
-                entity.text().as_str(),
+                entity.text(),
+                text,
+                attributes,
+                now,
+            ),
+        }
+    }
+
+    /// A report as above; the answer is the state that the entity had before it.
+    pub fn report_over(
+        &mut self,
+        alloc: Global,
+        entity: &EntityId,
+        text: &Word,
+        attributes: &Many<(Word, Value)>,
+        now: Moment,
+    ) -> Result<Option<StateObject>, AllocError>
+        ensures before { IfOk result (λ before. before ≡ at self.old entity.now) }
+        ensures ok { OnOk result (ChangesAt self.old self.new entity.now (Some (next_object (at self.old entity.now) text.now attributes.now now))) }
+        ensures stands { OnOk result ((j : Journal) (k n : ℕ) → StandsFor self.old j → is_automation entity.now ≡ false
+            → now ≡ now_of (more j (Line k n (Cmd.Report entity.now text.now attributes.now)))
+            → StandsFor self.new (more j (Line k n (Cmd.Report entity.now text.now attributes.now)))) }
+        ensures err { OnErr result (AgreesWith self.old self.new) }
+    {
+        match automation_in(entity) {
+            Some(name) => report_over(alloc, &mut self.automations, name, text, attributes, now),
+            None => report_over(
+                alloc,
+                &mut self.others,
+                entity.text(),
                 text,
                 attributes,
                 now,
@@ -129,7 +156,7 @@ impl StateTable {
     {
         match automation_in(entity) {
             Some(name) => remove_from(&mut self.automations, name),
-            None => remove_from(&mut self.others, entity.text().as_str()),
+            None => remove_from(&mut self.others, entity.text()),
         }
     }
 
@@ -160,7 +187,7 @@ impl StateTable {
         let object = switched(alloc, on, now)?;
         match automation_in(entity) {
             Some(name) => put_in(alloc, &mut self.automations, name, object),
-            None => put_in(alloc, &mut self.others, entity.text().as_str(), object),
+            None => put_in(alloc, &mut self.others, entity.text(), object),
         }
     }
 }

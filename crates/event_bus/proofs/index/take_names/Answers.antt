@@ -8,6 +8,6 @@ use Rattle.event_bus.proofs.index.take_names.Goals as goal
 pub loop-at-preserved : goal.loop-at-preserved
 loop-at-preserved c = record {
   own = λ q. names-less q c.args.names.now c.loop-at.at c.index-names-at.result c.loop-at-test.true _ _ _
-      (c.take_at.ensures.own q ∙ (λ i. not (same (c.index-names-at.is i) q) && has_at c.loop-at.lists q c.args.number)) (c.loop-at.invariant.own q);
+      (c.take_at.ensures.own q ∙ (λ i. not (same ((c.as_str.ensures.value ∙ c.index-names-at.is) i) q) && has_at c.loop-at.lists q c.args.number)) (c.loop-at.invariant.own q);
   others = λ q n apart. c.take_at.ensures.others q n apart ∙ c.loop-at.invariant.others q n apart;
 }

@@ -1,6 +1,5 @@
-use Rattle.std.proofs.Common.{◌∙◌, ap, rules, true, Some, None}
+use Rattle.std.proofs.Common.{◌∙◌, refl, rules, true, Some, None}
 use Rattle.std.specs.Prelude.{◌||◌}
-use Rattle.std.specs.HashMap.{get_by_text}
 use Rattle.ha_model.specs.Words.{same}
 use Rattle.event_bus.specs.Lists.{has, has_at}
 use Rattle.event_bus.proofs.ListLemmas.{and-true, as-before, changes-name, err-then, inserts-name, none-in, on-then, passes-too}
@@ -11,8 +10,8 @@ returns-in-Some-clause-own c =
     let m = c.args.lists.now in
     let new = c.put.new.set in
     let n = c.get_mut.follows.lender new in
-    let written = changes-name m n _ _ _ c.as_str.ensures.value ((c.get_mut.follows.holds new).3 (search rules)) in
-    let is = c.in-Some.ensures.value ∙ ap (get_by_text m) c.as_str.ensures.value in
+    let written = changes-name m n _ _ _ refl ((c.get_mut.follows.holds new).3 (search rules)) in
+    let is = c.in-Some.ensures.value in
     on-then _ _ c.put.result
     (λ e q. passes-too (λ s. has s c.args.number) m n c.args.name.now new written (Some c.in-Some.set.now) is true e q ∙ (λ i. and-true (same c.args.name.now q) i || has_at m q c.args.number))
     c.put.ensures.own
@@ -22,8 +21,8 @@ returns-in-Some-clause-others c q k apart =
     let m = c.args.lists.now in
     let new = c.put.new.set in
     let n = c.get_mut.follows.lender new in
-    let written = changes-name m n _ _ _ c.as_str.ensures.value ((c.get_mut.follows.holds new).3 (search rules)) in
-    let is = c.in-Some.ensures.value ∙ ap (get_by_text m) c.as_str.ensures.value in
+    let written = changes-name m n _ _ _ refl ((c.get_mut.follows.holds new).3 (search rules)) in
+    let is = c.in-Some.ensures.value in
     as-before (λ s. has s k) m n c.args.name.now new written (Some c.in-Some.set.now) is (c.put.ensures.others k apart) q
 
 pub returns-in_ok-insert-in-None-clause-own : goal.returns-in_ok-insert-in-None-clause-own
@@ -31,7 +30,7 @@ returns-in_ok-insert-in-None-clause-own c q =
     let m = c.args.lists.now in
     let n = c.insert.new.self in
     let written = inserts-name c.get_mut.follows.lender-at-none m n c.get_mut.follows.holds-at-none _ _ _ c.in_ok-key-in-None.ensures c.in_ok-insert-in-None.ensures.updates in
-    let is = c.in-None.ensures.value ∙ ap (get_by_text m) c.as_str.ensures.value in
+    let is = c.in-None.ensures.value in
     passes-too (λ s. has s c.args.number) m n c.args.name.now c.put-in-None.new.set written None is true c.in_ok-put-in-None.ensures.own q
     ∙ (λ i. and-true (same c.args.name.now q) i || has_at m q c.args.number)
 
@@ -40,7 +39,7 @@ returns-in_ok-insert-in-None-clause-others c q k apart =
     let m = c.args.lists.now in
     let n = c.insert.new.self in
     let written = inserts-name c.get_mut.follows.lender-at-none m n c.get_mut.follows.holds-at-none _ _ _ c.in_ok-key-in-None.ensures c.in_ok-insert-in-None.ensures.updates in
-    let is = c.in-None.ensures.value ∙ ap (get_by_text m) c.as_str.ensures.value in
+    let is = c.in-None.ensures.value in
     as-before (λ s. has s k) m n c.args.name.now c.put-in-None.new.set written None is (c.in_ok-put-in-None.ensures.others k apart ∙ none-in c.new-set.result c.new-set.ensures.empty k) q
 
 pub returns-in-Some-clause-err : goal.returns-in-Some-clause-err
@@ -48,6 +47,6 @@ returns-in-Some-clause-err c =
     let m = c.args.lists.now in
     let new = c.put.new.set in
     let n = c.get_mut.follows.lender new in
-    let written = changes-name m n _ _ _ c.as_str.ensures.value ((c.get_mut.follows.holds new).3 (search rules)) in
-    let is = c.in-Some.ensures.value ∙ ap (get_by_text m) c.as_str.ensures.value in
+    let written = changes-name m n _ _ _ refl ((c.get_mut.follows.holds new).3 (search rules)) in
+    let is = c.in-Some.ensures.value in
     err-then _ _ c.put.result (λ same q k. as-before (λ s. has s k) m n c.args.name.now new written (Some c.in-Some.set.now) is (same k) q) c.put.ensures.err

@@ -1,6 +1,5 @@
-use Rattle.std.proofs.Common.{◌∙◌, ap, rules, true, Some}
+use Rattle.std.proofs.Common.{◌∙◌, refl, rules, true, Some}
 use Rattle.std.specs.Prelude.{◌&&◌, not}
-use Rattle.std.specs.HashMap.{get_by_text}
 use Rattle.ha_model.specs.Words.{same}
 use Rattle.event_bus.specs.Lists.{has, has_at}
 use Rattle.event_bus.proofs.ListLemmas.{and-true, as-before, changes-name, passes-not}
@@ -11,8 +10,8 @@ returns-in-Some-clause-own c q =
     let m = c.args.lists.now in
     let new = c.take.new.set in
     let n = c.get_mut.follows.lender new in
-    let written = changes-name m n _ _ _ c.as_str.ensures.value ((c.get_mut.follows.holds new).3 (search rules)) in
-    let is = c.in-Some.ensures.value ∙ ap (get_by_text m) c.as_str.ensures.value in
+    let written = changes-name m n _ _ _ refl ((c.get_mut.follows.holds new).3 (search rules)) in
+    let is = c.in-Some.ensures.value in
     passes-not (λ s. has s c.args.number) m n c.args.name.now new written (Some c.in-Some.set.now) is true c.take.ensures.own q
     ∙ (λ i. not (and-true (same c.args.name.now q) i) && has_at m q c.args.number)
 
@@ -21,6 +20,6 @@ returns-in-Some-clause-others c q k apart =
     let m = c.args.lists.now in
     let new = c.take.new.set in
     let n = c.get_mut.follows.lender new in
-    let written = changes-name m n _ _ _ c.as_str.ensures.value ((c.get_mut.follows.holds new).3 (search rules)) in
-    let is = c.in-Some.ensures.value ∙ ap (get_by_text m) c.as_str.ensures.value in
+    let written = changes-name m n _ _ _ refl ((c.get_mut.follows.holds new).3 (search rules)) in
+    let is = c.in-Some.ensures.value in
     as-before (λ s. has s k) m n c.args.name.now new written (Some c.in-Some.set.now) is (c.take.ensures.others k apart) q

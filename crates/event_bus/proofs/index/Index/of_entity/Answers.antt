@@ -8,5 +8,5 @@ use Rattle.event_bus.proofs.index.Index.of_entity.Goals as goal
 pub returns : goal.returns
 returns c n =
     let m = c.args.self.now.entities in
-    ap (λ o. option_map_or (λ set. has set n) o false) (c.get.ensures.value ∙ ap (get_by_text m) (c.as_str.ensures.value ∙ c.text.ensures.value))
+    ap (λ o. option_map_or (λ set. has set n) o false) (c.get.ensures.value ∙ ap (get_by_text m) c.text.ensures.value)
     ∙ sym (here false (λ q. has_at m q n) c.args.entity.now c.text.ensures.domain)

@@ -11,5 +11,5 @@ returns-in-Some c =
 pub returns-in-None : goal.returns-in-None
 returns-in-None c =
     let t = c.args.self.now in
-    c.get-in-None.ensures.value ∙ ap (get_by_text t.others) (c.as_str.ensures.value ∙ c.text.ensures.value)
+    c.get-in-None.ensures.value ∙ ap (get_by_text t.others) c.text.ensures.value
     ∙ sym (other-here (get_by_text t.automations) (get_by_text t.others) c.args.entity.now c.in-None.ensures c.text.ensures.domain)

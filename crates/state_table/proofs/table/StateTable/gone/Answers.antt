@@ -22,13 +22,13 @@ pub returns-in-None-clause-found : goal.returns-in-None-clause-found
 returns-in-None-clause-found c =
     let t = c.args.self.now in
     c.remove_from-in-None.ensures.found
-    ∙ ap is_some (ap (get_by_text t.others) (c.as_str.ensures.value ∙ c.text.ensures.value) ∙ sym (other-here (get_by_text t.automations) (get_by_text t.others) c.args.entity.now c.in-None.ensures c.text.ensures.domain))
+    ∙ ap is_some (ap (get_by_text t.others) c.text.ensures.value ∙ sym (other-here (get_by_text t.automations) (get_by_text t.others) c.args.entity.now c.in-None.ensures c.text.ensures.domain))
 
 pub returns-in-None-clause-rest : goal.returns-in-None-clause-rest
 returns-in-None-clause-rest c =
     let t = c.args.self.now in
     other-changes (get_by_text t.automations) (get_by_text t.others) c.args.entity.now (get_by_text c.remove_from-in-None.new.states) _ None None refl c.in-None.ensures c.text.ensures.domain
-    (c.as_str.ensures.value ∙ c.text.ensures.value) c.remove_from-in-None.ensures.rest
+    c.text.ensures.value c.remove_from-in-None.ensures.rest
 
 pub returns-in-None-clause-stands : goal.returns-in-None-clause-stands
 returns-in-None-clause-stands c = stands-gone (at c.args.self.now) _ c.args.entity.now (returns-in-None-clause-rest c)

@@ -34,13 +34,13 @@ returns-in-Some-clause-err c =
 pub returns-in-None-clause-change : goal.returns-in-None-clause-change
 returns-in-None-clause-change c =
     let t = c.args.self.now in
-    let before = ap (get_by_text t.others) (c.as_str.ensures.value ∙ c.text.ensures.value) ∙ sym (other-here (get_by_text t.automations) (get_by_text t.others) c.args.entity.now c.in-None.ensures c.text.ensures.domain) in
+    let before = ap (get_by_text t.others) c.text.ensures.value ∙ sym (other-here (get_by_text t.automations) (get_by_text t.others) c.args.entity.now c.in-None.ensures c.text.ensures.domain) in
     ok-along c.report_in-in-None.result (λ o. change_of o c.args.text.now c.args.attributes.now) _ _ before c.report_in-in-None.ensures.change
 
 pub returns-in-None-clause-ok : goal.returns-in-None-clause-ok
 returns-in-None-clause-ok c =
     let t = c.args.self.now in
-    let written = c.as_str.ensures.value ∙ c.text.ensures.value in
+    let written = c.text.ensures.value in
     let before = ap (get_by_text t.others) written ∙ sym (other-here (get_by_text t.automations) (get_by_text t.others) c.args.entity.now c.in-None.ensures c.text.ensures.domain) in
     ok-then c.report_in-in-None.result
     (other-changes (get_by_text t.automations) (get_by_text t.others) c.args.entity.now (get_by_text c.report_in-in-None.new.states) _ _ _

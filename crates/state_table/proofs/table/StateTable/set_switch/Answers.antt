@@ -1,4 +1,4 @@
-use Rattle.std.proofs.Common.{◌∙◌, ap, Some}
+use Rattle.std.proofs.Common.{ap, Some}
 use Rattle.std.specs.BTreeMap.{get_by_text}
 use Rattle.state_table.specs.Anew.{switch_object}
 use Rattle.state_table.specs.Table.{at}
@@ -28,7 +28,7 @@ returns-in-None-clause-ok c =
     let t = c.args.self.now in
     ok-then c.put_in-in-None.result
     (other-changes (get_by_text t.automations) (get_by_text t.others) c.args.entity.now (get_by_text c.put_in-in-None.new.states) _ _ (Some (switch_object c.args.on c.args.now))
-    (ap (λ o. Some o) c.in_ok-object.ensures) c.in-None.ensures c.text.ensures.domain (c.as_str.ensures.value ∙ c.text.ensures.value))
+    (ap (λ o. Some o) c.in_ok-object.ensures) c.in-None.ensures c.text.ensures.domain c.text.ensures.value)
     c.put_in-in-None.ensures.ok
 
 pub returns-in-None-clause-stands : goal.returns-in-None-clause-stands
