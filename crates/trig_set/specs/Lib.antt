@@ -1,4 +1,5 @@
 pub mod Next
+pub mod Before
 pub mod Kept
 pub mod Table
 pub mod Scenes

@@ -3,6 +3,7 @@
 
 mod attached;
 mod attributes;
+mod before;
 mod blank;
 mod concerned;
 mod equal;
@@ -22,4 +23,5 @@ mod set;
 mod shifts;
 mod spot;
 
+pub use before::Before;
 pub use set::TrigSet;
