@@ -8,8 +8,9 @@ ghost use Rattle.engine_parts.specs.Stages.{Entered, EnteredLeft, IsOther, Pushe
 
 use engine_parts::parts::Parts;
 use engine_parts::see::{see_gone, see_report};
-use ha_model::{EntityId, Many, Moment, StateObject, Value, Word};
+use ha_model::{EntityId, Many, Moment, Value, Word};
 use std::alloc::{AllocError, Global};
+use trig_set::Before;
 
 /// A report.
 pub fn enter_report(
@@ -18,7 +19,7 @@ pub fn enter_report(
     entity: &EntityId,
     text: &Word,
     attributes: &Many<(Word, Value)>,
-) -> Result<Many<(EntityId, Option<StateObject>)>, AllocError>
+) -> Result<Before, AllocError>
     ensures entered { IfOk result (λ before. (k : Journal) (rs : Records) → (h : Pushed k rs parts.old) → h.cmd ≡ cmd.Cmd.Report entity.now text.now attributes.now → Entered k parts.new before) }
     ensures rest { OnOk result (parts.new ≡ record parts.old { states = parts.new.states; changed = false }) }
 {
@@ -47,11 +48,7 @@ pub fn enter_left(
 }
 
 /// An entity goes.
-pub fn enter_gone(
-    parts: &mut Parts,
-    alloc: Global,
-    entity: &EntityId,
-) -> Result<Many<(EntityId, Option<StateObject>)>, AllocError>
+pub fn enter_gone(parts: &mut Parts, alloc: Global, entity: &EntityId) -> Result<Before, AllocError>
     ensures entered { IfOk result (λ before. (k : Journal) (rs : Records) → (h : Pushed k rs parts.old) → h.cmd ≡ cmd.Cmd.Gone entity.now → Entered k parts.new before) }
     ensures rest { OnOk result (parts.new ≡ record parts.old { states = parts.new.states; changed = false }) }
 {
@@ -68,24 +65,20 @@ fn later(a: Moment, b: Moment) -> Moment
 }
 
 /// It is this moment, or later already.
-pub fn enter_moment(
-    parts: &mut Parts,
-    alloc: Global,
-    at: Moment,
-) -> Many<(EntityId, Option<StateObject>)>
+pub fn enter_moment(parts: &mut Parts, alloc: Global, at: Moment) -> Before
     ensures entered { (k : Journal) (rs : Records) → (h : Pushed k rs parts.old) → h.cmd ≡ cmd.Cmd.Moment at → Entered k parts.new result }
     ensures rest { parts.new ≡ record parts.old { at = parts.new.at; changed = false } }
 {
     parts.at = later(parts.at, at);
     parts.changed = false;
-    Many::make(alloc)
+    Before::make(alloc)
 }
 
 /// Anything else that changes neither switches nor states: an event, an automation that is asked for, a line that was refused.
-pub fn enter_other(parts: &mut Parts, alloc: Global) -> Many<(EntityId, Option<StateObject>)>
+pub fn enter_other(parts: &mut Parts, alloc: Global) -> Before
     ensures entered { (k : Journal) (rs : Records) → (h : Pushed k rs parts.old) → IsOther h.cmd → Entered k parts.new result }
     ensures rest { parts.new ≡ record parts.old { changed = false } }
 {
     parts.changed = false;
-    Many::make(alloc)
+    Before::make(alloc)
 }

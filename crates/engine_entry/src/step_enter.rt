@@ -14,9 +14,10 @@ ghost use Rattle.engine_entry.specs.Stepping.{IsTaken, StepEntered, StepHere, Sw
 use crate::turn::enter_switches;
 use engine_parts::last::{configuration, last_entry};
 use engine_parts::parts::Parts;
-use ha_model::{EntityId, Entry, Item, Many, StateObject};
+use ha_model::{Entry, Item, Many};
 use std::alloc::{AllocError, Global};
 use std::collections::BTreeSet;
+use trig_set::Before;
 
 /// The item of the last entry, which is a step.
 fn last_item<'a>(journal: &'a [Entry], parts: &Parts) -> &'a Item
@@ -30,12 +31,12 @@ fn last_item<'a>(journal: &'a [Entry], parts: &Parts) -> &'a Item
 }
 
 /// A step that switches nothing changes nothing itself.
-fn enter_none(parts: &mut Parts, alloc: Global) -> Many<(EntityId, Option<StateObject>)>
+fn enter_none(parts: &mut Parts, alloc: Global) -> Before
     ensures listed { result ≡ [] }
     ensures rest { parts.new ≡ record parts.old { changed = false } }
 {
     parts.changed = false;
-    Many::make(alloc)
+    Before::make(alloc)
 }
 
 /// No automation is seen yet.
@@ -102,7 +103,7 @@ fn enter_targets(
     alloc: Global,
     journal: &[Entry],
     targets: &Many<(u32, bool, bool)>,
-) -> Result<Many<(EntityId, Option<StateObject>)>, AllocError>
+) -> Result<Before, AllocError>
     requires { SwitchedHere journal.now parts.old targets.now }
     ensures entered { IfOk result (λ before. (wait : Option Waited) → IsTaken wait parts.old.waits → StepEntered journal.now parts.new before wait) }
     ensures rest { OnOk result (parts.new ≡ record parts.old { states = parts.new.states; switches = parts.new.switches; triggers = parts.new.triggers; changed = parts.new.changed }) }
@@ -114,11 +115,7 @@ fn enter_targets(
 }
 
 /// All of it.
-pub fn enter_step(
-    parts: &mut Parts,
-    alloc: Global,
-    journal: &[Entry],
-) -> Result<Many<(EntityId, Option<StateObject>)>, AllocError>
+pub fn enter_step(parts: &mut Parts, alloc: Global, journal: &[Entry]) -> Result<Before, AllocError>
     requires { StepHere journal.now parts.old }
     ensures entered { IfOk result (λ before. (wait : Option Waited) → IsTaken wait parts.old.waits → StepEntered journal.now parts.new before wait) }
     ensures rest { OnOk result (parts.new ≡ record parts.old { states = parts.new.states; switches = parts.new.switches; triggers = parts.new.triggers; changed = parts.new.changed }) }

@@ -18,15 +18,16 @@ use crate::step_take::{take_delay, take_wait};
 use engine_parts::attend::note_entry;
 use engine_parts::parts::Parts;
 use engine_parts::wake::wake_step;
-use ha_model::{EntityId, Entry, Firing, Many, Moment, StateObject, WaitAsk};
+use ha_model::{Entry, Firing, Many, Moment, WaitAsk};
 use std::alloc::{AllocError, Global};
+use trig_set::Before;
 
 /// The wait and the delay that the step began are taken in.
 fn take_over(
     parts: &mut Parts,
     alloc: Global,
     journal: &[Entry],
-    before: &Many<(EntityId, Option<StateObject>)>,
+    before: &Before,
     wait: Option<WaitAsk>,
     due: Option<Moment>,
 ) -> Result<(), AllocError>
@@ -69,17 +70,17 @@ pub fn attend_step(
     parts: &mut Parts,
     alloc: Global,
     journal: &[Entry],
-    before: &Many<(EntityId, Option<StateObject>)>,
+    before: Before,
     wait: Option<WaitAsk>,
     due: Option<Moment>,
 ) -> Result<Many<Firing>, AllocError>
-    requires { StepEntered journal.now parts.old before.now wait }
+    requires { StepEntered journal.now parts.old before wait }
     ensures fired { IfOk result (λ fired. attempts_by fired ≡ fired_lem journal.now (last_place journal.now)) }
     ensures going { OnOk result ((rs : Records) (progress : Far) → StepRuns journal.now rs progress wait due parts.old.waits parts.old.delays parts.old.frames.items parts.old.ready.pairs.items
         → Going nobody journal.now rs parts.new) }
     ensures rested { OnOk result (parts.new.rested ≡ parts.old.rested) }
 {
-    take_over(parts, alloc, journal, before, wait, due)?;
+    take_over(parts, alloc, journal, &before, wait, due)?;
     let fired = note_entry(parts, alloc, journal, before)?;
     wake_after(parts, alloc, journal)?;
     Ok(fired)

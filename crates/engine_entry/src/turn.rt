@@ -15,10 +15,10 @@ ghost use Rattle.engine_entry.specs.Turned.{entity_named, is_target, less};
 use engine_parts::last::configuration;
 use engine_parts::parts::Parts;
 use engine_parts::see::copied;
-use ha_model::{Automation, EntityId, Entry, Many, Moment, StateObject, Word};
+use ha_model::{Automation, EntityId, Entry, Moment, Word};
 use state_table::StateTable;
 use std::alloc::{AllocError, Global};
-use trig_set::TrigSet;
+use trig_set::{Before, TrigSet};
 
 /// The entity of the automation of this name.
 pub fn entity_of(alloc: Global, name: &Word) -> Result<EntityId, AllocError>
@@ -34,7 +34,7 @@ fn see_switch(
     name: &Word,
     on: bool,
     now: Moment,
-    before: &mut Many<(EntityId, Option<StateObject>)>,
+    before: &mut Before,
 ) -> Result<(), AllocError>
     ensures changes { OnOk result (ChangesAt states.old states.new (entity_named name.now) (Some (switch_object on now))) }
     ensures listed { OnOk result (before.new ≡ before.old ++ (entity_named name.now, state_at states.old (entity_named name.now)) ∷ []) }
@@ -78,7 +78,7 @@ fn turn(
     automation: u32,
     on: bool,
     place: u64,
-    before: &mut Many<(EntityId, Option<StateObject>)>,
+    before: &mut Before,
 ) -> Result<(), AllocError>
     requires { TurnsOne rule.now automation on place parts.old before.old }
     ensures turned { OnOk result ((h : TurnsOne rule.now automation on place parts.old before.old) → Between h.j h.x (less h.left automation) parts.new before.new) }
@@ -102,7 +102,7 @@ fn turn_all(
     rules: &[Automation],
     targets: &[(u32, bool, bool)],
     place: u64,
-    before: &mut Many<(EntityId, Option<StateObject>)>,
+    before: &mut Before,
 ) -> Result<(), AllocError>
     requires { TurnsAll rules.now targets.now place parts.old before.old }
     ensures turned { OnOk result ((h : TurnsAll rules.now targets.now place parts.old before.old) → Between h.j h.x (is_target []) parts.new before.new) }
@@ -131,14 +131,14 @@ pub fn enter_switches(
     alloc: Global,
     journal: &[Entry],
     targets: &[(u32, bool, bool)],
-) -> Result<Many<(EntityId, Option<StateObject>)>, AllocError>
+) -> Result<Before, AllocError>
     requires { Turning journal.now targets.now parts.old }
     ensures entered { IfOk result (λ before. Entered journal.now parts.new before) }
     ensures rest { OnOk result (parts.new ≡ record parts.old { states = parts.new.states; switches = parts.new.switches; triggers = parts.new.triggers; changed = parts.new.changed }) }
     ensures below { OnOk result ((n : ℕ) → 1024 ≤ n → AreBelow n (attached parts.old.triggers) → AreBelow n (attached parts.new.triggers)) }
 {
     let rules = configuration(journal).automations.as_slice();
-    let mut before = Many::make(alloc);
+    let mut before = Before::make(alloc);
     parts.changed = false;
     turn_all(
         parts,

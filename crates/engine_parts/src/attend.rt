@@ -17,10 +17,10 @@ use crate::parts::Parts;
 use crate::wake::wake;
 use cond_eval::View;
 use ha_clock::Zone;
-use ha_model::{EntityId, Entry, Firing, Many, Moment, StateObject};
+use ha_model::{Entry, Firing, Many, Moment};
 use state_table::StateTable;
 use std::alloc::{AllocError, Global};
-use trig_set::TrigSet;
+use trig_set::{Before, TrigSet};
 use wait_set::Waits;
 
 /// The triggers and the waits note the last entry, where these are the states, the zone and Now after it.
@@ -29,14 +29,14 @@ fn note_last<'a>(
     waits: &mut Waits,
     alloc: Global,
     journal: &'a [Entry],
-    before: &Many<(EntityId, Option<StateObject>)>,
+    before: Before,
     states: &'a StateTable,
     zone: &'a Zone,
     at: Moment,
 ) -> Result<Many<Firing>, AllocError>
     requires looks { Looks journal.now states.now zone.now at }
     requires sound { AreSound journal.now }
-    requires untold { Untold journal.now triggers.old waits.old before.now }
+    requires untold { Untold journal.now triggers.old waits.old before }
     ensures attached { OnOk result (attached triggers.new ≡ attached triggers.old) }
     ensures told { OnOk result (Told journal.entry.now waits.old triggers.new waits.new) }
     ensures fired { IfOk result (λ fired. fired ≡ firings journal.entry.now (length journal.entry.now - 1) (attached triggers.old)) }
@@ -59,9 +59,9 @@ pub fn note_entry(
     parts: &mut Parts,
     alloc: Global,
     journal: &[Entry],
-    before: &Many<(EntityId, Option<StateObject>)>,
+    before: Before,
 ) -> Result<Many<Firing>, AllocError>
-    requires { Entered journal.now parts.old before.now }
+    requires { Entered journal.now parts.old before }
     ensures attached { OnOk result (attached parts.new.triggers ≡ attached parts.old.triggers) }
     ensures noted { OnOk result (Noted journal.now parts.old.waits parts.new) }
     ensures fired { IfOk result (λ fired. fired ≡ firings journal.now (length journal.now - 1) (attached parts.old.triggers)) }
@@ -106,9 +106,9 @@ pub fn attend(
     parts: &mut Parts,
     alloc: Global,
     journal: &[Entry],
-    before: &Many<(EntityId, Option<StateObject>)>,
+    before: Before,
 ) -> Result<Many<Firing>, AllocError>
-    requires { Entered journal.now parts.old before.now }
+    requires { Entered journal.now parts.old before }
     ensures attached { OnOk result (attached parts.new.triggers ≡ without_owners parts.new.waits.fresh (attached parts.old.triggers)) }
     ensures ended { OnOk result ((serial : ℕ) → EndsGrow parts.old.waits parts.new.waits serial) }
     ensures fired { IfOk result (λ fired. attempts_by fired ≡ fired_lem journal.now (length journal.now - 1)) }

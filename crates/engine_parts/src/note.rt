@@ -15,9 +15,9 @@ ghost use Rattle.script_step.specs.declared.frames.Frames.{Frames};
 ghost use Rattle.engine_parts.specs.Kept.{AreOwned};
 ghost use Rattle.engine_parts.specs.Runs.{AreHeld};
 
-use ha_model::{Answers, EntityId, Entry, Firing, Many, StateObject};
+use ha_model::{Answers, Entry, Firing, Many};
 use std::alloc::{AllocError, Global};
-use trig_set::TrigSet;
+use trig_set::{Before, TrigSet};
 use wait_set::Waits;
 
 /// The waits note the entry at a place, with all that fires there.
@@ -49,18 +49,18 @@ pub fn note<A: Answers>(
     alloc: Global,
     place: u64,
     entry: &Entry,
-    before: &Many<(EntityId, Option<StateObject>)>,
+    before: Before,
     answers: &A,
 ) -> Result<Many<Firing>, AllocError>
     requires in_time { (A.sight answers.now).now ≤ last_moment }
     ensures attached { OnOk result (triggers_lem.attached triggers.new ≡ triggers_lem.attached triggers.old) }
     ensures fired { IfOk result (λ fired. (j : Journal) → triggers_lem.StandsFor triggers.old j
-        → IsNext j place entry.now before.now (A.sight answers.now) (triggers_lem.attached triggers.old)
+        → IsNext j place entry.now before (A.sight answers.now) (triggers_lem.attached triggers.old)
         → fired ≡ firings (more j entry.now) place (triggers_lem.attached triggers.old)) }
     ensures triggers { OnOk result ((j : Journal) → triggers_lem.StandsFor triggers.old j
-        → IsNext j place entry.now before.now (A.sight answers.now) (triggers_lem.attached triggers.old) → triggers_lem.StandsFor triggers.new (more j entry.now)) }
+        → IsNext j place entry.now before (A.sight answers.now) (triggers_lem.attached triggers.old) → triggers_lem.StandsFor triggers.new (more j entry.now)) }
     ensures waits { OnOk result ((j : Journal) → HasEntry j → triggers_lem.StandsFor triggers.old j → waits_lem.StandsFor waits.old.asks j
-        → IsNext j place entry.now before.now (A.sight answers.now) (triggers_lem.attached triggers.old)
+        → IsNext j place entry.now before (A.sight answers.now) (triggers_lem.attached triggers.old)
         → waits_lem.AreFired (more j entry.now) place (firings (more j entry.now) place (triggers_lem.attached triggers.old)) waits.old.asks
         → waits_lem.StandsFor waits.new.asks (more j entry.now)) }
     ensures asks { OnOk result ((serial : ℕ) → AsksKept waits.old waits.new serial) }

@@ -12,6 +12,7 @@ ghost use Rattle.trig_set.specs.Next.{AreListed, Listed};
 use ha_model::{EntityId, Many, Moment, Plain, StateObject, Value, Word};
 use state_table::StateTable;
 use std::alloc::{AllocError, Global};
+use trig_set::Before;
 
 /// A copy of a state, if there is one.
 pub fn copied(alloc: Global, state: Option<&StateObject>) -> Result<Option<StateObject>, AllocError>
@@ -27,24 +28,15 @@ pub fn copied(alloc: Global, state: Option<&StateObject>) -> Result<Option<State
 }
 
 /// The entity with this state.
-fn one(
-    alloc: Global,
-    entity: &EntityId,
-    state: Option<StateObject>,
-) -> Result<Many<(EntityId, Option<StateObject>)>, AllocError>
+fn one(alloc: Global, entity: &EntityId, state: Option<StateObject>) -> Result<Before, AllocError>
     ensures { IfOk result (λ before. before ≡ (entity.now, state) ∷ []) }
 {
-    let mut list = Many::with_room(alloc, 1)?;
-    list.push((entity.copy(alloc)?, state))?;
-    Ok(list)
+    let entity = entity.copy(alloc)?;
+    Ok(Before::one(alloc, (entity, state)))
 }
 
 /// The entity with its state in the table.
-fn listed(
-    alloc: Global,
-    states: &StateTable,
-    entity: &EntityId,
-) -> Result<Many<(EntityId, Option<StateObject>)>, AllocError>
+fn listed(alloc: Global, states: &StateTable, entity: &EntityId) -> Result<Before, AllocError>
     ensures { IfOk result (λ before. before ≡ (entity.now, at states.now entity.now) ∷ []) }
 {
     match copied(alloc, states.get(entity)) {
@@ -61,7 +53,7 @@ pub fn see_report(
     text: &Word,
     attributes: &Many<(Word, Value)>,
     now: Moment,
-) -> Result<Many<(EntityId, Option<StateObject>)>, AllocError>
+) -> Result<Before, AllocError>
     ensures stands { OnOk result ((j : Journal) (k n : ℕ) → StandsFor states.old j → is_automation entity.now ≡ false
         → now ≡ now_of (more j (Line k n (cmd.Cmd.Report entity.now text.now attributes.now)))
         → StandsFor states.new (more j (Line k n (cmd.Cmd.Report entity.now text.now attributes.now)))) }
@@ -78,7 +70,7 @@ pub fn see_gone(
     states: &mut StateTable,
     alloc: Global,
     entity: &EntityId,
-) -> Result<Many<(EntityId, Option<StateObject>)>, AllocError>
+) -> Result<Before, AllocError>
     ensures stands { OnOk result ((j : Journal) (k n : ℕ) → StandsFor states.old j → is_automation entity.now ≡ false → StandsFor states.new (more j (Line k n (cmd.Cmd.Gone entity.now)))) }
     ensures listed { IfOk result (λ before. (j : Journal) (k n : ℕ) → StandsFor states.old j → is_automation entity.now ≡ false → AreListed j (Line k n (cmd.Cmd.Gone entity.now)) before) }
 {

@@ -29,7 +29,7 @@ use state_table::StateTable;
 use std::alloc::{AllocError, Global};
 use switch_book::Switches;
 use timer_queue::TimerQueue;
-use trig_set::TrigSet;
+use trig_set::{Before, TrigSet};
 use wait_set::Waits;
 
 /// The zone of a text that can be read.
@@ -107,7 +107,7 @@ fn note_first<'a>(
     ensures fired { IfOk result (λ fired. attempts_by fired ≡ fired_lem journal.entry.now (last_place journal.entry.now)) }
 {
     let view = View::make(states, configuration(journal), zone, start);
-    let fired = triggers.note(alloc, 0, last_entry(journal), &Many::make(alloc), &view)?;
+    let fired = triggers.note(alloc, 0, last_entry(journal), Before::make(alloc), &view)?;
     Ok(fired)
 }
 

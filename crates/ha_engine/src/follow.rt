@@ -19,16 +19,13 @@ use engine_parts::attend::attend;
 use engine_parts::last::last_entry;
 use engine_parts::left::attend_left;
 use engine_parts::parts::Parts;
-use ha_model::{Cmd, EntityId, Entry, Many, StateObject, Value, Word};
+use ha_model::{Cmd, EntityId, Entry, Many, Value, Word};
 use run_modes::Runs;
 use std::alloc::{AllocError, Global};
+use trig_set::Before;
 
 /// What a command that changes no switch changes itself.
-fn enter_plain(
-    parts: &mut Parts,
-    alloc: Global,
-    cmd: &Cmd,
-) -> Result<Many<(EntityId, Option<StateObject>)>, AllocError>
+fn enter_plain(parts: &mut Parts, alloc: Global, cmd: &Cmd) -> Result<Before, AllocError>
     ensures entered { IfOk result (λ before. (k : Journal) (rs : Records) → (h : Pushed k rs parts.old) → h.cmd ≡ cmd.now → IsPlain cmd.now → Entered k parts.new before) }
     ensures runs { OnOk result ((k : Journal) (rs : Records) → RunsBefore k rs parts.old.waits parts.old.delays parts.old.frames.items parts.old.ready.pairs.items
         → RunsBefore k rs parts.new.waits parts.new.delays parts.new.frames.items parts.new.ready.pairs.items) }
@@ -72,7 +69,7 @@ fn follow_plain(
     ensures err { OnErr result (runs.new.list ≡ runs.old.list) }
 {
     let before = enter_plain(parts, alloc, cmd)?;
-    let fired = attend(parts, alloc, journal, &before)?;
+    let fired = attend(parts, alloc, journal, before)?;
     conclude(alloc, journal, runs, parts, fired)
 }
 

@@ -20,10 +20,11 @@ use engine_entry::open::{on_of, open_all};
 use engine_parts::attend::note_entry;
 use engine_parts::last::configuration;
 use engine_parts::parts::Parts;
-use ha_model::{Automation, EndCause, Entry, Many};
+use ha_model::{Automation, EndCause, Entry};
 use run_modes::Runs;
 use std::alloc::{AllocError, Global};
 use switch_book::Switches;
+use trig_set::Before;
 
 /// Whether a restart changes the switch of an automation.
 fn moves(switches: &Switches, automation: u32, rule: &Automation) -> bool
@@ -91,8 +92,8 @@ pub(crate) fn follow_restart(
     ensures err { OnErr result (runs.new.list ≡ runs.old.list) }
 {
     reopen(parts, alloc, journal)?;
-    let before = Many::make(alloc);
-    let fired = note_entry(parts, alloc, journal, &before)?;
+    let before = Before::make(alloc);
+    let fired = note_entry(parts, alloc, journal, before)?;
     let stack = prepare(alloc, journal, parts, fired)?;
     make_room(runs, parts, stack.len())?;
     runs.stop_all(None, journal.len() as u64 - 1, EndCause::Restarted);

@@ -27,6 +27,6 @@ pub(crate) fn follow_step(
     ensures err { OnErr result (runs.new.list ≡ runs.old.list) }
 {
     let before = enter_step(parts, alloc, journal)?;
-    let fired = attend_step(parts, alloc, journal, &before, wait, due)?;
+    let fired = attend_step(parts, alloc, journal, before, wait, due)?;
     conclude_step(alloc, journal, runs, parts, progress, fired)
 }

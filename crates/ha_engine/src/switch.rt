@@ -55,7 +55,7 @@ pub(crate) fn follow_switch(
 {
     let automation = number_of(journal, name);
     let before = enter_switches(parts, alloc, journal, &[(automation, on, stop)])?;
-    let fired = attend(parts, alloc, journal, &before)?;
+    let fired = attend(parts, alloc, journal, before)?;
     let stack = prepare(alloc, journal, parts, fired)?;
     make_room(runs, parts, stack.len())?;
     let stops = ends_runs(on, stop);

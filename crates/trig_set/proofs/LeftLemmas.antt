@@ -3,7 +3,7 @@ use Rattle.std.proofs.Common.{◌≡◌, ℕ, zero, suc, ◌+◌, ◌<◌, ◌�
 use Rattle.std.specs.Prelude.{All, IsSome, IsTrue, ◌↔◌, MatchOption, None, Option, Some, flat_map, map, nat_eq, nat_le, slice_get, ◌||◌, if◌then◌else◌}
 use Rattle.std.specs.List.{list_any}
 use Rattle.std.specs.BTreeMap.{is_at}
-use Rattle.std.specs.BTreeSet.{BTreeSet, IsLowerBound, Updates}
+use Rattle.std.specs.BTreeSet.{BTreeSet, IsLowerBound}
 use Rattle.std.specs.Ordering.{is_gt}
 use Rattle.std.proofs.lemmas.Bool.Decides.{eqb_tells, nat_tests}
 use Rattle.ha_model.specs.Words.{up_to}
@@ -15,6 +15,7 @@ use Rattle.event_bus.specs.Subjects.{Subject, knows}
 use Rattle.trig_set.specs.declared.scene.Shift.{Shift}
 use Rattle.trig_set.specs.Concerned.{OfOthers}
 use Rattle.trig_set.specs.Order.{ascend, owner_of}
+use Rattle.trig_set.specs.Places.{Turns}
 use Rattle.trig_set.specs.Queued.{IsLater}
 use Rattle.trig_set.specs.Stands.{AtOwner}
 use Rattle.trig_set.proofs.OwnersLemmas.{at-beyond, flat-up}
@@ -39,12 +40,12 @@ least-le : (a b : ℕ) → is_gt (nat_cmp a b) ≡ false → a ≤ b
 least-le a b h = grind (arith, nat_tests, h)
 
 -- one place was taken out, the least
-module _ (old new : BTreeSet ℕ) (p : ℕ) (updates : Updates nat_cmp old new p false) (least : IsLowerBound nat_cmp old p) where
+module _ (old new : BTreeSet ℕ) (p : ℕ) (updates : Turns old new p false) (least : IsLowerBound nat_cmp old p) where
   pub left-here : has new p ≡ false
-  left-here = updates.0 p ∙ (λ i. if is-at-same p i then false else has old p)
+  left-here = updates p ∙ (λ i. if is-at-same p i then false else has old p)
 
   pub left-else : (n : ℕ) → nat_eq p n ≡ false → has new n ≡ has old n
-  left-else n apart = updates.0 n ∙ (λ i. if is-at-other p n apart i then false else has old n)
+  left-else n apart = updates n ∙ (λ i. if is-at-other p n apart i then false else has old n)
 
   pub left-before : (n : ℕ) → n < p → has old n ≡ false
   left-before n lt = by (has old n) refl
@@ -93,19 +94,19 @@ flat-skip f a (suc b) le none = elim (eqb_tells a (suc b)) [
 abbrev pub OfListed : List Attached → BTreeSet ℕ → List ℕ → ℕ → Type 0
 OfListed owners listed left n = AtOwner owners n (λ a. ascend (map owner_of owners) ≡ true → has listed a.owner ≡ list_any (is_at (nat_cmp a.owner)) left)
 
-module _ (old new : BTreeSet ℕ) (p : ℕ) (updates : Updates nat_cmp old new p true) (n : ℕ) (none : has new n ≡ false) where
+module _ (old new : BTreeSet ℕ) (p : ℕ) (updates : Turns old new p true) (n : ℕ) (none : has new n ≡ false) where
   put-apart : nat_eq p n ≡ false
   put-apart = by (nat_eq p n) refl
     where
       by : (b : Bool) → nat_eq p n ≡ b → nat_eq p n ≡ false
       by true h =
           let is : is_at (nat_cmp p) n ≡ true = grind (arith, nat_tests, h) in
-          let bad : ◌≡◌ {A = Bool} true false = sym (updates.0 n ∙ (λ i. if is i then true else has old n)) ∙ none in cc
+          let bad : ◌≡◌ {A = Bool} true false = sym (updates n ∙ (λ i. if is i then true else has old n)) ∙ none in cc
       by false h = h
 
   -- LAW: what is not there then was not there
   pub put-kept : has old n ≡ false
-  put-kept = sym (updates.0 n ∙ (λ i. if is-at-other p n put-apart i then true else has old n)) ∙ none
+  put-kept = sym (updates n ∙ (λ i. if is-at-other p n put-apart i then true else has old n)) ∙ none
 
   apart-never : nat_eq p n ≡ false → p ≡ n → ⊥
   apart-never h e = (let same : nat_eq p n ≡ true = grind (arith, nat_tests, e) in let bad : ◌≡◌ {A = Bool} true false = sym same ∙ h in cc)
@@ -152,7 +153,7 @@ due-else to k m (t ∷ ts) first apart = by (nat_le t.0 to) first
     by false e = refl
 
 -- LAW: an owner whose place is not there is not the one whose timer came
-pub due-aside : (owners : List Attached) (old new : BTreeSet ℕ) (p : ℕ) → Updates nat_cmp old new p true → (n : ℕ) → has new n ≡ false → (to k : ℕ) (start before after : List Timer)
+pub due-aside : (owners : List Attached) (old new : BTreeSet ℕ) (p : ℕ) → Turns old new p true → (n : ℕ) → has new n ≡ false → (to k : ℕ) (start before after : List Timer)
     → first_due to before ≡ Some k → after ≡ after_due to before → (ascend (map owner_of owners) ≡ true → AtOwner owners n (λ a. a.owner ≡ k → p ≡ n))
     → AtOwner owners n (λ a. ascend (map owner_of owners) ≡ true → due_of a.owner before ≡ due_of a.owner start)
     → AtOwner owners n (λ a. ascend (map owner_of owners) ≡ true → due_of a.owner after ≡ due_of a.owner start)
@@ -171,7 +172,7 @@ due-aside owners old new p updates n none to k start before after first rest fou
     by (Some a) f t = λ asc. (λ i. due_of a.owner (rest i)) ∙ due-else to k a.owner before first (other a.owner (f asc)) ∙ t asc
 
 -- LAW: a place that is not among those of all owners is behind them
-pub all-put : (old new : BTreeSet ℕ) (place : ℕ) → Updates nat_cmp old new place true → ((n : ℕ) → has old n ≡ false → place ≤ n) → (n : ℕ) → has new n ≡ false → place + 1 ≤ n
+pub all-put : (old new : BTreeSet ℕ) (place : ℕ) → Turns old new place true → ((n : ℕ) → has old n ≡ false → place ≤ n) → (n : ℕ) → has new n ≡ false → place + 1 ≤ n
 all-put old new place updates told n none =
     let le = told n (put-kept old new place updates n none) in
     elim (eqb_tells place n) [

@@ -1,4 +1,5 @@
 pub mod Next
+pub mod Before
 pub mod Kept
 pub mod Table
 pub mod Scenes
@@ -10,4 +11,5 @@ pub mod Order
 pub mod Known
 pub mod Queued
 pub mod Concerned
+pub mod Places
 pub mod Left

@@ -1,5 +1,5 @@
 -- What an entry is told with, and the journals of which that is true.
-use Rattle.std.specs.Prelude.{◌≡◌, ℕ, true, false, nat_lt, List, Option, MatchOption, find, length, option_map}
+use Rattle.std.specs.Prelude.{◌≡◌, ℕ, true, false, nat_lt, List, [], ◌∷◌, Option, MatchOption, find, length, option_map}
 use Rattle.std.specs.Option.{option_copied}
 use Rattle.ha_value.specs.declared.value.EntityId.{EntityId}
 use Rattle.ha_model.specs.declared.journal.Entry.{Entry}
@@ -10,6 +10,7 @@ use Rattle.ha_model.specs.States.{states}
 use Rattle.ha_model.specs.RecordSteps.{more}
 use Rattle.ha_model.specs.Triggers.{latest_number}
 use Rattle.trig_set.specs.declared.scene.Shift.{Shift}
+use Rattle.trig_set.specs.declared.scene.Shifts.{Shifts}
 use Rattle.trig_set.specs.declared.scene.Scene.{Scene}
 use Rattle.trig_set.specs.Table.{number_at}
 use Rattle.trig_set.specs.Next.{reports}
@@ -17,6 +18,10 @@ use Rattle.trig_set.specs.Next.{reports}
 -- the text and attributes of a state
 abbrev pub face : Option StateObject → Option (Text × Pairs)
 face s = option_map (λ o. (o.text, o.attributes)) s
+
+abbrev pub shifts_in : Shifts → List Shift
+shifts_in (Shifts.One c) = c ∷ []
+shifts_in (Shifts.Several cs) = cs
 
 abbrev pub shift_of : List Shift → EntityId → Option Shift
 shift_of shifts e = find (λ c. same_entity c.entity e) shifts

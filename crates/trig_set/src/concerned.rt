@@ -14,6 +14,7 @@ use crate::attached::is_moment;
 use crate::event::kind_in;
 use crate::moved::opens;
 use crate::owners::Attached;
+use crate::places::Places;
 use crate::scene::Shift;
 use event_bus::Index;
 use ha_model::{Entry, Moment};
@@ -44,7 +45,7 @@ pub fn place_of(owners: &[Attached], owner: u64) -> usize
 fn put_places(
     owners: &[Attached],
     listed: &BTreeSet<u64>,
-    places: &mut BTreeSet<usize>,
+    places: &mut Places,
 ) -> Result<(), AllocError>
     ensures kept { OnOk result ((n : ℕ) → has places.new n ≡ false → has places.old n ≡ false) }
     ensures aside { OnOk result (OfOthers owners.now places.new (λ m. has listed.now m ≡ false)) }
@@ -59,7 +60,7 @@ fn put_places(
 fn put_some(
     owners: &[Attached],
     listed: Option<&BTreeSet<u64>>,
-    places: &mut BTreeSet<usize>,
+    places: &mut Places,
 ) -> Result<(), AllocError>
     ensures kept { OnOk result ((n : ℕ) → has places.new n ≡ false → has places.old n ≡ false) }
     ensures aside { OnOk result (OfOthers owners.now places.new (λ m. option_map_or (λ set. has set m) (option_copied listed.entry) false ≡ false)) }
@@ -75,7 +76,7 @@ fn put_event(
     index: &Index,
     entry: &Entry,
     owners: &[Attached],
-    places: &mut BTreeSet<usize>,
+    places: &mut Places,
 ) -> Result<(), AllocError>
     ensures kept { OnOk result ((n : ℕ) → has places.new n ≡ false → has places.old n ≡ false) }
     ensures aside { OnOk result (OfOthers owners.now places.new (λ m. MatchOption (option_map (λ v. v.0) (event_in entry.now)) (Unit {0}) (λ q. knows index.now (Subject.Event q) m ≡ false))) }
@@ -91,7 +92,7 @@ fn put_entities(
     index: &Index,
     shifts: &[Shift],
     owners: &[Attached],
-    places: &mut BTreeSet<usize>,
+    places: &mut Places,
 ) -> Result<(), AllocError>
     ensures kept { OnOk result ((n : ℕ) → has places.new n ≡ false → has places.old n ≡ false) }
     ensures aside { OnOk result (OfOthers owners.now places.new (λ m. (k : ℕ) → MatchOption (slice_get shifts.now k) (Unit {0}) (λ c. knows index.now (Subject.Entity c.entity) m ≡ false))) }
@@ -107,7 +108,7 @@ fn put_due(
     owners: &[Attached],
     queue: &mut TimerQueue,
     to: Moment,
-    places: &mut BTreeSet<usize>,
+    places: &mut Places,
 ) -> Result<(), AllocError>
     ensures kept { OnOk result ((n : ℕ) → has places.new n ≡ false → has places.old n ≡ false) }
     ensures later { OnOk result (OfOthers owners.now places.new (λ m. IsLater to (due_of m queue.old))) }
@@ -125,7 +126,7 @@ fn put_timely(
     to: Moment,
     owners: &[Attached],
     queue: &mut TimerQueue,
-    places: &mut BTreeSet<usize>,
+    places: &mut Places,
 ) -> Result<(), AllocError>
     ensures kept { OnOk result ((n : ℕ) → has places.new n ≡ false → has places.old n ≡ false) }
     ensures times { OnOk result (OfOthers owners.now places.new (λ m. knows index.now Subject.Moments m ≡ false)) }
@@ -143,7 +144,7 @@ fn put_moment(
     to: Moment,
     owners: &[Attached],
     queue: &mut TimerQueue,
-    places: &mut BTreeSet<usize>,
+    places: &mut Places,
 ) -> Result<(), AllocError>
     ensures kept { OnOk result ((n : ℕ) → has places.new n ≡ false → has places.old n ≡ false) }
     ensures times { OnOk result (OfOthers owners.now places.new (λ m. is_moment entry.now ≡ true → knows index.now Subject.Moments m ≡ false)) }
@@ -166,12 +167,12 @@ fn some_places(
     shifts: &[Shift],
     owners: &[Attached],
     queue: &mut TimerQueue,
-) -> Result<BTreeSet<usize>, AllocError>
+) -> Result<Places, AllocError>
     requires { opens_segment entry.now ≡ false }
     ensures aside { IfOk result (λ places. OfOthers owners.now places (IsAside index.now queue.old to shifts.now entry.now)) }
     ensures queue { IfOk result (λ places. OfOthers owners.now places (λ m. due_of m queue.new ≡ due_of m queue.old)) }
 {
-    let mut places = BTreeSet::new(alloc);
+    let mut places = Places::make(alloc);
     put_places(owners, &index.entries, &mut places)?;
     put_event(index, entry, owners, &mut places)?;
     put_entities(index, shifts, owners, &mut places)?;
@@ -180,10 +181,10 @@ fn some_places(
 }
 
 /// The places of all owners.
-fn all_places(alloc: Global, owners: &[Attached]) -> Result<BTreeSet<usize>, AllocError>
+fn all_places(alloc: Global, owners: &[Attached]) -> Result<Places, AllocError>
     ensures { IfOk result (λ places. (n : ℕ) → has places n ≡ false → length owners.now ≤ n) }
 {
-    let mut places = BTreeSet::new(alloc);
+    let mut places = Places::make(alloc);
     for place in 0..owners.len() {
         places.insert(place)?;
     }
@@ -199,7 +200,7 @@ pub fn concerned(
     shifts: &[Shift],
     owners: &[Attached],
     queue: &mut TimerQueue,
-) -> Result<BTreeSet<usize>, AllocError>
+) -> Result<Places, AllocError>
     ensures aside { IfOk result (λ places. OfOthers owners.now places (IsAside index.now queue.old to shifts.now entry.now)) }
     ensures queue { IfOk result (λ places. OfOthers owners.now places (λ m. due_of m queue.new ≡ due_of m queue.old)) }
 {

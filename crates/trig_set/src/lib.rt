@@ -3,6 +3,7 @@
 
 mod attached;
 mod attributes;
+mod before;
 mod blank;
 mod concerned;
 mod equal;
@@ -16,9 +17,11 @@ mod noted;
 mod numbers;
 mod ordered;
 mod owners;
+mod places;
 mod scene;
 mod set;
 mod shifts;
 mod spot;
 
+pub use before::Before;
 pub use set::TrigSet;

@@ -17,11 +17,11 @@ ghost use Rattle.trig_set.specs.Stands.{AllOwners, AtOwner, OwnerStands, firings
 use crate::attached::retime;
 use crate::concerned::concerned;
 use crate::owners::{Attached, note_at};
+use crate::places::Places;
 use crate::scene::Scene;
 use event_bus::Index;
 use ha_model::{Answers, Firing, Many};
 use std::alloc::{AllocError, Global};
-use std::collections::BTreeSet;
 use timer_queue::TimerQueue;
 
 /// What the entry makes of the owner at a place, if there is one; what fires is appended.
@@ -76,7 +76,7 @@ fn note_some<A: Answers>(
     alloc: Global,
     scene: &Scene<'_>,
     answers: &A,
-    places: BTreeSet<usize>,
+    places: Places,
     owners: &mut [Attached],
     queue: &mut TimerQueue,
     fired: &mut Many<Firing>,

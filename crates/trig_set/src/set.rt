@@ -16,6 +16,7 @@ ghost use Rattle.trig_set.specs.Left.{Leaves};
 ghost use Rattle.trig_set.specs.Next.{IsNext};
 ghost use Rattle.trig_set.specs.Stands.{attached, StandsFor};
 
+use crate::before::Before;
 use crate::left::leaves;
 use crate::listed::{list, unlist};
 use crate::numbers::Numbers;
@@ -25,7 +26,7 @@ use crate::scene::Scene;
 use crate::shifts::shifts_of;
 use event_bus::Index;
 use ha_clock::{ClockFault, Zone};
-use ha_model::{Answers, EntityId, Entry, Firing, Many, Moment, StateObject, Trigger, Value, Word};
+use ha_model::{Answers, EntityId, Entry, Firing, Many, Moment, Trigger, Value, Word};
 use std::alloc::{AllocError, Global};
 use std::collections::BTreeMap;
 use timer_queue::TimerQueue;
@@ -166,14 +167,14 @@ impl TrigSet {
         alloc: Global,
         place: u64,
         entry: &Entry,
-        before: &Many<(EntityId, Option<StateObject>)>,
+        before: Before,
         answers: &A,
     ) -> Result<Many<Firing>, AllocError>
         requires in_time { (A.sight answers.now).now ≤ last_moment }
         ensures kept { OnOk result (attached self.new ≡ attached self.old) }
-        ensures fired { IfOk result (λ fired. (j : Journal) → StandsFor self.old j → IsNext j place entry.now before.now (A.sight answers.now) (attached self.old)
+        ensures fired { IfOk result (λ fired. (j : Journal) → StandsFor self.old j → IsNext j place entry.now before (A.sight answers.now) (attached self.old)
             → fired ≡ firings (more j entry.now) place (attached self.old)) }
-        ensures stands { OnOk result ((j : Journal) → StandsFor self.old j → IsNext j place entry.now before.now (A.sight answers.now) (attached self.old)
+        ensures stands { OnOk result ((j : Journal) → StandsFor self.old j → IsNext j place entry.now before (A.sight answers.now) (attached self.old)
             → StandsFor self.new (more j entry.now)) }
     {
         self.open(alloc, entry)?;

@@ -9,10 +9,11 @@ ghost use Rattle.ha_model.specs.Sights.{switch_seen};
 ghost use Rattle.ha_model.specs.Triggers.{sight};
 ghost use Rattle.ha_model.specs.Words.{Text, Pairs, same_entity};
 ghost use Rattle.trig_set.specs.Next.{AreListed, Listed};
-ghost use Rattle.trig_set.specs.Scenes.{AreShifts, face};
-ghost use Rattle.trig_set.specs.Shifts.{AreMade, IsMade, face_of_switch, is_automation, next_face, removes};
+ghost use Rattle.trig_set.specs.Scenes.{AreShifts, face, shifts_in};
+ghost use Rattle.trig_set.specs.Shifts.{AreMade, IsMade, face_after, face_of_switch, is_automation, next_face, removes};
 
-use crate::scene::Shift;
+use crate::before::Before;
+use crate::scene::{Shift, Shifts};
 use ha_model::{
     Answers, Cmd, EntityId, Entry, Many, Moment, Plain, StateObject, Value, Word, copy_pairs,
     same_id,
@@ -121,6 +122,24 @@ fn next_state(
     old.copy(alloc)
 }
 
+/// The state after the entry of an entity that had this one before it.
+fn new_state<A: Answers>(
+    alloc: Global,
+    entry: &Entry,
+    entity: &EntityId,
+    old: &Option<StateObject>,
+    answers: &A,
+) -> Result<Option<StateObject>, AllocError>
+    ensures { IfOk result (λ s. face s ≡ face_after entry.now (A.sight answers.now) entity.now (face old.now)) }
+{
+    let now = answers.now();
+    if is_automation(entity) {
+        switch_state(alloc, switch_of(entity, answers), now)
+    } else {
+        next_state(alloc, entry, entity, old, now)
+    }
+}
+
 /// What the entry changes of an entity that had this state before it.
 fn shift<A: Answers>(
     alloc: Global,
@@ -131,17 +150,27 @@ fn shift<A: Answers>(
     ensures { IfOk result (λ c. IsMade entry.now (A.sight answers.now) listed.now c) }
 {
     let (entity, old) = listed;
-    let now = answers.now();
-    let new = if is_automation(entity) {
-        switch_state(alloc, switch_of(entity, answers), now)?
-    } else {
-        next_state(alloc, entry, entity, old, now)?
-    };
+    let new = new_state(alloc, entry, entity, old, answers)?;
     Ok(Shift {
         entity: entity.copy(alloc)?,
         old: old.copy(alloc)?,
         new,
     })
+}
+
+/// What the entry changes of the only entity that is listed, with that entity and its state moved in.
+fn shift_alone<A: Answers>(
+    alloc: Global,
+    entry: &Entry,
+    listed: (EntityId, Option<StateObject>),
+    answers: &A,
+) -> Result<Shift, AllocError>
+    ensures { IfOk result (λ c. (j : Journal) → A.sight answers.now ≡ sight (more j entry.now) (length (more j entry.now))
+        → AreListed j entry.now (listed ∷ []) → AreShifts (c ∷ []) j entry.now) }
+{
+    let (entity, old) = listed;
+    let new = new_state(alloc, entry, &entity, &old, answers)?;
+    Ok(Shift { entity, old, new })
 }
 
 /// One more change.
@@ -158,9 +187,8 @@ fn push_shift<A: Answers>(
     Ok(())
 }
 
-/// The states of the listed entities before and after the entry. After it, an automation has what its switch says; an entity that is
-/// reported has what the report says; one that is removed, or any at a Restart, is gone; and any other has the state before.
-pub fn shifts_of<A: Answers>(
+/// What the entry changes of each of the listed entities.
+fn shifts_of_several<A: Answers>(
     alloc: Global,
     entry: &Entry,
     before: &Many<(EntityId, Option<StateObject>)>,
@@ -175,4 +203,28 @@ pub fn shifts_of<A: Answers>(
         push_shift(alloc, entry, &listed[place], answers, &mut shifts)?;
     }
     Ok(shifts)
+}
+
+/// The states of the listed entities before and after the entry. After it, an automation has what its switch says; an entity that is
+/// reported has what the report says; one that is removed, or any at a Restart, is gone; and any other has the state before.
+pub fn shifts_of<A: Answers>(
+    alloc: Global,
+    entry: &Entry,
+    before: Before,
+    answers: &A,
+) -> Result<Shifts, AllocError>
+    ensures { IfOk result (λ shifts. (j : Journal) → A.sight answers.now ≡ sight (more j entry.now) (length (more j entry.now))
+        → AreListed j entry.now before → AreShifts (shifts_in shifts) j entry.now) }
+{
+    let Before { alone, several } = before;
+    match alone {
+        Some(listed) => {
+            let shift = shift_alone(alloc, entry, listed, answers)?;
+            Ok(Shifts::One(shift))
+        }
+        None => {
+            let shifts = shifts_of_several(alloc, entry, &several, answers)?;
+            Ok(Shifts::Several(shifts))
+        }
+    }
 }

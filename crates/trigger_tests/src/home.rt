@@ -11,7 +11,7 @@ use ha_model::{
 };
 use state_table::StateTable;
 use std::alloc::{AllocError, Global};
-use trig_set::TrigSet;
+use trig_set::{Before, TrigSet};
 
 // 2024-05-01T20:00:00Z
 pub const EIGHT: u64 = 1_714_593_600_000;
@@ -207,7 +207,7 @@ impl Home {
         &mut self,
         alloc: Global,
         entries: &Many<Entry>,
-        before: &Many<(EntityId, Option<StateObject>)>,
+        before: Before,
     ) -> Result<Many<Firing>, AllocError> {
         let automations = Many::make(alloc);
         let config = Config { automations };
@@ -221,18 +221,13 @@ impl Home {
     }
 
     /// The entity that a step touches, with its state before.
-    fn before(
-        &self,
-        alloc: Global,
-        step: Step<'_>,
-    ) -> Result<Many<(EntityId, Option<StateObject>)>, AllocError> {
-        let mut before = Many::make(alloc);
-        if let Some(id) = touched(step) {
-            let entity = entity(alloc, id)?;
-            let state = state_of(alloc, &self.states, &entity)?;
-            before.push((entity, state))?;
-        }
-        Ok(before)
+    fn before(&self, alloc: Global, step: Step<'_>) -> Result<Before, AllocError> {
+        let Some(id) = touched(step) else {
+            return Ok(Before::make(alloc));
+        };
+        let entity = entity(alloc, id)?;
+        let state = state_of(alloc, &self.states, &entity)?;
+        Ok(Before::one(alloc, (entity, state)))
     }
 
     /// The states after a report.
@@ -274,8 +269,7 @@ impl Home {
         entries: &Many<Entry>,
         wanted: &[u32],
     ) -> Result<bool, AllocError> {
-        let before = Many::make(alloc);
-        let fired = self.note(alloc, entries, &before)?;
+        let fired = self.note(alloc, entries, Before::make(alloc))?;
         Ok(are(fired.as_slice(), wanted))
     }
 
@@ -284,7 +278,7 @@ impl Home {
         let before = self.before(alloc, row.step)?;
         self.go_on(alloc, row.step)?;
         let entries = line(alloc, row.step, self.now)?;
-        let fired = self.note(alloc, &entries, &before)?;
+        let fired = self.note(alloc, &entries, before)?;
         Ok(are(fired.as_slice(), row.fire))
     }
 

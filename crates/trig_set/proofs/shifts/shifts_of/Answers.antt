@@ -1,15 +1,9 @@
-use Rattle.std.proofs.Common.{◌∙◌, subst, arith}
-use Rattle.trig_set.specs.Next.{Listed}
-use Rattle.trig_set.specs.Shifts.{AreMade}
-use Rattle.std.proofs.lemmas.List.{take_all}
-use Rattle.trig_set.proofs.ShiftLemmas.{made-shifts}
+use Rattle.std.proofs.Common.{◌≡◌, ◌∙◌, ◌∷◌, [], ap, subst, sym}
+use Rattle.trig_set.specs.Before.{listed_of}
+use Rattle.trig_set.specs.Next.{AreListed, Listed}
 use Rattle.trig_set.proofs.shifts.shifts_of.Goals as goal
 
-pub returns : goal.returns
-returns g c j sees listed e =
-    let x = c.args.entry.now in
-    let seen = g.A.Answers.sight c.args.answers.now in
-    let whole = take_all c.loop-place.place c.as_slice-listed.result.now (omega arith) ∙ c.as_slice-listed.ensures in
-    made-shifts x seen j sees e c.args.before.now c.loop-place.shifts
-    (subst (λ (ps : Listed). AreMade x seen ps c.loop-place.shifts) whole c.loop-place.invariant)
-    (listed e)
+pub returns-in-Some : goal.returns-in-Some
+returns-in-Some g c j sees listed =
+    let is : c.args.before ≡ c.in-Some.listed ∷ [] = sym c.before-2.view_is ∙ ap (λ o. listed_of o c.before-2.inside.several) c.in-Some.is in
+    c.in_ok-shift-in-Some.ensures j sees (subst (λ (l : Listed). AreListed j c.args.entry.now l) is listed)
