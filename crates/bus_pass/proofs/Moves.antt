@@ -3,9 +3,7 @@ use Rattle.std.proofs.Common.{◌≡◌, ◌≢◌, ℕ, ◌+◌, ◌==◌, ◌<
 use Rattle.std.specs.Prelude.{Contains, IsSome}
 use Rattle.std.proofs.lemmas.List.{length-set}
 use Rattle.std.proofs.lemmas.List.Elements.{Contains-append_left, Contains-append_right}
-use Rattle.std.proofs.lemmas.Bool.{ne_eqb}
-use Rattle.std.proofs.lemmas.Map.Views.{exact_unsigned_eq}
-use Rattle.std.proofs.Math.Seq.{drop-append_seam, take-append_seam}
+use Rattle.std.proofs.Math.Seq.{drop-append_seam}
 use mathlib.Core.Option.{some, none, some-injective, some-ne-none}
 use mathlib.Core.Option as maybe
 use lib.ListN.{get_elem?}
@@ -13,13 +11,13 @@ use Rattle.crossbeam_channel.specs.Fifo.{Pushes, Pops, Forks, Merges, Learns}
 use Rattle.atomic_table.proofs.Lists.{at_set}
 use Rattle.ha_model.specs.declared.journal.Cmd.{Cmd}
 use Rattle.ha_model.specs.declared.journal.Entry.{Entry}
-use Rattle.ha_model.specs.declared.journal.Entry.TheVariants.{Boot, Line, Step}
 use Rattle.ha_model.specs.Journal.{Journal}
 use Rattle.bus_turn.specs.declared.fault.BusFault.{BusFault}
-use Rattle.bus_pass.specs.Journal.{is_of, placed}
-use Rattle.bus_pass.specs.Rule.{given, hand, notes, Stands, grown, IsPutAs, AllTold, IsList, Fits, Lies, Kept, opening, took, gave, parent, child, both, spent, stood, Tells, size_of, MayGive, Dues, dues_after, due_of, is_full}
+use Rattle.bus_pass.specs.Journal.{placed}
+use Rattle.bus_pass.specs.Reads.{Reading, due_in, reads}
+use Rattle.bus_pass.specs.Rule.{hand, notes, Stands, grown, AllTold, IsList, Fits, Lies, Kept, opening, took, gave, parent, child, both, spent, stood, Tells, size_of, MayGive, Dues, dues_after, due_of, is_full}
 use Rattle.bus_pass.proofs.HandLemmas.{every_set, at_end, below, some_none, some_same, cons_nil, rests, moves, moved, stayed, at_snoc_place, some_of, never, heard_either}
-use Rattle.bus_pass.proofs.Lists.{placed_more, stands_left, stands_right, stands_either, stands_grown, grown_stands, kept_list, grown_list, none_told}
+use Rattle.bus_pass.proofs.Lists.{placed_more, stands_left, stands_right, stands_either, stands_grown, grown_stands, kept_list, grown_list, no_more, none_told, read_told}
 use Rattle.bus_pass.specs.declared.hand.Given.{Given}
 use Rattle.bus_pass.specs.declared.hand.Stood.{Stood}
 use Rattle.bus_pass.specs.declared.hand.Origin.{Origin}
@@ -146,18 +144,18 @@ module _ {T : Type 0} (R : Journal → Type 0) (journal : T → Journal) (first 
     pub full : first x ≡ Some BusFault.Full → R (journal x) ⊎ IsSome owed'
     pub owing : (d : ℕ × Cmd) → owed' ≡ Some d → (owed ≡ Some d) ⊎ (((l : List Given) × Stands v.stands d.0 l) × Contains dues d)
 
-  module _ (read : T → Option Cmd) where
+  module _ (read : T → Reading) where
     -- a pass that holds the bus gives it back with `more` after the journal that it took
     pub gives : (n port : ℕ) (v : Hand) (x : T) (old more : Journal) → v.taken ≡ Some old → journal x ≡ old ++ more
-        → ((k : ℕ) → AllTold (old ++ more) (notes k (length old) (read x) more))
+        → ((k : ℕ) → AllTold (old ++ more) (notes k (length old) (reads (read x)) more))
         → ((k : ℕ) → ((l : List Given) → ¬ (Stands v.stands k l)) → placed k (length old) more ≡ [])
         → ((f : BusFault) → v.noted ≡ Some f → first x ≡ Some f)
         → ((o : Origin) → v.origin ≡ Some o → origin x ≡ o)
         → (dues : Dues) → ((d : ℕ × Cmd) → Contains v.dues d → Contains dues d)
         → ((owed : Option (ℕ × Cmd)) → (v.noted ≡ Some BusFault.Full → R old ⊎ IsSome owed) → Debt v dues x owed)
-        → Pushes (Kept R journal first origin) n port v x (λ w. w ≡ hand v.first v.made (grown (length old) (read x) more v.stands) None (first x) dues (Some (origin x)))
+        → Pushes (Kept R journal first origin) n port v x (λ w. w ≡ hand v.first v.made (grown (length old) (reads (read x)) more v.stands) None (first x) dues (Some (origin x)))
     gives n port v x old more is j fair only fault same dues keep debt items views room h at =
-        let w = hand v.first v.made (grown (length old) (read x) more v.stands) None (first x) dues (Some (origin x)) in
+        let w = hand v.first v.made (grown (length old) (reads (read x)) more v.stands) None (first x) dues (Some (origin x)) in
         let f = h.each port v at in
         let mine : h.holder ≡ some port = rests v old is f.idle in
         let now : h.now ≡ old = some_same (sym (f.holds mine).0 ∙ is) in
@@ -187,12 +185,12 @@ module _ {T : Type 0} (R : Journal → Type 0) (journal : T → Journal) (first 
               begun = λ o t. t;
               owes = λ k e s. ⊎_elim (λ t. keep k (f.owes k t s)) (λ t. t.1) (d.owing k e);
               leads = f.leads;
-              stands = λ k l s. let t = stands_grown (length old) (read x) more v.stands k l s in let b = f.stands k t.0 t.1 in (
+              stands = λ k l s. let t = stands_grown (length old) (reads (read x)) more v.stands k l s in let b = f.stands k t.0 t.1 in (
                 b.0,
                 b.1,
-                subst (λ (q : List Given). IsList (old ++ more) k q) (sym t.2) (grown_list old more k (read x) t.0 (fair k) (subst (λ (q : Journal). IsList q k t.0) now b.2)),
+                subst (λ (q : List Given). IsList (old ++ more) k q) (sym t.2) (grown_list old more k (reads (read x)) t.0 (fair k) (subst (λ (q : Journal). IsList q k t.0) now b.2)),
               );
-              sits = λ k lt e. let t = f.sits k lt e in (t.0 ++ notes k (length old) (read x) more, grown_stands (length old) (read x) more v.stands k t.0 t.1);
+              sits = λ k lt e. let t = f.sits k lt e in (t.0 ++ notes k (length old) (reads (read x)) more, grown_stands (length old) (reads (read x)) more v.stands k t.0 t.1);
             } (λ i u apart e. let g = h.each i u e in record {
               idle = ⊎_elim (λ t. inl t) (λ t. absurd (apart (some-injective i port (sym t ∙ mine)))) g.idle;
               holds = λ p. absurd (some-ne-none i (sym p));
@@ -338,24 +336,6 @@ module _ {T : Type 0} (R : Journal → Type 0) (journal : T → Journal) (first 
 
 -- ---- what may be given
 
-is_one : (k w : ℕ) (e : Entry) → is_of w e ≡ true → k ≢ w → is_of k e ≡ false
-is_one k w (Boot text config stored start zone) is n = refl
-is_one k w (Line source number cmd) is n = ne_eqb source k (λ e. n (sym e ∙ exact_unsigned_eq source w is))
-is_one k w (Step worker serial branch item) is n = ne_eqb worker k (λ e. n (sym e ∙ exact_unsigned_eq worker w is))
-
-fair_case : (b : Bool) (old : Journal) (e : Entry) (r : Option Cmd) → IsPutAs old e r → AllTold (old ++ e ∷ []) (cond b (given (length old) e r ∷ []) [])
-fair_case true old e r fair = (
-  record {
-    within = omega (arith, length-append old (e ∷ []));
-    line = subst (λ (p : Journal). IsPutAs p e r) (sym (take-append_seam old (e ∷ []))) fair;
-  },
-  tt,
-)
-fair_case false old e r fair = tt
-
-no_more : (k n : ℕ) (e : Entry) → is_of k e ≡ false → placed k n (e ∷ []) ≡ []
-no_more k n e is = ap (λ (b : Bool). cond b ((n, e) ∷ []) []) is
-
 -- a fault is that of a full journal, or not
 full_or : (o : Option BusFault) → ((o ≡ Some BusFault.Full) × (is_full o ≡ true)) ⊎ ((o ≡ Some BusFault.Full → ⊥) × (is_full o ≡ false))
 full_or None = inr (λ e. never BusFault.Full e, refl)
@@ -369,15 +349,15 @@ keep_case true true xs ys d h = h
 keep_case true false xs ys d h = Contains-append_right xs ys d h
 keep_case false c xs ys d h = h
 
-module _ {T : Type 0} (R : Journal → Type 0) (journal : T → Journal) (first : T → Option BusFault) (origin : T → Origin) (read : T → Option Cmd) where
+module _ {T : Type 0} (R : Journal → Type 0) (journal : T → Journal) (first : T → Option BusFault) (origin : T → Origin) (read : T → Reading) where
   -- the dues of a pass that finds the journal full hold the command that was due
-  due_noted : (v : Hand) (x : T) (worker : ℕ) (list : List Given) (c : Cmd) → v.stands ≡ stood worker list ∷ [] → read x ≡ Some c
+  due_noted : (v : Hand) (x : T) (worker : ℕ) (list : List Given) (c : Cmd) → v.stands ≡ stood worker list ∷ [] → due_in (read x) ≡ Some c
       → is_full (first x) ≡ true → is_full v.noted ≡ false → Contains (dues_after v (read x) (first x)) (worker, c)
   due_noted v x worker list c stands is now before =
       let e : dues_after v (read x) (first x) ≡ (worker, c) ∷ v.dues =
-      ap (λ (b : Bool). cond b (cond (is_full v.noted) v.dues (due_of v.stands (read x) ++ v.dues)) v.dues) now
-      ∙ ap (λ (b : Bool). cond b v.dues (due_of v.stands (read x) ++ v.dues)) before
-      ∙ ap (λ (ss : List Stood). due_of ss (read x) ++ v.dues) stands
+      ap (λ (b : Bool). cond b (cond (is_full v.noted) v.dues (due_of v.stands (due_in (read x)) ++ v.dues)) v.dues) now
+      ∙ ap (λ (b : Bool). cond b v.dues (due_of v.stands (due_in (read x)) ++ v.dues)) before
+      ∙ ap (λ (ss : List Stood). due_of ss (due_in (read x)) ++ v.dues) stands
       ∙ ap (λ (r : Option Cmd). due_of (stood worker list ∷ []) r ++ v.dues) is in
       subst (λ (l : Dues). Contains l (worker, c)) (sym e) (Contains-append_left ((worker, c) ∷ []) v.dues (worker, c) (0, omega arith, refl))
 
@@ -397,7 +377,7 @@ module _ {T : Type 0} (R : Journal → Type 0) (journal : T → Journal) (first 
           → Debt R journal first origin v (dues_after v (read x) (first x)) x owed
       before b sure (inl was) = still (⊎_elim (λ r. inl (subst R (same was.0) r)) (λ s. inr s) (had was.0))
       before b sure (inr free) = ⊎_elim (λ was. absurd (free.0 was)) (λ why. ⊎_elim (λ r. still (inl r)) (λ s.
-          let c = some_of (read x) s in
+          let c = some_of (due_in (read x)) s in
           record {
             owed' = Some (m.worker, c.0);
             full = λ _. inr refl;
@@ -412,30 +392,30 @@ module _ {T : Type 0} (R : Journal → Type 0) (journal : T → Journal) (first 
       now (inr free) = record { owed' = owed; full = λ e. absurd (free.0 e); owing = λ d e. inl e }
 
   gave_is : (v : Hand) (x : T) (old more : Journal) → v.taken ≡ Some old → journal x ≡ old ++ more
-      → hand v.first v.made (grown (length old) (read x) more v.stands) None (first x) (dues_after v (read x) (first x)) (Some (origin x)) ≡ gave v (journal x) (read x) (first x) (origin x)
+      → hand v.first v.made (grown (length old) (reads (read x)) more v.stands) None (first x) (dues_after v (read x) (first x)) (Some (origin x)) ≡ gave v (journal x) (read x) (first x) (origin x)
   gave_is v x old more is j = sym (
-      ap (λ (t : Option Journal). hand v.first v.made (grown (size_of t) (read x) (drop (size_of t) (journal x)) v.stands) None (first x) (dues_after v (read x) (first x)) (Some (origin x))) is
-      ∙ ap (λ (t : Journal). hand v.first v.made (grown (length old) (read x) (drop (length old) t) v.stands) None (first x) (dues_after v (read x) (first x)) (Some (origin x))) j
-      ∙ ap (λ (t : Journal). hand v.first v.made (grown (length old) (read x) t v.stands) None (first x) (dues_after v (read x) (first x)) (Some (origin x))) (drop-append_seam old more)
+      ap (λ (t : Option Journal). hand v.first v.made (grown (size_of t) (reads (read x)) (drop (size_of t) (journal x)) v.stands) None (first x) (dues_after v (read x) (first x)) (Some (origin x))) is
+      ∙ ap (λ (t : Journal). hand v.first v.made (grown (length old) (reads (read x)) (drop (length old) t) v.stands) None (first x) (dues_after v (read x) (first x)) (Some (origin x))) j
+      ∙ ap (λ (t : Journal). hand v.first v.made (grown (length old) (reads (read x)) t v.stands) None (first x) (dues_after v (read x) (first x)) (Some (origin x))) (drop-append_seam old more)
       )
 
   by_gave : (n port : ℕ) (v : Hand) (x : T) (old more : Journal) → v.taken ≡ Some old → journal x ≡ old ++ more
-      → Pushes (Kept R journal first origin) n port v x (λ w. w ≡ hand v.first v.made (grown (length old) (read x) more v.stands) None (first x) (dues_after v (read x) (first x)) (Some (origin x)))
+      → Pushes (Kept R journal first origin) n port v x (λ w. w ≡ hand v.first v.made (grown (length old) (reads (read x)) more v.stands) None (first x) (dues_after v (read x) (first x)) (Some (origin x)))
       → Pushes (Kept R journal first origin) n port v x (λ w. w ≡ gave v (journal x) (read x) (first x) (origin x))
   by_gave n port v x old more is j push items views room h at =
       let t = push items views room h at in (t.0, t.1, t.2 ∙ gave_is v x old more is j)
 
   keep_dues : (v : Hand) (x : T) (d : ℕ × Cmd) → Contains v.dues d → Contains (dues_after v (read x) (first x)) d
-  keep_dues v x d h = keep_case (is_full (first x)) (is_full v.noted) (due_of v.stands (read x)) v.dues d h
+  keep_dues v x d h = keep_case (is_full (first x)) (is_full v.noted) (due_of v.stands (due_in (read x))) v.dues d h
 
   pub may_give : (n port : ℕ) (v : Hand) (x : T) → MayGive R v (journal x) (read x) (first x) (origin x) → Pushes (Kept R journal first origin) n port v x (λ w. w ≡ gave v (journal x) (read x) (first x) (origin x))
   may_give n port v x m = ⊎_elim
       (λ same. by_gave n port v x m.old [] m.holds (same ∙ sym (append-nil m.old)) (gives R journal first origin read n port v x m.old [] m.holds (same ∙ sym (append-nil m.old)) (λ k. tt) (λ k away. refl) m.fault (λ o e. some_same (sym m.same_origin ∙ e))
       (dues_after v (read x) (first x)) (keep_dues v x) (owed_then v x m)))
-      (λ more. by_gave n port v x m.old (more.1.entry ∷ []) m.holds more.1.longer (gives R journal first origin read n port v x m.old (more.1.entry ∷ []) m.holds more.1.longer
-      (λ k. fair_case (is_of k more.1.entry) m.old more.1.entry (read x) more.1.as_read)
-      (λ k away. no_more k (length m.old) more.1.entry (is_one k m.worker more.1.entry more.1.of_worker
-      (λ e. away m.list (subst (λ (ss : List Stood). Stands ss k m.list) (sym m.stands) (inl (sym e, refl))))))
+      (λ t. let more = t.1 in by_gave n port v x m.old more.entries m.holds more.longer (gives R journal first origin read n port v x m.old more.entries m.holds more.longer
+      (λ k. read_told k m.worker (reads (read x)) m.old more.entries more.as_read)
+      (λ k away. no_more k m.worker (length m.old) (reads (read x)) m.old more.entries more.as_read
+      (λ e. away m.list (subst (λ (ss : List Stood). Stands ss k m.list) (sym m.stands) (inl (sym e, refl)))))
       m.fault (λ o e. some_same (sym m.same_origin ∙ e)) (dues_after v (read x) (first x)) (keep_dues v x) (owed_then v x m)))
       m.put
 
@@ -445,5 +425,5 @@ module _ {T : Type 0} (R : Journal → Type 0) (journal : T → Journal) (first 
   first_give n port v x is away room =
       let taken : v.taken ≡ Some [] = ap (λ (u : Hand). u.taken) is in
       by_gave n port v x [] (journal x) taken refl (gives R journal first origin read n port v x [] (journal x) taken refl
-      (λ k. none_told (journal x) (journal x) k 0 (read x) (away k)) (λ k _. away k) (λ f e. never f (sym (ap (λ (u : Hand). u.noted) is) ∙ e)) (λ o e. never o (sym (ap (λ (u : Hand). u.origin) is) ∙ e))
+      (λ k. none_told (journal x) (journal x) k 0 (reads (read x)) (away k)) (λ k _. away k) (λ f e. never f (sym (ap (λ (u : Hand). u.noted) is) ∙ e)) (λ o e. never o (sym (ap (λ (u : Hand). u.origin) is) ∙ e))
       (dues_after v (read x) (first x)) (keep_dues v x) (λ owed had. record { owed' = owed; full = λ e. absurd (room e); owing = λ d e. inl e }))

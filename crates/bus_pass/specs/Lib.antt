@@ -1,4 +1,5 @@
 pub mod Journal
+pub mod Reads
 pub mod Message
 pub mod Rule
 pub mod Turns

@@ -11,6 +11,7 @@ use Rattle.ha_model.specs.Commands.{put_as}
 use Rattle.ha_model.specs.Journal.{Journal}
 use Rattle.bus_turn.specs.declared.fault.BusFault.{BusFault}
 use Rattle.bus_pass.specs.Journal.{is_of, placed}
+use Rattle.bus_pass.specs.Reads.{Reading, Reads, due_in, reads}
 use Rattle.bus_pass.specs.declared.hand.Given.{Given}
 use Rattle.bus_pass.specs.declared.hand.Stood.{Stood}
 use Rattle.bus_pass.specs.declared.hand.Origin.{Origin}
@@ -31,10 +32,10 @@ hand first made stands taken noted dues origin =
 
 -- ---- the lists of the workers
 
--- the entries of worker k among those that one put added at the place n
-abbrev pub notes : ℕ → ℕ → Option Cmd → List Entry → List Given
+-- the entries of worker k among those that one give added from the place n on
+abbrev pub notes : ℕ → ℕ → Reads → List Entry → List Given
 notes k n read [] = []
-notes k n read (e ∷ es) = cond (is_of k e) (given n e read ∷ notes k (n + 1) read es) (notes k (n + 1) read es)
+notes k n read (e ∷ es) = cond (is_of k e) (given n e (read e) ∷ notes k (n + 1) read es) (notes k (n + 1) read es)
 
 abbrev pub bare : List Given → List (ℕ × Entry)
 bare gs = map (λ (g : Given). (g.place, g.entry)) gs
@@ -44,8 +45,8 @@ abbrev pub Stands : List Stood → ℕ → List Given → Type 0
 Stands [] k l = ⊥
 Stands (s ∷ ss) k l = ((s.worker ≡ k) × (s.given ≡ l)) ⊎ Stands ss k l
 
--- these lists, with what one put added
-abbrev pub grown : ℕ → Option Cmd → List Entry → List Stood → List Stood
+-- these lists, with what one give added
+abbrev pub grown : ℕ → Reads → List Entry → List Stood → List Stood
 grown n read more [] = []
 grown n read more (s ∷ ss) = stood s.worker (s.given ++ notes s.worker n read more) ∷ grown n read more ss
 
@@ -127,19 +128,19 @@ abbrev pub is_full : Option BusFault → Bool
 is_full (Some BusFault.Full) = true
 is_full _ = false
 
--- the command that was read is due for the one worker
+-- the command is due for the one worker
 abbrev pub due_of : List Stood → Option Cmd → Dues
 due_of (s ∷ ss) (Some c) = (s.worker, c) ∷ []
 due_of _ _ = []
 
--- a pass that finds the journal full notes the command that was due
-abbrev pub dues_after : Hand → Option Cmd → Option BusFault → Dues
-dues_after v read first = cond (is_full first) (cond (is_full v.noted) v.dues (due_of v.stands read ++ v.dues)) v.dues
+-- a pass that finds the journal full notes the first command that was not put
+abbrev pub dues_after : Hand → Reading → Option BusFault → Dues
+dues_after v read first = cond (is_full first) (cond (is_full v.noted) v.dues (due_of v.stands (due_in read) ++ v.dues)) v.dues
 
--- the view that gave the bus with this journal, for the command that was read, with this first fault and this origin
-abbrev pub gave : Hand → Journal → Option Cmd → Option BusFault → Origin → Hand
+-- the view that gave the bus with this journal, for the commands that were read, with this first fault and this origin
+abbrev pub gave : Hand → Journal → Reading → Option BusFault → Origin → Hand
 gave v j read first origin =
-    hand v.first v.made (grown (size_of v.taken) read (drop (size_of v.taken) j) v.stands) None first
+    hand v.first v.made (grown (size_of v.taken) (reads read) (drop (size_of v.taken) j) v.stands) None first
     (dues_after v read first) (Some origin)
 
 abbrev pub parent : Hand → Hand
@@ -174,24 +175,28 @@ pub record Tells (GoesOn : Journal → Type 0) (v : Hand) (j : Journal) (first :
   pub same_origin : (o : Origin) → v.origin ≡ Some o → origin ≡ o
   pub full : first ≡ Some BusFault.Full → StandsForAll v → GoesOn j ⊎ ((d : ℕ × Cmd) × (d.0 < v.made) × Contains v.dues d)
 
--- one entry of worker k more, and a line as it was read
-pub record OneMore (k : ℕ) (read : Option Cmd) (old new : Journal) : Type 0 where
-  pub entry : Entry
-  pub longer : new ≡ old ++ entry ∷ []
-  pub of_worker : is_of k entry ≡ true
-  pub as_read : IsPutAs old entry read
+-- entries of worker k, which stand behind those before, and each line of them as it was read
+abbrev pub AreAsRead : ℕ → Reads → Journal → List Entry → Type 0
+AreAsRead k read before [] = Unit {0}
+AreAsRead k read before (e ∷ es) = (is_of k e ≡ true) × IsPutAs before e (read e) × AreAsRead k read (before ++ e ∷ []) es
 
--- A pass with this view holds the bus, and may give it back with this journal, for the command that was read, with this first fault and
--- this origin: with one entry more, put where it kept no fault, or with none; a fault that was noted is still kept, and the origin is the
--- same; where the bus is newly full, the journal can go on, or a command was due.
+-- more entries of worker k, and each line as it was read
+pub record More (k : ℕ) (read : Reads) (old new : Journal) : Type 0 where
+  pub entries : List Entry
+  pub longer : new ≡ old ++ entries
+  pub as_read : AreAsRead k read old entries
+
+-- A pass with this view holds the bus, and may give it back with this journal, for the commands that were read, with this first fault and
+-- this origin: with entries of its worker more, put where it kept no fault, or with none; a fault that was noted is still kept, and the
+-- origin is the same; where the bus is newly full, the journal can go on, or a command was not put.
 pub record MayGive (GoesOn : Journal → Type 0) (v : Hand) (j : Journal)
-    (read : Option Cmd) (first : Option BusFault) (origin : Origin) : Type 0 where
+    (read : Reading) (first : Option BusFault) (origin : Origin) : Type 0 where
   pub worker : ℕ
   pub list : List Given
   pub old : Journal
   pub holds : v.taken ≡ Some old
   pub stands : v.stands ≡ stood worker list ∷ []
-  pub put : (j ≡ old) ⊎ ((v.noted ≡ None) × OneMore worker read old j)
+  pub put : (j ≡ old) ⊎ ((v.noted ≡ None) × More worker (reads read) old j)
   pub fault : (f : BusFault) → v.noted ≡ Some f → first ≡ Some f
   pub same_origin : v.origin ≡ Some origin
-  pub full : first ≡ Some BusFault.Full → (v.noted ≡ Some BusFault.Full) ⊎ (GoesOn j ⊎ IsSome read)
+  pub full : first ≡ Some BusFault.Full → (v.noted ≡ Some BusFault.Full) ⊎ (GoesOn j ⊎ IsSome (due_in read))

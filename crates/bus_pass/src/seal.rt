@@ -1,34 +1,34 @@
 //! The bus as it lies in the channel.
-ghost use Rattle.std.specs.Prelude.{◌≡◌, Option};
+ghost use Rattle.std.specs.Prelude.{◌≡◌};
 ghost use Rattle.ha_model.specs.Lawful.{Running};
 ghost use Rattle.bus_pass.specs.Origins.{IsStored};
 
 use crate::held::Held;
+use crate::read::Read;
 use ha_io::{Keeper, Sink};
-use ha_model::{Cmd, Core};
+use ha_model::Core;
 use std::marker::Model;
 use std::snapshot::Snapshot;
 
-/// A bus as it lies in the channel, with the command that was read for its last entry. Its journal is lawful and has no closing step, and
-/// while the boot stands alone its keeper holds the boot's text.
+/// A bus as it lies in the channel, with what was read for the entries that were put with it. Its journal is lawful and has no closing
+/// step, and while the boot stands alone its keeper holds the boot's text.
 #[derive(Drop)]
 pub struct Sealed<C: Core + Drop, K: Sink, Q: Keeper> {
     bus: Held<C, K, Q>,
-    read: Snapshot<Option<Cmd>>,
+    read: Snapshot<Read>,
 }
 
 impl<C: Core + Drop, K: Sink, Q: Keeper> Model for Sealed<C, K, Q> {
-    ghost use Rattle.std.specs.Prelude.{Option};
     ghost use Rattle.std.specs.Coded.{codes};
     ghost use Rattle.ha_model.specs.contracts.journal.Cmd as cmd;
     ghost use Rattle.ha_model.specs.contracts.journal.Record as run;
     ghost use Rattle.ha_model.specs.contracts.journal.Entry as item;
-    ghost use Rattle.ha_model.specs.declared.journal.Cmd.{Cmd};
     ghost use Rattle.bus_turn.specs.Shown.{BusView};
     ghost use Rattle.ha_model.specs.Lawful.{Running};
     ghost use Rattle.bus_pass.specs.Origins.{IsStored};
+    ghost use Rattle.bus_pass.specs.Reads.{Reading};
 
-    ghost Value = { BusView × Option Cmd };
+    ghost Value = { BusView × Reading };
 
     ghost coded = { Prim.hlevel (codes, run.the_row.coded, item.the_row.coded, cmd.the_row.coded) };
 
@@ -39,7 +39,7 @@ impl<C: Core + Drop, K: Sink, Q: Keeper> Model for Sealed<C, K, Q> {
 
 impl<C: Core + Drop, K: Sink, Q: Keeper> Sealed<C, K, Q> {
     /// The message of this bus.
-    pub fn close(bus: Held<C, K, Q>, read: Snapshot<Option<Cmd>>) -> Sealed<C, K, Q>
+    pub fn close(bus: Held<C, K, Q>, read: Snapshot<Read>) -> Sealed<C, K, Q>
         requires running { Running bus.journal bus.records }
         requires stored { IsStored bus }
         ensures { result ≡ (bus, read.value) }

@@ -11,12 +11,13 @@ ghost use Rattle.bus_pass.specs.Rule.{MayGive, StandsForAll, Tells, both, child,
 
 use crate::hand::Hand;
 use crate::held::Held;
+use crate::read::Read;
 use crate::seal::Sealed;
 use crate::steps::{Gives, Law, Parts, Takes};
 use bus_turn::Bus;
 use crossbeam_channel::{RuledReceiver, RuledSender, bounded_with};
 use ha_io::{Keeper, Sink};
-use ha_model::{Cmd, Core};
+use ha_model::Core;
 use std::alloc::Global;
 use std::snapshot::Snapshot;
 use std::sync::{Mutex, MutexGuard, Wait};
@@ -80,7 +81,7 @@ impl<C: Core + Drop, K: Sink, Q: Keeper> Turn<C, K, Q> {
         ensures gave { view pass.new ≡ hand true 0 [] None bus.first [] (Some (origin_of bus)) }
     {
         let _ = bus.first();
-        let nothing: Option<Cmd> = None;
+        let nothing = Read::nothing();
         self.send(rt, pass, Sealed::close(bus, Snapshot::of(&nothing)));
     }
 
@@ -129,23 +130,17 @@ impl<C: Core + Drop, K: Sink, Q: Keeper> Turn<C, K, Q> {
         unreachable!()
     }
 
-    /// Gives the bus back, with one entry of the pass's worker more or with none. `read` is the command that was read for it.
+    /// Gives the bus back, with entries of the pass's worker more or with none. `read` is what was read for them.
     #[inline(always)]
-    pub fn give<W: Wait>(
-        &self,
-        rt: &W,
-        pass: &mut Pass<C, K, Q>,
-        bus: Held<C, K, Q>,
-        read: Snapshot<Option<Cmd>>,
-    )
+    pub fn give<W: Wait>(&self, rt: &W, pass: &mut Pass<C, K, Q>, bus: Held<C, K, Q>, read: Read)
         requires turn { IsPassOf self.now pass.old }
-        requires may { MayGive IsRestless (view pass.old) bus.journal read.value bus.first (origin_of bus) }
+        requires may { MayGive IsRestless (view pass.old) bus.journal read bus.first (origin_of bus) }
         requires running { Running bus.journal bus.records }
         requires stored { IsStored bus }
         ensures turn { IsPassOf self.now pass.new }
-        ensures gave { view pass.new ≡ gave (view pass.old) bus.journal read.value bus.first (origin_of bus) }
+        ensures gave { view pass.new ≡ gave (view pass.old) bus.journal read bus.first (origin_of bus) }
     {
-        self.send(rt, pass, Sealed::close(bus, read));
+        self.send(rt, pass, Sealed::close(bus, Snapshot::of(&read)));
     }
 
     /// A pass for the next worker.
@@ -183,8 +178,8 @@ impl<C: Core + Drop, K: Sink, Q: Keeper> Turn<C, K, Q> {
         self.take(rt, &mut pass).into_bus()
     }
 
-    /// Waits until no other worker has the floor. A worker has it while it puts what it has at hand, one entry a turn, and neither while it
-    /// reads its source nor at the gate: the others then sleep here, and are woken once for all of it, not at each give.
+    /// Waits until no other worker has the floor. A worker has it while it takes the bus, puts what it has at hand and gives it back, and
+    /// neither while it reads its source nor at the gate: the others then sleep here, and not at the channel.
     pub fn floor<W: Wait>(&self, rt: &W) -> MutexGuard<'_, ()> {
         self.floor.lock(rt)
     }

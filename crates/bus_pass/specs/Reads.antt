@@ -1,0 +1,34 @@
+-- What was read for the entries of one give.
+use Rattle.std.specs.Prelude.{ℕ, ◌-◌, List, Option, None, slice_get}
+use Rattle.ha_model.specs.declared.journal.Cmd.{Cmd}
+use Rattle.ha_model.specs.declared.journal.Entry.{Entry}
+use Rattle.ha_model.specs.declared.journal.Entry.TheVariants.{Boot, Line, Step}
+
+-- the commands that were read, the number of the line of the first, and the number of the first line that was not put
+pub record Reading : Type 0 where
+  pub from : ℕ
+  pub next : ℕ
+  pub cmds : List Cmd
+
+abbrev pub reading : ℕ → ℕ → List Cmd → Reading
+reading from next cmds = record { from = from; next = next; cmds = cmds }
+
+-- of commands that are numbered from here on, the one with this number
+abbrev pub cmd_at : ℕ → List Cmd → ℕ → Option Cmd
+cmd_at from cmds number = slice_get cmds (number - from)
+
+-- what was read for each entry: for a line the command with its number, for a step none
+abbrev pub Reads : Type 0
+Reads = Entry → Option Cmd
+
+abbrev pub read_for : ℕ → List Cmd → Reads
+read_for from cmds (Boot text config stored start zone) = None
+read_for from cmds (Line source number cmd) = cmd_at from cmds number
+read_for from cmds (Step worker serial branch item) = None
+
+abbrev pub reads : Reading → Reads
+reads r = read_for r.from r.cmds
+
+-- the first command that was not put, where there is one
+abbrev pub due_in : Reading → Option Cmd
+due_in r = cmd_at r.from r.cmds r.next
