@@ -36,8 +36,8 @@ returns-clause-stands c =
     let next : IsNext [] 0 c.last_entry.result.now c.make.result (seen c.make-view.result) (triggers.attached t)
     = subst (λ (b : Listed). IsNext [] 0 c.last_entry.result.now b (seen c.make-view.result) (triggers.attached t)) (sym c.make.ensures)
     (subst (λ (y : Entry). IsNext [] 0 y [] (seen c.make-view.result) (triggers.attached t)) (sym last) first) in
-    subst (λ (i : Journal). triggers.StandsFor c.note-2.new.self i) (sym h.journal_is)
-    (subst (λ (y : Entry). triggers.StandsFor c.note-2.new.self (more [] y)) last (c.in_ok-fired.ensures.stands [] c.requires.opened.triggers_stand next))
+    subst (λ (i : Journal). triggers.StandsFor c.note.new.self i) (sym h.journal_is)
+    (subst (λ (y : Entry). triggers.StandsFor c.note.new.self (more [] y)) last (c.in_ok-fired.ensures.stands [] c.requires.opened.triggers_stand next))
 
 pub returns-clause-fired : goal.returns-clause-fired
 returns-clause-fired c =
