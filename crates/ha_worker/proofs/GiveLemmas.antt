@@ -12,12 +12,13 @@ use Rattle.bus_turn.specs.declared.fault.BusFault.{BusFault}
 use Rattle.bus_turn.specs.Shown.{BusView}
 use Rattle.bus_pass.specs.Journal.{IsRestless}
 use Rattle.bus_pass.specs.Origins.{IsStored, origin_of}
-use Rattle.bus_pass.specs.Rule.{MayGive, OneMore, Stands, Tells, dues_after, due_of, gave, grown, is_full, notes, size_of, stood, took}
+use Rattle.bus_pass.specs.Reads.{Reading, due_in, reading, reads}
+use Rattle.bus_pass.specs.Rule.{MayGive, More, Stands, Tells, dues_after, due_of, gave, grown, is_full, notes, size_of, stood, took}
 use Rattle.bus_pass.specs.declared.hand.Given.{Given}
 use Rattle.bus_pass.specs.declared.hand.Hand.{Hand}
 use Rattle.bus_pass.specs.declared.hand.Stood.{Stood}
 use Rattle.ha_worker.specs.Puts.{NoLine}
-use Rattle.ha_worker.specs.Views.{Holds, IsOne, StandsFor, first_list, list_of, read_lines}
+use Rattle.ha_worker.specs.Views.{Holds, IsOne, Sits, StandsFor, first_list, list_of, read_lines}
 
 pub eqb_self : (k : ℕ) → (k == k) ≡ true
 eqb_self k = ⊎_elim (λ t. t.0) (λ t. absurd (t.1 refl)) (eqb_tells k k)
@@ -38,20 +39,25 @@ took_holds k v w b one is tells running stored = subst (Holds k b) (sym is) (rec
 pub took_lines : (v w : Hand) (b : BusView) → w ≡ took v b.journal b.first (origin_of b) → NoLine v w
 took_lines v w b is = subst (NoLine v) (sym is) (record { lines = refl; shut = λ k. refl; dues = refl })
 
-pub no_line : (v : Hand) → NoLine v v
-no_line v = record { lines = refl; shut = λ k. refl; dues = refl }
-
 pub no_line_then : (u v w : Hand) → NoLine u v → NoLine v w → NoLine u w
 no_line_then u v w p q = record { lines = q.lines ∙ p.lines; shut = λ k. q.shut k ∙ p.shut k; dues = q.dues ∙ p.dues }
 
+-- the number of the next line stays
+pub sits_still : (n k : ℕ) (u v : Hand) → Sits n k u → NoLine u v → IsOne k v → Sits n k v
+sits_still n k u v s p one = record { one = one; next = s.next ∙ ap length (sym p.lines) }
+
 -- ---- what may be given
 
-module _ (k : ℕ) (v : Hand) (a b : BusView) (r : Option Cmd) (holds : Holds k a v) (origin : origin_of b ≡ origin_of a) where
+-- what is told of a give for which nothing was read
+abbrev pub nothing : Reading
+nothing = reading 0 0 []
+
+module _ (k : ℕ) (v : Hand) (a b : BusView) (r : Reading) (holds : Holds k a v) (origin : origin_of b ≡ origin_of a) where
   still : v.origin ≡ Some (origin_of b)
   still = holds.origin ∙ ap Some (sym origin)
 
   -- no entry more
-  pub may_same : b.journal ≡ a.journal → ((f : BusFault) → a.first ≡ Some f → b.first ≡ Some f) → (b.first ≡ Some BusFault.Full → (a.first ≡ Some BusFault.Full) ⊎ (IsRestless b.journal ⊎ IsSome r))
+  pub may_same : b.journal ≡ a.journal → ((f : BusFault) → a.first ≡ Some f → b.first ≡ Some f) → (b.first ≡ Some BusFault.Full → (a.first ≡ Some BusFault.Full) ⊎ (IsRestless b.journal ⊎ IsSome (due_in r)))
       → MayGive IsRestless v b.journal r b.first (origin_of b)
   may_same same fault full = record {
     worker = k;
@@ -65,8 +71,8 @@ module _ (k : ℕ) (v : Hand) (a b : BusView) (r : Option Cmd) (holds : Holds k 
     same_origin = still;
   }
 
-  -- one entry more
-  pub may_more : a.first ≡ None → OneMore k r a.journal b.journal → (b.first ≡ Some BusFault.Full → IsRestless b.journal ⊎ IsSome r) → MayGive IsRestless v b.journal r b.first (origin_of b)
+  -- entries of the worker more
+  pub may_more : a.first ≡ None → More k (reads r) a.journal b.journal → (b.first ≡ Some BusFault.Full → IsRestless b.journal ⊎ IsSome (due_in r)) → MayGive IsRestless v b.journal r b.first (origin_of b)
   may_more free more full = record {
     worker = k;
     list = list_of v;
@@ -80,21 +86,21 @@ module _ (k : ℕ) (v : Hand) (a b : BusView) (r : Option Cmd) (holds : Holds k 
   }
 
 -- the bus as it was taken
-pub may_back : (k : ℕ) (v : Hand) (a : BusView) (r : Option Cmd) → Holds k a v → MayGive IsRestless v a.journal r a.first (origin_of a)
+pub may_back : (k : ℕ) (v : Hand) (a : BusView) (r : Reading) → Holds k a v → MayGive IsRestless v a.journal r a.first (origin_of a)
 may_back k v a r holds = may_same k v a a r holds refl refl (λ f e. e) (λ e. inl e)
 
 -- ---- after a give
 
-module _ (k : ℕ) (v w : Hand) (a : BusView) (r : Option Cmd) (b : BusView) (holds : Holds k a v) (more : List Entry) (longer : b.journal ≡ a.journal ++ more)
+module _ (k : ℕ) (v w : Hand) (a : BusView) (r : Reading) (b : BusView) (holds : Holds k a v) (more : List Entry) (longer : b.journal ≡ a.journal ++ more)
     (is : w ≡ gave v b.journal r b.first (origin_of b)) where
-  stands_after : w.stands ≡ stood k (list_of v ++ notes k (length a.journal) r more) ∷ []
+  stands_after : w.stands ≡ stood k (list_of v ++ notes k (length a.journal) (reads r) more) ∷ []
   stands_after = ap (λ (u : Hand). u.stands) is
-      ∙ ap (λ (t : Option Journal). grown (size_of t) r (drop (size_of t) b.journal) v.stands) holds.taken
-      ∙ ap (λ (t : Journal). grown (length a.journal) r (drop (length a.journal) t) v.stands) longer
-      ∙ ap (λ (t : List Entry). grown (length a.journal) r t v.stands) (drop-append_seam a.journal more)
-      ∙ ap (λ (t : List Stood). grown (length a.journal) r more t) holds.one.stands
+      ∙ ap (λ (t : Option Journal). grown (size_of t) (reads r) (drop (size_of t) b.journal) v.stands) holds.taken
+      ∙ ap (λ (t : Journal). grown (length a.journal) (reads r) (drop (length a.journal) t) v.stands) longer
+      ∙ ap (λ (t : List Entry). grown (length a.journal) (reads r) t v.stands) (drop-append_seam a.journal more)
+      ∙ ap (λ (t : List Stood). grown (length a.journal) (reads r) more t) holds.one.stands
 
-  pub list_after : list_of w ≡ list_of v ++ notes k (length a.journal) r more
+  pub list_after : list_of w ≡ list_of v ++ notes k (length a.journal) (reads r) more
   list_after = ap first_list stands_after
 
   pub one_after : IsOne k w
@@ -112,9 +118,11 @@ module _ (k : ℕ) (v w : Hand) (a : BusView) (r : Option Cmd) (b : BusView) (ho
   pub noted_then : w.noted ≡ b.first
   noted_then = ap (λ (u : Hand). u.noted) is
 
--- no command is due where none was read
-pub dues_unread : (k : ℕ) (v : Hand) (f : Option BusFault) → StandsFor k v → dues_after v None f ≡ v.dues
-dues_unread k v f one = ap (λ (ss : List Stood). cond (is_full f) (cond (is_full v.noted) v.dues (due_of ss None ++ v.dues)) v.dues) one.stands ∙ by (is_full f) (is_full v.noted)
+-- no command is due where none is left
+pub dues_unread : (k : ℕ) (v : Hand) (r : Reading) (f : Option BusFault) → StandsFor k v → due_in r ≡ None → dues_after v r f ≡ v.dues
+dues_unread k v r f one none =
+    ap (λ (ss : List Stood). cond (is_full f) (cond (is_full v.noted) v.dues (due_of ss (due_in r) ++ v.dues)) v.dues) one.stands
+    ∙ ap (λ (o : Option Cmd). cond (is_full f) (cond (is_full v.noted) v.dues (due_of (stood k (list_of v) ∷ []) o ++ v.dues)) v.dues) none ∙ by (is_full f) (is_full v.noted)
   where
     by : (x y : Bool) → cond x (cond y v.dues v.dues) v.dues ≡ v.dues
     by true true = refl
@@ -122,20 +130,21 @@ dues_unread k v f one = ap (λ (ss : List Stood). cond (is_full f) (cond (is_ful
     by false y = refl
 
 -- nor where the journal is not full
-pub dues_open : (v : Hand) (r : Option Cmd) (f : Option BusFault) → (f ≡ Some BusFault.Full → ⊥) → dues_after v r f ≡ v.dues
+pub dues_open : (v : Hand) (r : Reading) (f : Option BusFault) → (f ≡ Some BusFault.Full → ⊥) → dues_after v r f ≡ v.dues
 dues_open v r None never = refl
 dues_open v r (Some (BusFault.Write zero)) never = refl
 dues_open v r (Some BusFault.Keep) never = refl
 dues_open v r (Some BusFault.Full) never = absurd (never refl)
 dues_open v r (Some BusFault.Memory) never = refl
 
--- else that which was read may be
-pub dues_read : (k : ℕ) (v : Hand) (c : Cmd) (f : Option BusFault) → StandsFor k v → (dues_after v (Some c) f ≡ v.dues) ⊎ (dues_after v (Some c) f ≡ (k, c) ∷ v.dues)
-dues_read k v c f one =
+-- else the first that is left may be
+pub dues_read : (k : ℕ) (v : Hand) (r : Reading) (c : Cmd) (f : Option BusFault) → StandsFor k v → due_in r ≡ Some c → (dues_after v r f ≡ v.dues) ⊎ (dues_after v r f ≡ (k, c) ∷ v.dues)
+dues_read k v r c f one is =
     ⊎_elim (λ e. inl (same ∙ e)) (λ e. inr (same ∙ e)) (by (is_full f) (is_full v.noted))
   where
-    same : dues_after v (Some c) f ≡ cond (is_full f) (cond (is_full v.noted) v.dues ((k, c) ∷ v.dues)) v.dues
-    same = ap (λ (ss : List Stood). cond (is_full f) (cond (is_full v.noted) v.dues (due_of ss (Some c) ++ v.dues)) v.dues) one.stands
+    same : dues_after v r f ≡ cond (is_full f) (cond (is_full v.noted) v.dues ((k, c) ∷ v.dues)) v.dues
+    same = ap (λ (ss : List Stood). cond (is_full f) (cond (is_full v.noted) v.dues (due_of ss (due_in r) ++ v.dues)) v.dues) one.stands
+        ∙ ap (λ (o : Option Cmd). cond (is_full f) (cond (is_full v.noted) v.dues (due_of (stood k (list_of v) ∷ []) o ++ v.dues)) v.dues) is
 
     by : (x y : Bool) → (cond x (cond y v.dues ((k, c) ∷ v.dues)) v.dues ≡ v.dues) ⊎ (cond x (cond y v.dues ((k, c) ∷ v.dues)) v.dues ≡ (k, c) ∷ v.dues)
     by true true = inl refl
@@ -143,15 +152,15 @@ dues_read k v c f one =
     by false y = inl refl
 
 -- no entry more: the lines are the same
-pub gave_same : (k : ℕ) (v w : Hand) (a b : BusView) → Holds k a v → b.journal ≡ a.journal → w ≡ gave v b.journal None b.first (origin_of b) → IsOne k w × NoLine v w × (w.noted ≡ b.first)
+pub gave_same : (k : ℕ) (v w : Hand) (a b : BusView) → Holds k a v → b.journal ≡ a.journal → w ≡ gave v b.journal nothing b.first (origin_of b) → IsOne k w × NoLine v w × (w.noted ≡ b.first)
 gave_same k v w a b holds same is =
     let longer : b.journal ≡ a.journal ++ [] = same ∙ sym (append-nil a.journal) in
-    let list : list_of w ≡ list_of v = list_after k v w a None b holds [] longer is ∙ append-nil (list_of v) in (
-      one_after k v w a None b holds [] longer is,
+    let list : list_of w ≡ list_of v = list_after k v w a nothing b holds [] longer is ∙ append-nil (list_of v) in (
+      one_after k v w a nothing b holds [] longer is,
       record {
         lines = ap read_lines list;
         shut = λ n. ap (list_any (λ (g : Given). shuts n g.entry)) list;
-        dues = dues_then k v w a None b holds [] longer is ∙ dues_unread k v b.first holds.one;
+        dues = dues_then k v w a nothing b holds [] longer is ∙ dues_unread k v nothing b.first holds.one refl;
       },
-      noted_then k v w a None b holds [] longer is,
+      noted_then k v w a nothing b holds [] longer is,
     )

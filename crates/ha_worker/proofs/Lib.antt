@@ -1,6 +1,8 @@
 pub mod ListLemmas
 pub mod GiveLemmas
 pub mod TurnLemmas
+pub mod CameLemmas
+pub mod GivenLemmas
 pub mod LineLemmas
 pub mod ReadLemmas
 pub mod CmdLemmas

@@ -17,9 +17,6 @@ use Rattle.ha_worker.proofs.CourseLemmas.{took_one, took_then, took_whole}
 pub put_nothing : (k : ℕ) (v : Hand) → PutAll k [] v v
 put_nothing k v = record { puts = λ done h. subst (λ (z : List Cmd). HasPut (list_of v) z) (sym (append-nil done)) h; dues = refl }
 
-pub all_put : (k : ℕ) (cs : List Cmd) (v w : Hand) → PutAll k cs v w → PutSome k cs v w
-all_put k cs v w p = record { put = cs; unput = []; parts = sym (append-nil cs); puts = p.puts; due = inl p.dues }
-
 pub none_put : (k : ℕ) (cs : List Cmd) (v : Hand) → PutSome k cs v v
 none_put k cs v = record { put = []; unput = cs; parts = refl; puts = (put_nothing k v).puts; due = inl refl }
 
@@ -36,16 +33,6 @@ some_then k xs ys u v w p q = record {
   parts = ap (λ (z : List Cmd). xs ++ z) q.parts ∙ sym (append_assoc xs q.put q.unput);
   puts = λ done h. subst (λ (z : List Cmd). HasPut (list_of w) z) (append_assoc done xs q.put) (q.puts (done ++ xs) (p.puts done h));
   due = ⊎_elim (λ e. inl (e ∙ p.dues)) (λ e. inr (e.0, e.1, e.2, e.3 ∙ ap (λ (z : Dues). (k, e.0) ∷ z) p.dues)) q.due;
-}
-
--- further commands, of which none was put
-pub some_more : (k : ℕ) (xs ys : List Cmd) (v w : Hand) → PutSome k xs v w → PutSome k (xs ++ ys) v w
-some_more k xs ys v w p = record {
-  put = p.put;
-  unput = p.unput ++ ys;
-  parts = ap (λ (z : List Cmd). z ++ ys) p.parts ∙ append_assoc p.put p.unput ys;
-  puts = p.puts;
-  due = ⊎_elim (λ e. inl e) (λ e. inr (e.0, e.1 ++ ys, ap (λ (z : List Cmd). z ++ ys) e.2, e.3)) p.due;
 }
 
 -- no line comes behind

@@ -1,5 +1,5 @@
 -- The commands that are read of the lines that a cut holds, and those that are put of them.
-use Rattle.std.proofs.Common.{◌≡◌, ◌∙◌, ℕ, List, [], ◌∷◌, ◌++◌, ap, sym, subst, append_assoc, map}
+use Rattle.std.proofs.Common.{◌≡◌, ◌∙◌, ℕ, List, [], ◌∷◌, ◌++◌, ap, sym, subst, map}
 use Rattle.std.proofs.lemmas.List.{append-nil, map-append}
 use Rattle.ha_model.specs.declared.journal.Cmd.{Cmd}
 use Rattle.ha_model.specs.Words.{Text}
@@ -10,7 +10,6 @@ use Rattle.ha_worker.specs.Puts.{PutAll, PutSome}
 use Rattle.ha_worker.specs.Read.{AreOpen, AreRead, IsOpen}
 use Rattle.ha_worker.specs.Taken.{Took, TookAll}
 use Rattle.ha_worker.proofs.CourseLemmas.{took_none, took_then, took_whole}
-use Rattle.ha_worker.proofs.LineLemmas.{all_then, some_then}
 
 -- ---- the commands are read from the first line on
 
@@ -33,19 +32,6 @@ read_all old cut cut' lines cmds p is none = record {
 }
 
 -- ---- the commands are put from the first one on
-
--- one command more was put
-pub put_next : (k : ℕ) (all put rest : List Cmd) (c : Cmd) (u v w : Hand) → all ≡ put ++ c ∷ rest → PutAll k put u v → PutAll k (c ∷ []) v w
-    → (all ≡ (put ++ (c ∷ [])) ++ rest) × PutAll k (put ++ (c ∷ [])) u w
-put_next k all put rest c u v w parts p q = (parts ∙ sym (append_assoc put (c ∷ []) rest), all_then k put (c ∷ []) u v w p q)
-
--- some of those that are left were put
-pub some_left : (k : ℕ) (all put rest : List Cmd) (u v w : Hand) → all ≡ put ++ rest → PutAll k put u v → PutSome k rest v w → PutSome k all u w
-some_left k all put rest u v w parts p q = subst (λ z. PutSome k z u w) (sym parts) (some_then k put rest u v w p q)
-
--- none is left
-pub put_end : (k : ℕ) (all put rest : List Cmd) (u v : Hand) → all ≡ put ++ rest → rest ≡ [] → PutAll k put u v → PutAll k all u v
-put_end k all put rest u v parts none p = subst (λ z. PutAll k z u v) (sym (parts ∙ ap (λ (z : List Cmd). put ++ z) none ∙ append-nil put)) p
 
 -- all commands that were read were put
 pub all_read : (k : ℕ) (old new : Text) (cmds : List Cmd) (u v : Hand) → AreRead old cmds new → PutAll k cmds u v → TookAll k old new u v

@@ -1,6 +1,7 @@
 pub mod Courses
 pub mod Views
 pub mod Puts
+pub mod Came
 pub mod Worked
 pub mod Taken
 pub mod Read

@@ -1,10 +1,10 @@
 -- What the pass of one worker knows: the worker's list of entries, and the lines among them.
-use Rattle.std.specs.Prelude.{ℕ, ◌+◌, ◌≡◌, true, false, List, [], ◌∷◌, length, Option, Some, None}
+use Rattle.std.specs.Prelude.{ℕ, ◌+◌, ◌≡◌, false, List, [], ◌∷◌, length, Option, Some, None}
 use Rattle.std.specs.List.{list_any}
 use Rattle.std.specs.Option.{option_map_or}
 use Rattle.ha_model.specs.declared.journal.Cmd.{Cmd}
 use Rattle.ha_model.specs.Entries.{line_of}
-use Rattle.ha_model.specs.Lawful.{Running, is_rested, shuts}
+use Rattle.ha_model.specs.Lawful.{Running, shuts}
 use Rattle.bus_turn.specs.Shown.{BusView}
 use Rattle.bus_pass.specs.Origins.{IsStored, origin_of}
 use Rattle.bus_pass.specs.Rule.{IsList, stood}
@@ -74,15 +74,3 @@ pub record Holds (k : ℕ) (b : BusView) (v : Hand) : Type 0 where
   pub list : IsList b.journal k (list_of v)
   pub running : Running b.journal b.records
   pub stored : IsStored b
-
--- it keeps no fault, and source k is rested
-pub record HoldsRested (k : ℕ) (b : BusView) (v : Hand) : Type 0 where
-  pub holds : Holds k b v
-  pub free : b.first ≡ None
-  pub rested : is_rested b.records k b.journal ≡ true
-
--- and the line n of the source may come
-pub record HoldsNext (n k : ℕ) (b : BusView) (v : Hand) : Type 0 where
-  pub bus : HoldsRested k b v
-  pub next : n ≡ length (read_lines (list_of v))
-  pub unshut : list_any (λ (g : Given). shuts k g.entry) (list_of v) ≡ false

@@ -1,4 +1,5 @@
-//! A source's worker: it reads its source, and puts its lines and steps on the bus, one entry a turn.
+//! A source's worker: it reads its source piece by piece, and puts the lines of a piece on the bus, with the steps that they begin, in one
+//! turn.
 #![tactic(auto)]
 
 mod end;
@@ -6,6 +7,7 @@ mod ending;
 mod halt;
 mod lines;
 mod pieces;
+mod puts;
 mod steps;
 mod turns;
 mod worker;

@@ -1,5 +1,6 @@
 //! A worker and its work.
 ghost use Rattle.std.specs.Prelude.{◌≡◌, ◌<◌, ◌≤◌, ◌∷◌, [], false, None, length, map, IfOk, IfErr, OnOk, OnErr};
+ghost use Rattle.std.specs.Prelude.{option_to_list, IfSome, IsSome};
 ghost use Rattle.crossbeam_channel.specs.Claims.{view};
 ghost use Rattle.ha_model.specs.Commands.{IsFair, put_as};
 ghost use Rattle.ha_model.specs.Entries.{shuts_source};
@@ -20,14 +21,16 @@ use crate::ending::Ending;
 use crate::halt::Halt;
 use crate::lines::read_lines;
 use crate::pieces::{NoPiece, has_more, pull};
-use crate::turns::{put_held, put_next, settle, unread};
-use bus_pass::{Pass, Turn};
+use crate::puts::{put_all, put_held};
+use crate::turns::take_open;
+use bus_pass::{Pass, Read, Turn};
 use flow_line::read_cmd;
 use ha_io::{Gate, Keeper, Sink, Source};
 use ha_model::{Cmd, Core};
 use ha_text::LineCut;
 use std::alloc::Global;
 use std::collections::VecDeque;
+use std::snapshot::Snapshot;
 use std::sync::Wait;
 
 /// The bytes that one read asks for at most.
@@ -82,10 +85,10 @@ pub struct Worker<S: Source, C: Core + Drop, K: Sink, Q: Keeper> {
 
 impl<S: Source, C: Core + Drop, K: Sink, Q: Keeper> Worker<S, C, K, Q> {
     /// Reads its source to its end and puts each line, in order. A piece of at most 65,536 bytes is read, with the commands of its lines,
-    /// and the gate is called for each of them, while others may hold the bus. Then it waits for the floor, and puts them: in each turn one
-    /// step, where its source is not rested, else the line. What a line began is stepped before the next piece is asked for. A failed read
-    /// puts Lost, more than 67,108,864 bytes put TooLong; a begun line is then dropped. A first fault of the bus ends it, and so does want
-    /// of memory, of which it tells the bus.
+    /// and the gate is called for each of them, while others may hold the bus. Then it waits for the floor, takes the bus, and puts all of
+    /// them before it gives it back: a step, where its source is not rested, else the next line. What the last one began is stepped before
+    /// that too. A failed read puts Lost, more than 67,108,864 bytes put TooLong; a begun line is then dropped. A first fault of the bus
+    /// ends it, and so does want of memory, of which it tells the bus.
     pub fn work<W: Wait, G: Gate>(
         &mut self,
         rt: &W,
@@ -205,7 +208,7 @@ impl<S: Source, C: Core + Drop, K: Sink, Q: Keeper> Worker<S, C, K, Q> {
         }
     }
 
-    /// Puts the lines with these commands while it has the floor, and then the steps that the last one began.
+    /// Puts the lines with these commands, and the steps that they begin, in one turn while it has the floor.
     fn put_read<W: Wait>(
         &mut self,
         rt: &W,
@@ -227,50 +230,53 @@ impl<S: Source, C: Core + Drop, K: Sink, Q: Keeper> Worker<S, C, K, Q> {
         ensures halt { IfErr result (λ halt. Halts halt (view self.new.pass).noted) }
     {
         let _floor = turn.floor(rt);
-        match self.put_cmds(rt, alloc, turn, cmds) {
-            Ok(true) => settle(rt, alloc, turn, &mut self.pass, self.id),
-            Ok(false) => Ok(()),
-            Err(halt) => Err(halt),
+        let from = self.next;
+        let read = Snapshot::of(cmds);
+        let Some(mut bus) = take_open(rt, turn, &mut self.pass, self.id) else {
+            return Err(Halt::Stopped);
+        };
+        let done = put_all(alloc, &mut bus, self.id, &mut self.next, cmds);
+        turn.give(rt, &mut self.pass, bus, Read::many(from, self.next, read));
+        if !done {
+            return Err(Halt::Stopped);
         }
+        Ok(())
     }
 
-    /// Puts the lines with these commands, in order. Gives whether another turn is due before the next read.
-    fn put_cmds<W: Wait>(
+    /// Puts a line with the command that is held, in one turn while it has the floor.
+    fn put_one<W: Wait>(
         &mut self,
         rt: &W,
         alloc: Global,
         turn: &Turn<C, K, Q>,
-        cmds: &mut VecDeque<Cmd>,
-    ) -> Result<bool, Halt>
+        held: &mut Option<Cmd>,
+    ) -> Result<(), Halt>
         requires turn { IsPassOf turn.now self.old.pass }
         requires known { self.old.id < 16 }
         requires takes { Takes self.old.next self.old.id (view self.old.pass) }
-        requires open { AreOpen cmds.old.items }
+        requires held { IsSome held.old }
+        requires fair { IfSome held.old (λ cmd. (j : Journal) → IsFair j (put_as j cmd)) }
         ensures turn { IsPassOf turn.now self.new.pass }
         ensures same { (self.new.id ≡ self.old.id) × (self.new.source ≡ self.old.source) × (self.new.end ≡ self.old.end) }
         ensures sits { Sits self.new.next self.old.id (view self.new.pass) }
-        ensures ok { OnOk result (PutAll self.old.id cmds.old.items (view self.old.pass) (view self.new.pass)) }
-        ensures takes { OnOk result (Takes self.new.next self.old.id (view self.new.pass)) }
-        ensures some { OnErr result (PutSome self.old.id cmds.old.items (view self.old.pass) (view self.new.pass)) }
-        ensures empty { OnOk result (cmds.new.items ≡ []) }
+        ensures ok { OnOk result (PutAll self.old.id (option_to_list held.old) (view self.old.pass) (view self.new.pass)) }
+        ensures takes { OnOk result (IfSome held.old (λ cmd.
+            shuts_source cmd ≡ false → Takes self.new.next self.old.id (view self.new.pass))) }
+        ensures some { OnErr result (PutSome self.old.id (option_to_list held.old) (view self.old.pass) (view self.new.pass)) }
         ensures halt { IfErr result (λ halt. Halts halt (view self.new.pass).noted) }
     {
-        let mut is_due = false;
-        'cmds: while !cmds.is_empty() {
-            match put_next(
-                rt,
-                alloc,
-                turn,
-                &mut self.pass,
-                self.id,
-                &mut self.next,
-                cmds,
-            ) {
-                Ok(due) => is_due = due,
-                Err(halt) => return Err(halt),
-            }
+        let _floor = turn.floor(rt);
+        let from = self.next;
+        let read = Snapshot::of(held);
+        let Some(mut bus) = take_open(rt, turn, &mut self.pass, self.id) else {
+            return Err(Halt::Stopped);
+        };
+        let done = put_held(alloc, &mut bus, self.id, &mut self.next, held);
+        turn.give(rt, &mut self.pass, bus, Read::one(from, self.next, read));
+        if !done {
+            return Err(Halt::Stopped);
         }
-        Ok(is_due)
+        Ok(())
     }
 
     /// Puts one line that was read, behind the gate.
@@ -281,7 +287,7 @@ impl<S: Source, C: Core + Drop, K: Sink, Q: Keeper> Worker<S, C, K, Q> {
         turn: &Turn<C, K, Q>,
         gate: &G,
         line: &[u8],
-    ) -> Result<bool, Halt>
+    ) -> Result<(), Halt>
         requires turn { IsPassOf turn.now self.old.pass }
         requires known { self.old.id < 16 }
         requires takes { Takes self.old.next self.old.id (view self.old.pass) }
@@ -299,7 +305,7 @@ impl<S: Source, C: Core + Drop, K: Sink, Q: Keeper> Worker<S, C, K, Q> {
         }
     }
 
-    /// Puts a line with this command, behind the gate, while it has the floor.
+    /// Puts a line with this command, behind the gate.
     fn put_cmd<W: Wait, G: Gate>(
         &mut self,
         rt: &W,
@@ -307,7 +313,7 @@ impl<S: Source, C: Core + Drop, K: Sink, Q: Keeper> Worker<S, C, K, Q> {
         turn: &Turn<C, K, Q>,
         gate: &G,
         cmd: Cmd,
-    ) -> Result<bool, Halt>
+    ) -> Result<(), Halt>
         requires turn { IsPassOf turn.now self.old.pass }
         requires known { self.old.id < 16 }
         requires takes { Takes self.old.next self.old.id (view self.old.pass) }
@@ -321,17 +327,8 @@ impl<S: Source, C: Core + Drop, K: Sink, Q: Keeper> Worker<S, C, K, Q> {
         ensures halt { IfErr result (λ halt. Halts halt (view self.new.pass).noted) }
     {
         gate.before(self.id, self.next);
-        let _floor = turn.floor(rt);
         let mut held = Some(cmd);
-        put_held(
-            rt,
-            alloc,
-            turn,
-            &mut self.pass,
-            self.id,
-            &mut self.next,
-            &mut held,
-        )
+        self.put_one(rt, alloc, turn, &mut held)
     }
 
     /// Puts the last line, which no line feed ends, where there is one.
@@ -342,7 +339,7 @@ impl<S: Source, C: Core + Drop, K: Sink, Q: Keeper> Worker<S, C, K, Q> {
         turn: &Turn<C, K, Q>,
         gate: &G,
         cut: &mut LineCut,
-    ) -> Result<bool, Halt>
+    ) -> Result<(), Halt>
         requires turn { IsPassOf turn.now self.old.pass }
         requires known { self.old.id < 16 }
         requires takes { Takes self.old.next self.old.id (view self.old.pass) }
@@ -356,7 +353,7 @@ impl<S: Source, C: Core + Drop, K: Sink, Q: Keeper> Worker<S, C, K, Q> {
     {
         match cut.finish() {
             Ok(Some(line)) => self.put_line(rt, alloc, turn, gate, line.as_slice()),
-            Ok(None) => Ok(false),
+            Ok(None) => Ok(()),
             Err(_) => Err(Halt::Memory),
         }
     }
@@ -370,7 +367,7 @@ impl<S: Source, C: Core + Drop, K: Sink, Q: Keeper> Worker<S, C, K, Q> {
         gate: &G,
         cut: &mut LineCut,
         ending: Ending,
-    ) -> Result<bool, Halt>
+    ) -> Result<(), Halt>
         requires turn { IsPassOf turn.now self.old.pass }
         requires known { self.old.id < 16 }
         requires takes { Takes self.old.next self.old.id (view self.old.pass) }
@@ -416,13 +413,11 @@ impl<S: Source, C: Core + Drop, K: Sink, Q: Keeper> Worker<S, C, K, Q> {
         ensures lines { NoLine (view self.old.pass) (view self.new.pass) }
         ensures notes { Notes result (view self.new.pass).noted }
     {
-        let mut bus = turn.take(rt, &mut self.pass);
-        if bus.first().is_some() {
-            turn.give(rt, &mut self.pass, bus, unread());
+        let Some(mut bus) = take_open(rt, turn, &mut self.pass, self.id) else {
             return WorkerEnd::Stopped;
-        }
+        };
         bus.run_out();
-        turn.give(rt, &mut self.pass, bus, unread());
+        turn.give(rt, &mut self.pass, bus, Read::nothing());
         WorkerEnd::Memory
     }
 }
