@@ -16,7 +16,7 @@ use Rattle.ha_model.specs.contracts.env.Env as Env
 use Rattle.ha_model.proofs.shared.Shared.TheSendSync as shared
 use Rattle.engine_sends.proofs.Values.{values}
 
-pub ruleset simple_sync = (many.the_sync, word.the_sync, entity.the_field_sync, entity.the_sync, number.the_field_sync, number.the_sync, moment.the_sync, sendable)
+pub ruleset simple_sync = (many.the_sync, word.the_sync, entity.the_sync, number.the_field_sync, number.the_sync, moment.the_sync, sendable)
 
 value_sync_field : IsSync Value.the_field.row
 value_sync_field = search (knot.sync-Value, simple_sync) depth 60 fits 20000

@@ -18,7 +18,7 @@ use Rattle.ha_value.proofs.value.Value.TheLaws.TheKnot as knot
 -- what is no value yet, and the lists and boxes of what may move
 pub ruleset numbers = (number.the_field_send, number.the_send, moment.the_send, span.the_send)
 
-pub ruleset simple = (boxed.the_send, many.the_send, word.the_send, entity.the_field_send, entity.the_send, numbers, sendable)
+pub ruleset simple = (boxed.the_send, many.the_send, word.the_send, entity.the_send, numbers, sendable)
 
 pub value_field : IsSend Value.the_field.row
 value_field = search (knot.send-Value, simple) depth 60 fits 20000
