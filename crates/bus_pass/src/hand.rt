@@ -43,7 +43,7 @@ pub struct Hand {
     pub taken: Option<LinkedList<Entry>>,
     /// The first fault that it found.
     pub noted: Option<BusFault>,
-    /// The commands that were due where the journal was found full, each with its worker.
+    /// The first commands that were not put where the journal was found full, each with its worker.
     pub dues: LinkedList<(u32, Cmd)>,
     /// What never changes of the bus; none before the first give.
     pub origin: Option<Origin>,

@@ -8,11 +8,13 @@ use Rattle.ha_value.specs.declared.value.Value.TheVariants.{Pairs as Map, outs-P
 use Rattle.ha_model.specs.Values.{field_of, pairs_in}
 use Rattle.ha_model.specs.Words.{Text, Pairs, same, first_pair}
 
-stays : (b : Bool) (v w : Value) (first second : Option Value) → (first ≡ Some w → second ≡ Some w) → (if b then Some v else first) ≡ Some w → (if b then Some v else second) ≡ Some w
+stays : (b : Bool) (v w : Value) (first second : Option Value) → (first ≡ Some w → second ≡ Some w)
+    → (if b then Some v else first) ≡ Some w → (if b then Some v else second) ≡ Some w
 stays true v w first second f h = h
 stays false v w first second f h = f h
 
-passes : (b : Bool) (v : Value) (first second third : Option Value) → (first ≡ None → second ≡ third) → (if b then Some v else first) ≡ None → (if b then Some v else second) ≡ third
+passes : (b : Bool) (v : Value) (first second third : Option Value) → (first ≡ None → second ≡ third)
+    → (if b then Some v else first) ≡ None → (if b then Some v else second) ≡ third
 passes true v first second third f h = absurd (cc)
 passes false v first second third f h = f h
 
@@ -23,10 +25,13 @@ module _ (name : Text) where
 
   behind : (ps qs : Pairs) → first_pair name ps ≡ None → first_pair name (ps ++ qs) ≡ first_pair name qs
   behind [] qs h = refl
-  behind (p ∷ ps) qs h = passes (same p.0 name) p.1 (first_pair name ps) (first_pair name (ps ++ qs)) (first_pair name qs) (behind ps qs) h
+  behind (p ∷ ps) qs h =
+      passes (same p.0 name) p.1 (first_pair name ps) (first_pair name (ps ++ qs)) (first_pair name qs) (behind ps qs) h
 
   of_map : (ps : Pairs) → field_of (Map ps) name ≡ unwrap_or (first_pair name ps) Value.Null
-  of_map ps = let e : out-Value (Map ps) ≡ Value-F.Pairs ps = simp outs-Pairs in ap (λ o. unwrap_or (option_and_then (first_pair name) (pairs_in o)) Value.Null) e
+  of_map ps =
+      let e : out-Value (Map ps) ≡ Value-F.Pairs ps = simp outs-Pairs in
+      ap (λ o. unwrap_or (option_and_then (first_pair name) (pairs_in o)) Value.Null) e
 
   module _ (ps qs : Pairs) (found : Option Value) (known : found ≡ first_pair name ps) where
     -- it is in the first list

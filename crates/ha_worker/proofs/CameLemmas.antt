@@ -1,5 +1,5 @@
 -- What puts that stand one behind the other make of a bus.
-use Rattle.std.proofs.Common.{◌≤◌, Option, None, ◌≡◌, ◌∙◌, ◌+◌, ◌<◌, ◌⊎◌, inl, inr, ⊎_elim, ℕ, Bool, true, false, cond, List, [], ◌∷◌, ◌++◌, length, Some, count_by, slice_get, ap, arith, refl, sym, subst, append-nil, append_assoc, length-append}
+use Rattle.std.proofs.Common.{◌≤◌, Option, None, ◌≡◌, ◌∙◌, ◌+◌, ◌<◌, inl, inr, ⊎_elim, ℕ, Bool, true, false, cond, List, [], ◌∷◌, ◌++◌, length, Some, count_by, slice_get, ap, arith, refl, sym, subst, append-nil, append_assoc, length-append}
 use Rattle.std.specs.Prelude.{IfSome, IsSome, is_none}
 use Rattle.std.specs.List.{list_any}
 use Rattle.std.proofs.lemmas.List.Sums.{count_by-le-length, sum_by-append}
