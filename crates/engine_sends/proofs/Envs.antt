@@ -30,17 +30,14 @@ state_field = search values depth 60 fits 20000
 pub state_send : IsSend StateObject.the_row
 state_send = search (state_field, sendable) depth 60 fits 20000
 
-state_sync_field : IsSync StateObject.the_field.row
-state_sync_field = search (value_sync_field, simple_sync) depth 60 fits 20000
-
 kind_field : IsSend Kind.the_field.row
-kind_field = search (state_field, values) depth 60 fits 20000
+kind_field = search values depth 60 fits 20000
 
 kind_send : IsSend Kind.the_row
 kind_send = search (kind_field, sendable) depth 60 fits 20000
 
 kind_sync_field : IsSync Kind.the_field.row
-kind_sync_field = search (state_sync_field, value_sync_field, value_sync, simple_sync) depth 60 fits 20000
+kind_sync_field = search (value_sync_field, value_sync, simple_sync) depth 60 fits 20000
 
 kind_sync : IsSync Kind.the_row
 kind_sync = search (kind_sync_field, sendable) depth 60 fits 20000

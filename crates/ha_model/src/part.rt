@@ -4,17 +4,16 @@ ghost use Rattle.std.specs.Option.{option_copied};
 ghost use Rattle.ha_value.specs.declared.value.Value.TheVariants.{Pairs as Map};
 ghost use Rattle.ha_value.specs.Ids.{entity_text};
 ghost use Rattle.ha_model.specs.Parts.{part_value};
-ghost use Rattle.ha_model.specs.TriggerValues.{head, value_of};
+ghost use Rattle.ha_model.specs.TriggerValues.{bound_value, head, shown_value, value_of};
 ghost use Rattle.ha_model.specs.Values.{field_of};
 ghost use Rattle.ha_model.specs.Variables as variables;
 ghost use Rattle.ha_model.specs.Words as words;
 
-use crate::journal::StateObject;
-use crate::trigger_data::{Kind, TriggerData};
+use crate::trigger_data::{Bound, Kind, Shown, TriggerData};
 use crate::trigger_pairs::{
-    decimal, event_map, named, number_or_null, object_value, text, text_or_null,
+    bound_value, decimal, event_map, named, object_value, text, text_or_null,
 };
-use ha_value::{EntityId, Many, Num, Plain, Value, Word, copy_pairs};
+use ha_value::{EntityId, Many, Plain, Value, Word, copy_pairs};
 use std::alloc::{AllocError, Global};
 
 /// A value, or what it is made of.
@@ -26,7 +25,7 @@ pub enum Part<'a> {
     /// The variable `trigger`.
     Trigger(&'a TriggerData),
     /// The map of an entity's state.
-    State(&'a EntityId, &'a StateObject),
+    State(&'a EntityId, &'a Shown),
     /// The map of an event, by its type and its data.
     Event(&'a Word, &'a Many<(Word, Value)>),
     /// A map.
@@ -91,10 +90,10 @@ fn pair_field<'a>(pairs: &'a Many<(Word, Value)>, name: &[u8]) -> Part<'a>
 fn state_field<'a>(
     alloc: Global,
     entity: &'a EntityId,
-    state: &'a StateObject,
+    state: &'a Shown,
     name: &[u8],
 ) -> Result<Part<'a>, AllocError>
-    ensures { IfOk result (λ p. part_value p ≡ field_of (variables.state_value [] entity.now (Some state.now)) name.now) }
+    ensures { IfOk result (λ p. part_value p ≡ field_of (shown_value entity.now (Some state.now)) name.now) }
 {
     if is_key(b"entity_id", name) {
         Ok(Part::Made(text(alloc, entity.text())?))
@@ -130,8 +129,8 @@ fn event_field<'a>(
 }
 
 /// A state of an entity, null where there is none.
-fn state_or_null<'a>(entity: &'a EntityId, state: &'a Option<StateObject>) -> Part<'a>
-    ensures { part_value result ≡ variables.state_value [] entity.now state.now }
+fn state_or_null<'a>(entity: &'a EntityId, state: &'a Option<Shown>) -> Part<'a>
+    ensures { part_value result ≡ shown_value entity.now state.now }
 {
     match state {
         Some(state) => Part::State(entity, state),
@@ -164,15 +163,15 @@ fn head_field(
 fn later_of_state<'a>(
     alloc: Global,
     entity: &'a EntityId,
-    old: &'a Option<StateObject>,
-    new: &'a Option<StateObject>,
+    old: &'a Option<Shown>,
+    new: &'a Option<Shown>,
     attribute: &Option<Word>,
     name: &[u8],
 ) -> Result<Part<'a>, AllocError>
     ensures { IfOk result (λ p. part_value p ≡ unwrap_or (words.first_pair name.now
         ((codes "entity_id", Value.Text (entity_text entity.now))
-        ∷ (codes "from_state", variables.state_value [] entity.now old.now)
-        ∷ (codes "to_state", variables.state_value [] entity.now new.now)
+        ∷ (codes "from_state", shown_value entity.now old.now)
+        ∷ (codes "to_state", shown_value entity.now new.now)
         ∷ (codes "attribute", variables.text_or_null [] attribute.now) ∷ [])) Value.Null) }
 {
     if is_key(b"entity_id", name) {
@@ -192,18 +191,18 @@ fn later_of_state<'a>(
 fn later_of_number<'a>(
     alloc: Global,
     entity: &'a EntityId,
-    old: &'a Option<StateObject>,
-    new: &'a Option<StateObject>,
-    above: Option<Num>,
-    below: Option<Num>,
+    old: &'a Option<Shown>,
+    new: &'a Option<Shown>,
+    above: Bound,
+    below: Bound,
     name: &[u8],
 ) -> Result<Part<'a>, AllocError>
     ensures { IfOk result (λ p. part_value p ≡ unwrap_or (words.first_pair name.now
         ((codes "entity_id", Value.Text (entity_text entity.now))
-        ∷ (codes "from_state", variables.state_value [] entity.now old.now)
-        ∷ (codes "to_state", variables.state_value [] entity.now new.now)
-        ∷ (codes "above", variables.number_or_null [] above)
-        ∷ (codes "below", variables.number_or_null [] below) ∷ [])) Value.Null) }
+        ∷ (codes "from_state", shown_value entity.now old.now)
+        ∷ (codes "to_state", shown_value entity.now new.now)
+        ∷ (codes "above", bound_value above)
+        ∷ (codes "below", bound_value below) ∷ [])) Value.Null) }
 {
     if is_key(b"entity_id", name) {
         Ok(Part::Made(text(alloc, entity.text())?))
@@ -212,9 +211,9 @@ fn later_of_number<'a>(
     } else if is_key(b"to_state", name) {
         Ok(state_or_null(entity, new))
     } else if is_key(b"above", name) {
-        Ok(Part::Made(number_or_null(above)))
+        Ok(Part::Made(bound_value(above)))
     } else if is_key(b"below", name) {
-        Ok(Part::Made(number_or_null(below)))
+        Ok(Part::Made(bound_value(below)))
     } else {
         Ok(Part::Made(Value::Null))
     }

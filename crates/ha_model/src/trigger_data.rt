@@ -1,10 +1,11 @@
 //! What the variable `trigger` is made of. Most scripts never read it, so its pairs are made where it is read.
 ghost use Rattle.std.specs.Prelude.{◌≡◌, ◌∷◌, ◌++◌, [], codes, IfOk};
 ghost use Rattle.std.specs.Option.{option_copied};
+ghost use Rattle.ha_value.specs.declared.value.EntityId.{EntityId};
 ghost use Rattle.ha_value.specs.declared.value.Value.TheVariants.{Pairs as Map};
 ghost use Rattle.ha_value.specs.Ids.{entity_text};
 ghost use Rattle.ha_model.specs.Parts.{part_value};
-ghost use Rattle.ha_model.specs.TriggerValues.{value_of};
+ghost use Rattle.ha_model.specs.TriggerValues.{bound_value, shown_value, value_of};
 ghost use Rattle.ha_model.specs.Triggers as triggers;
 ghost use Rattle.ha_model.specs.Values.{field_of, text_of};
 
@@ -36,6 +37,21 @@ impl Model for TriggerData {
     ghost view = { λ d. value_of d.kind };
 }
 
+/// What the variable shows of a state: all but the moments, which nothing in it has.
+#[derive(Drop)]
+pub struct Shown {
+    pub(crate) text: Word,
+    pub(crate) attributes: Many<(Word, Value)>,
+}
+
+/// A bound of a numeric trigger, as an optional number that takes the bytes of a number.
+#[derive(Clone, Copy)]
+pub(crate) enum Bound {
+    Absent,
+    Whole(i64),
+    Fixed(i64),
+}
+
 /// By the rule of the trigger: its id and index, and what it says of the entry at which it moved.
 #[derive(Drop)]
 pub(crate) enum Kind {
@@ -51,18 +67,18 @@ pub(crate) enum Kind {
         id: Word,
         idx: u32,
         entity: EntityId,
-        old: Option<StateObject>,
-        new: Option<StateObject>,
+        old: Option<Shown>,
+        new: Option<Shown>,
         attribute: Option<Word>,
     },
     Numeric {
         id: Word,
         idx: u32,
         entity: EntityId,
-        old: Option<StateObject>,
-        new: Option<StateObject>,
-        above: Option<Num>,
-        below: Option<Num>,
+        old: Option<Shown>,
+        new: Option<Shown>,
+        above: Bound,
+        below: Bound,
     },
     Event {
         id: Word,
@@ -72,16 +88,35 @@ pub(crate) enum Kind {
     },
 }
 
-/// A state, copied where there is one.
-fn copied_state(
-    alloc: Global,
-    state: Option<&StateObject>,
-) -> Result<Option<StateObject>, AllocError>
-    ensures { IfOk result (λ made. made ≡ option_copied state.entry) }
+/// What the variable shows of a state, copied.
+fn show_state(alloc: Global, state: &StateObject) -> Result<Shown, AllocError>
+    ensures text { IfOk result (λ made. made.text ≡ state.now.text) }
+    ensures attributes { IfOk result (λ made. made.attributes ≡ state.now.attributes) }
+{
+    Ok(Shown {
+        text: state.text.copy(alloc)?,
+        attributes: copy_pairs(alloc, state.attributes.as_slice())?,
+    })
+}
+
+/// What it shows of a state where there is one, whatever the entity.
+fn show_where(alloc: Global, state: Option<&StateObject>) -> Result<Option<Shown>, AllocError>
+    ensures { (e : EntityId) → IfOk result (λ made. shown_value e made ≡ triggers.state_value [] e (option_copied state.entry)) }
 {
     match state {
-        Some(state) => Ok(Some(state.copy(alloc)?)),
+        Some(state) => Ok(Some(show_state(alloc, state)?)),
         None => Ok(None),
+    }
+}
+
+/// A bound, as it is kept.
+fn kept_bound(number: Option<Num>) -> Bound
+    ensures { bound_value result ≡ triggers.number_or_null [] number }
+{
+    match number {
+        Some(Num::Whole(count)) => Bound::Whole(count),
+        Some(Num::Fixed(millionths)) => Bound::Fixed(millionths),
+        None => Bound::Absent,
     }
 }
 
@@ -190,8 +225,8 @@ impl TriggerData {
                 id: trigger.id.copy(alloc)?,
                 idx: trigger.idx,
                 entity: entity.copy(alloc)?,
-                old: copied_state(alloc, old)?,
-                new: copied_state(alloc, new)?,
+                old: show_where(alloc, old)?,
+                new: show_where(alloc, new)?,
                 attribute: attribute.copy(alloc)?,
             },
         )
@@ -220,10 +255,10 @@ impl TriggerData {
                 id: trigger.id.copy(alloc)?,
                 idx: trigger.idx,
                 entity: entity.copy(alloc)?,
-                old: copied_state(alloc, old)?,
-                new: copied_state(alloc, new)?,
-                above,
-                below,
+                old: show_where(alloc, old)?,
+                new: show_where(alloc, new)?,
+                above: kept_bound(above),
+                below: kept_bound(below),
             },
         )
     }

@@ -3,12 +3,12 @@ ghost use Rattle.std.specs.Prelude.{◌≡◌, ◌∷◌, ◌++◌, [], decimal,
 ghost use Rattle.std.specs.Option.{option_copied};
 ghost use Rattle.ha_value.specs.declared.value.Value.TheVariants.{Pairs as Map};
 ghost use Rattle.ha_value.specs.Ids.{entity_text};
-ghost use Rattle.ha_model.specs.TriggerValues.{head};
+ghost use Rattle.ha_model.specs.TriggerValues.{bound_value, head, shown_value};
 ghost use Rattle.ha_model.specs.Triggers as triggers;
 ghost use Rattle.ha_model.specs.Values.{field_of, text_of};
 ghost use Rattle.ha_model.specs.Words as words;
 
-use crate::journal::StateObject;
+use crate::trigger_data::{Bound, Shown};
 use ha_value::{EntityId, Many, Num, Plain, Value, Word, copy_pairs, push_text, push_value};
 use itoa::Buffer;
 use std::alloc::{AllocError, Global};
@@ -60,7 +60,7 @@ fn head(
 fn object_pairs(
     alloc: Global,
     entity: &EntityId,
-    state: &StateObject,
+    state: &Shown,
 ) -> Result<Many<(Word, Value)>, AllocError>
     ensures { IfOk result (λ ps. ps
         ≡ (codes "entity_id", Value.Text (entity_text entity.now))
@@ -86,9 +86,9 @@ fn object_pairs(
 pub(crate) fn object_value(
     alloc: Global,
     entity: &EntityId,
-    state: &StateObject,
+    state: &Shown,
 ) -> Result<Value, AllocError>
-    ensures { IfOk result (λ v. v ≡ triggers.state_value [] entity.now (Some state.now)) }
+    ensures { IfOk result (λ v. v ≡ shown_value entity.now (Some state.now)) }
 {
     Ok(Value::Pairs(object_pairs(alloc, entity, state)?))
 }
@@ -97,9 +97,9 @@ pub(crate) fn object_value(
 fn optional_value(
     alloc: Global,
     entity: &EntityId,
-    state: Option<&StateObject>,
+    state: Option<&Shown>,
 ) -> Result<Value, AllocError>
-    ensures { IfOk result (λ v. v ≡ triggers.state_value [] entity.now (option_copied state.entry)) }
+    ensures { IfOk result (λ v. v ≡ shown_value entity.now (option_copied state.entry)) }
 {
     match state {
         Some(state) => object_value(alloc, entity, state),
@@ -111,13 +111,13 @@ fn optional_value(
 fn states_pairs(
     alloc: Global,
     entity: &EntityId,
-    old: Option<&StateObject>,
-    new: Option<&StateObject>,
+    old: Option<&Shown>,
+    new: Option<&Shown>,
 ) -> Result<Many<(Word, Value)>, AllocError>
     ensures { IfOk result (λ ps. ps
         ≡ (codes "entity_id", Value.Text (entity_text entity.now))
-        ∷ (codes "from_state", triggers.state_value [] entity.now (option_copied old.entry))
-        ∷ (codes "to_state", triggers.state_value [] entity.now (option_copied new.entry)) ∷ []) }
+        ∷ (codes "from_state", shown_value entity.now (option_copied old.entry))
+        ∷ (codes "to_state", shown_value entity.now (option_copied new.entry)) ∷ []) }
 {
     let mut pairs = Many::with_room(alloc, 5)?;
     push_text(alloc, &mut pairs, "entity_id", entity.text())?;
@@ -146,13 +146,14 @@ pub(crate) fn text_or_null(alloc: Global, text: &Option<Word>) -> Result<Value, 
     }
 }
 
-/// A number, null where there is none.
-pub(crate) fn number_or_null(number: Option<Num>) -> Value
-    ensures { result ≡ triggers.number_or_null [] number }
+/// A bound, null where there is none.
+pub(crate) fn bound_value(bound: Bound) -> Value
+    ensures { result ≡ bound_value bound }
 {
-    match number {
-        Some(number) => Value::Number(number),
-        None => Value::Null,
+    match bound {
+        Bound::Absent => Value::Null,
+        Bound::Whole(count) => Value::Number(Num::Whole(count)),
+        Bound::Fixed(millionths) => Value::Number(Num::Fixed(millionths)),
     }
 }
 
@@ -162,15 +163,15 @@ pub(crate) fn state_value(
     id: &Word,
     idx: u32,
     entity: &EntityId,
-    old: Option<&StateObject>,
-    new: Option<&StateObject>,
+    old: Option<&Shown>,
+    new: Option<&Shown>,
     attribute: &Option<Word>,
 ) -> Result<Value, AllocError>
     ensures { IfOk result (λ v. v
         ≡ Map (head (codes "state") id.now idx
         ++ ((codes "entity_id", Value.Text (entity_text entity.now))
-        ∷ (codes "from_state", triggers.state_value [] entity.now (option_copied old.entry))
-        ∷ (codes "to_state", triggers.state_value [] entity.now (option_copied new.entry))
+        ∷ (codes "from_state", shown_value entity.now (option_copied old.entry))
+        ∷ (codes "to_state", shown_value entity.now (option_copied new.entry))
         ∷ (codes "attribute", triggers.text_or_null [] attribute.now) ∷ []))) }
 {
     let mut pairs = head(alloc, "state", id, idx, 7)?;
@@ -188,20 +189,20 @@ pub(crate) fn state_value(
 fn numeric_pairs(
     alloc: Global,
     entity: &EntityId,
-    old: Option<&StateObject>,
-    new: Option<&StateObject>,
-    above: Option<Num>,
-    below: Option<Num>,
+    old: Option<&Shown>,
+    new: Option<&Shown>,
+    above: Bound,
+    below: Bound,
 ) -> Result<Many<(Word, Value)>, AllocError>
     ensures { IfOk result (λ ps. ps
         ≡ (codes "entity_id", Value.Text (entity_text entity.now))
-        ∷ (codes "from_state", triggers.state_value [] entity.now (option_copied old.entry))
-        ∷ (codes "to_state", triggers.state_value [] entity.now (option_copied new.entry))
-        ∷ (codes "above", triggers.number_or_null [] above) ∷ (codes "below", triggers.number_or_null [] below) ∷ []) }
+        ∷ (codes "from_state", shown_value entity.now (option_copied old.entry))
+        ∷ (codes "to_state", shown_value entity.now (option_copied new.entry))
+        ∷ (codes "above", bound_value above) ∷ (codes "below", bound_value below) ∷ []) }
 {
     let mut more = states_pairs(alloc, entity, old, new)?;
-    add(alloc, &mut more, "above", number_or_null(above))?;
-    add(alloc, &mut more, "below", number_or_null(below))?;
+    add(alloc, &mut more, "above", bound_value(above))?;
+    add(alloc, &mut more, "below", bound_value(below))?;
     Ok(more)
 }
 
@@ -211,17 +212,17 @@ pub(crate) fn numeric_value(
     id: &Word,
     idx: u32,
     entity: &EntityId,
-    old: Option<&StateObject>,
-    new: Option<&StateObject>,
-    above: Option<Num>,
-    below: Option<Num>,
+    old: Option<&Shown>,
+    new: Option<&Shown>,
+    above: Bound,
+    below: Bound,
 ) -> Result<Value, AllocError>
     ensures { IfOk result (λ v. v
         ≡ Map (head (codes "numeric_state") id.now idx
         ++ ((codes "entity_id", Value.Text (entity_text entity.now))
-        ∷ (codes "from_state", triggers.state_value [] entity.now (option_copied old.entry))
-        ∷ (codes "to_state", triggers.state_value [] entity.now (option_copied new.entry))
-        ∷ (codes "above", triggers.number_or_null [] above) ∷ (codes "below", triggers.number_or_null [] below) ∷ []))) }
+        ∷ (codes "from_state", shown_value entity.now (option_copied old.entry))
+        ∷ (codes "to_state", shown_value entity.now (option_copied new.entry))
+        ∷ (codes "above", bound_value above) ∷ (codes "below", bound_value below) ∷ []))) }
 {
     let mut pairs = head(alloc, "numeric_state", id, idx, 8)?;
     pairs.append(numeric_pairs(alloc, entity, old, new, above, below)?)?;
