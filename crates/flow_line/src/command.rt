@@ -5,10 +5,11 @@ ghost use Rattle.ha_value.specs.Ids.{read_entity};
 ghost use Rattle.ha_model.specs.Commands.{put_as, IsFair};
 ghost use Rattle.ha_model.specs.Journal.{Journal};
 ghost use Rattle.ha_model.specs.Words.{characters};
+ghost use Rattle.flow_line.specs.Fields.{SaysLent};
 ghost use Rattle.flow_line.specs.Command.{automation, cmd_by, cmd_of, cmd_of_pairs, event_of, gone_of, is_automation, moment_of_pairs, pairs_of, report_of, reportable, restart_of, state_of, switch_of, trigger_of, turned, command_of, IsFairOncePut, IsInTime, IsLineMap, Says};
 
 use crate::fault::FlowFault;
-use crate::fields::{Pairs, Refused, take, take_flag, take_map, take_text};
+use crate::fields::{Pairs, Refused, check_map, flag_at, take_map, take_text, text_at, value_at};
 use crate::keys::{Command, has_keys, only_command, plain_command};
 use crate::read::read_value;
 use crate::refusal::Refusal;
@@ -24,46 +25,37 @@ const LINE_BYTES: usize = 65_536;
 /// A state may have this many characters.
 const STATE_CHARACTERS: usize = 255;
 
-/// The entity id that a text is.
-fn entity_of(alloc: Global, text: &Word) -> Result<Option<EntityId>, AllocError>
-    ensures { IfOk result (λ id. id ≡ read_entity text.now) }
-{
-    match EntityId::read(alloc, text.bytes()) {
-        Ok(id) => Ok(Some(id)),
-        Err(EntityFault::Shape) => Ok(None),
-        Err(EntityFault::Memory) => Err(AllocError),
-    }
-}
-
 fn is_automation(id: &EntityId) -> bool
     ensures { result ≡ is_automation id.now }
 {
     id.has_domain("automation")
 }
 
-/// The entity that is reported: no automation.
-fn reportable(id: Option<EntityId>) -> Result<EntityId, Refused>
-    ensures { Says (reportable id) result }
+/// The entity that a text reports: no automation.
+fn reportable(alloc: Global, text: &Word) -> Result<EntityId, Refused>
+    ensures { Says (reportable (read_entity text.now)) result }
 {
-    match id {
-        Some(id) if !is_automation(&id) => Ok(id),
+    match EntityId::read(alloc, text.bytes()) {
+        Ok(id) if !is_automation(&id) => Ok(id),
+        Err(EntityFault::Memory) => Err(Stop::Memory),
         _ => Err(Stop::Fault(Refusal::Id)),
     }
 }
 
-/// The name of the automation.
-fn automation(alloc: Global, id: Option<EntityId>) -> Result<Word, Refused>
-    ensures { Says (automation id) result }
+/// The name of the automation whose id a text is.
+fn automation(alloc: Global, text: &Word) -> Result<Word, Refused>
+    ensures { Says (automation (read_entity text.now)) result }
 {
-    match id {
-        Some(id) if is_automation(&id) => Ok(Word::from_str(alloc, id.object())?),
+    match EntityId::read(alloc, text.bytes()) {
+        Ok(id) if is_automation(&id) => Ok(Word::from_str(alloc, id.object())?),
+        Err(EntityFault::Memory) => Err(Stop::Memory),
         _ => Err(Stop::Fault(Refusal::Id)),
     }
 }
 
 /// A state that is short enough.
-fn state_of(text: Word) -> Result<Word, Refused>
-    ensures { Says (state_of text) result }
+fn state_of(text: &Word) -> Result<&Word, Refused>
+    ensures { SaysLent (state_of text.now) result }
 {
     if characters(text.bytes()) <= STATE_CHARACTERS {
         Ok(text)
@@ -83,95 +75,94 @@ fn turned(text: &Word) -> Result<bool, Refused>
     }
 }
 
-#[tactic(auto, using(crate::proofs::Taking::behind), unfolding(crate::specs::Command::report_of))]
-fn report(alloc: Global, pairs: &mut Pairs) -> Result<Cmd, Refused>
+#[tactic(auto, unfolding(crate::specs::Command::report_of))]
+fn report(alloc: Global, pairs: &mut [(Word, Value)]) -> Result<Cmd, Refused>
     ensures exact { Says (report_of pairs.old) result }
     ensures in_time { IfOk result IsInTime }
 {
-    let id = take_text(pairs, b"report")?;
-    let text = take_text(pairs, b"state")?;
-    let attributes = take_map(alloc, pairs, b"attributes")?;
-    let entity = reportable(entity_of(alloc, &id)?)?;
-    let text = state_of(text)?;
+    let id = text_at(pairs, b"report")?;
+    let text = text_at(pairs, b"state")?;
+    check_map(pairs, b"attributes")?;
+    let entity = reportable(alloc, id)?;
+    state_of(text)?;
     Ok(Cmd::Report {
         entity,
-        text,
-        attributes,
+        text: take_text(alloc, pairs, b"state"),
+        attributes: take_map(alloc, pairs, b"attributes"),
     })
 }
 
 #[tactic(auto, unfolding(crate::specs::Command::gone_of))]
-fn gone(alloc: Global, pairs: &mut Pairs) -> Result<Cmd, Refused>
-    ensures exact { Says (gone_of pairs.old) result }
+fn gone(alloc: Global, pairs: &[(Word, Value)]) -> Result<Cmd, Refused>
+    ensures exact { Says (gone_of pairs.now) result }
     ensures in_time { IfOk result IsInTime }
 {
-    let id = take_text(pairs, b"gone")?;
-    let entity = reportable(entity_of(alloc, &id)?)?;
+    let id = text_at(pairs, b"gone")?;
+    let entity = reportable(alloc, id)?;
     Ok(Cmd::Gone { entity })
 }
 
-#[tactic(auto, using(crate::proofs::Taking::behind), unfolding(crate::specs::Command::event_of))]
-fn event(alloc: Global, pairs: &mut Pairs) -> Result<Cmd, Refused>
+#[tactic(auto, unfolding(crate::specs::Command::event_of))]
+fn event(alloc: Global, pairs: &mut [(Word, Value)]) -> Result<Cmd, Refused>
     ensures exact { Says (event_of pairs.old) result }
     ensures in_time { IfOk result IsInTime }
 {
-    let kind = take_text(pairs, b"event")?;
-    let fields = take_map(alloc, pairs, b"data")?;
+    text_at(pairs, b"event")?;
+    check_map(pairs, b"data")?;
     Ok(Cmd::Event {
-        kind,
-        pairs: fields,
+        kind: take_text(alloc, pairs, b"event"),
+        pairs: take_map(alloc, pairs, b"data"),
     })
 }
 
 #[tactic(auto, unfolding(crate::specs::Command::moment_of_pairs))]
-fn moment(pairs: &mut Pairs) -> Result<Cmd, Refused>
-    ensures exact { Says (moment_of_pairs pairs.old) result }
+fn moment(pairs: &[(Word, Value)]) -> Result<Cmd, Refused>
+    ensures exact { Says (moment_of_pairs pairs.now) result }
     ensures in_time { IfOk result IsInTime }
 {
-    let text = take_text(pairs, b"moment")?;
+    let text = text_at(pairs, b"moment")?;
     match read_moment(text.bytes()) {
         Some(at) => Ok(Cmd::Moment(at)),
         None => Err(Stop::Fault(Refusal::NoMoment)),
     }
 }
 
-#[tactic(auto, using(crate::proofs::Taking::behind), unfolding(crate::specs::Command::switch_of))]
-fn switch(alloc: Global, pairs: &mut Pairs) -> Result<Cmd, Refused>
-    ensures exact { Says (switch_of pairs.old) result }
+#[tactic(auto, unfolding(crate::specs::Command::switch_of))]
+fn switch(alloc: Global, pairs: &[(Word, Value)]) -> Result<Cmd, Refused>
+    ensures exact { Says (switch_of pairs.now) result }
     ensures in_time { IfOk result IsInTime }
 {
-    let id = take_text(pairs, b"switch")?;
-    let to = take_text(pairs, b"to")?;
-    let on = turned(&to)?;
-    let stop = take_flag(pairs, b"stop_actions")?;
-    let name = automation(alloc, entity_of(alloc, &id)?)?;
+    let id = text_at(pairs, b"switch")?;
+    let on = turned(text_at(pairs, b"to")?)?;
+    let stop = flag_at(pairs, b"stop_actions")?;
+    let name = automation(alloc, id)?;
     Ok(Cmd::Switch { name, on, stop })
 }
 
-#[tactic(auto, using(crate::proofs::Taking::behind), unfolding(crate::specs::Command::trigger_of))]
-fn trigger(alloc: Global, pairs: &mut Pairs) -> Result<Cmd, Refused>
-    ensures exact { Says (trigger_of pairs.old) result }
+#[tactic(auto, unfolding(crate::specs::Command::trigger_of))]
+fn trigger(alloc: Global, pairs: &[(Word, Value)]) -> Result<Cmd, Refused>
+    ensures exact { Says (trigger_of pairs.now) result }
     ensures in_time { IfOk result IsInTime }
 {
-    let id = take_text(pairs, b"trigger")?;
-    let skip = take_flag(pairs, b"skip_condition")?;
-    let name = automation(alloc, entity_of(alloc, &id)?)?;
+    let id = text_at(pairs, b"trigger")?;
+    let skip = flag_at(pairs, b"skip_condition")?;
+    let name = automation(alloc, id)?;
     Ok(Cmd::Trigger { name, skip })
 }
 
 #[tactic(auto, unfolding(crate::specs::Command::restart_of))]
-fn restart(pairs: &mut Pairs) -> Result<Cmd, Refused>
-    ensures exact { Says (restart_of pairs.old) result }
+fn restart(pairs: &[(Word, Value)]) -> Result<Cmd, Refused>
+    ensures exact { Says (restart_of pairs.now) result }
     ensures in_time { IfOk result IsInTime }
 {
-    match take(pairs, b"restart") {
+    match value_at(pairs, b"restart") {
         Some(Value::Flag(true)) => Ok(Cmd::Restart),
         _ => Err(Stop::Fault(Refusal::Kind)),
     }
 }
 
 /// The command of its values.
-fn command_by(alloc: Global, command: Command, pairs: &mut Pairs) -> Result<Cmd, Refused>
+fn command_by(alloc: Global, command: Command, pairs: &mut [(Word, Value)]) -> Result<Cmd, Refused>
     ensures exact { Says (cmd_by command pairs.old) result }
     ensures in_time { IfOk result IsInTime }
 {
@@ -188,7 +179,7 @@ fn command_by(alloc: Global, command: Command, pairs: &mut Pairs) -> Result<Cmd,
 
 /// The command of a line's map.
 #[tactic(auto, unfolding(crate::specs::Command::cmd_of_pairs))]
-fn command_of_pairs(alloc: Global, pairs: &mut Pairs) -> Result<Cmd, Refused>
+fn command_of_pairs(alloc: Global, pairs: &mut [(Word, Value)]) -> Result<Cmd, Refused>
     ensures exact { Says (cmd_of_pairs pairs.old) result }
     ensures in_time { IfOk result IsInTime }
 {
@@ -227,8 +218,8 @@ fn command_of(alloc: Global, line: &[u8]) -> Result<Cmd, Refused>
     ensures exact { Says (command_of line.now) result }
     ensures fair { IfOk result IsFairOncePut }
 {
-    let mut pairs = pairs_of(alloc, line)?;
-    command_of_pairs(alloc, &mut pairs)
+    let mut pairs = pairs_of(alloc, line)?.into_vec();
+    command_of_pairs(alloc, pairs.as_mut_slice())
 }
 
 /// The command of a line whose end is cut off. A bad line is `Cmd::Refused` with its code's number. That an automation of

@@ -6,8 +6,9 @@ ghost use Rattle.std.specs.List.{list_all};
 ghost use Rattle.ha_model.specs.Words.{same};
 ghost use Rattle.flow_line.specs.Command.{further, has_keys, has_needed, is_key, key_of, named, needed, only, takes, Says};
 
-use crate::fields::{Pairs, Refused, has_key};
+use crate::fields::{Refused, has_key};
 use crate::refusal::Refusal;
+use ha_value::{Value, Word};
 use reading::Stop;
 
 /// The commands, by the key that names them.
@@ -90,7 +91,7 @@ fn is_key(key: &[u8], wanted: Option<&[u8]>) -> bool
 }
 
 /// The command whose key stands in the map, if there is one alone.
-pub fn only_command(pairs: &Pairs) -> Result<Command, Refused>
+pub fn only_command(pairs: &[(Word, Value)]) -> Result<Command, Refused>
     ensures { Says (only (named pairs.now)) result }
 {
     let mut found = None;
@@ -108,7 +109,7 @@ pub fn only_command(pairs: &Pairs) -> Result<Command, Refused>
     }
 }
 
-fn has_needed(command: Command, pairs: &Pairs) -> bool
+fn has_needed(command: Command, pairs: &[(Word, Value)]) -> bool
     ensures { result ≡ has_needed command pairs.now }
 {
     match command.needed() {
@@ -117,17 +118,14 @@ fn has_needed(command: Command, pairs: &Pairs) -> bool
     }
 }
 
-fn takes_all(command: Command, pairs: &Pairs) -> bool
+fn takes_all(command: Command, pairs: &[(Word, Value)]) -> bool
     ensures { result ≡ list_all (λ p. takes command p.0) pairs.now }
 {
-    pairs
-        .as_slice()
-        .iter()
-        .all(|pair| command.takes(pair.0.bytes()))
+    pairs.iter().all(|pair| command.takes(pair.0.bytes()))
 }
 
 /// Whether the map has the key that the command needs, and no key that it doesn't take.
-pub fn has_keys(command: Command, pairs: &Pairs) -> bool
+pub fn has_keys(command: Command, pairs: &[(Word, Value)]) -> bool
     ensures { result ≡ has_keys command pairs.now }
 {
     has_needed(command, pairs) && takes_all(command, pairs)
@@ -147,11 +145,11 @@ fn command_of_key(key: &[u8]) -> Option<Command>
 
 /// The command of a map that has its keys, where its first key names it. Most maps are so; the others are looked at by the
 /// whole table.
-pub fn plain_command(pairs: &Pairs) -> Option<Command>
+pub fn plain_command(pairs: &[(Word, Value)]) -> Option<Command>
     ensures alone { IfSome result (λ command. named pairs.now ≡ command ∷ []) }
     ensures keys { IfSome result (λ command. has_keys command pairs.now ≡ true) }
 {
-    let first = pairs.as_slice().first()?;
+    let first = pairs.first()?;
     let command = command_of_key(first.0.bytes())?;
     if has_keys(command, pairs) {
         Some(command)
