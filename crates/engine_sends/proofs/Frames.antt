@@ -7,13 +7,14 @@ use Rattle.script_step.specs.contracts.thread.Frame as Frame
 use Rattle.script_step.specs.contracts.thread.Thread as Thread
 use Rattle.script_step.specs.contracts.strand.Strand as Strand
 use Rattle.script_step.specs.contracts.frames.Frames as Frames
+use Rattle.script_step.proofs.sizes.Sizes.TheSendSync as sizes
 use Rattle.script_step.proofs.strand.End.TheSendSync as end
 use Rattle.script_step.proofs.strand.Stage.TheLaws.TheKnot as stage
 use Rattle.engine_sends.proofs.Envs.{variables}
 use Rattle.engine_sends.proofs.Scripts.{scripts}
 
 scopes_send : IsSend Scopes.the_row
-scopes_send = search (variables, scripts) depth 60 fits 20000
+scopes_send = search (sizes.the_send, variables, scripts) depth 60 fits 20000
 
 turn_send : IsSend Turn.the_row
 turn_send = search scripts depth 60 fits 20000

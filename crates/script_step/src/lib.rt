@@ -18,6 +18,7 @@ mod own;
 mod parts;
 mod scopes;
 mod sides;
+mod sizes;
 mod spans;
 mod step;
 mod strand;

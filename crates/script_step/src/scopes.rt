@@ -4,7 +4,8 @@ ghost use Rattle.ha_model.specs.Words.{has_name};
 ghost use Rattle.ha_model.specs.Scripts.{flat, outer, add_inside, set_name};
 ghost use Rattle.script_step.specs.Cuts.{add_at, is_own, named_block, total};
 
-use ha_model::{Env, Many, Value, Word};
+use crate::sizes::Sizes;
+use ha_model::{Env, Value, Word};
 use std::alloc::{AllocError, Global};
 use std::marker::Model;
 
@@ -12,7 +13,7 @@ use std::marker::Model;
 #[derive(Drop)]
 pub struct Scopes {
     pairs: Env,
-    sizes: Many<usize>,
+    sizes: Sizes,
 }
 
 impl Model for Scopes {
@@ -36,7 +37,7 @@ impl Scopes {
     pub fn start(alloc: Global, env: Env) -> Result<Scopes, AllocError>
         ensures { IfOk result (λ made. made ≡ env ∷ []) }
     {
-        let mut sizes = Many::make(alloc);
+        let mut sizes = Sizes::make(alloc);
         sizes.push(env.len())?;
         Ok(Scopes { pairs: env, sizes })
     }
@@ -47,7 +48,7 @@ impl Scopes {
     {
         Scopes {
             pairs: Env::none(alloc),
-            sizes: Many::make(alloc),
+            sizes: Sizes::make(alloc),
         }
     }
 
@@ -55,7 +56,7 @@ impl Scopes {
     pub fn copy(&self, alloc: Global) -> Result<Scopes, AllocError>
         ensures { IfOk result (λ made. made ≡ self.now) }
     {
-        let mut sizes = Many::make(alloc);
+        let mut sizes = Sizes::make(alloc);
         for size in self.sizes.as_slice() {
             sizes.push(*size)?;
         }

@@ -1,5 +1,5 @@
 //! The service and the targets of a call.
-ghost use Rattle.std.specs.Prelude.{◌≡◌, ◌+◌, ◌<◌, List, Ok, Err, IfSome, drop, is_some, length, nat_eq, position, if◌then◌else◌};
+ghost use Rattle.std.specs.Prelude.{◌≡◌, ◌+◌, ◌<◌, List, [], Some, Ok, Err, IfSome, drop, is_some, length, nat_eq, position, if◌then◌else◌};
 ghost use Rattle.ha_value.specs.declared.value.EntityId.{EntityId};
 ghost use Rattle.ha_value.specs.Ids.{read_entity};
 ghost use Rattle.ha_model.specs.Words.{parts_between_commas, without_blanks};
@@ -84,11 +84,30 @@ fn add_part(alloc: Global, all: &mut Many<EntityId>, part: &[u8]) -> Result<(), 
     }
 }
 
+/// How many parts a text has between its commas.
+fn parts(text: &[u8]) -> usize {
+    let commas = text.iter().filter(|byte| b',' == **byte).count();
+    commas.saturating_add(1)
+}
+
+/// The empty list, with room for the parts of a text: what is made of it then stands in no more memory than it needs.
+fn room_for(alloc: Global, text: &[u8]) -> Result<Many<EntityId>, TplFault>
+    ensures { Gives result (Some []) }
+{
+    match Many::with_room(alloc, parts(text)) {
+        Ok(all) => Ok(all),
+        Err(_) => Err(TplFault::Memory),
+    }
+}
+
 /// The entity ids between the commas of a text.
 fn all_read(alloc: Global, text: &[u8]) -> Result<Many<EntityId>, TplFault>
     ensures { Gives result (all_read (parts_between_commas text.now)) }
 {
-    let mut all = Many::make(alloc);
+    let mut all = match room_for(alloc, text) {
+        Ok(all) => all,
+        Err(_) => return Err(TplFault::Memory),
+    };
     let mut rest = text;
     while let Some(i) = comma(rest) {
         match add_part(alloc, &mut all, &rest[..i]) {
