@@ -237,3 +237,14 @@ pub fn write_here(held: &mut Held, text: &str)
         }
     }
 }
+
+/// The empty text, in the room that there is.
+pub fn clear(held: &mut Held)
+    ensures value { bytes_of held.new ≡ [] }
+    ensures text { IsText held.new }
+{
+    match held {
+        Held::Here { len, .. } => *len = 0,
+        Held::Far(text) => text.clear(),
+    }
+}
