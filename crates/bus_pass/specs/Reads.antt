@@ -1,5 +1,5 @@
 -- What was read for the entries of one give.
-use Rattle.std.specs.Prelude.{ℕ, ◌-◌, List, Option, None, slice_get}
+use Rattle.std.specs.Prelude.{ℕ, ◌-◌, List, Option, None, if◌then◌else◌, nat_le, slice_get}
 use Rattle.ha_model.specs.declared.journal.Cmd.{Cmd}
 use Rattle.ha_model.specs.declared.journal.Entry.{Entry}
 use Rattle.ha_model.specs.declared.journal.Entry.TheVariants.{Boot, Line, Step}
@@ -13,9 +13,9 @@ pub record Reading : Type 0 where
 abbrev pub reading : ℕ → ℕ → List Cmd → Reading
 reading from next cmds = record { from = from; next = next; cmds = cmds }
 
--- of commands that are numbered from here on, the one with this number
+-- of commands that are numbered from here on, the one with this number, where there is one
 abbrev pub cmd_at : ℕ → List Cmd → ℕ → Option Cmd
-cmd_at from cmds number = slice_get cmds (number - from)
+cmd_at from cmds number = if nat_le from number then slice_get cmds (number - from) else None
 
 -- what was read for each entry: for a line the command with its number, for a step none
 abbrev pub Reads : Type 0

@@ -1,6 +1,7 @@
 -- What a pass knows when it gave a bus back with what its worker put.
 use Rattle.std.proofs.Common.{◌≡◌, ◌∙◌, ◌+◌, inl, inr, ⊎_elim, ℕ, Bool, true, false, cond, List, [], ◌∷◌, ◌++◌, length, Option, Some, None, slice_get, ap, arith, refl, sym, subst, append-nil, append_assoc, length-append}
-use Rattle.std.specs.Prelude.{IsSome}
+use Rattle.std.proofs.lemmas.Bool.{le-leb}
+use Rattle.std.specs.Prelude.{◌-◌, if◌then◌else◌, IsSome}
 use Rattle.std.specs.List.{list_any}
 use Rattle.ha_model.specs.declared.journal.Cmd.{Cmd}
 use Rattle.ha_model.specs.declared.journal.Entry.{Entry}
@@ -31,7 +32,9 @@ at_place (x ∷ xs) ys = at_place xs ys
 
 -- behind so many commands stands the first of the others
 pub behind_some : (from : ℕ) (xs ys : List Cmd) (m : ℕ) → m ≡ from + length xs → cmd_at from (xs ++ ys) m ≡ slice_get ys 0
-behind_some from xs ys m is = ap (λ (i : ℕ). slice_get (xs ++ ys) i) (omega (arith, is)) ∙ at_place xs ys
+behind_some from xs ys m is =
+    ap (λ (b : Bool). if b then slice_get (xs ++ ys) (m - from) else None) (le-leb from m (omega (arith, is)))
+    ∙ ap (λ (i : ℕ). slice_get (xs ++ ys) i) (omega (arith, is)) ∙ at_place xs ys
 
 -- ---- what was put is as it was read
 
