@@ -21,23 +21,24 @@ pub fn key_of(alloc: Global, name: &str) -> Result<String, AllocError>
     String::from_str(alloc, name)
 }
 
-/// The attributes are these; those that are there already are left in their place.
-fn set_attributes(
+/// Another text, written over the one before: no new state is made, and none is dropped. The attributes stay.
+fn write_text(
     alloc: Global,
-    held: &mut Many<(Word, Value)>,
-    attributes: &Many<(Word, Value)>,
+    state: &mut StateObject,
+    text: &Word,
+    now: Moment,
 ) -> Result<(), AllocError>
-    ensures ok { OnOk result (held.new ≡ attributes.now) }
-    ensures err { OnErr result (held.new ≡ held.old) }
+    ensures ok { OnOk result (state.new ≡ next_object_lem None text.now state.old.attributes now) }
+    ensures err { OnErr result (state.new ≡ state.old) }
 {
-    if same_data(held, attributes) {
-        return Ok(());
-    }
-    *held = copy_pairs(alloc, attributes.as_slice())?;
+    text.copy_to(alloc, &mut state.text)?;
+    state.changed = now;
+    state.updated = now;
     Ok(())
 }
 
-/// Another text, written over the one before: no new state is made, and none is dropped.
+/// Another text with other attributes. Their copy is made first, so that a refusal leaves the state as it was.
+#[inline(never)]
 fn write_over(
     alloc: Global,
     state: &mut StateObject,
@@ -48,12 +49,28 @@ fn write_over(
     ensures ok { OnOk result (state.new ≡ next_object_lem None text.now attributes.now now) }
     ensures err { OnErr result (state.new ≡ state.old) }
 {
-    let made = text.copy(alloc)?;
-    set_attributes(alloc, &mut state.attributes, attributes)?;
-    state.text = made;
-    state.changed = now;
-    state.updated = now;
+    let made = copy_pairs(alloc, attributes.as_slice())?;
+    write_text(alloc, state, text, now)?;
+    state.attributes = made;
     Ok(())
+}
+
+/// Another text.
+fn write(
+    alloc: Global,
+    state: &mut StateObject,
+    text: &Word,
+    attributes: &Many<(Word, Value)>,
+    now: Moment,
+) -> Result<(), AllocError>
+    ensures ok { OnOk result (state.new ≡ next_object_lem None text.now attributes.now now) }
+    ensures err { OnErr result (state.new ≡ state.old) }
+{
+    if same_data(&state.attributes, attributes) {
+        write_text(alloc, state, text, now)
+    } else {
+        write_over(alloc, state, text, attributes, now)
+    }
 }
 
 /// What a report changes in a state that is there.
@@ -69,7 +86,7 @@ fn update(
     ensures err { OnErr result (object.new ≡ object.old) }
 {
     if !same_text(&object.text, text) {
-        write_over(alloc, object, text, attributes, now)?;
+        write(alloc, object, text, attributes, now)?;
         return Ok(Change::Text);
     }
     if same_data(&object.attributes, attributes) {
