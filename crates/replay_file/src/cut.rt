@@ -2,6 +2,8 @@
 ghost use Rattle.std.specs.Prelude.{◌≡◌, ◌<◌, ◌∷◌, ◌+◌, None, IfSome, true, length, take, drop};
 ghost use Rattle.trace_laws.specs.Lines.{Cuts, is_one_line};
 
+use memchr::memchr;
+
 /// The first line of a text without its LF, and what stands behind the LF.
 #[derive(Clone, Copy)]
 pub(crate) struct Cut<'a> {
@@ -16,12 +18,7 @@ fn end_of_line(text: &[u8]) -> Option<usize>
     ensures end { IfSome result (λ at. drop at text.now ≡ 10 ∷ drop (at + 1) text.now) }
     ensures none { result ≡ None → is_one_line text.now ≡ true }
 {
-    for i in 0..text.len() {
-        if text[i] == b'\n' {
-            return Some(i);
-        }
-    }
-    None
+    memchr(b'\n', text)
 }
 
 /// Cuts off the first line; none where there is no LF.

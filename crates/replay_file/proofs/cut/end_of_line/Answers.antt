@@ -1,9 +1,8 @@
-use Rattle.std.proofs.Common.{arith}
-use Rattle.replay_file.proofs.CutLemmas.{ends_here, none_so_far}
+use Rattle.replay_file.proofs.CutLemmas.{all_free, found_free}
 use Rattle.replay_file.proofs.cut.end_of_line.Goals as goal
 
-pub loop-i-preserved : goal.loop-i-preserved
-loop-i-preserved c = none_so_far c.args.text.now c.loop-i.i (omega arith) c.loop-i.invariant c.if-text-i-eq10.false
+pub returns-clause-front : goal.returns-clause-front
+returns-clause-front c = found_free c.args.text.now c.memchr.result c.memchr.ensures
 
-pub returns-then-text-i-eq10-clause-end : goal.returns-then-text-i-eq10-clause-end
-returns-then-text-i-eq10-clause-end c = ends_here c.args.text.now c.loop-i.i (omega arith) c.if-text-i-eq10.true
+pub returns-clause-none : goal.returns-clause-none
+returns-clause-none c = all_free c.args.text.now c.memchr.result c.memchr.ensures
