@@ -1,11 +1,11 @@
 //! The line of a call.
-ghost use Rattle.std.specs.Prelude.{◌≡◌, ◌++◌, true, Some, IfOk, OnOk, map, option_map};
+ghost use Rattle.std.specs.Prelude.{◌≡◌, ◌++◌, true, Some, OnOk, map, option_map};
 ghost use Rattle.ha_model.specs.CommandText.{call_pairs};
 ghost use Rattle.ha_model.specs.Entries.{call_in, is_call};
 ghost use Rattle.ha_model.specs.Texts.{call_line as call_line_lem};
 ghost use Rattle.ha_model.specs.ValueText.{comma_joined, pair_text};
 
-use crate::parts::{empty_line, push_ids, push_map, push_number};
+use crate::parts::{push_ids, push_map, push_number};
 use flow_line::push_chars;
 use ha_model::Item;
 use ha_value::{EntityId, Value, Word};
@@ -31,39 +31,41 @@ pub(crate) fn push_call(
 
 fn line_of_call(
     alloc: Global,
+    line: &mut Word,
     name: &Word,
     number: u64,
     call: u64,
     service: &Word,
     target: &[EntityId],
     fields: &[(Word, Value)],
-) -> Result<Word, AllocError>
-    ensures { IfOk result (λ line. line ≡ call_line_lem name.now number call (record { service = service.now; target = target.now; fields = fields.now })) }
+) -> Result<(), AllocError>
+    ensures { OnOk result (line.new ≡ call_line_lem name.now number call (record { service = service.now; target = target.now; fields = fields.now })) }
 {
-    let mut line = empty_line(alloc)?;
+    line.clear();
     line.push_str("{\"run\":\"")?;
-    push_chars(&mut line, name.as_str())?;
+    push_chars(line, name.as_str())?;
     line.push_str("\",\"number\":")?;
-    push_number(&mut line, number)?;
+    push_number(line, number)?;
     line.push_str(",\"call\":")?;
-    push_number(&mut line, call)?;
+    push_number(line, call)?;
     line.push_byte(b',')?;
-    push_call(alloc, &mut line, service, target, fields)?;
+    push_call(alloc, line, service, target, fields)?;
     line.push_str("}\n")?;
-    Ok(line)
+    Ok(())
 }
 
-/// The line of a call: the automation's name, the number of the run among the runs of that automation, and the number of
-/// the call within the run.
+/// Writes the line of a call in the place of a text: the automation's name, the number of the run among the runs of that automation,
+/// and the number of the call within the run.
 pub fn call_line(
     alloc: Global,
+    line: &mut Word,
     name: &Word,
     number: u64,
     call: u64,
     item: &Item,
-) -> Result<Word, AllocError>
+) -> Result<(), AllocError>
     requires { is_call item.now ≡ true }
-    ensures { IfOk result (λ line. option_map (call_line_lem name.now number call) (call_in item.now) ≡ Some line) }
+    ensures { OnOk result (option_map (call_line_lem name.now number call) (call_in item.now) ≡ Some line.new) }
 {
     let Item::Call {
         service,
@@ -75,6 +77,7 @@ pub fn call_line(
     };
     line_of_call(
         alloc,
+        line,
         name,
         number,
         call,

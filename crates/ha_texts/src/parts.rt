@@ -13,7 +13,7 @@ use std::alloc::{AllocError, Global};
 const LINE_ROOM: usize = 256;
 
 /// An empty line, to which its parts are appended without a move as long as they have room.
-pub(crate) fn empty_line(alloc: Global) -> Result<Word, AllocError>
+pub fn empty_line(alloc: Global) -> Result<Word, AllocError>
     ensures { IfOk result (λ line. line ≡ []) }
 {
     Word::with_room(alloc, LINE_ROOM)

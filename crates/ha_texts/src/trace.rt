@@ -1,5 +1,5 @@
 //! The line of an entry in the trace.
-ghost use Rattle.std.specs.Prelude.{◌≡◌, ◌≤◌, ◌∷◌, [], ◌++◌, IfOk, OnOk, codes, decimal, map};
+ghost use Rattle.std.specs.Prelude.{◌≡◌, ◌≤◌, ◌∷◌, [], ◌++◌, OnOk, codes, decimal, map};
 ghost use Rattle.ha_clock.specs.Local.{last_moment};
 ghost use Rattle.ha_clock.specs.Print.{moment_text};
 ghost use Rattle.ha_model.specs.CommandText.{cmd_text, item_text, one_key};
@@ -10,7 +10,7 @@ ghost use Rattle.ha_texts.specs.Lines.{entry_text, AreDated, IsDated};
 use crate::command::push_cmd;
 use crate::item::push_item;
 use crate::names::{push_moment, push_numbers, push_switches};
-use crate::parts::{empty_line, push_number};
+use crate::parts::push_number;
 use flow_line::push_quoted;
 use ha_clock::Moment;
 use ha_model::{Automation, Cmd, Config, Entry, Item};
@@ -127,13 +127,18 @@ fn push_entry(
     }
 }
 
-/// The line of an entry in the trace.
-pub fn trace_line(alloc: Global, entry: &Entry, config: &Config) -> Result<Word, AllocError>
+/// Writes the line of an entry in the trace in the place of a text.
+pub fn trace_line(
+    alloc: Global,
+    line: &mut Word,
+    entry: &Entry,
+    config: &Config,
+) -> Result<(), AllocError>
     requires { AreDated entry.now }
-    ensures { IfOk result (λ line. line ≡ trace_line_lem config.now.automations entry.now) }
+    ensures { OnOk result (line.new ≡ trace_line_lem config.now.automations entry.now) }
 {
-    let mut line = empty_line(alloc)?;
-    push_entry(alloc, &mut line, entry, config.automations.as_slice())?;
+    line.clear();
+    push_entry(alloc, line, entry, config.automations.as_slice())?;
     line.push_byte(b'\n')?;
-    Ok(line)
+    Ok(())
 }
