@@ -86,7 +86,7 @@ called-is before (Step worker serial branch item) rs all right is = step-line be
 
 -- the same by the names that the code has
 pub called-here : (k before : Journal) (x : Entry) (rs rs' : Records) (all : List Automation) → Right k rs → k ≡ more before x → rs' ≡ rs → all ≡ automations k
-    → (line : Option Text) → line ≡ called_line all rs' x → text_in line ≡ call_text_of rs before x
-called-here k before x rs rs' all right is same all-is line e =
-    ap text_in e ∙ (λ i. text_in (called_line all (same i) x))
+    → (text : Text) → text ≡ text_in (called_line all rs' x) → text ≡ call_text_of rs before x
+called-here k before x rs rs' all right is same all-is text e =
+    e ∙ (λ i. text_in (called_line all (same i) x))
     ∙ called-is before x rs all (subst (λ j. Right j rs) is right) (all-is ∙ ap automations is)

@@ -15,7 +15,7 @@ use crate::end::{Ended, write_end};
 use crate::fault::BusFault;
 use crate::write::write_put;
 use ha_io::{Keeper, Sink};
-use ha_model::{Cmd, Core};
+use ha_model::{Cmd, Core, Word};
 use std::alloc::Global;
 use std::marker::Model;
 
@@ -28,6 +28,8 @@ pub struct Bus<C: Core, K: Sink, Q: Keeper> {
     errors: K,
     trace: Option<K>,
     keep: Q,
+    /// The line that was written last. The next one is made in its place.
+    shown: Word,
     first: Option<BusFault>,
 }
 
@@ -81,9 +83,11 @@ impl<C: Core, K: Sink, Q: Keeper> Bus<C, K, Q> {
         let mut errors = errors;
         let mut trace = trace;
         let mut keep = keep;
+        let mut shown = Word::new(alloc);
         let _ = core.journal();
         let first = write_put(
             alloc,
+            &mut shown,
             Ok(()),
             &core,
             &mut calls,
@@ -98,6 +102,7 @@ impl<C: Core, K: Sink, Q: Keeper> Bus<C, K, Q> {
             errors,
             trace,
             keep,
+            shown,
             first,
         }
     }
@@ -125,6 +130,7 @@ impl<C: Core, K: Sink, Q: Keeper> Bus<C, K, Q> {
             errors,
             trace,
             keep,
+            shown: _,
             first: _,
         } = self;
         (core, calls, errors, trace, keep)
@@ -149,6 +155,7 @@ impl<C: Core, K: Sink, Q: Keeper> Bus<C, K, Q> {
             errors,
             mut trace,
             keep,
+            shown: _,
             first: _,
         } = self;
         let first = write_end(alloc, core.journal().len(), &mut trace).err();
@@ -203,6 +210,7 @@ impl<C: Core, K: Sink, Q: Keeper> Bus<C, K, Q> {
         let put = self.core.put_line(source, number, cmd);
         self.first = write_put(
             alloc,
+            &mut self.shown,
             put,
             &self.core,
             &mut self.calls,
@@ -222,6 +230,7 @@ impl<C: Core, K: Sink, Q: Keeper> Bus<C, K, Q> {
         let put = self.core.put_step(worker);
         self.first = write_put(
             alloc,
+            &mut self.shown,
             put,
             &self.core,
             &mut self.calls,

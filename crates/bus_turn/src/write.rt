@@ -1,5 +1,5 @@
 //! What is written of one entry.
-ghost use Rattle.std.specs.Prelude.{◌≡◌, IfOk, IfErr, IfSome, OnOk, is_some, option_map, true, false, None, Some, if◌then◌else◌};
+ghost use Rattle.std.specs.Prelude.{◌≡◌, IfErr, IfSome, OnOk, is_some, option_map, true, false, None, Some, if◌then◌else◌};
 ghost use Rattle.std.specs.Option.{option_copied};
 ghost use Rattle.ha_model.specs.declared.journal.Entry.{Entry};
 ghost use Rattle.ha_model.specs.Entries.{call_in, step_of};
@@ -61,23 +61,28 @@ pub(crate) fn write_kept<K: Sink>(sink: &mut K, text: &[u8], goes_on: bool) -> R
     hand_on(sink)
 }
 
-/// Writes a line, where there is one.
-fn write_line<K: Sink>(sink: &mut K, line: Result<Option<Word>, AllocError>) -> Result<(), BusFault>
+/// Writes a line that was made; of one for which memory ran out, nothing.
+fn write_line<K: Sink>(
+    sink: &mut K,
+    made: Result<(), AllocError>,
+    shown: &Word,
+) -> Result<(), BusFault>
     ensures { let s = sink_of K.written K.faults K.zeros K.name in
-        (text : Text) → IfOk line (λ one. text_in one ≡ text)
+        (text : Text) → OnOk made (shown.now ≡ text)
         → Writes text (s sink.old) (fault_of result) (s sink.new) }
 {
-    match line {
-        Ok(Some(line)) => write_text(sink, line.bytes()),
-        Ok(None) => Ok(()),
+    match made {
+        Ok(()) => write_text(sink, shown.bytes()),
         Err(_) => Err(BusFault::Memory),
     }
 }
 
-/// Writes the line of an entry to the trace's sink, as `write_kept` does.
+/// Writes the line of an entry to the trace's sink, as `write_kept` does. The line is made in `shown`, as all lines are: so only a
+/// longer one than those before asks for memory.
 #[inline(never)]
 fn write_traced<K: Sink>(
     alloc: Global,
+    shown: &mut Word,
     entry: &Entry,
     config: &Config,
     sink: &mut K,
@@ -88,8 +93,8 @@ fn write_traced<K: Sink>(
         Writes (trace_line_lem config.now.automations entry.now) (s sink.old) (fault_of result) (s sink.new) }
     ensures handed { goes_on ≡ false → OnOk result (K.kept sink.new ≡ 0) }
 {
-    match trace_line(alloc, entry, config) {
-        Ok(line) => write_kept(sink, line.bytes(), goes_on),
+    match trace_line(alloc, shown, entry, config) {
+        Ok(()) => write_kept(sink, shown.bytes(), goes_on),
         Err(_) => Err(BusFault::Memory),
     }
 }
@@ -101,48 +106,46 @@ fn record_of(records: &[Record], serial: u64) -> Option<&Record>
     records.get(serial.saturating_sub(1) as usize)
 }
 
-/// The line of a call that a run made last, by what it did.
+/// Makes the line of a call that a run made last, by what it did. For another item nothing is shown.
 fn line_of_call(
     alloc: Global,
+    shown: &mut Word,
     automations: &[Automation],
     run: &Record,
     item: &Item,
-) -> Result<Option<Word>, AllocError>
-    ensures { IfOk result (λ line. line ≡ option_map (call_line_lem (name_of automations.now run.now.automation) run.now.number run.now.calls) (call_in item.now)) }
+) -> Result<(), AllocError>
+    ensures { OnOk result (shown.new ≡ text_in (option_map (call_line_lem (name_of automations.now run.now.automation) run.now.number run.now.calls) (call_in item.now))) }
 {
     if !matches!(item, Item::Call { .. }) {
-        return Ok(None);
+        shown.clear();
+        return Ok(());
     }
     match automations.get(run.automation as usize) {
-        Some(automation) => Ok(Some(call_line(
-            alloc,
-            &automation.name,
-            run.number,
-            run.calls,
-            item,
-        )?)),
+        Some(automation) => call_line(alloc, shown, &automation.name, run.number, run.calls, item),
         None => {
             let nameless = Word::new(alloc);
-            Ok(Some(call_line(alloc, &nameless, run.number, run.calls, item)?))
+            call_line(alloc, shown, &nameless, run.number, run.calls, item)
         }
     }
 }
 
-/// The line of an entry that calls.
+/// Makes the line of an entry that calls. For another entry nothing is shown.
 fn line_of_step(
     alloc: Global,
+    shown: &mut Word,
     automations: &[Automation],
     records: &[Record],
     entry: &Entry,
-) -> Result<Option<Word>, AllocError>
-    ensures { IfOk result (λ line. line ≡ called_line automations.now records.now entry.now) }
+) -> Result<(), AllocError>
+    ensures { OnOk result (shown.new ≡ text_in (called_line automations.now records.now entry.now)) }
 {
+    shown.clear();
     match entry {
         Entry::Step { serial, item, .. } => match record_of(records, *serial) {
-            Some(run) => line_of_call(alloc, automations, run, item),
-            None => Ok(None),
+            Some(run) => line_of_call(alloc, shown, automations, run, item),
+            None => Ok(()),
         },
-        Entry::Boot { .. } | Entry::Line { .. } => Ok(None),
+        Entry::Boot { .. } | Entry::Line { .. } => Ok(()),
     }
 }
 
@@ -157,6 +160,7 @@ fn is_step(entry: &Entry) -> bool
 #[inline(never)]
 fn write_called<C: Core, K: Sink>(
     alloc: Global,
+    shown: &mut Word,
     core: &C,
     entry: &Entry,
     sink: &mut K,
@@ -167,14 +171,15 @@ fn write_called<C: Core, K: Sink>(
         → Writes (call_text_of (C.runs core.now) before entry.now) (s sink.old) (fault_of result) (s sink.new) }
 {
     let automations = core.config().automations.as_slice();
-    let line = line_of_step(alloc, automations, core.records(), entry);
-    write_line(sink, line)
+    let made = line_of_step(alloc, shown, automations, core.records(), entry);
+    write_line(sink, made, shown)
 }
 
-/// Writes the call line of the last entry, if it has one.
+/// Writes the call line of the last entry, if it has one. The line is made in the place of `shown`, whose room later lines have again.
 #[inline]
 pub fn write_call<C: Core, K: Sink>(
     alloc: Global,
+    shown: &mut Word,
     core: &C,
     entry: &Entry,
     sink: &mut K,
@@ -187,7 +192,7 @@ pub fn write_call<C: Core, K: Sink>(
     if !is_step(entry) {
         return Ok(());
     }
-    write_called(alloc, core, entry, sink)
+    write_called(alloc, shown, core, entry, sink)
 }
 
 /// Whether an entry has an error line.
@@ -203,29 +208,41 @@ fn is_error(entry: &Entry) -> bool
 
 /// Writes the error line of an entry that has one.
 #[inline(never)]
-fn write_failed<K: Sink>(alloc: Global, entry: &Entry, sink: &mut K) -> Result<(), BusFault>
+fn write_failed<K: Sink>(
+    alloc: Global,
+    shown: &mut Word,
+    entry: &Entry,
+    sink: &mut K,
+) -> Result<(), BusFault>
     ensures { let s = sink_of K.written K.faults K.zeros K.name in
         Writes (error_text_of entry.now) (s sink.old) (fault_of result) (s sink.new) }
 {
-    write_line(sink, err_line(alloc, entry))
+    let made = err_line(alloc, shown, entry);
+    write_line(sink, made, shown)
 }
 
-/// Writes the error line of an entry, if it has one.
+/// Writes the error line of an entry, if it has one, as `write_call` does.
 #[inline]
-pub fn write_error<K: Sink>(alloc: Global, entry: &Entry, sink: &mut K) -> Result<(), BusFault>
+pub fn write_error<K: Sink>(
+    alloc: Global,
+    shown: &mut Word,
+    entry: &Entry,
+    sink: &mut K,
+) -> Result<(), BusFault>
     ensures { let s = sink_of K.written K.faults K.zeros K.name in
         Writes (error_text_of entry.now) (s sink.old) (fault_of result) (s sink.new) }
 {
     if !is_error(entry) {
         return Ok(());
     }
-    write_failed(alloc, entry, sink)
+    write_failed(alloc, shown, entry, sink)
 }
 
 /// Writes the line of an entry to the trace, where there is one. Unless more entries are at hand, it then stands outside, with all lines
 /// before it.
 fn write_trace<K: Sink>(
     alloc: Global,
+    shown: &mut Word,
     entry: &Entry,
     config: &Config,
     trace: &mut Option<K>,
@@ -237,7 +254,7 @@ fn write_trace<K: Sink>(
     ensures handed { goes_on ≡ false → OnOk result (IfSome trace.new (λ k. K.kept k ≡ 0)) }
 {
     match trace {
-        Some(sink) => write_traced(alloc, entry, config, sink, goes_on),
+        Some(sink) => write_traced(alloc, shown, entry, config, sink, goes_on),
         None => Ok(()),
     }
 }
@@ -283,6 +300,7 @@ fn save<C: Core, Q: Keeper>(alloc: Global, core: &C, keep: &mut Q) -> Result<(),
 /// store. After a fault nothing further is written. Unless more entries are at hand, the trace's sink hands on what it keeps.
 fn show<C: Core, K: Sink, Q: Keeper>(
     alloc: Global,
+    shown: &mut Word,
     core: &C,
     entry: &Entry,
     calls: &mut K,
@@ -302,15 +320,15 @@ fn show<C: Core, K: Sink, Q: Keeper>(
         (fault_of result)
         (outside_of s q calls.new errors.new trace.new keep.new) }
 {
-    match write_call(alloc, core, entry, calls) {
+    match write_call(alloc, shown, core, entry, calls) {
         Ok(()) => {}
         Err(fault) => return Err(fault),
     }
-    match write_error(alloc, entry, errors) {
+    match write_error(alloc, shown, entry, errors) {
         Ok(()) => {}
         Err(fault) => return Err(fault),
     }
-    match write_trace(alloc, entry, core.config(), trace, goes_on) {
+    match write_trace(alloc, shown, entry, core.config(), trace, goes_on) {
         Ok(()) => {}
         Err(fault) => return Err(fault),
     }
@@ -320,6 +338,7 @@ fn show<C: Core, K: Sink, Q: Keeper>(
 /// What becomes of the outside after a put, and the fault that is to be kept: after a put that was refused nothing is written.
 pub(crate) fn write_put<C: Core, K: Sink, Q: Keeper>(
     alloc: Global,
+    shown: &mut Word,
     put: Result<(), CoreFault>,
     core: &C,
     calls: &mut K,
@@ -351,7 +370,9 @@ pub(crate) fn write_put<C: Core, K: Sink, Q: Keeper>(
     let Some(entry) = core.journal().last() else {
         return None;
     };
-    match show(alloc, core, entry, calls, errors, trace, keep, goes_on) {
+    match show(
+        alloc, shown, core, entry, calls, errors, trace, keep, goes_on,
+    ) {
         Ok(()) => None,
         Err(fault) => Some(fault),
     }

@@ -1,5 +1,5 @@
 use Rattle.std.proofs.Common.{◌∙◌}
-use Rattle.std.proofs.lemmas.Result.{IfOk-weaker}
+use Rattle.std.proofs.lemmas.Result.{on_ok_weaker}
 use Rattle.ha_model.specs.Texts.{call_text_of}
 use Rattle.bus_turn.proofs.CallLemmas.{called-here}
 use Rattle.bus_turn.proofs.write.write_called.Goals as goal
@@ -7,6 +7,6 @@ use Rattle.bus_turn.proofs.write.write_called.Goals as goal
 pub returns : goal.returns
 returns g c = λ before is.
     c.write_line.ensures (call_text_of (g.C.Core.runs c.args.core.now) before c.args.entry.now)
-    (IfOk-weaker c.line_of_step-line.result _ _
-    (called-here (g.C.Core.entries c.args.core.now) before c.args.entry.now (g.C.Core.runs c.args.core.now) c.records.result.now c.as_slice-automations.result.now c.records.ensures.right is c.records.ensures.value (c.as_slice-automations.ensures ∙ c.config.ensures))
-    c.line_of_step-line.ensures)
+    (on_ok_weaker c.line_of_step-made.result
+    (called-here (g.C.Core.entries c.args.core.now) before c.args.entry.now (g.C.Core.runs c.args.core.now) c.records.result.now c.as_slice-automations.result.now c.records.ensures.right is c.records.ensures.value (c.as_slice-automations.ensures ∙ c.config.ensures) _)
+    c.line_of_step-made.ensures)
