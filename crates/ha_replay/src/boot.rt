@@ -10,7 +10,7 @@ use crate::stored::{are_stored, moment_under, stored_under, text_under, under};
 use flow_line::{FlowFault, read_value};
 use ha_clock::{ClockFault, Moment, Zone};
 use ha_model::{Config, Entry};
-use ha_texts::trace_line;
+use ha_texts::{empty_line, trace_line};
 use ha_value::{Many, Plain, Value, Word};
 use std::alloc::{AllocError, Global};
 
@@ -108,7 +108,8 @@ fn is_line_of(alloc: Global, parts: &Parts, line: &[u8]) -> Result<bool, AllocEr
     let Some(entry) = entries.first() else {
         return Ok(false);
     };
-    let shown = trace_line(alloc, entry, &config)?;
+    let mut shown = empty_line(alloc)?;
+    trace_line(alloc, &mut shown, entry, &config)?;
     Ok(is_same(shown.bytes(), line))
 }
 

@@ -19,7 +19,7 @@ use crate::same::is_same;
 use crate::worker::worker_of;
 use flow_printed::{PrintedLine, read_line};
 use ha_model::{Core, CoreFault, Entry};
-use ha_texts::trace_line;
+use ha_texts::{empty_line, trace_line};
 use std::alloc::{AllocError, Global};
 
 /// The entries that a journal may have.
@@ -120,7 +120,8 @@ fn is_last<C: Core>(alloc: Global, core: &C, line: &[u8]) -> Result<bool, AllocE
     let Some(entry) = core.journal().last() else {
         return Ok(false);
     };
-    let shown = trace_line(alloc, entry, core.config())?;
+    let mut shown = empty_line(alloc)?;
+    trace_line(alloc, &mut shown, entry, core.config())?;
     Ok(is_same(shown.bytes(), line))
 }
 

@@ -21,7 +21,7 @@ use crate::front::FrontEnd;
 use bus_turn::{BusFault, write_call, write_error};
 use ha_boot::Boots;
 use ha_io::Sink;
-use ha_model::Core;
+use ha_model::{Core, Word};
 use ha_replay::{TraceFault, replay_line};
 use ha_status::Status;
 use std::alloc::Global;
@@ -39,6 +39,8 @@ struct Replay<E: Boots> {
     ended: bool,
     /// How many lines were taken.
     lines: u32,
+    /// The line of a call or an error that was written last. The next one is made in its place.
+    shown: Word,
 }
 
 /// What a fault at the line behind these comes to.
@@ -69,6 +71,7 @@ fn unwritten(fault: BusFault) -> Status
 /// Writes the call line and the error line of the last entry.
 fn write_last<C: Core, K: Sink>(
     alloc: Global,
+    shown: &mut Word,
     core: &C,
     out: &mut K,
     err: &mut K,
@@ -80,16 +83,17 @@ fn write_last<C: Core, K: Sink>(
     let Some(entry) = core.journal().last() else {
         return Ok(());
     };
-    match write_call(alloc, core, entry, out) {
+    match write_call(alloc, shown, core, entry, out) {
         Ok(()) => {}
         Err(fault) => return Err(fault),
     }
-    write_error(alloc, entry, err)
+    write_error(alloc, shown, entry, err)
 }
 
 /// Takes a whole line as the next entry, and writes what that gives; or as the end of the trace, and gives true.
 fn take_line<C: Core, K: Sink>(
     alloc: Global,
+    shown: &mut Word,
     core: &mut C,
     line: &[u8],
     closing: &mut bool,
@@ -111,7 +115,7 @@ fn take_line<C: Core, K: Sink>(
 {
     match replay_line(alloc, core, line, closing) {
         Ok(true) => Ok(true),
-        Ok(false) => match write_last(alloc, core, out, err) {
+        Ok(false) => match write_last(alloc, shown, core, out, err) {
             Ok(()) => Ok(false),
             Err(fault) => Err(unwritten(fault)),
         },
@@ -145,6 +149,7 @@ impl<E: Boots> Replay<E> {
         }
         match take_line(
             alloc,
+            &mut self.shown,
             &mut self.core,
             line,
             &mut self.closing,
@@ -246,6 +251,7 @@ pub(crate) fn judge<E: Boots, K: Sink>(
         closing: false,
         ended: false,
         lines: 1,
+        shown: Word::new(alloc),
     };
     replay.judge_lines(alloc, first.behind, end, out, err)
 }

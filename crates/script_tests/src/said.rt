@@ -3,7 +3,7 @@ ghost use Rattle.std.specs.Prelude.{◌≡◌, true};
 ghost use Rattle.ha_model.specs.Entries as lem;
 
 use ha_model::{Branch, Item, Word};
-use ha_texts::call_line;
+use ha_texts::{call_line, empty_line};
 use std::alloc::{AllocError, Global};
 
 /// The call line of an item, from a short form: a service, perhaps with its data behind it; or what stands behind the number of the call.
@@ -35,7 +35,8 @@ fn is_call(alloc: Global, item: &Item, said: &str) -> Result<bool, AllocError>
     let mut wanted = String::new(alloc);
     push_call(&mut wanted, said)?;
     let name = Word::from_str(alloc, "a")?;
-    let line = call_line(alloc, &name, 1, 1, item)?;
+    let mut line = empty_line(alloc)?;
+    call_line(alloc, &mut line, &name, 1, 1, item)?;
     Ok(line.as_str() == wanted.as_str())
 }
 
