@@ -8,6 +8,7 @@ use crate::cut::cut_line;
 use crate::digits::{read_u32, read_u64};
 use crate::printed::read_printed;
 use ha_model::Cmd;
+use ha_value::Word;
 use std::alloc::{AllocError, Global};
 
 /// A source's line: its number among the lines of that source, from 0, and the command that was put for it.
@@ -19,24 +20,28 @@ pub struct PrintedLine {
 }
 
 /// The line that the text is the print of, without the end of the line. Its command is fair but for whether the automation is
-/// there that it names.
-pub fn read_line(alloc: Global, text: &[u8]) -> Result<Option<PrintedLine>, AllocError>
+/// there that it names. `shown` is written over: prints are made in it.
+pub fn read_line(
+    alloc: Global,
+    text: &[u8],
+    shown: &mut Word,
+) -> Result<Option<PrintedLine>, AllocError>
     requires { length text.now < 2 ^ 32 }
     // The text is the print of what is read.
     ensures found { IfOk result (λ made. IfSome made (IsPrintOfLine text.now)) }
     // The line that the text is the print of is read, unless memory runs out.
     ensures only { (l : PrintedLine) → l.source < 2 ^ 32 → l.number < 2 ^ 64 → IsPrintOfLine text.now l → IfOk result (λ made. made ≡ Some l) }
 {
-    let Some((source, number, shown)) = cut_line(text) else {
+    let Some((source, number, cmd)) = cut_line(text) else {
         return Ok(None);
     };
-    let Some(source) = read_u32(alloc, source)? else {
+    let Some(source) = read_u32(source) else {
         return Ok(None);
     };
-    let Some(number) = read_u64(alloc, number)? else {
+    let Some(number) = read_u64(number) else {
         return Ok(None);
     };
-    match read_printed(alloc, shown) {
+    match read_printed(alloc, cmd, shown) {
         Ok(Some(cmd)) => Ok(Some(PrintedLine {
             source,
             number,

@@ -29,23 +29,28 @@ fn map_of(alloc: Global, text: &[u8]) -> Result<Pairs, Unread>
     }
 }
 
-/// Whether the text is the print of the map.
-fn shows(alloc: Global, pairs: &[(Word, Value)], text: &[u8]) -> Result<bool, AllocError>
-    ensures { IfOk result (λ shown. shown ≡ same (print_pairs pairs.now) text.now) }
+/// Whether the text is the print of the map, which is made in `shown`.
+fn shows(
+    alloc: Global,
+    pairs: &[(Word, Value)],
+    text: &[u8],
+    shown: &mut Word,
+) -> Result<bool, AllocError>
+    ensures { IfOk result (λ same_text. same_text ≡ same (print_pairs pairs.now) text.now) }
 {
-    let mut shown = Word::with_room(alloc, text.len())?;
-    push_pairs(alloc, &mut shown, pairs)?;
+    shown.clear();
+    push_pairs(alloc, shown, pairs)?;
     Ok(shown.bytes() == text)
 }
 
 /// The map that the text is the print of.
 #[tactic(auto, unfolding(crate::specs::Map::printed_map))]
-fn printed_map(alloc: Global, text: &[u8]) -> Result<Pairs, Unread>
+fn printed_map(alloc: Global, text: &[u8], shown: &mut Word) -> Result<Pairs, Unread>
     requires { length text.now < 2 ^ 32 }
     ensures { Says (printed_map text.now) result }
 {
     let pairs = map_of(alloc, text)?;
-    if shows(alloc, pairs.as_slice(), text)? {
+    if shows(alloc, pairs.as_slice(), text, shown)? {
         Ok(pairs)
     } else {
         Err(Stop::Fault(NoCommand))
@@ -53,25 +58,25 @@ fn printed_map(alloc: Global, text: &[u8]) -> Result<Pairs, Unread>
 }
 
 #[tactic(auto, unfolding(crate::specs::Map::printed_cmd))]
-fn printed_command(alloc: Global, text: &[u8]) -> Result<Cmd, Unread>
+fn printed_command(alloc: Global, text: &[u8], shown: &mut Word) -> Result<Cmd, Unread>
     requires { length text.now < 2 ^ 32 }
     ensures exact { Says (printed_cmd text.now) result }
     ensures in_time { IfOk result IsInTime }
 {
-    let mut pairs = printed_map(alloc, text)?;
+    let mut pairs = printed_map(alloc, text, shown)?;
     command_of(alloc, &mut pairs)
 }
 
 /// The command that the text is the print of, where the command is fair but for whether the automation is there that it names.
-/// The text may be longer than a source's line.
-pub fn read_printed(alloc: Global, text: &[u8]) -> Result<Option<Cmd>, AllocError>
+/// The text may be longer than a source's line. `shown` is written over: prints are made in it.
+pub fn read_printed(alloc: Global, text: &[u8], shown: &mut Word) -> Result<Option<Cmd>, AllocError>
     requires { length text.now < 2 ^ 32 }
     // The text is the print of what is read.
     ensures found { IfOk result (λ made. IfSome made (IsPrintOf text.now)) }
     // The command that the text is the print of is read, unless memory runs out.
     ensures only { (c : Cmd) → IsPrintOf text.now c → IfOk result (λ made. made ≡ Some c) }
 {
-    match printed_command(alloc, text) {
+    match printed_command(alloc, text, shown) {
         Ok(made) => Ok(Some(made)),
         Err(Stop::Memory) => Err(AllocError),
         Err(Stop::Fault(_)) => Ok(None),

@@ -52,6 +52,12 @@ end-answer j rs line shown r quiet is e = (
   (λ end. (same-iff r line shown e).1 (same-line line (codes "{\"end\":" ++ (decimal (length j) ++ 125 ∷ [])) end.line_is ∙ sym is)),
 )
 
+-- a line that begins otherwise is no end line
+pub no-end : (j : Journal) (rs : Records) (line : Text) (r : Bool) → ((rest : Text) → line ≡ codes "{\"end\":" ++ rest → r ≡ true) → r ≡ false → IsEnd j rs line → ⊥
+no-end j rs line r begins e end =
+    let text : Text = decimal (length j) ++ 125 ∷ [] in
+    absurd (let same = sym e ∙ begins text (same-line line (codes "{\"end\":" ++ text) end.line_is) in cc)
+
 -- a list of automations has one of that name
 pub named-from : (n : ℕ) (all : List Automation) (name : Text)
     → is_some (option_map (λ p. p.0) (find (λ (p : ℕ × Automation). same p.1.name name) (enumerate_from n all))) ≡ list_any (λ a. same a.name name) all

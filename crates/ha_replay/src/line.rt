@@ -2,7 +2,7 @@
 //!
 //! A line of a source gives the command that is put. Of a step the line names the worker alone: the core makes the step, and the line is
 //! compared with the one that is printed of it.
-ghost use Rattle.std.specs.Prelude.{◌≡◌, ◌≢◌, ◌<◌, ◌^◌, ◌-◌, ◌++◌, ◌||◌, ◌↔◌, ℕ, codes, false, length, slice_get, IfOk, IfSome, OnErr, OnOk, IsTrue};
+ghost use Rattle.std.specs.Prelude.{◌≡◌, ◌≢◌, ◌<◌, ◌^◌, ◌-◌, ◌++◌, ◌||◌, ◌↔◌, ℕ, codes, false, true, length, slice_get, IfOk, IfSome, OnErr, OnOk, IsTrue};
 ghost use Rattle.ha_model.specs.Words.{Text};
 ghost use Rattle.ha_model.specs.Journal.{Journal, automations};
 ghost use Rattle.ha_model.specs.RecordSteps.{more};
@@ -18,18 +18,31 @@ use crate::last::{is_named, next_number};
 use crate::same::is_same;
 use crate::worker::worker_of;
 use flow_printed::{PrintedLine, read_line};
-use ha_model::{Core, CoreFault, Entry};
-use ha_texts::{empty_line, trace_line};
+use ha_model::{Core, CoreFault, Entry, Word};
+use ha_texts::trace_line;
 use std::alloc::{AllocError, Global};
 
 /// The entries that a journal may have.
 const MOST_ENTRIES: usize = 1_048_576;
 
-/// Whether the line is the end line of the journal, which is quiet.
+/// What stands before the count in an end line.
+const END: &[u8] = b"{\"end\":";
+
+/// Whether the line begins as an end line does.
+fn may_end(line: &[u8]) -> bool
+    ensures { (rest : Text) → line.now ≡ codes "{\"end\":" ++ rest → result ≡ true }
+{
+    line.starts_with(END)
+}
+
+/// Whether the line is the end line of the journal, which is quiet. One is printed only where the line begins as one.
 fn is_end<C: Core>(alloc: Global, core: &C, line: &[u8]) -> Result<bool, AllocError>
     requires usable { C.is_spent core.now ≡ false }
     ensures { IfOk result (λ found. IsTrue found ↔ IsEnd (C.entries core.now) (C.runs core.now) line.now) }
 {
+    if !may_end(line) {
+        return Ok(false);
+    }
     if !core.quiet() {
         return Ok(false);
     }
@@ -111,8 +124,13 @@ fn closes<C: Core>(core: &C, worker: u32, closing: bool) -> bool
     closing || core.rested(worker)
 }
 
-/// Whether the line is that of the last entry.
-fn is_last<C: Core>(alloc: Global, core: &C, line: &[u8]) -> Result<bool, AllocError>
+/// Whether the line is that of the last entry, which is made in `shown`.
+fn is_last<C: Core>(
+    alloc: Global,
+    shown: &mut Word,
+    core: &C,
+    line: &[u8],
+) -> Result<bool, AllocError>
     requires dated { IfSome (slice_get (C.entries core.now) (length (C.entries core.now) - 1)) AreDated }
     ensures { (j : Journal) (x : Entry) → C.entries core.now ≡ more j x
         → IfOk result (λ same. IsTrue same ↔ (as_line line.now ≡ trace_line_lem (automations (more j x)) x)) }
@@ -120,14 +138,14 @@ fn is_last<C: Core>(alloc: Global, core: &C, line: &[u8]) -> Result<bool, AllocE
     let Some(entry) = core.journal().last() else {
         return Ok(false);
     };
-    let mut shown = empty_line(alloc)?;
-    trace_line(alloc, &mut shown, entry, core.config())?;
+    trace_line(alloc, shown, entry, core.config())?;
     Ok(is_same(shown.bytes(), line))
 }
 
 /// Puts a step of the worker, where it may step, and compares the line with the one of that step.
 fn put_worker<C: Core>(
     alloc: Global,
+    shown: &mut Word,
     core: &mut C,
     worker: u32,
     line: &[u8],
@@ -151,7 +169,7 @@ fn put_worker<C: Core>(
         Ok(()) => {}
         Err(fault) => return Err(unput(fault)),
     }
-    match is_last(alloc, core, line) {
+    match is_last(alloc, shown, core, line) {
         Ok(true) => {
             *closing = closed;
             Ok(false)
@@ -163,9 +181,11 @@ fn put_worker<C: Core>(
 
 /// Takes a line, without its LF, as the next lawful entry, and gives false, or as the lawful end of the journal, and gives true. Refused
 /// and Full come exactly where it is neither, Full where the journal has 1,048,576 entries. After any fault the core may only be let go:
-/// it may have the step that the line was compared with. `closing` tells whether the journal has a closing step.
+/// it may have the step that the line was compared with. `closing` tells whether the journal has a closing step. `shown` is written over:
+/// what is compared with the line is printed in it.
 pub fn replay_line<C: Core>(
     alloc: Global,
+    shown: &mut Word,
     core: &mut C,
     line: &[u8],
     closing: &mut bool,
@@ -186,9 +206,9 @@ pub fn replay_line<C: Core>(
         return Err(TraceFault::Full);
     }
     if let Some(worker) = worker_of(line) {
-        return put_worker(alloc, core, worker, line, closing);
+        return put_worker(alloc, shown, core, worker, line, closing);
     }
-    match read_line(alloc, line) {
+    match read_line(alloc, line, shown) {
         Ok(Some(read)) => put_source(core, read, *closing),
         Ok(None) => Err(TraceFault::Refused),
         Err(_) => Err(TraceFault::Memory),

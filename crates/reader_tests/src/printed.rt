@@ -1,6 +1,7 @@
 //! Printed commands, and lines of a trace: each is read of exactly its bytes.
 use flow_printed::{read_line, read_printed};
 use ha_model::Cmd;
+use ha_value::Word;
 use std::alloc::{AllocError, Global};
 
 fn kind(cmd: &Cmd) -> &'static str {
@@ -23,7 +24,8 @@ fn is_print(alloc: Global, text: &[u8], wanted: &str) -> bool {
     if text.len() > 100_000 {
         return false;
     }
-    match read_printed(alloc, text) {
+    let mut shown = Word::new(alloc);
+    match read_printed(alloc, text, &mut shown) {
         Ok(Some(cmd)) => kind(&cmd) == wanted,
         Ok(None) => wanted == "none",
         Err(_) => false,
@@ -141,7 +143,8 @@ fn is_line(alloc: Global, text: &str, source: u32, number: u64, wanted: &str) ->
     if text.len() > 1000 {
         return false;
     }
-    match read_line(alloc, text.as_bytes()) {
+    let mut shown = Word::new(alloc);
+    match read_line(alloc, text.as_bytes(), &mut shown) {
         Ok(Some(line)) => {
             line.source == source && line.number == number && kind(&line.cmd) == wanted
         }
@@ -171,8 +174,9 @@ fn a_line_is_read_with_its_numbers(rt: HostRuntime) {
 
 /// Whether none of the texts is a line.
 fn are_no_lines(alloc: Global, texts: &[&str]) -> bool {
+    let mut shown = Word::new(alloc);
     for text in texts {
-        if text.len() > 1000 || !matches!(read_line(alloc, text.as_bytes()), Ok(None)) {
+        if text.len() > 1000 || !matches!(read_line(alloc, text.as_bytes(), &mut shown), Ok(None)) {
             return false;
         }
     }

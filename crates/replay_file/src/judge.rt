@@ -39,7 +39,7 @@ struct Replay<E: Boots> {
     ended: bool,
     /// How many lines were taken.
     lines: u32,
-    /// The line of a call or an error that was written last. The next one is made in its place.
+    /// What was printed last. The next print is made in its place.
     shown: Word,
 }
 
@@ -113,7 +113,7 @@ fn take_line<C: Core, K: Sink>(
     ensures out_counts { NeverFall (K.faults out.old) (K.faults out.new) (K.zeros out.old) (K.zeros out.new) }
     ensures err_counts { NeverFall (K.faults err.old) (K.faults err.new) (K.zeros err.old) (K.zeros err.new) }
 {
-    match replay_line(alloc, core, line, closing) {
+    match replay_line(alloc, shown, core, line, closing) {
         Ok(true) => Ok(true),
         Ok(false) => match write_last(alloc, shown, core, out, err) {
             Ok(()) => Ok(false),
