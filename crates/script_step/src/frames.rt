@@ -9,7 +9,7 @@ use crate::gates::{due_at, may_step};
 use crate::listing::add_ready;
 use crate::scopes::Scopes;
 use crate::sides::end_of;
-use crate::step::step;
+use crate::step::step_here;
 use crate::strand::{End, Stage, Strand};
 use crate::thread::Thread;
 use ha_model::{Action, Answers, Branch, Ended, Env, Many, Moment, Progress, StepOut, WaitEnd};
@@ -56,16 +56,6 @@ fn root_of(alloc: Global, actions: &Many<Action>, env: &Env) -> Result<Strand, A
             thread,
             stage: Stage::Ready,
         })
-    }
-}
-
-/// What stands in the place of a strand that is at work.
-fn spent(alloc: Global) -> Strand
-    ensures { (list : List Action) → is_settled list result ≡ true }
-{
-    Strand {
-        thread: Thread::start(alloc, Scopes::none(alloc)),
-        stage: Stage::Ended(End::Done),
     }
 }
 
@@ -145,19 +135,24 @@ impl Frames {
         ensures script { self.new.script.value ≡ self.old.script.value }
     {
         let now = answers.now();
-        let root = std::mem::replace(&mut self.root, spent(alloc));
-        let (root, item) = step(alloc, root, actions, branch.as_slice(), wait, answers)?;
+        let item = step_here(
+            alloc,
+            &mut self.root,
+            actions,
+            branch.as_slice(),
+            wait,
+            answers,
+        )?;
         let ask = asked(
             alloc,
-            &root,
+            &self.root,
             actions,
             branch.as_slice(),
             self.serial,
             branch,
             now,
         )?;
-        let progress = progress(&root);
-        self.root = root;
+        let progress = progress(&self.root);
         Ok(StepOut {
             item,
             progress,

@@ -1,9 +1,11 @@
 //! One step of a strand, in one of its branches.
-ghost use Rattle.std.specs.Prelude.{◌≡◌, ◌≤◌, ◌⊎◌, ℕ, ◌&&◌, ◌∷◌, [], ◌++◌, List, Some, true, false, IfOk, length, map, is_some, slice_get, slice_set, unwrap_or};
+ghost use Rattle.std.specs.Prelude.{◌≡◌, ◌≤◌, ◌⊎◌, ℕ, ◌&&◌, ◌∷◌, [], ◌++◌, List, Option, Some, true, false, IfOk, length, map, is_some, slice_get, slice_set, unwrap_or};
 ghost use Rattle.std.specs.Option.{option_map_or};
 ghost use Rattle.ha_value.specs.declared.value.Value.{Value};
 ghost use Rattle.ha_clock.specs.Local.{last_moment};
+ghost use Rattle.ha_model.specs.declared.config.Action.{Action};
 ghost use Rattle.ha_model.specs.declared.journal.Item.{Item};
+ghost use Rattle.ha_model.specs.declared.journal.WaitEnd.{WaitEnd};
 ghost use Rattle.ha_model.specs.Scripts.{Branch, Spot, add_inside, wait_value};
 ghost use Rattle.script_step.specs.declared.strand.Strand.{Strand};
 ghost use Rattle.script_step.specs.Continuation.{Began, continuation, has_next, last_action, lists_of, may_go_on, may_side, may_step, nth_list, placed, thread_next};
@@ -15,6 +17,7 @@ ghost use Rattle.script_step.specs.Told.{Tells};
 use crate::act::act;
 use crate::next::next_turn;
 use crate::parts::{before, list_in, lists_in};
+use crate::scopes::Scopes;
 use crate::sides::finished;
 use crate::strand::{End, Stage, Strand};
 use crate::thread::Thread;
@@ -52,6 +55,17 @@ fn behind(thread: Thread, list: &[Action], stage: Stage) -> Strand
     let mut thread = thread;
     let stage = finished(&mut thread, list, stage);
     Strand { thread, stage }
+}
+
+/// The same where the strand stands.
+fn settle_behind(strand: &mut Strand, list: &[Action], stage: Stage)
+    ensures means { (b : Branch) (began : Began) (ps : List Spot) → thread_on list.now strand.old.thread stage b began ps ≡ continuation strand.new list.now b began ps }
+    ensures settled { is_whole stage list.now strand.old.thread ≡ true → is_settled list.now strand.new ≡ true }
+    ensures told { (began : Began) (c : Branch) (g : Gate) → gate_at c (fronts strand.new list.now began) ≡ Some g
+        → (g ≡ Gate.Free) ⊎ (gate_at c (fronts_on stage list.now strand.old.thread began) ≡ Some g) }
+{
+    let stage = finished(&mut strand.thread, list, stage);
+    strand.stage = stage;
 }
 
 /// The list of a parallel block that is a thread's last action.
@@ -206,5 +220,107 @@ pub fn step<A: Answers>(
             Ok((behind(thread, list, Stage::Sides(strands)), item))
         }
         Stage::Ended(_) => unreachable!(),
+    }
+}
+
+/// What stands in the place of a strand that is at work.
+fn spent(alloc: Global) -> Strand
+    ensures { (list : List Action) → is_settled list result ≡ true }
+{
+    Strand {
+        thread: Thread::start(alloc, Scopes::none(alloc)),
+        stage: Stage::Ended(End::Done),
+    }
+}
+
+/// Whether a strand goes on with its next action, or with the place behind a turn.
+fn is_ready(strand: &Strand) -> bool
+    ensures { result ≡ true → strand.now.stage ≡ Stage.Ready }
+{
+    match &strand.stage {
+        Stage::Ready => true,
+        _ => false,
+    }
+}
+
+/// A strand that failed at its step is spent.
+#[inline(never)]
+fn give_up(alloc: Global, strand: &mut Strand)
+    ensures { (list : List Action) → is_settled list strand.new ≡ true }
+{
+    *strand = spent(alloc);
+}
+
+/// The step of a strand that is ready, which is not moved for it.
+fn step_ready<A: Answers>(
+    alloc: Global,
+    strand: &mut Strand,
+    list: &[Action],
+    answers: &A,
+) -> Result<Item, AllocError>
+    requires next { has_next list.now strand.old.thread ≡ true }
+    requires moment { (A.sight answers.now).now ≤ last_moment }
+    ensures settled { is_settled list.now strand.new ≡ true }
+    ensures told { IfOk result (λ item. (path : Branch) (began : Began) (n : ℕ) (c : Branch) (g : Gate) → path ≡ []
+        → gate_at c (fronts strand.new list.now (placed path n began)) ≡ Some g → Tells path (fronts strand.old list.now began) c g) }
+    ensures step { IfOk result (λ item. (path : Branch) (end : Option WaitEnd) → strand.old.stage ≡ Stage.Ready → path ≡ []
+        → IsStep (A.sight answers.now) list.now path end strand.old item strand.new) }
+{
+    match advance(alloc, &mut strand.thread, list, answers) {
+        Ok(done) => {
+            let (item, stage) = done;
+            settle_behind(strand, list, stage);
+            Ok(item)
+        }
+        Err(error) => {
+            give_up(alloc, strand);
+            Err(error)
+        }
+    }
+}
+
+/// The step of any other strand, which is moved. After an error it is spent.
+#[inline(never)]
+fn step_moved<A: Answers>(
+    alloc: Global,
+    strand: &mut Strand,
+    list: &[Action],
+    path: &[u32],
+    end: Option<WaitEnd>,
+    answers: &A,
+) -> Result<Item, AllocError>
+    requires may { may_step strand.old list.now path.now (A.sight answers.now).now end ≡ true }
+    requires moment { (A.sight answers.now).now ≤ last_moment }
+    ensures settled { is_settled list.now strand.old ≡ true → is_settled list.now strand.new ≡ true }
+    ensures told { IfOk result (λ item. (began : Began) (n : ℕ) (c : Branch) (g : Gate)
+        → gate_at c (fronts strand.new list.now (placed path.now n began)) ≡ Some g → Tells path.now (fronts strand.old list.now began) c g) }
+    ensures step { IfOk result (λ item. IsStep (A.sight answers.now) list.now path.now end strand.old item strand.new) }
+{
+    let whole = std::mem::replace(strand, spent(alloc));
+    let (made, item) = step(alloc, whole, list, path, end, answers)?;
+    *strand = made;
+    Ok(item)
+}
+
+/// The same step where the strand stands. After an error it is spent.
+pub fn step_here<A: Answers>(
+    alloc: Global,
+    strand: &mut Strand,
+    list: &[Action],
+    path: &[u32],
+    end: Option<WaitEnd>,
+    answers: &A,
+) -> Result<Item, AllocError>
+    requires may { may_step strand.old list.now path.now (A.sight answers.now).now end ≡ true }
+    requires moment { (A.sight answers.now).now ≤ last_moment }
+    ensures settled { is_settled list.now strand.old ≡ true → is_settled list.now strand.new ≡ true }
+    ensures told { IfOk result (λ item. (began : Began) (n : ℕ) (c : Branch) (g : Gate)
+        → gate_at c (fronts strand.new list.now (placed path.now n began)) ≡ Some g → Tells path.now (fronts strand.old list.now began) c g) }
+    ensures step { IfOk result (λ item. IsStep (A.sight answers.now) list.now path.now end strand.old item strand.new) }
+{
+    if is_ready(strand) {
+        step_ready(alloc, strand, list, answers)
+    } else {
+        step_moved(alloc, strand, list, path, end, answers)
     }
 }
