@@ -52,7 +52,7 @@ id_is text e h = from (before_first 46 text) (after_first 46 text) (λ o k. join
       | inr c ↦ absurd (let m = c.1 in cc)
     ]
 
-reported : (text : Text) (e : EntityId) → reportable (read_entity text) ≡ Some e → (text ≡ entity_text e) × IsReportable e
+pub reported : (text : Text) (e : EntityId) → reportable (read_entity text) ≡ Some e → (text ≡ entity_text e) × IsReportable e
 reported text e h =
     (elim (read_entity text) as (λ o. read_entity text ≡ o → reportable o ≡ Some e → (text ≡ entity_text e) × IsReportable e) [
       | None ↦ λ r k. absurd cc
@@ -82,7 +82,7 @@ named text name h =
 
 -- ---- states, words, moments and codes
 
-short : (text state : Text) → short_state text ≡ Some state → (text ≡ state) × (characters state ≤ 255)
+pub short : (text state : Text) → short_state text ≡ Some state → (text ≡ state) × (characters state ≤ 255)
 short text state e = elim (chosen (nat_le (characters text) 255) (Some text) None (Some state) e) [
   | inl c ↦ let is = some_is text state c.1 in (is, subst (λ (t : Text). characters t ≤ 255) is (leb-true (characters text) 255 c.0))
   | inr c ↦ absurd (let m = c.1 in cc)

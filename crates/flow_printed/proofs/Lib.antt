@@ -7,3 +7,4 @@ pub mod Lines
 pub mod PrintedLines
 pub mod Read
 pub mod Texts
+pub mod PlainReports

@@ -20,7 +20,7 @@ use Rattle.flow_printed.proofs.Found.{joined_at}
 
 -- ---- one step
 
-behind_is : (front text rest : Text) → behind front text ≡ Some rest → text ≡ front ++ rest
+pub behind_is : (front text rest : Text) → behind front text ≡ Some rest → text ≡ front ++ rest
 behind_is front text rest e = elim (chosen (same (take (length front) text) front) (Some (drop (length front) text)) None (Some rest) e) [
   | inl h ↦
       sym (take-append-drop (length front) text) ∙ ap (λ (t : Text). t ++ drop (length front) text) ((bytes_eq-Decides (take (length front) text) front).0 h.0)
@@ -28,7 +28,7 @@ behind_is front text rest e = elim (chosen (same (take (length front) text) fron
   | inr h ↦ absurd (let k = h.1 in cc)
 ]
 
-before_is : (last text front : Text) → before last text ≡ Some front → text ≡ front ++ last
+pub before_is : (last text front : Text) → before last text ≡ Some front → text ≡ front ++ last
 before_is last text front e = elim (chosen (same (drop (length text - length last) text) last) (Some (take (length text - length last) text)) None (Some front) e) [
   | inl h ↦
       sym (take-append-drop (length text - length last) text) ∙ ap (λ (t : Text). take (length text - length last) text ++ t) ((bytes_eq-Decides (drop (length text - length last) text) last).0 h.0)

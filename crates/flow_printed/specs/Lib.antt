@@ -1,3 +1,4 @@
 pub mod Printed
 pub mod Map
 pub mod Line
+pub mod Plain

@@ -4,14 +4,14 @@ ghost use Rattle.std.specs.Prelude.{◌≡◌, Some, None, MatchOption};
 ghost use Rattle.flow_printed.specs.Line.{before, behind, cut_at_comma, cut_line};
 
 /// What stands behind a fixed front.
-fn behind<'a>(front: &[u8], text: &'a [u8]) -> Option<&'a [u8]>
+pub fn behind<'a>(front: &[u8], text: &'a [u8]) -> Option<&'a [u8]>
     ensures { MatchOption result (behind front.now text.now ≡ None) (λ rest. behind front.now text.now ≡ Some rest.now) }
 {
     text.strip_prefix(front)
 }
 
 /// What stands before a fixed end.
-fn before<'a>(last: &[u8], text: &'a [u8]) -> Option<&'a [u8]>
+pub fn before<'a>(last: &[u8], text: &'a [u8]) -> Option<&'a [u8]>
     ensures { MatchOption result (before last.now text.now ≡ None) (λ front. before last.now text.now ≡ Some front.now) }
 {
     text.strip_suffix(last)

@@ -17,15 +17,22 @@ use std::alloc::{AllocError, Global};
 /// A state may have this many characters.
 const STATE_CHARACTERS: usize = 255;
 
-/// The entity id that a text is.
-pub fn entity_of(alloc: Global, text: &Word) -> Result<Option<EntityId>, AllocError>
+/// The entity id that the bytes are.
+pub fn id_of(alloc: Global, text: &[u8]) -> Result<Option<EntityId>, AllocError>
     ensures { IfOk result (λ id. id ≡ read_entity text.now) }
 {
-    match EntityId::read(alloc, text.bytes()) {
+    match EntityId::read(alloc, text) {
         Ok(id) => Ok(Some(id)),
         Err(EntityFault::Shape) => Ok(None),
         Err(EntityFault::Memory) => Err(AllocError),
     }
+}
+
+/// The entity id that a text is.
+pub fn entity_of(alloc: Global, text: &Word) -> Result<Option<EntityId>, AllocError>
+    ensures { IfOk result (λ id. id ≡ read_entity text.now) }
+{
+    id_of(alloc, text.bytes())
 }
 
 fn is_automation(id: &EntityId) -> bool

@@ -11,6 +11,7 @@ ghost use Rattle.flow_printed.specs.Printed.{IsPrintOf};
 
 use crate::command::command_of;
 use crate::fields::{NoCommand, Pairs, Unread};
+use crate::plain::read_plain;
 use flow_line::{FlowFault, push_pairs, read_value};
 use ha_model::Cmd;
 use ha_value::{Value, Word};
@@ -67,6 +68,19 @@ fn printed_command(alloc: Global, text: &[u8], shown: &mut Word) -> Result<Cmd, 
     command_of(alloc, &mut pairs)
 }
 
+/// The command that the text is the print of, as below, read by way of its map.
+fn read_by_map(alloc: Global, text: &[u8], shown: &mut Word) -> Result<Option<Cmd>, AllocError>
+    requires { length text.now < 2 ^ 32 }
+    ensures found { IfOk result (λ made. IfSome made (IsPrintOf text.now)) }
+    ensures only { (c : Cmd) → IsPrintOf text.now c → IfOk result (λ made. made ≡ Some c) }
+{
+    match printed_command(alloc, text, shown) {
+        Ok(made) => Ok(Some(made)),
+        Err(Stop::Memory) => Err(AllocError),
+        Err(Stop::Fault(_)) => Ok(None),
+    }
+}
+
 /// The command that the text is the print of, where the command is fair but for whether the automation is there that it names.
 /// The text may be longer than a source's line. `shown` is written over: prints are made in it.
 pub fn read_printed(alloc: Global, text: &[u8], shown: &mut Word) -> Result<Option<Cmd>, AllocError>
@@ -76,9 +90,9 @@ pub fn read_printed(alloc: Global, text: &[u8], shown: &mut Word) -> Result<Opti
     // The command that the text is the print of is read, unless memory runs out.
     ensures only { (c : Cmd) → IsPrintOf text.now c → IfOk result (λ made. made ≡ Some c) }
 {
-    match printed_command(alloc, text, shown) {
-        Ok(made) => Ok(Some(made)),
-        Err(Stop::Memory) => Err(AllocError),
-        Err(Stop::Fault(_)) => Ok(None),
+    match read_plain(alloc, text) {
+        Ok(Some(made)) => Ok(Some(made)),
+        Ok(None) => read_by_map(alloc, text, shown),
+        Err(fault) => Err(fault),
     }
 }

@@ -51,6 +51,14 @@ fn each_kind_is_read_of_its_print(rt: HostRuntime) {
                     "{\"report\":\"light.x\",\"state\":\"on\",\"attributes\":{\"b\":[1,-2.5]}}",
                     "report",
                 ),
+                (
+                    "{\"report\":\"light.x\",\"state\":\"on\",\"attributes\":{}}",
+                    "report",
+                ),
+                (
+                    "{\"report\":\"light.x\",\"state\":\"a\\\"b\",\"attributes\":{}}",
+                    "report",
+                ),
                 ("{\"gone\":\"light.x\"}", "gone"),
                 ("{\"event\":\"a\\nb\",\"data\":{}}", "event"),
                 ("{\"moment\":\"2024-05-01T20:00:01.000Z\"}", "moment"),
@@ -95,6 +103,7 @@ fn no_other_text_is_read(rt: HostRuntime) {
                 "{\"report\":\"light.x\",\"state\":\"on\", \"attributes\":{}}",
                 "{\"report\":\"light.x\",\"state\":\"on\",\"attributes\":{\"b\":2.50}}",
                 "{\"report\":\"light.x\",\"state\":\"on\",\"attributes\":{\"b\":1,\"b\":1}}",
+                "{\"report\":\"light.x\",\"state\":\"a\\u0062\",\"attributes\":{}}",
                 "{\"report\":\"automation.x\",\"state\":\"on\",\"attributes\":{}}",
                 "{\"gone\":\"light.x\",\"state\":\"on\"}",
                 "{\"gone\":\"Light.x\"}",
