@@ -1,11 +1,11 @@
 //! The numbers of owners, by what concerns their triggers.
 ghost use Rattle.std.specs.Prelude.{◌≡◌, ◌&&◌, ◌||◌, ℕ, OnErr, OnOk, false, nat_eq, not, true};
-ghost use Rattle.std.specs.Option.{option_copied, option_map_or};
+ghost use Rattle.std.specs.Option.{option_copied, option_map, option_map_or};
 ghost use Rattle.ha_model.specs.Words.{Text, one_of};
 ghost use Rattle.event_bus.specs.Lists.{has, has_at};
 ghost use Rattle.event_bus.specs.Subjects.{Subject, by_entity, by_entries, by_kinds, by_moments, concerns, knows};
 
-use crate::lists::{Lists, put, put_at, put_for, take, take_at, take_for};
+use crate::lists::{Lists, at_place, put, put_at, put_for, take, take_at, take_for};
 use ha_model::{EntityId, TriggerRule, Word};
 use indexmap::IndexMap;
 use std::alloc::{AllocError, Global};
@@ -188,6 +188,26 @@ impl Index {
         ensures { (n : ℕ) → option_map_or (λ set. has set n) (option_copied result) false ≡ knows self.now (Subject.Entity entity.now) n }
     {
         self.entities.get(entity.text())
+    }
+
+    /// The same, with their place among the lists of all entities.
+    pub fn find_entity(&self, entity: &EntityId) -> Option<(usize, &BTreeSet<u64>)>
+        ensures { (n : ℕ) → option_map_or (λ set. has set n) (option_map (λ found. found.1.now) result) false ≡ knows self.now (Subject.Entity entity.now) n }
+    {
+        match self.entities.get_full(entity.text()) {
+            Some(found) => Some((found.0, found.2)),
+            None => None,
+        }
+    }
+
+    /// The owners that an entity concerns, as above. They are looked for at that place first, and found at once where they stand there.
+    pub fn of_entity_near(&self, entity: &EntityId, place: usize) -> Option<&BTreeSet<u64>>
+        ensures { (n : ℕ) → option_map_or (λ set. has set n) (option_copied result) false ≡ knows self.now (Subject.Entity entity.now) n }
+    {
+        match at_place(&self.entities, place, entity.text()) {
+            Some(listed) => Some(listed),
+            None => self.of_entity(entity),
+        }
     }
 
     /// The owners that an event of a type concerns, in order, if the type is known.

@@ -1,5 +1,6 @@
 //! Numbers by name, each name with those that stand under it, in order.
-ghost use Rattle.std.specs.Prelude.{◌≡◌, ◌&&◌, ◌||◌, ℕ, IfOk, OnErr, OnOk, false, nat_eq, not, string_bytes, true};
+ghost use Rattle.std.specs.Prelude.{◌≡◌, ◌&&◌, ◌||◌, ℕ, IfOk, IfSome, OnErr, OnOk, Some, false, nat_eq, not, string_bytes, true};
+ghost use Rattle.std.specs.HashMap.{get_by_text};
 ghost use Rattle.ha_value.specs.declared.value.EntityId.{EntityId as Entity};
 ghost use Rattle.ha_model.specs.Words.{Text, same, same_entity};
 ghost use Rattle.event_bus.specs.Lists.{has, has_at, has_for};
@@ -64,6 +65,22 @@ pub fn take_at(lists: &mut Lists, name: &str, number: u64)
 {
     if let Some(set) = lists.get_mut(name) {
         take(set, number);
+    }
+}
+
+/// The numbers at a place of the lists, where they stand under this name.
+pub fn at_place<'a>(lists: &'a Lists, place: usize, name: &str) -> Option<&'a BTreeSet<u64>>
+    ensures { IfSome result (λ set. get_by_text lists.now name.now ≡ Some set.now) }
+{
+    match lists.get_index(place) {
+        Some((key, set)) => {
+            if key.as_str() == name {
+                Some(set)
+            } else {
+                None
+            }
+        }
+        None => None,
     }
 }
 
