@@ -42,7 +42,7 @@ fn see_switch(
     let entity = entity_of(alloc, name)?;
     let old = copied(alloc, states.get(&entity))?;
     states.set_switch(alloc, &entity, on, now)?;
-    before.push((entity, old))?;
+    before.push(alloc, (entity, old))?;
     Ok(())
 }
 

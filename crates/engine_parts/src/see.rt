@@ -27,20 +27,12 @@ pub fn copied(alloc: Global, state: Option<&StateObject>) -> Result<Option<State
     }
 }
 
-/// The entity with this state.
-fn one(alloc: Global, entity: &EntityId, state: Option<StateObject>) -> Result<Before, AllocError>
-    ensures { IfOk result (λ before. before ≡ (entity.now, state) ∷ []) }
-{
-    let entity = entity.copy(alloc)?;
-    Ok(Before::one(alloc, (entity, state)))
-}
-
 /// The entity with its state in the table.
 fn listed(alloc: Global, states: &StateTable, entity: &EntityId) -> Result<Before, AllocError>
     ensures { IfOk result (λ before. before ≡ (entity.now, at states.now entity.now) ∷ []) }
 {
     match copied(alloc, states.get(entity)) {
-        Ok(state) => one(alloc, entity, state),
+        Ok(state) => Before::one(alloc, entity, state),
         Err(error) => Err(error),
     }
 }
@@ -61,7 +53,7 @@ pub fn see_report(
         → AreListed j (Line k n (cmd.Cmd.Report entity.now text.now attributes.now)) before) }
 {
     let before = states.report_over(alloc, entity, text, attributes, now)?;
-    let list = one(alloc, entity, before)?;
+    let list = Before::one(alloc, entity, before)?;
     Ok(list)
 }
 

@@ -55,20 +55,22 @@ fn enter_plain(parts: &mut Parts, alloc: Global, cmd: &Cmd) -> Result<Before, Al
     }
 }
 
-/// A line that changes no switch.
+/// A line that changes no switch. Whom the entity of a report concerns is looked for at the place `near` first.
 fn follow_plain(
     alloc: Global,
     journal: &[Entry],
     runs: &mut Runs,
     parts: &mut Parts,
     cmd: &Cmd,
+    near: usize,
 ) -> Result<(), AllocError>
     requires pushed { PushedAs cmd.now journal.now runs.old.list parts.old }
     requires plain { IsPlain cmd.now }
     ensures ok { OnOk result (Right journal.now runs.new.list × Kept journal.now runs.new.list parts.new) }
     ensures err { OnErr result (runs.new.list ≡ runs.old.list) }
 {
-    let before = enter_plain(parts, alloc, cmd)?;
+    let mut before = enter_plain(parts, alloc, cmd)?;
+    before.look_at(near);
     let fired = attend(parts, alloc, journal, before)?;
     conclude(alloc, journal, runs, parts, fired)
 }
@@ -110,10 +112,9 @@ fn follow_report(
     ensures ok { OnOk result (Right journal.now runs.new.list × Kept journal.now runs.new.list parts.new) }
     ensures err { OnErr result (runs.new.list ≡ runs.old.list) }
 {
-    if parts.triggers.leaves(entity) {
-        follow_left(alloc, journal, runs, parts, entity, text, attributes)
-    } else {
-        follow_plain(alloc, journal, runs, parts, cmd)
+    match parts.triggers.asked(entity) {
+        None => follow_left(alloc, journal, runs, parts, entity, text, attributes),
+        Some(near) => follow_plain(alloc, journal, runs, parts, cmd, near),
     }
 }
 
@@ -150,6 +151,6 @@ pub fn follow_line(
             text,
             attributes,
         } => follow_report(alloc, journal, runs, parts, cmd, entity, text, attributes),
-        _ => follow_plain(alloc, journal, runs, parts, cmd),
+        _ => follow_plain(alloc, journal, runs, parts, cmd, usize::MAX),
     }
 }

@@ -20,7 +20,7 @@ abbrev pub face : Option StateObject → Option (Text × Pairs)
 face s = option_map (λ o. (o.text, o.attributes)) s
 
 abbrev pub shifts_in : Shifts → List Shift
-shifts_in (Shifts.One c) = c ∷ []
+shifts_in (Shifts.One b) = b.value ∷ []
 shifts_in (Shifts.Several cs) = cs
 
 abbrev pub shift_of : List Shift → EntityId → Option Shift

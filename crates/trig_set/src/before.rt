@@ -1,16 +1,19 @@
 //! States before an entry. Those of one entity alone, as for most entries, take no list.
-ghost use Rattle.std.specs.Prelude.{◌≡◌, ◌∷◌, ◌++◌, [], OnOk};
+ghost use Rattle.std.specs.Prelude.{◌≡◌, ◌∷◌, ◌++◌, [], IfOk, OnOk};
 
-use ha_model::{EntityId, Many, StateObject};
+use crate::scene::Shift;
+use ha_model::{EntityId, Many, Plain, StateObject};
 use std::alloc::{AllocError, Global};
 use std::marker::Model;
 
 /// Entities with their states before an entry; none where an entity has none.
 #[derive(Drop)]
 pub struct Before {
-    /// The only entity, if there is one; the others don't count then.
-    pub(crate) alone: Option<(EntityId, Option<StateObject>)>,
+    /// The only entity, if there is one; the others don't count then. It stands where the state after the entry is put beside the old one.
+    pub(crate) alone: Option<Box<Shift>>,
     pub(crate) several: Many<(EntityId, Option<StateObject>)>,
+    /// Where the index may have the only entity.
+    near: usize,
 }
 
 impl Model for Before {
@@ -40,6 +43,32 @@ fn put_two(
     Ok(())
 }
 
+/// An entity with its state before the entry, in a box of its own.
+fn boxed(
+    alloc: Global,
+    entity: EntityId,
+    old: Option<StateObject>,
+) -> Result<Box<Shift>, AllocError>
+    ensures entity { IfOk result (λ made. made.value.entity ≡ entity) }
+    ensures old { IfOk result (λ made. made.value.old ≡ old) }
+{
+    let shift = Shift {
+        entity,
+        old,
+        new: None,
+    };
+    let made = Box::new(alloc, shift)?;
+    Ok(made)
+}
+
+/// The entity with its state before the entry, taken out of the box.
+fn taken(alone: Box<Shift>) -> (EntityId, Option<StateObject>)
+    ensures { result ≡ (alone.value.entity, alone.value.old) }
+{
+    let Shift { entity, old, .. } = Box::into_inner(alone);
+    (entity, old)
+}
+
 impl Before {
     /// No entities.
     pub fn make(alloc: Global) -> Before
@@ -48,28 +77,53 @@ impl Before {
         Before {
             alone: None,
             several: Many::make(alloc),
+            near: usize::MAX,
         }
     }
 
     /// One entity.
-    pub fn one(alloc: Global, listed: (EntityId, Option<StateObject>)) -> Before
-        ensures { result ≡ listed ∷ [] }
+    pub fn one(
+        alloc: Global,
+        entity: &EntityId,
+        old: Option<StateObject>,
+    ) -> Result<Before, AllocError>
+        ensures { IfOk result (λ before. before ≡ (entity.now, old) ∷ []) }
     {
-        Before {
-            alone: Some(listed),
+        let entity = entity.copy(alloc)?;
+        let made = boxed(alloc, entity, old)?;
+        Ok(Before {
+            alone: Some(made),
             several: Many::make(alloc),
-        }
+            near: usize::MAX,
+        })
+    }
+
+    /// Says at which place whom the only entity concerns is looked for first: `TrigSet::asked` gives it.
+    pub fn look_at(&mut self, place: usize)
+        ensures { self.new ≡ self.old }
+    {
+        self.near = place;
+    }
+
+    /// That place.
+    pub(crate) fn near(&self) -> usize {
+        self.near
     }
 
     /// One more entity. After an error the list may only be dropped.
-    pub fn push(&mut self, listed: (EntityId, Option<StateObject>)) -> Result<(), AllocError>
+    pub fn push(
+        &mut self,
+        alloc: Global,
+        listed: (EntityId, Option<StateObject>),
+    ) -> Result<(), AllocError>
         ensures { OnOk result (self.new ≡ self.old ++ listed ∷ []) }
     {
         match self.alone.take() {
-            Some(first) => put_two(&mut self.several, first, listed),
+            Some(first) => put_two(&mut self.several, taken(first), listed),
             None => {
                 if self.several.is_empty() {
-                    self.alone = Some(listed);
+                    let made = boxed(alloc, listed.0, listed.1)?;
+                    self.alone = Some(made);
                     return Ok(());
                 }
                 self.several.push(listed)?;

@@ -87,10 +87,11 @@ fn put_event(
     }
 }
 
-/// Puts the places of those in whom a change of one of the entities concerns.
+/// Puts the places of those in whom a change of one of the entities concerns. `near` says where the index may have the only one.
 fn put_entities(
     index: &Index,
     shifts: &[Shift],
+    near: usize,
     owners: &[Attached],
     places: &mut Places,
 ) -> Result<(), AllocError>
@@ -98,7 +99,11 @@ fn put_entities(
     ensures aside { OnOk result (OfOthers owners.now places.new (λ m. (k : ℕ) → MatchOption (slice_get shifts.now k) (Unit {0}) (λ c. knows index.now (Subject.Entity c.entity) m ≡ false))) }
 {
     for place in 0..shifts.len() {
-        put_some(owners, index.of_entity(&shifts[place].entity), places)?;
+        put_some(
+            owners,
+            index.of_entity_near(&shifts[place].entity, near),
+            places,
+        )?;
     }
     Ok(())
 }
@@ -165,6 +170,7 @@ fn some_places(
     entry: &Entry,
     to: Moment,
     shifts: &[Shift],
+    near: usize,
     owners: &[Attached],
     queue: &mut TimerQueue,
 ) -> Result<Places, AllocError>
@@ -175,7 +181,7 @@ fn some_places(
     let mut places = Places::make(alloc);
     put_places(owners, &index.entries, &mut places)?;
     put_event(index, entry, owners, &mut places)?;
-    put_entities(index, shifts, owners, &mut places)?;
+    put_entities(index, shifts, near, owners, &mut places)?;
     put_moment(index, entry, to, owners, queue, &mut places)?;
     Ok(places)
 }
@@ -198,6 +204,7 @@ pub fn concerned(
     entry: &Entry,
     to: Moment,
     shifts: &[Shift],
+    near: usize,
     owners: &[Attached],
     queue: &mut TimerQueue,
 ) -> Result<Places, AllocError>
@@ -207,5 +214,5 @@ pub fn concerned(
     if opens(entry) {
         return all_places(alloc, owners);
     }
-    some_places(alloc, index, entry, to, shifts, owners, queue)
+    some_places(alloc, index, entry, to, shifts, near, owners, queue)
 }

@@ -1,5 +1,5 @@
-//! Whether nobody is concerned.
-ghost use Rattle.std.specs.Prelude.{◌≡◌, ◌↔◌, ℕ, false, true};
+//! Whether nobody is concerned, and else where the index has those who are.
+ghost use Rattle.std.specs.Prelude.{◌≡◌, ◌↔◌, ℕ, IsNone, false, true};
 ghost use Rattle.event_bus.specs.Lists.{has};
 ghost use Rattle.event_bus.specs.Subjects.{Subject, knows};
 
@@ -21,19 +21,30 @@ fn leaves_entries(index: &Index) -> bool
     is_empty(&index.entries)
 }
 
-/// Whether an entity concerns nobody.
-fn leaves_entity(index: &Index, entity: &EntityId) -> bool
-    ensures { (result ≡ true) ↔ ((n : ℕ) → knows index.now (Subject.Entity entity.now) n ≡ false) }
+/// The place, or none where nobody is concerned.
+fn unless(left: bool, place: usize) -> Option<usize>
+    ensures { IsNone result ↔ (left ≡ true) }
 {
-    match index.of_entity(entity) {
-        Some(listed) => is_empty(listed),
-        None => true,
+    if left { None } else { Some(place) }
+}
+
+/// The place in the index of an entity that concerns somebody.
+fn place_of_entity(index: &Index, entity: &EntityId) -> Option<usize>
+    ensures { IsNone result ↔ ((n : ℕ) → knows index.now (Subject.Entity entity.now) n ≡ false) }
+{
+    match index.find_entity(entity) {
+        Some(found) => unless(is_empty(found.1), found.0),
+        None => None,
     }
 }
 
-/// Both.
-pub fn leaves(index: &Index, entity: &EntityId) -> bool
-    ensures { (result ≡ true) ↔ (((n : ℕ) → knows index.now Subject.Entries n ≡ false) × ((n : ℕ) → knows index.now (Subject.Entity entity.now) n ≡ false)) }
+/// None where neither each entry nor the entity concerns anybody; else the place in the index of an entity that does, and one behind all
+/// places for any other.
+pub fn asked(index: &Index, entity: &EntityId) -> Option<usize>
+    ensures { IsNone result ↔ (((n : ℕ) → knows index.now Subject.Entries n ≡ false) × ((n : ℕ) → knows index.now (Subject.Entity entity.now) n ≡ false)) }
 {
-    leaves_entries(index) && leaves_entity(index, entity)
+    match place_of_entity(index, entity) {
+        Some(place) => Some(place),
+        None => unless(leaves_entries(index), usize::MAX),
+    }
 }

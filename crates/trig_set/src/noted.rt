@@ -125,6 +125,7 @@ fn note_list<A: Answers>(
         scene.entry,
         scene.to,
         scene.shifts,
+        scene.near,
         owners,
         queue,
     )?;

@@ -17,7 +17,7 @@ ghost use Rattle.trig_set.specs.Next.{IsNext};
 ghost use Rattle.trig_set.specs.Stands.{attached, StandsFor};
 
 use crate::before::Before;
-use crate::left::leaves;
+use crate::left::asked;
 use crate::listed::{list, unlist};
 use crate::numbers::Numbers;
 use crate::ordered::Owners;
@@ -126,12 +126,13 @@ impl TrigSet {
         Ok(())
     }
 
-    /// Whether the entity concerns nobody: no trigger is on it, and no trigger asks a template at each entry.
-    pub fn leaves(&self, entity: &EntityId) -> bool
-        ensures left { (result ≡ true) ↔ Leaves self.entry.now entity.now }
-        ensures free { (j : Journal) → StandsFor self.entry.now j → (result ≡ true) ↔ IsFree (attached self.entry.now) entity.now }
+    /// None where the entity concerns nobody: no trigger is on it, and no trigger asks a template at each entry. Else a place for
+    /// `Before::look_at`, at which `note` finds at once whom the entity concerns.
+    pub fn asked(&self, entity: &EntityId) -> Option<usize>
+        ensures left { IsNone result ↔ Leaves self.entry.now entity.now }
+        ensures free { (j : Journal) → StandsFor self.entry.now j → IsNone result ↔ IsFree (attached self.entry.now) entity.now }
     {
-        leaves(&self.index, entity)
+        asked(&self.index, entity)
     }
 
     /// Notes the next entry, a report of an entity that concerns nobody, after which Now is `to`: nothing fires. It needs no states. After
@@ -178,6 +179,7 @@ impl TrigSet {
             → StandsFor self.new (more j entry.now)) }
     {
         self.open(alloc, entry)?;
+        let near = before.near();
         let shifts = shifts_of(alloc, entry, before, answers)?;
         let to = answers.now();
         let mut fired = Many::make(alloc);
@@ -185,6 +187,7 @@ impl TrigSet {
             place,
             entry,
             shifts: shifts.as_slice(),
+            near,
             zone: self.zone.as_ref(),
             numbers: &self.numbers,
             from: self.now,

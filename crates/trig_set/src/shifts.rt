@@ -158,19 +158,19 @@ fn shift<A: Answers>(
     })
 }
 
-/// What the entry changes of the only entity that is listed, with that entity and its state moved in.
+/// What the entry changes of the only entity that is listed: its new state is put beside the old one.
 fn shift_alone<A: Answers>(
     alloc: Global,
     entry: &Entry,
-    listed: (EntityId, Option<StateObject>),
+    alone: &mut Shift,
     answers: &A,
-) -> Result<Shift, AllocError>
-    ensures { IfOk result (λ c. (j : Journal) → A.sight answers.now ≡ sight (more j entry.now) (length (more j entry.now))
-        → AreListed j entry.now (listed ∷ []) → AreShifts (c ∷ []) j entry.now) }
+) -> Result<(), AllocError>
+    ensures { OnOk result ((j : Journal) → A.sight answers.now ≡ sight (more j entry.now) (length (more j entry.now))
+        → AreListed j entry.now ((alone.entry.now.entity, alone.entry.now.old) ∷ []) → AreShifts (alone.exit.now ∷ []) j entry.now) }
 {
-    let (entity, old) = listed;
-    let new = new_state(alloc, entry, &entity, &old, answers)?;
-    Ok(Shift { entity, old, new })
+    let new = new_state(alloc, entry, &alone.entity, &alone.old, answers)?;
+    alone.new = new;
+    Ok(())
 }
 
 /// One more change.
@@ -216,11 +216,12 @@ pub fn shifts_of<A: Answers>(
     ensures { IfOk result (λ shifts. (j : Journal) → A.sight answers.now ≡ sight (more j entry.now) (length (more j entry.now))
         → AreListed j entry.now before → AreShifts (shifts_in shifts) j entry.now) }
 {
-    let Before { alone, several } = before;
+    let Before { alone, several, .. } = before;
     match alone {
-        Some(listed) => {
-            let shift = shift_alone(alloc, entry, listed, answers)?;
-            Ok(Shifts::One(shift))
+        Some(alone) => {
+            let mut alone = alone;
+            shift_alone(alloc, entry, &mut alone, answers)?;
+            Ok(Shifts::One(alone))
         }
         None => {
             let shifts = shifts_of_several(alloc, entry, &several, answers)?;

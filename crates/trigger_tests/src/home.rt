@@ -227,7 +227,7 @@ impl Home {
         };
         let entity = entity(alloc, id)?;
         let state = state_of(alloc, &self.states, &entity)?;
-        Ok(Before::one(alloc, (entity, state)))
+        Before::one(alloc, &entity, state)
     }
 
     /// The states after a report.

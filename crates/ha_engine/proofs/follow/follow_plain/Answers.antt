@@ -3,11 +3,14 @@ use Rattle.std.specs.Prelude.{Bool}
 use Rattle.std.specs.Global.{Vec}
 use Rattle.ha_model.specs.Entries.{IsPlain}
 use Rattle.ha_ready.specs.RestedFlags.{RestedKept}
-use Rattle.engine_parts.specs.Stages.{RunsBefore}
+use Rattle.trig_set.specs.Next.{Listed}
+use Rattle.engine_parts.specs.Stages.{Entered, RunsBefore}
 use Rattle.ha_engine.proofs.follow.follow_plain.Goals as goal
 
 pub attend-requires : goal.attend-requires
-attend-requires c = c.in_ok-before.ensures.entered c.args.journal.now c.args.runs.now.list c.requires.pushed.pushed c.requires.pushed.cmd_is c.requires.plain
+attend-requires c =
+    subst (λ (b : Listed). Entered c.args.journal.now c.enter_plain.new.parts b) (sym c.look_at.ensures)
+    (c.in_ok-before.ensures.entered c.args.journal.now c.args.runs.now.list c.requires.pushed.pushed c.requires.pushed.cmd_is c.requires.plain)
 
 pub conclude-requires : goal.conclude-requires
 conclude-requires c =

@@ -11,7 +11,7 @@ loop-place-preserved c =
       kept = λ n none. c.loop-place.invariant.kept n (kept n none);
       aside =
           others-two c.args.owners.now c.put_some.new.places _ _ _
-          (λ m told here. shifts-more c.args.index.now c.args.shifts.now m c.loop-place.place c.index-shifts-place.result c.loop-place-test.true told (sym (c.of_entity.ensures m) ∙ here))
+          (λ m told here. shifts-more c.args.index.now c.args.shifts.now m c.loop-place.place c.index-shifts-place.result c.loop-place-test.true told (sym (c.of_entity_near.ensures m) ∙ here))
           (others-more c.args.owners.now c.loop-place.places c.put_some.new.places _ kept c.loop-place.invariant.aside) c.in_ok-put_some.ensures.aside;
     }
 

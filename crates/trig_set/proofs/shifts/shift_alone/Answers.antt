@@ -6,4 +6,5 @@ pub returns : goal.returns
 returns g c j sees listed e =
     let x = c.args.entry.now in
     let seen = g.A.Answers.sight c.args.answers.now in
-    made-shifts x seen j sees e (c.args.listed ∷ []) (record { entity = c.args.listed.0; old = c.args.listed.1; new = c.in_ok-new.new } ∷ []) ((refl, refl, c.in_ok-new.ensures), tt) (listed e)
+    let old = c.args.alone.now in
+    made-shifts x seen j sees e ((old.entity, old.old) ∷ []) (record { entity = old.entity; old = old.old; new = c.in_ok-new.new } ∷ []) ((refl, refl, c.in_ok-new.ensures), tt) (listed e)
