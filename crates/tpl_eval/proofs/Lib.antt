@@ -8,3 +8,4 @@ pub mod PieceLemmas
 pub mod ArmLemmas
 pub mod EqualLemmas
 pub mod OrderLemmas
+pub mod PlainLemmas

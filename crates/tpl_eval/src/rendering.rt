@@ -1,21 +1,22 @@
 //! A template's text.
-ghost use Rattle.std.specs.Prelude.{ℕ, Some, take, option_map};
+ghost use Rattle.std.specs.Prelude.{◌≡◌, ◌≤◌, ℕ, IfSome, Some, length, take, option_map};
 ghost use Rattle.ha_value.specs.declared.value.Value.{Value};
+ghost use Rattle.ha_model.specs.declared.template.Piece.{Piece as Part};
 ghost use Rattle.ha_model.specs.Journal.{Journal};
 ghost use Rattle.ha_model.specs.States.{Sight};
 ghost use Rattle.ha_model.specs.Templates.{rendered};
 ghost use Rattle.ha_model.specs.Triggers.{sight as sight_at};
-ghost use Rattle.ha_model.specs.Words.{without_breaks as trimmed_lem};
+ghost use Rattle.ha_model.specs.Words.{Pairs, without_breaks as trimmed_lem};
 ghost use Rattle.state_table.specs.Table.{StandsFor};
 ghost use Rattle.tpl_fns.specs.Outcome.{Gives};
 ghost use Rattle.tpl_eval.specs.Seen.{Sees};
 
 use crate::page::Page;
 use crate::pieces::write_template;
-use ha_model::{Env, Many, Template, TplFault, Value, Word};
+use ha_model::{Env, Many, Piece, Template, TplFault, Value, Word};
 use state_table::StateTable;
 use std::alloc::Global;
-use tpl_fns::{without_breaks, word};
+use tpl_fns::{TEXT_LIMIT, without_breaks, word};
 
 /// The rendered text, without the blanks and breaks at its ends, as a `Value::Text`. Fault exactly where the template's meaning is one.
 pub fn render(
@@ -33,7 +34,53 @@ pub fn render(
     }
 }
 
+/// The text that a piece is, where it is not too long.
+fn text_in(piece: &Piece) -> Option<&Word>
+    ensures piece { IfSome result (λ text. piece.now ≡ Part.Text text.now) }
+    ensures short { IfSome result (λ text. length text.now ≤ 65_536) }
+{
+    match piece {
+        Piece::Text(text) => {
+            if text.len() <= TEXT_LIMIT {
+                Some(text)
+            } else {
+                None
+            }
+        }
+        _ => None,
+    }
+}
+
+/// The text of a template that has no tag: it needs no page.
+fn plain_text(template: &Template) -> Option<&Word>
+    ensures { IfSome result (λ text. (sight : Sight) (env : Pairs) → rendered sight template.now env ≡ Some (trimmed_lem text.now)) }
+{
+    let pieces = template.pieces.as_slice();
+    if pieces.len() != 1 {
+        return None;
+    }
+    match text_in(&pieces[0]) {
+        Some(text) => Some(text),
+        None => None,
+    }
+}
+
 fn text_of(
+    alloc: Global,
+    template: &Template,
+    states: &StateTable,
+    env: &Env,
+) -> Result<Word, TplFault>
+    ensures { (sight : Sight) → Sees sight states.now → Gives result (rendered sight template.now env.now) }
+{
+    match plain_text(template) {
+        Some(text) => trimmed(alloc, text),
+        None => page_text(alloc, template, states, env),
+    }
+}
+
+/// The text of any template, written on a page.
+fn page_text(
     alloc: Global,
     template: &Template,
     states: &StateTable,
