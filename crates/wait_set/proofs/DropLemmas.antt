@@ -1,14 +1,14 @@
 -- The waits of a run are taken out, one after the other.
 use Rattle.std.proofs.Common.{◌≡◌, ℕ, zero, suc, ◌<◌, ◌≤◌, List, [], ◌∷◌, length, get_or, filter, Bool, true, false, refl, sym, ap, subst, ◌∙◌, arith, inl, inr, All}
-use Rattle.std.specs.Prelude.{nat_eq, if◌then◌else◌}
+use Rattle.std.specs.Prelude.{nat_eq, ◌||◌, if◌then◌else◌}
 use Rattle.std.specs.BTreeSet.{BTreeSet}
 use Rattle.std.specs.List.{list_any}
-use Rattle.std.proofs.lemmas.Bool.{cases_lt}
+use Rattle.std.proofs.lemmas.Bool.{cases_lt, eqb-true}
 use Rattle.std.proofs.lemmas.List.Elements.{All-cons, All-head, All-nil, All-tail}
 use Rattle.timer_queue.specs.Timers.{Timer, removed}
 use Rattle.wait_set.specs.declared.asked.Asked.{Asked}
 use Rattle.wait_set.specs.Concern.{Ascend, has}
-use Rattle.wait_set.specs.Runs.{AllBefore, IsPaired, Pair, has_pair}
+use Rattle.wait_set.specs.Runs.{AllBefore, AreUnlisted, IsPaired, Pair, has_pair}
 use Rattle.wait_set.specs.Timers.{AreApart, AreFound, AreKept, AreTimed}
 use Rattle.wait_set.proofs.CutLemmas.{apart-cut, cut-length, or-left, or-right, timed-cut, without}
 use Rattle.wait_set.proofs.KeptLemmas.{listed-cut}
@@ -86,6 +86,51 @@ kept-cut i o asks ts ts' old new runs runs' ordered lt own timers tests rest kep
       paired = paired-cut runs runs' o rest i asks x.0 kept.timed.apart kept.paired lt x.1 same;
       order = λ up. ascend-cut i asks lt (kept.order up);
     })
+
+-- ---- who is listed no more
+
+-- an owner that is another's than the one that goes stays
+any-other : (i o p : ℕ) (asks : List Asked) → i < length asks → ((d : Asked) → p ≡ (get_or asks i d).owner) → nat_eq p o ≡ false
+    → list_any (λ b. nat_eq b.owner o) asks ≡ list_any (λ b. nat_eq b.owner o) (without i asks)
+any-other i o p [] lt own other = absurd (omega (arith, lt))
+any-other zero o p (z ∷ zs) lt own other = (λ k. (sym (λ m. nat_eq (own z m) o) ∙ other) k || list_any (λ b. nat_eq b.owner o) zs)
+any-other (suc i) o p (z ∷ zs) lt own other = (λ k. nat_eq z.owner o || any-other i o p zs (omega (arith, lt)) own other k)
+
+-- LEMMA: the owner of one that is taken out is listed no more, where it alone is struck out
+pub unlisted-cut : (i p : ℕ) (asks : List Asked) (old new : ℕ → Bool) → i < length asks → ((d : Asked) → p ≡ (get_or asks i d).owner)
+    → new p ≡ false → ((o : ℕ) → nat_eq p o ≡ false → new o ≡ old o) → AreUnlisted asks (without i asks) old new
+unlisted-cut i p asks old new lt own none rest = record {
+  gone = λ o before after.
+      by-owner o (λ other. absurd (let bad : ◌≡◌ {A = Bool} true false = sym before ∙ any-other i o p asks lt own other ∙ after in cc));
+  fewer = λ o before. by-owner o (λ other. rest o other ∙ before);
+}
+  where
+    by-owner : (o : ℕ) → (nat_eq p o ≡ false → new o ≡ false) → new o ≡ false
+    by-owner o h = by (nat_eq p o) refl
+      where
+        by : (b : Bool) → nat_eq p o ≡ b → new o ≡ false
+        by true e = sym (λ k. new (eqb-true p o e k)) ∙ none
+        by false e = h e
+
+-- LEMMA: none goes where none is taken out
+pub unlisted-same : (asks : List Asked) (listed : ℕ → Bool) → AreUnlisted asks asks listed listed
+unlisted-same asks listed = record {
+  gone = λ o before after. absurd (let bad : ◌≡◌ {A = Bool} true false = sym before ∙ after in cc);
+  fewer = λ o before. before;
+}
+
+-- LEMMA: first some go, then others
+pub unlisted-then : (first between last : List Asked) (r s t : ℕ → Bool)
+    → AreUnlisted first between r s → AreUnlisted between last s t → AreUnlisted first last r t
+unlisted-then first between last r s t one two = record {
+  gone = λ o before after. by o before after (list_any (λ a. nat_eq a.owner o) between) refl;
+  fewer = λ o before. two.fewer o (one.fewer o before);
+}
+  where
+    by : (o : ℕ) → list_any (λ a. nat_eq a.owner o) first ≡ true → list_any (λ a. nat_eq a.owner o) last ≡ false
+        → (b : Bool) → list_any (λ a. nat_eq a.owner o) between ≡ b → t o ≡ false
+    by o before after true e = two.gone o e after
+    by o before after false e = two.fewer o (one.gone o before e)
 
 -- ---- a test that holds of what stays
 

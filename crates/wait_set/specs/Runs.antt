@@ -1,6 +1,7 @@
 -- The waits of a run, found by pairs of its serial and their owners.
 use Rattle.std.specs.Prelude.{◌≡◌, ◌≤◌, ◌<◌, ℕ, Bool, true, false, nat_eq, List, length, slice_index_or}
 use Rattle.std.specs.BTreeSet.{BTreeSet, contains}
+use Rattle.std.specs.List.{list_any}
 use Rattle.std.specs.Ordering.{nat_cmp, ordering_then}
 use Rattle.std.specs.declared.cmp.Ordering.{Ordering}
 use Rattle.wait_set.specs.declared.asked.Asked.{Asked}
@@ -32,3 +33,8 @@ IsOfRun asks serial at = (d : Asked) → at < length asks → nat_eq (slice_inde
 -- the test holds of each wait before a place
 abbrev pub AllBefore : (Asked → Bool) → List Asked → ℕ → Type 0
 AllBefore f asks to = (n : ℕ) (d : Asked) → n < to → n < length asks → f (slice_index_or asks n d) ≡ true
+
+-- of the owners whose waits went none is listed any more, and none came: the waits before and after, and who was listed before and after
+pub record AreUnlisted (asks asks' : List Asked) (listed listed' : ℕ → Bool) : Type 0 where
+  pub gone : (o : ℕ) → list_any (λ a. nat_eq a.owner o) asks ≡ true → list_any (λ a. nat_eq a.owner o) asks' ≡ false → listed' o ≡ false
+  pub fewer : (o : ℕ) → listed o ≡ false → listed' o ≡ false

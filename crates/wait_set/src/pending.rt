@@ -61,6 +61,7 @@ pub(crate) fn mark(
     owner: u64,
 ) -> Result<(), AllocError>
     ensures timers { pending.new.timers ≡ removed owner pending.old.timers }
+    ensures gone { has pending.new.testing owner ≡ false }
     ensures testing { (n : ℕ) → nat_eq owner n ≡ false → has pending.new.testing n ≡ has pending.old.testing n }
     ensures runs { pending.new.runs ≡ pending.old.runs }
     ensures fresh { OnOk result (fresh.new.items ≡ fresh.old.items ++ (owner ∷ [])) }

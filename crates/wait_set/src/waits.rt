@@ -7,9 +7,9 @@ ghost use Rattle.ha_model.specs.RecordSteps.{more};
 ghost use Rattle.ha_model.specs.Scripts.{Branch as Path};
 ghost use Rattle.wait_set.specs.declared.asked.Asked.{Asked as Wait};
 ghost use Rattle.wait_set.specs.Asked.{added, end_of, ended_at, is_of, noted, noted_at, owners_ended, owners_of, wait_of, without_run};
-ghost use Rattle.wait_set.specs.Concern.{Ascend, IsStill, OfOthers};
+ghost use Rattle.wait_set.specs.Concern.{Ascend, IsStill, OfOthers, has};
 ghost use Rattle.wait_set.specs.Stands.{IsNext, StandsFor};
-ghost use Rattle.wait_set.specs.Runs.{AllBefore, IsPaired, has_pair};
+ghost use Rattle.wait_set.specs.Runs.{AllBefore, AreUnlisted, IsPaired, has_pair};
 ghost use Rattle.wait_set.specs.Timers.{AreFound, AreKept, AreTimed, timer_added};
 ghost use Rattle.timer_queue.specs.Timers.{due_of};
 
@@ -220,6 +220,8 @@ fn make_place(
     ensures asks { OnOk result (asks.new.items ≡ filter (λ b. not (is_of asked.now.ask.serial asked.now.ask.branch b)) asks.old.items) }
     ensures timers { OnOk result (timers.new ≡ timer_added asked.now.ask.due asked.now.owner timers.old) }
     ensures room { OnOk result (length asks.new.items < vec_capacity asks.new) }
+    ensures unlisted { OnOk result (AreUnlisted asks.old.items asks.new.items
+        (has_pair runs.old asked.now.ask.serial) (has_pair runs.new asked.now.ask.serial)) }
     ensures paired { OnOk result (All (IsPaired runs.new) asks.new.items) }
     ensures listed { OnOk result (has_pair runs.new asked.now.ask.serial asked.now.owner ≡ has_pair runs.old asked.now.ask.serial asked.now.owner) }
     ensures err { OnErr result ((asks.new.items ≡ asks.old.items) × (timers.new ≡ timers.old)) }
@@ -251,6 +253,8 @@ fn drop_ended(asks: &mut Vec<Asked>, runs: &mut BTreeSet<(u64, u64)>, ordered: b
     requires { AreFound asks.old.items runs.old ordered }
     ensures rest { asks.new.items ≡ filter (λ b. not (is_of asked.now.ask.serial asked.now.ask.branch b)) asks.old.items }
     ensures found { AreFound asks.new.items runs.new ordered }
+    ensures unlisted { AreUnlisted asks.old.items asks.new.items
+        (has_pair runs.old asked.now.ask.serial) (has_pair runs.new asked.now.ask.serial) }
     ensures others { (o : ℕ) → list_any (λ a. nat_eq a.owner o) asks.old.items ≡ false → (s : ℕ) → has_pair runs.new s o ≡ has_pair runs.old s o }
     ensures len { length asks.new.items ≤ length asks.old.items }
     ensures capacity { vec_capacity asks.new ≡ vec_capacity asks.old }
@@ -279,6 +283,8 @@ fn drop_next_ended(
     ensures before { AllBefore (λ b. not (is_of asked.now.ask.serial asked.now.ask.branch b)) asks.old.items from
         → AllBefore (λ b. not (is_of asked.now.ask.serial asked.now.ask.branch b)) asks.new.items result }
     ensures found { AreFound asks.new.items runs.new ordered }
+    ensures unlisted { AreUnlisted asks.old.items asks.new.items
+        (has_pair runs.old asked.now.ask.serial) (has_pair runs.new asked.now.ask.serial) }
     ensures others { (o : ℕ) → list_any (λ a. nat_eq a.owner o) asks.old.items ≡ false
         → (list_any (λ a. nat_eq a.owner o) asks.new.items ≡ false) × ((s : ℕ) → has_pair runs.new s o ≡ has_pair runs.old s o) }
     ensures len { length asks.new.items ≤ length asks.old.items }
@@ -418,6 +424,8 @@ fn drop_all(asks: &mut Vec<Asked>, pending: &mut Pending, ordered: bool, serial:
     requires { AreKept asks.old.items pending.old.timers pending.old.testing pending.old.runs ordered }
     ensures rest { asks.new.items ≡ without_run serial asks.old.items }
     ensures kept { AreKept asks.new.items pending.new.timers pending.new.testing pending.new.runs ordered }
+    ensures unlisted { AreUnlisted asks.old.items asks.new.items (has_pair pending.old.runs serial) (has_pair pending.new.runs serial) }
+    ensures settled { AreUnlisted asks.old.items asks.new.items (has pending.old.testing) (has pending.new.testing) }
 {
     let mut at = 0;
     'asks: while at < asks.len() {
@@ -441,6 +449,8 @@ fn drop_next(
     ensures rest { without_run serial asks.new.items ≡ without_run serial asks.old.items }
     ensures before { AllBefore (λ a. not (nat_eq a.ask.serial serial)) asks.old.items from → AllBefore (λ a. not (nat_eq a.ask.serial serial)) asks.new.items result }
     ensures kept { AreKept asks.new.items pending.new.timers pending.new.testing pending.new.runs ordered }
+    ensures unlisted { AreUnlisted asks.old.items asks.new.items (has_pair pending.old.runs serial) (has_pair pending.new.runs serial) }
+    ensures settled { AreUnlisted asks.old.items asks.new.items (has pending.old.testing) (has pending.new.testing) }
 {
     let at = next_place(asks.as_slice(), &pending.runs, ordered, serial, from);
     if at >= asks.len() {

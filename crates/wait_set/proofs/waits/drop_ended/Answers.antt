@@ -1,6 +1,7 @@
 use Rattle.std.proofs.Common.{◌∙◌, sym, refl, arith, not}
 use Rattle.wait_set.specs.Asked.{is_of}
-use Rattle.wait_set.proofs.DropLemmas.{all-stay}
+use Rattle.wait_set.specs.Runs.{has_pair}
+use Rattle.wait_set.proofs.DropLemmas.{all-stay, unlisted-same, unlisted-then}
 use Rattle.wait_set.proofs.waits.drop_ended.Goals as goal
 
 pub asks-init : goal.asks-init
@@ -9,6 +10,7 @@ asks-init c = record {
   rest = refl;
   before = λ n d lt within. absurd (omega (arith, lt));
   found = c.requires;
+  unlisted = unlisted-same c.args.asks.now.items (has_pair c.args.runs.now c.args.asked.now.ask.serial);
   others = λ o none. (none, λ s. refl);
   len = omega arith;
   capacity = refl;
@@ -18,6 +20,7 @@ pub asks-preserved : goal.asks-preserved
 asks-preserved c =
     let inv = c.asks.invariant in
     let next = c.drop_next_ended-at.ensures in
+    let serial = c.args.asked.now.ask.serial in
     let below = next.len in
     let under = inv.len in
     record {
@@ -25,6 +28,10 @@ asks-preserved c =
       rest = next.rest ∙ inv.rest;
       before = next.before inv.before;
       found = next.found;
+      unlisted =
+          unlisted-then c.args.asks.now.items c.asks.asks.items c.drop_next_ended-at.new.asks.items
+          (has_pair c.args.runs.now serial) (has_pair c.asks.runs serial) (has_pair c.drop_next_ended-at.new.runs serial)
+          inv.unlisted next.unlisted;
       others = λ o none. (let here = inv.others o none in let then = next.others o here.0 in (then.0, λ s. then.1 s ∙ here.1 s));
       len = omega (arith, below, under);
       capacity = next.capacity ∙ inv.capacity;
