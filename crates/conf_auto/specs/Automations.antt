@@ -31,7 +31,7 @@ condition_row = either key.Conditions key.Condition
 abbrev pub action_row : Row
 action_row = either key.Actions key.Action
 
--- Four keys are accepted and ignored: a description, what happens past the most runs, and how runs are traced.
+-- Three keys are accepted and ignored: a description, what happens past the most runs, and how runs are traced.
 abbrev pub rows : List Row
 rows =
     row key.Id ∷ row key.Alias ∷ row key.Description ∷ trigger_row
