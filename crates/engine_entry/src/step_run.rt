@@ -4,6 +4,7 @@ ghost use Rattle.ha_model.specs.Journal.{IsJournal, automations};
 ghost use Rattle.ha_model.specs.Records.{actions_of};
 ghost use Rattle.ha_model.specs.Triggers.{sight};
 ghost use Rattle.script_step.specs.Frames.{may};
+ghost use Rattle.script_step.specs.Taken.{out_of};
 ghost use Rattle.engine_parts.specs.Kept.{AreSound, Looks};
 ghost use Rattle.engine_parts.specs.Slots.{value_in};
 ghost use Rattle.engine_entry.specs.Stepping.{IsRunStep, MaySlot, SlotStep};
@@ -12,8 +13,8 @@ use cond_eval::View;
 use engine_parts::last::{configuration, script};
 use engine_parts::slots::Slots;
 use ha_clock::Zone;
-use ha_model::{Branch, Entry, Moment, StepOut, WaitEnd};
-use script_step::Frames;
+use ha_model::{Branch, Entry, Moment, WaitEnd};
+use script_step::{Frames, Held, Taken};
 use state_table::StateTable;
 use std::alloc::{AllocError, Global};
 
@@ -26,14 +27,14 @@ fn step_frames<'a>(
     zone: &'a Zone,
     at: Moment,
     branch: &Branch,
-    wait: Option<WaitEnd>,
-) -> Result<StepOut, AllocError>
+    wait: Option<Held<WaitEnd>>,
+) -> Result<Taken, AllocError>
     requires journal { IsJournal journal.now }
     requires looks { Looks journal.now states.now zone.now at }
     requires sound { AreSound journal.now }
     requires script { actions_of (automations journal.now) run.old.automation ≡ run.old.script.value }
     requires may { may run.old branch.now at wait ≡ true }
-    ensures { IfOk result (λ out. IsRunStep (sight journal.entry.now (length journal.entry.now)) branch.now wait run.old run.new out) }
+    ensures { IfOk result (λ out. IsRunStep (sight journal.entry.now (length journal.entry.now)) branch.now wait run.old run.new (out_of out)) }
 {
     let view = View::make(states, configuration(journal), zone, at);
     let actions = script(journal, run.automation());
@@ -68,13 +69,13 @@ pub fn step_slot(
     at: Moment,
     serial: u64,
     branch: &Branch,
-    wait: Option<WaitEnd>,
-) -> Result<(StepOut, Option<Moment>), AllocError>
+    wait: Option<Held<WaitEnd>>,
+) -> Result<(Taken, Option<Moment>), AllocError>
     requires journal { IsJournal journal.now }
     requires looks { Looks journal.now states.now zone.now at }
     requires sound { AreSound journal.now }
     requires slot { MaySlot journal.now serial branch.now at wait frames.old.items }
-    ensures { IfOk result (λ x. SlotStep (sight journal.now (length journal.now)) serial branch.now wait frames.old.items frames.new.items x.0 x.1) }
+    ensures { IfOk result (λ x. SlotStep (sight journal.now (length journal.now)) serial branch.now wait frames.old.items frames.new.items (out_of x.0) x.1) }
 {
     let Some(mut run) = take_frames(frames, serial) else {
         unreachable!()

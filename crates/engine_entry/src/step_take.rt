@@ -13,13 +13,14 @@ ghost use Rattle.engine_parts.specs.Stages.{Untold};
 ghost use Rattle.engine_entry.specs.Stepping.{IsTaken, asks_with};
 
 use ha_model::{Moment, WaitAsk};
+use script_step::Held;
 use std::alloc::{AllocError, Global};
 use timer_queue::TimerQueue;
 use trig_set::TrigSet;
 use wait_set::Waits;
 
 /// A wait that began at a place is taken in, and its triggers are attached under an owner of its own.
-fn attach_wait(
+fn attach_ask(
     triggers: &mut TrigSet,
     waits: &mut Waits,
     alloc: Global,
@@ -41,13 +42,35 @@ fn attach_wait(
     Ok(())
 }
 
+/// The same of a wait in memory of its own. Most steps begin none.
+#[inline(never)]
+fn attach_wait(
+    triggers: &mut TrigSet,
+    waits: &mut Waits,
+    alloc: Global,
+    place: u64,
+    ask: Held<WaitAsk>,
+) -> Result<(), AllocError>
+    requires room { place < 1048576 }
+    requires below { AreBelow (1024 + place) (attached triggers.old) }
+    requires early { list_any (λ a. nat_eq a.owner (1024 + place)) waits.old.asks ≡ false }
+    requires sound { IsTrue (are_sound_triggers ask.triggers) }
+    requires free { list_any (λ a. is_of ask.serial ask.branch a && is_none a.end) waits.old.asks ≡ false }
+    ensures asks { OnOk result (waits.new.asks ≡ added (record { owner = 1024 + place; place = place; ask = ask; end = None }) waits.old.asks) }
+    ensures fresh { OnOk result (waits.new.fresh ≡ waits.old.fresh) }
+    ensures untold { OnOk result ((k : Journal) (before : Listed) → (h : Untold k triggers.old waits.old before) → length h.j ≡ place → Untold k triggers.new waits.new before) }
+{
+    let taken = ask.taken();
+    attach_ask(triggers, waits, alloc, place, taken)
+}
+
 /// The wait that a step began, if it began one.
 pub fn take_wait(
     triggers: &mut TrigSet,
     waits: &mut Waits,
     alloc: Global,
     place: u64,
-    wait: Option<WaitAsk>,
+    wait: Option<Held<WaitAsk>>,
 ) -> Result<(), AllocError>
     requires room { place < 1048576 }
     requires below { AreBelow (1024 + place) (attached triggers.old) }

@@ -19,6 +19,7 @@ use engine_parts::attend::note_entry;
 use engine_parts::parts::Parts;
 use engine_parts::wake::wake_step;
 use ha_model::{Entry, Firing, Many, Moment, WaitAsk};
+use script_step::Held;
 use std::alloc::{AllocError, Global};
 use trig_set::Before;
 
@@ -28,7 +29,7 @@ fn take_over(
     alloc: Global,
     journal: &[Entry],
     before: &Before,
-    wait: Option<WaitAsk>,
+    wait: Option<Held<WaitAsk>>,
     due: Option<Moment>,
 ) -> Result<(), AllocError>
     requires { StepEntered journal.now parts.old before.now wait }
@@ -71,7 +72,7 @@ pub fn attend_step(
     alloc: Global,
     journal: &[Entry],
     before: Before,
-    wait: Option<WaitAsk>,
+    wait: Option<Held<WaitAsk>>,
     due: Option<Moment>,
 ) -> Result<Many<Firing>, AllocError>
     requires { StepEntered journal.now parts.old before wait }

@@ -12,8 +12,9 @@ use engine_entry::step_run::step_slot;
 use engine_parts::last::drop_last;
 use engine_parts::parts::Parts;
 use engine_parts::ready::Ready;
-use ha_model::{Branch, Ended, Entry, Item, Plain, StepOut, WaitEnd};
+use ha_model::{Branch, Ended, Entry, Item, Plain, WaitEnd};
 use run_modes::Runs;
+use script_step::{Held, Taken};
 use std::alloc::{AllocError, Global};
 use wait_set::Waits;
 
@@ -29,17 +30,27 @@ pub(crate) fn picked(alloc: Global, ready: &Ready, worker: u32) -> Result<(u64, 
     }
 }
 
+/// A copy of how a wait ended, in memory of its own: most steps end none.
+#[inline(never)]
+fn held_end(alloc: Global, end: &WaitEnd) -> Result<Held<WaitEnd>, AllocError>
+    ensures { IfOk result (λ made. made ≡ end.now) }
+{
+    let copy = end.copy(alloc)?;
+    let held = Held::make(alloc, copy)?;
+    Ok(held)
+}
+
 /// How the wait of a branch ended, if it has.
 pub(crate) fn end_told(
     alloc: Global,
     waits: &Waits,
     serial: u64,
     branch: &Branch,
-) -> Result<Option<WaitEnd>, AllocError>
+) -> Result<Option<Held<WaitEnd>>, AllocError>
     ensures { IfOk result (λ end. end ≡ ends waits.now serial branch.now) }
 {
     match waits.ended(serial, branch) {
-        Some(end) => match end.copy(alloc) {
+        Some(end) => match held_end(alloc, end) {
             Ok(made) => Ok(Some(made)),
             Err(error) => Err(error),
         },
@@ -88,7 +99,7 @@ pub fn advance(
         &branch,
         wait,
     )?;
-    let StepOut {
+    let Taken {
         item,
         progress,
         wait,

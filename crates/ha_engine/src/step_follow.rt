@@ -10,6 +10,7 @@ use engine_entry::step_wake::attend_step;
 use engine_parts::parts::Parts;
 use ha_model::{Entry, Moment, Progress, WaitAsk};
 use run_modes::Runs;
+use script_step::Held;
 use std::alloc::{AllocError, Global};
 
 /// A step was pushed. After an error the records are as before, and the parts may only be dropped.
@@ -19,7 +20,7 @@ pub(crate) fn follow_step(
     runs: &mut Runs,
     parts: &mut Parts,
     progress: Progress,
-    wait: Option<WaitAsk>,
+    wait: Option<Held<WaitAsk>>,
     due: Option<Moment>,
 ) -> Result<(), AllocError>
     requires pushed { StepPushed journal.now runs.old.list parts.old progress wait due }

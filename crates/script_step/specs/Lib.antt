@@ -13,3 +13,4 @@ pub mod Gates
 pub mod Told
 pub mod Few
 pub mod OpenBlocks
+pub mod Taken

@@ -7,6 +7,7 @@ ghost use Rattle.script_step.specs.Continuation.{ask_in, asks, last_action, test
 ghost use Rattle.script_step.specs.Parts.{kind_of};
 ghost use Rattle.script_step.specs.Frames.{asked_by};
 
+use crate::held::Held;
 use crate::parts::{before, list_in};
 use crate::step::side_list;
 use crate::strand::{Stage, Strand};
@@ -67,6 +68,25 @@ fn ask_of(
     })
 }
 
+/// The same in memory of its own: most steps begin no wait.
+#[inline(never)]
+fn held_ask(
+    alloc: Global,
+    thread: &Thread,
+    list: &[Action],
+    timeout: Option<Span>,
+    serial: u64,
+    branch: &Branch,
+    now: Moment,
+) -> Result<Held<WaitAsk>, AllocError>
+    requires { now ≤ last_moment }
+    ensures { IfOk result (λ made. made ≡ asked_by serial branch.now now (ask_in (last_action list.now thread.now) timeout (flat thread.now.scopes))) }
+{
+    let ask = ask_of(alloc, thread, list, timeout, serial, branch, now)?;
+    let held = Held::make(alloc, ask)?;
+    Ok(held)
+}
+
 /// What the pending wait of a branch asks for, if there is one.
 pub fn asked(
     alloc: Global,
@@ -76,14 +96,15 @@ pub fn asked(
     serial: u64,
     branch: &Branch,
     now: Moment,
-) -> Result<Option<WaitAsk>, AllocError>
+) -> Result<Option<Held<WaitAsk>>, AllocError>
     requires { now ≤ last_moment }
     ensures { IfOk result (λ made. made ≡ option_map (asked_by serial branch.now now) (asks strand.now list.now path.now)) }
 {
     match &strand.stage {
         Stage::Wait(timeout) => {
             if path.is_empty() {
-                Ok(Some(ask_of(alloc, &strand.thread, list, *timeout, serial, branch, now)?))
+                let ask = held_ask(alloc, &strand.thread, list, *timeout, serial, branch, now)?;
+                Ok(Some(ask))
             } else {
                 Ok(None)
             }

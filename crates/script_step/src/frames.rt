@@ -6,13 +6,15 @@ ghost use Rattle.script_step.specs.Sides.{end_of, first_stage, first_thread, is_
 
 use crate::asking::asked;
 use crate::gates::{due_at, may_step};
+use crate::held::Held;
 use crate::listing::add_ready;
 use crate::scopes::Scopes;
 use crate::sides::end_of;
 use crate::step::step_here;
 use crate::strand::{End, Stage, Strand};
+use crate::taken::Taken;
 use crate::thread::Thread;
-use ha_model::{Action, Answers, Branch, Ended, Env, Many, Moment, Progress, StepOut, WaitEnd};
+use ha_model::{Action, Answers, Branch, Ended, Env, Many, Moment, Progress, WaitEnd};
 use std::alloc::{AllocError, Global};
 use std::snapshot::Snapshot;
 
@@ -69,6 +71,7 @@ impl Frames {
     ghost use Rattle.script_step.specs.Frames.{asked_by, continues, may, progress_of, Stands, Steps};
     ghost use Rattle.script_step.specs.Gates.{due_of, first_fronts, fronts_of, gate_at};
     ghost use Rattle.script_step.specs.Ready.{ready_of};
+    ghost use Rattle.script_step.specs.Taken.{out_of};
     ghost use Rattle.script_step.specs.Told.{AreTold};
 
     /// The frames of an automation's script at its begin, in this environment.
@@ -119,15 +122,15 @@ impl Frames {
         alloc: Global,
         actions: &[Action],
         branch: &Branch,
-        wait: Option<WaitEnd>,
+        wait: Option<Held<WaitEnd>>,
         answers: &A,
-    ) -> Result<StepOut, AllocError>
+    ) -> Result<Taken, AllocError>
         requires script { actions.now ≡ self.old.script.value }
         requires may { may self.old branch.now (A.sight answers.now).now wait ≡ true }
         requires moment { (A.sight answers.now).now ≤ last_moment }
         ensures step { IfOk result (λ out. Steps (A.sight answers.now) branch.now wait self.old out.item self.new) }
         ensures told { IfOk result (λ out. (began : Began) (place : ℕ)
-            → AreTold self.old.serial place (A.sight answers.now).now branch.now (fronts_of self.old began) (fronts_of self.new (placed branch.now place began)) out) }
+            → AreTold self.old.serial place (A.sight answers.now).now branch.now (fronts_of self.old began) (fronts_of self.new (placed branch.now place began)) (out_of out)) }
         ensures progress { IfOk result (λ out. out.progress ≡ progress_of self.new) }
         ensures wait { IfOk result (λ out. out.wait ≡ option_map (asked_by self.old.serial branch.now (A.sight answers.now).now) (asks self.new.root self.old.script.value branch.now)) }
         ensures serial { self.new.serial ≡ self.old.serial }
@@ -153,7 +156,7 @@ impl Frames {
             now,
         )?;
         let progress = progress(&self.root);
-        Ok(StepOut {
+        Ok(Taken {
             item,
             progress,
             wait: ask,

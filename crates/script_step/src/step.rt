@@ -15,6 +15,7 @@ ghost use Rattle.script_step.specs.Step.{IsSide, IsStep, IsTaken, IsWaited, thre
 ghost use Rattle.script_step.specs.Told.{Tells};
 
 use crate::act::act;
+use crate::held::Held;
 use crate::next::next_turn;
 use crate::parts::{before, list_in, lists_in};
 use crate::scopes::Scopes;
@@ -279,6 +280,16 @@ fn step_ready<A: Answers>(
     }
 }
 
+/// How a wait ended, out of its own memory.
+fn opened(end: Option<Held<WaitEnd>>) -> Option<WaitEnd>
+    ensures { result ≡ end }
+{
+    match end {
+        Some(end) => Some(end.taken()),
+        None => None,
+    }
+}
+
 /// The step of any other strand, which is moved. After an error it is spent.
 #[inline(never)]
 fn step_moved<A: Answers>(
@@ -286,7 +297,7 @@ fn step_moved<A: Answers>(
     strand: &mut Strand,
     list: &[Action],
     path: &[u32],
-    end: Option<WaitEnd>,
+    end: Option<Held<WaitEnd>>,
     answers: &A,
 ) -> Result<Item, AllocError>
     requires may { may_step strand.old list.now path.now (A.sight answers.now).now end ≡ true }
@@ -297,7 +308,7 @@ fn step_moved<A: Answers>(
     ensures step { IfOk result (λ item. IsStep (A.sight answers.now) list.now path.now end strand.old item strand.new) }
 {
     let whole = std::mem::replace(strand, spent(alloc));
-    let (made, item) = step(alloc, whole, list, path, end, answers)?;
+    let (made, item) = step(alloc, whole, list, path, opened(end), answers)?;
     *strand = made;
     Ok(item)
 }
@@ -308,7 +319,7 @@ pub fn step_here<A: Answers>(
     strand: &mut Strand,
     list: &[Action],
     path: &[u32],
-    end: Option<WaitEnd>,
+    end: Option<Held<WaitEnd>>,
     answers: &A,
 ) -> Result<Item, AllocError>
     requires may { may_step strand.old list.now path.now (A.sight answers.now).now end ≡ true }

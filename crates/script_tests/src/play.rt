@@ -1,5 +1,5 @@
 //! A run of a test takes its steps.
-ghost use Rattle.std.specs.Prelude.{◌≡◌, true};
+ghost use Rattle.std.specs.Prelude.{◌≡◌, IfOk, true};
 ghost use Rattle.ha_model.specs.Sound.{IsSoundConfig, is_sound_automation};
 
 use crate::home::{Home, home_of, tell, utc, view_of};
@@ -7,11 +7,24 @@ use crate::said::is_said;
 use cond_eval::View;
 use ha_model::{
     Action, Automation, Branch, Config, Ended, Env, Firing, Item, Many, Moment, Num, Plain,
-    Progress, StepOut, TriggerData, Value, WaitAsk, WaitEnd, Word,
+    Progress, TriggerData, Value, WaitAsk, WaitEnd, Word,
 };
-use script_step::Frames;
+use script_step::{Frames, Held, Taken};
 use std::alloc::{AllocError, Global};
 use wait_set::Waits;
+
+/// How a wait ended, in memory of its own.
+fn held(alloc: Global, end: Option<WaitEnd>) -> Result<Option<Held<WaitEnd>>, AllocError>
+    ensures { IfOk result (λ made. made ≡ end) }
+{
+    match end {
+        Some(end) => {
+            let made = Held::make(alloc, end)?;
+            Ok(Some(made))
+        }
+        None => Ok(None),
+    }
+}
 
 /// Frames with the script that they are lent.
 #[derive(Drop)]
@@ -40,12 +53,13 @@ impl Script {
         branch: &Branch,
         ends: &Ends,
         view: &View<'_>,
-    ) -> Result<Option<StepOut>, AllocError> {
+    ) -> Result<Option<Taken>, AllocError> {
         let end = ends.end.copy(alloc)?;
         let actions = self.actions.as_slice();
         if !self.frames.ready(actions, branch, view.at, ends) {
             return Ok(None);
         }
+        let end = held(alloc, end)?;
         let out = self.frames.step(alloc, actions, branch, end, view)?;
         Ok(Some(out))
     }
@@ -161,13 +175,13 @@ fn ask(
     alloc: Global,
     run: &mut Run,
     branch: Branch,
-    wait: Option<WaitAsk>,
+    wait: Option<Held<WaitAsk>>,
 ) -> Result<(), AllocError> {
     let Some(wait) = wait else {
         return Ok(());
     };
     let mut waits = Waits::make(alloc);
-    waits.add(wait, run.place, run.place)?;
+    waits.add(wait.taken(), run.place, run.place)?;
     run.waits = waits;
     run.branch = branch;
     run.owner = run.place;
@@ -189,7 +203,7 @@ fn take(
     said: &str,
 ) -> Result<bool, AllocError> {
     let Some(
-        StepOut {
+        Taken {
             item,
             progress,
             wait,

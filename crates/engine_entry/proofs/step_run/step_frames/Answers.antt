@@ -4,6 +4,7 @@ use Rattle.ha_model.specs.Triggers.{sight}
 use Rattle.std.specs.Prelude.{option_map}
 use Rattle.script_step.specs.Continuation.{asks}
 use Rattle.script_step.specs.Frames.{asked_by}
+use Rattle.script_step.specs.Taken.{out_of}
 use Rattle.cond_eval.specs.Seen.{seen}
 use Rattle.engine_entry.specs.Stepping.{IsRunStep}
 use Rattle.engine_parts.proofs.ViewLemmas.{view-of}
@@ -14,7 +15,7 @@ returns c =
     let j = c.args.journal.now in
     let sees : seen c.make-view.result ≡ sight j (length j)
     = c.make-view.ensures j (view-of j c.args.states.now c.configuration.result.now c.args.zone.now c.args.at c.requires.looks c.requires.sound c.configuration.ensures) in
-    let made : IsRunStep (seen c.make-view.result) c.args.branch.now c.args.wait c.args.run.now c.step.new.self c.in_ok-out.out
+    let made : IsRunStep (seen c.make-view.result) c.args.branch.now c.args.wait c.args.run.now c.step.new.self (out_of c.in_ok-out.out)
     = record {
       steps = c.in_ok-out.ensures.step;
       told = c.in_ok-out.ensures.told;
@@ -23,4 +24,4 @@ returns c =
       serial = c.in_ok-out.ensures.serial;
       automation = c.in_ok-out.ensures.automation;
     } in
-    subst (λ (s : Sight). IsRunStep s c.args.branch.now c.args.wait c.args.run.now c.step.new.self c.in_ok-out.out) sees made
+    subst (λ (s : Sight). IsRunStep s c.args.branch.now c.args.wait c.args.run.now c.step.new.self (out_of c.in_ok-out.out)) sees made

@@ -1,16 +1,19 @@
-use Rattle.std.proofs.Common.{◌+◌, refl, sym, subst, arith}
-use Rattle.std.specs.Prelude.{IsNone}
-use Rattle.ha_past.specs.Firings.{Owner}
-use Rattle.trig_set.specs.Stands.{attached}
-use Rattle.engine_entry.proofs.TakeLemmas.{none-named, untold-taken}
+use Rattle.std.proofs.Common.{◌≡◌, ◌+◌, false, sym, subst}
+use Rattle.std.specs.Prelude.{IsTrue, None, OnOk, ◌&&◌, is_none}
+use Rattle.std.specs.List.{list_any}
+use Rattle.ha_model.specs.declared.journal.WaitAsk.{WaitAsk}
+use Rattle.ha_model.specs.Sound.{are_sound_triggers}
+use Rattle.wait_set.specs.Asked.{added, is_of}
 use Rattle.engine_entry.proofs.step_take.attach_wait.Goals as goal
 
-pub attach-requires-clause-fresh : goal.attach-requires-clause-fresh
-attach-requires-clause-fresh c =
-    let o : Owner = record { owner = 1024 + c.args.place; triggers = c.args.ask.triggers; since = c.args.place } in
-    subst IsNone (sym (none-named o (attached c.args.triggers.now) c.requires.below)) refl
+pub attach_ask-requires-clause-sound : goal.attach_ask-requires-clause-sound
+attach_ask-requires-clause-sound c = subst (λ (a : WaitAsk). IsTrue (are_sound_triggers a.triggers)) (sym c.taken-taken.ensures) c.requires.sound
 
-pub returns-clause-untold : goal.returns-clause-untold
-returns-clause-untold c k before h at =
-    untold-taken k c.args.triggers.now c.attach.new.self c.args.waits.now c.add.new.self before h c.args.place c.args.ask at c.requires.below c.requires.early
-    c.in_ok-attach.ensures.ok c.in_ok-add.ensures.ok (c.in_ok-attach.ensures.stands h.j h.triggers_stand (omega (arith, at))) (c.in_ok-add.ensures.stands h.j h.some h.waits_stand (sym at))
+pub attach_ask-requires-clause-free : goal.attach_ask-requires-clause-free
+attach_ask-requires-clause-free c =
+    subst (λ (a : WaitAsk). list_any (λ b. is_of a.serial a.branch b && is_none b.end) c.args.waits.now.asks ≡ false) (sym c.taken-taken.ensures) c.requires.free
+
+pub returns-clause-asks : goal.returns-clause-asks
+returns-clause-asks c =
+    subst (λ (a : WaitAsk). OnOk c.attach_ask.result (c.attach_ask.new.waits.asks ≡ added (record { owner = 1024 + c.args.place; place = c.args.place; ask = a; end = None }) c.args.waits.now.asks))
+    c.taken-taken.ensures c.attach_ask.ensures.asks

@@ -2,6 +2,7 @@ use Rattle.std.proofs.Common.{length, sym, subst, ◌∙◌}
 use Rattle.ha_model.specs.Journal.{Journal}
 use Rattle.ha_model.specs.Lawful.{Right}
 use Rattle.ha_model.specs.Triggers.{sight}
+use Rattle.script_step.specs.Taken.{out_of}
 use Rattle.engine_parts.specs.Kept.{Kept}
 use Rattle.engine_entry.specs.Stepping.{MaySlot, SlotStep, StepPushed}
 use Rattle.ha_engine.proofs.AdvanceLemmas.{may-slot, pairs-there, picks, pushed}
@@ -22,7 +23,7 @@ follow_step-requires c =
     let p = c.args.parts.now in
     let s = c.in_ok-serial.serial in
     let b = c.in_ok-serial.branch in
-    let out = c.in_ok-out.out in
+    let out = out_of c.in_ok-out.out in
     let step : SlotStep (sight j (length j)) s b c.in_ok-wait.wait p.frames.items c.step_slot.new.frames.items out c.in_ok-out.due
     = subst (λ (i : Journal). SlotStep (sight i (length i)) s b c.in_ok-wait.wait p.frames.items c.step_slot.new.frames.items out c.in_ok-out.due) c.as_slice.ensures.value c.in_ok-out.ensures in
     record {
