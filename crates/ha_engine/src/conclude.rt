@@ -98,6 +98,10 @@ pub(crate) fn conclude(
     ensures err { OnErr result (runs.new.list ≡ runs.old.list) }
 {
     let stack = prepare(alloc, journal, parts, fired)?;
+    if stack.is_empty() {
+        conclude_left(journal, parts);
+        return Ok(());
+    }
     make_room(runs, parts, stack.len())?;
     settle(alloc, journal, runs, parts, stack);
     Ok(())

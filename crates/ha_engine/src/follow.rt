@@ -96,25 +96,44 @@ fn follow_left(
     Ok(())
 }
 
+/// A report of an entity that may concern somebody; `near` says where its owners are listed.
+fn follow_seen(
+    alloc: Global,
+    journal: &[Entry],
+    runs: &mut Runs,
+    parts: &mut Parts,
+    entity: &EntityId,
+    text: &Word,
+    attributes: &Many<(Word, Value)>,
+    near: usize,
+) -> Result<(), AllocError>
+    requires { PushedAs (Said.Report entity.now text.now attributes.now) journal.now runs.old.list parts.old }
+    ensures ok { OnOk result (Right journal.now runs.new.list × Kept journal.now runs.new.list parts.new) }
+    ensures err { OnErr result (runs.new.list ≡ runs.old.list) }
+{
+    let mut before = enter_report(parts, alloc, entity, text, attributes)?;
+    before.look_at(near);
+    let fired = attend(parts, alloc, journal, before)?;
+    conclude(alloc, journal, runs, parts, fired)
+}
+
 /// A report.
 fn follow_report(
     alloc: Global,
     journal: &[Entry],
     runs: &mut Runs,
     parts: &mut Parts,
-    cmd: &Cmd,
     entity: &EntityId,
     text: &Word,
     attributes: &Many<(Word, Value)>,
 ) -> Result<(), AllocError>
-    requires pushed { PushedAs cmd.now journal.now runs.old.list parts.old }
-    requires report { cmd.now ≡ Said.Report entity.now text.now attributes.now }
+    requires { PushedAs (Said.Report entity.now text.now attributes.now) journal.now runs.old.list parts.old }
     ensures ok { OnOk result (Right journal.now runs.new.list × Kept journal.now runs.new.list parts.new) }
     ensures err { OnErr result (runs.new.list ≡ runs.old.list) }
 {
     match parts.triggers.asked(entity) {
         None => follow_left(alloc, journal, runs, parts, entity, text, attributes),
-        Some(near) => follow_plain(alloc, journal, runs, parts, cmd, near),
+        Some(near) => follow_seen(alloc, journal, runs, parts, entity, text, attributes, near),
     }
 }
 
@@ -150,7 +169,7 @@ pub fn follow_line(
             entity,
             text,
             attributes,
-        } => follow_report(alloc, journal, runs, parts, cmd, entity, text, attributes),
+        } => follow_report(alloc, journal, runs, parts, entity, text, attributes),
         _ => follow_plain(alloc, journal, runs, parts, cmd, usize::MAX),
     }
 }

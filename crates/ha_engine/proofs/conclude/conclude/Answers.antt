@@ -1,8 +1,10 @@
-use Rattle.std.proofs.Common.{◌≡◌, ◌≤◌, sym, ap, subst, ◌∙◌}
-use Rattle.std.specs.Prelude.{Bool}
+use Rattle.std.proofs.Common.{◌≡◌, ◌≤◌, ◌∷◌, [], ℕ, List, arith, length, refl, sym, ap, subst, ◌∙◌}
+use Rattle.std.proofs.lemmas.Bool.{eqb-true}
+use Rattle.std.specs.Prelude.{Bool, vec_len}
 use Rattle.std.specs.Global.{Vec}
 use Rattle.ha_model.specs.declared.journal.Entry.{Entry}
 use Rattle.ha_model.specs.declared.journal.Entry.TheVariants.{Line}
+use Rattle.ha_model.specs.Attempts.{Attempt}
 use Rattle.ha_model.specs.Journal.{Journal}
 use Rattle.ha_model.specs.Records.{Records, passing}
 use Rattle.ha_model.specs.RecordSteps.{records_after}
@@ -11,6 +13,8 @@ use Rattle.run_modes.specs.Calls.{all_tried}
 use Rattle.engine_parts.specs.Kept.{Going, nobody}
 use Rattle.ha_ready.specs.RestedFlags.{RestedKept}
 use Rattle.engine_parts.specs.Records.{HasRoom, IsTable}
+use Rattle.ha_engine.specs.Admits.{ArePrepared, from_end}
+use Rattle.ha_engine.specs.declared.admit.Prepared.{Prepared}
 use Rattle.ha_engine.proofs.ConcludeLemmas.{line-table, plain-records, plain-right}
 use Rattle.ha_engine.proofs.conclude.conclude.Goals as goal
 
@@ -27,6 +31,15 @@ prepare-requires c =
       sees = record { looks = sees.looks; switches_stand = sees.switches_stand; changed_is = sees.changed_is; sound = sees.sound };
       fired = c.requires.fired;
     }
+
+-- where nothing is prepared nothing passes
+none-ready : (k : Journal) (xs : List (ℕ × Attempt)) (ps : List Prepared) → length ps ≡ 0 → ArePrepared k xs (from_end ps) → xs ≡ []
+none-ready k [] [] e h = refl
+none-ready k (x ∷ xs) [] e h = absurd h
+none-ready k xs (p ∷ ps) e h = absurd (omega (arith, e))
+
+pub conclude_left-requires : goal.conclude_left-requires
+conclude_left-requires c = omega (arith, c.requires.told.rested_is.count, c.args.parts.now.rested.ok.0)
 
 pub settle-requires : goal.settle-requires
 settle-requires c =
@@ -54,3 +67,10 @@ settle-requires c =
       spare = subst (λ n. n ≤ c.make_room.new.runs.spare) c.len.ensures c.in_ok-make_room.ensures.spare;
       room = subst (λ n. HasRoom n c.make_room.new.parts) c.len.ensures c.in_ok-make_room.ensures.room;
     }
+
+pub returns-then-is_empty-clause-ok : goal.returns-then-is_empty-clause-ok
+returns-then-is_empty-clause-ok c =
+    let stack = c.in_ok-stack.stack in
+    let empty : vec_len stack ≡ 0 = eqb-true (vec_len stack) 0 (sym c.is_empty.ensures ∙ c.if-is_empty.true) in
+    let none : passing c.args.journal.now ≡ [] = none-ready c.args.journal.now (passing c.args.journal.now) stack.items (omega (arith, empty, stack.ok.0)) c.in_ok-stack.ensures in
+    c.conclude_left.ensures c.args.runs.now.list c.requires.told none

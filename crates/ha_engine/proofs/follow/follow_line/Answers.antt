@@ -42,7 +42,4 @@ follow_restart-requires c =
 pub follow_report-requires : goal.follow_report-requires
 follow_report-requires c =
     let h = c.requires in
-    record {
-      pushed = record { pushed = h; cmd_is = sym (c.last_command-cmd.ensures h.j h.source h.number h.cmd h.journal_is) };
-      report = c.in-Report.is;
-    }
+    record { pushed = h; cmd_is = sym (c.last_command-cmd.ensures h.j h.source h.number h.cmd h.journal_is) ∙ c.in-Report.is }
