@@ -252,7 +252,7 @@ fn give_up(alloc: Global, strand: &mut Strand)
     *strand = spent(alloc);
 }
 
-/// The step of a strand that is ready, which is not moved for it.
+/// The step of a strand that is ready, which is not moved for it. After an error it is spent.
 fn step_ready<A: Answers>(
     alloc: Global,
     strand: &mut Strand,
@@ -313,7 +313,7 @@ fn step_moved<A: Answers>(
     Ok(item)
 }
 
-/// The same step where the strand stands. After an error it is spent.
+/// One step of a strand, as `step`, where the strand stands. After an error it is spent.
 pub fn step_here<A: Answers>(
     alloc: Global,
     strand: &mut Strand,
