@@ -10,6 +10,7 @@ use Rattle.timer_queue.proofs.TimerQueue.TheSendSync as queue
 use Rattle.event_bus.proofs.index.Index.TheSendSync as index
 use Rattle.trig_set.specs.contracts.spot.Held as Held
 use Rattle.trig_set.specs.contracts.spot.Spot as Spot
+use Rattle.trig_set.specs.contracts.many_spots.Listed as Listed
 use Rattle.trig_set.specs.contracts.owners.Attached as Attached
 use Rattle.trig_set.specs.contracts.ordered.Owners as Owners
 use Rattle.trig_set.specs.contracts.set.TrigSet as TrigSet
@@ -31,8 +32,11 @@ held_send = search entries depth 60 fits 20000
 spot_send : IsSend Spot.the_row
 spot_send = search (held_send, entries) depth 60 fits 20000
 
+listed_send : IsSend Listed.the_row
+listed_send = search (index.the_field_send, index.the_send, heap.the_send, allocator.the_frees, crosses, entries) depth 60 fits 20000
+
 attached_send : IsSend Attached.the_row
-attached_send = search (spot_send, queue.the_send, crosses, entries) depth 60 fits 20000
+attached_send = search (spot_send, listed_send, queue.the_send, crosses, entries) depth 60 fits 20000
 
 owners_send : IsSend Owners.the_row
 owners_send = search (attached_send, crosses, entries) depth 60 fits 20000

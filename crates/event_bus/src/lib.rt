@@ -1,4 +1,4 @@
-//! Whom a change of an entity, an event or a moment concerns.
+//! Whom a change of an entity, an event, a moment or any entry concerns.
 #![tactic(auto)]
 
 mod index;

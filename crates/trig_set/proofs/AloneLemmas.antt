@@ -49,7 +49,7 @@ module _ (s : TrigSet) (e : EntityId) (text : Text) (attributes : Pairs) (left :
       by true same h = absurd (never (knows s.index (Subject.Entity f) m) has (subst (λ g. knows s.index (Subject.Entity g) m ≡ false) (entity-sound e f same) (left.entity m)))
       by false other h = h
 
-  apart : (a : Attached) (m : ℕ) → slice_get s.owners m ≡ Some a → IsApart s.index s.queue j x a
+  apart : (a : Attached) (m : ℕ) → slice_get s.owners m ≡ Some a → IsApart s.index s.queue j x a.owner a.since
   apart a m at = record {
     within = refl;
     journal = next.journal;
@@ -60,8 +60,8 @@ module _ (s : TrigSet) (e : EntityId) (text : Text) (attributes : Pairs) (left :
     later = λ moment. absurd (never false moment refl);
   }
 
-  all-apart : AllOwners s.owners (IsApart s.index s.queue j x)
-  all-apart = each-owner s.owners (IsApart s.index s.queue j x) apart
+  all-apart : AllOwners s.owners (λ a. IsApart s.index s.queue j x a.owner a.since)
+  all-apart = each-owner s.owners (λ a. IsApart s.index s.queue j x a.owner a.since) apart
 
   -- LAW: nothing fires
   pub left-fires : firings (more j x) place (attached s) ≡ []

@@ -158,7 +158,7 @@ module _ (j : Journal) (x : Entry) (t : Trigger) (since : ℕ) (h : HasEntry j) 
 
 -- ---- all spots of an owner
 
-none-fired : (j : Journal) (triggers : List Trigger) (since : ℕ) (s : Spot) → KeepsAt j triggers since s → s.fired ≡ None
+pub none-fired : (j : Journal) (triggers : List Trigger) (since : ℕ) (s : Spot) → KeepsAt j triggers since s → s.fired ≡ None
 none-fired j triggers since s = by (slice_get triggers s.trigger)
   where
     by : (o : Option Trigger) → MatchOption o ((s.hold ≡ None) × (s.fired ≡ None)) (λ t. Keeps j t since s) → s.fired ≡ None

@@ -23,12 +23,13 @@ use Rattle.trig_set.specs.declared.spot.Spot.{Spot}
 use Rattle.trig_set.specs.Concerned.{IsAside}
 use Rattle.trig_set.specs.Kept.{All, place_of}
 use Rattle.trig_set.specs.Known.{AreKnown}
+use Rattle.trig_set.specs.Listed.{HasAt, HasFor}
 use Rattle.trig_set.specs.Next.{reports}
 use Rattle.trig_set.specs.Order.{ascend, owner_of}
 use Rattle.trig_set.specs.Queued.{HasDue}
 use Rattle.trig_set.specs.Scenes.{Shows, face, shift_of}
 use Rattle.trig_set.specs.Stands.{AllOwners, AtOwner, OwnerStands, firings_at}
-use Rattle.trig_set.proofs.ListedLemmas.{HasAt, HasFor, IsListed, known-listed}
+use Rattle.trig_set.proofs.ListedLemmas.{IsListed, known-listed}
 use Rattle.trig_set.proofs.CalmLemmas.{CalmAt, IsCalm, calm-quiet, calm-stand, never}
 use Rattle.trig_set.proofs.MovedLemmas.{has-past}
 use Rattle.trig_set.proofs.NoteLemmas.{places-alike}
@@ -52,70 +53,70 @@ unshifted index n e (c ∷ cs) aside h = by (same_entity c.entity e) refl (unshi
     by true s rest = absurd (never (knows index (Subject.Entity e) n) h (sym (λ i. knows index (Subject.Entity (entity-sound c.entity e s i)) n) ∙ aside 0))
     by false s rest = rest
 
--- an entry doesn't concern an owner: no segment opens with it, and the index doesn't have the owner for it; of the entities for which the
--- index has the owner it changes and reports none, since the owner was attached
-pub record IsApart (index : Index) (queue : List Timer) (j : Journal) (x : Entry) (a : Attached) : Type 0 where
+-- an entry doesn't concern a number that the index may have: no segment opens with it, and the index doesn't have the number for it; of the
+-- entities for which the index has the number it changes and reports none, since what has the number was attached
+pub record IsApart (index : Index) (queue : List Timer) (j : Journal) (x : Entry) (owner since : ℕ) : Type 0 where
   pub within : opens_segment x ≡ false
   pub journal : IsJournal (more j x)
-  pub entries : knows index Subject.Entries a.owner ≡ false
-  pub events : MatchOption (option_map (λ v. v.0) (event_in x)) (Unit {0}) (λ q. knows index (Subject.Event q) a.owner ≡ false)
-  pub entities : (f : EntityId) → knows index (Subject.Entity f) a.owner ≡ true → nat_lt a.since (length j) ≡ true → (states (more j x) f ≡ states j f) × (reports f x ≡ false)
-  pub times : is_moment x ≡ true → knows index Subject.Moments a.owner ≡ false
-  pub later : is_moment x ≡ true → MatchOption (due_of a.owner queue) (Unit {0}) (λ d. now (more j x) < d)
+  pub entries : knows index Subject.Entries owner ≡ false
+  pub events : MatchOption (option_map (λ v. v.0) (event_in x)) (Unit {0}) (λ q. knows index (Subject.Event q) owner ≡ false)
+  pub entities : (f : EntityId) → knows index (Subject.Entity f) owner ≡ true → nat_lt since (length j) ≡ true → (states (more j x) f ≡ states j f) × (reports f x ≡ false)
+  pub times : is_moment x ≡ true → knows index Subject.Moments owner ≡ false
+  pub later : is_moment x ≡ true → MatchOption (due_of owner queue) (Unit {0}) (λ d. now (more j x) < d)
 
-has-calm : (j : Journal) (x : Entry) (index : Index) (queue : List Timer) (a : Attached) (t : Trigger) (e : Option EntityId) → IsApart index queue j x a → HasFor index a.owner t e → IsCalm j x a.since t.rule e
-has-calm j x index queue a t e apart has = record {
+has-calm : (j : Journal) (x : Entry) (index : Index) (queue : List Timer) (owner since : ℕ) (t : Trigger) (e : Option EntityId) → IsApart index queue j x owner since → HasFor index owner t e → IsCalm j x since t.rule e
+has-calm j x index queue owner since t e apart has = record {
   apart = λ f named lt. apart.entities f (has (Subject.Entity f) named) lt;
   unnamed = by (option_map (λ v. v.0) (event_in x)) apart.events;
-  plain = not-true (concerns t.rule e Subject.Entries) (knows index Subject.Entries a.owner) (has Subject.Entries) apart.entries;
-  untimed = λ moment. not-true (concerns t.rule e Subject.Moments) (knows index Subject.Moments a.owner) (has Subject.Moments) (apart.times moment);
+  plain = not-true (concerns t.rule e Subject.Entries) (knows index Subject.Entries owner) (has Subject.Entries) apart.entries;
+  untimed = λ moment. not-true (concerns t.rule e Subject.Moments) (knows index Subject.Moments owner) (has Subject.Moments) (apart.times moment);
 }
   where
-    by : (o : Option Text) → MatchOption o (Unit {0}) (λ q. knows index (Subject.Event q) a.owner ≡ false) → MatchOption o (Unit {0}) (λ q. concerns t.rule e (Subject.Event q) ≡ false)
+    by : (o : Option Text) → MatchOption o (Unit {0}) (λ q. knows index (Subject.Event q) owner ≡ false) → MatchOption o (Unit {0}) (λ q. concerns t.rule e (Subject.Event q) ≡ false)
     by None k = tt
-    by (Some q) k = not-true (concerns t.rule e (Subject.Event q)) (knows index (Subject.Event q) a.owner) (has (Subject.Event q)) k
+    by (Some q) k = not-true (concerns t.rule e (Subject.Event q)) (knows index (Subject.Event q) owner) (has (Subject.Event q)) k
 
 module _ (index : Index) (queue : List Timer) (j : Journal) (x : Entry) where
-  spot-calm : (a : Attached) (s : Spot) → IsApart index queue j x a → HasAt index a.owner a.triggers (s.trigger, s.entity) → CalmAt j x a.triggers a.since s
-  spot-calm a s apart = by (slice_get a.triggers s.trigger)
+  pub spot-calm : (owner since : ℕ) (triggers : List Trigger) (s : Spot) → IsApart index queue j x owner since → HasAt index owner triggers (s.trigger, s.entity) → CalmAt j x triggers since s
+  spot-calm owner since triggers s apart = by (slice_get triggers s.trigger)
     where
-      by : (o : Option Trigger) → MatchOption o (Unit {0}) (λ t. HasFor index a.owner t s.entity) → MatchOption o (Unit {0}) (λ t. IsCalm j x a.since t.rule s.entity)
+      by : (o : Option Trigger) → MatchOption o (Unit {0}) (λ t. HasFor index owner t s.entity) → MatchOption o (Unit {0}) (λ t. IsCalm j x since t.rule s.entity)
       by None h = tt
-      by (Some t) h = has-calm j x index queue a t s.entity apart h
+      by (Some t) h = has-calm j x index queue owner since t s.entity apart h
 
-  all-calm : (a : Attached) → OwnerStands j a → IsListed index (owner_of a) → IsApart index queue j x a → All a.spots.items (CalmAt j x a.triggers a.since)
+  all-calm : (a : Attached) → OwnerStands j a → IsListed index (owner_of a) → IsApart index queue j x a.owner a.since → All a.spots.items (CalmAt j x a.triggers a.since)
   all-calm a stand listed apart m = by (slice_get a.spots.items m) refl
     where
       by : (o : Option Spot) → slice_get a.spots.items m ≡ o → MatchOption o (Unit {0}) (CalmAt j x a.triggers a.since)
       by None at = tt
       by (Some s) at =
-          spot-calm a s apart
+          spot-calm a.owner a.since a.triggers s apart
           (subst (λ o. MatchOption o (Unit {0}) (HasAt index a.owner a.triggers))
           (ap (λ l. slice_get l m) (sym (stand.spots.places ∙ places-alike j [] a.triggers)) ∙ get-map place_of a.spots.items m ∙ ap (option_map place_of) at) (listed m))
 
   -- its holds are over later
-  all-later : (a : Attached) → HasDue queue a → IsApart index queue j x a → is_moment x ≡ true → (n d : ℕ) → due_of n a.timers ≡ Some d → now (more j x) < d
+  all-later : (a : Attached) → HasDue queue a → IsApart index queue j x a.owner a.since → is_moment x ≡ true → (n d : ℕ) → due_of n a.timers ≡ Some d → now (more j x) < d
   all-later a due apart moment n d is =
       subst (λ o. MatchOption o (Unit {0}) (λ due. now (more j x) < due)) is (later_than (now (more j x)) (due_of a.owner queue) a.timers due (apart.later moment) n)
 
   -- LAW: an owner that the entry doesn't concern stands for the journal with the entry, and fires nothing
-  pub owner-calm : (a : Attached) → OwnerStands j a → IsListed index (owner_of a) → HasDue queue a → IsApart index queue j x a
+  pub owner-calm : (a : Attached) → OwnerStands j a → IsListed index (owner_of a) → HasDue queue a → IsApart index queue j x a.owner a.since
       → OwnerStands (more j x) a × (firings_of (more j x) (length j) (owner_of a) ≡ [])
   owner-calm a stand listed due apart =
       let h = has-past j x apart.journal apart.within in
       let later = all-later a due apart in
       let calm = all-calm a stand listed apart in (
-        record { well = stand.well; spots = calm-stand j x a.triggers a.since h apart.within stand.well a.spots.items a.timers stand.spots calm later },
+        record { well = stand.well; spots = calm-stand j x a.triggers a.since h apart.within stand.well a.spots.items a.timers stand.spots calm later; listed = stand.listed },
         calm-quiet j x a.triggers a.since h apart.within stand.well a.spots.items a.timers stand.spots calm later a.owner,
       )
 
   module _ (owners : List Attached) (known : AreKnown index (map owner_of owners)) (stand : AllOwners owners (OwnerStands j)) (queued : AllOwners owners (HasDue queue)) (n : ℕ)
-      (apart : AtOwner owners n (IsApart index queue j x)) where
+      (apart : AtOwner owners n (λ a. IsApart index queue j x a.owner a.since)) where
     pub both-at : AtOwner owners n (λ a. OwnerStands (more j x) a × (firings_of (more j x) (length j) (owner_of a) ≡ []))
     both-at = by (slice_get owners n) (stand n) (queued n) (subst (λ o. MatchOption o (Unit {0}) (IsListed index)) (get-map owner_of owners n) (known-listed index (map owner_of owners) known n)) apart
       where
         by : (o : Option Attached) → MatchOption o (Unit {0}) (OwnerStands j) → MatchOption o (Unit {0}) (HasDue queue) → MatchOption (option_map owner_of o) (Unit {0}) (IsListed index)
-            → MatchOption o (Unit {0}) (IsApart index queue j x)
+            → MatchOption o (Unit {0}) (λ a. IsApart index queue j x a.owner a.since)
             → MatchOption o (Unit {0}) (λ a. OwnerStands (more j x) a × (firings_of (more j x) (length j) (owner_of a) ≡ []))
         by None t q l i = tt
         by (Some a) t q l i = owner-calm a t l q i
@@ -143,29 +144,29 @@ module _ (scene : Scene) (index : Index) (queue : List Timer) (j : Journal) wher
   abbrev x : Entry
   x = scene.entry.now
 
-  aside-apart : (a : Attached) → Shows scene j a.since → IsAside index queue scene.to scene.shifts.now x a.owner → IsApart index queue j x a
-  aside-apart a shows aside = record {
+  pub aside-apart : (owner since : ℕ) → Shows scene j since → IsAside index queue scene.to scene.shifts.now x owner → IsApart index queue j x owner since
+  aside-apart owner since shows aside = record {
     within = aside.within;
     journal = shows.journal;
     entries = aside.entries;
     events = aside.events;
     entities = λ f has lt.
         subst (λ o. MatchOption o ((states (more j x) f ≡ states j f) × (reports f x ≡ false)) (λ c. (face c.old ≡ face (states j f)) × (face c.new ≡ face (states (more j x) f))))
-        (unshifted index a.owner f scene.shifts.now aside.entities has) (shows.shifts lt f);
+        (unshifted index owner f scene.shifts.now aside.entities has) (shows.shifts lt f);
     times = aside.times;
-    later = λ moment. subst (λ to. MatchOption (due_of a.owner queue) (Unit {0}) (λ d. to < d)) shows.to (aside.later moment);
+    later = λ moment. subst (λ to. MatchOption (due_of owner queue) (Unit {0}) (λ d. to < d)) shows.to (aside.later moment);
   }
 
   module _ (owners : List Attached) (known : AreKnown index (map owner_of owners)) (shows : AllOwners owners (λ a. Shows scene j a.since)) (stand : AllOwners owners (OwnerStands j))
       (queued : AllOwners owners (HasDue queue)) (n : ℕ)
       (aside : AtOwner owners n (λ a. ascend (map owner_of owners) ≡ true → IsAside index queue scene.to scene.shifts.now x a.owner)) where
-    apart-at : AtOwner owners n (IsApart index queue j x)
+    apart-at : AtOwner owners n (λ a. IsApart index queue j x a.owner a.since)
     apart-at = by (slice_get owners n) (shows n) aside
       where
         by : (o : Option Attached) → MatchOption o (Unit {0}) (λ a. Shows scene j a.since) → MatchOption o (Unit {0}) (λ a. ascend (map owner_of owners) ≡ true → IsAside index queue scene.to scene.shifts.now x a.owner)
-            → MatchOption o (Unit {0}) (IsApart index queue j x)
+            → MatchOption o (Unit {0}) (λ a. IsApart index queue j x a.owner a.since)
         by None s i = tt
-        by (Some a) s i = aside-apart a s (i known.ascend)
+        by (Some a) s i = aside-apart a.owner a.since s (i known.ascend)
 
     pub calm-stands : AtOwner owners n (OwnerStands (more j x))
     calm-stands = apart-stands index queue j x owners known stand queued n apart-at

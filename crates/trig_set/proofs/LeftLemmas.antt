@@ -22,7 +22,7 @@ use Rattle.trig_set.proofs.OwnersLemmas.{at-beyond, flat-up}
 use Rattle.trig_set.proofs.RipeLemmas.{none-due}
 use Rattle.trig_set.proofs.SpotLemmas.{get-at}
 
-is-at-same : (n : ℕ) → is_at (nat_cmp n) n ≡ true
+pub is-at-same : (n : ℕ) → is_at (nat_cmp n) n ≡ true
 is-at-same n = grind (arith, nat_tests)
 
 -- LAW: a set that has nothing is empty
@@ -95,7 +95,7 @@ abbrev pub OfListed : List Attached → BTreeSet ℕ → List ℕ → ℕ → Ty
 OfListed owners listed left n = AtOwner owners n (λ a. ascend (map owner_of owners) ≡ true → has listed a.owner ≡ list_any (is_at (nat_cmp a.owner)) left)
 
 module _ (old new : BTreeSet ℕ) (p : ℕ) (updates : Turns old new p true) (n : ℕ) (none : has new n ≡ false) where
-  put-apart : nat_eq p n ≡ false
+  pub put-apart : nat_eq p n ≡ false
   put-apart = by (nat_eq p n) refl
     where
       by : (b : Bool) → nat_eq p n ≡ b → nat_eq p n ≡ false

@@ -16,6 +16,7 @@ pub mod HalvesLemmas
 pub mod OwnersLemmas
 pub mod SetLemmas
 pub mod PlaceLemmas
+pub mod ManyLemmas
 pub mod MovedLemmas
 pub mod BlankLemmas
 pub mod EqualLemmas

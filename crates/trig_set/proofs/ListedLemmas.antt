@@ -14,6 +14,7 @@ use Rattle.event_bus.specs.declared.index.Index.{Index}
 use Rattle.event_bus.specs.Subjects.{Subject, by_entity, concerns, knows}
 use Rattle.trig_set.specs.Kept.{places_of}
 use Rattle.trig_set.specs.Known.{AreKnown, heed, heed_under, heeds}
+use Rattle.trig_set.specs.Listed.{HasAt, HasFor}
 use Rattle.trig_set.specs.Order.{ascend}
 use Rattle.trig_set.proofs.AnyLemmas.{any-at, or-false, or-true, or-turned}
 use Rattle.trig_set.proofs.OrderLemmas.{placed-ascend, without-ascend}
@@ -236,14 +237,6 @@ module _ (P : ℕ × Option EntityId → Type 0) (triggers : List Trigger) (each
   -- LAW: what holds of each trigger with each of its entities holds at each place
   pub each-place : (n : ℕ) → MatchOption (slice_get (places_of [] triggers) n) (Unit {0}) P
   each-place = from [] triggers refl
-
--- the index has the owner for all that concerns a trigger, for one of its entities
-abbrev pub HasFor : Index → ℕ → Trigger → Option EntityId → Type 0
-HasFor index owner t e = (s : Subject) → concerns t.rule e s ≡ true → knows index s owner ≡ true
-
--- for the trigger of an index and an entity, if there is one
-abbrev pub HasAt : Index → ℕ → List Trigger → ℕ × Option EntityId → Type 0
-HasAt index owner triggers p = MatchOption (slice_get triggers p.0) (Unit {0}) (λ t. HasFor index owner t p.1)
 
 -- for each of its triggers and their entities
 abbrev pub IsListed : Index → Owner → Type 0

@@ -17,7 +17,7 @@ use Rattle.ha_past.proofs.ListLemmas.{up_to-snoc}
 pub at-along : (P : Attached → Type 0) (xs ys : List Attached) (n : ℕ) → slice_get xs n ≡ slice_get ys n → AtOwner ys n P → AtOwner xs n P
 at-along P xs ys n e h = subst (λ o. MatchOption o (Unit {0}) P) (sym e) h
 
-get-beyond : {X : Type 0} (xs : List X) (n : ℕ) → length xs ≤ n → slice_get xs n ≡ None
+pub get-beyond : {X : Type 0} (xs : List X) (n : ℕ) → length xs ≤ n → slice_get xs n ≡ None
 get-beyond [] n le = refl
 get-beyond (x ∷ xs) zero le = absurd (omega (arith, le))
 get-beyond (x ∷ xs) (suc n) le = get-beyond xs n (omega (arith, le))

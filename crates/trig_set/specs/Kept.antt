@@ -140,6 +140,9 @@ firing_in owner s =
 abbrev pub cleared : Spot → Spot
 cleared s = record s { fired = None }
 
+abbrev pub cleared_at : ℕ → List Spot → List Spot
+cleared_at n spots = option_map_or (λ s. slice_set spots n (cleared s)) (slice_get spots n) spots
+
 -- what the spots of an owner are, with their timers, after a journal
 pub record SpotsStand (j : Journal) (triggers : List Trigger) (since : ℕ) (spots : List Spot) (timers : List Timer) : Type 0 where
   pub kept : All spots (KeepsAt j triggers since)

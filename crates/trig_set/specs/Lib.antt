@@ -9,6 +9,7 @@ pub mod Equality
 pub mod Shifts
 pub mod Order
 pub mod Known
+pub mod Listed
 pub mod Queued
 pub mod Concerned
 pub mod Places

@@ -25,6 +25,7 @@ attached s = map owner_of s.owners
 pub record OwnerStands (j : Journal) (a : Attached) : Type 0 where
   pub well : AreWell a.triggers
   pub spots : SpotsStand j a.triggers a.since a.spots.items a.timers
+  pub listed : MatchOption a.listed (Unit {0}) (λ ts. ts ≡ a.triggers)
 
 -- what holds of the owner at a place, and of all
 abbrev pub AtOwner : List Attached → ℕ → (Attached → Type 0) → Type 0

@@ -89,7 +89,7 @@ fn step_one<A: Answers>(
 }
 
 /// The same, of the spot at a place of the list.
-fn step_at<A: Answers>(
+pub fn step_at<A: Answers>(
     alloc: Global,
     scene: &Scene<'_>,
     answers: &A,
@@ -154,7 +154,7 @@ fn take(spot: &mut Spot)
 }
 
 /// The hold of the spot at a place fires, if there is one.
-fn take_at(place: u64, spots: &mut [Spot])
+pub fn take_at(place: u64, spots: &mut [Spot])
     ensures { spots.new ≡ taken_at place spots.old }
 {
     if (place as usize) < spots.len() {
@@ -185,7 +185,7 @@ fn firing(alloc: Global, owner: u64, spot: &Spot, value: TriggerData) -> Result<
 }
 
 /// What a spot fires with is taken out of it.
-fn collect_one(
+pub fn collect_one(
     alloc: Global,
     owner: u64,
     spot: &mut Spot,

@@ -9,7 +9,8 @@ use std::marker::Model;
 /// Entities with their states before an entry; none where an entity has none.
 #[derive(Drop)]
 pub struct Before {
-    /// The only entity, if there is one; the others don't count then. It stands where the state after the entry is put beside the old one.
+    /// The only entity, if there is one; the others don't count then. It is a `Shift` already, in which the state after the entry is put
+    /// beside the old one.
     pub(crate) alone: Option<Box<Shift>>,
     pub(crate) several: Many<(EntityId, Option<StateObject>)>,
     /// Where the index may have the only entity.

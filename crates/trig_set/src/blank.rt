@@ -2,12 +2,15 @@
 ghost use Rattle.std.specs.Prelude.{◌≡◌, ◌≤◌, ◌<◌, ◌+◌, ◌++◌, ◌∷◌, [], ℕ, List, Option, IfOk, OnOk, Some, None, length, map, take, true, if◌then◌else◌};
 ghost use Rattle.std.specs.List.{list_any};
 ghost use Rattle.ha_value.specs.declared.value.EntityId.{EntityId as Entity};
+ghost use Rattle.event_bus.specs.Subjects.{Subject, concerns, knows};
 ghost use Rattle.ha_model.specs.Words.{same_entity};
 ghost use Rattle.ha_model.specs.Triggers.{each_once, entities_of};
 ghost use Rattle.trig_set.specs.Blank.{are_blank, entity_places};
 ghost use Rattle.trig_set.specs.Kept.{place_of, places_of};
 
+use crate::many_spots::FEW;
 use crate::spot::Spot;
+use event_bus::Index;
 use ha_model::{EntityId, Plain, Trigger, TriggerRule, same_id};
 use std::alloc::{AllocError, Global};
 
@@ -54,8 +57,64 @@ fn add_at(
     add(trigger, Some(entity.copy(alloc)?), spots)
 }
 
-/// The spots of entities, each once.
-fn add_entities(
+/// Whether an entity was put into an index, under the number 0.
+fn is_seen(seen: &Index, entity: &EntityId) -> bool
+    ensures { result ≡ knows seen.now (Subject.Entity entity.now) 0 }
+{
+    match seen.of_entity(entity) {
+        Some(numbers) => numbers.contains(&0),
+        None => false,
+    }
+}
+
+/// The same as `add_at`, where the index has those before, and then has this one too.
+fn add_unseen(
+    alloc: Global,
+    trigger: u32,
+    rule: &TriggerRule,
+    entities: &[EntityId],
+    place: usize,
+    seen: &mut Index,
+    spots: &mut Vec<Spot>,
+) -> Result<(), AllocError>
+    requires within { place < length entities.now }
+    requires ruled { (e f : Entity) → concerns rule.now (Some e) (Subject.Entity f) ≡ same_entity e f }
+    requires seen { (e : Entity) → knows seen.old (Subject.Entity e) 0 ≡ list_any (λ x. same_entity x e) (take place entities.now) }
+    ensures seen { OnOk result ((e : Entity) → knows seen.new (Subject.Entity e) 0 ≡ list_any (λ x. same_entity x e) (take (place + 1) entities.now)) }
+    ensures places { OnOk result ((front : List (ℕ × Option Entity)) → map place_of spots.old.items ≡ front ++ entity_places trigger (each_once (take place entities.now))
+        → map place_of spots.new.items ≡ front ++ entity_places trigger (each_once (take (place + 1) entities.now))) }
+    ensures blank { OnOk result (are_blank spots.old.items ≡ true → are_blank spots.new.items ≡ true) }
+{
+    let entity = &entities[place];
+    let known = is_seen(seen, entity);
+    seen.put(alloc, rule, Some(entity), 0)?;
+    if known {
+        return Ok(());
+    }
+    add(trigger, Some(entity.copy(alloc)?), spots)
+}
+
+/// The spots of many entities, each once: an index has those that came, so that each takes one look-up.
+fn add_many(
+    alloc: Global,
+    trigger: u32,
+    rule: &TriggerRule,
+    entities: &[EntityId],
+    spots: &mut Vec<Spot>,
+) -> Result<(), AllocError>
+    requires { (e f : Entity) → concerns rule.now (Some e) (Subject.Entity f) ≡ same_entity e f }
+    ensures places { OnOk result (map place_of spots.new.items ≡ map place_of spots.old.items ++ entity_places trigger (each_once entities.now)) }
+    ensures blank { OnOk result (are_blank spots.old.items ≡ true → are_blank spots.new.items ≡ true) }
+{
+    let mut seen = Index::make(alloc);
+    for place in 0..entities.len() {
+        add_unseen(alloc, trigger, rule, entities, place, &mut seen, spots)?;
+    }
+    Ok(())
+}
+
+/// The spots of a few entities, each once.
+fn add_few(
     alloc: Global,
     trigger: u32,
     entities: &[EntityId],
@@ -70,6 +129,25 @@ fn add_entities(
     Ok(())
 }
 
+/// The spots of the entities of a rule, each once.
+fn add_entities(
+    alloc: Global,
+    trigger: u32,
+    rule: &TriggerRule,
+    entities: &[EntityId],
+    spots: &mut Vec<Spot>,
+) -> Result<(), AllocError>
+    requires { (e f : Entity) → concerns rule.now (Some e) (Subject.Entity f) ≡ same_entity e f }
+    ensures places { OnOk result (map place_of spots.new.items ≡ map place_of spots.old.items ++ entity_places trigger (each_once entities.now)) }
+    ensures blank { OnOk result (are_blank spots.old.items ≡ true → are_blank spots.new.items ≡ true) }
+{
+    if FEW < entities.len() {
+        add_many(alloc, trigger, rule, entities, spots)
+    } else {
+        add_few(alloc, trigger, entities, spots)
+    }
+}
+
 /// The spots of a trigger.
 fn add_trigger(
     alloc: Global,
@@ -82,10 +160,10 @@ fn add_trigger(
 {
     match &trigger.rule {
         TriggerRule::State { entities, .. } => {
-            add_entities(alloc, index, entities.as_slice(), spots)
+            add_entities(alloc, index, &trigger.rule, entities.as_slice(), spots)
         }
         TriggerRule::Numeric { entities, .. } => {
-            add_entities(alloc, index, entities.as_slice(), spots)
+            add_entities(alloc, index, &trigger.rule, entities.as_slice(), spots)
         }
         TriggerRule::Event { .. }
         | TriggerRule::Time(_)

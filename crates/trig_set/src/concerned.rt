@@ -41,7 +41,7 @@ pub fn place_of(owners: &[Attached], owner: u64) -> usize
     low
 }
 
-/// Puts the places of owners in.
+/// Puts in the places of owners.
 fn put_places(
     owners: &[Attached],
     listed: &BTreeSet<u64>,
@@ -71,7 +71,7 @@ fn put_some(
     }
 }
 
-/// Puts the places of those in whom an event concerns.
+/// Puts in the places of those whom an event concerns.
 fn put_event(
     index: &Index,
     entry: &Entry,
@@ -87,7 +87,7 @@ fn put_event(
     }
 }
 
-/// Puts the places of those in whom a change of one of the entities concerns. `near` says where the index may have the only one.
+/// Puts in the places of those whom a change of one of the entities concerns. `near` says where the index may have the only one.
 fn put_entities(
     index: &Index,
     shifts: &[Shift],
@@ -108,7 +108,7 @@ fn put_entities(
     Ok(())
 }
 
-/// Puts the places of those in who have a hold that is over. What the queue has for the others stays.
+/// Puts in the places of those who have a hold that is over. What the queue has for the others stays.
 fn put_due(
     owners: &[Attached],
     queue: &mut TimerQueue,
@@ -125,7 +125,7 @@ fn put_due(
     Ok(())
 }
 
-/// Puts the places of those in whom a moment concerns: those with a trigger on times, and with a hold that is over.
+/// Puts in the places of those whom a moment concerns: those with a trigger on times, and with a hold that is over.
 fn put_timely(
     index: &Index,
     to: Moment,

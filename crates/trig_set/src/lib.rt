@@ -11,6 +11,7 @@ mod event;
 pub mod laws;
 mod left;
 mod listed;
+mod many_spots;
 mod moved;
 mod moving;
 mod noted;

@@ -17,6 +17,7 @@ use crate::attached::note_spots;
 use crate::blank::add_triggers;
 use crate::concerned::place_of;
 use crate::listed::unlist;
+use crate::many_spots::{Listed, list_many, note_listed};
 use crate::scene::Scene;
 use crate::spot::Spot;
 use event_bus::Index;
@@ -34,6 +35,8 @@ pub struct Attached {
     pub spots: Vec<Spot>,
     /// The dues of the pending holds, each under the place of its spot.
     pub timers: TimerQueue,
+    /// Where a trigger has many entities: the places of the spots, by what concerns them.
+    pub listed: Option<Listed>,
 }
 
 /// What the entry makes of an owner; what fires is appended.
@@ -51,17 +54,31 @@ fn note_one<A: Answers>(
         → OwnerStands j attached.old → fired.new ≡ fired.old ++ firings_of (more j scene.now.entry.now) (length j) (owner_of attached.old)) }
     ensures same { owner_of attached.new ≡ owner_of attached.old }
 {
-    note_spots(
-        alloc,
-        scene,
-        answers,
-        attached.owner,
-        attached.since,
-        &attached.triggers,
-        attached.spots.as_mut_slice(),
-        &mut attached.timers,
-        fired,
-    )
+    match &attached.listed {
+        Some(listed) => note_listed(
+            alloc,
+            scene,
+            answers,
+            attached.owner,
+            attached.since,
+            &attached.triggers,
+            listed,
+            attached.spots.as_mut_slice(),
+            &mut attached.timers,
+            fired,
+        ),
+        None => note_spots(
+            alloc,
+            scene,
+            answers,
+            attached.owner,
+            attached.since,
+            &attached.triggers,
+            attached.spots.as_mut_slice(),
+            &mut attached.timers,
+            fired,
+        ),
+    }
 }
 
 /// The same, of the owner at a place of the list.
@@ -99,12 +116,14 @@ pub fn fresh(
 {
     let mut spots = Vec::new(alloc);
     add_triggers(alloc, triggers.as_slice(), &mut spots)?;
+    let listed = list_many(alloc, triggers, spots.as_slice())?;
     Ok(Attached {
         owner,
         since,
         triggers: triggers.copy(alloc)?,
         spots,
         timers: TimerQueue::make(alloc),
+        listed,
     })
 }
 

@@ -6,6 +6,8 @@ mod holds;
 #[cfg(test)]
 mod home;
 #[cfg(test)]
+mod many;
+#[cfg(test)]
 mod rules;
 #[cfg(test)]
 mod templates;

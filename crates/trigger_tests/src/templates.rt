@@ -38,7 +38,7 @@ fn is_over(alloc: Global, id: &str) -> Result<Expr, AllocError>
 }
 
 /// `{{ states(id)|int > 20 }}`.
-fn over_twenty(alloc: Global, id: &str) -> Result<TriggerRule, AllocError>
+pub fn over_twenty(alloc: Global, id: &str) -> Result<TriggerRule, AllocError>
     ensures sound { IfOk result (λ rule. IsTrue (is_sound_rule rule)) }
     ensures may { IfOk result (λ rule. IsTrue (may_hold rule)) }
 {

@@ -44,7 +44,7 @@ pub fn held(alloc: Global, rule: TriggerRule) -> Result<Many<Trigger>, AllocErro
     trigger(alloc, rule, hold)
 }
 
-fn five_seconds() -> Option<Span>
+pub fn five_seconds() -> Option<Span>
     ensures { IsTrue (if_there (λ d. nat_lt 0 d) result) }
 {
     Span::of(5_000)
@@ -76,7 +76,7 @@ pub fn two(
     Ok(triggers)
 }
 
-/// The entities of at most 16 ids.
+/// The entities of at most 32 ids.
 pub fn entities(alloc: Global, ids: &[&str]) -> Result<Many<EntityId>, AllocError>
     ensures { IfOk result (λ es. IsTrue (is_short es)) }
 {
@@ -84,7 +84,7 @@ pub fn entities(alloc: Global, ids: &[&str]) -> Result<Many<EntityId>, AllocErro
     for id in ids {
         entities.push(entity(alloc, id)?)?;
     }
-    if entities.len() <= 16 {
+    if entities.len() <= 32 {
         Ok(entities)
     } else {
         Err(AllocError)

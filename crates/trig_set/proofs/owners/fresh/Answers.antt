@@ -14,7 +14,7 @@ returns-clause-stands c j le =
     let ts = c.args.triggers.now in
     let spots = c.add_triggers.new.spots in
     let blank : are_blank spots.items ≡ true = c.in_ok-add_triggers.ensures.blank (ap are_blank c.new-spots.ensures.items) in
-    subst (λ l. OwnerStands j (record { owner = c.args.owner; since = c.args.since; triggers = l; spots = spots; timers = c.make.result })) (sym c.in_ok-copy.ensures)
+    subst (λ l. OwnerStands j (record { owner = c.args.owner; since = c.args.since; triggers = l; spots = spots; timers = c.make.result; listed = c.in_ok-listed.listed })) (sym c.in_ok-copy.ensures)
     (record {
       well = sound-well ts (both (is_short ts) (list_all is_sound_trigger ts) c.requires).1;
       spots = record {
@@ -22,6 +22,7 @@ returns-clause-stands c j le =
         places = c.in_ok-add_triggers.ensures.places ∙ (λ i. map place_of (c.new-spots.ensures.items i) ++ places_of [] (c.as_slice.ensures i)) ∙ places-alike [] j ts;
         timed = subst (λ l. AreTimed l spots.items) (sym c.make.ensures) (blank-timed spots.items blank);
       };
+      listed = c.in_ok-listed.ensures;
     })
 
 pub returns-clause-due : goal.returns-clause-due
