@@ -49,6 +49,8 @@ NUMBERS = ("1000000000000", "1000000000000.0", "1000000000000.0000004", "1000000
            "-1000000000000.0000005", "00012", "-0", "-0.0", "+5", "0.0000005", "0.0000015", "0.00000050000000000000001", "1.", ".5",
            "1e3", "99999999999999999999999", "0.1234567", "2.50", "-0.0000001")
 
+LIGHTS = [f"light.m{n}" for n in range(40)]
+
 HOMES = {
     "while without end": home([go([{"repeat": {"while": "{{ true }}", "sequence": []}}, call()])], [event("go"), event("go")]),
     "until without end in a branch": home([go([{"parallel": [[{"repeat": {"until": "{{ false }}", "sequence": []}}],
@@ -113,6 +115,23 @@ HOMES = {
                    ['{"restart":true}', moment("20:00:01"), '{"restart":true}', '{"restart":true}', moment("20:00:03")]),
     "starts without lines": home([on({"trigger": "homeassistant", "event": "start"}, actions=[call(), {"event": "go"}]),
                                   {"alias": "b"} | GO | {"actions": [call("notify.b")]}], []),
+    "many entities": home([
+        {"alias": "a", "mode": "parallel", "max": 50, "triggers": [
+            {"trigger": "state", "entity_id": LIGHTS, "to": "on", "for": 5}, {"trigger": "event", "event_type": "go"},
+            {"trigger": "template", "value_template": "{{ states('light.m3') == 'on' }}"}, {"trigger": "time", "at": "20:00:03"},
+            {"trigger": "numeric_state", "entity_id": LIGHTS, "above": 20}, {"trigger": "numeric_state", "entity_id": LIGHTS, "below": 9, "for": 2}],
+         "actions": [call(n="{{ trigger.platform }} {{ trigger.idx }}")]},
+        on({"trigger": "state", "entity_id": LIGHTS}, alias="b", mode="parallel", max=50, actions=[
+            call(n="{{ trigger.entity_id }} {{ trigger.to_state.state }}")]),
+        go([{"wait_for_trigger": {"trigger": "state", "entity_id": LIGHTS, "to": "off"}, "timeout": 4},
+            call(n="{{ wait.trigger.entity_id }}")], alias="c", mode="parallel", max=50)],
+        [report("light.m3", "on"), report("light.m39", "on"), event("go"), moment("20:00:01"), report("light.m17", "21"),
+         report("light.m17", "22"), report("light.m18", "8"), report("light.m0", "on"), moment("20:00:02"), report("light.m39", "off"),
+         report("light.m39", "off"), event("go"), moment("20:00:03"), report("light.m18", "9"), report("light.m18", "7"),
+         report("light.x", "on"), moment("20:00:05"), '{"gone":"light.m0"}', moment("20:00:06"), report("light.m3", "off"),
+         report("light.m3", "on"), '{"switch":"automation.a","to":"off"}', moment("20:00:12"), '{"switch":"automation.a","to":"on"}',
+         report("light.m4", "on"), report("light.m5", "on"), moment("20:00:14"), '{"restart":true}', moment("20:00:20"),
+         report("light.m4", "on"), report("light.m6", "30"), event("go"), moment("20:00:30")]),
     "keys in a line": home([go([call(n="{{ trigger.event.data.n }}")], mode="parallel")],
                            ['{ "data" : { "n" : 1 } , "event" : "go" }', '{"\\u0065vent":"go"}', '{"event":"go","event":"go"}',
                             '{"event":"go","data":{"a":1,"\\u0061":2}}', '{"event":"go","gone":"light.x"}', '{"event":"go","x":1}',
