@@ -3,7 +3,7 @@ use Rattle.std.proofs.Common.{◌≡◌, ◌+◌, ap, refl, ℕ, Bool, List, [],
 use Rattle.std.specs.Prelude.{◌&&◌, nat_lt}
 use Rattle.std.proofs.lemmas.List.{length-map}
 use Rattle.std.proofs.lemmas.List.Folds.{list_all-map}
-use Rattle.ha_model.specs.Sound.{all_short, is_sound_template}
+use Rattle.ha_config.specs.Sound.{all_short, is_sound_template}
 use Rattle.conf_field.specs.Holds.{Holds}
 use Rattle.conf_field.specs.Kinds.{template_by}
 use Rattle.conf_field.specs.Readings.{Read, behind, each, each_behind}

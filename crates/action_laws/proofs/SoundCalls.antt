@@ -3,13 +3,13 @@ use Rattle.std.proofs.Common.{◌≡◌, ◌∙◌, ◌<◌, ◌≤◌, ◌+◌,
 use Rattle.std.specs.Prelude.{◌&&◌, if◌then◌else◌, nat_eq, codes, is_some}
 use Rattle.std.specs.List.{list_all}
 use Rattle.ha_value.specs.Ids.{read_entity}
-use Rattle.ha_model.specs.declared.config.SpanForm.{SpanForm}
-use Rattle.ha_model.specs.declared.template.Template.{Template}
-use Rattle.ha_model.specs.declared.template.Piece.{Piece}
-use Rattle.ha_model.specs.declared.template.Piece.TheVariants as pieces
-use Rattle.ha_model.specs.declared.template.Piece.TheOpen.{Piece-F}
-use Rattle.ha_model.specs.declared.template.Piece.TheFolds.{fold-Piece, fold-roll-Piece, fold-roll-Template}
-use Rattle.ha_model.specs.Sound.{all_true, is_sound_span, is_sound_template, sound_piece_step}
+use Rattle.ha_config.specs.declared.config.SpanForm.{SpanForm}
+use Rattle.ha_config.specs.declared.template.Template.{Template}
+use Rattle.ha_config.specs.declared.template.Piece.{Piece}
+use Rattle.ha_config.specs.declared.template.Piece.TheVariants as pieces
+use Rattle.ha_config.specs.declared.template.Piece.TheOpen.{Piece-F}
+use Rattle.ha_config.specs.declared.template.Piece.TheFolds.{fold-Piece, fold-roll-Piece, fold-roll-Template}
+use Rattle.ha_config.specs.Sound.{all_true, is_sound_span, is_sound_template, sound_piece_step}
 use Rattle.yaml_scan.specs.declared.fault.Code.TheVariants as code
 use Rattle.yaml_scan.specs.Words.{trimmed, without_blanks}
 use Rattle.yaml_tree.specs.declared.node.Node.{Node}

@@ -3,14 +3,14 @@ use Rattle.std.proofs.Common.{◌≡◌, ◌∙◌, ◌<◌, ap, refl, sym, subs
 use Rattle.std.specs.Prelude.{◌&&◌}
 use Rattle.std.proofs.lemmas.List.{length-map}
 use Rattle.ha_value.specs.declared.value.Value.{Value}
-use Rattle.ha_model.specs.declared.config.Form.{Form}
-use Rattle.ha_model.specs.declared.config.Form.TheVariants as forms
-use Rattle.ha_model.specs.declared.config.Form.TheOpen.{Form-F}
-use Rattle.ha_model.specs.declared.config.Form.TheFolds.{fold-roll-Form}
-use Rattle.ha_model.specs.declared.template.Template.{Template}
-use Rattle.ha_model.specs.Commands.{all_distinct}
-use Rattle.ha_model.specs.Sound.{all_short, are_sound_fields, is_plain_value, is_sound_form, is_sound_template, sound_form_step}
-use Rattle.ha_model.specs.Words.{Text}
+use Rattle.ha_config.specs.declared.config.Form.{Form}
+use Rattle.ha_config.specs.declared.config.Form.TheVariants as forms
+use Rattle.ha_config.specs.declared.config.Form.TheOpen.{Form-F}
+use Rattle.ha_config.specs.declared.config.Form.TheFolds.{fold-roll-Form}
+use Rattle.ha_config.specs.declared.template.Template.{Template}
+use Rattle.ha_config.specs.ValueFacts.{all_distinct}
+use Rattle.ha_config.specs.Sound.{all_short, are_sound_fields, is_plain_value, is_sound_form, is_sound_template, sound_form_step}
+use Rattle.ha_config.specs.Words.{Text}
 use Rattle.yaml_scan.specs.declared.fault.Code.TheVariants as code
 use Rattle.yaml_tree.specs.declared.node.Node.{Node}
 use Rattle.yaml_tree.specs.declared.node.NodeKind.TheOpen.{NodeKind-F}

@@ -1,19 +1,19 @@
 -- When an action is sound, by its kind.
 use Rattle.std.proofs.Common.{◌≡◌, ◌∙◌, ap, sym, Bool, true, List, map, Option}
 use Rattle.std.specs.Prelude.{◌&&◌}
-use Rattle.ha_model.specs.declared.template.Template.{Template}
-use Rattle.ha_model.specs.declared.config.Action.{Action}
-use Rattle.ha_model.specs.declared.config.ActionKind.{ActionKind}
-use Rattle.ha_model.specs.declared.config.ActionKind.TheVariants as does
-use Rattle.ha_model.specs.declared.config.ActionKind.TheOpen.{ActionKind-F}
-use Rattle.ha_model.specs.declared.config.ActionKind.TheFolds.{fold-ActionKind, fold-roll-ActionKind, fold-roll-Action}
-use Rattle.ha_model.specs.declared.config.Condition.{Condition}
-use Rattle.ha_model.specs.declared.config.Form.{Form}
-use Rattle.ha_model.specs.declared.config.RepeatKind.{RepeatKind}
-use Rattle.ha_model.specs.declared.config.SpanForm.{SpanForm}
-use Rattle.ha_model.specs.declared.config.Trigger.{Trigger}
-use Rattle.ha_model.specs.Sound.{all_short, all_true, are_sound_actions, are_sound_conditions, are_sound_fields, are_sound_triggers, if_there, is_sound_action, is_sound_condition, is_sound_repeat, is_sound_span, is_sound_template, sound_kind_step}
-use Rattle.ha_model.specs.Words.{Text}
+use Rattle.ha_config.specs.declared.template.Template.{Template}
+use Rattle.ha_config.specs.declared.config.Action.{Action}
+use Rattle.ha_config.specs.declared.config.ActionKind.{ActionKind}
+use Rattle.ha_config.specs.declared.config.ActionKind.TheVariants as does
+use Rattle.ha_config.specs.declared.config.ActionKind.TheOpen.{ActionKind-F}
+use Rattle.ha_config.specs.declared.config.ActionKind.TheFolds.{fold-ActionKind, fold-roll-ActionKind, fold-roll-Action}
+use Rattle.ha_config.specs.declared.config.Condition.{Condition}
+use Rattle.ha_config.specs.declared.config.Form.{Form}
+use Rattle.ha_config.specs.declared.config.RepeatKind.{RepeatKind}
+use Rattle.ha_config.specs.declared.config.SpanForm.{SpanForm}
+use Rattle.ha_config.specs.declared.config.Trigger.{Trigger}
+use Rattle.ha_config.specs.Sound.{all_short, all_true, are_sound_actions, are_sound_conditions, are_sound_fields, are_sound_triggers, if_there, is_sound_action, is_sound_condition, is_sound_repeat, is_sound_span, is_sound_template, sound_kind_step}
+use Rattle.ha_config.specs.Words.{Text}
 use Rattle.action_laws.proofs.Readings.{short_map}
 
 -- ---- an action by its kind

@@ -1,20 +1,20 @@
 -- What roles, fields and parts of actions are sound by.
 use Rattle.std.proofs.Common.{◌≡◌, ◌∙◌, ◌<◌, ap, refl, sym, ℕ, Bool, true, false, List, [], ◌∷◌, ◌++◌, Option, Some, None, arith, length-append}
 use Rattle.std.specs.Prelude.{◌&&◌, if◌then◌else◌}
-use Rattle.ha_model.specs.declared.config.Action.{Action}
-use Rattle.ha_model.specs.declared.config.ActionKind.{ActionKind}
-use Rattle.ha_model.specs.declared.config.ActionKind.TheVariants as does
-use Rattle.ha_model.specs.declared.config.Condition.{Condition}
-use Rattle.ha_model.specs.declared.config.Condition.TheVariants as tests
-use Rattle.ha_model.specs.declared.config.Condition.TheOpen.{Condition-F}
-use Rattle.ha_model.specs.declared.config.Condition.TheFolds.{fold-roll-Condition}
-use Rattle.ha_model.specs.declared.config.Form.{Form}
-use Rattle.ha_model.specs.declared.config.RepeatKind.{RepeatKind}
-use Rattle.ha_model.specs.declared.config.SpanForm.{SpanForm}
-use Rattle.ha_model.specs.declared.config.Trigger.{Trigger}
-use Rattle.ha_model.specs.declared.template.Template.{Template}
-use Rattle.ha_model.specs.Sound.{all_short, are_sound_actions, are_sound_conditions, are_sound_fields, are_sound_triggers, if_there, is_sound_action, is_sound_condition, is_sound_repeat, is_sound_span, is_sound_template, sound_condition_step}
-use Rattle.ha_model.specs.Words.{Text}
+use Rattle.ha_config.specs.declared.config.Action.{Action}
+use Rattle.ha_config.specs.declared.config.ActionKind.{ActionKind}
+use Rattle.ha_config.specs.declared.config.ActionKind.TheVariants as does
+use Rattle.ha_config.specs.declared.config.Condition.{Condition}
+use Rattle.ha_config.specs.declared.config.Condition.TheVariants as tests
+use Rattle.ha_config.specs.declared.config.Condition.TheOpen.{Condition-F}
+use Rattle.ha_config.specs.declared.config.Condition.TheFolds.{fold-roll-Condition}
+use Rattle.ha_config.specs.declared.config.Form.{Form}
+use Rattle.ha_config.specs.declared.config.RepeatKind.{RepeatKind}
+use Rattle.ha_config.specs.declared.config.SpanForm.{SpanForm}
+use Rattle.ha_config.specs.declared.config.Trigger.{Trigger}
+use Rattle.ha_config.specs.declared.template.Template.{Template}
+use Rattle.ha_config.specs.Sound.{all_short, are_sound_actions, are_sound_conditions, are_sound_fields, are_sound_triggers, if_there, is_sound_action, is_sound_condition, is_sound_repeat, is_sound_span, is_sound_template, sound_condition_step}
+use Rattle.ha_config.specs.Words.{Text}
 use Rattle.conf_field.specs.Holds.{Holds, IfThere}
 use Rattle.conf_field.specs.Readings.{Read}
 use Rattle.conf_script.specs.Actions as a

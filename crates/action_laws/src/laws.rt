@@ -1,7 +1,7 @@
 //! Laws of the definitions alone. Each is a function that does nothing; its contract is the law.
 
 ghost use Rattle.std.specs.Prelude.{IsTrue};
-ghost use Rattle.ha_model.specs.Sound.{are_sound_actions};
+ghost use Rattle.ha_config.specs.Sound.{are_sound_actions};
 ghost use Rattle.yaml_tree.specs.declared.node.Node.{Node};
 ghost use Rattle.conf_field.specs.Holds.{Holds};
 ghost use Rattle.conf_field.specs.Sizes.{IsSoundTree};

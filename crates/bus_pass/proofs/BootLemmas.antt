@@ -1,9 +1,9 @@
 -- A journal that is the boot alone runs, no worker has an entry in it, and it is not full.
 use Rattle.std.proofs.Common.{◌≡◌, ◌∙◌, ap, refl, sym, subst, ℕ, [], ◌∷◌, length, arith}
 use Rattle.std.specs.Prelude.{Some}
-use Rattle.ha_model.specs.declared.journal.Entry.{Entry}
-use Rattle.ha_model.specs.declared.journal.Entry.TheVariants.{Boot, Line, Step}
-use Rattle.ha_model.specs.Journal.{Journal}
+use Rattle.ha_journal.specs.declared.entry.Entry.{Entry}
+use Rattle.ha_journal.specs.declared.entry.Entry.TheVariants.{Boot, Line, Step}
+use Rattle.ha_journal.specs.Journal.{Journal}
 use Rattle.ha_model.specs.Lawful.{Right, Running}
 use Rattle.ha_model.specs.Records.{Records}
 use Rattle.bus_turn.specs.declared.fault.BusFault.{BusFault}

@@ -6,7 +6,7 @@ use mathlib.Core.Option.{some, some-injective, some-ne-none}
 use mathlib.Core.Option as maybe
 use lib.ListN.{get_elem?}
 use Rattle.atomic_table.proofs.Lists.{at_set}
-use Rattle.ha_model.specs.declared.journal.Entry.{Entry}
+use Rattle.ha_journal.specs.declared.entry.Entry.{Entry}
 use Rattle.bus_turn.specs.declared.fault.BusFault.{BusFault}
 use Rattle.bus_pass.specs.Rule.{heard_by}
 use Rattle.bus_pass.specs.declared.hand.Hand.{Hand}

@@ -4,8 +4,8 @@ use Rattle.std.proofs.lemmas.List.{map-append, take-append-le}
 use Rattle.std.proofs.lemmas.Bool.{ne_eqb}
 use Rattle.std.proofs.lemmas.Map.Views.{exact_unsigned_eq}
 use Rattle.std.proofs.Math.Seq.{take-append_seam}
-use Rattle.ha_model.specs.declared.journal.Entry.{Entry}
-use Rattle.ha_model.specs.declared.journal.Entry.TheVariants.{Boot, Line, Step}
+use Rattle.ha_journal.specs.declared.entry.Entry.{Entry}
+use Rattle.ha_journal.specs.declared.entry.Entry.TheVariants.{Boot, Line, Step}
 use Rattle.bus_pass.specs.Journal.{is_of, placed}
 use Rattle.bus_pass.specs.Reads.{Reads}
 use Rattle.bus_pass.specs.Rule.{given, notes, bare, Stands, grown, IsPutAs, Told, AllTold, IsList, AreAsRead}

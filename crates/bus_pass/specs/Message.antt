@@ -1,6 +1,6 @@
 -- What contracts see of a message: the bus, and what was read for the entries that were put with it.
 use Rattle.std.specs.Prelude.{Option}
-use Rattle.ha_model.specs.Journal.{Journal}
+use Rattle.ha_journal.specs.Journal.{Journal}
 use Rattle.bus_turn.specs.declared.fault.BusFault.{BusFault}
 use Rattle.bus_turn.specs.Shown.{BusView}
 use Rattle.bus_pass.specs.declared.hand.Origin.{Origin}

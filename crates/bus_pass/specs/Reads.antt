@@ -1,8 +1,8 @@
 -- What was read for the entries of one give.
 use Rattle.std.specs.Prelude.{ℕ, ◌-◌, List, Option, None, if◌then◌else◌, nat_le, slice_get}
-use Rattle.ha_model.specs.declared.journal.Cmd.{Cmd}
-use Rattle.ha_model.specs.declared.journal.Entry.{Entry}
-use Rattle.ha_model.specs.declared.journal.Entry.TheVariants.{Boot, Line, Step}
+use Rattle.ha_config.specs.declared.command.Cmd.{Cmd}
+use Rattle.ha_journal.specs.declared.entry.Entry.{Entry}
+use Rattle.ha_journal.specs.declared.entry.Entry.TheVariants.{Boot, Line, Step}
 
 -- the commands that were read, the number of the line of the first, and the number of the first line that was not put
 pub record Reading : Type 0 where

@@ -1,6 +1,7 @@
 //! What a pass knows. Code makes none of these values: contracts and proofs alone speak of them.
 use bus_turn::BusFault;
-use ha_model::{Cmd, Entry};
+use ha_config::Cmd;
+use ha_journal::Entry;
 use std::collections::LinkedList;
 
 /// An entry that a worker added, its place, and the command that was read for it.

@@ -1,14 +1,15 @@
 //! The bus as a worker holds it.
 ghost use Rattle.std.specs.Prelude.{◌≡◌, ◌<◌, true, false, Some, None, IfOk, IfErr, count_by};
 ghost use Rattle.std.specs.List.{list_any};
-ghost use Rattle.ha_model.specs.declared.journal.Entry.{Entry};
-ghost use Rattle.ha_model.specs.Commands.{IsFair, put_as};
+ghost use Rattle.ha_journal.specs.declared.entry.Entry.{Entry};
+ghost use Rattle.ha_journal.specs.Commands.{IsFair, put_as};
 ghost use Rattle.ha_model.specs.Lawful.{is_line_of, is_quiet, is_rested, shuts};
 ghost use Rattle.bus_turn.specs.Buses.{IsBus, IsStep, Puts};
 
 use bus_turn::{Bus, BusFault};
+use ha_config::Cmd;
 use ha_io::{Keeper, Sink};
-use ha_model::{Cmd, Core};
+use ha_model::Core;
 use std::alloc::{AllocFailed, Global};
 use std::marker::Model;
 
@@ -20,8 +21,8 @@ pub struct Held<C: Core + Drop, K: Sink, Q: Keeper> {
 
 impl<C: Core + Drop, K: Sink, Q: Keeper> Model for Held<C, K, Q> {
     ghost use Rattle.std.specs.Coded.{codes};
-    ghost use Rattle.ha_model.specs.contracts.journal.Record as run;
-    ghost use Rattle.ha_model.specs.contracts.journal.Entry as item;
+    ghost use Rattle.ha_model.specs.contracts.record.Record as run;
+    ghost use Rattle.ha_journal.specs.contracts.entry.Entry as item;
     ghost use Rattle.bus_turn.specs.Shown.{BusView};
 
     ghost Value = { BusView };

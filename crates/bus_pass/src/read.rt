@@ -2,7 +2,7 @@
 ghost use Rattle.std.specs.Prelude.{◌≡◌, [], option_to_list};
 ghost use Rattle.bus_pass.specs.Reads.{reading};
 
-use ha_model::Cmd;
+use ha_config::Cmd;
 use std::collections::VecDeque;
 use std::marker::Model;
 use std::snapshot::Snapshot;
@@ -20,7 +20,7 @@ impl Model for Read {
     ghost use Rattle.std.specs.Prelude.{◌++◌, [], option_to_list};
     ghost use Rattle.std.specs.Coded.{codes};
     ghost use Rattle.std.specs.Option.{option_map_or};
-    ghost use Rattle.ha_model.specs.contracts.journal.Cmd as cmd;
+    ghost use Rattle.ha_config.specs.contracts.command.Cmd as cmd;
     ghost use Rattle.bus_pass.specs.Reads.{Reading, reading};
 
     ghost Value = { Reading };

@@ -20,9 +20,9 @@ pub struct Sealed<C: Core + Drop, K: Sink, Q: Keeper> {
 
 impl<C: Core + Drop, K: Sink, Q: Keeper> Model for Sealed<C, K, Q> {
     ghost use Rattle.std.specs.Coded.{codes};
-    ghost use Rattle.ha_model.specs.contracts.journal.Cmd as cmd;
-    ghost use Rattle.ha_model.specs.contracts.journal.Record as run;
-    ghost use Rattle.ha_model.specs.contracts.journal.Entry as item;
+    ghost use Rattle.ha_config.specs.contracts.command.Cmd as cmd;
+    ghost use Rattle.ha_model.specs.contracts.record.Record as run;
+    ghost use Rattle.ha_journal.specs.contracts.entry.Entry as item;
     ghost use Rattle.bus_turn.specs.Shown.{BusView};
     ghost use Rattle.ha_model.specs.Lawful.{Running};
     ghost use Rattle.bus_pass.specs.Origins.{IsStored};

@@ -1,7 +1,7 @@
 //! The turn.
 ghost use Rattle.std.specs.Prelude.{◌≡◌, ◌∷◌, [], true, false, None, Some, IfOk, IfErr};
 ghost use Rattle.crossbeam_channel.specs.Claims.{view};
-ghost use Rattle.ha_model.specs.declared.journal.Entry.{Entry};
+ghost use Rattle.ha_journal.specs.declared.entry.Entry.{Entry};
 ghost use Rattle.ha_model.specs.Lawful.{Running};
 ghost use Rattle.bus_pass.specs.Turns.{IsPassOf};
 ghost use Rattle.bus_pass.specs.Puts.{MayPut};

@@ -3,24 +3,23 @@ use Rattle.std.proofs.lemmas.Bool.{eq-eqb}
 use Rattle.std.proofs.Common.{◌≡◌, ◌∙◌, ap, refl, sym, subst, ℕ, zero, suc, ◌+◌, List, [], ◌∷◌, ◌++◌, true, append_assoc, arith}
 use Rattle.std.specs.Prelude.{Option, Some, None, ◌&&◌, cond, nat_eq, slice_get, is_some, option_and_then, option_map}
 use Rattle.std.specs.Option.{option_map_or}
-use Rattle.ha_model.specs.declared.config.Automation.{Automation}
-use Rattle.ha_model.specs.declared.journal.Entry.{Entry}
-use Rattle.ha_model.specs.declared.journal.Entry.TheVariants.{Boot, Line, Step}
-use Rattle.ha_model.specs.declared.journal.Item.{Item}
-use Rattle.ha_model.specs.declared.journal.Record.{Record}
-use Rattle.ha_model.specs.Words.{EachAfter, Text}
-use Rattle.ha_model.specs.Entries.{Called, Stepped, call_in}
-use Rattle.ha_model.specs.Journal.{HasEntry, Journal, automations}
+use Rattle.ha_config.specs.declared.config.Automation.{Automation}
+use Rattle.ha_journal.specs.declared.entry.Entry.{Entry}
+use Rattle.ha_journal.specs.declared.entry.Entry.TheVariants.{Boot, Line, Step}
+use Rattle.ha_sight.specs.declared.item.Item.{Item}
+use Rattle.ha_model.specs.declared.record.Record.{Record}
+use Rattle.ha_config.specs.Words.{EachAfter, Text}
+use Rattle.ha_sight.specs.Items.{Called, call_in}
+use Rattle.ha_journal.specs.Entries.{Stepped}
+use Rattle.ha_journal.specs.Journal.{HasEntry, Journal, automations, more}
 use Rattle.ha_model.specs.Lawful.{IsRightEntry, Right, record_of}
-use Rattle.ha_model.specs.RecordSteps.{more}
 use Rattle.ha_model.specs.Records.{Records, calls_of, ended, with_begins}
-use Rattle.ha_model.specs.Switches.{name_of}
-use Rattle.ha_model.specs.Texts.{call_line, call_of_step, call_text_of}
-use Rattle.ha_model.proofs.AppendLemmas.{append-nil}
-use Rattle.ha_model.proofs.LawfulLaws.{none-some}
-use Rattle.ha_model.proofs.LawfulLaws.{some-same}
+use Rattle.ha_config.specs.Names.{name_of}
+use Rattle.ha_journal.specs.EntryText.{call_line}
+use Rattle.ha_model.specs.Texts.{call_of_step, call_text_of}
+use Rattle.ha_config.proofs.ListLemmas.{append-nil, none-some, some-same}
 use Rattle.ha_model.proofs.LastEntry.{calls-more}
-use Rattle.ha_model.proofs.RecordGrowth.{automations-more}
+use Rattle.ha_journal.proofs.MoreLemmas.{automations-more}
 use Rattle.bus_turn.specs.Lines.{called_line, text_in}
 
 -- what holds of each holds of the last

@@ -2,10 +2,10 @@
 use Rattle.std.proofs.Common.{◌≡◌, ◌∙◌, ap, refl, sym, subst, true, false, ◌++◌, length}
 use Rattle.std.specs.Prelude.{[], Option, Some, None, IfSome, Result, Ok, Err}
 use Rattle.std.specs.Result.{result_err}
-use Rattle.ha_model.specs.Journal.{Journal, automations}
-use Rattle.ha_model.specs.Texts.{end_line, texts_after, trace_line, trace_text}
-use Rattle.ha_model.specs.Words.{Text}
-use Rattle.ha_model.proofs.AppendLemmas.{append-nil}
+use Rattle.ha_journal.specs.Journal.{Journal, automations}
+use Rattle.ha_journal.specs.EntryText.{end_line, texts_after, trace_line, trace_text}
+use Rattle.ha_config.specs.Words.{Text}
+use Rattle.ha_config.proofs.ListLemmas.{append-nil}
 use Rattle.bus_turn.specs.declared.fault.BusFault.{BusFault}
 use Rattle.bus_turn.specs.States.{SinkState}
 use Rattle.bus_turn.specs.Writes.{Writes, WritesIn, fault_of}

@@ -6,12 +6,12 @@ use Rattle.std.specs.Option.{option_map}
 use Rattle.ha_io.specs.Counts.{Rose}
 use Rattle.ha_io.specs.Told.{Takes, told_as}
 use Rattle.ha_io.proofs.CountLemmas.{Rose-within}
-use Rattle.ha_model.specs.Words.{Text}
+use Rattle.ha_config.specs.Words.{Text}
 use Rattle.bus_turn.specs.declared.fault.BusFault.{BusFault}
 use Rattle.bus_turn.specs.States.{SinkState, KeeperState, Outside}
 use Rattle.bus_turn.specs.Writes.{EntryTexts, KeeperCause, Saves, Shows, SinkCause, Took, TookFront, Writes, WritesIn}
 use Rattle.bus_turn.specs.Growth.{HasRisen, KeeperGrows, OutGrows, SinkGrows, TraceCause, TraceGrows}
-use Rattle.ha_model.proofs.AppendLemmas.{append-nil}
+use Rattle.ha_config.proofs.ListLemmas.{append-nil}
 use Rattle.bus_turn.specs.Buses.{HasCause, HasTaken, HasTakenFront, IsBetween, SinkFailed}
 
 -- ---- a fault's cause: what rose is above 0

@@ -1,17 +1,16 @@
 -- The last entry of a journal.
 use Rattle.std.proofs.Common.{◌≡◌, ◌∙◌, ap, refl, sym, subst, ℕ, ◌-◌, List, [], ◌∷◌, length, arith, length-append}
 use Rattle.std.specs.Prelude.{Option, Some, None, Result, Ok, Err, IfSome, OnOk, option_map, slice_get}
-use Rattle.ha_model.specs.declared.journal.Cmd.{Cmd}
-use Rattle.ha_model.specs.declared.journal.Entry.{Entry}
-use Rattle.ha_model.specs.declared.journal.Entry.TheVariants.{Line, Step}
-use Rattle.ha_model.specs.declared.journal.Item.{Item}
-use Rattle.ha_model.specs.Commands.{IsFair}
+use Rattle.ha_config.specs.declared.command.Cmd.{Cmd}
+use Rattle.ha_journal.specs.declared.entry.Entry.{Entry}
+use Rattle.ha_journal.specs.declared.entry.Entry.TheVariants.{Line, Step}
+use Rattle.ha_sight.specs.declared.item.Item.{Item}
+use Rattle.ha_journal.specs.Commands.{IsFair}
 use Rattle.ha_texts.specs.Lines.{AreDated, IsDated}
 use Rattle.bus_turn.specs.Dated.{IsLastDated}
-use Rattle.ha_model.specs.Journal.{Journal}
-use Rattle.ha_model.specs.RecordSteps.{more}
+use Rattle.ha_journal.specs.Journal.{Journal, more}
 use Rattle.ha_model.specs.Records.{Records}
-use Rattle.ha_model.proofs.LawfulLaws.{some-same}
+use Rattle.ha_config.proofs.ListLemmas.{some-same}
 use Rattle.bus_turn.specs.declared.fault.BusFault.{BusFault}
 use Rattle.bus_turn.specs.States.{Outside}
 use Rattle.bus_turn.specs.Writes.{Shows}

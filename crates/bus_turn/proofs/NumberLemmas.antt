@@ -1,13 +1,13 @@
 -- The records of a journal with one more entry have the automations and numbers that they had.
 use Rattle.std.proofs.Common.{◌∙◌, sym, subst, ℕ, List, [], ◌∷◌, ◌++◌, Bool, true, false}
 use Rattle.std.specs.Prelude.{if◌then◌else◌}
-use Rattle.ha_model.specs.declared.journal.Entry.{Entry}
-use Rattle.ha_model.specs.Attempts.{Attempt}
-use Rattle.ha_model.specs.Journal.{Journal, automations}
+use Rattle.ha_journal.specs.declared.entry.Entry.{Entry}
+use Rattle.ha_journal.specs.Attempts.{Attempt, passing}
+use Rattle.ha_journal.specs.Journal.{Journal, automations, more}
 use Rattle.ha_model.specs.Lawful.{Right}
 use Rattle.ha_laws.specs.OneRun.{SameNumbers}
-use Rattle.ha_model.specs.Records.{Records, lets_in_after, new_record, passing, with_begins}
-use Rattle.ha_model.specs.RecordSteps.{admit_now, end_now, more, no_begins, records_after}
+use Rattle.ha_model.specs.Records.{Records, lets_in_after, new_record, with_begins}
+use Rattle.ha_model.specs.RecordSteps.{admit_now, end_now, no_begins, records_after}
 use Rattle.ha_laws.proofs.CallGrowth.{numbers-same}
 use Rattle.ha_model.proofs.RecordLaws.{records-more}
 

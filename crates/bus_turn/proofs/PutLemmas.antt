@@ -2,14 +2,13 @@
 use Rattle.std.proofs.Common.{◌≡◌, ◌∙◌, ◌⊎◌, inl, inr, ap, refl, sym, subst, ◌<◌, ◌≤◌, [], ◌∷◌, length, Bool, true, false, arith, length-append}
 use Rattle.std.specs.Prelude.{◌↔◌, Option, Some, None, Result, Ok, Err, OnOk, OnErr, IfErr, IfSome}
 use Rattle.ha_model.specs.declared.faults.CoreFault.{CoreFault}
-use Rattle.ha_model.specs.declared.journal.Entry.{Entry}
-use Rattle.ha_model.specs.Journal.{HasEntry, Journal}
+use Rattle.ha_journal.specs.declared.entry.Entry.{Entry}
+use Rattle.ha_journal.specs.Journal.{HasEntry, Journal, more, automations}
 use Rattle.ha_model.specs.Lawful.{Right}
-use Rattle.ha_model.specs.RecordSteps.{more}
 use Rattle.ha_model.specs.Records.{Records}
-use Rattle.ha_model.specs.Texts.{call_text, call_text_of, error_text, error_text_of, trace_line, trace_text}
-use Rattle.ha_model.specs.Journal.{automations}
-use Rattle.ha_model.proofs.LawfulLaws.{has-entry}
+use Rattle.ha_model.specs.Texts.{call_text, call_text_of}
+use Rattle.ha_journal.specs.EntryText.{error_text, error_text_of, trace_line, trace_text}
+use Rattle.ha_journal.proofs.MoreLemmas.{has-entry}
 use Rattle.ha_laws.proofs.CallGrowth.{calls-same}
 use Rattle.ha_laws.proofs.TextLemmas.{calls-more, errors-more}
 use Rattle.bus_turn.specs.declared.fault.BusFault.{BusFault}

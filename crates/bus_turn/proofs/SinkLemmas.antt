@@ -4,8 +4,8 @@ use Rattle.std.proofs.lemmas.List.{take-append-drop}
 use Rattle.std.specs.Prelude.{Option, Some, None, IfSome}
 use Rattle.ha_io.specs.Told.{Takes}
 use Rattle.ha_io.specs.Whole.{IsFrontTaken}
-use Rattle.ha_model.specs.Words.{Text}
-use Rattle.ha_model.proofs.AppendLemmas.{append-nil}
+use Rattle.ha_config.specs.Words.{Text}
+use Rattle.ha_config.proofs.ListLemmas.{append-nil}
 use Rattle.bus_turn.specs.declared.fault.BusFault.{BusFault}
 use Rattle.bus_turn.specs.States.{SinkState}
 use Rattle.bus_turn.specs.Writes.{Took, TookIn, Writes, WritesIn}

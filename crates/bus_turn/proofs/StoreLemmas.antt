@@ -3,16 +3,16 @@ use Rattle.std.proofs.Common.{◌≡◌, ◌∙◌, ap, refl, sym, ℕ, ◌+◌,
 use Rattle.std.specs.Prelude.{not, nat_eq}
 use Rattle.std.specs.List.{enumerate_from, list_any}
 use Rattle.std.proofs.lemmas.Bool.{or_parts}
-use Rattle.ha_model.specs.declared.config.Automation.{Automation}
-use Rattle.ha_model.specs.declared.journal.Entry.{Entry}
-use Rattle.ha_model.specs.Equal.{same_flag}
-use Rattle.ha_model.specs.Words.{Text, numbers_from, up_to}
-use Rattle.ha_model.specs.Journal.{HasEntry, Journal, automations}
-use Rattle.ha_model.specs.RecordSteps.{more}
-use Rattle.ha_model.specs.Sights.{changes_switch}
-use Rattle.ha_model.specs.Switches.{is_on}
-use Rattle.ha_model.specs.Texts.{store_of, store_text}
-use Rattle.ha_model.proofs.RecordGrowth.{automations-more}
+use Rattle.ha_config.specs.declared.config.Automation.{Automation}
+use Rattle.ha_journal.specs.declared.entry.Entry.{Entry}
+use Rattle.ha_config.specs.Equal.{same_flag}
+use Rattle.ha_config.specs.Words.{Text, numbers_from, up_to}
+use Rattle.ha_journal.specs.Journal.{HasEntry, Journal, automations, more}
+use Rattle.ha_journal.specs.Sights.{changes_switch}
+use Rattle.ha_journal.specs.Switches.{is_on}
+use Rattle.ha_config.specs.StoreText.{store_of}
+use Rattle.ha_journal.specs.EntryText.{store_text}
+use Rattle.ha_journal.proofs.MoreLemmas.{automations-more}
 
 same-of : (a b : Bool) → not (same_flag a b) ≡ false → a ≡ b
 same-of true true h = refl

@@ -1,13 +1,13 @@
 -- What a bus always is, and what a put makes of it.
 use Rattle.std.specs.Prelude.{◌≡◌, ◌⊎◌, ◌<◌, ◌≤◌, ◌++◌, ℕ, List, [], true, false, length, Option, Some, None, IfSome, IsSomeAnd}
-use Rattle.ha_model.specs.declared.journal.Entry.{Entry}
-use Rattle.ha_model.specs.Words.{Text}
-use Rattle.ha_model.specs.Journal.{Journal}
-use Rattle.ha_model.specs.declared.journal.Entry.TheVariants.{Step}
-use Rattle.ha_model.specs.declared.journal.Item.{Item}
+use Rattle.ha_journal.specs.declared.entry.Entry.{Entry}
+use Rattle.ha_config.specs.Words.{Text}
+use Rattle.ha_journal.specs.Journal.{Journal, more}
+use Rattle.ha_journal.specs.declared.entry.Entry.TheVariants.{Step}
+use Rattle.ha_sight.specs.declared.item.Item.{Item}
 use Rattle.ha_model.specs.Lawful.{Right, pick, ready}
-use Rattle.ha_model.specs.RecordSteps.{more}
-use Rattle.ha_model.specs.Texts.{call_text, error_text, store_text, trace_text}
+use Rattle.ha_model.specs.Texts.{call_text}
+use Rattle.ha_journal.specs.EntryText.{error_text, store_text, trace_text}
 use Rattle.bus_turn.specs.declared.fault.BusFault.{BusFault}
 use Rattle.bus_turn.specs.States.{SinkState, KeeperState, Outside}
 use Rattle.bus_turn.specs.Writes.{Shows}

@@ -1,7 +1,7 @@
 -- What the end of a bus makes of what lies outside.
 use Rattle.std.specs.Prelude.{◌≡◌, true, false, length, Option, None, Some, IfSome, IsSomeAnd}
-use Rattle.ha_model.specs.Journal.{Journal}
-use Rattle.ha_model.specs.Texts.{end_line, trace_text}
+use Rattle.ha_journal.specs.Journal.{Journal}
+use Rattle.ha_journal.specs.EntryText.{end_line, trace_text}
 use Rattle.bus_turn.specs.declared.fault.BusFault.{BusFault}
 use Rattle.bus_turn.specs.States.{SinkState, Outside}
 use Rattle.bus_turn.specs.Writes.{WritesIn}

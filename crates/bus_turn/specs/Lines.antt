@@ -1,14 +1,15 @@
 -- The line of a step that calls, by the record as it is after it.
 use Rattle.std.specs.Prelude.{[], Option, option_and_then, option_map}
 use Rattle.std.specs.Option.{option_map_or}
-use Rattle.ha_model.specs.declared.config.Automation.{Automation}
-use Rattle.ha_model.specs.declared.journal.Entry.{Entry}
-use Rattle.ha_model.specs.Entries.{call_in, step_of}
+use Rattle.ha_config.specs.declared.config.Automation.{Automation}
+use Rattle.ha_journal.specs.declared.entry.Entry.{Entry}
+use Rattle.ha_sight.specs.Items.{call_in}
+use Rattle.ha_journal.specs.Entries.{step_of}
 use Rattle.ha_model.specs.Lawful.{record_of}
 use Rattle.ha_model.specs.Records.{Records}
-use Rattle.ha_model.specs.Switches.{name_of}
-use Rattle.ha_model.specs.Texts.{call_line}
-use Rattle.ha_model.specs.Words.{Text}
+use Rattle.ha_config.specs.Names.{name_of}
+use Rattle.ha_journal.specs.EntryText.{call_line}
+use Rattle.ha_config.specs.Words.{Text}
 use Rattle.std.specs.Prelude.{List}
 
 -- the text of a line, where there is one

@@ -1,11 +1,11 @@
 -- What a bus shows: the journal with its records, what lies outside, and the first fault.
 use Rattle.std.specs.Prelude.{Bool, Option, Some, None, if◌then◌else◌}
-use Rattle.ha_model.specs.declared.journal.Entry.{Entry}
-use Rattle.ha_model.specs.Journal.{Journal, automations}
-use Rattle.ha_model.specs.RecordSteps.{more}
+use Rattle.ha_journal.specs.declared.entry.Entry.{Entry}
+use Rattle.ha_journal.specs.Journal.{Journal, automations, more}
 use Rattle.ha_model.specs.Records.{Records}
-use Rattle.ha_model.specs.Sights.{changes_switch}
-use Rattle.ha_model.specs.Texts.{call_text_of, error_text_of, store_text, trace_line}
+use Rattle.ha_journal.specs.Sights.{changes_switch}
+use Rattle.ha_model.specs.Texts.{call_text_of}
+use Rattle.ha_journal.specs.EntryText.{error_text_of, store_text, trace_line}
 use Rattle.bus_turn.specs.declared.fault.BusFault.{BusFault}
 use Rattle.bus_turn.specs.States.{Outside}
 use Rattle.bus_turn.specs.Writes.{EntryTexts}

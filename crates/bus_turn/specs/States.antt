@@ -1,6 +1,6 @@
 -- What a sink took and what a keeper holds, where it is told, and how often the outside has failed.
 use Rattle.std.specs.Prelude.{ℕ, Option, option_map}
-use Rattle.ha_model.specs.Words.{Text}
+use Rattle.ha_config.specs.Words.{Text}
 
 pub record SinkState : Type 0 where
   pub took : Option Text

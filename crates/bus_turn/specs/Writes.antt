@@ -4,7 +4,7 @@ use Rattle.ha_io.specs.Counts.{Rose}
 use Rattle.ha_io.specs.Told.{Takes, told_as}
 use Rattle.ha_io.specs.Whole.{IsFrontTaken}
 use Rattle.ha_model.specs.declared.faults.CoreFault.{CoreFault}
-use Rattle.ha_model.specs.Words.{Text}
+use Rattle.ha_config.specs.Words.{Text}
 use Rattle.bus_turn.specs.declared.fault.BusFault.{BusFault}
 use Rattle.bus_turn.specs.States.{SinkState, KeeperState, Outside}
 

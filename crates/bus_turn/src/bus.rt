@@ -1,8 +1,8 @@
 //! The bus.
 ghost use Rattle.std.specs.Prelude.{◌≡◌, ◌∷◌, ◌<◌, [], ◌⊎◌, true, false, ℕ, List, Some, None, IfSome, count_by, option_map, length};
 ghost use Rattle.std.specs.List.{list_any};
-ghost use Rattle.ha_model.specs.declared.journal.Entry.{Entry};
-ghost use Rattle.ha_model.specs.Commands.{IsFair, put_as};
+ghost use Rattle.ha_journal.specs.declared.entry.Entry.{Entry};
+ghost use Rattle.ha_journal.specs.Commands.{IsFair, put_as};
 ghost use Rattle.ha_model.specs.Lawful.{is_line_of, is_quiet, is_rested, shuts};
 ghost use Rattle.ha_texts.specs.Lines.{AreDated};
 ghost use Rattle.bus_turn.specs.States.{keeper_of, outside_of, sink_of};
@@ -14,8 +14,10 @@ ghost use Rattle.bus_turn.specs.Ends.{Ends, HasEnded};
 use crate::end::{Ended, write_end};
 use crate::fault::BusFault;
 use crate::write::write_put;
+use ha_config::Cmd;
 use ha_io::{Keeper, Sink};
-use ha_model::{Cmd, Core, Word};
+use ha_model::Core;
+use ha_value::Word;
 use std::alloc::Global;
 use std::marker::Model;
 
@@ -35,8 +37,8 @@ pub struct Bus<C: Core, K: Sink, Q: Keeper> {
 
 impl<C: Core, K: Sink, Q: Keeper> Model for Bus<C, K, Q> {
     ghost use Rattle.std.specs.Coded.{codes};
-    ghost use Rattle.ha_model.specs.contracts.journal.Record as run;
-    ghost use Rattle.ha_model.specs.contracts.journal.Entry as item;
+    ghost use Rattle.ha_model.specs.contracts.record.Record as run;
+    ghost use Rattle.ha_journal.specs.contracts.entry.Entry as item;
     ghost use Rattle.bus_turn.specs.States.{keeper_of, outside_of, sink_of};
     ghost use Rattle.bus_turn.specs.Shown.{BusView, bus_view};
     ghost use Rattle.bus_turn.specs.Buses.{IsBus};

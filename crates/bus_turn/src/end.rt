@@ -1,6 +1,6 @@
 //! The end of a bus.
 ghost use Rattle.std.specs.Prelude.{◌≡◌, IfOk, IfSome, OnOk, option_map, string_bytes};
-ghost use Rattle.ha_model.specs.Texts.{end_line};
+ghost use Rattle.ha_journal.specs.EntryText.{end_line};
 ghost use Rattle.bus_turn.specs.States.{sink_of};
 ghost use Rattle.bus_turn.specs.Writes.{WritesIn, fault_of};
 

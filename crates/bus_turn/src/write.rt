@@ -1,15 +1,16 @@
 //! What is written of one entry.
 ghost use Rattle.std.specs.Prelude.{◌≡◌, IfErr, IfSome, OnOk, is_some, option_map, true, false, None, Some, if◌then◌else◌};
 ghost use Rattle.std.specs.Option.{option_copied};
-ghost use Rattle.ha_model.specs.declared.journal.Entry.{Entry};
-ghost use Rattle.ha_model.specs.Entries.{call_in, step_of};
-ghost use Rattle.ha_model.specs.Journal.{Journal};
-ghost use Rattle.ha_model.specs.RecordSteps.{more};
-ghost use Rattle.ha_model.specs.Sights.{changes_switch};
+ghost use Rattle.ha_journal.specs.declared.entry.Entry.{Entry};
+ghost use Rattle.ha_sight.specs.Items.{call_in};
+ghost use Rattle.ha_journal.specs.Entries.{step_of};
+ghost use Rattle.ha_journal.specs.Journal.{Journal, more};
+ghost use Rattle.ha_journal.specs.Sights.{changes_switch};
 ghost use Rattle.ha_model.specs.Lawful.{record_of as record_of_lem};
-ghost use Rattle.ha_model.specs.Switches.{name_of};
-ghost use Rattle.ha_model.specs.Texts.{call_line as call_line_lem, call_text_of, error_line, error_text_of, store_text, trace_line as trace_line_lem};
-ghost use Rattle.ha_model.specs.Words.{Text};
+ghost use Rattle.ha_config.specs.Names.{name_of};
+ghost use Rattle.ha_journal.specs.EntryText.{call_line as call_line_lem, error_line, error_text_of, store_text, trace_line as trace_line_lem};
+ghost use Rattle.ha_model.specs.Texts.{call_text_of};
+ghost use Rattle.ha_config.specs.Words.{Text};
 ghost use Rattle.bus_turn.specs.States.{keeper_of, outside_of, sink_of};
 ghost use Rattle.bus_turn.specs.Shown.{texts_of};
 ghost use Rattle.ha_texts.specs.Lines.{AreDated};
@@ -18,9 +19,13 @@ ghost use Rattle.bus_turn.specs.Lines.{called_line, text_in};
 ghost use Rattle.bus_turn.specs.Writes.{Hands, Saves, Shows, Writes, WritesIn, fault_of, refusal};
 
 use crate::fault::BusFault;
+use ha_config::{Automation, Cmd, Config};
 use ha_io::{IoFault, Keeper, Sink, Unwritten, write_whole};
-use ha_model::{Automation, Cmd, Config, Core, CoreFault, Entry, Item, Record, Word};
+use ha_journal::Entry;
+use ha_model::{Core, CoreFault, Record};
+use ha_sight::Item;
 use ha_texts::{call_line, err_line, trace_line};
+use ha_value::Word;
 use std::alloc::{AllocError, Global};
 
 /// Writes a text to its end.

@@ -7,18 +7,18 @@ use Rattle.ha_value.specs.declared.value.EntityId.{EntityId}
 use Rattle.ha_value.specs.declared.value.Num.{Num}
 use Rattle.ha_value.specs.declared.value.Value.{Value}
 use Rattle.ha_value.specs.declared.value.Value.TheVariants.{outs-Text}
-use Rattle.ha_model.specs.declared.faults.TplFault.{TplFault}
-use Rattle.ha_model.specs.declared.config.Condition.{Condition}
-use Rattle.ha_model.specs.declared.config.Condition.TheOpen.{Condition-F}
-use Rattle.ha_model.specs.declared.config.Condition.TheViews.{out-Condition}
-use Rattle.ha_model.specs.declared.config.Condition.TheFolds.{map-Condition}
-use Rattle.ha_model.specs.declared.config.Condition.TheVariants.{And, Or, Not, State, Numeric, Trigger, outs-And, outs-Or, outs-Not, outs-State, outs-Numeric, outs-Trigger}
-use Rattle.ha_model.specs.States.{Sight}
-use Rattle.ha_model.specs.Words.{Text, Pairs}
-use Rattle.ha_model.specs.Values.{text_in, text_of}
-use Rattle.ha_model.specs.Conditions as conditions
-use Rattle.ha_model.specs.Conditions.{Test, all_are_true, condition_step, holds, one_is_true, one_of}
-use Rattle.ha_model.proofs.Rolls.{holds-out}
+use Rattle.ha_sight.specs.declared.faults.TplFault.{TplFault}
+use Rattle.ha_config.specs.declared.config.Condition.{Condition}
+use Rattle.ha_config.specs.declared.config.Condition.TheOpen.{Condition-F}
+use Rattle.ha_config.specs.declared.config.Condition.TheViews.{out-Condition}
+use Rattle.ha_config.specs.declared.config.Condition.TheFolds.{map-Condition}
+use Rattle.ha_config.specs.declared.config.Condition.TheVariants.{And, Or, Not, State, Numeric, Trigger, outs-And, outs-Or, outs-Not, outs-State, outs-Numeric, outs-Trigger}
+use Rattle.ha_sight.specs.Sight.{Sight}
+use Rattle.ha_config.specs.Words.{Text, Pairs, one_of}
+use Rattle.ha_sight.specs.Values.{text_in, text_of}
+use Rattle.ha_sight.specs.Conditions as conditions
+use Rattle.ha_sight.specs.Conditions.{Test, all_are_true, condition_step, holds, one_is_true}
+use Rattle.ha_sight.proofs.Rolls.{holds-out}
 use Rattle.tpl_fns.specs.Outcome.{Gives}
 use Rattle.cond_eval.specs.Cases.{number_passes, text_passes}
 

@@ -4,12 +4,12 @@ use Rattle.std.specs.Prelude.{not, Option, Some, None, find, option_map, codes, 
 use Rattle.std.specs.List.{enumerate_from, list_any}
 use Rattle.std.proofs.lemmas.Bool.{and_parts, or_parts}
 use Rattle.ha_value.specs.declared.value.EntityId.{EntityId}
-use Rattle.ha_model.specs.declared.config.Automation.{Automation}
-use Rattle.ha_model.specs.Words.{Text, same}
-use Rattle.ha_model.specs.Calls.{automation_at}
-use Rattle.ha_model.specs.Commands.{all_distinct}
-use Rattle.ha_model.specs.States.{automation_named}
-use Rattle.ha_model.proofs.EqualLemmas.{same-refl}
+use Rattle.ha_config.specs.declared.config.Automation.{Automation}
+use Rattle.ha_config.specs.Words.{Text, same}
+use Rattle.ha_sight.specs.Calls.{automation_at}
+use Rattle.ha_config.specs.ValueFacts.{all_distinct}
+use Rattle.ha_config.specs.Names.{automation_named}
+use Rattle.ha_config.proofs.EqualLemmas.{same-refl}
 
 -- the place of the first automation of this name, where they are counted from n on
 abbrev pub named : ℕ → List Automation → Text → Option ℕ

@@ -2,11 +2,11 @@
 use Rattle.std.specs.Prelude.{ℕ, Bool, false, ◌&&◌, List, Option}
 use Rattle.std.specs.Option.{option_map_or}
 use Rattle.ha_value.specs.declared.value.Num.{Num}
-use Rattle.ha_model.specs.declared.journal.StateObject.{StateObject}
-use Rattle.ha_model.specs.Words.{Text}
-use Rattle.ha_model.specs.Numbers.{in_bounds}
-use Rattle.ha_model.specs.States.{Sight}
-use Rattle.ha_model.specs.Conditions.{long_enough, one_of, watched_number, watched_text}
+use Rattle.ha_sight.specs.declared.state.StateObject.{StateObject}
+use Rattle.ha_config.specs.Words.{Text, one_of}
+use Rattle.ha_config.specs.Numbers.{in_bounds}
+use Rattle.ha_sight.specs.Sight.{Sight}
+use Rattle.ha_sight.specs.Conditions.{long_enough, watched_number, watched_text}
 
 -- there is a text, and it is listed
 abbrev pub is_listed : List Text → Option Text → Bool

@@ -1,16 +1,14 @@
 -- What a view sees.
-use Rattle.std.specs.Prelude.{◌≡◌, ℕ, Bool, false, map, codes, true}
+use Rattle.std.specs.Prelude.{ℕ, Bool, false, map, codes}
 use Rattle.std.specs.Option.{option_map_or}
 use Rattle.ha_value.specs.declared.value.EntityId.{EntityId}
-use Rattle.ha_model.specs.declared.config.Automation.{Automation}
-use Rattle.ha_model.specs.declared.config.Config.{Config}
-use Rattle.ha_model.specs.declared.journal.StateObject.{StateObject}
-use Rattle.ha_model.specs.Words.{Text, same}
-use Rattle.ha_model.specs.Commands.{all_distinct}
-use Rattle.ha_model.specs.Journal.{Journal, automations, now, zone_of}
-use Rattle.ha_model.specs.States.{Sight}
+use Rattle.ha_config.specs.declared.config.Automation.{Automation}
+use Rattle.ha_config.specs.declared.config.Config.{Config}
+use Rattle.ha_sight.specs.declared.state.StateObject.{StateObject}
+use Rattle.ha_config.specs.Words.{Text, same}
+use Rattle.ha_sight.specs.Sight.{Sight}
 use Rattle.state_table.specs.declared.table.StateTable.{StateTable}
-use Rattle.state_table.specs.Table.{at, StandsFor}
+use Rattle.state_table.specs.Table.{at}
 use Rattle.cond_eval.specs.declared.view.View.{View}
 
 -- the entity of the automation of this name
@@ -35,11 +33,3 @@ sight_of states config zone moment = record {
 
 abbrev pub seen : View → Sight
 seen v = sight_of v.states.now v.config.now v.zone.now v.at
-
--- the parts of a view are those of a journal, whose automations have names of their own
-pub record IsViewOf (states : StateTable) (config : Config) (zone : Text) (moment : ℕ) (j : Journal) : Type 0 where
-  pub states_are : StandsFor states j
-  pub config_is : config.automations ≡ automations j
-  pub names_differ : all_distinct (map (λ (a : Automation). a.name) (automations j)) ≡ true
-  pub zone_is : zone ≡ zone_of j
-  pub now_is : moment ≡ now j

@@ -1,28 +1,26 @@
 //! What one place of the journal sees, and what it answers.
 ghost use Rattle.std.specs.Prelude.{◌≡◌, ◌≤◌, ◌^◌, length};
 ghost use Rattle.ha_clock.specs.Local.{last_moment};
-ghost use Rattle.ha_model.specs.Journal.{Journal};
-ghost use Rattle.ha_model.specs.States.{automation_named};
-ghost use Rattle.ha_model.specs.Triggers.{sight as sight_at};
-ghost use Rattle.ha_model.specs.Words.{same};
-ghost use Rattle.cond_eval.specs.Seen.{IsViewOf, is_shown_on, seen};
+ghost use Rattle.ha_config.specs.Names.{automation_named};
+ghost use Rattle.ha_config.specs.Words.{same};
+ghost use Rattle.cond_eval.specs.Seen.{is_shown_on, seen, sight_of};
 
 use crate::conditions::test;
 use crate::view::View;
 use ha_clock::{Moment, Zone};
-use ha_model::{
-    Answers, Automation, Condition, Config, EntityId, Env, Template, TplFault, Value, Word,
-};
+use ha_config::{Automation, Condition, Config, Template};
+use ha_sight::{Answers, Env, TplFault};
+use ha_value::{EntityId, Value, Word};
 use state_table::StateTable;
 use std::alloc::{AllocError, Global};
 use tpl_eval::render;
 
 impl<'a> View<'a> {
-    /// The view of these parts. Those of a journal see what its next entry sees.
+    /// The view of these parts.
     pub fn make(states: &'a StateTable, config: &'a Config, zone: &'a Zone, at: Moment) -> View<'a>
         requires timely { at ≤ last_moment }
         requires few { length config.now.automations ≤ 2 ^ 32 }
-        ensures { (j : Journal) → IsViewOf states.entry.now config.entry.now zone.entry.now at j → seen result ≡ sight_at j (length j) }
+        ensures { seen result ≡ sight_of states.entry.now config.entry.now zone.entry.now at }
     {
         View {
             states,

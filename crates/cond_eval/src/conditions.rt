@@ -2,18 +2,20 @@
 ghost use Rattle.std.specs.Prelude.{◌≡◌, false, IfOk};
 ghost use Rattle.std.specs.List.{list_all, list_any};
 ghost use Rattle.std.specs.Option.{option_map_or};
-ghost use Rattle.ha_model.specs.Conditions as conditions;
-ghost use Rattle.ha_model.specs.States.{Sight};
-ghost use Rattle.ha_model.specs.Templates.{is_true_text, rendered};
-ghost use Rattle.ha_model.specs.Values.{text_of};
-ghost use Rattle.ha_model.specs.Words as words;
+ghost use Rattle.ha_sight.specs.Conditions as conditions;
+ghost use Rattle.ha_sight.specs.Sight.{Sight};
+ghost use Rattle.ha_sight.specs.Templates.{is_true_text, rendered};
+ghost use Rattle.ha_sight.specs.Values.{text_of};
+ghost use Rattle.ha_config.specs.Words as words;
 ghost use Rattle.cond_eval.specs.Seen.{seen};
 
 use crate::numbers::is_one_of;
 use crate::states::{numbers_hold, texts_hold};
 use crate::times::time_holds;
 use crate::view::View;
-use ha_model::{Condition, Env, Template, TplFault, Value, Word};
+use ha_config::{Condition, Template};
+use ha_sight::{Env, TplFault};
+use ha_value::{Value, Word};
 use std::alloc::{AllocError, Global};
 use tpl_eval::render;
 

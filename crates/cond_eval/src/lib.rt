@@ -3,7 +3,6 @@
 
 mod answers;
 mod conditions;
-pub mod laws;
 mod numbers;
 mod states;
 mod times;

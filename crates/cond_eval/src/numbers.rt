@@ -1,12 +1,12 @@
 //! The texts and numbers that a state and its attributes have.
 ghost use Rattle.std.specs.Prelude.{◌≡◌, IfOk, option_and_then};
-ghost use Rattle.ha_model.specs.Conditions as conditions;
-ghost use Rattle.ha_model.specs.Numbers as numbers;
-ghost use Rattle.ha_model.specs.Words as words;
+ghost use Rattle.ha_sight.specs.Conditions as conditions;
+ghost use Rattle.ha_config.specs.Numbers as numbers;
+ghost use Rattle.ha_config.specs.Words as words;
 ghost use Rattle.cond_eval.specs.Cases.{is_listed as is_listed_lem};
 
-use ha_model::{Num, Value, Word};
 use ha_value::laws::print_is_read;
+use ha_value::{Num, Value, Word};
 use std::alloc::{AllocError, Global};
 use std::cmp::Ordering;
 

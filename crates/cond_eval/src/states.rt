@@ -2,14 +2,16 @@
 ghost use Rattle.std.specs.Prelude.{◌≡◌, ◌+◌, nat_le, false, IfOk};
 ghost use Rattle.std.specs.List.{list_all};
 ghost use Rattle.std.specs.Option.{option_copied, option_map_or};
-ghost use Rattle.ha_model.specs.Conditions as conditions;
+ghost use Rattle.ha_sight.specs.Conditions as conditions;
 ghost use Rattle.cond_eval.specs.Cases.{is_listed as is_listed_lem, number_passes, text_passes};
 ghost use Rattle.cond_eval.specs.Seen.{seen};
 
 use crate::numbers::{in_bounds, is_listed, is_one_of, number_of};
 use crate::view::View;
 use ha_clock::{Moment, Span};
-use ha_model::{EntityId, Num, StateObject, Word, first_pair};
+use ha_config::first_pair;
+use ha_sight::StateObject;
+use ha_value::{EntityId, Num, Word};
 use std::alloc::{AllocError, Global};
 
 /// Whether the state's text has stood for that long.

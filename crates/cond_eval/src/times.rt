@@ -3,11 +3,11 @@ ghost use Rattle.std.specs.Prelude.{◌≡◌, ◌≤◌, ◌&&◌, nat_eq, true
 ghost use Rattle.std.specs.List.{list_any};
 ghost use Rattle.std.specs.Option.{option_copied, option_map_or};
 ghost use Rattle.ha_clock.specs.Local.{last_moment, second_of_day, weekday_at};
-ghost use Rattle.ha_model.specs.Conditions as conditions;
+ghost use Rattle.ha_sight.specs.Conditions as conditions;
 
 use ha_clock::laws::parts_are_in_range;
 use ha_clock::{Moment, Zone};
-use ha_model::Many;
+use ha_value::Many;
 
 /// The local second of the day.
 fn second_of_day(zone: &Zone, at: Moment) -> u32

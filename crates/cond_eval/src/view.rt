@@ -3,7 +3,7 @@ ghost use Rattle.std.specs.Prelude.{◌≤◌, ◌^◌, length};
 ghost use Rattle.ha_clock.specs.Local.{last_moment};
 
 use ha_clock::{Moment, Zone};
-use ha_model::Config;
+use ha_config::Config;
 use state_table::StateTable;
 
 /// The states, the configuration, the zone and the present moment of a place.

@@ -10,9 +10,9 @@ use Rattle.std.proofs.lemmas.Slice.Eq.{bytes_eq-Decides}
 use Rattle.std.proofs.lemmas.Fmt.{decimal_is_IsNumeral}
 use Rattle.std.specs.Str.Parse.{digits_value}
 use Rattle.std.proofs.lemmas.Map.Made.{length-le_from_is_member}
-use Rattle.ha_model.specs.Commands.{all_distinct}
-use Rattle.ha_model.specs.Words.{same}
-use Rattle.ha_model.specs.declared.config.Automation.{Automation}
+use Rattle.ha_config.specs.ValueFacts.{all_distinct}
+use Rattle.ha_config.specs.Words.{same}
+use Rattle.ha_config.specs.declared.config.Automation.{Automation}
 use Rattle.conf_laws.proofs.Joined.{pair}
 use Rattle.conf_auto.specs.Names.{free_name, free_number, is_taken, numbered, with_number}
 

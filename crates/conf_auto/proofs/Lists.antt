@@ -1,7 +1,7 @@
 -- One automation further in a list.
 use Rattle.std.proofs.Common.{◌≡◌, ◌∙◌, ◌<◌, ◌+◌, ap, refl, ℕ, Ok, Err, List, ◌∷◌, length, drop, get_or}
 use Rattle.std.proofs.lemmas.List.{drop_more}
-use Rattle.ha_model.specs.declared.config.Automation.{Automation}
+use Rattle.ha_config.specs.declared.config.Automation.{Automation}
 use Rattle.yaml_tree.specs.declared.node.Node.{Node}
 use Rattle.conf_field.specs.Readings.{Read, both, made}
 use Rattle.conf_auto.specs.Automations.{automation}

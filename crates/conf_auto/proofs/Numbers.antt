@@ -2,7 +2,7 @@
 use Rattle.std.proofs.Common.{◌≡◌, ◌∙◌, ◌≤◌, ◌<◌, ap, ◌+◌, ◌-◌, refl, sym, arith, ℕ, zero, suc, min, Bool, true, false, cond, List, length, Some, None, Option, inl, inr}
 use Rattle.std.specs.Prelude.{not, option_map, option_and_then}
 use Rattle.std.specs.List.{find, range_with_len}
-use Rattle.ha_model.specs.declared.config.Automation.{Automation}
+use Rattle.ha_config.specs.declared.config.Automation.{Automation}
 use Rattle.std.proofs.lemmas.Bool.{cases_lt}
 use Rattle.std.proofs.lemmas.Bool.Decides.{nat_tests}
 use Rattle.ha_clock.specs.SpanText.{number_of}

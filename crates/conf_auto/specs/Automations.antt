@@ -3,12 +3,12 @@ use Rattle.std.specs.Prelude.{ℕ, Bool, List, [], ◌∷◌, Option, Some, None
 use Rattle.std.specs.List.{find}
 use Rattle.ha_clock.specs.SpanText.{number_of}
 use Rattle.ha_text.specs.Slug.{slug}
-use Rattle.ha_model.specs.declared.config.Action.{Action}
-use Rattle.ha_model.specs.declared.config.ActionKind.TheVariants as does
-use Rattle.ha_model.specs.declared.config.Automation.{Automation}
-use Rattle.ha_model.specs.declared.config.Condition.{Condition}
-use Rattle.ha_model.specs.declared.config.Mode.{Mode}
-use Rattle.ha_model.specs.declared.config.Trigger.{Trigger}
+use Rattle.ha_config.specs.declared.config.Action.{Action}
+use Rattle.ha_config.specs.declared.config.ActionKind.TheVariants as does
+use Rattle.ha_config.specs.declared.config.Automation.{Automation}
+use Rattle.ha_config.specs.declared.config.Condition.{Condition}
+use Rattle.ha_config.specs.declared.config.Mode.{Mode}
+use Rattle.ha_config.specs.declared.config.Trigger.{Trigger}
 use Rattle.yaml_scan.specs.declared.fault.Code.TheVariants as code
 use Rattle.yaml_tree.specs.declared.node.Node.{Node}
 use Rattle.yaml_tree.specs.declared.node.NodeKind.TheOpen.{NodeKind-F}

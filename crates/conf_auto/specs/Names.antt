@@ -1,7 +1,7 @@
 -- The names of automations: each the one that it asks for, or the first one behind it that no earlier automation has.
 use Rattle.std.specs.Prelude.{ℕ, ◌+◌, Bool, not, if◌then◌else◌, List, [], ◌∷◌, ◌++◌, length, Option, unwrap_or, bytes_eq, decimal, codes}
 use Rattle.std.specs.List.{find, list_any, range_with_len}
-use Rattle.ha_model.specs.declared.config.Automation.{Automation}
+use Rattle.ha_config.specs.declared.config.Automation.{Automation}
 use Rattle.conf_field.specs.Readings.{Read, both, made}
 
 abbrev pub is_taken : List Automation → List ℕ → Bool

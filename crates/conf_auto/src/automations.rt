@@ -16,7 +16,7 @@ use conf_field::{
 };
 use conf_script::read_actions;
 use conf_trigger::read_triggers;
-use ha_model::{Action, ActionKind, Automation, Condition, Mode, Trigger};
+use ha_config::{Action, ActionKind, Automation, Condition, Mode, Trigger};
 use ha_text::slug;
 use ha_value::{Many, Word};
 use std::alloc::{AllocError, Global};

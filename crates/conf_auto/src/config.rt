@@ -1,9 +1,9 @@
 //! The configuration of a text.
 
 ghost use Rattle.std.specs.Prelude.{◌≡◌, ◌<◌, ◌^◌, ◌∷◌, [], ℕ, List, Result, None, Some, Ok, IfOk, IsTrue, length};
-ghost use Rattle.ha_model.specs.Sound.{IsSoundConfig};
+ghost use Rattle.ha_config.specs.Sound.{IsSoundConfig};
 ghost use Rattle.conf_field.specs.Sizes.{has_distinct_keys};
-ghost use Rattle.ha_model.specs.declared.config.Automation.{Automation as One};
+ghost use Rattle.ha_config.specs.declared.config.Automation.{Automation as One};
 ghost use Rattle.yaml_scan.specs.Answers.{Gives};
 ghost use Rattle.yaml_scan.specs.declared.fault.Fault.{Fault as Place};
 ghost use Rattle.yaml_tree.specs.declared.node.Node.{Node as Root};
@@ -16,7 +16,7 @@ use crate::names::joined;
 use crate::size::is_small;
 use conf_field::rows::AUTOMATION;
 use conf_field::{Kind, Pair, bad, both, keys, needed, unless};
-use ha_model::{Automation, Config};
+use ha_config::{Automation, Config};
 use ha_value::Many;
 use std::alloc::Global;
 use yaml_scan::{Code, Fault, YamlFault};

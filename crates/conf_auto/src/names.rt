@@ -1,13 +1,13 @@
 //! The names of automations.
 
 ghost use Rattle.std.specs.Prelude.{◌≡◌, ◌+◌, ◌<◌, ◌^◌, ◌++◌, ◌∷◌, [], ℕ, List, true, IfOk, IfSome, IsTrue, codes, decimal, length, vec_len};
-ghost use Rattle.ha_model.specs.declared.config.Automation.{Automation as One};
+ghost use Rattle.ha_config.specs.declared.config.Automation.{Automation as One};
 ghost use Rattle.yaml_scan.specs.Answers.{Gives};
 ghost use Rattle.conf_field.specs.Readings.{Read};
 ghost use Rattle.conf_auto.specs.Names as names;
 
 use conf_field::both;
-use ha_model::Automation;
+use ha_config::Automation;
 use ha_value::{Many, Word};
 use std::alloc::{AllocError, Global};
 use yaml_scan::YamlFault;

@@ -1,8 +1,8 @@
 //! Conditions: one, and lists of them.
 
 ghost use Rattle.std.specs.Prelude.{◌≡◌, ◌∷◌, ◌++◌, [], ℕ, List, Bool, Option, Result, None, Some, Ok, true, false};
-ghost use Rattle.ha_model.specs.declared.config.Condition.{Condition as One};
-ghost use Rattle.ha_model.specs.declared.config.Condition.TheVariants as made_of;
+ghost use Rattle.ha_config.specs.declared.config.Condition.{Condition as One};
+ghost use Rattle.ha_config.specs.declared.config.Condition.TheVariants as made_of;
 ghost use Rattle.yaml_scan.specs.Answers.{Gives};
 ghost use Rattle.conf_field.specs.Readings.{Read, made, kept};
 ghost use Rattle.conf_cond.specs.Conditions as conditions;
@@ -13,7 +13,7 @@ use conf_field::rows::{AND, CONDITION, CONDITIONS, CONTINUE_ON_ERROR, ENABLED, N
 use conf_field::{
     Flag, Pair, Row, alone, bad, both, field_at, is_null_scalar, keep, keys, optional, wanted,
 };
-use ha_model::Condition;
+use ha_config::Condition;
 use ha_value::Many;
 use std::alloc::Global;
 use yaml_scan::{Code, YamlFault};

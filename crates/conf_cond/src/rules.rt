@@ -5,8 +5,8 @@ ghost use Rattle.std.specs.Str.{bytes_eq};
 ghost use Rattle.std.specs.List.{find};
 ghost use Rattle.ha_value.specs.declared.value.EntityId.{EntityId as Id};
 ghost use Rattle.ha_value.specs.declared.value.Num.{Num as Figure};
-ghost use Rattle.ha_model.specs.declared.template.Template.{Template as Tree};
-ghost use Rattle.ha_model.specs.declared.config.Condition.TheVariants as made_of;
+ghost use Rattle.ha_config.specs.declared.template.Template.{Template as Tree};
+ghost use Rattle.ha_config.specs.declared.config.Condition.TheVariants as made_of;
 ghost use Rattle.yaml_scan.specs.Answers.{Gives};
 ghost use Rattle.yaml_scan.specs.declared.fault.Fault.{Fault};
 ghost use Rattle.yaml_tree.specs.declared.node.Node.{Node};
@@ -19,7 +19,7 @@ use conf_field::{
     needed, one_of, optional, rows as keys, scalar, several, template_text, unless,
 };
 use ha_clock::Span;
-use ha_model::{Condition, Template};
+use ha_config::{Condition, Template};
 use ha_value::{EntityId, Many, Num, Word};
 use std::alloc::Global;
 use yaml_scan::{Code, YamlFault};

@@ -9,7 +9,7 @@ use Rattle.ha_value.specs.declared.value.Num.{Num}
 use Rattle.ha_value.specs.Lists.{before_first, after_first}
 use Rattle.ha_value.specs.Numbers.{read_number}
 use Rattle.ha_clock.specs.SpanText.{number_of}
-use Rattle.ha_model.specs.declared.template.Template.{Template}
+use Rattle.ha_config.specs.declared.template.Template.{Template}
 use Rattle.reading.specs.declared.fault.Bad.{Bad}
 use Rattle.reading.specs.Answer.{Answer}
 use Rattle.yaml_scan.specs.declared.fault.Code.{Code}

@@ -1,7 +1,7 @@
 -- Trees whose maps have distinct keys, and which are so small that every list that is read of them is short.
 use Rattle.std.specs.Prelude.{ℕ, ◌+◌, ◌<◌, Bool, true, ◌&&◌, IsTrue, List, [], ◌∷◌, length, map}
 use Rattle.std.specs.List.{list_all}
-use Rattle.ha_model.specs.Commands.{all_distinct}
+use Rattle.ha_config.specs.ValueFacts.{all_distinct}
 use Rattle.yaml_tree.specs.declared.node.Node.{Node}
 use Rattle.yaml_tree.specs.declared.node.NodeKind.TheOpen.{NodeKind-F}
 use Rattle.yaml_tree.specs.declared.node.NodeKind.TheFolds.{fold-Node}

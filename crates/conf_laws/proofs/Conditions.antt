@@ -1,14 +1,14 @@
 -- The conditions that are read of a sound tree are sound.
 use Rattle.std.proofs.Common.{◌≡◌, ◌∙◌, ap, sym, subst, refl, ℕ, ◌+◌, ◌≤◌, ◌<◌, Bool, true, false, cond, List, [], ◌∷◌, ◌++◌, length, Option, Some, None, Ok, Err, arith}
 use Rattle.std.specs.Prelude.{◌&&◌, unwrap_or}
-use Rattle.ha_model.specs.declared.template.Template.{Template}
-use Rattle.ha_model.specs.declared.config.Condition.{Condition}
-use Rattle.ha_model.specs.declared.config.Condition.TheVariants as conditions
-use Rattle.ha_model.specs.declared.config.Condition.TheOpen.{Condition-F}
-use Rattle.ha_model.specs.declared.config.Condition.TheViews.{roll-Condition}
-use Rattle.ha_model.specs.declared.config.Condition.TheFolds.{fold-roll-Condition, map-Condition}
-use Rattle.ha_model.specs.Sound.{are_sound_conditions, if_there, is_second_of_day, is_short, is_sound_condition, is_sound_template, sound_condition_step}
-use Rattle.ha_model.specs.Numbers.{is_in_range}
+use Rattle.ha_config.specs.declared.template.Template.{Template}
+use Rattle.ha_config.specs.declared.config.Condition.{Condition}
+use Rattle.ha_config.specs.declared.config.Condition.TheVariants as conditions
+use Rattle.ha_config.specs.declared.config.Condition.TheOpen.{Condition-F}
+use Rattle.ha_config.specs.declared.config.Condition.TheViews.{roll-Condition}
+use Rattle.ha_config.specs.declared.config.Condition.TheFolds.{fold-roll-Condition, map-Condition}
+use Rattle.ha_config.specs.Sound.{are_sound_conditions, if_there, is_second_of_day, is_short, is_sound_condition, is_sound_template, sound_condition_step}
+use Rattle.ha_config.specs.Numbers.{is_in_range}
 use Rattle.yaml_scan.specs.declared.fault.Code.TheVariants as code
 use Rattle.yaml_tree.specs.declared.node.Node.{Node}
 use Rattle.yaml_tree.specs.declared.node.NodeKind.TheOpen.{NodeKind-F}

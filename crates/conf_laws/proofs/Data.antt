@@ -7,8 +7,8 @@ use Rattle.ha_value.specs.declared.value.Num.{Num}
 use Rattle.ha_value.specs.declared.value.Value.{Value}
 use Rattle.ha_value.specs.declared.value.Value.TheVariants as values
 use Rattle.ha_value.specs.Numbers.{read_number}
-use Rattle.ha_model.specs.Commands.{all_distinct, are_sound_pairs, is_sound_value}
-use Rattle.ha_model.specs.Sound.{all_short, has_short_lists, is_plain_value}
+use Rattle.ha_config.specs.ValueFacts.{all_distinct, are_sound_pairs, is_sound_value}
+use Rattle.ha_config.specs.Sound.{all_short, has_short_lists, is_plain_value}
 use Rattle.yaml_scan.specs.declared.fault.Code.TheVariants as code
 use Rattle.yaml_tree.specs.declared.node.Node.{Node}
 use Rattle.yaml_tree.specs.declared.node.NodeKind.TheOpen.{NodeKind-F}

@@ -3,7 +3,7 @@ use Rattle.std.proofs.Common.{◌≡◌, ◌∙◌, ap, sym, subst, refl, ℕ, �
 use Rattle.std.specs.Prelude.{◌&&◌}
 use Rattle.std.specs.List.{list_all, find}
 use Rattle.std.proofs.lemmas.Bool.{and_parts}
-use Rattle.ha_model.specs.Commands.{all_distinct}
+use Rattle.ha_config.specs.ValueFacts.{all_distinct}
 use Rattle.yaml_tree.specs.declared.node.Node.{Node}
 use Rattle.yaml_tree.specs.declared.node.Node.{Node-F}
 use Rattle.yaml_tree.specs.declared.node.NodeKind.{NodeKind}

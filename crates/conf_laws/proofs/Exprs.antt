@@ -6,13 +6,13 @@ use Rattle.ha_value.specs.declared.value.Num.{Num}
 use Rattle.ha_value.specs.declared.value.Value.{Value}
 use Rattle.ha_value.specs.declared.value.Value.TheVariants as values
 use Rattle.ha_value.specs.Numbers.{is_in_range}
-use Rattle.ha_model.specs.declared.template.Op.{Op}
-use Rattle.ha_model.specs.declared.template.Expr.{Expr}
-use Rattle.ha_model.specs.declared.template.Expr.TheVariants as exprs
-use Rattle.ha_model.specs.declared.template.Expr.TheOpen.{Expr-F}
-use Rattle.ha_model.specs.declared.template.Expr.TheViews.{roll-Expr}
-use Rattle.ha_model.specs.declared.template.Expr.TheFolds.{fold-roll-Expr, map-Expr}
-use Rattle.ha_model.specs.Sound.{all_true, is_plain_value, is_sound_expr, sound_expr_step}
+use Rattle.ha_config.specs.declared.template.Op.{Op}
+use Rattle.ha_config.specs.declared.template.Expr.{Expr}
+use Rattle.ha_config.specs.declared.template.Expr.TheVariants as exprs
+use Rattle.ha_config.specs.declared.template.Expr.TheOpen.{Expr-F}
+use Rattle.ha_config.specs.declared.template.Expr.TheViews.{roll-Expr}
+use Rattle.ha_config.specs.declared.template.Expr.TheFolds.{fold-roll-Expr, map-Expr}
+use Rattle.ha_config.specs.Sound.{all_true, is_plain_value, is_sound_expr, sound_expr_step}
 use Rattle.tpl_parse.specs.declared.expression.Level.{Level}
 use Rattle.tpl_parse.specs.declared.table.Filter.{Filter}
 use Rattle.tpl_parse.specs.declared.table.Function.{Function}

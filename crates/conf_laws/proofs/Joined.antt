@@ -5,7 +5,7 @@ use Rattle.std.specs.List.{list_all}
 use Rattle.std.proofs.lemmas.Bool.{and_parts, lt-ltb}
 use Rattle.std.proofs.lemmas.List.Folds.{list_all-append, list_all-map}
 use Rattle.std.proofs.lemmas.List.{length-map}
-use Rattle.ha_model.specs.Sound.{all_true, all_short, is_short}
+use Rattle.ha_config.specs.Sound.{all_true, all_short, is_short}
 
 pub pair : (a b : Bool) → a ≡ true → b ≡ true → (a && b) ≡ true
 pair a b h k = rw (h, k) refl

@@ -6,7 +6,7 @@ use Rattle.ha_value.specs.declared.value.EntityId.{EntityId as Id}
 use Rattle.ha_value.specs.Ids.{read_entity}
 use Rattle.ha_value.specs.Lists.{before_first, after_first}
 use Rattle.ha_value.specs.Numbers.{is_in_range, read_number}
-use Rattle.ha_model.specs.Sound.{is_second_of_day, is_short}
+use Rattle.ha_config.specs.Sound.{is_second_of_day, is_short}
 use Rattle.yaml_scan.specs.declared.fault.Fault.{Fault}
 use Rattle.yaml_scan.specs.declared.fault.Code.TheVariants as code
 use Rattle.yaml_scan.specs.Words.{trimmed, without_blanks}

@@ -2,7 +2,7 @@
 use Rattle.std.proofs.Common.{◌≡◌, refl, ℕ, ◌+◌, ◌≤◌, Bool, true, false, cond, List, [], ◌∷◌, length, Option, Some, None, Ok, Err, arith, length-append}
 use Rattle.std.specs.Prelude.{option_and_then}
 use Rattle.std.specs.List.{list_all}
-use Rattle.ha_model.specs.Sound.{if_there}
+use Rattle.ha_config.specs.Sound.{if_there}
 use Rattle.yaml_scan.specs.declared.fault.Code.{Code}
 use Rattle.yaml_tree.specs.declared.node.Node.{Node}
 use Rattle.yaml_tree.specs.declared.node.NodeKind.TheOpen.{NodeKind-F}

@@ -5,14 +5,14 @@ use Rattle.std.specs.List.{list_all}
 use Rattle.std.proofs.lemmas.List.{length-map}
 use Rattle.std.proofs.lemmas.List.Folds.{list_all-map}
 use Rattle.std.proofs.lemmas.Bool.{ltb-false}
-use Rattle.ha_model.specs.declared.template.Expr.{Expr}
-use Rattle.ha_model.specs.declared.template.Piece.{Piece}
-use Rattle.ha_model.specs.declared.template.Piece.TheVariants as pieces
-use Rattle.ha_model.specs.declared.template.Piece.TheOpen.{Piece-F}
-use Rattle.ha_model.specs.declared.template.Piece.TheViews.{roll-Piece}
-use Rattle.ha_model.specs.declared.template.Piece.TheFolds.{fold-Piece, fold_out-Template, fold-roll-Piece, map-Piece}
-use Rattle.ha_model.specs.declared.template.Template.{Template}
-use Rattle.ha_model.specs.Sound.{all_short, all_true, is_sound_expr, is_sound_template, sound_piece_step}
+use Rattle.ha_config.specs.declared.template.Expr.{Expr}
+use Rattle.ha_config.specs.declared.template.Piece.{Piece}
+use Rattle.ha_config.specs.declared.template.Piece.TheVariants as pieces
+use Rattle.ha_config.specs.declared.template.Piece.TheOpen.{Piece-F}
+use Rattle.ha_config.specs.declared.template.Piece.TheViews.{roll-Piece}
+use Rattle.ha_config.specs.declared.template.Piece.TheFolds.{fold-Piece, fold_out-Template, fold-roll-Piece, map-Piece}
+use Rattle.ha_config.specs.declared.template.Template.{Template}
+use Rattle.ha_config.specs.Sound.{all_short, all_true, is_sound_expr, is_sound_template, sound_piece_step}
 use Rattle.reading.specs.declared.fault.Bad.{Bad}
 use Rattle.reading.specs.Answer.{Answer}
 use Rattle.yaml_scan.specs.declared.fault.Code.TheVariants as code

@@ -5,13 +5,13 @@ use Rattle.std.specs.Char.{is_ascii_digit}
 use Rattle.std.proofs.lemmas.Bool.{and_parts, eqb-false, leb-true, le-leb, lt-ltb}
 use Rattle.ha_value.specs.declared.value.Value.{Value}
 use Rattle.ha_clock.specs.SpanText.{number_from, number_of}
-use Rattle.ha_model.specs.declared.config.Match.{Match}
-use Rattle.ha_model.specs.declared.config.Trigger.{Trigger}
-use Rattle.ha_model.specs.declared.config.TriggerRule.{TriggerRule}
-use Rattle.ha_model.specs.declared.config.Unit as unit
-use Rattle.ha_model.specs.Commands.{are_sound_pairs}
-use Rattle.ha_model.specs.Sound.{all_short, are_sound_triggers, has_short_lists, if_there, is_second_of_day, is_short, is_sound_match, is_sound_rule, is_sound_template, is_sound_trigger, is_sound_unit, may_hold}
-use Rattle.ha_model.specs.Numbers.{is_in_range}
+use Rattle.ha_config.specs.declared.config.Match.{Match}
+use Rattle.ha_config.specs.declared.config.Trigger.{Trigger}
+use Rattle.ha_config.specs.declared.config.TriggerRule.{TriggerRule}
+use Rattle.ha_config.specs.declared.config.Unit as unit
+use Rattle.ha_config.specs.ValueFacts.{are_sound_pairs}
+use Rattle.ha_config.specs.Sound.{all_short, are_sound_triggers, has_short_lists, if_there, is_second_of_day, is_short, is_sound_match, is_sound_rule, is_sound_template, is_sound_trigger, is_sound_unit, may_hold}
+use Rattle.ha_config.specs.Numbers.{is_in_range}
 use Rattle.yaml_scan.specs.declared.fault.Code.TheVariants as code
 use Rattle.yaml_tree.specs.declared.node.Node.{Node}
 use Rattle.yaml_tree.specs.declared.node.NodeKind.TheOpen.{NodeKind-F}

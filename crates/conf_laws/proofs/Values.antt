@@ -11,9 +11,9 @@ use Rattle.ha_value.specs.declared.value.Value.TheOpen.{Value-F}
 use Rattle.ha_value.specs.declared.value.Value.TheViews.{roll-Value}
 use Rattle.ha_value.specs.declared.value.Value.TheFolds.{fold-roll-Value, map-Value}
 use Rattle.ha_value.specs.Numbers.{is_in_range, kept_in_range, number_of_text, read_number}
-use Rattle.ha_model.specs.Commands.{all_distinct, is_sound_value, sound_step}
-use Rattle.ha_model.specs.Sound.{all_short, all_true, has_short_lists, is_plain_value, short_step}
-use Rattle.ha_model.proofs.Rolls.{is_sound_value-roll}
+use Rattle.ha_config.specs.ValueFacts.{all_distinct, is_sound_value, sound_step}
+use Rattle.ha_config.specs.Sound.{all_short, all_true, has_short_lists, is_plain_value, short_step}
+use Rattle.ha_config.proofs.ValueRolls.{is_sound_value-roll}
 use Rattle.conf_laws.proofs.Joined.{all_mapped, all_passed, apart, pair}
 
 pub kept : (n m : Num) → kept_in_range n ≡ Some m → is_in_range m ≡ true

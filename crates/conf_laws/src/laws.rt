@@ -1,7 +1,7 @@
 //! Each law is a function that does nothing; its contract is the law.
 
 ghost use Rattle.std.specs.Prelude.{IsTrue};
-ghost use Rattle.ha_model.specs.Sound.{are_sound_conditions, are_sound_triggers, is_sound_template};
+ghost use Rattle.ha_config.specs.Sound.{are_sound_conditions, are_sound_triggers, is_sound_template};
 ghost use Rattle.yaml_tree.specs.Spelling.{IsText};
 ghost use Rattle.yaml_tree.specs.declared.node.Node.{Node as Tree};
 ghost use Rattle.conf_field.specs.Holds.{Holds};

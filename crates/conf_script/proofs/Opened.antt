@@ -1,7 +1,7 @@
 -- What a node is, by what the nodes inside are.
 use Rattle.std.proofs.Common.{◌≡◌, ◌∙◌, ap, refl, sym, ℕ, Bool, true, false, ◌&&◌, if◌then◌else◌, List, [], ◌∷◌, map, length, get_or, ◌<◌, Option, Some, None, Ok}
 use Rattle.std.specs.Prelude.{option_map, slice_get}
-use Rattle.ha_model.specs.declared.config.Action.{Action}
+use Rattle.ha_config.specs.declared.config.Action.{Action}
 use Rattle.yaml_scan.specs.declared.fault.Code.TheVariants as code
 use Rattle.yaml_tree.specs.declared.node.Node.{Node}
 use Rattle.yaml_tree.specs.declared.node.NodeKind.TheOpen.{NodeKind-F}

@@ -1,7 +1,7 @@
 -- Services and targets of calls.
 use Rattle.std.specs.Prelude.{ℕ, Bool, ◌==◌, if◌then◌else◌, List, [], ◌∷◌, ◌++◌, Option, Some, None, Ok, is_some}
 use Rattle.ha_value.specs.Ids.{read_entity}
-use Rattle.ha_model.specs.declared.template.Template.{Template}
+use Rattle.ha_config.specs.declared.template.Template.{Template}
 use Rattle.yaml_scan.specs.declared.fault.Code.TheVariants as code
 use Rattle.yaml_scan.specs.Words.{trimmed, without_blanks}
 use Rattle.yaml_tree.specs.declared.node.Node.{Node}

@@ -1,12 +1,12 @@
 -- Values that may have templates in them, and spans that may.
 use Rattle.std.specs.Prelude.{ℕ, Bool, false, if◌then◌else◌, List, [], ◌∷◌, Option, Some, None, Ok, codes}
 use Rattle.std.specs.List.{list_any}
-use Rattle.ha_model.specs.declared.config.Form.{Form}
-use Rattle.ha_model.specs.declared.config.Form.TheVariants as forms
-use Rattle.ha_model.specs.declared.config.SpanForm.{SpanForm}
-use Rattle.ha_model.specs.declared.template.Template.{Template}
-use Rattle.ha_model.specs.declared.template.Piece.{Piece}
-use Rattle.ha_model.specs.declared.template.Piece.TheVariants as pieces
+use Rattle.ha_config.specs.declared.config.Form.{Form}
+use Rattle.ha_config.specs.declared.config.Form.TheVariants as forms
+use Rattle.ha_config.specs.declared.config.SpanForm.{SpanForm}
+use Rattle.ha_config.specs.declared.template.Template.{Template}
+use Rattle.ha_config.specs.declared.template.Piece.{Piece}
+use Rattle.ha_config.specs.declared.template.Piece.TheVariants as pieces
 use Rattle.yaml_scan.specs.declared.fault.Code.TheVariants as code
 use Rattle.yaml_tree.specs.declared.node.Node.{Node}
 use Rattle.yaml_tree.specs.declared.node.NodeKind.TheOpen.{NodeKind-F}

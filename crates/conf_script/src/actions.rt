@@ -1,7 +1,7 @@
 //! Actions: one, lists of them, and what choices, repeats and parallel blocks hold, down the tree.
 
 ghost use Rattle.std.specs.Prelude.{◌≡◌, ◌∷◌, ◌++◌, [], ℕ, List, Option, Result, None, Some, Ok};
-ghost use Rattle.ha_model.specs.declared.config.Action.{Action as One};
+ghost use Rattle.ha_config.specs.declared.config.Action.{Action as One};
 ghost use Rattle.yaml_scan.specs.Answers.{Gives};
 ghost use Rattle.conf_field.specs.declared.key.Key.TheVariants as key;
 ghost use Rattle.conf_field.specs.Fields.{row as of_key};
@@ -17,7 +17,7 @@ use crate::name::{ActionName, name_of};
 use conf_cond::read_condition_action;
 use conf_field::rows::{CHOOSE, DEFAULT, ELSE, PARALLEL, REPEAT, SEQUENCE, THEN};
 use conf_field::{Pair, Row, alone, bad, behind, field_at, is_null_scalar, keep, place};
-use ha_model::{Action, ActionKind};
+use ha_config::{Action, ActionKind};
 use ha_value::Many;
 use std::alloc::Global;
 use yaml_scan::{Code, YamlFault};

@@ -2,7 +2,7 @@
 
 ghost use Rattle.std.specs.Prelude.{◌≡◌, ◌∷◌, ◌++◌, [], ℕ, List, Option, Result, None, Some, Ok};
 ghost use Rattle.ha_value.specs.Ids.{entity_text};
-ghost use Rattle.ha_model.specs.declared.template.Template.{Template as Tree};
+ghost use Rattle.ha_config.specs.declared.template.Template.{Template as Tree};
 ghost use Rattle.yaml_scan.specs.Answers.{Gives};
 ghost use Rattle.yaml_scan.specs.declared.fault.Fault.{Fault};
 ghost use Rattle.yaml_tree.specs.declared.node.Node.{Node};
@@ -16,7 +16,7 @@ use conf_field::rows::ENTITY_ID;
 use conf_field::{
     Kind, Pair, bad, behind, both, holds_template, keys, optional, scalar, template_text,
 };
-use ha_model::Template;
+use ha_config::Template;
 use ha_value::{EntityFault, EntityId, Many};
 use std::alloc::Global;
 use yaml_scan::{Code, YamlFault, blanks, trimmed};

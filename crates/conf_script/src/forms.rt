@@ -3,9 +3,9 @@
 ghost use Rattle.std.specs.Prelude.{◌≡◌, ◌∷◌, ◌++◌, [], ℕ, List, Option, Result, None, Some, Ok, codes};
 ghost use Rattle.std.specs.List.{list_any};
 ghost use Rattle.ha_value.specs.declared.value.Value.{Value as Datum};
-ghost use Rattle.ha_model.specs.declared.config.Form.TheVariants as made_of;
-ghost use Rattle.ha_model.specs.declared.config.SpanForm.TheVariants as spans_of;
-ghost use Rattle.ha_model.specs.declared.template.Template.{Template as Tree};
+ghost use Rattle.ha_config.specs.declared.config.Form.TheVariants as made_of;
+ghost use Rattle.ha_config.specs.declared.config.SpanForm.TheVariants as spans_of;
+ghost use Rattle.ha_config.specs.declared.template.Template.{Template as Tree};
 ghost use Rattle.yaml_scan.specs.Answers.{Gives};
 ghost use Rattle.yaml_scan.specs.declared.fault.Fault.{Fault};
 ghost use Rattle.yaml_tree.specs.declared.node.Node.{Node};
@@ -19,7 +19,7 @@ use conf_field::{
     holds_template, keys, optional, scalar, scalar_word, span_map, span_of, template_text,
 };
 use ha_clock::Span;
-use ha_model::{Form, Piece, SpanForm, Template};
+use ha_config::{Form, Piece, SpanForm, Template};
 use ha_value::{Many, Plain, Value, Word};
 use std::alloc::Global;
 use yaml_scan::{Code, YamlFault};

@@ -1,11 +1,11 @@
 //! Actions of the kinds that hold no actions.
 
 ghost use Rattle.std.specs.Prelude.{◌≡◌, ◌∷◌, ◌++◌, [], ℕ, List, Bool, Option, Result, None, Some, Ok, unwrap_or};
-ghost use Rattle.ha_model.specs.declared.config.ActionKind.TheVariants as does;
-ghost use Rattle.ha_model.specs.declared.config.Form.{Form as OneForm};
-ghost use Rattle.ha_model.specs.declared.config.SpanForm.{SpanForm as Lasts};
-ghost use Rattle.ha_model.specs.declared.config.Trigger.{Trigger as OneTrigger};
-ghost use Rattle.ha_model.specs.declared.template.Template.{Template as Tree};
+ghost use Rattle.ha_config.specs.declared.config.ActionKind.TheVariants as does;
+ghost use Rattle.ha_config.specs.declared.config.Form.{Form as OneForm};
+ghost use Rattle.ha_config.specs.declared.config.SpanForm.{SpanForm as Lasts};
+ghost use Rattle.ha_config.specs.declared.config.Trigger.{Trigger as OneTrigger};
+ghost use Rattle.ha_config.specs.declared.template.Template.{Template as Tree};
 ghost use Rattle.yaml_scan.specs.Answers.{Gives};
 ghost use Rattle.yaml_scan.specs.declared.fault.Fault.{Fault};
 ghost use Rattle.yaml_tree.specs.declared.node.Node.{Node};
@@ -18,7 +18,7 @@ use crate::forms::{Fields, Lasting};
 use crate::name::CALL;
 use conf_field::{Flag, Kind, Pair, Source, Text, both, needed, optional, rows as keys};
 use conf_trigger::read_triggers;
-use ha_model::{ActionKind, Form, SpanForm, Template, Trigger};
+use ha_config::{ActionKind, Form, SpanForm, Template, Trigger};
 use ha_value::{Many, Word};
 use std::alloc::Global;
 use yaml_scan::YamlFault;

@@ -1,12 +1,12 @@
 //! What is made of the parts of actions.
 
 ghost use Rattle.std.specs.Prelude.{◌≡◌, ◌∷◌, ◌++◌, [], ℕ, List, Bool, Option, Result, None, Some, Ok};
-ghost use Rattle.ha_model.specs.declared.config.Action.{Action as One};
-ghost use Rattle.ha_model.specs.declared.config.ActionKind.{ActionKind as Does};
-ghost use Rattle.ha_model.specs.declared.config.ActionKind.TheVariants as does;
-ghost use Rattle.ha_model.specs.declared.config.Condition.{Condition as OneTest};
-ghost use Rattle.ha_model.specs.declared.config.RepeatKind.{RepeatKind as Turning};
-ghost use Rattle.ha_model.specs.declared.template.Template.{Template as Tree};
+ghost use Rattle.ha_config.specs.declared.config.Action.{Action as One};
+ghost use Rattle.ha_config.specs.declared.config.ActionKind.{ActionKind as Does};
+ghost use Rattle.ha_config.specs.declared.config.ActionKind.TheVariants as does;
+ghost use Rattle.ha_config.specs.declared.config.Condition.{Condition as OneTest};
+ghost use Rattle.ha_config.specs.declared.config.RepeatKind.{RepeatKind as Turning};
+ghost use Rattle.ha_config.specs.declared.template.Template.{Template as Tree};
 ghost use Rattle.yaml_scan.specs.Answers.{Gives};
 ghost use Rattle.conf_field.specs.Fields.{keys as known_keys};
 ghost use Rattle.conf_field.specs.Readings.{Read, made};
@@ -18,7 +18,7 @@ use conf_field::rows::{ALIAS, CONDITIONS, CONTINUE_ON_ERROR, ENABLED, IF, SEQUEN
 use conf_field::{
     Flag, Pair, Row, bad, both, is_null_scalar, keys, needed, optional, template_text,
 };
-use ha_model::{Action, ActionKind, Condition, RepeatKind, Template};
+use ha_config::{Action, ActionKind, Condition, RepeatKind, Template};
 use ha_value::Many;
 use std::alloc::Global;
 use yaml_scan::{Code, YamlFault};

@@ -1,10 +1,10 @@
 //! How often a repeat takes a turn, and what choices ask.
 
 ghost use Rattle.std.specs.Prelude.{◌≡◌, [], ℕ, List, Result, None, Some, Ok};
-ghost use Rattle.ha_model.specs.declared.config.Condition.{Condition as OneTest};
-ghost use Rattle.ha_model.specs.declared.config.Form.{Form as OneForm};
-ghost use Rattle.ha_model.specs.declared.config.RepeatKind.TheVariants as repeats_of;
-ghost use Rattle.ha_model.specs.declared.template.Template.{Template as Tree};
+ghost use Rattle.ha_config.specs.declared.config.Condition.{Condition as OneTest};
+ghost use Rattle.ha_config.specs.declared.config.Form.{Form as OneForm};
+ghost use Rattle.ha_config.specs.declared.config.RepeatKind.TheVariants as repeats_of;
+ghost use Rattle.ha_config.specs.declared.template.Template.{Template as Tree};
 ghost use Rattle.yaml_scan.specs.Answers.{Gives};
 ghost use Rattle.yaml_scan.specs.declared.fault.Fault.{Fault};
 ghost use Rattle.yaml_tree.specs.declared.node.Node.{Node};
@@ -15,7 +15,7 @@ use crate::forms::{Digits, Formed};
 use crate::name::RepeatName;
 use conf_cond::read_conditions;
 use conf_field::{Kind, Pair, bad, items_of, needed, rows as keys};
-use ha_model::{Condition, Form, RepeatKind, Template};
+use ha_config::{Condition, Form, RepeatKind, Template};
 use ha_value::Many;
 use std::alloc::Global;
 use yaml_scan::{Code, YamlFault};

@@ -1,6 +1,7 @@
 //! Actions of texts.
 use conf_script::read_actions;
-use ha_model::{Action, ActionKind, Many, RepeatKind, SpanForm};
+use ha_config::{Action, ActionKind, RepeatKind, SpanForm};
+use ha_value::Many;
 use std::alloc::Global;
 use yaml_scan::YamlFault;
 use yaml_tree::read_tree;

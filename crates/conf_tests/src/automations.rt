@@ -1,6 +1,6 @@
 //! Whole configurations: automations with their names and defaults.
 use conf_auto::read_config;
-use ha_model::{Automation, Mode};
+use ha_config::{Automation, Mode};
 use std::alloc::{AllocError, Global};
 use yaml_scan::YamlFault;
 

@@ -1,6 +1,7 @@
 //! Conditions of texts.
 use conf_cond::read_conditions;
-use ha_model::{Condition, Many, Num};
+use ha_config::Condition;
+use ha_value::{Many, Num};
 use std::alloc::Global;
 use yaml_scan::YamlFault;
 use yaml_tree::read_tree;

@@ -1,7 +1,7 @@
 //! Texts of homes as the editor of Home Assistant writes them, in the spelling of today and in the one before. Each is taken as it stands;
 //! what is wanted was counted in the text.
 use crate::automations::reads;
-use ha_model::Mode;
+use ha_config::Mode;
 
 /// The editor, in the spelling of today: what it writes for two automations in `automations.yaml`.
 const EDITOR: &str = "- id: '1730000000001'

@@ -1,7 +1,7 @@
 //! Texts of homes as the documentation of Home Assistant shows them, in the spelling of today and in the one before. Each is taken as it
 //! stands; what is wanted was counted in the text.
 use crate::automations::{are_refused, reads};
-use ha_model::Mode;
+use ha_config::Mode;
 
 /// The page on triggers: each kind that is taken, most with comments and keys as the page has them.
 const TRIGGERS: &str = "# Automation triggers

@@ -1,6 +1,8 @@
 //! Triggers of texts.
 use conf_trigger::read_triggers;
-use ha_model::{Many, Match, Span, Trigger, TriggerRule, Unit};
+use ha_clock::Span;
+use ha_config::{Match, Trigger, TriggerRule, Unit};
+use ha_value::Many;
 use std::alloc::{AllocError, Global};
 use yaml_scan::YamlFault;
 use yaml_tree::read_tree;

@@ -1,7 +1,7 @@
 -- One trigger further in a list.
 use Rattle.std.proofs.Common.{◌≡◌, Ok, Err, refl, ◌<◌, ◌+◌, ℕ, List, ◌∷◌, length, drop, get_or, ap, ◌∙◌}
 use Rattle.std.proofs.lemmas.List.{drop_more}
-use Rattle.ha_model.specs.declared.config.Trigger.{Trigger}
+use Rattle.ha_config.specs.declared.config.Trigger.{Trigger}
 use Rattle.yaml_tree.specs.declared.node.Node.{Node}
 use Rattle.conf_field.specs.Readings.{Read, both, keep, made}
 use Rattle.conf_trigger.specs.Triggers.{trigger, triggers_from}

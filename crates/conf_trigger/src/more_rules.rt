@@ -4,7 +4,7 @@ ghost use Rattle.std.specs.Prelude.{◌≡◌, ◌||◌, ◌∷◌, [], ℕ, Lis
 ghost use Rattle.ha_value.specs.declared.value.EntityId.{EntityId as Id};
 ghost use Rattle.ha_value.specs.declared.value.Num.{Num as Figure};
 ghost use Rattle.ha_value.specs.declared.value.Value.{Value as Datum};
-ghost use Rattle.ha_model.specs.declared.config.Unit as unit;
+ghost use Rattle.ha_config.specs.declared.config.Unit as unit;
 ghost use Rattle.yaml_scan.specs.Answers.{Gives};
 ghost use Rattle.conf_field.specs.Readings.{Read, made};
 ghost use Rattle.conf_trigger.specs.Triggers as triggers;
@@ -16,7 +16,7 @@ use conf_field::{
     unless,
 };
 use ha_clock::Span;
-use ha_model::{TriggerRule, Unit};
+use ha_config::{TriggerRule, Unit};
 use ha_value::{EntityId, Many, Num, Value, Word};
 use std::alloc::Global;
 use yaml_scan::YamlFault;

@@ -6,9 +6,9 @@ ghost use Rattle.std.specs.Prelude.{◌≡◌, ◌||◌, ◌∷◌, [], ℕ, Lis
 ghost use Rattle.ha_value.specs.declared.value.EntityId.{EntityId as Id};
 ghost use Rattle.ha_value.specs.declared.value.Num.{Num as Number};
 ghost use Rattle.ha_value.specs.declared.value.Value.{Value as Datum};
-ghost use Rattle.ha_model.specs.declared.config.Match.{Match as Side};
-ghost use Rattle.ha_model.specs.declared.config.Unit as unit;
-ghost use Rattle.ha_model.specs.declared.template.Template.{Template as Tree};
+ghost use Rattle.ha_config.specs.declared.config.Match.{Match as Side};
+ghost use Rattle.ha_config.specs.declared.config.Unit as unit;
+ghost use Rattle.ha_config.specs.declared.template.Template.{Template as Tree};
 ghost use Rattle.yaml_scan.specs.Answers.{Gives};
 ghost use Rattle.yaml_scan.specs.declared.fault.Fault.{Fault};
 ghost use Rattle.yaml_tree.specs.declared.node.Node.{Node};
@@ -21,7 +21,7 @@ use conf_field::{
     rows as keys, scalar, unless,
 };
 use ha_clock::Span;
-use ha_model::{Match, Template, TriggerRule};
+use ha_config::{Match, Template, TriggerRule};
 use ha_value::{EntityId, Many, Word};
 use std::alloc::Global;
 use yaml_scan::{Code, Fault, YamlFault};

@@ -1,7 +1,7 @@
 //! A trigger, and lists of them.
 
 ghost use Rattle.std.specs.Prelude.{◌≡◌, ◌<◌, ◌^◌, ◌∷◌, [], ℕ, List, Bool, Option, Result, None, Some, Ok, IfOk, decimal, length};
-ghost use Rattle.ha_model.specs.declared.config.Trigger.{Trigger as One};
+ghost use Rattle.ha_config.specs.declared.config.Trigger.{Trigger as One};
 ghost use Rattle.yaml_scan.specs.Answers.{Gives};
 ghost use Rattle.conf_field.specs.Readings.{Read, made};
 ghost use Rattle.conf_trigger.specs.declared.kind.TriggerKind.{TriggerKind as Named};
@@ -12,7 +12,7 @@ use crate::more_rules::{event_rule, numeric_rule, pattern_rule, time_rule};
 use crate::rules::{Rule, start_rule, state_rule, template_rule};
 use conf_field::rows::{ENABLED, ID};
 use conf_field::{Flag, Pair, Text, bad, both, keep, optional, unless, wanted};
-use ha_model::Trigger;
+use ha_config::Trigger;
 use ha_value::{Many, Word};
 use std::alloc::{AllocError, Global};
 use yaml_scan::{Code, Fault, YamlFault};

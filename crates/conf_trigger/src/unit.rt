@@ -4,11 +4,11 @@ ghost use Rattle.std.specs.Prelude.{◌≡◌, ℕ, Result, None, Some, option_m
 ghost use Rattle.ha_clock.specs.SpanText.{number_of, number_from};
 ghost use Rattle.yaml_scan.specs.declared.fault.Fault.{Fault};
 ghost use Rattle.yaml_tree.specs.declared.node.Node.{Node};
-ghost use Rattle.ha_model.specs.declared.config.Unit.{Unit};
+ghost use Rattle.ha_config.specs.declared.config.Unit.{Unit};
 ghost use Rattle.conf_trigger.specs.Triggers as triggers;
 
 use conf_field::{Kind, bad, digits, scalar};
-use ha_model::Unit;
+use ha_config::Unit;
 use std::alloc::Global;
 use yaml_scan::{Code, YamlFault};
 use yaml_tree::Node;

@@ -3,12 +3,13 @@ use Rattle.std.proofs.Common.{◌≡◌, ℕ, zero, suc, ◌+◌, ◌-◌, ◌<�
 use Rattle.std.specs.Prelude.{Option, Some, None, ◌||◌, nat_eq, slice_get, option_map, if◌then◌else◌}
 use Rattle.std.specs.Option.{option_map_or}
 use Rattle.timer_queue.specs.Timers.{Timer}
-use Rattle.ha_model.specs.declared.journal.EndCause.{EndCause}
-use Rattle.ha_model.specs.declared.journal.Record.{Record}
-use Rattle.ha_model.specs.Journal.{Journal}
+use Rattle.ha_model.specs.declared.record.EndCause.{EndCause}
+use Rattle.ha_model.specs.declared.record.Record.{Record}
+use Rattle.ha_journal.specs.Journal.{Journal}
 use Rattle.ha_model.specs.Lawful.{is_running, record_of}
-use Rattle.ha_model.specs.Records.{Records, or_else}
-use Rattle.ha_model.specs.Scripts.{Branch}
+use Rattle.ha_model.specs.Records.{Records}
+use Rattle.ha_config.specs.Words.{or_else}
+use Rattle.ha_sight.specs.Scripts.{Branch}
 use Rattle.ha_ready.specs.ReadyPairs.{branches_at, changed_at, pairs_from, ready_branches}
 use Rattle.ha_ready.specs.RunPast.{AllPast, BeginBefore, IsPast}
 use Rattle.ha_ready.proofs.ReadyLemmas.{pairs-same}

@@ -3,23 +3,21 @@ use Rattle.std.proofs.Common.{◌≡◌, ℕ, suc, ◌+◌, ◌-◌, ◌<◌, �
 use Rattle.std.specs.Prelude.{IsTrue, not, nat_eq, max, ◌||◌, flat_map, if◌then◌else◌}
 use Rattle.std.specs.List.{list_any, enumerate_from}
 use Rattle.std.proofs.lemmas.List.{take_all}
-use Rattle.ha_model.specs.declared.config.Automation.{Automation}
-use Rattle.ha_model.specs.declared.journal.Cmd.{Cmd}
-use Rattle.ha_model.specs.declared.journal.Entry.{Entry}
-use Rattle.ha_model.specs.declared.journal.Entry.TheVariants.{Line}
-use Rattle.ha_model.specs.Entries.{Turning, turning}
-use Rattle.ha_model.specs.Entries.{IsPlain}
-use Rattle.ha_model.specs.Equal.{same_flag}
-use Rattle.ha_model.specs.Words.{up_to}
-use Rattle.ha_model.specs.Journal.{Journal, HasEntry, automations, zone_of, now, brings}
-use Rattle.ha_model.specs.Switches.{is_on, since, opens_segment}
-use Rattle.ha_model.specs.Sights.{changes_switch}
-use Rattle.ha_model.specs.Sound.{is_sound_config}
-use Rattle.ha_model.specs.RecordSteps.{more}
-use Rattle.ha_model.proofs.SinceLaws.{take-before, on-left, since-left}
-use Rattle.ha_model.proofs.RecordGrowth.{automations-more}
-use Rattle.ha_model.proofs.RecordLaws.{length-more}
-use Rattle.ha_model.proofs.StateLemmas.{now-snoc}
+use Rattle.ha_config.specs.declared.config.Automation.{Automation}
+use Rattle.ha_config.specs.declared.command.Cmd.{Cmd}
+use Rattle.ha_journal.specs.declared.entry.Entry.{Entry}
+use Rattle.ha_journal.specs.declared.entry.Entry.TheVariants.{Line}
+use Rattle.ha_journal.specs.Entries.{Turning, turning, opens_segment}
+use Rattle.ha_config.specs.Fair.{IsPlain}
+use Rattle.ha_config.specs.Equal.{same_flag}
+use Rattle.ha_config.specs.Words.{up_to}
+use Rattle.ha_journal.specs.Journal.{Journal, HasEntry, automations, zone_of, now, brings, more}
+use Rattle.ha_journal.specs.Switches.{is_on, since}
+use Rattle.ha_journal.specs.Sights.{changes_switch}
+use Rattle.ha_config.specs.Sound.{is_sound_config}
+use Rattle.ha_journal.proofs.SinceLaws.{take-before, on-left, since-left}
+use Rattle.ha_journal.proofs.MoreLemmas.{automations-more, length-more}
+use Rattle.ha_journal.proofs.StateLemmas.{now-snoc}
 use Rattle.store_text.specs.Store.{Switches}
 use Rattle.switch_book.specs.Book.{StandsFor}
 use Rattle.ha_past.specs.Firings.{Owner}

@@ -5,33 +5,34 @@ use Rattle.std.specs.Option.{option_map_or}
 use Rattle.ha_value.specs.declared.value.EntityId.{EntityId}
 use Rattle.ha_clock.specs.Zone as clock
 use Rattle.ha_clock.specs.Local.{last_moment}
-use Rattle.ha_model.specs.declared.journal.Cmd.{Cmd}
-use Rattle.ha_model.specs.declared.journal.Entry.{Entry}
-use Rattle.ha_model.specs.declared.journal.Entry.TheVariants.{Line}
-use Rattle.ha_model.specs.Entries.{report_in, gone_in, moment_in, is_restart}
-use Rattle.ha_model.specs.Entries.{IsPlain}
-use Rattle.ha_model.specs.Equal.{same_flag}
-use Rattle.ha_model.specs.Words.{same_entity}
-use Rattle.ha_model.specs.Commands.{IsFair}
-use Rattle.ha_model.specs.Journal.{Journal, HasEntry, IsJournal, automations, zone_of, now, brings}
-use Rattle.ha_model.specs.Switches.{is_on}
-use Rattle.ha_model.specs.States.{states, automation_named}
+use Rattle.ha_config.specs.declared.command.Cmd.{Cmd}
+use Rattle.ha_journal.specs.declared.entry.Entry.{Entry}
+use Rattle.ha_journal.specs.declared.entry.Entry.TheVariants.{Line}
+use Rattle.ha_journal.specs.Entries.{report_in, gone_in, moment_in, is_restart}
+use Rattle.ha_config.specs.Fair.{IsPlain}
+use Rattle.ha_config.specs.Equal.{same_flag}
+use Rattle.ha_config.specs.Words.{same_entity, last_of}
+use Rattle.ha_journal.specs.Commands.{IsFair}
+use Rattle.ha_journal.specs.Journal.{Journal, HasEntry, IsJournal, automations, zone_of, now, brings, more}
+use Rattle.ha_journal.specs.Switches.{is_on}
+use Rattle.ha_journal.specs.States.{states}
+use Rattle.ha_config.specs.Names.{automation_named}
 use Rattle.ha_model.specs.Records.{Records}
-use Rattle.ha_model.specs.RecordSteps.{more}
-use Rattle.ha_model.proofs.LawfulLaws.{has-entry, right-more}
-use Rattle.ha_model.proofs.EqualLemmas.{same-sound}
-use Rattle.ha_model.proofs.SinceLaws.{on-left}
-use Rattle.ha_model.specs.Words.{last_of}
-use Rattle.ha_model.proofs.StateLemmas.{last_of-snoc, now-snoc}
-use Rattle.ha_model.proofs.RecordLaws.{length-more}
-use Rattle.state_table.specs.Anew.{is_automation, sets_anew, turns}
-use Rattle.state_table.specs.Table.{at, StandsFor}
+use Rattle.ha_journal.proofs.MoreLemmas.{has-entry, length-more}
+use Rattle.ha_model.proofs.LawfulLaws.{right-more}
+use Rattle.ha_config.proofs.EqualLemmas.{same-sound}
+use Rattle.ha_journal.proofs.SinceLaws.{on-left}
+use Rattle.ha_journal.proofs.StateLemmas.{last_of-snoc, now-snoc}
+use Rattle.state_table.specs.Anew.{is_automation}
+use Rattle.state_laws.specs.Stands.{sets_anew, turns}
+use Rattle.state_table.specs.Table.{at}
+use Rattle.state_laws.specs.Stands.{StandsFor}
 use Rattle.state_table.specs.declared.table.StateTable.{StateTable}
-use Rattle.state_table.proofs.StateLaws.{states-other}
+use Rattle.state_laws.proofs.StateLaws.{states-other}
 use Rattle.switch_book.specs.Book as switches
 use Rattle.trig_set.specs.Next.{AreListed, Listed}
 use Rattle.engine_parts.specs.declared.parts.Parts.{Parts}
-use Rattle.ha_model.specs.Sights.{changes_switch}
+use Rattle.ha_journal.specs.Sights.{changes_switch}
 use Rattle.engine_parts.specs.Kept.{AreSound, Owned}
 use Rattle.engine_parts.specs.Stages.{Pushed, Entered, IsOther}
 use Rattle.engine_entry.proofs.EnterLemmas.{plain-leaves, plain-goes-on, zone-more, sound-more, switches-left, changed-left, owned-left}

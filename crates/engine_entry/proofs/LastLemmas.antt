@@ -1,13 +1,12 @@
 -- The last target of each automation that a step switches.
 use Rattle.std.proofs.Common.{◌≡◌, ℕ, ◌<◌, List, [], ◌∷◌, ◌++◌, length, Bool, true, false, refl, sym, ap, subst, ◌∙◌, rules, arith}
 use Rattle.std.specs.Prelude.{Option, Some, None, not, nat_eq, nat_lt, unwrap_or, ◌&&◌, ◌||◌, if◌then◌else◌}
-use Rattle.ha_model.specs.declared.journal.Entry.TheVariants.{Step}
-use Rattle.ha_model.specs.declared.journal.Item.{Item}
-use Rattle.ha_model.specs.Journal.{Journal, HasEntry, automations}
-use Rattle.ha_model.specs.RecordSteps.{more}
-use Rattle.ha_model.specs.Scripts.{Branch}
-use Rattle.ha_model.specs.Switches.{is_on, switched}
-use Rattle.ha_model.proofs.SwitchLemmas.{on-more}
+use Rattle.ha_journal.specs.declared.entry.Entry.TheVariants.{Step}
+use Rattle.ha_sight.specs.declared.item.Item.{Item}
+use Rattle.ha_journal.specs.Journal.{Journal, HasEntry, automations, more}
+use Rattle.ha_sight.specs.Scripts.{Branch}
+use Rattle.ha_journal.specs.Switches.{is_on, switched}
+use Rattle.ha_journal.proofs.SwitchLemmas.{on-more}
 use Rattle.engine_entry.specs.Lasts.{AreLasts, EachLast, is_new, kept_with}
 use Rattle.engine_entry.specs.Turned.{AreOnce, AreSet, IsTurn, Target, is_target}
 

@@ -5,13 +5,12 @@ use Rattle.std.specs.List.{list_all, list_any, enumerate_from}
 use Rattle.std.specs.Option.{option_map_or}
 use Rattle.std.proofs.lemmas.Slice.Eq.{bytes_eq-Decides}
 use Rattle.ha_value.specs.Ids.{is_name}
-use Rattle.ha_model.specs.declared.config.Automation.{Automation}
-use Rattle.ha_model.specs.Commands.{all_distinct}
-use Rattle.ha_model.specs.Sound.{are_sound_actions, are_sound_conditions, are_sound_triggers, is_sound_automation, is_sound_config}
-use Rattle.ha_model.specs.States.{automation_named}
-use Rattle.ha_model.specs.Switches.{name_of}
-use Rattle.ha_model.specs.Words.{Text, same}
-use Rattle.ha_model.proofs.EqualLemmas.{and_left, and_right, same-sound}
+use Rattle.ha_config.specs.declared.config.Automation.{Automation}
+use Rattle.ha_config.specs.ValueFacts.{all_distinct}
+use Rattle.ha_config.specs.Sound.{are_sound_actions, are_sound_conditions, are_sound_triggers, is_sound_automation, is_sound_config}
+use Rattle.ha_config.specs.Names.{automation_named, name_of}
+use Rattle.ha_config.specs.Words.{Text, same}
+use Rattle.ha_config.proofs.EqualLemmas.{and_left, and_right, same-sound}
 use Rattle.engine_entry.proofs.PlaceLemmas.{eq-self, apart-of}
 
 pub same-self : (t : Text) → same t t ≡ true

@@ -5,21 +5,22 @@ use Rattle.std.specs.Prelude.{◌⊎◌, Option, Some, None, not, nat_eq, nat_le
 use Rattle.std.specs.List.{enumerate_from}
 use Rattle.std.specs.Option.{option_map_or}
 use Rattle.ha_value.specs.declared.value.EntityId.{EntityId}
-use Rattle.ha_model.specs.declared.config.Automation.{Automation}
-use Rattle.ha_model.specs.declared.journal.Entry.{Entry}
-use Rattle.ha_model.specs.Entries.{opens_segment}
-use Rattle.ha_model.specs.Equal.{same_flag}
-use Rattle.ha_model.specs.Journal.{Journal, automations, now}
-use Rattle.ha_model.specs.RecordSteps.{more}
-use Rattle.ha_model.specs.States.{automation_named, states}
-use Rattle.ha_model.specs.Switches.{is_on, since}
-use Rattle.ha_model.specs.Words.{same_entity}
-use Rattle.ha_model.proofs.SinceLaws.{since-more}
+use Rattle.ha_config.specs.declared.config.Automation.{Automation}
+use Rattle.ha_journal.specs.declared.entry.Entry.{Entry}
+use Rattle.ha_journal.specs.Entries.{opens_segment}
+use Rattle.ha_config.specs.Equal.{same_flag}
+use Rattle.ha_journal.specs.Journal.{Journal, automations, now, more}
+use Rattle.ha_config.specs.Names.{automation_named}
+use Rattle.ha_journal.specs.States.{states}
+use Rattle.ha_journal.specs.Switches.{is_on, since}
+use Rattle.ha_config.specs.Words.{same_entity}
+use Rattle.ha_journal.proofs.SinceLaws.{since-more}
 use Rattle.ha_past.specs.Firings.{Owner, owner_named, placed}
-use Rattle.state_table.specs.Anew.{is_automation as is_of_automation, switch_object, turns}
-use Rattle.state_table.specs.Table.{StandsBut, StandsFor}
+use Rattle.state_table.specs.Anew.{is_automation as is_of_automation, switch_object}
+use Rattle.state_laws.specs.Stands.{turns}
+use Rattle.state_laws.specs.Stands.{StandsBut, StandsFor}
 use Rattle.state_table.specs.declared.table.StateTable.{StateTable}
-use Rattle.state_table.proofs.StateLaws.{states-anew}
+use Rattle.state_laws.proofs.StateLaws.{states-anew}
 use Rattle.trig_set.specs.Next.{has_earlier}
 use Rattle.trig_set.specs.Stands as triggers
 use Rattle.trig_set.specs.declared.set.TrigSet.{TrigSet}

@@ -2,7 +2,7 @@
 use Rattle.std.proofs.Common.{◌≡◌, ℕ, zero, suc, ◌+◌, ◌<◌, ◌≤◌, inl, inr, List, [], ◌∷◌, ◌++◌, length, filter, Bool, true, false, refl, sym, ap, ◌∙◌, rules, arith}
 use Rattle.std.specs.Prelude.{◌⊎◌, Option, Some, None, not, nat_eq, nat_lt, flat_map, slice_get, if◌then◌else◌}
 use Rattle.std.specs.List.{enumerate_from}
-use Rattle.ha_model.specs.declared.config.Automation.{Automation}
+use Rattle.ha_config.specs.declared.config.Automation.{Automation}
 use Rattle.ha_past.specs.Firings.{Owner, owner_named, placed, without_owner}
 use Rattle.engine_parts.specs.Owners.{AreAscending, AreBelow, is_automation}
 

@@ -2,18 +2,17 @@
 use Rattle.std.proofs.Common.{◌≡◌, ℕ, zero, suc, ◌+◌, ◌-◌, ◌<◌, ◌⊎◌, inl, inr, List, [], ◌∷◌, ◌++◌, length, Bool, true, false, refl, sym, ap, subst, ◌∙◌, rules, arith}
 use Rattle.std.specs.Prelude.{Option, Some, None, ◌&&◌, is_none, nat_eq, slice_get, if◌then◌else◌}
 use Rattle.std.specs.Option.{option_map_or}
-use Rattle.ha_model.specs.declared.config.Action.{Action}
-use Rattle.ha_model.specs.declared.journal.Entry.TheVariants.{Step}
-use Rattle.ha_model.specs.declared.journal.Item.{Item}
-use Rattle.ha_model.specs.declared.journal.Record.{Record}
-use Rattle.ha_model.specs.Entries.{Stepped, step_of}
-use Rattle.ha_model.specs.Journal.{Journal, automations}
+use Rattle.ha_config.specs.declared.config.Action.{Action}
+use Rattle.ha_journal.specs.declared.entry.Entry.TheVariants.{Step}
+use Rattle.ha_sight.specs.declared.item.Item.{Item}
+use Rattle.ha_model.specs.declared.record.Record.{Record}
+use Rattle.ha_journal.specs.Entries.{Stepped, step_of}
+use Rattle.ha_journal.specs.Journal.{Journal, automations, more}
 use Rattle.ha_model.specs.Lawful.{Right, is_running, record_of}
 use Rattle.ha_model.specs.Records.{Records, actions_of, spots, spots_from}
-use Rattle.ha_model.specs.RecordSteps.{more}
-use Rattle.ha_model.specs.Scripts.{Branch, Spot}
-use Rattle.ha_model.specs.Waits.{next_spot}
-use Rattle.ha_model.specs.Words.{Pairs}
+use Rattle.ha_sight.specs.Scripts.{Branch, Spot}
+use Rattle.ha_journal.specs.Waits.{next_spot}
+use Rattle.ha_config.specs.Words.{Pairs}
 use Rattle.ha_ready.specs.Agree.{step_at}
 use Rattle.ha_ready.specs.ReadyPairs.{ready_branches}
 use Rattle.ha_ready.proofs.RunPast.{queued-rests}

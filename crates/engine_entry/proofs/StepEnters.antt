@@ -4,25 +4,27 @@ use Rattle.std.specs.Prelude.{Option, Some, None, IsSome, not, ◌&&◌}
 use Rattle.std.specs.Option.{option_map_or}
 use Rattle.ha_value.specs.declared.value.EntityId.{EntityId}
 use Rattle.ha_clock.specs.Zone as clock
-use Rattle.ha_model.specs.declared.journal.Entry.{Entry}
-use Rattle.ha_model.specs.declared.journal.Entry.TheVariants.{Step}
-use Rattle.ha_model.specs.declared.journal.Item.{Item}
-use Rattle.ha_model.specs.declared.journal.WaitAsk.{WaitAsk}
-use Rattle.ha_model.specs.declared.steps.Progress.{Progress}
-use Rattle.ha_model.specs.Entries.{SwitchesNone, Turning, turning}
-use Rattle.ha_model.specs.Equal.{same_flag}
-use Rattle.ha_model.specs.Journal.{Journal, HasEntry, IsJournal, automations, now, zone_of}
-use Rattle.ha_model.specs.Switches.{is_on}
-use Rattle.ha_model.specs.Sights.{changes_switch}
-use Rattle.ha_model.specs.States.{automation_named, states}
+use Rattle.ha_journal.specs.declared.entry.Entry.{Entry}
+use Rattle.ha_journal.specs.declared.entry.Entry.TheVariants.{Step}
+use Rattle.ha_sight.specs.declared.item.Item.{Item}
+use Rattle.ha_sight.specs.declared.waiting.WaitAsk.{WaitAsk}
+use Rattle.ha_sight.specs.declared.steps.Progress.{Progress}
+use Rattle.ha_sight.specs.Items.{SwitchesNone}
+use Rattle.ha_journal.specs.Entries.{Turning, turning}
+use Rattle.ha_config.specs.Equal.{same_flag}
+use Rattle.ha_journal.specs.Journal.{Journal, HasEntry, IsJournal, automations, now, zone_of, more}
+use Rattle.ha_journal.specs.Switches.{is_on}
+use Rattle.ha_journal.specs.Sights.{changes_switch}
+use Rattle.ha_config.specs.Names.{automation_named}
+use Rattle.ha_journal.specs.States.{states}
 use Rattle.ha_model.specs.Records.{Records}
-use Rattle.ha_model.specs.RecordSteps.{more}
-use Rattle.ha_model.proofs.LawfulLaws.{has-entry, right-more}
-use Rattle.ha_model.proofs.RecordLaws.{length-more}
-use Rattle.ha_model.proofs.SinceLaws.{on-left}
-use Rattle.state_table.specs.Anew.{is_automation, sets_anew, turns}
-use Rattle.state_table.specs.Table.{StandsFor}
-use Rattle.state_table.proofs.StateLaws.{states-other}
+use Rattle.ha_journal.proofs.MoreLemmas.{has-entry, length-more}
+use Rattle.ha_model.proofs.LawfulLaws.{right-more}
+use Rattle.ha_journal.proofs.SinceLaws.{on-left}
+use Rattle.state_table.specs.Anew.{is_automation}
+use Rattle.state_laws.specs.Stands.{sets_anew, turns}
+use Rattle.state_laws.specs.Stands.{StandsFor}
+use Rattle.state_laws.proofs.StateLaws.{states-other}
 use Rattle.switch_book.specs.Book as switches
 use Rattle.trig_set.specs.Next.{AreListed}
 use Rattle.trig_set.specs.Stands.{attached}

@@ -3,17 +3,16 @@ use Rattle.std.proofs.Common.{◌≡◌, ℕ, ◌-◌, ◌≤◌, ◌⊎◌, Lis
 use Rattle.std.specs.Prelude.{Option, Some, ◌||◌, nat_eq, is_some, option_and_then}
 use Rattle.std.specs.List.{list_any}
 use Rattle.timer_queue.specs.Timers.{Timer, due_of}
-use Rattle.ha_model.specs.declared.journal.Entry.{Entry}
-use Rattle.ha_model.specs.declared.journal.Entry.TheVariants.{Step}
-use Rattle.ha_model.specs.declared.journal.WaitAsk.{WaitAsk}
-use Rattle.ha_model.specs.declared.steps.Progress.{Progress}
-use Rattle.ha_model.specs.Journal.{Journal, now}
-use Rattle.ha_model.specs.Scripts.{Branch}
+use Rattle.ha_journal.specs.declared.entry.Entry.{Entry}
+use Rattle.ha_journal.specs.declared.entry.Entry.TheVariants.{Step}
+use Rattle.ha_sight.specs.declared.waiting.WaitAsk.{WaitAsk}
+use Rattle.ha_sight.specs.declared.steps.Progress.{Progress}
+use Rattle.ha_journal.specs.Journal.{Journal, now, more}
+use Rattle.ha_sight.specs.Scripts.{Branch}
 use Rattle.ha_model.specs.Records.{Records, spots}
-use Rattle.ha_model.specs.RecordSteps.{more}
 use Rattle.ha_model.specs.Lawful.{ready}
-use Rattle.ha_model.specs.Waits.{next_spot}
-use Rattle.ha_model.proofs.LawfulLaws.{has-entry}
+use Rattle.ha_journal.specs.Waits.{next_spot}
+use Rattle.ha_journal.proofs.MoreLemmas.{has-entry}
 use Rattle.ha_ready.specs.Agree.{AgreesBut, step_at, touched}
 use Rattle.ha_ready.specs.ReadyPairs.{branches_at, pairs_from}
 use Rattle.ha_ready.proofs.ReadyLemmas.{ready-pairs}

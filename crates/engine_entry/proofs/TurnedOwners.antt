@@ -3,15 +3,13 @@ use Rattle.std.proofs.Common.{◌≡◌, ℕ, suc, ◌-◌, ◌<◌, inl, inr, L
 use Rattle.std.specs.Prelude.{◌⊎◌, Some, None, not, nat_eq, ◌&&◌, ◌||◌, flat_map, slice_get, if◌then◌else◌}
 use Rattle.std.specs.List.{enumerate_from}
 use Rattle.std.proofs.lemmas.List.{take_all}
-use Rattle.ha_model.specs.declared.config.Automation.{Automation}
-use Rattle.ha_model.specs.declared.journal.Entry.{Entry}
-use Rattle.ha_model.specs.Entries.{opens_segment}
-use Rattle.ha_model.specs.Journal.{Journal, HasEntry, automations}
-use Rattle.ha_model.specs.RecordSteps.{more}
-use Rattle.ha_model.specs.Switches.{is_on, since}
-use Rattle.ha_model.proofs.RecordGrowth.{automations-more}
-use Rattle.ha_model.proofs.RecordLaws.{length-more}
-use Rattle.ha_model.proofs.SinceLaws.{since-more}
+use Rattle.ha_config.specs.declared.config.Automation.{Automation}
+use Rattle.ha_journal.specs.declared.entry.Entry.{Entry}
+use Rattle.ha_journal.specs.Entries.{opens_segment}
+use Rattle.ha_journal.specs.Journal.{Journal, HasEntry, automations, more}
+use Rattle.ha_journal.specs.Switches.{is_on, since}
+use Rattle.ha_journal.proofs.MoreLemmas.{automations-more, length-more}
+use Rattle.ha_journal.proofs.SinceLaws.{since-more}
 use Rattle.ha_past.specs.Firings.{Owner, owner_named, placed, without_owner}
 use Rattle.engine_parts.specs.Owners.{AreAscending, is_automation, owners_on}
 use Rattle.engine_entry.specs.Turned.{OwnersBetween, is_target, less, owner_at, owner_in, stage}

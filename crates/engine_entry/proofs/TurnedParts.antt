@@ -5,19 +5,20 @@ use Rattle.std.proofs.lemmas.Option.{slice_get_within}
 use Rattle.std.specs.Prelude.{Option, Some, None, IsNone, IsSome, MatchOption, not, nat_eq, ◌&&◌, ◌||◌, slice_get, if◌then◌else◌}
 use Rattle.ha_clock.specs.Zone as clock
 use Rattle.ha_value.specs.declared.value.EntityId.{EntityId}
-use Rattle.ha_model.specs.declared.config.Automation.{Automation}
-use Rattle.ha_model.specs.declared.journal.StateObject.{StateObject}
-use Rattle.ha_model.specs.Commands.{keys_of}
-use Rattle.ha_model.specs.Equal.{same_flag}
-use Rattle.ha_model.specs.Journal.{Journal, HasEntry, automations, now, zone_of}
-use Rattle.ha_model.specs.RecordSteps.{more}
-use Rattle.ha_model.specs.Sights.{changes_switch}
-use Rattle.ha_model.specs.States.{states}
-use Rattle.ha_model.specs.Switches.{is_on}
-use Rattle.ha_model.proofs.RecordLaws.{length-more}
+use Rattle.ha_config.specs.declared.config.Automation.{Automation}
+use Rattle.ha_sight.specs.declared.state.StateObject.{StateObject}
+use Rattle.ha_config.specs.ValueFacts.{keys_of}
+use Rattle.ha_config.specs.Equal.{same_flag}
+use Rattle.ha_journal.specs.Journal.{Journal, HasEntry, automations, now, zone_of, more}
+use Rattle.ha_journal.specs.Sights.{changes_switch}
+use Rattle.ha_journal.specs.States.{states}
+use Rattle.ha_journal.specs.Switches.{is_on}
+use Rattle.ha_journal.proofs.MoreLemmas.{length-more}
 use Rattle.ha_past.specs.Firings.{Owner, owner_named, placed, without_owner}
-use Rattle.state_table.specs.Anew.{switch_object, turns}
-use Rattle.state_table.specs.Table.{ChangesAt, StandsFor, at}
+use Rattle.state_table.specs.Anew.{switch_object}
+use Rattle.state_laws.specs.Stands.{turns}
+use Rattle.state_table.specs.Table.{ChangesAt, at}
+use Rattle.state_laws.specs.Stands.{StandsFor}
 use Rattle.state_table.specs.declared.table.StateTable.{StateTable}
 use Rattle.store_text.specs.Store.{Switches}
 use Rattle.switch_book.specs.Book.{flags}

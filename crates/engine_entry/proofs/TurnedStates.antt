@@ -4,20 +4,21 @@ use Rattle.std.proofs.lemmas.Option.{slice_get_within}
 use Rattle.std.specs.Prelude.{Option, Some, None, not, nat_eq, codes, ◌&&◌, ◌||◌, find, option_map, MatchOption, slice_get, if◌then◌else◌}
 use Rattle.std.specs.Option.{option_map_or}
 use Rattle.ha_value.specs.declared.value.EntityId.{EntityId}
-use Rattle.ha_model.specs.declared.config.Automation.{Automation}
-use Rattle.ha_model.specs.declared.journal.Entry.{Entry}
-use Rattle.ha_model.specs.declared.journal.StateObject.{StateObject}
-use Rattle.ha_model.specs.Entries.{gone_in, is_restart, opens_segment, report_in}
-use Rattle.ha_model.specs.Equal.{same_flag}
-use Rattle.ha_model.specs.Journal.{Journal, HasEntry, automations, now}
-use Rattle.ha_model.specs.RecordSteps.{more}
-use Rattle.ha_model.specs.States.{automation_named, states}
-use Rattle.ha_model.specs.Switches.{is_on}
-use Rattle.ha_model.specs.Words.{same, same_entity}
-use Rattle.ha_model.proofs.EqualLemmas.{entity-sound, same-sound}
-use Rattle.ha_model.proofs.RecordGrowth.{automations-more}
-use Rattle.state_table.specs.Anew.{is_automation, sets_anew, switch_object, turns}
-use Rattle.state_table.proofs.StateLaws.{states-anew, states-other}
+use Rattle.ha_config.specs.declared.config.Automation.{Automation}
+use Rattle.ha_journal.specs.declared.entry.Entry.{Entry}
+use Rattle.ha_sight.specs.declared.state.StateObject.{StateObject}
+use Rattle.ha_journal.specs.Entries.{gone_in, is_restart, opens_segment, report_in}
+use Rattle.ha_config.specs.Equal.{same_flag}
+use Rattle.ha_journal.specs.Journal.{Journal, HasEntry, automations, now, more}
+use Rattle.ha_config.specs.Names.{automation_named}
+use Rattle.ha_journal.specs.States.{states}
+use Rattle.ha_journal.specs.Switches.{is_on}
+use Rattle.ha_config.specs.Words.{same, same_entity}
+use Rattle.ha_config.proofs.EqualLemmas.{entity-sound, same-sound}
+use Rattle.ha_journal.proofs.MoreLemmas.{automations-more}
+use Rattle.state_table.specs.Anew.{is_automation, switch_object}
+use Rattle.state_laws.specs.Stands.{sets_anew, turns}
+use Rattle.state_laws.proofs.StateLaws.{states-anew, states-other}
 use Rattle.trig_set.specs.Next.{AreListed, Listed, state_listed}
 use Rattle.engine_entry.specs.Turned.{entity_named, is_left, is_target, less}
 use Rattle.engine_entry.proofs.NamedLemmas.{IsSound, found-named, named-own, same-self, sound-distinct}

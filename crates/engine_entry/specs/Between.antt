@@ -1,10 +1,9 @@
 -- The parts of an engine while the automations that an entry turns are turned, one after the other.
 use Rattle.std.specs.Prelude.{◌≡◌, ℕ, ◌+◌, Bool, true, List, Some, length, slice_get}
-use Rattle.ha_model.specs.declared.config.Automation.{Automation}
-use Rattle.ha_model.specs.declared.journal.Entry.{Entry}
-use Rattle.ha_model.specs.Journal.{Journal, IsJournal, automations, now}
-use Rattle.ha_model.specs.RecordSteps.{more}
-use Rattle.ha_model.specs.Switches.{is_on}
+use Rattle.ha_config.specs.declared.config.Automation.{Automation}
+use Rattle.ha_journal.specs.declared.entry.Entry.{Entry}
+use Rattle.ha_journal.specs.Journal.{Journal, IsJournal, automations, now, more}
+use Rattle.ha_journal.specs.Switches.{is_on}
 use Rattle.trig_set.specs.Next.{Listed}
 use Rattle.trig_set.specs.Stands as triggers
 use Rattle.wait_set.specs.Stands as waits

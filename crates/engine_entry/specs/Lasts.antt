@@ -2,7 +2,7 @@
 use Rattle.std.specs.Prelude.{◌≡◌, ℕ, ◌<◌, Bool, false, not, ◌&&◌, nat_lt, List, [], ◌∷◌, ◌++◌, Some, None, if◌then◌else◌}
 use Rattle.std.specs.BTreeSet.{BTreeSet, contains}
 use Rattle.std.specs.Ordering.{nat_cmp}
-use Rattle.ha_model.specs.Switches.{switched}
+use Rattle.ha_journal.specs.Switches.{switched}
 use Rattle.engine_entry.specs.Turned.{AreOnce, Target, is_target}
 
 -- each is of one of n automations, and has the last new value that these targets give it

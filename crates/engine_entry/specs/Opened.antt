@@ -1,14 +1,13 @@
 -- The automations of a Boot or a Restart, which are all set anew, one after the other.
 use Rattle.std.specs.Prelude.{◌≡◌, ℕ, Bool, true, nat_le, List, [], length, flat_map, Some, slice_get, if◌then◌else◌}
 use Rattle.std.specs.List.{enumerate_from}
-use Rattle.ha_model.specs.declared.config.Automation.{Automation}
-use Rattle.ha_model.specs.declared.journal.Entry.{Entry}
-use Rattle.ha_model.specs.Entries.{opens_segment}
-use Rattle.ha_model.specs.Journal.{Journal, automations, now}
-use Rattle.ha_model.specs.RecordSteps.{more}
-use Rattle.ha_model.specs.Switches.{is_on}
+use Rattle.ha_config.specs.declared.config.Automation.{Automation}
+use Rattle.ha_journal.specs.declared.entry.Entry.{Entry}
+use Rattle.ha_journal.specs.Entries.{opens_segment}
+use Rattle.ha_journal.specs.Journal.{Journal, automations, now, more}
+use Rattle.ha_journal.specs.Switches.{is_on}
 use Rattle.store_text.specs.Store.{Switches}
-use Rattle.state_table.specs.Table.{StandsBut, StandsFor}
+use Rattle.state_laws.specs.Stands.{StandsBut, StandsFor}
 use Rattle.state_table.specs.declared.table.StateTable.{StateTable}
 use Rattle.switch_book.specs.Book as switches
 use Rattle.ha_past.specs.Firings.{Owner}

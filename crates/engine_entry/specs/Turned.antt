@@ -4,17 +4,17 @@ use Rattle.std.specs.Prelude.{None, MatchOption, flat_map, filter, slice_get, co
 use Rattle.std.specs.List.{list_any, enumerate_from}
 use Rattle.std.specs.Option.{option_map_or}
 use Rattle.ha_value.specs.declared.value.EntityId.{EntityId}
-use Rattle.ha_model.specs.declared.config.Automation.{Automation}
-use Rattle.ha_model.specs.declared.journal.Entry.{Entry}
-use Rattle.ha_model.specs.Commands.{keys_of}
-use Rattle.ha_model.specs.Entries.{gone_in, is_restart, opens_segment, report_in}
-use Rattle.ha_model.specs.Equal.{same_flag}
-use Rattle.ha_model.specs.Journal.{Journal, HasEntry, automations, brings}
-use Rattle.ha_model.specs.RecordSteps.{more}
-use Rattle.ha_model.specs.Sights.{switch_of}
-use Rattle.ha_model.specs.States.{automation_named, states}
-use Rattle.ha_model.specs.Switches.{is_on, since}
-use Rattle.ha_model.specs.Words.{Text, up_to}
+use Rattle.ha_config.specs.declared.config.Automation.{Automation}
+use Rattle.ha_journal.specs.declared.entry.Entry.{Entry}
+use Rattle.ha_config.specs.ValueFacts.{keys_of}
+use Rattle.ha_journal.specs.Entries.{gone_in, is_restart, opens_segment, report_in}
+use Rattle.ha_config.specs.Equal.{same_flag}
+use Rattle.ha_journal.specs.Journal.{Journal, HasEntry, automations, brings, more}
+use Rattle.ha_journal.specs.Sights.{switch_of}
+use Rattle.ha_config.specs.Names.{automation_named}
+use Rattle.ha_journal.specs.States.{states}
+use Rattle.ha_journal.specs.Switches.{is_on, since}
+use Rattle.ha_config.specs.Words.{Text, up_to}
 use Rattle.state_table.specs.Anew.{is_automation as is_of_automation}
 use Rattle.state_table.specs.Table.{at}
 use Rattle.state_table.specs.declared.table.StateTable.{StateTable}

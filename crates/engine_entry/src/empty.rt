@@ -1,11 +1,10 @@
 //! What a restart takes away before all is set anew: what runs, what is attached, and what is known of entities.
 ghost use Rattle.std.specs.Prelude.{◌≡◌, ℕ, [], None, length, replicate};
-ghost use Rattle.ha_model.specs.declared.journal.Cmd as cmd;
-ghost use Rattle.ha_model.specs.declared.journal.Entry.TheVariants.{Line};
-ghost use Rattle.ha_model.specs.Journal.{Journal};
-ghost use Rattle.ha_model.specs.RecordSteps.{more};
-ghost use Rattle.state_table.specs.Anew.{sets_anew};
-ghost use Rattle.state_table.specs.Table.{StandsBut};
+ghost use Rattle.ha_config.specs.declared.command.Cmd as cmd;
+ghost use Rattle.ha_journal.specs.declared.entry.Entry.TheVariants.{Line};
+ghost use Rattle.ha_journal.specs.Journal.{Journal, more};
+ghost use Rattle.state_laws.specs.Stands.{sets_anew};
+ghost use Rattle.state_laws.specs.Stands.{StandsBut};
 ghost use Rattle.trig_set.specs.Stands.{StandsFor, attached};
 
 use engine_parts::parts::Parts;

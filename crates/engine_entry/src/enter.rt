@@ -1,14 +1,15 @@
 //! What a line itself changes: the state of an entity, or Now. The answer lists the states that it changes, as they were.
 ghost use Rattle.std.specs.Prelude.{◌≡◌, false, max, IfOk, OnOk};
-ghost use Rattle.ha_model.specs.declared.journal.Cmd as cmd;
-ghost use Rattle.ha_model.specs.Journal.{Journal};
+ghost use Rattle.ha_config.specs.declared.command.Cmd as cmd;
+ghost use Rattle.ha_journal.specs.Journal.{Journal};
 ghost use Rattle.ha_model.specs.Records.{Records};
 ghost use Rattle.trig_set.specs.Left.{Leaves};
 ghost use Rattle.engine_parts.specs.Stages.{Entered, EnteredLeft, IsOther, Pushed};
 
 use engine_parts::parts::Parts;
 use engine_parts::see::{see_gone, see_report};
-use ha_model::{EntityId, Many, Moment, Value, Word};
+use ha_clock::Moment;
+use ha_value::{EntityId, Many, Value, Word};
 use std::alloc::{AllocError, Global};
 use trig_set::Before;
 

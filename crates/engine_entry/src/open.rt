@@ -1,16 +1,17 @@
 //! The automations of a Boot or a Restart, which are all set anew: their states and triggers.
 ghost use Rattle.std.specs.Prelude.{◌≡◌, ◌+◌, ◌≤◌, ℕ, IsNone, IsTrue, OnOk, Some, true, length, slice_get, if◌then◌else◌};
-ghost use Rattle.ha_model.specs.declared.config.Automation.{Automation as Rule};
-ghost use Rattle.ha_model.specs.Journal.{Journal, automations};
-ghost use Rattle.ha_model.specs.Sound.{are_sound_triggers};
-ghost use Rattle.ha_model.specs.Switches.{is_on};
+ghost use Rattle.ha_config.specs.declared.config.Automation.{Automation as Rule};
+ghost use Rattle.ha_journal.specs.Journal.{Journal, automations};
+ghost use Rattle.ha_config.specs.Sound.{are_sound_triggers};
+ghost use Rattle.ha_journal.specs.Switches.{is_on};
 ghost use Rattle.ha_past.specs.Firings.{owner_named, placed};
 ghost use Rattle.switch_book.specs.Book as book;
 ghost use Rattle.trig_set.specs.Stands.{StandsFor, attached};
 ghost use Rattle.engine_entry.specs.Opened.{AllOpened, Opened, Opening, OpensOne};
 
 use crate::turn::entity_of;
-use ha_model::{Automation, Moment};
+use ha_clock::Moment;
+use ha_config::Automation;
 use state_table::StateTable;
 use std::alloc::{AllocError, Global};
 use switch_book::Switches;

@@ -3,18 +3,19 @@
 ghost use Rattle.std.specs.Prelude.{◌≡◌, ◌||◌, [], false, not, nat_eq, ℕ, Option, IfOk, OnOk, List};
 ghost use Rattle.std.specs.BTreeSet.{contains};
 ghost use Rattle.std.specs.Ordering.{nat_cmp};
-ghost use Rattle.ha_model.specs.declared.journal.Entry.TheVariants.{Step};
-ghost use Rattle.ha_model.specs.declared.journal.Item.{Item as Made};
-ghost use Rattle.ha_model.specs.declared.journal.WaitAsk.{WaitAsk as Waited};
-ghost use Rattle.ha_model.specs.Journal.{Journal};
-ghost use Rattle.ha_model.specs.RecordSteps.{more};
+ghost use Rattle.ha_journal.specs.declared.entry.Entry.TheVariants.{Step};
+ghost use Rattle.ha_sight.specs.declared.item.Item.{Item as Made};
+ghost use Rattle.ha_sight.specs.declared.waiting.WaitAsk.{WaitAsk as Waited};
+ghost use Rattle.ha_journal.specs.Journal.{Journal, more};
 ghost use Rattle.engine_entry.specs.Lasts.{AreLasts, AreSeen, kept_with};
 ghost use Rattle.engine_entry.specs.Stepping.{IsTaken, StepEntered, StepHere, SwitchedHere};
 
 use crate::turn::enter_switches;
 use engine_parts::last::{configuration, last_entry};
 use engine_parts::parts::Parts;
-use ha_model::{Entry, Item, Many};
+use ha_journal::Entry;
+use ha_sight::Item;
+use ha_value::Many;
 use std::alloc::{AllocError, Global};
 use std::collections::BTreeSet;
 use trig_set::Before;

@@ -1,8 +1,8 @@
 //! The step itself: the frames of a run are taken out of their slot, step on what the journal shows, and are put back.
 ghost use Rattle.std.specs.Prelude.{◌≡◌, ◌-◌, ◌<◌, IfOk, None, Some, length, set, slice_get, true};
-ghost use Rattle.ha_model.specs.Journal.{IsJournal, automations};
+ghost use Rattle.ha_journal.specs.Journal.{IsJournal, automations};
 ghost use Rattle.ha_model.specs.Records.{actions_of};
-ghost use Rattle.ha_model.specs.Triggers.{sight};
+ghost use Rattle.ha_journal.specs.Moves.{sight};
 ghost use Rattle.script_step.specs.Frames.{may};
 ghost use Rattle.script_step.specs.Taken.{out_of};
 ghost use Rattle.engine_parts.specs.Kept.{AreSound, Looks};
@@ -12,8 +12,9 @@ ghost use Rattle.engine_entry.specs.Stepping.{IsRunStep, MaySlot, SlotStep};
 use cond_eval::View;
 use engine_parts::last::{configuration, script};
 use engine_parts::slots::Slots;
-use ha_clock::Zone;
-use ha_model::{Branch, Entry, Moment, WaitEnd};
+use ha_clock::{Moment, Zone};
+use ha_journal::Entry;
+use ha_sight::{Branch, WaitEnd};
 use script_step::{Frames, Held, Taken};
 use state_table::StateTable;
 use std::alloc::{AllocError, Global};

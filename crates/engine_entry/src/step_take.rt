@@ -1,8 +1,8 @@
 //! What a step began is taken in: a wait with its triggers, and a delay.
 ghost use Rattle.std.specs.Prelude.{◌≡◌, ◌+◌, ◌<◌, ◌&&◌, false, is_none, nat_eq, IsTrue, None, OnOk, length};
 ghost use Rattle.std.specs.List.{list_any};
-ghost use Rattle.ha_model.specs.Sound.{are_sound_triggers};
-ghost use Rattle.ha_model.specs.Journal.{Journal};
+ghost use Rattle.ha_config.specs.Sound.{are_sound_triggers};
+ghost use Rattle.ha_journal.specs.Journal.{Journal};
 ghost use Rattle.trig_set.specs.Next.{Listed};
 ghost use Rattle.trig_set.specs.Stands.{attached};
 ghost use Rattle.wait_set.specs.Asked.{added, is_of};
@@ -12,7 +12,8 @@ ghost use Rattle.engine_parts.specs.Owners.{AreBelow};
 ghost use Rattle.engine_parts.specs.Stages.{Untold};
 ghost use Rattle.engine_entry.specs.Stepping.{IsTaken, asks_with};
 
-use ha_model::{Moment, WaitAsk};
+use ha_clock::Moment;
+use ha_sight::WaitAsk;
 use script_step::Held;
 use std::alloc::{AllocError, Global};
 use timer_queue::TimerQueue;

@@ -2,10 +2,10 @@
 //! wakes are listed anew.
 ghost use Rattle.std.specs.Prelude.{◌≡◌, ◌<◌, ℕ, List, Option, IfOk, OnOk, length};
 ghost use Rattle.timer_queue.specs.Timers.{Timer};
-ghost use Rattle.ha_model.specs.declared.steps.Progress.{Progress as Far};
-ghost use Rattle.ha_model.specs.Attempts.{fired as fired_lem};
-ghost use Rattle.ha_model.specs.Journal.{Journal};
-ghost use Rattle.ha_model.specs.Records.{Records, last_place};
+ghost use Rattle.ha_sight.specs.declared.steps.Progress.{Progress as Far};
+ghost use Rattle.ha_journal.specs.Attempts.{fired as fired_lem};
+ghost use Rattle.ha_journal.specs.Journal.{Journal, last_place};
+ghost use Rattle.ha_model.specs.Records.{Records};
 ghost use Rattle.trig_set.specs.Next.{Listed};
 ghost use Rattle.wait_set.specs.Asked.{WaitTable};
 ghost use Rattle.wait_set.specs.Timers.{timer_added};
@@ -18,7 +18,10 @@ use crate::step_take::{take_delay, take_wait};
 use engine_parts::attend::note_entry;
 use engine_parts::parts::Parts;
 use engine_parts::wake::wake_step;
-use ha_model::{Entry, Firing, Many, Moment, WaitAsk};
+use ha_clock::Moment;
+use ha_journal::{Entry, Firing};
+use ha_sight::WaitAsk;
+use ha_value::Many;
 use script_step::Held;
 use std::alloc::{AllocError, Global};
 use trig_set::Before;

@@ -1,8 +1,8 @@
 //! Automations that an entry turns on or off: their switches, their states and their triggers.
 ghost use Rattle.std.specs.Prelude.{◌≡◌, ◌<◌, ◌≤◌, ◌++◌, ◌∷◌, [], ℕ, IsNone, IsTrue, IfOk, OnOk, true, false, codes, length, if◌then◌else◌};
 ghost use Rattle.ha_value.specs.declared.value.EntityId.{EntityId as Id};
-ghost use Rattle.ha_model.specs.Journal.{Journal};
-ghost use Rattle.ha_model.specs.Sound.{are_sound_triggers};
+ghost use Rattle.ha_journal.specs.Journal.{Journal};
+ghost use Rattle.ha_config.specs.Sound.{are_sound_triggers};
 ghost use Rattle.state_table.specs.Anew.{switch_object};
 ghost use Rattle.state_table.specs.Table.{ChangesAt, at as state_at};
 ghost use Rattle.ha_past.specs.Firings.{owner_named, placed, without_owner};
@@ -15,7 +15,10 @@ ghost use Rattle.engine_entry.specs.Turned.{entity_named, is_target, less};
 use engine_parts::last::configuration;
 use engine_parts::parts::Parts;
 use engine_parts::see::copied;
-use ha_model::{Automation, EntityId, Entry, Moment, Word};
+use ha_clock::Moment;
+use ha_config::Automation;
+use ha_journal::Entry;
+use ha_value::{EntityId, Word};
 use state_table::StateTable;
 use std::alloc::{AllocError, Global};
 use trig_set::{Before, TrigSet};

@@ -4,11 +4,11 @@ use Rattle.std.specs.Prelude.{Option, Some, None, is_some, slice_get, option_map
 use Rattle.std.specs.List.{list_all}
 use Rattle.std.specs.Option.{option_map_or}
 use Rattle.std.proofs.lemmas.Bool.{lt-ltb}
-use Rattle.ha_model.specs.declared.config.Action.{Action}
-use Rattle.ha_model.specs.declared.journal.Item.{Item}
-use Rattle.ha_model.specs.declared.journal.WaitEnd.{WaitEnd}
-use Rattle.ha_model.specs.States.{Sight}
-use Rattle.ha_model.specs.Scripts.{Ask, Branch, Outcome, Spot, after_lists, all_allowed, each_on, front, gives, is_deeper, joined_lists, on_side, past_front, side, side_by_side, woven}
+use Rattle.ha_config.specs.declared.config.Action.{Action}
+use Rattle.ha_sight.specs.declared.item.Item.{Item}
+use Rattle.ha_sight.specs.declared.waiting.WaitEnd.{WaitEnd}
+use Rattle.ha_sight.specs.Sight.{Sight}
+use Rattle.ha_sight.specs.Scripts.{Ask, Branch, Outcome, Spot, after_lists, all_allowed, each_on, front, gives, is_deeper, joined_lists, on_side, past_front, side, side_by_side, woven}
 use Rattle.script_step.specs.declared.frames.Frames.{Frames}
 use Rattle.script_step.specs.declared.strand.Strand.{Strand}
 use Rattle.script_step.specs.declared.strand.Stage.{Stage}

@@ -2,17 +2,17 @@
 use Rattle.std.proofs.Common.{◌≡◌, ℕ, suc, List, [], ◌∷◌, ◌++◌, map, filter, take, Bool, true, false, refl, sym, ◌∙◌, append_assoc}
 use Rattle.std.specs.Prelude.{Some, nat_lt, flat_map, option_and_then, if◌then◌else◌}
 use Rattle.std.specs.List.{enumerate_from}
-use Rattle.ha_model.specs.declared.config.Automation.{Automation}
-use Rattle.ha_model.specs.declared.journal.Record.{Record}
-use Rattle.ha_model.specs.declared.steps.Firing.{Firing}
-use Rattle.ha_model.specs.declared.steps.StepOut.{StepOut}
-use Rattle.ha_model.specs.Words.{last_of}
-use Rattle.ha_model.specs.Journal.{Journal, automations}
-use Rattle.ha_model.specs.Switches.{is_on, since}
-use Rattle.ha_model.specs.Triggers.{Fired, firings as fired_by}
-use Rattle.ha_model.specs.Attempts.{Attempt, attempt_for, fired_for, fired}
-use Rattle.ha_model.specs.Scripts.{Branch}
-use Rattle.ha_model.specs.Waits.{next_spot}
+use Rattle.ha_config.specs.declared.config.Automation.{Automation}
+use Rattle.ha_model.specs.declared.record.Record.{Record}
+use Rattle.ha_journal.specs.declared.firing.Firing.{Firing}
+use Rattle.ha_sight.specs.declared.steps.StepOut.{StepOut}
+use Rattle.ha_config.specs.Words.{last_of}
+use Rattle.ha_journal.specs.Journal.{Journal, automations}
+use Rattle.ha_journal.specs.Switches.{is_on, since}
+use Rattle.ha_journal.specs.Triggers.{Fired, firings as fired_by}
+use Rattle.ha_journal.specs.Attempts.{Attempt, attempt_for, fired_for, fired}
+use Rattle.ha_sight.specs.Scripts.{Branch}
+use Rattle.ha_journal.specs.Waits.{next_spot}
 use Rattle.ha_model.specs.Records.{actions_of, spots}
 use Rattle.ha_model.specs.NextPlace.{next_item}
 use Rattle.ha_past.specs.Firings.{Owner, firing_by, firings_of, firings}

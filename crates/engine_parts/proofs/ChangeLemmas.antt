@@ -2,12 +2,12 @@
 use Rattle.std.proofs.Common.{◌≡◌, ℕ, List, [], ◌∷◌, ◌++◌, length, filter, Bool, true, false}
 use Rattle.std.specs.Prelude.{nat_lt, nat_le, is_some, ◌&&◌, if◌then◌else◌}
 use Rattle.std.specs.Option.{option_map_or}
-use Rattle.ha_model.specs.declared.journal.Record.{Record}
-use Rattle.ha_model.specs.Words.{Pairs}
-use Rattle.ha_model.specs.Journal.{Journal, automations}
-use Rattle.ha_model.specs.Scripts.{Branch, whole}
-use Rattle.ha_model.specs.Waits.{next_spot}
-use Rattle.ha_model.specs.Branches.{branches_of}
+use Rattle.ha_model.specs.declared.record.Record.{Record}
+use Rattle.ha_config.specs.Words.{Pairs}
+use Rattle.ha_journal.specs.Journal.{Journal, automations}
+use Rattle.ha_sight.specs.Scripts.{Branch, whole}
+use Rattle.ha_journal.specs.Waits.{next_spot}
+use Rattle.ha_sight.specs.Branches.{branches_of}
 use Rattle.ha_model.specs.Records.{Records, actions_of, spots}
 use Rattle.ha_ready.specs.ReadyPairs.{ready_branches}
 use Rattle.engine_parts.specs.Changes.{SameRun}

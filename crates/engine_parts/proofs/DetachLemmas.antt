@@ -5,7 +5,7 @@ use Rattle.ha_past.specs.Firings.{Owner, owner_named, without_owner}
 use Rattle.trig_set.specs.Stands.{attached}
 use Rattle.trig_set.specs.declared.set.TrigSet.{TrigSet}
 use Rattle.wait_set.specs.Asked.{WaitTable}
-use Rattle.ha_model.specs.Journal.{Journal}
+use Rattle.ha_journal.specs.Journal.{Journal}
 use Rattle.engine_parts.specs.Owners.{AreAscending, AreBelow, is_automation}
 use Rattle.engine_parts.specs.Pending.{AreOthers}
 use Rattle.engine_parts.specs.Kept.{Owned, AreOwned}

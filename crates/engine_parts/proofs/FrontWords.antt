@@ -1,9 +1,9 @@
 -- The fronts of frames after the places of a run.
 use Rattle.std.proofs.Common.{◌≡◌, List, [], ◌∷◌, ◌++◌}
 use Rattle.std.specs.Prelude.{is_some}
-use Rattle.ha_model.specs.declared.config.Action.{Action}
-use Rattle.ha_model.specs.Words.{Pairs}
-use Rattle.ha_model.specs.Scripts.{Spot, whole}
+use Rattle.ha_config.specs.declared.config.Action.{Action}
+use Rattle.ha_config.specs.Words.{Pairs}
+use Rattle.ha_sight.specs.Scripts.{Spot, whole}
 use Rattle.script_step.specs.Gates.{gate_at, lets}
 use Rattle.script_step.specs.declared.frames.Frames.{Frames}
 use Rattle.script_step.proofs.GateLemmas.{gate-stands}

@@ -6,15 +6,15 @@ use Rattle.std.specs.Option.{option_map_or}
 use Rattle.std.proofs.lemmas.Bool.Decides.{nat_tests}
 use Rattle.std.proofs.lemmas.List.{take_all}
 use Rattle.timer_queue.specs.Timers.{Timer, due_of}
-use Rattle.ha_model.specs.declared.journal.Entry.{Entry}
-use Rattle.ha_model.specs.Entries.{step_of}
-use Rattle.ha_model.specs.Journal.{Journal, now}
-use Rattle.ha_model.specs.Scripts.{Branch}
-use Rattle.ha_model.specs.Waits.{next_spot, wait_end}
-use Rattle.ha_model.specs.RecordSteps.{more}
-use Rattle.ha_model.proofs.RecordLaws.{length-more}
-use Rattle.ha_model.proofs.SinceLaws.{take-more, get-more}
-use Rattle.ha_model.proofs.StateLemmas.{now-snoc}
+use Rattle.ha_journal.specs.declared.entry.Entry.{Entry}
+use Rattle.ha_journal.specs.Entries.{step_of}
+use Rattle.ha_journal.specs.Journal.{Journal, now, more}
+use Rattle.ha_sight.specs.Scripts.{Branch}
+use Rattle.ha_journal.specs.Waits.{next_spot, wait_end}
+use Rattle.ha_journal.proofs.MoreLemmas.{length-more}
+use Rattle.ha_journal.proofs.SinceLaws.{take-more}
+use Rattle.ha_config.proofs.ListLemmas.{get-more}
+use Rattle.ha_journal.proofs.StateLemmas.{now-snoc}
 use Rattle.script_step.specs.Gates.{Gate, Fronts, opens, is_open, open_now}
 use Rattle.script_step.specs.Gates.{open_branches}
 use Rattle.script_step.specs.Told.{IsAsk}

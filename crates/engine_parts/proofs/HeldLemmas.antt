@@ -2,16 +2,16 @@
 use Rattle.std.proofs.Common.{◌≡◌, ℕ, zero, suc, ◌-◌, ◌<◌, List, [], ◌∷◌, ◌++◌, set, Bool, true, false, refl, sym, ap, subst, ◌∙◌, rules, arith}
 use Rattle.std.specs.Prelude.{Option, Some, None, nat_eq, slice_get, ◌||◌, not, if◌then◌else◌}
 use Rattle.std.specs.List.{list_any}
-use Rattle.ha_model.specs.declared.journal.Entry.TheVariants.{Line}
-use Rattle.ha_model.specs.declared.journal.Cmd.{Cmd}
-use Rattle.ha_model.specs.declared.journal.WaitEnd.{WaitEnd}
-use Rattle.ha_model.specs.declared.steps.Firing.{Firing}
-use Rattle.ha_model.specs.Journal.{Journal}
-use Rattle.ha_model.specs.States.{Sight}
-use Rattle.ha_model.specs.Records.{or_else, spots}
-use Rattle.ha_model.specs.RecordSteps.{more}
-use Rattle.ha_model.specs.Scripts.{Branch, Spot}
-use Rattle.ha_model.proofs.AppendLemmas.{append-nil}
+use Rattle.ha_journal.specs.declared.entry.Entry.TheVariants.{Line}
+use Rattle.ha_config.specs.declared.command.Cmd.{Cmd}
+use Rattle.ha_sight.specs.declared.waiting.WaitEnd.{WaitEnd}
+use Rattle.ha_journal.specs.declared.firing.Firing.{Firing}
+use Rattle.ha_journal.specs.Journal.{Journal, more}
+use Rattle.ha_sight.specs.Sight.{Sight}
+use Rattle.ha_config.specs.Words.{or_else}
+use Rattle.ha_model.specs.Records.{spots}
+use Rattle.ha_sight.specs.Scripts.{Branch, Spot}
+use Rattle.ha_config.proofs.ListLemmas.{append-nil}
 use Rattle.ha_model.proofs.StepLaws.{spots-more}
 use Rattle.script_step.specs.Gates.{gate_at}
 use Rattle.script_step.specs.declared.frames.Frames.{Frames}

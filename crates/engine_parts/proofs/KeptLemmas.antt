@@ -1,7 +1,7 @@
 -- What is kept, in the words of the definitions.
 use Rattle.std.proofs.Common.{◌≡◌, ℕ, suc, List, [], ◌∷◌, length, false, eqb, sym, ap, ◌∙◌, rules}
-use Rattle.ha_model.specs.Scripts.{Branch}
-use Rattle.ha_model.specs.Journal.{Journal}
+use Rattle.ha_sight.specs.Scripts.{Branch}
+use Rattle.ha_journal.specs.Journal.{Journal}
 use Rattle.ha_model.specs.Records.{Records}
 use Rattle.ha_model.specs.Lawful.{Right, ready, is_empty}
 use Rattle.engine_parts.specs.declared.parts.Parts.{Parts}

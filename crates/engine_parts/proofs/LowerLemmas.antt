@@ -1,7 +1,7 @@
 -- Pairs that stand by their runs.
 use Rattle.std.proofs.Common.{◌≡◌, ℕ, zero, suc, ◌+◌, ◌<◌, ◌≤◌, List, [], ◌∷◌, ◌++◌, length, take, drop, filter, get_or, Bool, true, false, refl, sym, ap, subst, ◌∙◌, rules, arith}
 use Rattle.std.specs.Prelude.{not, nat_eq, nat_lt, if◌then◌else◌}
-use Rattle.ha_model.specs.Scripts.{Branch}
+use Rattle.ha_sight.specs.Scripts.{Branch}
 use Rattle.engine_parts.specs.Lower.{Ascends, lower, stands_at}
 
 below : (a b : ℕ) → a < b → nat_lt a b ≡ true

@@ -3,12 +3,11 @@ use Rattle.std.proofs.Common.{◌≡◌, ℕ, ◌+◌, ◌-◌, ◌≤◌, List,
 use Rattle.std.specs.Prelude.{IsSome, Option}
 use Rattle.ha_clock.specs.Zone as clock
 use Rattle.ha_clock.specs.Local.{last_moment}
-use Rattle.ha_model.specs.Words.{Text}
-use Rattle.ha_model.specs.Journal.{Journal, IsJournal, zone_of, now}
-use Rattle.ha_model.specs.States.{Sight}
-use Rattle.ha_model.specs.RecordSteps.{more}
-use Rattle.ha_model.specs.Triggers.{sight}
-use Rattle.ha_model.proofs.RecordLaws.{length-more}
+use Rattle.ha_config.specs.Words.{Text}
+use Rattle.ha_journal.specs.Journal.{Journal, IsJournal, zone_of, now, more}
+use Rattle.ha_sight.specs.Sight.{Sight}
+use Rattle.ha_journal.specs.Moves.{sight}
+use Rattle.ha_journal.proofs.MoreLemmas.{length-more}
 use Rattle.state_table.specs.declared.table.StateTable.{StateTable}
 use Rattle.trig_set.specs.Next.{Listed, IsNext, has_earlier}
 use Rattle.ha_past.specs.Firings.{Owner, firings}

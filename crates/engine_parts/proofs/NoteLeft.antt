@@ -2,17 +2,16 @@
 use Rattle.std.proofs.Common.{◌≡◌, ℕ, suc, ◌-◌, List, [], ◌∷◌, length, refl, sym, ap, subst, ◌∙◌, arith}
 use Rattle.std.specs.Prelude.{Option}
 use Rattle.ha_value.specs.declared.value.EntityId.{EntityId}
-use Rattle.ha_model.specs.declared.journal.Cmd.{Cmd}
-use Rattle.ha_model.specs.declared.journal.Entry.{Entry}
-use Rattle.ha_model.specs.declared.journal.Entry.TheVariants.{Line}
-use Rattle.ha_model.specs.declared.journal.StateObject.{StateObject}
-use Rattle.ha_model.specs.declared.steps.Firing.{Firing}
-use Rattle.ha_model.specs.Words.{Text, Pairs}
-use Rattle.ha_model.specs.Journal.{Journal, now}
-use Rattle.ha_model.specs.States.{Sight}
-use Rattle.ha_model.specs.RecordSteps.{more}
-use Rattle.ha_model.specs.Triggers.{sight}
-use Rattle.ha_model.proofs.RecordLaws.{length-more}
+use Rattle.ha_config.specs.declared.command.Cmd.{Cmd}
+use Rattle.ha_journal.specs.declared.entry.Entry.{Entry}
+use Rattle.ha_journal.specs.declared.entry.Entry.TheVariants.{Line}
+use Rattle.ha_sight.specs.declared.state.StateObject.{StateObject}
+use Rattle.ha_journal.specs.declared.firing.Firing.{Firing}
+use Rattle.ha_config.specs.Words.{Text, Pairs}
+use Rattle.ha_journal.specs.Journal.{Journal, now, more}
+use Rattle.ha_sight.specs.Sight.{Sight}
+use Rattle.ha_journal.specs.Moves.{sight}
+use Rattle.ha_journal.proofs.MoreLemmas.{length-more}
 use Rattle.state_table.specs.declared.table.StateTable.{StateTable}
 use Rattle.trig_set.specs.Next.{IsNext}
 use Rattle.ha_past.specs.Firings.{firings}

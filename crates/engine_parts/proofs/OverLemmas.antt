@@ -1,7 +1,7 @@
 -- A pair that is alone gives way to another one of its run.
 use Rattle.std.proofs.Common.{◌≡◌, ℕ, suc, ◌+◌, ◌<◌, ◌≤◌, List, [], ◌∷◌, ◌++◌, length, filter, slice_set, Bool, true, false, refl, sym, ap, subst, ◌∙◌, rules, arith, add-one}
 use Rattle.std.specs.Prelude.{not, ◌&&◌, nat_eq, nat_lt, if◌then◌else◌}
-use Rattle.ha_model.specs.Scripts.{Branch}
+use Rattle.ha_sight.specs.Scripts.{Branch}
 use Rattle.ha_ready.specs.ReadyPairs.{with_run}
 use Rattle.engine_parts.specs.Lower.{Ascends, has_one, lower, stands_at}
 use Rattle.engine_parts.proofs.LowerLemmas.{less, late, stands-within}

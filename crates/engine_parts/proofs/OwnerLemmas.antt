@@ -1,13 +1,13 @@
 -- The firings of one owner among those of all.
 use Rattle.std.proofs.Common.{◌≡◌, ℕ, suc, ◌+◌, ◌<◌, List, [], ◌∷◌, ◌++◌, map, filter, Bool, true, false, refl, ◌∙◌, rules, arith}
 use Rattle.std.specs.Prelude.{Option, Some, None, nat_eq, find, if◌then◌else◌}
-use Rattle.ha_model.specs.declared.steps.Firing.{Firing}
-use Rattle.ha_model.specs.Journal.{Journal}
-use Rattle.ha_model.specs.Triggers.{Fired, firings as fired_by}
+use Rattle.ha_journal.specs.declared.firing.Firing.{Firing}
+use Rattle.ha_journal.specs.Journal.{Journal}
+use Rattle.ha_journal.specs.Triggers.{Fired, firings as fired_by}
 use Rattle.ha_past.specs.Firings.{Owner, firing_by, owner_named, firings_of, firings}
 use Rattle.ha_value.specs.declared.value.Value.{Value}
-use Rattle.ha_model.specs.Scripts.{Ask}
-use Rattle.ha_model.specs.Waits.{all_fired}
+use Rattle.ha_sight.specs.Scripts.{Ask}
+use Rattle.ha_journal.specs.Waits.{all_fired}
 use Rattle.wait_set.specs.declared.asked.Asked.{Asked}
 use Rattle.wait_set.specs.Asked.{value_of, fired_values}
 use Rattle.wait_set.specs.Stands.{AreFired}

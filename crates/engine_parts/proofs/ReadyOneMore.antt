@@ -2,20 +2,18 @@
 use Rattle.std.proofs.Common.{◌≡◌, suc, List, [], ◌∷◌, ◌++◌, length, map, filter, Bool, true, false, refl, sym, subst, ◌∙◌}
 use Rattle.std.specs.Prelude.{nat_lt, nat_le, ◌&&◌, if◌then◌else◌}
 use Rattle.std.specs.Option.{option_map_or}
-use Rattle.ha_model.specs.declared.journal.Entry.{Entry}
-use Rattle.ha_model.specs.declared.journal.Record.{Record}
-use Rattle.ha_model.specs.Words.{Pairs}
-use Rattle.ha_model.specs.Journal.{Journal, HasEntry, automations}
-use Rattle.ha_model.specs.Scripts.{Spot}
-use Rattle.ha_model.specs.Waits.{next_spot}
-use Rattle.ha_model.specs.Branches.{branches_of}
+use Rattle.ha_journal.specs.declared.entry.Entry.{Entry}
+use Rattle.ha_model.specs.declared.record.Record.{Record}
+use Rattle.ha_config.specs.Words.{Pairs}
+use Rattle.ha_journal.specs.Journal.{Journal, HasEntry, automations, more}
+use Rattle.ha_sight.specs.Scripts.{Spot}
+use Rattle.ha_journal.specs.Waits.{next_spot}
+use Rattle.ha_sight.specs.Branches.{branches_of}
 use Rattle.ha_model.specs.Records.{Records, actions_of, spots, spot_of}
-use Rattle.ha_model.specs.RecordSteps.{more}
 use Rattle.ha_model.specs.Lawful.{is_running, may_step}
-use Rattle.ha_model.proofs.RecordGrowth.{automations-more}
-use Rattle.ha_model.proofs.RecordLaws.{length-more}
+use Rattle.ha_journal.proofs.MoreLemmas.{automations-more, length-more}
 use Rattle.ha_model.proofs.StepLaws.{spots-more}
-use Rattle.ha_model.proofs.AppendLemmas.{append-nil}
+use Rattle.ha_config.proofs.ListLemmas.{append-nil}
 use Rattle.script_step.specs.Gates.{Fronts, opens}
 use Rattle.script_step.specs.Gates.{open_branches}
 use Rattle.engine_parts.specs.Fronts.{AreFronts}

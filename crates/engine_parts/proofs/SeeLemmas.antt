@@ -2,19 +2,19 @@
 use Rattle.std.proofs.Common.{◌≡◌, ℕ, [], ◌∷◌, Bool, true, false, refl, ap, ◌∙◌}
 use Rattle.std.specs.Prelude.{Option, Some, None, MatchOption, option_map, if◌then◌else◌}
 use Rattle.ha_value.specs.declared.value.EntityId.{EntityId}
-use Rattle.ha_model.specs.declared.journal.Cmd.{Cmd}
-use Rattle.ha_model.specs.declared.journal.Entry.TheVariants.{Line}
-use Rattle.ha_model.specs.declared.journal.StateObject.{StateObject}
-use Rattle.ha_model.specs.Words.{Text, Pairs, same_entity}
-use Rattle.ha_model.specs.Journal.{Journal, now}
-use Rattle.ha_model.specs.RecordSteps.{more}
-use Rattle.ha_model.specs.States.{states}
-use Rattle.ha_model.specs.StateStep.{next_object}
-use Rattle.ha_model.proofs.EqualLemmas.{entity-sound}
+use Rattle.ha_config.specs.declared.command.Cmd.{Cmd}
+use Rattle.ha_journal.specs.declared.entry.Entry.TheVariants.{Line}
+use Rattle.ha_sight.specs.declared.state.StateObject.{StateObject}
+use Rattle.ha_config.specs.Words.{Text, Pairs, same_entity}
+use Rattle.ha_journal.specs.Journal.{Journal, now, more}
+use Rattle.ha_journal.specs.States.{states}
+use Rattle.ha_sight.specs.StateStep.{next_object}
+use Rattle.ha_config.proofs.EqualLemmas.{entity-sound}
 use Rattle.state_table.specs.Anew.{is_automation}
-use Rattle.state_table.specs.Table.{at, StandsFor}
+use Rattle.state_table.specs.Table.{at}
+use Rattle.state_laws.specs.Stands.{StandsFor}
 use Rattle.state_table.specs.declared.table.StateTable.{StateTable}
-use Rattle.state_table.proofs.StateLaws.{states-report, states-gone}
+use Rattle.state_laws.proofs.StateLaws.{states-report, states-gone}
 use Rattle.trig_set.specs.Next.{AreListed, reports}
 
 -- LAW: where the table stands for the journal, its state of the reported entity is all that has to be listed

@@ -2,10 +2,10 @@
 use Rattle.std.proofs.Common.{◌≡◌, ℕ, inl, inr, List, [], ◌∷◌, sym, subst, ◌∙◌}
 use Rattle.std.specs.Prelude.{Option, Some, None}
 use Rattle.timer_queue.specs.Timers.{Timer}
-use Rattle.ha_model.specs.declared.journal.Record.{Record}
-use Rattle.ha_model.specs.Words.{Pairs}
-use Rattle.ha_model.specs.Journal.{Journal, automations}
-use Rattle.ha_model.specs.Scripts.{Branch}
+use Rattle.ha_model.specs.declared.record.Record.{Record}
+use Rattle.ha_config.specs.Words.{Pairs}
+use Rattle.ha_journal.specs.Journal.{Journal, automations}
+use Rattle.ha_sight.specs.Scripts.{Branch}
 use Rattle.ha_model.specs.Records.{actions_of, spots}
 use Rattle.script_step.specs.Gates.{Gate, Fronts}
 use Rattle.engine_parts.specs.Fronts.{fronts, Stands}

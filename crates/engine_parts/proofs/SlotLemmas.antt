@@ -3,20 +3,16 @@ use Rattle.std.proofs.Common.{◌≡◌, ℕ, zero, suc, ◌+◌, ◌-◌, ◌<�
 use Rattle.std.specs.Prelude.{Option, Some, None, nat_eq, nat_lt, nat_le, slice_get, ◌&&◌, if◌then◌else◌}
 use Rattle.std.specs.Option.{option_map_or}
 use Rattle.timer_queue.specs.Timers.{Timer}
-use Rattle.ha_model.specs.declared.journal.EndCause.{EndCause}
-use Rattle.ha_model.specs.declared.journal.Entry.{Entry}
-use Rattle.ha_model.specs.declared.journal.Record.{Record}
-use Rattle.ha_model.specs.Entries.{Stepped, step_of}
-use Rattle.ha_model.specs.Journal.{Journal, HasEntry, automations, now}
-use Rattle.ha_model.specs.Waits.{next_spot}
+use Rattle.ha_model.specs.declared.record.EndCause.{EndCause}
+use Rattle.ha_journal.specs.declared.entry.Entry.{Entry}
+use Rattle.ha_model.specs.declared.record.Record.{Record}
+use Rattle.ha_journal.specs.Entries.{Stepped, step_of}
+use Rattle.ha_journal.specs.Journal.{Journal, HasEntry, automations, now, more}
+use Rattle.ha_journal.specs.Waits.{next_spot}
 use Rattle.ha_model.specs.Records.{Records, actions_of, spots, spot_of}
-use Rattle.ha_model.specs.RecordSteps.{more}
 use Rattle.ha_model.specs.Lawful.{Right, is_running, record_of}
-use Rattle.ha_model.proofs.AppendLemmas.{append-nil}
-use Rattle.ha_model.proofs.LawfulLaws.{has-entry}
-use Rattle.ha_model.proofs.RecordGrowth.{automations-more}
-use Rattle.ha_model.proofs.RecordLaws.{length-more}
-use Rattle.ha_model.proofs.SinceLaws.{get-last}
+use Rattle.ha_config.proofs.ListLemmas.{append-nil, get-last}
+use Rattle.ha_journal.proofs.MoreLemmas.{has-entry, automations-more, length-more}
 use Rattle.ha_model.proofs.StepLaws.{spots-more, serial-at, Numbered}
 use Rattle.script_step.specs.Gates.{open_now}
 use Rattle.engine_parts.specs.Fronts.{fronts, Stands}

@@ -4,21 +4,19 @@ use Rattle.std.specs.Prelude.{Some, ◌≢◌, nat_eq, if◌then◌else◌}
 use Rattle.std.specs.Option.{option_map_or}
 use Rattle.std.proofs.lemmas.List.{take_all}
 use Rattle.timer_queue.specs.Timers.{Timer, due_of}
-use Rattle.ha_model.specs.declared.journal.Entry.{Entry}
-use Rattle.ha_model.specs.declared.journal.Entry.TheVariants.{Step}
-use Rattle.ha_model.specs.declared.journal.Item.{Item}
-use Rattle.ha_model.specs.declared.journal.Record.{Record}
-use Rattle.ha_model.specs.declared.steps.StepOut.{StepOut}
-use Rattle.ha_model.specs.Entries.{step_of}
-use Rattle.ha_model.specs.Journal.{Journal, HasEntry, automations, now}
-use Rattle.ha_model.specs.Scripts.{Branch}
-use Rattle.ha_model.specs.Waits.{next_spot}
+use Rattle.ha_journal.specs.declared.entry.Entry.{Entry}
+use Rattle.ha_journal.specs.declared.entry.Entry.TheVariants.{Step}
+use Rattle.ha_sight.specs.declared.item.Item.{Item}
+use Rattle.ha_model.specs.declared.record.Record.{Record}
+use Rattle.ha_sight.specs.declared.steps.StepOut.{StepOut}
+use Rattle.ha_journal.specs.Entries.{step_of}
+use Rattle.ha_journal.specs.Journal.{Journal, HasEntry, automations, now, more}
+use Rattle.ha_sight.specs.Scripts.{Branch}
+use Rattle.ha_journal.specs.Waits.{next_spot}
 use Rattle.ha_model.specs.Records.{actions_of, spots}
-use Rattle.ha_model.specs.RecordSteps.{more}
-use Rattle.ha_model.proofs.RecordGrowth.{automations-more}
-use Rattle.ha_model.proofs.RecordLaws.{length-more}
-use Rattle.ha_model.proofs.SinceLaws.{get-last}
-use Rattle.ha_model.proofs.StateLemmas.{now-snoc}
+use Rattle.ha_journal.proofs.MoreLemmas.{automations-more, length-more}
+use Rattle.ha_config.proofs.ListLemmas.{get-last}
+use Rattle.ha_journal.proofs.StateLemmas.{now-snoc}
 use Rattle.ha_model.proofs.StepLaws.{spots-more}
 use Rattle.script_step.specs.Gates.{Gate, Fronts}
 use Rattle.script_step.specs.Told.{IsAsk}

@@ -2,16 +2,16 @@
 use Rattle.std.proofs.Common.{◌≡◌, ℕ, suc, ◌≤◌, List, [], ◌∷◌, take, Bool, true, false, refl, sym, subst, ◌∙◌, rules}
 use Rattle.std.specs.Prelude.{Option, Some, None, is_some, nat_le, option_map, find, bytes_eq, if◌then◌else◌}
 use Rattle.std.specs.Option.{option_map_or}
-use Rattle.ha_model.specs.declared.journal.Entry.TheVariants.{Step}
-use Rattle.ha_model.specs.declared.journal.Record.{Record}
-use Rattle.ha_model.specs.declared.journal.WaitEnd.{WaitEnd}
-use Rattle.ha_model.specs.declared.steps.StepOut.{StepOut}
-use Rattle.ha_model.specs.Journal.{Journal, automations, now}
-use Rattle.ha_model.specs.Scripts.{Branch}
-use Rattle.ha_model.specs.Waits.{next_spot, wait_end}
+use Rattle.ha_journal.specs.declared.entry.Entry.TheVariants.{Step}
+use Rattle.ha_model.specs.declared.record.Record.{Record}
+use Rattle.ha_sight.specs.declared.waiting.WaitEnd.{WaitEnd}
+use Rattle.ha_sight.specs.declared.steps.StepOut.{StepOut}
+use Rattle.ha_journal.specs.Journal.{Journal, automations, now}
+use Rattle.ha_sight.specs.Scripts.{Branch}
+use Rattle.ha_journal.specs.Waits.{next_spot, wait_end}
 use Rattle.ha_model.specs.Records.{Records, actions_of, spots}
 use Rattle.ha_model.specs.Lawful.{Right, IsRightEntry, record_of, may_step, ready, pick}
-use Rattle.ha_model.proofs.EqualLemmas.{same-sound}
+use Rattle.ha_config.proofs.EqualLemmas.{same-sound}
 use Rattle.ha_model.proofs.StepLaws.{picked-right}
 use Rattle.timer_queue.specs.Timers.{Timer}
 use Rattle.script_step.specs.Gates.{Gate, Fronts, opens, gate_at}

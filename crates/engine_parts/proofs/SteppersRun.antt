@@ -4,19 +4,17 @@ use Rattle.std.specs.Prelude.{Option, Some, None, IsTrue, nat_eq, nat_lt, nat_le
 use Rattle.std.specs.Option.{option_map_or}
 use Rattle.std.proofs.lemmas.Option.{slice_get_within}
 use Rattle.timer_queue.specs.Timers.{Timer}
-use Rattle.ha_model.specs.declared.journal.Cmd.{Cmd}
-use Rattle.ha_model.specs.declared.journal.Entry.{Entry}
-use Rattle.ha_model.specs.declared.journal.Entry.TheVariants.{Boot, Line, Step}
-use Rattle.ha_model.specs.declared.journal.Record.{Record}
-use Rattle.ha_model.specs.Words.{EachAfter}
-use Rattle.ha_model.specs.Entries.{step_of}
-use Rattle.ha_model.specs.Journal.{Journal, now}
+use Rattle.ha_config.specs.declared.command.Cmd.{Cmd}
+use Rattle.ha_journal.specs.declared.entry.Entry.{Entry}
+use Rattle.ha_journal.specs.declared.entry.Entry.TheVariants.{Boot, Line, Step}
+use Rattle.ha_model.specs.declared.record.Record.{Record}
+use Rattle.ha_config.specs.Words.{EachAfter}
+use Rattle.ha_journal.specs.Entries.{step_of}
+use Rattle.ha_journal.specs.Journal.{Journal, now, more}
 use Rattle.ha_model.specs.Records.{Records}
-use Rattle.ha_model.specs.RecordSteps.{more}
 use Rattle.ha_model.specs.Lawful.{Right, IsRightEntry, record_of, is_running, ready}
-use Rattle.ha_model.proofs.LawfulLaws.{has-entry}
-use Rattle.ha_model.proofs.RecordLaws.{length-more}
-use Rattle.ha_model.proofs.SinceLaws.{get-last}
+use Rattle.ha_journal.proofs.MoreLemmas.{has-entry, length-more}
+use Rattle.ha_config.proofs.ListLemmas.{get-last}
 use Rattle.ha_model.proofs.StepLaws.{serial-at}
 use Rattle.script_step.specs.declared.frames.Frames.{Frames}
 use Rattle.engine_parts.specs.Waiting.{TellsEnds, AsksKept, EndsGrow, fresh}

@@ -2,14 +2,14 @@
 use Rattle.std.proofs.Common.{◌≡◌, ℕ, ◌≤◌, length, map, Bool, true, false, refl, rules}
 use Rattle.std.specs.Prelude.{IsTrue, nat_le, ◌&&◌}
 use Rattle.std.specs.List.{list_all}
-use Rattle.ha_model.specs.declared.config.Automation.{Automation}
-use Rattle.ha_model.specs.declared.config.Config.{Config}
-use Rattle.ha_model.specs.Commands.{all_distinct}
-use Rattle.ha_model.specs.Words.{Text}
-use Rattle.ha_model.specs.Journal.{Journal, automations}
-use Rattle.ha_model.specs.Sound.{is_sound_automation}
+use Rattle.ha_config.specs.declared.config.Automation.{Automation}
+use Rattle.ha_config.specs.declared.config.Config.{Config}
+use Rattle.ha_config.specs.ValueFacts.{all_distinct}
+use Rattle.ha_config.specs.Words.{Text}
+use Rattle.ha_journal.specs.Journal.{Journal, automations}
+use Rattle.ha_config.specs.Sound.{is_sound_automation}
 use Rattle.state_table.specs.declared.table.StateTable.{StateTable}
-use Rattle.cond_eval.specs.Seen.{IsViewOf}
+use Rattle.state_laws.specs.Stands.{IsViewOf}
 use Rattle.engine_parts.specs.Kept.{AreSound, Looks}
 
 pub true-of : (b : Bool) → IsTrue b → b ≡ true

@@ -2,13 +2,13 @@
 use Rattle.std.proofs.Common.{◌≡◌, ℕ, suc, ◌+◌, take, List, [], ◌∷◌, map, filter, Bool, true, false, cond, refl, sym, ap, subst, ◌∙◌, rules, arith}
 use Rattle.std.specs.Prelude.{Option, Some, None, nat_eq, is_some, is_none, option_map, option_and_then, ◌&&◌, ◌||◌, if◌then◌else◌}
 use Rattle.std.specs.List.{list_any}
-use Rattle.ha_model.specs.declared.journal.WaitEnd.{WaitEnd}
-use Rattle.ha_model.specs.declared.steps.Firing.{Firing}
-use Rattle.ha_model.specs.Journal.{Journal, now}
-use Rattle.ha_model.specs.States.{Sight}
-use Rattle.ha_model.specs.Records.{or_else}
-use Rattle.ha_model.specs.Scripts.{Branch}
-use Rattle.ha_model.specs.Waits.{wait_end}
+use Rattle.ha_sight.specs.declared.waiting.WaitEnd.{WaitEnd}
+use Rattle.ha_journal.specs.declared.firing.Firing.{Firing}
+use Rattle.ha_journal.specs.Journal.{Journal, now}
+use Rattle.ha_sight.specs.Sight.{Sight}
+use Rattle.ha_config.specs.Words.{or_else}
+use Rattle.ha_sight.specs.Scripts.{Branch}
+use Rattle.ha_journal.specs.Waits.{wait_end}
 use Rattle.ha_past.specs.Firings.{Owner, owner_named}
 use Rattle.wait_set.specs.declared.asked.Asked as wait
 use Rattle.wait_set.specs.Asked.{WaitTable, is_of, wait_of, end_of, end_now, fired_values, noted, noted_one, ends_in, owners_ended}

@@ -2,16 +2,15 @@
 use Rattle.std.proofs.Common.{◌≡◌, ℕ, zero, suc, ◌-◌, ◌<◌, List, [], ◌∷◌, length, true, refl, sym, ap, subst, ◌∙◌, arith}
 use Rattle.std.specs.Prelude.{Option, Some, None, slice_get, option_and_then}
 use Rattle.std.specs.Option.{option_map_or}
-use Rattle.ha_model.specs.declared.journal.Record.{Record}
-use Rattle.ha_model.specs.Journal.{Journal, automations}
-use Rattle.ha_model.specs.Scripts.{Branch}
-use Rattle.ha_model.specs.Records.{Records}
+use Rattle.ha_model.specs.declared.record.Record.{Record}
+use Rattle.ha_journal.specs.Journal.{Journal, automations}
+use Rattle.ha_sight.specs.Scripts.{Branch}
+use Rattle.ha_model.specs.Records.{Records, actions_of, spots}
 use Rattle.ha_model.specs.Lawful.{record_of}
 use Rattle.script_step.specs.Gates.{open_now}
 use Rattle.script_step.specs.Frames.{began_by, begins}
 use Rattle.script_step.specs.Ready.{ready_of}
 use Rattle.script_step.proofs.FrontLemmas.{ready-fronts}
-use Rattle.ha_model.specs.Records.{actions_of, spots}
 use Rattle.engine_parts.specs.Fronts.{fronts}
 use Rattle.script_step.specs.declared.frames.Frames.{Frames}
 use Rattle.engine_parts.specs.Waiting.{ends}

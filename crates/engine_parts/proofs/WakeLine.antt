@@ -1,12 +1,11 @@
 -- The runs behind a line.
 use Rattle.std.proofs.Common.{◌≡◌, ℕ, List, ◌++◌, length, sym, subst, ◌∙◌}
 use Rattle.timer_queue.specs.Timers.{Timer}
-use Rattle.ha_model.specs.declared.journal.Cmd.{Cmd}
-use Rattle.ha_model.specs.declared.journal.Entry.{Entry}
-use Rattle.ha_model.specs.declared.journal.Entry.TheVariants.{Line}
-use Rattle.ha_model.specs.Journal.{Journal, now}
+use Rattle.ha_config.specs.declared.command.Cmd.{Cmd}
+use Rattle.ha_journal.specs.declared.entry.Entry.{Entry}
+use Rattle.ha_journal.specs.declared.entry.Entry.TheVariants.{Line}
+use Rattle.ha_journal.specs.Journal.{Journal, now, more}
 use Rattle.ha_model.specs.Records.{Records}
-use Rattle.ha_model.specs.RecordSteps.{more}
 use Rattle.ha_model.specs.Lawful.{Right, ready}
 use Rattle.trig_set.specs.declared.set.TrigSet.{TrigSet}
 use Rattle.trig_set.specs.Stands as triggers

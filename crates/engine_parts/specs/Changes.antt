@@ -1,6 +1,6 @@
 -- What the records of an entry leave of a run, and of its frames.
 use Rattle.std.specs.Prelude.{◌≡◌, ◌⊎◌, Option, None}
-use Rattle.ha_model.specs.declared.journal.Record.{Record}
+use Rattle.ha_model.specs.declared.record.Record.{Record}
 use Rattle.ha_ready.specs.RunPast.{SameScript}
 use Rattle.script_step.specs.declared.frames.Frames.{Frames}
 use Rattle.engine_parts.specs.Runs.{HasEnd}

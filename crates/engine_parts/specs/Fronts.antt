@@ -1,13 +1,13 @@
 -- What the frames of a run stand for, and the fronts of its branches, after its places so far.
 use Rattle.std.specs.Prelude.{◌≡◌, ◌≤◌, List, [], ◌∷◌, ◌++◌, filter, is_some, Option, Some, None}
-use Rattle.ha_model.specs.declared.config.Action.{Action}
-use Rattle.ha_model.specs.declared.journal.Item.{Item}
-use Rattle.ha_model.specs.declared.journal.WaitEnd.{WaitEnd}
-use Rattle.ha_model.specs.declared.steps.Progress.{Progress}
-use Rattle.ha_model.specs.declared.steps.StepOut.{StepOut}
-use Rattle.ha_model.specs.Words.{Pairs, last_of}
-use Rattle.ha_model.specs.Scripts.{Branch, Spot, Status, Outcome, whole}
-use Rattle.ha_model.specs.Branches.{branches_of}
+use Rattle.ha_config.specs.declared.config.Action.{Action}
+use Rattle.ha_sight.specs.declared.item.Item.{Item}
+use Rattle.ha_sight.specs.declared.waiting.WaitEnd.{WaitEnd}
+use Rattle.ha_sight.specs.declared.steps.Progress.{Progress}
+use Rattle.ha_sight.specs.declared.steps.StepOut.{StepOut}
+use Rattle.ha_config.specs.Words.{Pairs, last_of}
+use Rattle.ha_sight.specs.Scripts.{Branch, Spot, Status, Outcome, whole}
+use Rattle.ha_sight.specs.Branches.{branches_of}
 use Rattle.script_step.specs.Frames as run
 use Rattle.script_step.specs.Frames.{began_by, begins}
 use Rattle.script_step.specs.Gates.{Gate, Fronts, fronts_of, open_branches}

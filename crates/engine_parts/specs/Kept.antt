@@ -4,14 +4,14 @@ use Rattle.std.specs.Prelude.{List, [], ◌∷◌, filter, length, Option, Some,
 use Rattle.timer_queue.specs.Timers.{Timer}
 use Rattle.ha_clock.specs.Zone as clock
 use Rattle.ha_clock.specs.Local.{last_moment}
-use Rattle.ha_model.specs.Journal.{Journal, automations, zone_of, now}
-use Rattle.ha_model.specs.declared.journal.Record.{Record}
-use Rattle.ha_model.specs.Scripts.{Branch}
+use Rattle.ha_journal.specs.Journal.{Journal, automations, zone_of, now}
+use Rattle.ha_model.specs.declared.record.Record.{Record}
+use Rattle.ha_sight.specs.Scripts.{Branch}
 use Rattle.ha_model.specs.Records.{Records}
-use Rattle.ha_model.specs.Sights.{changes_switch}
-use Rattle.ha_model.specs.Sound.{is_sound_config}
-use Rattle.ha_model.specs.Words.{Text}
-use Rattle.state_table.specs.Table as states
+use Rattle.ha_journal.specs.Sights.{changes_switch}
+use Rattle.ha_config.specs.Sound.{is_sound_config}
+use Rattle.ha_config.specs.Words.{Text}
+use Rattle.state_laws.specs.Stands as states
 use Rattle.state_table.specs.declared.table.StateTable.{StateTable}
 use Rattle.switch_book.specs.Book as switches
 use Rattle.script_step.specs.declared.frames.Frames.{Frames}

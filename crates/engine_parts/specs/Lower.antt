@@ -1,7 +1,7 @@
 -- Where the pairs of a run stand among the others.
 use Rattle.std.specs.Prelude.{ℕ, suc, ◌+◌, ◌≤◌, Bool, false, not, ◌&&◌, nat_eq, nat_lt, List, [], ◌∷◌, slice_get, if◌then◌else◌}
 use Rattle.std.specs.Option.{option_map_or}
-use Rattle.ha_model.specs.Scripts.{Branch}
+use Rattle.ha_sight.specs.Scripts.{Branch}
 
 -- how many pairs stand at the front that are of earlier runs
 abbrev pub lower : ℕ → List (ℕ × Branch) → ℕ

@@ -1,8 +1,8 @@
 -- What one more entry leaves of the fronts of a run.
 use Rattle.std.specs.Prelude.{◌≡◌, [], ◌∷◌}
-use Rattle.ha_model.specs.Journal.{Journal}
-use Rattle.ha_model.specs.Scripts.{Branch}
-use Rattle.ha_model.specs.Waits.{next_spot}
+use Rattle.ha_journal.specs.Journal.{Journal}
+use Rattle.ha_sight.specs.Scripts.{Branch}
+use Rattle.ha_journal.specs.Waits.{next_spot}
 use Rattle.script_step.specs.Gates.{Gate, Fronts, opens}
 
 -- a gate that opens after journal k where it opens after j

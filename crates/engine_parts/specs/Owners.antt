@@ -1,11 +1,11 @@
 -- Who has triggers attached for the automations, and the attempts that firings are.
 use Rattle.std.specs.Prelude.{ℕ, suc, ◌<◌, ◌≤◌, Bool, false, nat_lt, List, [], ◌∷◌, take, filter, flat_map, map, if◌then◌else◌}
 use Rattle.std.specs.List.{enumerate_from}
-use Rattle.ha_model.specs.declared.config.Automation.{Automation}
-use Rattle.ha_model.specs.declared.steps.Firing.{Firing}
-use Rattle.ha_model.specs.Journal.{Journal, automations}
-use Rattle.ha_model.specs.Switches.{is_on, since}
-use Rattle.ha_model.specs.Attempts.{Attempt}
+use Rattle.ha_config.specs.declared.config.Automation.{Automation}
+use Rattle.ha_journal.specs.declared.firing.Firing.{Firing}
+use Rattle.ha_journal.specs.Journal.{Journal, automations}
+use Rattle.ha_journal.specs.Switches.{is_on, since}
+use Rattle.ha_journal.specs.Attempts.{Attempt}
 use Rattle.ha_past.specs.Firings.{Owner}
 
 -- an automation that is on after place p has its triggers attached under its number, since it is on

@@ -1,6 +1,6 @@
 -- The run whose Step stands at a place.
 use Rattle.std.specs.Prelude.{◌≡◌, ℕ, true, false, Option, Some, None}
-use Rattle.ha_model.specs.Journal.{Journal}
+use Rattle.ha_journal.specs.Journal.{Journal}
 use Rattle.ha_ready.specs.Agree.{step_at}
 
 -- the answer is the run whose Step stands there, or that there is none

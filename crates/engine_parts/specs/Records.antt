@@ -1,9 +1,9 @@
 -- The table of records while the records of an entry are told.
 use Rattle.std.specs.Prelude.{◌≡◌, ℕ, ◌+◌, ◌<◌, ◌≤◌, vec_len, vec_capacity, Bool, true, false, ◌||◌, nat_eq, List, [], ◌∷◌, length}
-use Rattle.ha_model.specs.declared.config.Action.{Action}
-use Rattle.ha_model.specs.declared.journal.Record.{Record}
-use Rattle.ha_model.specs.Journal.{Journal}
-use Rattle.ha_model.specs.Scripts.{Branch}
+use Rattle.ha_config.specs.declared.config.Action.{Action}
+use Rattle.ha_model.specs.declared.record.Record.{Record}
+use Rattle.ha_journal.specs.Journal.{Journal}
+use Rattle.ha_sight.specs.Scripts.{Branch}
 use Rattle.ha_model.specs.Records.{Records}
 use Rattle.run_modes.specs.Fits.{AreNumbered}
 use Rattle.engine_parts.specs.declared.parts.Parts.{Parts}

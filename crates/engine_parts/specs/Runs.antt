@@ -2,10 +2,10 @@
 use Rattle.std.specs.Prelude.{◌≡◌, ◌⊎◌, ℕ, suc, ◌+◌, ◌-◌, ◌<◌, ◌≤◌, true, false, List, [], ◌∷◌, length, take, slice_get, Option, Some, None}
 use Rattle.std.specs.List.{list_any}
 use Rattle.timer_queue.specs.Timers.{Timer, due_of}
-use Rattle.ha_model.specs.declared.journal.EndCause.{EndCause}
-use Rattle.ha_model.specs.declared.journal.Record.{Record}
-use Rattle.ha_model.specs.Journal.{Journal, automations, now}
-use Rattle.ha_model.specs.Scripts.{Branch}
+use Rattle.ha_model.specs.declared.record.EndCause.{EndCause}
+use Rattle.ha_model.specs.declared.record.Record.{Record}
+use Rattle.ha_journal.specs.Journal.{Journal, automations, now}
+use Rattle.ha_sight.specs.Scripts.{Branch}
 use Rattle.ha_model.specs.Records.{Records, actions_of, spots}
 use Rattle.ha_ready.specs.Agree.{step_at}
 use Rattle.script_step.specs.Gates.{Gate, Fronts, gate_at}

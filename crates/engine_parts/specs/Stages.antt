@@ -3,19 +3,20 @@ use Rattle.std.specs.Prelude.{◌≡◌, ℕ, ◌<◌, ◌∷◌, [], true, leng
 use Rattle.ha_value.specs.declared.value.EntityId.{EntityId}
 use Rattle.timer_queue.specs.Timers.{Timer}
 use Rattle.script_step.specs.declared.frames.Frames.{Frames}
-use Rattle.ha_model.specs.Scripts.{Branch}
+use Rattle.ha_sight.specs.Scripts.{Branch}
 use Rattle.wait_set.specs.Asked.{WaitTable as Waits}
 use Rattle.trig_set.specs.declared.set.TrigSet.{TrigSet}
-use Rattle.ha_model.specs.declared.journal.Cmd.{Cmd}
-use Rattle.ha_model.specs.declared.journal.Entry.{Entry}
-use Rattle.ha_model.specs.declared.journal.Entry.TheVariants.{Line}
-use Rattle.ha_model.specs.declared.journal.StateObject.{StateObject}
-use Rattle.ha_model.specs.Entries.{IsPlain}
-use Rattle.ha_model.specs.Words.{Text, Pairs}
-use Rattle.ha_model.specs.Commands.{IsFair}
-use Rattle.ha_model.specs.Journal.{Journal, IsJournal, HasEntry}
-use Rattle.ha_model.specs.Records.{Records, passing}
-use Rattle.ha_model.specs.RecordSteps.{more, records_after}
+use Rattle.ha_config.specs.declared.command.Cmd.{Cmd}
+use Rattle.ha_journal.specs.declared.entry.Entry.{Entry}
+use Rattle.ha_journal.specs.declared.entry.Entry.TheVariants.{Line}
+use Rattle.ha_sight.specs.declared.state.StateObject.{StateObject}
+use Rattle.ha_config.specs.Fair.{IsPlain}
+use Rattle.ha_config.specs.Words.{Text, Pairs}
+use Rattle.ha_journal.specs.Commands.{IsFair}
+use Rattle.ha_journal.specs.Journal.{Journal, IsJournal, HasEntry, more}
+use Rattle.ha_model.specs.Records.{Records}
+use Rattle.ha_journal.specs.Attempts.{passing}
+use Rattle.ha_model.specs.RecordSteps.{records_after}
 use Rattle.run_modes.specs.Calls.{all_tried}
 use Rattle.ha_model.specs.Lawful.{Right}
 use Rattle.trig_set.specs.Left.{Leaves}

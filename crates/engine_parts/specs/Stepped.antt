@@ -1,9 +1,9 @@
 -- What is taken over from a step.
 use Rattle.std.specs.Prelude.{◌≡◌, ◌≢◌, ◌⊎◌, ℕ, ◌+◌, ◌≤◌, false, nat_eq, List, Some}
 use Rattle.timer_queue.specs.Timers.{Timer, due_of}
-use Rattle.ha_model.specs.declared.journal.WaitAsk.{WaitAsk}
-use Rattle.ha_model.specs.declared.steps.StepOut.{StepOut}
-use Rattle.ha_model.specs.Scripts.{Branch}
+use Rattle.ha_sight.specs.declared.waiting.WaitAsk.{WaitAsk}
+use Rattle.ha_sight.specs.declared.steps.StepOut.{StepOut}
+use Rattle.ha_sight.specs.Scripts.{Branch}
 use Rattle.script_step.specs.Gates.{Gate, Fronts, gate_at}
 use Rattle.engine_parts.specs.Waiting.{AsksKept, EndsGrow, asked_at}
 use Rattle.wait_set.specs.Asked.{WaitTable as Waits}

@@ -1,11 +1,11 @@
 -- The waits of a set, by run and branch, and what a set tells of a journal.
 use Rattle.std.specs.Prelude.{◌≡◌, ℕ, suc, ◌||◌, nat_eq, List, take, is_some, Option, Some, option_map}
 use Rattle.std.specs.List.{list_any}
-use Rattle.ha_model.specs.declared.journal.WaitAsk.{WaitAsk}
-use Rattle.ha_model.specs.declared.journal.WaitEnd.{WaitEnd}
-use Rattle.ha_model.specs.Journal.{Journal, now}
-use Rattle.ha_model.specs.Scripts.{Ask, Branch}
-use Rattle.ha_model.specs.Waits.{wait_end}
+use Rattle.ha_sight.specs.declared.waiting.WaitAsk.{WaitAsk}
+use Rattle.ha_sight.specs.declared.waiting.WaitEnd.{WaitEnd}
+use Rattle.ha_journal.specs.Journal.{Journal, now}
+use Rattle.ha_sight.specs.Scripts.{Ask, Branch}
+use Rattle.ha_journal.specs.Waits.{wait_end}
 use Rattle.script_step.specs.Told.{IsAsk}
 use Rattle.wait_set.specs.declared.asked.Asked as wait
 use Rattle.wait_set.specs.Asked.{WaitTable, wait_of, end_of}

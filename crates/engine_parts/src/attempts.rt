@@ -1,8 +1,10 @@
 //! The attempts of an entry.
 ghost use Rattle.std.specs.Prelude.{◌≡◌, IfOk};
-ghost use Rattle.ha_model.specs.Conditions.{hold_all};
+ghost use Rattle.ha_sight.specs.Conditions.{hold_all};
 
-use ha_model::{Answers, Condition, Env, Many};
+use ha_config::Condition;
+use ha_sight::{Answers, Env};
+use ha_value::Many;
 use std::alloc::{AllocError, Global};
 
 /// Whether all conditions hold.

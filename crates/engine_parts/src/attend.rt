@@ -1,6 +1,6 @@
 //! An entry whose own changes were made: the triggers and the waits are told of it, and the runs that it wakes are listed anew.
 ghost use Rattle.std.specs.Prelude.{◌≡◌, ◌-◌, ℕ, List, IfOk, OnOk, length};
-ghost use Rattle.ha_model.specs.Attempts.{fired as fired_lem};
+ghost use Rattle.ha_journal.specs.Attempts.{fired as fired_lem};
 ghost use Rattle.ha_model.specs.Records.{Records};
 ghost use Rattle.ha_past.specs.Firings.{firings};
 ghost use Rattle.trig_set.specs.Stands.{attached};
@@ -16,8 +16,9 @@ use crate::note::note;
 use crate::parts::Parts;
 use crate::wake::wake;
 use cond_eval::View;
-use ha_clock::Zone;
-use ha_model::{Entry, Firing, Many, Moment};
+use ha_clock::{Moment, Zone};
+use ha_journal::{Entry, Firing};
+use ha_value::Many;
 use state_table::StateTable;
 use std::alloc::{AllocError, Global};
 use trig_set::{Before, TrigSet};

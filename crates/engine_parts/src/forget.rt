@@ -1,6 +1,6 @@
 //! A run that ends leaves nothing behind: its triggers, its waits, its frames and its pairs go.
 ghost use Rattle.std.specs.Prelude.{◌≡◌, ◌-◌, ◌<◌, ◌≤◌, ◌∷◌, [], ℕ, None, Some, length, set, slice_get};
-ghost use Rattle.ha_model.specs.Journal.{Journal};
+ghost use Rattle.ha_journal.specs.Journal.{Journal};
 ghost use Rattle.ha_model.specs.Records.{Records};
 ghost use Rattle.run_modes.specs.Fits.{AreNumbered};
 ghost use Rattle.trig_set.specs.Stands.{StandsFor, attached};

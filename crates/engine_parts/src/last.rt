@@ -1,11 +1,11 @@
 //! The first and the last entry of a journal.
 ghost use Rattle.std.specs.Prelude.{◌≡◌, ◌-◌, ◌<◌, length, take};
 ghost use Rattle.ha_model.specs.Records.{actions_of};
-ghost use Rattle.ha_model.specs.declared.journal.Entry.{Entry as Item};
-ghost use Rattle.ha_model.specs.Journal.{Journal, IsJournal, automations};
-ghost use Rattle.ha_model.specs.RecordSteps.{more};
+ghost use Rattle.ha_journal.specs.declared.entry.Entry.{Entry as Item};
+ghost use Rattle.ha_journal.specs.Journal.{Journal, IsJournal, automations, more};
 
-use ha_model::{Action, Config, Entry};
+use ha_config::{Action, Config};
+use ha_journal::Entry;
 
 /// The configuration of the boot.
 pub fn configuration(journal: &[Entry]) -> &Config

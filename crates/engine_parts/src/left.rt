@@ -1,6 +1,6 @@
 //! A report of an entity that concerns nobody: nothing fires, and its old state is asked by nobody.
 ghost use Rattle.std.specs.Prelude.{◌≡◌, ◌-◌, ℕ, [], OnOk, length};
-ghost use Rattle.ha_model.specs.Attempts.{fired as fired_lem};
+ghost use Rattle.ha_journal.specs.Attempts.{fired as fired_lem};
 ghost use Rattle.ha_model.specs.Records.{Records};
 ghost use Rattle.ha_past.specs.Firings.{firings};
 ghost use Rattle.trig_set.specs.Stands.{attached};
@@ -14,8 +14,9 @@ use crate::last::configuration;
 use crate::note::note_waits;
 use crate::parts::Parts;
 use cond_eval::View;
-use ha_clock::Zone;
-use ha_model::{EntityId, Entry, Many, Moment, Value, Word};
+use ha_clock::{Moment, Zone};
+use ha_journal::Entry;
+use ha_value::{EntityId, Many, Value, Word};
 use state_table::StateTable;
 use std::alloc::{AllocError, Global};
 use trig_set::TrigSet;

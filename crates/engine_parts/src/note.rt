@@ -1,9 +1,8 @@
 //! What fires at an entry, and which waits end there.
 ghost use Rattle.std.specs.Prelude.{◌≡◌, ◌≤◌, ℕ, List, Option, IfOk, OnOk, length};
 ghost use Rattle.ha_clock.specs.Local.{last_moment};
-ghost use Rattle.ha_model.specs.declared.journal.Entry.{Entry as Item};
-ghost use Rattle.ha_model.specs.Journal.{Journal, HasEntry};
-ghost use Rattle.ha_model.specs.RecordSteps.{more};
+ghost use Rattle.ha_journal.specs.declared.entry.Entry.{Entry as Item};
+ghost use Rattle.ha_journal.specs.Journal.{Journal, HasEntry, more};
 ghost use Rattle.ha_past.specs.Firings.{Owner, firings};
 ghost use Rattle.trig_set.specs.Next.{IsNext};
 ghost use Rattle.trig_set.specs.Stands as triggers_lem;
@@ -15,7 +14,9 @@ ghost use Rattle.script_step.specs.declared.frames.Frames.{Frames};
 ghost use Rattle.engine_parts.specs.Kept.{AreOwned};
 ghost use Rattle.engine_parts.specs.Runs.{AreHeld};
 
-use ha_model::{Answers, Entry, Firing, Many};
+use ha_journal::{Entry, Firing};
+use ha_sight::Answers;
+use ha_value::Many;
 use std::alloc::{AllocError, Global};
 use trig_set::{Before, TrigSet};
 use wait_set::Waits;

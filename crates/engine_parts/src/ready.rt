@@ -1,10 +1,11 @@
 //! The ready pairs of run and branch, in order, kept from entry to entry.
 ghost use Rattle.std.specs.Prelude.{◌≡◌, ◌++◌, ◌&&◌, [], ◌∷◌, ◌<◌, ◌≤◌, ℕ, suc, List, not, nat_eq, nat_lt, OnOk, length, take, drop, filter, slice_set, vec_len, vec_capacity};
-ghost use Rattle.ha_model.specs.Scripts.{Branch as Path};
+ghost use Rattle.ha_sight.specs.Scripts.{Branch as Path};
 ghost use Rattle.ha_ready.specs.ReadyPairs.{pairs_from, pairs_of, with_run};
 ghost use Rattle.engine_parts.specs.Lower.{Ascends, has_one, lower, stands_at};
 
-use ha_model::{Branch, Many};
+use ha_sight::Branch;
+use ha_value::Many;
 use std::alloc::AllocError;
 
 /// The pairs, by serial and then by branch.

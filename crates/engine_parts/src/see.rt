@@ -1,15 +1,17 @@
 //! The states that an entry changes, and what is noted of them before.
 ghost use Rattle.std.specs.Prelude.{◌≡◌, ◌∷◌, [], ℕ, None, Some, false, IfOk, OnOk};
 ghost use Rattle.std.specs.Option.{option_copied};
-ghost use Rattle.ha_model.specs.declared.journal.Cmd as cmd;
-ghost use Rattle.ha_model.specs.declared.journal.Entry.TheVariants.{Line};
-ghost use Rattle.ha_model.specs.Journal.{Journal, now as now_of};
-ghost use Rattle.ha_model.specs.RecordSteps.{more};
+ghost use Rattle.ha_config.specs.declared.command.Cmd as cmd;
+ghost use Rattle.ha_journal.specs.declared.entry.Entry.TheVariants.{Line};
+ghost use Rattle.ha_journal.specs.Journal.{Journal, now as now_of, more};
 ghost use Rattle.state_table.specs.Anew.{is_automation};
-ghost use Rattle.state_table.specs.Table.{at, StandsFor};
+ghost use Rattle.state_table.specs.Table.{at};
+ghost use Rattle.state_laws.specs.Stands.{StandsFor};
 ghost use Rattle.trig_set.specs.Next.{AreListed, Listed};
 
-use ha_model::{EntityId, Many, Moment, Plain, StateObject, Value, Word};
+use ha_clock::Moment;
+use ha_sight::StateObject;
+use ha_value::{EntityId, Many, Plain, Value, Word};
 use state_table::StateTable;
 use std::alloc::{AllocError, Global};
 use trig_set::Before;

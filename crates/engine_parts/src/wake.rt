@@ -1,7 +1,7 @@
 //! Whose branches may step since an entry: delays that are over, and waits that ended.
 ghost use Rattle.std.specs.Prelude.{◌≡◌, ◌<◌, ◌≤◌, All, IsNone, ◌++◌, ◌-◌, ◌∷◌, [], ℕ, List, true, OnOk, length, slice_get, option_and_then};
 ghost use Rattle.std.specs.Option.{option_copied};
-ghost use Rattle.ha_model.specs.Journal.{Journal};
+ghost use Rattle.ha_journal.specs.Journal.{Journal};
 ghost use Rattle.ha_model.specs.Records.{Records};
 ghost use Rattle.engine_parts.specs.Places.{IsStepper};
 ghost use Rattle.engine_parts.specs.Runs.{Waking};
@@ -20,7 +20,9 @@ ghost use Rattle.engine_parts.specs.Kept.{KeysBelow, Owned};
 use crate::last::script;
 use crate::ready::{Ready, set_run};
 use crate::slots::Slots;
-use ha_model::{Entry, Many, Moment};
+use ha_clock::Moment;
+use ha_journal::Entry;
+use ha_value::Many;
 use script_step::Frames;
 use std::alloc::{AllocError, Global};
 use timer_queue::TimerQueue;

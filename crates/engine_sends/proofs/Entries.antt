@@ -4,14 +4,14 @@ use denote.Builtin.{u64}
 use denote.Struct.Tuple.{Tuple}
 use denote.Param.Send.{IsSend, sendable}
 use Rattle.std.specs.contracts.option.Option as Option
-use Rattle.ha_model.specs.contracts.journal.Cmd as Cmd
-use Rattle.ha_model.specs.contracts.journal.Item as Item
-use Rattle.ha_model.specs.contracts.journal.Entry as Entry
-use Rattle.ha_model.specs.contracts.journal.EndCause as EndCause
-use Rattle.ha_model.specs.contracts.journal.Record as Record
-use Rattle.ha_model.specs.contracts.journal.WaitAsk as WaitAsk
-use Rattle.ha_model.specs.contracts.journal.WaitEnd as WaitEnd
-use Rattle.ha_model.proofs.journal.EndCause.TheSendSync as cause
+use Rattle.ha_config.specs.contracts.command.Cmd as Cmd
+use Rattle.ha_sight.specs.contracts.item.Item as Item
+use Rattle.ha_journal.specs.contracts.entry.Entry as Entry
+use Rattle.ha_model.specs.contracts.record.EndCause as EndCause
+use Rattle.ha_model.specs.contracts.record.Record as Record
+use Rattle.ha_sight.specs.contracts.waiting.WaitAsk as WaitAsk
+use Rattle.ha_sight.specs.contracts.waiting.WaitEnd as WaitEnd
+use Rattle.ha_model.proofs.record.EndCause.TheSendSync as cause
 use Rattle.engine_sends.proofs.Envs.{variables}
 use Rattle.engine_sends.proofs.Scripts.{scripts}
 

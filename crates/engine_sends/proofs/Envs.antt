@@ -9,11 +9,11 @@ use Rattle.ha_value.proofs.word.Word.TheSendSync as word
 use Rattle.ha_value.proofs.value.Num.TheSendSync as number
 use Rattle.ha_value.proofs.value.EntityId.TheSendSync as entity
 use Rattle.ha_value.proofs.value.Value.TheLaws.TheKnot as knot
-use Rattle.ha_model.specs.contracts.journal.StateObject as StateObject
-use Rattle.ha_model.specs.contracts.trigger_data.Kind as Kind
-use Rattle.ha_model.specs.contracts.trigger_data.TriggerData as TriggerData
-use Rattle.ha_model.specs.contracts.env.Env as Env
-use Rattle.ha_model.proofs.shared.Shared.TheSendSync as shared
+use Rattle.ha_sight.specs.contracts.state.StateObject as StateObject
+use Rattle.ha_sight.specs.contracts.trigger_data.Kind as Kind
+use Rattle.ha_sight.specs.contracts.trigger_data.TriggerData as TriggerData
+use Rattle.ha_sight.specs.contracts.env.Env as Env
+use Rattle.ha_sight.proofs.shared.Shared.TheSendSync as shared
 use Rattle.engine_sends.proofs.Values.{values}
 
 pub ruleset simple_sync = (many.the_sync, word.the_sync, entity.the_sync, number.the_field_sync, number.the_sync, moment.the_sync, sendable)

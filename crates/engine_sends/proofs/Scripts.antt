@@ -1,14 +1,14 @@
 -- Scripts and configurations may move between threads.
 use denote.Param.Send.{IsSend, sendable}
-use Rattle.ha_model.specs.contracts.config.Form as Form
-use Rattle.ha_model.specs.contracts.config.SpanForm as SpanForm
-use Rattle.ha_model.specs.contracts.config.RepeatKind as RepeatKind
-use Rattle.ha_model.specs.contracts.config.Action as Action
-use Rattle.ha_model.specs.contracts.config.Automation as Automation
-use Rattle.ha_model.specs.contracts.config.Config as Config
-use Rattle.ha_model.proofs.config.Mode.TheSendSync as mode
-use Rattle.ha_model.proofs.config.Form.TheLaws.TheKnot as form
-use Rattle.ha_model.proofs.config.ActionKind.TheLaws.TheKnot as action
+use Rattle.ha_config.specs.contracts.config.Form as Form
+use Rattle.ha_config.specs.contracts.config.SpanForm as SpanForm
+use Rattle.ha_config.specs.contracts.config.RepeatKind as RepeatKind
+use Rattle.ha_config.specs.contracts.config.Action as Action
+use Rattle.ha_config.specs.contracts.config.Automation as Automation
+use Rattle.ha_config.specs.contracts.config.Config as Config
+use Rattle.ha_config.proofs.config.Mode.TheSendSync as mode
+use Rattle.ha_config.proofs.config.Form.TheLaws.TheKnot as form
+use Rattle.ha_config.proofs.config.ActionKind.TheLaws.TheKnot as action
 use Rattle.engine_sends.proofs.Triggers.{triggers}
 
 pub form_field : IsSend Form.the_field.row

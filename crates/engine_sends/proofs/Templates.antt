@@ -1,10 +1,10 @@
 -- Templates may move between threads.
 use denote.Param.Send.{IsSend, sendable}
-use Rattle.ha_model.specs.contracts.template.Expr as Expr
-use Rattle.ha_model.specs.contracts.template.Template as Template
-use Rattle.ha_model.proofs.template.Op.TheSendSync as operator
-use Rattle.ha_model.proofs.template.Expr.TheLaws.TheKnot as expression
-use Rattle.ha_model.proofs.template.Piece.TheLaws.TheKnot as piece
+use Rattle.ha_config.specs.contracts.template.Expr as Expr
+use Rattle.ha_config.specs.contracts.template.Template as Template
+use Rattle.ha_config.proofs.template.Op.TheSendSync as operator
+use Rattle.ha_config.proofs.template.Expr.TheLaws.TheKnot as expression
+use Rattle.ha_config.proofs.template.Piece.TheLaws.TheKnot as piece
 use Rattle.engine_sends.proofs.Values.{values}
 
 pub expression_field : IsSend Expr.the_field.row

@@ -1,11 +1,11 @@
 -- Triggers and conditions may move between threads.
 use denote.Param.Send.{IsSend, sendable}
-use Rattle.ha_model.specs.contracts.config.TriggerRule as TriggerRule
-use Rattle.ha_model.specs.contracts.config.Trigger as Trigger
-use Rattle.ha_model.specs.contracts.config.Condition as Condition
-use Rattle.ha_model.proofs.config.Match.TheSendSync as side
-use Rattle.ha_model.proofs.config.Unit.TheSendSync as unit
-use Rattle.ha_model.proofs.config.Condition.TheLaws.TheKnot as condition
+use Rattle.ha_config.specs.contracts.config.TriggerRule as TriggerRule
+use Rattle.ha_config.specs.contracts.config.Trigger as Trigger
+use Rattle.ha_config.specs.contracts.config.Condition as Condition
+use Rattle.ha_config.proofs.config.Match.TheSendSync as side
+use Rattle.ha_config.proofs.config.Unit.TheSendSync as unit
+use Rattle.ha_config.proofs.config.Condition.TheLaws.TheKnot as condition
 use Rattle.engine_sends.proofs.Templates.{templates}
 
 pub rule_field : IsSend TriggerRule.the_field.row

@@ -3,8 +3,8 @@ use Rattle.std.proofs.Common.{◌≡◌, ℕ, zero, suc, ◌+◌, ◌<◌, List,
 use Rattle.std.specs.Prelude.{not, ◌&&◌, ◌||◌}
 use Rattle.std.proofs.lemmas.List.{take_more}
 use Rattle.ha_value.specs.declared.value.EntityId.{EntityId}
-use Rattle.ha_model.specs.Words.{Text, one_of, same}
-use Rattle.ha_model.proofs.EqualLemmas.{same-sound}
+use Rattle.ha_config.specs.Words.{Text, one_of, same}
+use Rattle.ha_config.proofs.EqualLemmas.{same-sound}
 use Rattle.event_bus.specs.Subjects.{Subject}
 use Rattle.event_bus.proofs.ListLemmas.{or-true}
 

@@ -9,8 +9,8 @@ use Rattle.std.specs.HashMap.{HashMap, UpdatesBy, get_by_text}
 use Rattle.std.specs.Str.{bytes_eq}
 use Rattle.std.specs.String.{string_bytes, string_eq}
 use Rattle.std.proofs.lemmas.Map.Text.{hash_map_updates_text}
-use Rattle.ha_model.specs.Words.{Text, same}
-use Rattle.ha_model.proofs.EqualLemmas.{same-sound}
+use Rattle.ha_config.specs.Words.{Text, same}
+use Rattle.ha_config.proofs.EqualLemmas.{same-sound}
 use Rattle.event_bus.specs.Lists.{has}
 
 module _ {X Y S : Type 0} (m n : HashMap (String Y) X S) where

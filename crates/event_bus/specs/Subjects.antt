@@ -1,8 +1,8 @@
 -- What a trigger is concerned by: an entity, a type of events, moments, or each entry.
 use Rattle.std.specs.Prelude.{ℕ, Bool, true, false, List, Option, Some, None}
 use Rattle.ha_value.specs.declared.value.EntityId.{EntityId}
-use Rattle.ha_model.specs.declared.config.TriggerRule.{TriggerRule}
-use Rattle.ha_model.specs.Words.{Text, one_of, same_entity}
+use Rattle.ha_config.specs.declared.config.TriggerRule.{TriggerRule}
+use Rattle.ha_config.specs.Words.{Text, one_of, same_entity}
 use Rattle.event_bus.specs.declared.index.Index.{Index}
 use Rattle.event_bus.specs.Lists.{has, has_at, has_for}
 

@@ -1,12 +1,13 @@
 //! The numbers of owners, by what concerns their triggers.
 ghost use Rattle.std.specs.Prelude.{◌≡◌, ◌&&◌, ◌||◌, ℕ, OnErr, OnOk, false, nat_eq, not, true};
 ghost use Rattle.std.specs.Option.{option_copied, option_map, option_map_or};
-ghost use Rattle.ha_model.specs.Words.{Text, one_of};
+ghost use Rattle.ha_config.specs.Words.{Text, one_of};
 ghost use Rattle.event_bus.specs.Lists.{has, has_at};
 ghost use Rattle.event_bus.specs.Subjects.{Subject, by_entity, by_entries, by_kinds, by_moments, concerns, knows};
 
 use crate::lists::{Lists, at_place, put, put_at, put_for, take, take_at, take_for};
-use ha_model::{EntityId, TriggerRule, Word};
+use ha_config::TriggerRule;
+use ha_value::{EntityId, Word};
 use indexmap::IndexMap;
 use std::alloc::{AllocError, Global};
 use std::collections::BTreeSet;

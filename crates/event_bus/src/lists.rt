@@ -2,10 +2,10 @@
 ghost use Rattle.std.specs.Prelude.{◌≡◌, ◌&&◌, ◌||◌, ℕ, IfOk, IfSome, OnErr, OnOk, Some, false, nat_eq, not, string_bytes, true};
 ghost use Rattle.std.specs.HashMap.{get_by_text};
 ghost use Rattle.ha_value.specs.declared.value.EntityId.{EntityId as Entity};
-ghost use Rattle.ha_model.specs.Words.{Text, same, same_entity};
+ghost use Rattle.ha_config.specs.Words.{Text, same, same_entity};
 ghost use Rattle.event_bus.specs.Lists.{has, has_at, has_for};
 
-use ha_model::EntityId;
+use ha_value::EntityId;
 use indexmap::IndexMap;
 use std::alloc::{AllocError, Global};
 use std::collections::BTreeSet;

@@ -3,7 +3,7 @@ use Rattle.std.proofs.Common.{◌≡◌, ℕ, ◌+◌, ◌/◌, ◌≤◌, Bool,
 use Rattle.std.specs.Prelude.{flat_map, nat_lt}
 use lib.Utf8.{encode, next}
 use Rattle.std.proofs.lemmas.Bool.Decides.{nat_tests}
-use Rattle.ha_model.specs.ValueText.{escaped_byte}
+use Rattle.ha_config.specs.ValueText.{escaped_byte}
 
 -- a byte that is no ASCII stays
 high_stays : (b : ℕ) → 128 ≤ b → escaped_byte b ≡ b ∷ []

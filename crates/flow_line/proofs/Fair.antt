@@ -14,18 +14,18 @@ use Rattle.ha_value.specs.declared.value.Value.TheFolds.{map-Value}
 use Rattle.ha_value.specs.Ids.{entity_from, is_entity, is_name, read_entity}
 use Rattle.ha_value.specs.Lists.{before_first, after_first}
 use Rattle.ha_clock.specs.MomentText.{moment_of}
-use Rattle.ha_model.specs.declared.journal.Cmd.{Cmd}
-use Rattle.ha_model.specs.declared.journal.Cmd.TheVariants as cmd
-use Rattle.ha_model.specs.Words.{Text, Pairs, same, first_pair, characters}
-use Rattle.ha_model.specs.ValueText.{deepest, depth_of, depth_step, pairs_depth}
-use Rattle.ha_model.specs.Commands.{all_distinct, keys_of, is_sound_value, sound_step, are_sound_pairs, utf8_step, has_utf8_texts, have_utf8_texts, has_automation, AreFairPairs, IsFair, IsReportable}
-use Rattle.ha_model.specs.Journal.{Journal}
+use Rattle.ha_config.specs.declared.command.Cmd.{Cmd}
+use Rattle.ha_config.specs.declared.command.Cmd.TheVariants as cmd
+use Rattle.ha_config.specs.Words.{Text, Pairs, same, first_pair, characters}
+use Rattle.ha_config.specs.ValueText.{deepest, depth_of, depth_step, pairs_depth}
+use Rattle.ha_config.specs.ValueFacts.{all_distinct, keys_of, is_sound_value, sound_step, are_sound_pairs, utf8_step, has_utf8_texts, have_utf8_texts, AreFairPairs}
+use Rattle.ha_config.specs.Fair.{IsFairAmong, IsReportable}
 use Rattle.flow_line.specs.declared.keys.Command.{Command}
 use Rattle.flow_line.specs.declared.keys.Command.TheVariants.{Report, Gone, Event, Moment, Switch, Trigger, Restart}
 use Rattle.flow_line.specs.declared.refusal.Refusal.TheVariants.{Id, LongState, Keys}
 use Rattle.flow_line.specs.Command.{Checked, ◌>>=◌, IsLineMap, IsInTime, IsFairOncePut, as_true, at_moment, automation, cmd_by, cmd_of_pairs, event_of, flag_in, flag_of, gone_of, has_keys, is_automation, key_of, map_in, map_of, moment_of_pairs, named, only, report_of, reportable, restart_of, restarts, state_of, switch_of, text_in, text_of, trigger_of, turned, value_of, with_keys}
 use Rattle.flow_line.proofs.Sound.{deep_layer, sound_layer, utf8_layer, utf8-out}
-use Rattle.ha_model.proofs.Rolls.{depth_of-out, is_sound_value-out}
+use Rattle.ha_config.proofs.ValueRolls.{depth_of-out, is_sound_value-out}
 
 abbrev as_ok : Cmd → Checked Cmd
 as_ok c = Ok c
@@ -154,9 +154,9 @@ short text state e = elim (chosen (nat_le (characters text) 255) (Ok text) (Err 
 
 -- ---- commands
 
-put_named : (j : Journal) (name : Text) (c : Cmd) → (IsTrue (has_automation j name) → IsFair j c) → IsFair j (cond (has_automation j name) c (cmd.Refused 9))
-put_named j name c fair =
-    (elim (has_automation j name) as (λ b. has_automation j name ≡ b → IsFair j (cond b c (cmd.Refused 9))) [
+put_named : (has : Text → Bool) (name : Text) (c : Cmd) → (IsTrue (has name) → IsFairAmong has c) → IsFairAmong has (cond (has name) c (cmd.Refused 9))
+put_named has name c fair =
+    (elim (has name) as (λ b. has name ≡ b → IsFairAmong has (cond b c (cmd.Refused 9))) [
       | true ↦ λ e. fair e
       | false ↦ λ e. (omega arith, omega arith)
     ]) refl

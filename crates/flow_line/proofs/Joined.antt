@@ -5,9 +5,9 @@ use Rattle.ha_value.specs.declared.value.Value
 use Rattle.ha_value.specs.declared.value.Value.{Value}
 use Rattle.ha_value.specs.declared.value.Value.TheVariants.{rolls-Pairs}
 use Rattle.ha_value.specs.declared.value.Value.TheOpen.{Value-F}
-use Rattle.ha_model.proofs.Rolls.{print_value-roll}
-use Rattle.ha_model.specs.Words.{Text, Pairs}
-use Rattle.ha_model.specs.ValueText.{comma_joined, pair_text, print_pairs, print_value, quoted}
+use Rattle.ha_config.proofs.ValueRolls.{print_value-roll}
+use Rattle.ha_config.specs.Words.{Text, Pairs}
+use Rattle.ha_config.specs.ValueText.{comma_joined, pair_text, print_pairs, print_value, quoted}
 use Rattle.flow_line.specs.Print.{comma_at}
 
 joined_more : (xs : List Text) (x : Text) → comma_joined (xs ++ x ∷ []) ≡ comma_joined xs ++ (comma_at (length xs) ++ x)

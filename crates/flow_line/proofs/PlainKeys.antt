@@ -4,7 +4,7 @@ use Rattle.std.specs.Prelude.{filter, ◌&&◌, ◌||◌}
 use Rattle.std.specs.List.{list_all}
 use Rattle.std.proofs.lemmas.Slice.Eq.{bytes_eq-Decides}
 use Rattle.ha_value.specs.declared.value.Value.{Value}
-use Rattle.ha_model.specs.Words.{Text, Pairs, has_name, same}
+use Rattle.ha_config.specs.Words.{Text, Pairs, has_name, same}
 use Rattle.flow_line.specs.declared.keys.Command.{Command}
 use Rattle.flow_line.specs.declared.keys.Command.TheVariants.{Report, Gone, Event, Moment, Switch, Trigger, Restart}
 use Rattle.flow_line.specs.Command.{all_commands, has_keys, has_needed, key_of, named, takes}

@@ -9,7 +9,7 @@ use Rattle.std.proofs.lemmas.List.Sums.{fails_before_first}
 use Rattle.std.proofs.lemmas.List.{length-drop}
 use Rattle.std.proofs.Math.Seq.{take-length}
 use Rattle.std.proofs.lemmas.Str.{IsUtf8-take, IsUtf8-drop, IsCharBoundary-before_ascii, IsCharBoundary-after_ascii}
-use Rattle.ha_model.specs.ValueText.{escaped_byte}
+use Rattle.ha_config.specs.ValueText.{escaped_byte}
 use Rattle.flow_line.specs.Bytes.{stands_as_is}
 
 -- the slice from a place on

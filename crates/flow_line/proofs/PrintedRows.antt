@@ -2,8 +2,8 @@
 use Rattle.std.proofs.Common.{◌≡◌, ℕ, Bool, false, cond, List, [], ◌∷◌, ◌++◌, map, Some, None, refl, sym, ap, subst, ◌∙◌, append_assoc}
 use Rattle.reading.specs.Bytes.{skip, is_blank}
 use Rattle.reading.specs.Spelling.{IsRow, last, more, IsClosed, empty, items}
-use Rattle.ha_model.specs.Words.{Text}
-use Rattle.ha_model.specs.ValueText.{comma_joined}
+use Rattle.ha_config.specs.Words.{Text}
+use Rattle.ha_config.specs.ValueText.{comma_joined}
 use Rattle.flow_line.proofs.PrintedText.{Stops}
 
 -- what begins with no blank has none in front

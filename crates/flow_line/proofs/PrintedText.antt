@@ -13,7 +13,7 @@ use Rattle.ha_value.specs.declared.value.Num.{Num}
 use Rattle.ha_value.specs.Lists.{after_first}
 use Rattle.ha_value.specs.Numbers.{is_in_range, kept_in_range, number_of_text, print_number, read_number}
 use Rattle.ha_value.proofs.PrintLemmas.{print_is_read}
-use Rattle.ha_model.specs.ValueText.{escaped_byte}
+use Rattle.ha_config.specs.ValueText.{escaped_byte}
 use Rattle.reading.specs.Answer.{front}
 use Rattle.flow_line.specs.Bytes.{hex_value}
 use Rattle.flow_line.specs.Grammar.{IsUnit, unit, IsCharacter, itself, short, whole, stands_as_is, IsCharacters, close, more, IsString, string, IsNumber, number, extends}

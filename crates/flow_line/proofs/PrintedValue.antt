@@ -16,10 +16,10 @@ use Rattle.ha_value.specs.declared.value.Value.TheViews.{roll-Value}
 use Rattle.ha_value.specs.declared.value.Value.TheFolds.{ind-Value, map-Value}
 use Rattle.ha_value.specs.Numbers.{is_in_range, print_number}
 use Rattle.std.proofs.lemmas.List.{append-nil}
-use Rattle.ha_model.specs.Words.{Text, Pairs, same}
-use Rattle.ha_model.specs.ValueText.{comma_joined, deepest, depth_of, depth_step, escaped_byte, pair_text, print_step, print_value, quoted}
-use Rattle.ha_model.specs.Commands.{all_distinct, keys_of, is_sound_value, sound_step, utf8_step, has_utf8_texts}
-use Rattle.ha_model.proofs.Rolls.{depth_of-roll, is_sound_value-roll, print_value-roll}
+use Rattle.ha_config.specs.Words.{Text, Pairs, same}
+use Rattle.ha_config.specs.ValueText.{comma_joined, deepest, depth_of, depth_step, escaped_byte, pair_text, print_step, print_value, quoted}
+use Rattle.ha_config.specs.ValueFacts.{all_distinct, keys_of, is_sound_value, sound_step, utf8_step, has_utf8_texts}
+use Rattle.ha_config.proofs.ValueRolls.{depth_of-roll, is_sound_value-roll, print_value-roll}
 use Rattle.reading.specs.Bytes.{skip, is_blank}
 use Rattle.reading.specs.Spelling.{IsClosed}
 use Rattle.std.specs.Prelude.{◌==◌}

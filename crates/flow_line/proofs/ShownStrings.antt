@@ -4,7 +4,7 @@ use Rattle.std.specs.Prelude.{flat_map}
 use Rattle.std.specs.List.{position}
 use Rattle.std.proofs.lemmas.Bool.{eqb-true}
 use Rattle.reading.specs.Bytes.{sees}
-use Rattle.ha_model.specs.ValueText.{escaped_byte}
+use Rattle.ha_config.specs.ValueText.{escaped_byte}
 use Rattle.flow_line.specs.Text.{IsRun}
 use Rattle.flow_line.specs.Grammar.{IsString}
 use Rattle.flow_line.proofs.PlainRuns.{all_stay, found, is_escaped, parts}

@@ -14,10 +14,10 @@ use Rattle.ha_value.specs.declared.value.Value.TheViews.{roll-Value, out-Value}
 use Rattle.ha_value.specs.declared.value.Value.TheFolds.{map-Value, fold-roll-Value, fold_out-Value}
 use Rattle.ha_value.specs.declared.value.Value.TheOpen.{Value-F}
 use Rattle.ha_value.specs.Numbers.{is_in_range}
-use Rattle.ha_model.specs.Words.{Text, Pairs, same}
-use Rattle.ha_model.specs.ValueText.{deepest, depth_of, depth_step, pairs_depth}
-use Rattle.ha_model.specs.Commands.{all_distinct, keys_of, is_sound_value, sound_step, are_sound_pairs, utf8_step, has_utf8_texts, have_utf8_texts}
-use Rattle.ha_model.proofs.Rolls.{depth_of-roll, is_sound_value-roll}
+use Rattle.ha_config.specs.Words.{Text, Pairs, same}
+use Rattle.ha_config.specs.ValueText.{deepest, depth_of, depth_step, pairs_depth}
+use Rattle.ha_config.specs.ValueFacts.{all_distinct, keys_of, is_sound_value, sound_step, are_sound_pairs, utf8_step, has_utf8_texts, have_utf8_texts}
+use Rattle.ha_config.proofs.ValueRolls.{depth_of-roll, is_sound_value-roll}
 use Rattle.flow_line.specs.Reading.{has_key}
 use Rattle.flow_line.specs.Command.{IsLineMap}
 use Rattle.flow_line.proofs.Characters.{is_scalar}

@@ -6,7 +6,7 @@ use Rattle.std.proofs.lemmas.Bool.{ltb-false}
 use Rattle.std.proofs.lemmas.Option.{slice_get_past}
 use Rattle.std.proofs.lemmas.Slice.Eq.{bytes_eq-Decides}
 use Rattle.ha_value.specs.declared.value.Value.{Value}
-use Rattle.ha_model.specs.Words.{Text, Pairs, same, first_pair}
+use Rattle.ha_config.specs.Words.{Text, Pairs, same, first_pair}
 
 abbrev place : Text → Pairs → ℕ
 place key ps = position_or_len (λ (p : Text × Value). same p.0 key) ps

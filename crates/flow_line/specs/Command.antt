@@ -10,13 +10,13 @@ use Rattle.ha_value.specs.declared.value.Value.TheOpen.{Value-F}
 use Rattle.ha_value.specs.declared.value.Value.TheViews.{out-Value}
 use Rattle.ha_value.specs.Ids.{read_entity}
 use Rattle.ha_clock.specs.MomentText.{moment_of}
-use Rattle.ha_model.specs.declared.journal.Cmd.{Cmd}
-use Rattle.ha_model.specs.declared.journal.Cmd.TheVariants as cmd
+use Rattle.ha_config.specs.declared.command.Cmd.{Cmd}
+use Rattle.ha_config.specs.declared.command.Cmd.TheVariants as cmd
 use Rattle.ha_clock.specs.Local.{last_moment}
-use Rattle.ha_model.specs.Journal.{Journal}
-use Rattle.ha_model.specs.ValueText.{pairs_depth}
-use Rattle.ha_model.specs.Commands.{are_sound_pairs, have_utf8_texts, put_as, IsFair}
-use Rattle.ha_model.specs.Words.{Text, Pairs, same, first_pair, has_name, characters}
+use Rattle.ha_config.specs.ValueText.{pairs_depth}
+use Rattle.ha_config.specs.ValueFacts.{are_sound_pairs, have_utf8_texts}
+use Rattle.ha_config.specs.Fair.{IsFairAmong, put_among}
+use Rattle.ha_config.specs.Words.{Text, Pairs, same, first_pair, has_name, characters}
 use Rattle.reading.specs.declared.fault.Bad.{Bad}
 use Rattle.reading.specs.declared.fault.Stop.{Stop}
 use Rattle.reading.specs.declared.fault.Stop.TheVariants as stops
@@ -295,4 +295,4 @@ IsInTime _ = Unit {0}
 
 -- whatever stands in the journal, what is put for the command is fair
 abbrev pub IsFairOncePut : Cmd → Type 0
-IsFairOncePut c = (j : Journal) → IsFair j (put_as j c)
+IsFairOncePut c = (has : Text → Bool) → IsFairAmong has (put_among has c)

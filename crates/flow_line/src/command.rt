@@ -1,10 +1,10 @@
 //! The command of a line.
 
 ghost use Rattle.std.specs.Prelude.{◌≡◌, length, option_copied, IfOk};
+ghost use Rattle.std.specs.Prelude.{Bool};
 ghost use Rattle.ha_value.specs.Ids.{read_entity};
-ghost use Rattle.ha_model.specs.Commands.{put_as, IsFair};
-ghost use Rattle.ha_model.specs.Journal.{Journal};
-ghost use Rattle.ha_model.specs.Words.{characters};
+ghost use Rattle.ha_config.specs.Fair.{IsFairAmong, put_among};
+ghost use Rattle.ha_config.specs.Words.{Text, characters};
 ghost use Rattle.flow_line.specs.Fields.{SaysLent};
 ghost use Rattle.flow_line.specs.Command.{automation, cmd_by, cmd_of, cmd_of_pairs, event_of, gone_of, is_automation, moment_of_pairs, pairs_of, report_of, reportable, restart_of, state_of, switch_of, trigger_of, turned, command_of, IsFairOncePut, IsInTime, IsLineMap, Says};
 
@@ -14,7 +14,7 @@ use crate::keys::{Command, has_keys, only_command, plain_command};
 use crate::read::read_value;
 use crate::refusal::Refusal;
 use ha_clock::read_moment;
-use ha_model::{Cmd, characters};
+use ha_config::{Cmd, characters};
 use ha_value::{EntityFault, EntityId, Value, Word};
 use reading::{Stop, is_utf8};
 use std::alloc::{AllocError, Global};
@@ -229,7 +229,7 @@ pub fn read_cmd(alloc: Global, line: &[u8]) -> Result<Cmd, AllocError>
     // Which command or refusal it is.
     ensures exact { IfOk result (λ made. made ≡ cmd_of line.now) }
     // It is fair, but for the automation that it may name, which decides what is put.
-    ensures fair { IfOk result (λ made. (j : Journal) → IsFair j (put_as j made)) }
+    ensures fair { IfOk result (λ made. (has : Text → Bool) → IsFairAmong has (put_among has made)) }
 {
     match command_of(alloc, line) {
         Ok(made) => Ok(made),

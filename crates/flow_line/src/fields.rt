@@ -2,7 +2,7 @@
 
 ghost use Rattle.std.specs.Prelude.{◌≡◌, ◌<◌, false, is_ok, length, option_copied, position, true, IfSome, Ok};
 ghost use Rattle.ha_value.specs.declared.value.Value.TheViews.{out-Value};
-ghost use Rattle.ha_model.specs.Words.{first_pair, has_name, same, Text};
+ghost use Rattle.ha_config.specs.Words.{first_pair, has_name, same, Text};
 ghost use Rattle.flow_line.specs.Command.{flag_of, map_in, map_of, text_in, text_of, Says};
 ghost use Rattle.flow_line.specs.Fields.{IsThere, SaysLent};
 

@@ -3,7 +3,7 @@
 ghost use Rattle.std.specs.Prelude.{◌≡◌, ◌∷◌, [], true, filter, IfSome};
 ghost use Rattle.std.specs.Option.{option_copied};
 ghost use Rattle.std.specs.List.{list_all};
-ghost use Rattle.ha_model.specs.Words.{same};
+ghost use Rattle.ha_config.specs.Words.{same};
 ghost use Rattle.flow_line.specs.Command.{further, has_keys, has_needed, is_key, key_of, named, needed, only, takes, Says};
 
 use crate::fields::{Refused, has_key};

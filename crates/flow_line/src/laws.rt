@@ -1,8 +1,8 @@
 //! Laws of the definitions. Each is the contract of a function that does nothing.
 
 ghost use Rattle.std.specs.Prelude.{◌≡◌, ◌≤◌, ℕ, [], IsTrue, Ok};
-ghost use Rattle.ha_model.specs.Commands.{has_utf8_texts, is_sound_value};
-ghost use Rattle.ha_model.specs.ValueText.{depth_of, print_value};
+ghost use Rattle.ha_config.specs.ValueFacts.{has_utf8_texts, is_sound_value};
+ghost use Rattle.ha_config.specs.ValueText.{depth_of, print_value};
 ghost use Rattle.flow_line.specs.Grammar.{IsDocument};
 ghost use Rattle.flow_line.specs.Reading.{document};
 ghost use Rattle.flow_line.specs.Refused.{IsFirstFault};

@@ -3,7 +3,7 @@
 ghost use Rattle.std.specs.Prelude.{◌≡◌, ◌+◌, ◌++◌, ◌<◌, drop, length, flat_map, not, IfOk, IfSome, OnOk};
 ghost use Rattle.std.specs.Char.{digit_char};
 ghost use Rattle.std.specs.List.{position};
-ghost use Rattle.ha_model.specs.ValueText.{escaped_byte, print_pairs, print_value, quoted};
+ghost use Rattle.ha_config.specs.ValueText.{escaped_byte, print_pairs, print_value, quoted};
 ghost use Rattle.flow_line.specs.Bytes.{stands_as_is};
 ghost use Rattle.flow_line.specs.Print.{comma_at, print_items};
 

@@ -13,10 +13,10 @@ use Rattle.ha_value.specs.Ids.{entity_from, entity_text, is_entity, is_name, rea
 use Rattle.ha_value.specs.Lists.{after_first, before_first}
 use Rattle.ha_clock.specs.MomentText.{moment_of}
 use Rattle.ha_clock.specs.Print.{moment_text}
-use Rattle.ha_model.specs.declared.journal.Cmd.{Cmd}
-use Rattle.ha_model.specs.Words.{Text, Pairs, same, characters}
-use Rattle.ha_model.specs.Commands.{IsReportable}
-use Rattle.ha_model.specs.CommandText.{line_code}
+use Rattle.ha_config.specs.declared.command.Cmd.{Cmd}
+use Rattle.ha_config.specs.Words.{Text, Pairs, same, characters}
+use Rattle.ha_config.specs.Fair.{IsReportable}
+use Rattle.ha_config.specs.CommandText.{line_code}
 use Rattle.flow_line.specs.Command.{IsInTime, IsLineMap}
 use Rattle.flow_printed.specs.declared.kind.Kind.{Kind}
 use Rattle.flow_printed.specs.declared.kind.Kind.TheVariants.{Report, Gone, Event, Moment, Switch, Trigger, Restart, Refused, Lost, TooLong}

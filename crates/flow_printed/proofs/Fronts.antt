@@ -7,7 +7,7 @@ use Rattle.ha_value.specs.declared.value.Value.{Value}
 use Rattle.ha_value.specs.declared.value.Value.TheOpen.{Value-F}
 use Rattle.ha_value.specs.declared.value.Value.TheViews.{out-Value, roll-Value, roll-out-Value}
 use Rattle.ha_value.specs.declared.value.Value.TheVariants.{outs-Flag, outs-Pairs, outs-Text, rolls-Flag, rolls-Pairs, rolls-Text}
-use Rattle.ha_model.specs.Words.{Text, Pairs, same}
+use Rattle.ha_config.specs.Words.{Text, Pairs, same}
 use Rattle.flow_printed.specs.Map.{◌>>=◌, ended, flag_at, flag_in, front_value, map_at, map_in, text_at, text_in}
 
 -- ---- steps that may give nothing

@@ -12,7 +12,7 @@ use Rattle.std.proofs.lemmas.Str.Parse.{numerals_by_value, tells_all_ascii_digit
 use Rattle.std.proofs.Math.Seq.{drop-append_seam, take-append_seam}
 use Rattle.reading.proofs.Basics.{chosen}
 use Rattle.ha_value.specs.Lists.{after_first, before_first}
-use Rattle.ha_model.specs.Words.{Text, same}
+use Rattle.ha_config.specs.Words.{Text, same}
 use Rattle.flow_printed.specs.Map.{◌>>=◌}
 use Rattle.flow_printed.specs.Line.{before, behind, cut_at_comma, cut_line, shown_line}
 use Rattle.flow_printed.proofs.Fronts.{binds, bound, some_is}

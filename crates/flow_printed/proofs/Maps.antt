@@ -8,10 +8,10 @@ use Rattle.ha_value.specs.declared.value.Value
 use Rattle.ha_value.specs.declared.value.Value.{Value}
 use Rattle.ha_value.specs.declared.value.Value.TheOpen.{Value-F}
 use Rattle.ha_value.specs.declared.value.Value.TheVariants.{rolls-Flag, rolls-Pairs, rolls-Text}
-use Rattle.ha_model.specs.Words.{Text, Pairs, same}
-use Rattle.ha_model.specs.ValueText.{depth_of, pairs_depth}
-use Rattle.ha_model.specs.Commands.{all_distinct, keys_of, is_sound_value, are_sound_pairs, has_utf8_texts, have_utf8_texts, AreFairPairs}
-use Rattle.ha_model.proofs.Rolls.{depth_of-roll, is_sound_value-roll}
+use Rattle.ha_config.specs.Words.{Text, Pairs, same}
+use Rattle.ha_config.specs.ValueText.{depth_of, pairs_depth}
+use Rattle.ha_config.specs.ValueFacts.{all_distinct, keys_of, is_sound_value, are_sound_pairs, has_utf8_texts, have_utf8_texts, AreFairPairs}
+use Rattle.ha_config.proofs.ValueRolls.{depth_of-roll, is_sound_value-roll}
 use Rattle.flow_line.specs.Command.{IsLineMap}
 use Rattle.flow_line.proofs.Sound.{deep_layer, sound_layer, utf8_layer, utf8-roll}
 

@@ -8,10 +8,10 @@ use Rattle.std.proofs.lemmas.Bool.Decides.{nat_tests}
 use Rattle.std.proofs.lemmas.List.{take-append-drop}
 use Rattle.ha_value.specs.declared.value.EntityId.{EntityId}
 use Rattle.ha_value.specs.Ids.{entity_text, read_entity}
-use Rattle.ha_model.specs.declared.journal.Cmd.{Cmd}
-use Rattle.ha_model.specs.Words.{Text}
-use Rattle.ha_model.specs.CommandText.{cmd_text}
-use Rattle.ha_model.specs.ValueText.{escaped_byte}
+use Rattle.ha_config.specs.declared.command.Cmd.{Cmd}
+use Rattle.ha_config.specs.Words.{Text}
+use Rattle.ha_config.specs.CommandText.{cmd_text}
+use Rattle.ha_config.specs.ValueText.{escaped_byte}
 use Rattle.flow_line.specs.Bytes.{stands_as_is}
 use Rattle.flow_printed.specs.Line.{before, behind}
 use Rattle.flow_printed.specs.Map.{◌>>=◌, reportable, short_state}

@@ -2,9 +2,9 @@
 use Rattle.std.proofs.Common.{◌≡◌, ℕ, ◌<◌, ◌^◌, length, Some, None, refl, sym, ap, ◌∙◌, arith}
 use Rattle.std.specs.Prelude.{decimal}
 use Rattle.std.proofs.lemmas.Fmt.{decimal_injective}
-use Rattle.ha_model.specs.declared.journal.Cmd.{Cmd}
-use Rattle.ha_model.specs.Words.{Text}
-use Rattle.ha_model.specs.CommandText.{cmd_text}
+use Rattle.ha_config.specs.declared.command.Cmd.{Cmd}
+use Rattle.ha_config.specs.Words.{Text}
+use Rattle.ha_config.specs.CommandText.{cmd_text}
 use Rattle.flow_printed.specs.declared.line.PrintedLine.{PrintedLine}
 use Rattle.flow_printed.specs.Line.{cut_line, shown_line}
 use Rattle.flow_printed.specs.Printed.{IsPrintOf, IsPrintOfLine, IsSized}

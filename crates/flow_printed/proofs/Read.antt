@@ -19,10 +19,11 @@ use Rattle.ha_clock.specs.Local.{last_moment}
 use Rattle.ha_clock.specs.MomentText.{moment_of}
 use Rattle.ha_clock.specs.Print.{moment_text}
 use Rattle.ha_clock.proofs.RoundTrip.{moment_read}
-use Rattle.ha_model.specs.declared.journal.Cmd.{Cmd}
-use Rattle.ha_model.specs.Words.{Text, Pairs, same, characters}
-use Rattle.ha_model.specs.Commands.{AreFairPairs, IsReportable}
-use Rattle.ha_model.specs.CommandText.{line_code}
+use Rattle.ha_config.specs.declared.command.Cmd.{Cmd}
+use Rattle.ha_config.specs.Words.{Text, Pairs, same, characters}
+use Rattle.ha_config.specs.ValueFacts.{AreFairPairs}
+use Rattle.ha_config.specs.Fair.{IsReportable}
+use Rattle.ha_config.specs.CommandText.{line_code}
 use Rattle.flow_line.specs.Command.{IsLineMap}
 use Rattle.flow_printed.specs.Map.{alone, automation, cmd_of_map, code_in, event_of, flag_at, gone_of, is_automation, map_at, moment_of_map, printed_moment, refused_of, report_of, reportable, short_state, switch_of, text_at, trigger_of, turned}
 use Rattle.flow_printed.specs.Printed.{IsFairButForName}

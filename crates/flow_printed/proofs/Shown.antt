@@ -9,11 +9,11 @@ use Rattle.ha_value.specs.declared.value.Value.TheOpen.{Value-F}
 use Rattle.ha_value.specs.declared.value.Value.TheVariants.{rolls-Flag, rolls-Text}
 use Rattle.ha_value.specs.Ids.{entity_text}
 use Rattle.ha_clock.specs.Print.{civil_text, day_on, digit, moment_text, months_on, year_on}
-use Rattle.ha_model.specs.declared.journal.Cmd.{Cmd}
-use Rattle.ha_model.specs.Words.{Text, Pairs}
-use Rattle.ha_model.specs.ValueText.{flag_text, map_text, print_pairs, print_value, quoted}
-use Rattle.ha_model.specs.CommandText.{cmd_text, line_code}
-use Rattle.ha_model.proofs.Rolls.{print_value-roll}
+use Rattle.ha_config.specs.declared.command.Cmd.{Cmd}
+use Rattle.ha_config.specs.Words.{Text, Pairs}
+use Rattle.ha_config.specs.ValueText.{flag_text, map_text, print_pairs, print_value, quoted}
+use Rattle.ha_config.specs.CommandText.{cmd_text, line_code}
+use Rattle.ha_config.proofs.ValueRolls.{print_value-roll}
 use Rattle.flow_line.proofs.Joined.{of_pairs}
 
 abbrev pub turned_word : Bool → Text

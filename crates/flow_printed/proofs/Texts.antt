@@ -5,9 +5,9 @@ use Rattle.reading.proofs.Basics.{chosen}
 use Rattle.ha_value.specs.declared.value.Value
 use Rattle.ha_value.specs.declared.value.Value.{Value}
 use Rattle.ha_value.specs.declared.value.Value.TheVariants.{outs-Pairs}
-use Rattle.ha_model.specs.declared.journal.Cmd.{Cmd}
-use Rattle.ha_model.specs.Words.{Text, Pairs, same}
-use Rattle.ha_model.specs.ValueText.{print_pairs}
+use Rattle.ha_config.specs.declared.command.Cmd.{Cmd}
+use Rattle.ha_config.specs.Words.{Text, Pairs, same}
+use Rattle.ha_config.specs.ValueText.{print_pairs}
 use Rattle.flow_line.specs.Command.{IsInTime, IsLineMap}
 use Rattle.flow_line.specs.Reading.{document}
 use Rattle.flow_line.specs.Grammar.{IsDocument}

@@ -1,8 +1,8 @@
 -- A line of a trace, cut into the texts of its source, its number and its command.
 use Rattle.std.specs.Prelude.{◌-◌, ◌∷◌, [], length, take, drop, codes, Option, Some, None, if◌then◌else◌}
 use Rattle.ha_value.specs.Lists.{before_first, after_first}
-use Rattle.ha_model.specs.ValueText.{map_text}
-use Rattle.ha_model.specs.Words.{Text, same}
+use Rattle.ha_config.specs.ValueText.{map_text}
+use Rattle.ha_config.specs.Words.{Text, same}
 use Rattle.flow_printed.specs.Map.{◌>>=◌}
 
 -- a line whose values have these texts

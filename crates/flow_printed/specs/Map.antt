@@ -7,10 +7,10 @@ use Rattle.ha_value.specs.declared.value.Value.TheViews.{out-Value}
 use Rattle.ha_value.specs.Ids.{read_entity}
 use Rattle.ha_clock.specs.MomentText.{moment_of}
 use Rattle.ha_clock.specs.Print.{moment_text}
-use Rattle.ha_model.specs.declared.journal.Cmd.{Cmd}
-use Rattle.ha_model.specs.declared.journal.Cmd.TheVariants as cmd
-use Rattle.ha_model.specs.ValueText.{print_pairs}
-use Rattle.ha_model.specs.Words.{Text, Pairs, same, characters}
+use Rattle.ha_config.specs.declared.command.Cmd.{Cmd}
+use Rattle.ha_config.specs.declared.command.Cmd.TheVariants as cmd
+use Rattle.ha_config.specs.ValueText.{print_pairs}
+use Rattle.ha_config.specs.Words.{Text, Pairs, same, characters}
 use Rattle.reading.specs.declared.fault.Bad.{Bad}
 use Rattle.reading.specs.declared.fault.Stop.{Stop}
 use Rattle.reading.specs.declared.fault.Stop.TheVariants as stops

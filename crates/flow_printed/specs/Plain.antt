@@ -1,9 +1,9 @@
 -- The print of a report without attributes, whose texts are printed as they are.
 use Rattle.std.specs.Prelude.{◌++◌, [], codes, Option, Some}
 use Rattle.ha_value.specs.Ids.{read_entity}
-use Rattle.ha_model.specs.declared.journal.Cmd.{Cmd}
-use Rattle.ha_model.specs.declared.journal.Cmd.TheVariants as cmd
-use Rattle.ha_model.specs.Words.{Text}
+use Rattle.ha_config.specs.declared.command.Cmd.{Cmd}
+use Rattle.ha_config.specs.declared.command.Cmd.TheVariants as cmd
+use Rattle.ha_config.specs.Words.{Text}
 use Rattle.flow_printed.specs.Map.{◌>>=◌, reportable, short_state}
 
 -- with the texts of its id and its state

@@ -1,10 +1,11 @@
 -- Commands, and lines of a trace, by what is printed of them.
-use Rattle.std.specs.Prelude.{◌≡◌, ◌<◌, ◌^◌, ℕ, IsTrue, [], decimal}
+use Rattle.std.specs.Prelude.{◌≡◌, ◌<◌, ◌^◌, ℕ, IsTrue, decimal}
+use Rattle.std.specs.Prelude.{false}
 use Rattle.ha_value.specs.Ids.{is_name}
-use Rattle.ha_model.specs.declared.journal.Cmd.{Cmd}
-use Rattle.ha_model.specs.Commands.{IsFair}
-use Rattle.ha_model.specs.CommandText.{cmd_text}
-use Rattle.ha_model.specs.Words.{Text}
+use Rattle.ha_config.specs.declared.command.Cmd.{Cmd}
+use Rattle.ha_config.specs.Fair.{IsFairAmong}
+use Rattle.ha_config.specs.CommandText.{cmd_text}
+use Rattle.ha_config.specs.Words.{Text}
 use Rattle.flow_printed.specs.Line.{shown_line}
 use Rattle.flow_printed.specs.declared.line.PrintedLine.{PrintedLine}
 
@@ -12,7 +13,7 @@ use Rattle.flow_printed.specs.declared.line.PrintedLine.{PrintedLine}
 abbrev pub IsFairButForName : Cmd → Type 0
 IsFairButForName (Cmd.Switch name on stop) = IsTrue (is_name name)
 IsFairButForName (Cmd.Trigger name skip) = IsTrue (is_name name)
-IsFairButForName c = IsFair [] c
+IsFairButForName c = IsFairAmong (λ name. false) c
 
 -- the text is the print of that command
 pub record IsPrintOf (text : Text) (c : Cmd) : Type 0 where

@@ -9,7 +9,7 @@ use crate::kind::{Kind, first_kind};
 use crate::parts::{
     automation, code_of, entity_of, printed_moment, reportable, short_state, turned,
 };
-use ha_model::Cmd;
+use ha_config::Cmd;
 use reading::Stop;
 use std::alloc::Global;
 

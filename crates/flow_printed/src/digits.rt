@@ -1,7 +1,7 @@
 //! Numbers in decimal.
 
 ghost use Rattle.std.specs.Prelude.{◌≡◌, ◌<◌, ◌^◌, ℕ, decimal, Some, IfSome};
-ghost use Rattle.ha_model.specs.Words.{same};
+ghost use Rattle.ha_config.specs.Words.{same};
 
 use itoa::Buffer;
 

@@ -1,9 +1,10 @@
 //! Laws of the definitions. Each is the contract of a function that does nothing.
 
 ghost use Rattle.std.specs.Prelude.{◌≡◌};
-ghost use Rattle.ha_model.specs.Commands.{put_as, IsFair};
-ghost use Rattle.ha_model.specs.Journal.{Journal};
-ghost use Rattle.ha_model.specs.declared.journal.Cmd.{Cmd};
+ghost use Rattle.std.specs.Prelude.{Bool};
+ghost use Rattle.ha_config.specs.Fair.{IsFairAmong, put_among};
+ghost use Rattle.ha_config.specs.Words.{Text};
+ghost use Rattle.ha_config.specs.declared.command.Cmd.{Cmd};
 ghost use Rattle.flow_printed.specs.Printed.{IsFairButForName, IsPrintOf, IsPrintOfLine, IsSized};
 ghost use Rattle.flow_printed.specs.declared.line.PrintedLine.{PrintedLine};
 
@@ -19,10 +20,10 @@ pub fn one_line(text: &[u8])
 
 /// A command that is fair somewhere is fair but for whether its automation is there.
 pub fn fair_anywhere()
-    ensures { (j : Journal) (c : Cmd) → IsFair j c → IsFairButForName c }
+    ensures { (has : Text → Bool) (c : Cmd) → IsFairAmong has c → IsFairButForName c }
 {}
 
 /// What is put for a command that is fair but for its automation is fair.
 pub fn fair_once_put()
-    ensures { (j : Journal) (c : Cmd) → IsFairButForName c → IsFair j (put_as j c) }
+    ensures { (has : Text → Bool) (c : Cmd) → IsFairButForName c → IsFairAmong has (put_among has c) }
 {}

@@ -7,7 +7,7 @@ ghost use Rattle.flow_printed.specs.declared.line.PrintedLine.{PrintedLine};
 use crate::cut::cut_line;
 use crate::digits::{read_u32, read_u64};
 use crate::printed::read_printed;
-use ha_model::Cmd;
+use ha_config::Cmd;
 use ha_value::Word;
 use std::alloc::{AllocError, Global};
 

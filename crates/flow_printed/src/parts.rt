@@ -3,13 +3,13 @@
 ghost use Rattle.std.specs.Prelude.{◌≡◌, ◌≤◌, IfOk};
 ghost use Rattle.ha_clock.specs.Local.{last_moment};
 ghost use Rattle.ha_clock.specs.Print.{moment_text};
-ghost use Rattle.ha_model.specs.Words.{same};
+ghost use Rattle.ha_config.specs.Words.{same};
 ghost use Rattle.ha_value.specs.Ids.{read_entity};
 ghost use Rattle.flow_printed.specs.Map.{automation, code_in, is_automation, printed_moment, reportable, short_state, turned, Says};
 
 use crate::fields::{NoCommand, Unread};
 use ha_clock::{Moment, print_moment, read_moment};
-use ha_model::characters;
+use ha_config::characters;
 use ha_value::{EntityFault, EntityId, Word};
 use reading::Stop;
 use std::alloc::{AllocError, Global};

@@ -10,7 +10,7 @@ ghost use Rattle.flow_printed.specs.Printed.{IsPrintOf};
 use crate::cut::{before, behind};
 use crate::fields::{NoCommand, Unread};
 use crate::parts::{id_of, reportable, short_state};
-use ha_model::Cmd;
+use ha_config::Cmd;
 use ha_value::{Many, Word, WordFault};
 use reading::Stop;
 use std::alloc::{AllocError, Global};

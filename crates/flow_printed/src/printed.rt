@@ -2,9 +2,9 @@
 
 ghost use Rattle.std.specs.Prelude.{◌≡◌, ◌<◌, ◌^◌, length, Some, IfOk, IfSome};
 ghost use Rattle.flow_line.specs.Command.{IsInTime};
-ghost use Rattle.ha_model.specs.ValueText.{print_pairs};
-ghost use Rattle.ha_model.specs.Words.{same};
-ghost use Rattle.ha_model.specs.declared.journal.Cmd.{Cmd};
+ghost use Rattle.ha_config.specs.ValueText.{print_pairs};
+ghost use Rattle.ha_config.specs.Words.{same};
+ghost use Rattle.ha_config.specs.declared.command.Cmd.{Cmd};
 ghost use Rattle.flow_line.specs.Reading.{document};
 ghost use Rattle.flow_printed.specs.Map.{map_read, printed_cmd, printed_map, Says};
 ghost use Rattle.flow_printed.specs.Printed.{IsPrintOf};
@@ -13,7 +13,7 @@ use crate::command::command_of;
 use crate::fields::{NoCommand, Pairs, Unread};
 use crate::plain::read_plain;
 use flow_line::{FlowFault, push_pairs, read_value};
-use ha_model::Cmd;
+use ha_config::Cmd;
 use ha_value::{Value, Word};
 use reading::Stop;
 use std::alloc::{AllocError, Global};

@@ -2,11 +2,12 @@
 ghost use Rattle.std.specs.Prelude.{◌≡◌, ◌≤◌, ◌∷◌, [], false, IfOk, IsSome};
 ghost use Rattle.ha_clock.specs.Local.{last_moment};
 ghost use Rattle.ha_clock.specs.Zone.{zone_of};
-ghost use Rattle.ha_model.specs.declared.journal.Entry.TheVariants.{Boot};
-ghost use Rattle.ha_model.specs.Sound.{IsSoundConfig};
+ghost use Rattle.ha_journal.specs.declared.entry.Entry.TheVariants.{Boot};
+ghost use Rattle.ha_config.specs.Sound.{IsSoundConfig};
 
 use ha_clock::Moment;
-use ha_model::{Config, Core};
+use ha_config::Config;
+use ha_model::Core;
 use ha_value::{Many, Word};
 use std::alloc::{AllocError, Global};
 

@@ -1,8 +1,8 @@
 -- What `check` answers for.
 use Rattle.std.specs.Prelude.{◌≡◌, ◌⊎◌, Option, Some, None, Result, IsOk, IsErrAnd}
 use Rattle.yaml_scan.specs.declared.fault.Fault.{Fault}
-use Rattle.ha_model.specs.declared.config.Config.{Config}
-use Rattle.ha_model.specs.Texts.{check_text}
+use Rattle.ha_config.specs.declared.config.Config.{Config}
+use Rattle.ha_config.specs.CheckText.{check_text}
 use Rattle.conf_auto.specs.Config.{config_of}
 use Rattle.ha_status.specs.declared.status.Status.{Status}
 use Rattle.ha_status.specs.StatusLine.{Text}

@@ -4,7 +4,7 @@ use Rattle.yaml_scan.specs.declared.fault.Fault.{Fault}
 use Rattle.yaml_scan.specs.declared.fault.YamlFault.{YamlFault}
 use Rattle.yaml_scan.specs.declared.fault.YamlFault.TheVariants.{Bad, Memory}
 use Rattle.yaml_scan.specs.Codes.{number_of}
-use Rattle.ha_model.specs.declared.config.Config.{Config}
+use Rattle.ha_config.specs.declared.config.Config.{Config}
 use Rattle.conf_auto.specs.Config.{config_of}
 use Rattle.ha_status.specs.declared.status.Status.{Status}
 use Rattle.ha_status.specs.StatusLine.{Text}

@@ -1,7 +1,7 @@
 -- The two parts of an automation's line, as they are written one after the other.
 use Rattle.std.specs.Prelude.{◌∷◌, [], ◌++◌, codes, decimal, length}
-use Rattle.ha_model.specs.declared.config.Automation.{Automation}
-use Rattle.ha_model.specs.Texts.{mode_text}
+use Rattle.ha_config.specs.declared.config.Automation.{Automation}
+use Rattle.ha_config.specs.CheckText.{mode_text}
 use Rattle.ha_status.specs.StatusLine.{Text}
 
 abbrev pub line_head : Automation → Text

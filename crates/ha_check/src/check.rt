@@ -6,14 +6,14 @@ ghost use Rattle.ha_io.specs.Told.{IsAskedSome};
 ghost use Rattle.ha_status.specs.Causes.{NeverFall, OneRose, OpenCause, ReadCause, WriteCause};
 ghost use Rattle.ha_status.specs.Files.{IsHandedBack};
 ghost use Rattle.ha_status.specs.Written.{IsWritten, TookLine};
-ghost use Rattle.ha_model.specs.Texts.{check_text};
+ghost use Rattle.ha_config.specs.CheckText.{check_text};
 ghost use Rattle.ha_check.specs.Checked.{IsAnswerOf, IsCheckStatus, IsOutput, IsShown};
 ghost use Rattle.ha_check.specs.Configured.{RefusedCause};
 
 use crate::configured::{Configured, read_config_at};
 use crate::lines::check_text;
+use ha_config::Config;
 use ha_io::{Place, Sink, Unwritten, write_whole};
-use ha_model::Config;
 use ha_status::{Status, Unready, told};
 use std::alloc::Global;
 

@@ -4,13 +4,13 @@ ghost use Rattle.ha_io.specs.declared.place.Opening.{Opening};
 ghost use Rattle.ha_io.specs.Told.{AreAsked};
 ghost use Rattle.ha_status.specs.Causes.{OpenCause, ReadCause};
 ghost use Rattle.ha_status.specs.Files.{IsHandedBack, IsTextFault, ThereCause};
-ghost use Rattle.ha_model.specs.Sound.{IsSoundConfig};
+ghost use Rattle.ha_config.specs.Sound.{IsSoundConfig};
 ghost use Rattle.conf_auto.specs.Config.{config_of};
 ghost use Rattle.ha_check.specs.Configured.{IsConfigOf, IsRefusal, RefusedCause};
 
 use conf_auto::read_config;
+use ha_config::Config;
 use ha_io::{Place, Source};
-use ha_model::Config;
 use ha_status::{FileText, Status, Unready, read_config_file};
 use ha_value::Word;
 use std::alloc::Global;

@@ -1,10 +1,10 @@
 //! The lines that `check` writes.
 ghost use Rattle.std.specs.Prelude.{◌≡◌, ◌++◌, IfOk, OnOk, map, string_bytes};
 ghost use Rattle.std.specs.List.{concat};
-ghost use Rattle.ha_model.specs.Texts.{check_line, check_text, mode_text};
+ghost use Rattle.ha_config.specs.CheckText.{check_line, check_text, mode_text};
 ghost use Rattle.ha_check.specs.Lines.{line_counts, line_head};
 
-use ha_model::{Automation, Config, Mode};
+use ha_config::{Automation, Config, Mode};
 use std::alloc::{AllocError, Global};
 
 /// The word of a mode.

@@ -3,12 +3,12 @@ use Rattle.std.proofs.Common.{◌≡◌, ℕ, suc, ◌+◌, ◌-◌, ◌<◌, �
 use Rattle.std.specs.Prelude.{Option, Some, None, nat_eq, nat_lt, ◌&&◌, if◌then◌else◌}
 use Rattle.std.specs.Option.{option_map_or}
 use Rattle.timer_queue.specs.Timers.{Timer}
-use Rattle.ha_model.specs.declared.config.Action.{Action}
-use Rattle.ha_model.specs.declared.config.Mode.{Mode}
-use Rattle.ha_model.specs.declared.journal.Record.{Record}
-use Rattle.ha_model.specs.Words.{Pairs}
-use Rattle.ha_model.specs.Journal.{Journal, automations}
-use Rattle.ha_model.specs.Scripts.{Branch}
+use Rattle.ha_config.specs.declared.config.Action.{Action}
+use Rattle.ha_config.specs.declared.config.Mode.{Mode}
+use Rattle.ha_model.specs.declared.record.Record.{Record}
+use Rattle.ha_config.specs.Words.{Pairs}
+use Rattle.ha_journal.specs.Journal.{Journal, automations, last_place}
+use Rattle.ha_sight.specs.Scripts.{Branch}
 use Rattle.ha_model.specs.Records.{Records, actions_of, is_restart_mode, lets_in, live_count}
 use Rattle.ha_model.specs.RunSteps.{joined}
 use Rattle.run_modes.specs.Fits.{AreNumbered}
@@ -17,8 +17,7 @@ use Rattle.script_step.specs.Frames.{began_by, begins}
 use Rattle.script_step.specs.Gates.{first_fronts}
 use Rattle.script_step.specs.declared.frames.Frames.{Frames}
 use Rattle.wait_set.specs.Asked.{WaitTable as Waits}
-use Rattle.ha_model.specs.Attempts.{Attempt}
-use Rattle.ha_model.specs.Records.{last_place}
+use Rattle.ha_journal.specs.Attempts.{Attempt}
 use Rattle.run_modes.specs.Calls.{tried}
 use Rattle.run_modes.specs.declared.admission.Admission.{Admission}
 use Rattle.run_modes.specs.Lanes.{first_of}

@@ -3,17 +3,16 @@ use Rattle.std.proofs.Common.{◌≡◌, ℕ, ◌<◌, List, [], ◌∷◌, leng
 use Rattle.std.specs.Prelude.{Option, Some, None, IsTrue, ◌&&◌, is_none, option_map}
 use Rattle.std.specs.List.{list_any}
 use Rattle.engine_parts.specs.Slots.{SlotTable}
-use Rattle.ha_model.specs.declared.journal.Entry.TheVariants.{Step}
-use Rattle.ha_model.specs.declared.journal.WaitAsk.{WaitAsk}
-use Rattle.ha_model.specs.declared.journal.WaitEnd.{WaitEnd}
-use Rattle.ha_model.specs.declared.steps.StepOut.{StepOut}
-use Rattle.ha_model.specs.Journal.{Journal, automations, now}
+use Rattle.ha_journal.specs.declared.entry.Entry.TheVariants.{Step}
+use Rattle.ha_sight.specs.declared.waiting.WaitAsk.{WaitAsk}
+use Rattle.ha_sight.specs.declared.waiting.WaitEnd.{WaitEnd}
+use Rattle.ha_sight.specs.declared.steps.StepOut.{StepOut}
+use Rattle.ha_journal.specs.Journal.{Journal, automations, now, more}
 use Rattle.ha_model.specs.Lawful.{is_empty, pick, ready}
 use Rattle.ha_model.specs.Records.{Records, actions_of}
-use Rattle.ha_model.specs.RecordSteps.{more}
-use Rattle.ha_model.specs.Scripts.{Ask, Branch}
-use Rattle.ha_model.specs.Sound.{are_sound_actions, are_sound_triggers}
-use Rattle.ha_model.specs.Triggers.{sight}
+use Rattle.ha_sight.specs.Scripts.{Ask, Branch}
+use Rattle.ha_config.specs.Sound.{are_sound_actions, are_sound_triggers}
+use Rattle.ha_journal.specs.Moves.{sight}
 use Rattle.ha_ready.specs.Picked.{IsPicked}
 use Rattle.script_step.specs.declared.frames.Frames.{Frames}
 use Rattle.script_step.specs.Frames.{ask_of, asked_by, may}

@@ -1,10 +1,10 @@
 -- A step leaves the gates of other branches that wait.
 use Rattle.std.proofs.Common.{◌≡◌, true, sym, ◌∙◌}
 use Rattle.std.specs.Prelude.{Option, Some, ◌≢◌}
-use Rattle.ha_model.specs.declared.journal.Item.{Item}
-use Rattle.ha_model.specs.declared.journal.WaitEnd.{WaitEnd}
-use Rattle.ha_model.specs.Scripts.{Ask, Branch, Spot}
-use Rattle.ha_model.specs.States.{Sight}
+use Rattle.ha_sight.specs.declared.item.Item.{Item}
+use Rattle.ha_sight.specs.declared.waiting.WaitEnd.{WaitEnd}
+use Rattle.ha_sight.specs.Scripts.{Ask, Branch, Spot}
+use Rattle.ha_sight.specs.Sight.{Sight}
 use Rattle.script_step.specs.declared.frames.Frames.{Frames}
 use Rattle.script_step.specs.Continuation.{Began, placed}
 use Rattle.script_step.specs.Frames.{Steps, ask_of, may}

@@ -3,15 +3,15 @@ use Rattle.std.proofs.Common.{◌≡◌, ◌∙◌, ap, ℕ, zero, suc, Bool, tr
 use Rattle.std.specs.Prelude.{Option, Some, None, ◌&&◌, slice_get}
 use Rattle.std.specs.List.{list_all}
 use Rattle.std.specs.Option.{option_map_or}
-use Rattle.ha_model.specs.declared.config.Condition.{Condition}
-use Rattle.ha_model.specs.declared.config.Action.{Action}
-use Rattle.ha_model.specs.declared.config.ActionKind.{ActionKind}
-use Rattle.ha_model.specs.declared.config.ActionKind.TheOpen.{ActionKind-F}
-use Rattle.ha_model.specs.declared.config.ActionKind.TheViews.{out-Action}
-use Rattle.ha_model.specs.declared.config.ActionKind.TheFolds.{fold-ActionKind, fold_out-ActionKind, fold_out-Action, map-ActionKind}
-use Rattle.ha_model.specs.Words.{Pairs}
-use Rattle.ha_model.specs.Scripts.{Ask, Branch, flat}
-use Rattle.ha_model.specs.Sound.{all_true, are_sound_actions, are_sound_conditions, are_sound_triggers, if_there, is_short, is_sound_action, is_sound_repeat, is_sound_span, sound_kind_step}
+use Rattle.ha_config.specs.declared.config.Condition.{Condition}
+use Rattle.ha_config.specs.declared.config.Action.{Action}
+use Rattle.ha_config.specs.declared.config.ActionKind.{ActionKind}
+use Rattle.ha_config.specs.declared.config.ActionKind.TheOpen.{ActionKind-F}
+use Rattle.ha_config.specs.declared.config.ActionKind.TheViews.{out-Action}
+use Rattle.ha_config.specs.declared.config.ActionKind.TheFolds.{fold-ActionKind, fold_out-ActionKind, fold_out-Action, map-ActionKind}
+use Rattle.ha_config.specs.Words.{Pairs}
+use Rattle.ha_sight.specs.Scripts.{Ask, Branch, flat}
+use Rattle.ha_config.specs.Sound.{all_true, are_sound_actions, are_sound_conditions, are_sound_triggers, if_there, is_short, is_sound_action, is_sound_repeat, is_sound_span, sound_kind_step}
 use Rattle.script_step.specs.declared.thread.Frame.{Frame}
 use Rattle.script_step.specs.declared.thread.Thread.{Thread}
 use Rattle.script_step.specs.declared.strand.Strand.{Strand}

@@ -3,13 +3,14 @@ use Rattle.std.proofs.Common.{◌≡◌, ℕ, suc, ◌-◌, ◌<◌, ◌≤◌, 
 use Rattle.std.specs.Prelude.{Option, Some, None, nat_eq, slice_get, option_map, if◌then◌else◌}
 use Rattle.std.specs.Option.{option_map_or}
 use Rattle.std.proofs.lemmas.Option.{slice_get_within}
-use Rattle.ha_model.specs.declared.config.Automation.{Automation}
-use Rattle.ha_model.specs.declared.journal.EndCause.{EndCause}
-use Rattle.ha_model.specs.declared.journal.Record.{Record}
-use Rattle.ha_model.specs.Journal.{Journal, automations}
+use Rattle.ha_config.specs.declared.config.Automation.{Automation}
+use Rattle.ha_model.specs.declared.record.EndCause.{EndCause}
+use Rattle.ha_model.specs.declared.record.Record.{Record}
+use Rattle.ha_journal.specs.Journal.{Journal, automations}
 use Rattle.ha_model.specs.Lawful.{is_running, record_of}
-use Rattle.ha_model.specs.Records.{Records, actions_of, or_else, spots}
-use Rattle.ha_model.specs.Sound.{are_sound_actions}
+use Rattle.ha_model.specs.Records.{Records, actions_of, spots}
+use Rattle.ha_config.specs.Words.{or_else}
+use Rattle.ha_config.specs.Sound.{are_sound_actions}
 use Rattle.ha_ready.specs.ReadyPairs.{branches_at, changed_at, pairs_from, ready_branches}
 use Rattle.ha_ready.proofs.RunPast.{begun-runs}
 use Rattle.run_modes.specs.Changes.{after_end}

@@ -3,21 +3,21 @@ use Rattle.std.proofs.Common.{◌≡◌, ℕ, zero, suc, ◌-◌, ◌<◌, ◌�
 use Rattle.std.specs.Prelude.{IsSome, Option, Some, slice_get}
 use Rattle.ha_clock.specs.Zone as clock
 use Rattle.ha_clock.specs.Local.{last_moment}
-use Rattle.ha_model.specs.declared.config.Automation.{Automation}
-use Rattle.ha_model.specs.declared.config.Config.{Config}
-use Rattle.ha_model.specs.declared.journal.Entry.{Entry}
-use Rattle.ha_model.specs.declared.journal.Entry.TheVariants.{Boot}
-use Rattle.ha_model.specs.Journal.{Journal, automations, now, zone_of}
+use Rattle.ha_config.specs.declared.config.Automation.{Automation}
+use Rattle.ha_config.specs.declared.config.Config.{Config}
+use Rattle.ha_journal.specs.declared.entry.Entry.{Entry}
+use Rattle.ha_journal.specs.declared.entry.Entry.TheVariants.{Boot}
+use Rattle.ha_journal.specs.Journal.{Journal, automations, now, zone_of}
 use Rattle.ha_model.specs.Records.{Records, records_of}
 use Rattle.ha_model.specs.Lawful.{Right}
-use Rattle.ha_model.specs.Sound.{IsSoundConfig}
-use Rattle.ha_model.specs.States.{Sight}
-use Rattle.ha_model.specs.Triggers.{sight}
-use Rattle.ha_model.specs.Words.{Text}
+use Rattle.ha_config.specs.Sound.{IsSoundConfig}
+use Rattle.ha_sight.specs.Sight.{Sight}
+use Rattle.ha_journal.specs.Moves.{sight}
+use Rattle.ha_config.specs.Words.{Text}
 use Rattle.store_text.specs.Store.{Switches}
-use Rattle.state_table.specs.Table as states
+use Rattle.state_laws.specs.Stands as states
 use Rattle.state_table.specs.declared.table.StateTable.{StateTable}
-use Rattle.state_table.proofs.StateLaws.{states-other}
+use Rattle.state_laws.proofs.StateLaws.{states-other}
 use Rattle.switch_book.specs.Book as switches
 use Rattle.trig_set.specs.Next.{IsNext}
 use Rattle.trig_set.specs.Stands as triggers

@@ -4,26 +4,27 @@ use Rattle.std.specs.Prelude.{Option, Some, None, filter, slice_get}
 use Rattle.std.specs.List.{enumerate_from}
 use Rattle.std.specs.Option.{option_map_or}
 use Rattle.ha_value.specs.declared.value.EntityId.{EntityId}
-use Rattle.ha_model.specs.declared.journal.Cmd.{Cmd}
-use Rattle.ha_model.specs.declared.journal.Entry.{Entry}
-use Rattle.ha_model.specs.declared.journal.Entry.TheVariants.{Line}
-use Rattle.ha_model.specs.Attempts.{Attempt, attempts_of, fired, passes}
-use Rattle.ha_model.specs.Entries.{IsPlain}
-use Rattle.ha_model.specs.Commands.{IsFair}
-use Rattle.ha_model.specs.Journal.{Journal, automations}
-use Rattle.ha_model.specs.Words.{Text, Pairs}
-use Rattle.ha_model.specs.Records.{Records, last_place, passing, stops_turned}
-use Rattle.ha_model.specs.RecordSteps.{more, records_after}
+use Rattle.ha_config.specs.declared.command.Cmd.{Cmd}
+use Rattle.ha_journal.specs.declared.entry.Entry.{Entry}
+use Rattle.ha_journal.specs.declared.entry.Entry.TheVariants.{Line}
+use Rattle.ha_journal.specs.Attempts.{Attempt, attempts_of, fired, passes, passing}
+use Rattle.ha_config.specs.Fair.{IsPlain}
+use Rattle.ha_journal.specs.Commands.{IsFair}
+use Rattle.ha_journal.specs.Journal.{Journal, automations, last_place, more}
+use Rattle.ha_config.specs.Words.{Text, Pairs}
+use Rattle.ha_model.specs.Records.{Records, stops_turned}
+use Rattle.ha_model.specs.RecordSteps.{records_after}
 use Rattle.ha_model.specs.Lawful.{Right}
 use Rattle.ha_model.proofs.LawfulLaws.{right-more}
-use Rattle.ha_model.proofs.RecordLaws.{length-more, records-more}
-use Rattle.ha_model.proofs.SinceLaws.{get-last}
+use Rattle.ha_journal.proofs.MoreLemmas.{length-more}
+use Rattle.ha_model.proofs.RecordLaws.{records-more}
+use Rattle.ha_config.proofs.ListLemmas.{get-last}
 use Rattle.ha_model.proofs.StepLaws.{Numbered, numbered-of}
 use Rattle.run_modes.specs.Calls.{AreTurned, all_tried, stops_done}
 use Rattle.run_modes.specs.Fits.{AreNumbered}
 use Rattle.run_laws.proofs.EntryLaws.{by-calls}
 use Rattle.ha_ready.specs.RunPast.{AllPast, BeginBefore, EndBefore}
-use Rattle.ha_model.specs.declared.journal.EndCause.{EndCause}
+use Rattle.ha_model.specs.declared.record.EndCause.{EndCause}
 use Rattle.engine_parts.specs.Records.{IsTable}
 use Rattle.ha_ready.specs.Agree.{step_at}
 use Rattle.engine_entry.proofs.EnterLemmas.{plain-leaves}

@@ -3,11 +3,11 @@ use Rattle.std.proofs.Common.{◌≡◌, Bool, true, false, List, [], ◌∷◌,
 use Rattle.std.specs.Prelude.{Option, Some, None, option_map, if◌then◌else◌}
 use Rattle.std.specs.List.{list_any}
 use Rattle.std.specs.Option.{option_map_or}
-use Rattle.ha_model.specs.declared.config.Action.{Action}
-use Rattle.ha_model.specs.declared.journal.Item.{Item}
-use Rattle.ha_model.specs.Words.{last_of}
-use Rattle.ha_model.specs.Scripts.{Branch, Spot, Scopes, Next, Outcome, Status, ends, exec, first_halt, is_open, outer, prefixed, after_lists, all_allowed, each_on, joined_lists, side_by_side}
-use Rattle.ha_model.proofs.Rolls.{run_action-out}
+use Rattle.ha_config.specs.declared.config.Action.{Action}
+use Rattle.ha_sight.specs.declared.item.Item.{Item}
+use Rattle.ha_config.specs.Words.{last_of}
+use Rattle.ha_sight.specs.Scripts.{Branch, Spot, Scopes, Next, Outcome, Status, ends, exec, first_halt, is_open, outer, prefixed, after_lists, all_allowed, each_on, joined_lists, side_by_side}
+use Rattle.ha_sight.proofs.Rolls.{run_action-out}
 use Rattle.script_step.specs.declared.strand.End.{End}
 use Rattle.script_step.specs.declared.strand.Strand.{Strand}
 use Rattle.script_step.specs.declared.strand.Stage.{Stage}

@@ -5,31 +5,33 @@ use Rattle.std.specs.Prelude.{Some, None, IsSome, not, nat_eq, ◌||◌, unwrap_
 use Rattle.std.specs.List.{list_any}
 use Rattle.std.specs.Option.{option_map_or}
 use Rattle.ha_clock.specs.Zone as clock
-use Rattle.ha_model.specs.declared.config.Automation.{Automation}
-use Rattle.ha_model.specs.declared.journal.Cmd.{Cmd}
-use Rattle.ha_model.specs.declared.journal.EndCause.{EndCause}
-use Rattle.ha_model.specs.declared.journal.Entry.{Entry}
-use Rattle.ha_model.specs.declared.journal.Entry.TheVariants.{Line}
-use Rattle.ha_model.specs.Commands.{keys_of}
-use Rattle.ha_model.specs.Equal.{same_flag}
-use Rattle.ha_model.specs.Journal.{Journal, HasEntry, IsJournal, automations, now, zone_of}
+use Rattle.ha_config.specs.declared.config.Automation.{Automation}
+use Rattle.ha_config.specs.declared.command.Cmd.{Cmd}
+use Rattle.ha_model.specs.declared.record.EndCause.{EndCause}
+use Rattle.ha_journal.specs.declared.entry.Entry.{Entry}
+use Rattle.ha_journal.specs.declared.entry.Entry.TheVariants.{Line}
+use Rattle.ha_config.specs.ValueFacts.{keys_of}
+use Rattle.ha_config.specs.Equal.{same_flag}
+use Rattle.ha_journal.specs.Journal.{Journal, HasEntry, IsJournal, automations, now, zone_of, more}
 use Rattle.ha_model.specs.Lawful.{Right}
-use Rattle.ha_model.specs.RecordSteps.{more, records_after}
-use Rattle.ha_model.specs.Records.{Records, passing}
-use Rattle.ha_model.specs.Sights.{changes_switch}
-use Rattle.ha_model.specs.Switches.{initial_of, is_on}
-use Rattle.ha_model.specs.Words.{Text, numbers_from, up_to}
-use Rattle.ha_model.proofs.LawfulLaws.{has-entry, right-more}
-use Rattle.ha_model.proofs.RecordGrowth.{automations-more}
-use Rattle.ha_model.proofs.RecordLaws.{length-more, records-more}
-use Rattle.ha_model.proofs.SinceLaws.{take-before}
-use Rattle.ha_model.proofs.SwitchLemmas.{on-more}
+use Rattle.ha_model.specs.RecordSteps.{records_after}
+use Rattle.ha_model.specs.Records.{Records}
+use Rattle.ha_journal.specs.Attempts.{passing}
+use Rattle.ha_journal.specs.Sights.{changes_switch}
+use Rattle.ha_config.specs.Names.{initial_of}
+use Rattle.ha_journal.specs.Switches.{is_on}
+use Rattle.ha_config.specs.Words.{Text, numbers_from, up_to}
+use Rattle.ha_journal.proofs.MoreLemmas.{has-entry, automations-more, length-more}
+use Rattle.ha_model.proofs.LawfulLaws.{right-more}
+use Rattle.ha_model.proofs.RecordLaws.{records-more}
+use Rattle.ha_journal.proofs.SinceLaws.{take-before}
+use Rattle.ha_journal.proofs.SwitchLemmas.{on-more}
 use Rattle.run_laws.proofs.EntryLaws.{by-calls}
 use Rattle.run_modes.specs.Calls.{all_tried}
 use Rattle.run_modes.specs.Table.{stopped}
 use Rattle.ha_ready.specs.RestedFlags.{RestedKept}
-use Rattle.state_table.specs.Anew.{sets_anew}
-use Rattle.state_table.specs.Table.{StandsBut, StandsFor}
+use Rattle.state_laws.specs.Stands.{sets_anew}
+use Rattle.state_laws.specs.Stands.{StandsBut, StandsFor}
 use Rattle.state_table.specs.declared.table.StateTable.{StateTable}
 use Rattle.store_text.specs.Store.{Switches}
 use Rattle.switch_book.specs.Book as switches

@@ -3,15 +3,15 @@ use Rattle.std.proofs.Common.{◌≡◌, ℕ, suc, ◌+◌, ◌-◌, ◌<◌, Li
 use Rattle.std.specs.Prelude.{Option, Some, None, ◌&&◌, ◌||◌, is_none, is_some, nat_eq, slice_get, option_map, option_and_then, if◌then◌else◌}
 use Rattle.std.specs.List.{list_any}
 use Rattle.timer_queue.specs.Timers.{Timer}
-use Rattle.ha_model.specs.declared.journal.Record.{Record}
-use Rattle.ha_model.specs.declared.journal.WaitEnd.{WaitEnd}
-use Rattle.ha_model.specs.Journal.{Journal, automations, now}
+use Rattle.ha_model.specs.declared.record.Record.{Record}
+use Rattle.ha_sight.specs.declared.waiting.WaitEnd.{WaitEnd}
+use Rattle.ha_journal.specs.Journal.{Journal, automations, now}
 use Rattle.ha_model.specs.Lawful.{Right, may_step, pick, ready}
 use Rattle.ha_model.specs.Records.{Records, actions_of, ran_on, spots}
-use Rattle.ha_model.specs.Scripts.{Ask, Branch, Spot}
-use Rattle.ha_model.specs.Waits.{next_spot, wait_end}
-use Rattle.ha_model.specs.Words.{same}
-use Rattle.ha_model.proofs.EqualLemmas.{same-sound}
+use Rattle.ha_sight.specs.Scripts.{Ask, Branch, Spot}
+use Rattle.ha_journal.specs.Waits.{next_spot, wait_end}
+use Rattle.ha_config.specs.Words.{same}
+use Rattle.ha_config.proofs.EqualLemmas.{same-sound}
 use Rattle.ha_model.proofs.StepLaws.{ready-found, serial-at}
 use Rattle.ha_ready.specs.Picked.{IsPicked}
 use Rattle.ha_ready.proofs.Picked as pairs

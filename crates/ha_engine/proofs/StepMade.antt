@@ -2,22 +2,21 @@
 use Rattle.std.proofs.Common.{◌≡◌, ℕ, List, [], ◌∷◌, ◌++◌, length, refl, sym, ap, subst, ◌∙◌}
 use Rattle.std.specs.Prelude.{Option, Some, None, ◌≢◌, option_map, option_and_then}
 use Rattle.timer_queue.specs.Timers.{Timer}
-use Rattle.ha_model.specs.declared.config.Action.{Action}
-use Rattle.ha_model.specs.declared.journal.Entry.TheVariants.{Step}
-use Rattle.ha_model.specs.declared.journal.Item.{Item}
-use Rattle.ha_model.specs.declared.journal.Record.{Record}
-use Rattle.ha_model.specs.declared.journal.WaitAsk.{WaitAsk}
-use Rattle.ha_model.specs.declared.journal.WaitEnd.{WaitEnd}
-use Rattle.ha_model.specs.declared.steps.StepOut.{StepOut}
-use Rattle.ha_model.specs.Journal.{Journal, automations, now}
+use Rattle.ha_config.specs.declared.config.Action.{Action}
+use Rattle.ha_journal.specs.declared.entry.Entry.TheVariants.{Step}
+use Rattle.ha_sight.specs.declared.item.Item.{Item}
+use Rattle.ha_model.specs.declared.record.Record.{Record}
+use Rattle.ha_sight.specs.declared.waiting.WaitAsk.{WaitAsk}
+use Rattle.ha_sight.specs.declared.waiting.WaitEnd.{WaitEnd}
+use Rattle.ha_sight.specs.declared.steps.StepOut.{StepOut}
+use Rattle.ha_journal.specs.Journal.{Journal, automations, now, more}
 use Rattle.ha_model.specs.Lawful.{Right, pick, ready, record_of}
 use Rattle.ha_model.specs.Records.{Records, actions_of, ran_on, script_end, spots}
-use Rattle.ha_model.specs.RecordSteps.{more}
-use Rattle.ha_model.specs.Scripts.{Ask, Branch, Outcome, Spot, Status, prefixed, whole}
-use Rattle.ha_model.specs.Triggers.{sight}
-use Rattle.ha_model.specs.Waits.{next_spot}
-use Rattle.ha_model.specs.Words.{Pairs}
-use Rattle.ha_model.proofs.AppendLemmas.{append-nil}
+use Rattle.ha_sight.specs.Scripts.{Ask, Branch, Outcome, Spot, Status, prefixed, whole}
+use Rattle.ha_journal.specs.Moves.{sight}
+use Rattle.ha_journal.specs.Waits.{next_spot}
+use Rattle.ha_config.specs.Words.{Pairs}
+use Rattle.ha_config.proofs.ListLemmas.{append-nil}
 use Rattle.ha_ready.specs.Picked.{IsPicked}
 use Rattle.script_step.specs.declared.frames.Frames.{Frames}
 use Rattle.script_step.specs.declared.strand.End.{End}

@@ -3,22 +3,23 @@ use Rattle.std.proofs.Common.{◌≡◌, ℕ, ◌-◌, ◌<◌, List, [], ◌∷
 use Rattle.std.proofs.lemmas.Option.{slice_get_within}
 use Rattle.std.specs.Prelude.{Some, IsTrue, is_some, not, nat_eq, ◌&&◌, ◌||◌, fold, if◌then◌else◌}
 use Rattle.std.specs.List.{list_any}
-use Rattle.ha_model.specs.declared.journal.Cmd.{Cmd}
-use Rattle.ha_model.specs.declared.journal.EndCause.{EndCause}
-use Rattle.ha_model.specs.declared.journal.Entry.{Entry}
-use Rattle.ha_model.specs.declared.journal.Entry.TheVariants.{Line}
-use Rattle.ha_model.specs.Commands.{IsFair, has_automation}
-use Rattle.ha_model.specs.Journal.{Journal, HasEntry, IsJournal, automations}
+use Rattle.ha_config.specs.declared.command.Cmd.{Cmd}
+use Rattle.ha_model.specs.declared.record.EndCause.{EndCause}
+use Rattle.ha_journal.specs.declared.entry.Entry.{Entry}
+use Rattle.ha_journal.specs.declared.entry.Entry.TheVariants.{Line}
+use Rattle.ha_journal.specs.Commands.{IsFair, has_automation}
+use Rattle.ha_journal.specs.Journal.{Journal, HasEntry, IsJournal, automations, more}
 use Rattle.ha_model.specs.Lawful.{Right}
-use Rattle.ha_model.specs.RecordSteps.{more, records_after}
-use Rattle.ha_model.specs.Records.{Records, passing}
-use Rattle.ha_model.specs.States.{automation_named}
-use Rattle.ha_model.specs.Switches.{is_on, name_of}
-use Rattle.ha_model.specs.Words.{Text, same}
-use Rattle.ha_model.proofs.LawfulLaws.{has-entry, right-more}
-use Rattle.ha_model.proofs.RecordGrowth.{automations-more}
-use Rattle.ha_model.proofs.RecordLaws.{length-more, records-more}
-use Rattle.ha_model.proofs.SwitchLemmas.{on-more}
+use Rattle.ha_model.specs.RecordSteps.{records_after}
+use Rattle.ha_model.specs.Records.{Records}
+use Rattle.ha_journal.specs.Attempts.{passing}
+use Rattle.ha_config.specs.Names.{automation_named, name_of}
+use Rattle.ha_journal.specs.Switches.{is_on}
+use Rattle.ha_config.specs.Words.{Text, same}
+use Rattle.ha_journal.proofs.MoreLemmas.{has-entry, automations-more, length-more}
+use Rattle.ha_model.proofs.LawfulLaws.{right-more}
+use Rattle.ha_model.proofs.RecordLaws.{records-more}
+use Rattle.ha_journal.proofs.SwitchLemmas.{on-more}
 use Rattle.run_laws.proofs.EntryLaws.{by-calls}
 use Rattle.run_modes.specs.Calls.{AreTurned, all_tried}
 use Rattle.run_modes.specs.Table.{stopped}

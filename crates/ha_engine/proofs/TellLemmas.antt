@@ -5,21 +5,23 @@ use Rattle.std.specs.List.{list_any}
 use Rattle.std.specs.Option.{option_map_or}
 use Rattle.std.proofs.lemmas.Option.{slice_get_within}
 use Rattle.std.specs.Global.{Vec}
-use Rattle.ha_model.specs.declared.journal.EndCause.{EndCause}
-use Rattle.ha_model.specs.declared.journal.Entry.{Entry}
-use Rattle.ha_model.specs.declared.journal.Entry.TheVariants.{Step}
-use Rattle.ha_model.specs.declared.journal.Item.{Item}
-use Rattle.ha_model.specs.declared.journal.Record.{Record}
-use Rattle.ha_model.specs.declared.steps.Progress.{Progress}
-use Rattle.ha_model.specs.Entries.{is_call}
-use Rattle.ha_model.specs.Journal.{Journal, IsJournal, automations}
+use Rattle.ha_model.specs.declared.record.EndCause.{EndCause}
+use Rattle.ha_journal.specs.declared.entry.Entry.{Entry}
+use Rattle.ha_journal.specs.declared.entry.Entry.TheVariants.{Step}
+use Rattle.ha_sight.specs.declared.item.Item.{Item}
+use Rattle.ha_model.specs.declared.record.Record.{Record}
+use Rattle.ha_sight.specs.declared.steps.Progress.{Progress}
+use Rattle.ha_sight.specs.Items.{is_call}
+use Rattle.ha_journal.specs.Journal.{Journal, IsJournal, automations, more}
 use Rattle.ha_model.specs.Lawful.{Right, record_of}
 use Rattle.ha_model.specs.NextPlace.{next_end}
-use Rattle.ha_model.specs.Records.{Records, calls_of, ended, is_call_of, passing, spots, with_begins}
-use Rattle.ha_model.specs.RecordSteps.{more, records_after}
-use Rattle.ha_model.specs.Scripts.{Branch}
+use Rattle.ha_model.specs.Records.{Records, calls_of, ended, is_call_of, spots, with_begins}
+use Rattle.ha_journal.specs.Attempts.{passing}
+use Rattle.ha_model.specs.RecordSteps.{records_after}
+use Rattle.ha_sight.specs.Scripts.{Branch}
 use Rattle.ha_model.proofs.LawfulLaws.{right-more}
-use Rattle.ha_model.proofs.RecordLaws.{length-more, records-more}
+use Rattle.ha_journal.proofs.MoreLemmas.{length-more}
+use Rattle.ha_model.proofs.RecordLaws.{records-more}
 use Rattle.ha_model.proofs.StepLaws.{numbered-of, Numbered}
 use Rattle.ha_ready.specs.Agree.{step_at}
 use Rattle.ha_ready.specs.RestedFlags.{RestedKept}

@@ -1,15 +1,15 @@
 -- What is ready for an attempt that passes, and who goes for it.
 use Rattle.std.specs.Prelude.{◌≡◌, ℕ, Bool, true, false, nat_eq, List, [], ◌∷◌, ◌++◌, filter, Option, Some, if◌then◌else◌}
 use Rattle.std.specs.List.{enumerate_from, list_any}
-use Rattle.ha_model.specs.declared.config.Action.{Action}
-use Rattle.ha_model.specs.declared.config.Mode.{Mode}
-use Rattle.ha_model.specs.Attempts.{Attempt, passes}
-use Rattle.ha_model.specs.Journal.{Journal, automations}
-use Rattle.ha_model.specs.Records.{Records, actions_of, last_place, mode_of, max_of}
+use Rattle.ha_config.specs.declared.config.Action.{Action}
+use Rattle.ha_config.specs.declared.config.Mode.{Mode}
+use Rattle.ha_journal.specs.Attempts.{Attempt, passes}
+use Rattle.ha_journal.specs.Journal.{Journal, automations, last_place}
+use Rattle.ha_model.specs.Records.{Records, actions_of, mode_of, max_of}
 use Rattle.ha_model.specs.RunSteps.{replace_all}
-use Rattle.ha_model.specs.declared.journal.Item.{Item}
-use Rattle.ha_model.specs.Words.{Pairs}
-use Rattle.ha_model.specs.Scripts.{Branch, Spot}
+use Rattle.ha_sight.specs.declared.item.Item.{Item}
+use Rattle.ha_config.specs.Words.{Pairs}
+use Rattle.ha_sight.specs.Scripts.{Branch, Spot}
 use Rattle.run_modes.specs.declared.admission.Admission.{Admission}
 use Rattle.run_modes.specs.Table.{live_of}
 use Rattle.script_step.specs.declared.frames.Frames.{Frames}

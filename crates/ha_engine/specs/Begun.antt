@@ -2,11 +2,11 @@
 use Rattle.std.specs.Prelude.{◌≡◌, ℕ, ◌≤◌, zero, suc, true, Bool, IsSome, List, [], ◌∷◌, Option}
 use Rattle.ha_clock.specs.Zone.{zone_of}
 use Rattle.ha_clock.specs.Local.{last_moment}
-use Rattle.ha_model.specs.declared.config.Config.{Config}
-use Rattle.ha_model.specs.declared.journal.Entry.TheVariants.{Boot}
-use Rattle.ha_model.specs.Journal.{Journal}
-use Rattle.ha_model.specs.Sound.{IsSoundConfig}
-use Rattle.ha_model.specs.Words.{Text}
+use Rattle.ha_config.specs.declared.config.Config.{Config}
+use Rattle.ha_journal.specs.declared.entry.Entry.TheVariants.{Boot}
+use Rattle.ha_journal.specs.Journal.{Journal}
+use Rattle.ha_config.specs.Sound.{IsSoundConfig}
+use Rattle.ha_config.specs.Words.{Text}
 use Rattle.store_text.specs.Store.{Switches}
 use Rattle.state_table.specs.declared.table.StateTable.{StateTable}
 use Rattle.switch_book.specs.Book as switches

@@ -1,11 +1,10 @@
 //! The attempts of an entry that pass, in order: each that its mode admits has a run.
 ghost use Rattle.std.specs.Prelude.{◌≡◌, ◌<◌, ◌≤◌, ◌∷◌, [], ◌++◌, ℕ, suc, List, Some, length, vec_len};
-ghost use Rattle.ha_model.specs.Attempts.{Attempt as Tried};
-ghost use Rattle.ha_model.specs.Records.{last_place};
+ghost use Rattle.ha_journal.specs.Attempts.{Attempt as Tried};
+ghost use Rattle.ha_journal.specs.Journal.{last_place, Journal};
 ghost use Rattle.run_modes.specs.Calls.{all_tried, tried};
 ghost use Rattle.ha_ready.specs.ReadyPairs.{pairs_of};
 ghost use Rattle.engine_parts.specs.Records.{HasRoom, IsTable};
-ghost use Rattle.ha_model.specs.Journal.{Journal};
 ghost use Rattle.run_modes.specs.Fits.{AreNumbered};
 ghost use Rattle.run_modes.specs.Table.{live_of};
 ghost use Rattle.engine_parts.specs.Kept.{Going, nobody};
@@ -13,7 +12,9 @@ ghost use Rattle.ha_engine.specs.Admits.{ArePrepared, IsPrepared, OneSlot, Slots
 
 use engine_parts::forget::forget;
 use engine_parts::parts::Parts;
-use ha_model::{Env, Many, Mode};
+use ha_config::Mode;
+use ha_sight::Env;
+use ha_value::Many;
 use run_modes::{Admission, Runs};
 use script_step::Frames;
 use std::alloc::Global;

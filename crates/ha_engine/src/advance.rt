@@ -1,7 +1,7 @@
 //! One step of a run: which run it is, and what follows from it.
 ghost use Rattle.std.specs.Prelude.{◌≡◌, ◌<◌, IfOk, OnOk, OnErr, Some, vec_len, vec_capacity, length};
-ghost use Rattle.ha_model.specs.declared.journal.Entry.TheVariants.{Step};
-ghost use Rattle.ha_model.specs.RecordSteps.{more};
+ghost use Rattle.ha_journal.specs.declared.entry.Entry.TheVariants.{Step};
+ghost use Rattle.ha_journal.specs.Journal.{more};
 ghost use Rattle.ha_model.specs.Lawful.{Right, pick};
 ghost use Rattle.engine_parts.specs.Kept.{Kept};
 ghost use Rattle.engine_entry.specs.Stepping.{IsStepped, Stepping};
@@ -12,7 +12,9 @@ use engine_entry::step_run::step_slot;
 use engine_parts::last::drop_last;
 use engine_parts::parts::Parts;
 use engine_parts::ready::Ready;
-use ha_model::{Branch, Ended, Entry, Item, Plain, WaitEnd};
+use ha_journal::Entry;
+use ha_sight::{Branch, Ended, Item, WaitEnd};
+use ha_value::Plain;
 use run_modes::Runs;
 use script_step::{Held, Taken};
 use std::alloc::{AllocError, Global};

@@ -3,7 +3,7 @@
 use crate::engine::Engine;
 use ha_boot::Boots;
 use ha_clock::Moment;
-use ha_model::Config;
+use ha_config::Config;
 use ha_value::{Many, Word};
 use std::alloc::{AllocError, Global};
 

@@ -1,10 +1,10 @@
 //! The end of the work on an entry: its attempts, and the flags of the sources.
 ghost use Rattle.std.specs.Prelude.{◌≡◌, ◌≤◌, [], ℕ, OnOk, OnErr, vec_len};
-ghost use Rattle.ha_model.specs.declared.journal.Entry.{Entry as Item};
-ghost use Rattle.ha_model.specs.Attempts.{fired as fired_lem};
-ghost use Rattle.ha_model.specs.Journal.{Journal};
-ghost use Rattle.ha_model.specs.Records.{Records, last_place, passing};
-ghost use Rattle.ha_model.specs.RecordSteps.{more as longer, records_after};
+ghost use Rattle.ha_journal.specs.declared.entry.Entry.{Entry as Item};
+ghost use Rattle.ha_journal.specs.Attempts.{fired as fired_lem, passing};
+ghost use Rattle.ha_journal.specs.Journal.{Journal, last_place, more as longer};
+ghost use Rattle.ha_model.specs.Records.{Records};
+ghost use Rattle.ha_model.specs.RecordSteps.{records_after};
 ghost use Rattle.ha_model.specs.Lawful.{Right};
 ghost use Rattle.ha_engine.specs.Admits.{ArePrepared, from_end};
 ghost use Rattle.engine_parts.specs.Kept.{Going, Kept, nobody};
@@ -18,7 +18,8 @@ use crate::admit::{Prepared, admit_all};
 use crate::prepare::prepare;
 use engine_parts::parts::Parts;
 use engine_parts::rested::note_flags;
-use ha_model::{Entry, Firing, Many};
+use ha_journal::{Entry, Firing};
+use ha_value::Many;
 use run_modes::Runs;
 use std::alloc::{AllocError, Global};
 

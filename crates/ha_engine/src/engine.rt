@@ -1,25 +1,27 @@
 //! The engine: the journal with its records, and the parts that stand for it.
 ghost use Rattle.std.specs.Prelude.{◌≡◌, ◌↔◌, ◌<◌, ◌-◌, ◌++◌, ◌∷◌, [], ℕ, List, Some, IfOk, IfErr, OnOk, OnErr, Err, true, false, length, take, count_by, is_some, vec_len, vec_capacity};
 ghost use Rattle.std.specs.List.{list_any};
-ghost use Rattle.ha_model.specs.declared.journal.Cmd.{Cmd as Said};
-ghost use Rattle.ha_model.specs.declared.journal.Cmd.TheVariants.{Refused};
-ghost use Rattle.ha_model.specs.declared.journal.Entry.TheVariants.{Line};
-ghost use Rattle.ha_model.specs.RecordSteps.{more};
-ghost use Rattle.ha_model.specs.Commands.{has_automation, put_as as put_as_lem};
-ghost use Rattle.ha_model.specs.declared.journal.Item as item_lem;
-ghost use Rattle.ha_model.specs.Words.{same};
-ghost use Rattle.ha_model.specs.States.{automation_named};
-ghost use Rattle.ha_model.specs.declared.journal.Entry.{Entry as Item};
-ghost use Rattle.ha_model.specs.Journal.{Journal, automations};
-ghost use Rattle.ha_model.specs.Lawful.{Right, IsFair, is_line_of, shuts, is_quiet, is_rested, pick, ready};
-ghost use Rattle.ha_model.specs.Sights.{switch_of, changes_switch};
-ghost use Rattle.ha_model.specs.Texts.{store_text};
+ghost use Rattle.ha_config.specs.declared.command.Cmd.{Cmd as Said};
+ghost use Rattle.ha_config.specs.declared.command.Cmd.TheVariants.{Refused};
+ghost use Rattle.ha_journal.specs.declared.entry.Entry.TheVariants.{Line};
+ghost use Rattle.ha_journal.specs.Journal.{more, Journal, automations};
+ghost use Rattle.ha_journal.specs.Commands.{has_automation, put_as as put_as_lem, IsFair};
+ghost use Rattle.ha_sight.specs.declared.item.Item as item_lem;
+ghost use Rattle.ha_config.specs.Words.{same};
+ghost use Rattle.ha_config.specs.Names.{automation_named};
+ghost use Rattle.ha_journal.specs.declared.entry.Entry.{Entry as Item};
+ghost use Rattle.ha_model.specs.Lawful.{Right, is_line_of, shuts, is_quiet, is_rested, pick, ready};
+ghost use Rattle.ha_journal.specs.Sights.{switch_of, changes_switch};
+ghost use Rattle.ha_journal.specs.EntryText.{store_text};
 
 use crate::advance::advance;
 use crate::follow::follow_line;
 use engine_parts::last::drop_last;
 use engine_parts::parts::Parts;
-use ha_model::{Automation, Cmd, Config, CoreFault, Entry, Many, Record, Value, Word, same_text};
+use ha_config::{Automation, Cmd, Config, same_text};
+use ha_journal::Entry;
+use ha_model::{CoreFault, Record};
+use ha_value::{Many, Value, Word};
 use run_modes::Runs;
 use std::alloc::{AllocError, Global};
 use std::marker::Model;
@@ -37,8 +39,8 @@ pub struct Engine {
 impl Model for Engine {
     ghost use Rattle.ha_engine.specs.Core.{Core};
     ghost use Rattle.std.specs.Coded.{codes};
-    ghost use Rattle.ha_model.specs.contracts.journal.Record as run;
-    ghost use Rattle.ha_model.specs.contracts.journal.Entry as item;
+    ghost use Rattle.ha_model.specs.contracts.record.Record as run;
+    ghost use Rattle.ha_journal.specs.contracts.entry.Entry as item;
 
     ghost Value = { Core };
 

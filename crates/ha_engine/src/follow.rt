@@ -1,10 +1,9 @@
 //! What follows from an entry that was pushed: the parts and the records go on to stand for the journal with it.
 ghost use Rattle.std.specs.Prelude.{◌≡◌, ℕ, IfOk, OnOk, OnErr};
-ghost use Rattle.ha_model.specs.declared.journal.Cmd.{Cmd as Said};
-ghost use Rattle.ha_model.specs.declared.journal.Entry.TheVariants.{Line};
-ghost use Rattle.ha_model.specs.RecordSteps.{more};
-ghost use Rattle.ha_model.specs.Entries.{IsPlain};
-ghost use Rattle.ha_model.specs.Journal.{Journal};
+ghost use Rattle.ha_config.specs.declared.command.Cmd.{Cmd as Said};
+ghost use Rattle.ha_journal.specs.declared.entry.Entry.TheVariants.{Line};
+ghost use Rattle.ha_journal.specs.Journal.{more, Journal};
+ghost use Rattle.ha_config.specs.Fair.{IsPlain};
 ghost use Rattle.ha_model.specs.Records.{Records};
 ghost use Rattle.ha_model.specs.Lawful.{Right};
 ghost use Rattle.trig_set.specs.Left.{Leaves};
@@ -19,7 +18,9 @@ use engine_parts::attend::attend;
 use engine_parts::last::last_entry;
 use engine_parts::left::attend_left;
 use engine_parts::parts::Parts;
-use ha_model::{Cmd, EntityId, Entry, Many, Value, Word};
+use ha_config::Cmd;
+use ha_journal::Entry;
+use ha_value::{EntityId, Many, Value, Word};
 use run_modes::Runs;
 use std::alloc::{AllocError, Global};
 use trig_set::Before;

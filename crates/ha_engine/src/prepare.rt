@@ -2,16 +2,14 @@
 ghost use Rattle.std.specs.Prelude.{◌≡◌, ◌+◌, ◌-◌, ◌<◌, ◌≤◌, ◌^◌, ◌∷◌, [], ◌++◌, ◌||◌, ℕ, suc, true, false, IsTrue, List, Some, None, IfOk, OnOk, length, map, slice_get, if◌then◌else◌};
 ghost use Rattle.std.specs.List.{enumerate_from};
 ghost use Rattle.std.specs.Option.{option_copied, option_map_or};
-ghost use Rattle.ha_model.specs.declared.steps.Firing.{Firing as Fire};
-ghost use Rattle.ha_model.specs.Attempts.{attempts, by_hand, fired as fired_lem, passes as passes_lem};
-ghost use Rattle.ha_model.specs.Conditions.{hold_all};
-ghost use Rattle.ha_model.specs.Entries.{asked_in};
-ghost use Rattle.ha_model.specs.Journal.{Journal, IsJournal, automations};
-ghost use Rattle.ha_model.specs.RecordSteps.{more};
-ghost use Rattle.ha_model.specs.Records.{last_place, passing};
-ghost use Rattle.ha_model.specs.Sound.{IsSoundConfig, are_sound_actions};
-ghost use Rattle.ha_model.specs.States.{automation_named};
-ghost use Rattle.ha_model.specs.Triggers.{sight};
+ghost use Rattle.ha_journal.specs.declared.firing.Firing.{Firing as Fire};
+ghost use Rattle.ha_journal.specs.Attempts.{attempts, by_hand, fired as fired_lem, passes as passes_lem, passing};
+ghost use Rattle.ha_sight.specs.Conditions.{hold_all};
+ghost use Rattle.ha_journal.specs.Entries.{asked_in};
+ghost use Rattle.ha_journal.specs.Journal.{Journal, IsJournal, automations, more, last_place};
+ghost use Rattle.ha_config.specs.Sound.{IsSoundConfig, are_sound_actions};
+ghost use Rattle.ha_config.specs.Names.{automation_named};
+ghost use Rattle.ha_journal.specs.Moves.{sight};
 ghost use Rattle.script_step.specs.Few.{has_few_lists};
 ghost use Rattle.script_step.specs.Gates.{first_fronts};
 ghost use Rattle.engine_parts.specs.Fronts.{Stands, fronts};
@@ -25,10 +23,10 @@ use cond_eval::View;
 use engine_parts::attempts::hold_all;
 use engine_parts::last::{configuration, last_entry};
 use engine_parts::parts::Parts;
-use ha_model::{
-    Action, Answers, Automation, Cmd, Config, Entry, Env, Firing, Item, Many, Mode, TriggerData,
-    Value, Word, same_text,
-};
+use ha_config::{Action, Automation, Cmd, Config, Mode, same_text};
+use ha_journal::{Entry, Firing};
+use ha_sight::{Answers, Env, Item, TriggerData};
+use ha_value::{Many, Value, Word};
 use script_step::Frames;
 use std::alloc::{AllocError, Global};
 

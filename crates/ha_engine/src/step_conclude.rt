@@ -1,9 +1,8 @@
 //! The end of the work on a step: its records, the runs that it stops, its attempts, and the flags of the sources.
 ghost use Rattle.std.specs.Prelude.{◌≡◌, ◌<◌, ◌≤◌, ◌∷◌, [], ℕ, suc, OnOk, OnErr, length};
-ghost use Rattle.ha_model.specs.Attempts.{fired as fired_lem};
-ghost use Rattle.ha_model.specs.Journal.{Journal};
+ghost use Rattle.ha_journal.specs.Attempts.{fired as fired_lem};
+ghost use Rattle.ha_journal.specs.Journal.{Journal, last_place};
 ghost use Rattle.ha_model.specs.Lawful.{Right};
-ghost use Rattle.ha_model.specs.Records.{last_place};
 ghost use Rattle.engine_parts.specs.Kept.{Going, Kept, nobody};
 ghost use Rattle.engine_parts.specs.Owners.{attempts_by};
 ghost use Rattle.engine_parts.specs.Records.{HasRoom, IsTable};
@@ -17,7 +16,9 @@ use crate::stop::stop_if;
 use crate::switch::ends_runs;
 use engine_parts::last::last_entry;
 use engine_parts::parts::Parts;
-use ha_model::{Entry, Firing, Item, Many, Progress};
+use ha_journal::{Entry, Firing};
+use ha_sight::{Item, Progress};
+use ha_value::Many;
 use run_modes::Runs;
 use std::alloc::{AllocError, Global};
 

@@ -1,11 +1,11 @@
 //! The records of a step: its call is counted, its run ends where its script does, and the run that was queued behind it begins.
 ghost use Rattle.std.specs.Prelude.{◌≡◌, ◌+◌, ◌-◌, ◌<◌, ◌≤◌, ◌^◌, ◌∷◌, [], ◌++◌, ℕ, suc, List, None, Some, take, drop, length, vec_len, vec_capacity};
-ghost use Rattle.ha_model.specs.declared.journal.Record.{Record as Run};
-ghost use Rattle.ha_model.specs.Entries.{is_call};
-ghost use Rattle.ha_model.specs.Journal.{IsJournal, automations};
+ghost use Rattle.ha_model.specs.declared.record.Record.{Record as Run};
+ghost use Rattle.ha_sight.specs.Items.{is_call};
+ghost use Rattle.ha_journal.specs.Journal.{IsJournal, automations, last_place};
 ghost use Rattle.ha_model.specs.Lawful.{record_of};
-ghost use Rattle.ha_model.specs.Records.{actions_of, last_place};
-ghost use Rattle.ha_model.specs.Scripts.{Branch as Path};
+ghost use Rattle.ha_model.specs.Records.{actions_of};
+ghost use Rattle.ha_sight.specs.Scripts.{Branch as Path};
 ghost use Rattle.ha_ready.specs.ReadyPairs.{changed_at, pairs_from};
 ghost use Rattle.run_modes.specs.Calls.{call_counted, own_ended};
 ghost use Rattle.run_modes.specs.Table.{HasBegun, ended_at};
@@ -18,7 +18,10 @@ use engine_parts::forget::forget;
 use engine_parts::last::configuration;
 use engine_parts::parts::Parts;
 use engine_parts::ready::{Ready, lower};
-use ha_model::{EndCause, Entry, Item, Many, Progress};
+use ha_journal::Entry;
+use ha_model::EndCause;
+use ha_sight::{Item, Progress};
+use ha_value::Many;
 use run_modes::Runs;
 use std::alloc::Global;
 

@@ -1,7 +1,7 @@
 //! The live runs of an automation that is turned off with stop: they go, and end.
 ghost use Rattle.std.specs.Prelude.{◌≡◌, ◌<◌, ◌≤◌, ℕ, Some, length, if◌then◌else◌};
-ghost use Rattle.ha_model.specs.declared.journal.EndCause.{EndCause as Cause};
-ghost use Rattle.ha_model.specs.Journal.{Journal};
+ghost use Rattle.ha_model.specs.declared.record.EndCause.{EndCause as Cause};
+ghost use Rattle.ha_journal.specs.Journal.{Journal};
 ghost use Rattle.run_modes.specs.Table.{stopped};
 ghost use Rattle.engine_parts.specs.Kept.{Going, nobody};
 ghost use Rattle.engine_parts.specs.Records.{HasRoom, IsTable};

@@ -1,10 +1,10 @@
 //! A line that turns an automation on or off.
 ghost use Rattle.std.specs.Prelude.{◌≡◌, ◌&&◌, ◌≤◌, IsTrue, Some, OnOk, OnErr, not, length};
-ghost use Rattle.ha_model.specs.declared.journal.Cmd as cmd;
-ghost use Rattle.ha_model.specs.Commands.{has_automation};
-ghost use Rattle.ha_model.specs.Journal.{IsJournal, automations};
+ghost use Rattle.ha_config.specs.declared.command.Cmd as cmd;
+ghost use Rattle.ha_journal.specs.Commands.{has_automation};
+ghost use Rattle.ha_journal.specs.Journal.{IsJournal, automations};
 ghost use Rattle.ha_model.specs.Lawful.{Right};
-ghost use Rattle.ha_model.specs.States.{automation_named};
+ghost use Rattle.ha_config.specs.Names.{automation_named};
 ghost use Rattle.engine_parts.specs.Kept.{AreSound, Kept};
 ghost use Rattle.engine_parts.specs.Stages.{PushedAs};
 
@@ -15,7 +15,8 @@ use engine_entry::turn::enter_switches;
 use engine_parts::attend::attend;
 use engine_parts::last::configuration;
 use engine_parts::parts::Parts;
-use ha_model::{Entry, Word};
+use ha_journal::Entry;
+use ha_value::Word;
 use run_modes::Runs;
 use std::alloc::{AllocError, Global};
 

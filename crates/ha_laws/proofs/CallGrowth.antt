@@ -2,19 +2,20 @@
 use Rattle.std.proofs.Common.{◌≡◌, ℕ, zero, suc, ◌-◌, [], ◌∷◌, ◌++◌, set, refl, sym, ap, ◌∙◌, Option}
 use Rattle.std.specs.Prelude.{Some, None, slice_get}
 use Rattle.std.specs.Option.{option_map_or}
-use Rattle.ha_model.specs.declared.journal.Entry.{Entry}
-use Rattle.ha_model.specs.declared.journal.Entry.TheVariants.{Boot, Line, Step}
-use Rattle.ha_model.specs.declared.journal.Record.{Record}
-use Rattle.ha_model.specs.Words.{Text, EachAfter}
-use Rattle.ha_model.specs.Entries.{Called, Stepped, call_in}
-use Rattle.ha_model.specs.Journal.{Journal, automations}
-use Rattle.ha_model.specs.Switches.{name_of}
+use Rattle.ha_journal.specs.declared.entry.Entry.{Entry}
+use Rattle.ha_journal.specs.declared.entry.Entry.TheVariants.{Boot, Line, Step}
+use Rattle.ha_model.specs.declared.record.Record.{Record}
+use Rattle.ha_config.specs.Words.{Text, EachAfter}
+use Rattle.ha_sight.specs.Items.{Called, call_in}
+use Rattle.ha_journal.specs.Entries.{Stepped}
+use Rattle.ha_journal.specs.Journal.{Journal, automations}
+use Rattle.ha_config.specs.Names.{name_of}
 use Rattle.ha_model.specs.Records.{Records, calls_of}
 use Rattle.ha_model.specs.Lawful.{IsRightEntry, Right}
 use Rattle.ha_laws.specs.OneRun.{SameNumbers}
-use Rattle.ha_model.specs.Texts.{call_line, call_of_step, call_text_of, call_text, texts_after}
-use Rattle.ha_model.proofs.LawfulLaws.{none-some}
-use Rattle.ha_model.proofs.LawfulLaws.{some-same}
+use Rattle.ha_journal.specs.EntryText.{call_line, texts_after}
+use Rattle.ha_model.specs.Texts.{call_of_step, call_text_of, call_text}
+use Rattle.ha_config.proofs.ListLemmas.{none-some, some-same}
 
 pub numbers-append : (rs more : Records) → SameNumbers rs (rs ++ more)
 numbers-append [] more = tt

@@ -8,30 +8,29 @@ use Rattle.ha_value.specs.Ids.{entity_text, is_entity, is_name, is_name_byte, re
 use Rattle.ha_value.specs.Lists.{trimmed, before_end}
 use Rattle.ha_value.specs.Truth.{is_blank, is_blank_or_break}
 use Rattle.ha_value.proofs.PrintLemmas.{id_is_read}
-use Rattle.ha_model.specs.declared.template.Piece.TheVariants.{outs-Text}
-use Rattle.ha_model.specs.declared.config.Action.{Action}
-use Rattle.ha_model.specs.declared.config.ActionKind.{ActionKind}
-use Rattle.ha_model.specs.declared.config.ActionKind.TheViews.{out-ActionKind, out-Action}
-use Rattle.ha_model.specs.declared.config.ActionKind.TheFolds.{fold_out-ActionKind, fold_out-Action, map-ActionKind}
-use Rattle.ha_model.specs.declared.config.ActionKind.TheVariants.{outs-Call}
-use Rattle.ha_model.specs.declared.journal.Item.{Item}
-use Rattle.ha_model.specs.declared.journal.Record.{Record}
-use Rattle.ha_model.specs.Words.{Text, Pairs, same, without_breaks, without_blanks, is_empty_text, parts_between_commas}
-use Rattle.ha_model.specs.Values.{bounded}
-use Rattle.ha_model.specs.States.{Sight}
-use Rattle.ha_model.specs.Templates.{pieces_of, rendered}
-use Rattle.ha_model.specs.Journal.{Journal, automations}
-use Rattle.ha_model.specs.Triggers.{sight}
-use Rattle.ha_model.specs.Scripts.{Branch, Status, whole, called, ends}
-use Rattle.ha_model.specs.Waits.{next_spot}
-use Rattle.ha_model.specs.Branches.{action_branches, branches_of, kind_branches}
-use Rattle.ha_model.specs.Calls.{all_read, call_item, checked_then, entities_in, item_of, no_service, no_target, service_of, target_of, template_fault}
+use Rattle.ha_config.specs.declared.template.Piece.TheVariants.{outs-Text}
+use Rattle.ha_config.specs.declared.config.Action.{Action}
+use Rattle.ha_config.specs.declared.config.ActionKind.{ActionKind}
+use Rattle.ha_config.specs.declared.config.ActionKind.TheViews.{out-ActionKind, out-Action}
+use Rattle.ha_config.specs.declared.config.ActionKind.TheFolds.{fold_out-ActionKind, fold_out-Action, map-ActionKind}
+use Rattle.ha_config.specs.declared.config.ActionKind.TheVariants.{outs-Call}
+use Rattle.ha_sight.specs.declared.item.Item.{Item}
+use Rattle.ha_model.specs.declared.record.Record.{Record}
+use Rattle.ha_config.specs.Words.{Text, Pairs, same, without_breaks, without_blanks, is_empty_text, parts_between_commas}
+use Rattle.ha_sight.specs.Values.{bounded}
+use Rattle.ha_sight.specs.Sight.{Sight}
+use Rattle.ha_sight.specs.Templates.{pieces_of, rendered}
+use Rattle.ha_journal.specs.Journal.{Journal, automations}
+use Rattle.ha_journal.specs.Moves.{sight}
+use Rattle.ha_sight.specs.Scripts.{Branch, Status, whole, called, ends}
+use Rattle.ha_journal.specs.Waits.{next_spot}
+use Rattle.ha_sight.specs.Branches.{action_branches, branches_of, kind_branches}
+use Rattle.ha_sight.specs.Calls.{all_read, call_item, checked_then, entities_in, item_of, no_service, no_target, service_of, target_of, template_fault}
 use Rattle.ha_model.specs.Records.{spots, actions_of, ran_on}
 use Rattle.ha_laws.specs.OneCall.{IsCallable, call_made, literal_text, one_call}
-use Rattle.ha_model.proofs.Rolls.{below_kind, run_action-out, run_kind-out, pieces_of-out, piece-out}
-use Rattle.ha_model.proofs.AppendLemmas.{append-nil}
-use Rattle.ha_model.proofs.EqualLemmas.{and_left, and_right, same-refl, same-sound}
-use Rattle.ha_model.proofs.LawfulLaws.{some-same}
+use Rattle.ha_sight.proofs.Rolls.{below_kind, run_action-out, run_kind-out, pieces_of-out, piece-out}
+use Rattle.ha_config.proofs.ListLemmas.{append-nil, some-same}
+use Rattle.ha_config.proofs.EqualLemmas.{and_left, and_right, same-refl, same-sound}
 
 -- ---- the script at its place
 

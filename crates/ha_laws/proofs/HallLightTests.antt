@@ -2,10 +2,10 @@
 use Rattle.ha_laws.proofs.AsciiTexts.{on-utf8, off-utf8}
 use Rattle.std.proofs.Common.{◌≡◌, [], ◌∷◌, true, refl, arith, inl}
 use Rattle.std.specs.Prelude.{Some, None}
-use Rattle.ha_model.specs.declared.journal.Item.{Item}
-use Rattle.ha_model.specs.Scripts.{Status, whole}
+use Rattle.ha_sight.specs.declared.item.Item.{Item}
+use Rattle.ha_sight.specs.Scripts.{Status, whole}
 use Rattle.ha_model.specs.Lawful.{is_quiet, Lawful, Right}
-use Rattle.ha_model.proofs.Rolls.{rolls}
+use Rattle.ha_sight.proofs.Rolls.{rolls}
 use Rattle.ha_value.specs.Ids.{read_entity}
 use Rattle.ha_laws.specs.WorkedHall.{hall_light, on_item, off_item, journal, env, spot, the_record, records}
 

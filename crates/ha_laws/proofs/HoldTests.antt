@@ -7,9 +7,9 @@ use Rattle.ha_value.specs.Numbers.{read_number}
 use Rattle.ha_value.specs.Truth.{says_yes_text}
 use Rattle.ha_value.specs.Ids.{read_entity}
 use Rattle.ha_value.specs.Arithmetic.{to_whole}
-use Rattle.ha_model.specs.declared.journal.EndCause.{EndCause}
+use Rattle.ha_model.specs.declared.record.EndCause.{EndCause}
 use Rattle.ha_model.specs.Records.{records_of}
-use Rattle.ha_model.proofs.Rolls.{rolls}
+use Rattle.ha_sight.proofs.Rolls.{rolls}
 use Rattle.ha_laws.specs.WorkedHolds.{attempted, number_held, template_held, attribute_held, queue_of_one, queue_run}
 
 pub number-too-soon : attempted number_held 3 ≡ []

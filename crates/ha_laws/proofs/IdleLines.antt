@@ -5,31 +5,36 @@ use Rattle.std.specs.List.{list_all, list_any, enumerate_from}
 use Rattle.std.specs.Option.{option_map_or}
 use Rattle.ha_value.specs.declared.value.EntityId.{EntityId}
 use Rattle.ha_value.specs.declared.value.Num.{Num}
-use Rattle.ha_model.specs.declared.config.Automation.{Automation}
-use Rattle.ha_model.specs.declared.config.Trigger.{Trigger}
-use Rattle.ha_model.specs.declared.config.TriggerRule.{TriggerRule}
-use Rattle.ha_model.specs.declared.journal.Cmd.{Cmd}
-use Rattle.ha_model.specs.declared.journal.EndCause.{EndCause}
-use Rattle.ha_model.specs.declared.journal.Entry.{Entry}
-use Rattle.ha_model.specs.declared.journal.Entry.TheVariants.{Line}
-use Rattle.ha_model.specs.declared.journal.Record.{Record}
-use Rattle.ha_model.specs.Words.{Text, same_entity, one_of, up_to}
-use Rattle.ha_model.specs.Numbers.{in_bounds}
-use Rattle.ha_model.specs.Entries.{Reported, Asked, asked_in, Turning, turning, report_in, gone_in, event_in, is_moment, is_restart, opens_segment, step_of}
-use Rattle.ha_model.specs.Journal.{Journal, HasEntry, automations, brings, zone_of, now}
-use Rattle.ha_model.specs.Switches.{is_on}
-use Rattle.ha_model.specs.States.{states, switches_of}
-use Rattle.ha_model.specs.Templates.{rendered, says}
-use Rattle.ha_model.specs.Conditions.{number_watched}
-use Rattle.ha_model.specs.Triggers.{state_moves, latest_number, pair_holds, passed, before, after, rule_moves, starts, moves, same_watched, between, fires}
-use Rattle.ha_model.specs.Attempts.{Attempt, attempts}
-use Rattle.ha_model.specs.Records.{Records, last_place, mode_of, or_else, script_end, ran, stops, stops_turned, own_cause, end_here, next_place, is_restart_mode, is_step_of, is_call, calls_of, with_ends, with_begins, begin_of, last_record, bare, ended, records_of}
-use Rattle.ha_model.specs.RecordSteps.{more, end_now, admit_now}
-use Rattle.ha_model.proofs.StateLemmas.{now-snoc}
-use Rattle.ha_model.proofs.SinceLaws.{take-before, get-last, on-left}
-use Rattle.ha_model.proofs.RecordGrowth.{AllBelow, automations-more, below-bare}
-use Rattle.ha_model.proofs.RecordLaws.{at_place, length-more, through-last, ended-more}
-use Rattle.ha_model.proofs.FiringLaws.{EachOf, EachTrigger, FiresNot, state-stays, states-left, attempts-none, passing-none}
+use Rattle.ha_config.specs.declared.config.Automation.{Automation}
+use Rattle.ha_config.specs.declared.config.Trigger.{Trigger}
+use Rattle.ha_config.specs.declared.config.TriggerRule.{TriggerRule}
+use Rattle.ha_config.specs.declared.command.Cmd.{Cmd}
+use Rattle.ha_model.specs.declared.record.EndCause.{EndCause}
+use Rattle.ha_journal.specs.declared.entry.Entry.{Entry}
+use Rattle.ha_journal.specs.declared.entry.Entry.TheVariants.{Line}
+use Rattle.ha_model.specs.declared.record.Record.{Record}
+use Rattle.ha_config.specs.Words.{Text, same_entity, one_of, up_to, or_else}
+use Rattle.ha_config.specs.Numbers.{in_bounds}
+use Rattle.ha_journal.specs.Entries.{Reported, Asked, asked_in, Turning, turning, report_in, gone_in, event_in, is_moment, is_restart, opens_segment, step_of}
+use Rattle.ha_journal.specs.Journal.{Journal, HasEntry, automations, brings, zone_of, now, last_place, more}
+use Rattle.ha_journal.specs.Switches.{is_on}
+use Rattle.ha_journal.specs.States.{states, switches_of}
+use Rattle.ha_sight.specs.Templates.{rendered, says}
+use Rattle.ha_sight.specs.Conditions.{number_watched}
+use Rattle.ha_sight.specs.Rules.{state_moves, pair_holds, passed, starts}
+use Rattle.ha_journal.specs.Moves.{latest_number, before, after, rule_moves, moves}
+use Rattle.ha_journal.specs.Holds.{same_watched, between, fires}
+use Rattle.ha_journal.specs.Attempts.{Attempt, attempts}
+use Rattle.ha_model.specs.Records.{Records, mode_of, script_end, ran, stops, stops_turned, own_cause, end_here, next_place, is_restart_mode, is_step_of, calls_of, with_ends, with_begins, begin_of, last_record, bare, ended, records_of}
+use Rattle.ha_sight.specs.Items.{is_call}
+use Rattle.ha_model.specs.RecordSteps.{end_now, admit_now}
+use Rattle.ha_journal.proofs.StateLemmas.{now-snoc}
+use Rattle.ha_journal.proofs.SinceLaws.{take-before, on-left}
+use Rattle.ha_config.proofs.ListLemmas.{get-last}
+use Rattle.ha_model.proofs.RecordGrowth.{AllBelow, below-bare}
+use Rattle.ha_journal.proofs.MoreLemmas.{automations-more, length-more, through-last}
+use Rattle.ha_model.proofs.RecordLaws.{at_place, ended-more}
+use Rattle.ha_journal.proofs.FiringLaws.{EachOf, EachTrigger, FiresNot, state-stays, states-left, attempts-none, passing-none}
 use Rattle.ha_model.proofs.LastEntry.{last-is, or-none, calls-more}
 use Rattle.ha_laws.specs.IdleLines.{IsIdle, NothingChanges}
 
@@ -138,17 +143,17 @@ module _ (j : Journal) (x : Entry) (h : HasEntry j) (s : IsStill x) where
 
   moves-still : (t : Trigger) (e : Option EntityId) → moves k t e p ≡ false
   moves-still t e =
-      (λ i. option_map_or (λ y. if opens_segment y then starts k t.rule && is_none e else rule_moves k t.rule (is_some t.hold) e p y) (get-last j x i) false)
-      ∙ (λ i. if s.opens i then starts k t.rule && is_none e else rule_moves k t.rule (is_some t.hold) e p x)
+      (λ i. option_map_or (λ y. if opens_segment y then starts t.rule && is_none e else rule_moves k t.rule (is_some t.hold) e p y) (get-last j x i) false)
+      ∙ (λ i. if s.opens i then starts t.rule && is_none e else rule_moves k t.rule (is_some t.hold) e p x)
       ∙ rule-still t.rule (is_some t.hold) e
 
   abbrev with_hold : Trigger → Option ℕ → Trigger
   with_hold t hold = record t { hold = hold }
 
   fires-still : (t : Trigger) (hold : Option ℕ) (e : Option EntityId) (since i : ℕ) → fires k (with_hold t hold) e since p i ≡ false
-  fires-still t None e since i = (λ q. (nat_eq i p && moves-still (with_hold t None) e q) && (nat_lt since p || starts k t.rule)) ∙ first (nat_eq i p)
+  fires-still t None e since i = (λ q. (nat_eq i p && moves-still (with_hold t None) e q) && (nat_lt since p || starts t.rule)) ∙ first (nat_eq i p)
     where
-      first : (b : Bool) → ((b && false) && (nat_lt since p || starts k t.rule)) ≡ false
+      first : (b : Bool) → ((b && false) && (nat_lt since p || starts t.rule)) ≡ false
       first true = refl
       first false = refl
   fires-still t (Some d) e since i =

@@ -1,10 +1,10 @@
 -- Records in the modes restart and queued, computed.
 use Rattle.std.proofs.Common.{◌≡◌, [], ◌∷◌, refl}
 use Rattle.std.specs.Prelude.{Some, None}
-use Rattle.ha_model.specs.declared.config.Mode.{Mode}
-use Rattle.ha_model.specs.declared.journal.EndCause.{EndCause}
+use Rattle.ha_config.specs.declared.config.Mode.{Mode}
+use Rattle.ha_model.specs.declared.record.EndCause.{EndCause}
 use Rattle.ha_model.specs.Records.{records_of}
-use Rattle.ha_model.proofs.Rolls.{rolls}
+use Rattle.ha_sight.proofs.Rolls.{rolls}
 use Rattle.ha_value.specs.Ids.{read_entity}
 use Rattle.ha_laws.specs.WorkedModes.{twice, env_at, then_done}
 

@@ -1,25 +1,25 @@
 -- The makers of the entries, the Boot and the lines of each source leave one lawful journal.
 use Rattle.std.proofs.Common.{◌≡◌, ℕ, zero, suc, ◌-◌, ◌<◌, inl, inr, List, [], ◌∷◌, ◌++◌, length, Bool, true, false, refl, sym, ap, subst, ◌∙◌, rules, arith, Option, append_assoc, length-append}
 use Rattle.std.specs.List.{list_all}
-use Rattle.ha_model.proofs.EqualLemmas.{and_right}
+use Rattle.ha_config.proofs.EqualLemmas.{and_right}
 use Rattle.std.specs.Prelude.{Some, slice_get, count_by, option_and_then, nat_eq, if◌then◌else◌}
-use Rattle.ha_model.specs.declared.journal.Cmd.{Cmd}
-use Rattle.ha_model.specs.declared.journal.Item.{Item}
-use Rattle.ha_model.specs.declared.journal.Entry.{Entry}
-use Rattle.ha_model.specs.declared.journal.Entry.TheVariants.{Boot, Line, Step}
-use Rattle.ha_model.specs.declared.journal.Record.{Record}
-use Rattle.ha_model.specs.Words.{Pairs, last_of, EachAfter, EachFrom, EachWith}
-use Rattle.ha_model.specs.Journal.{Journal, IsBoot, automations}
-use Rattle.ha_model.specs.Scripts.{Branch, whole}
-use Rattle.ha_model.specs.Waits.{next_spot}
+use Rattle.ha_config.specs.declared.command.Cmd.{Cmd}
+use Rattle.ha_sight.specs.declared.item.Item.{Item}
+use Rattle.ha_journal.specs.declared.entry.Entry.{Entry}
+use Rattle.ha_journal.specs.declared.entry.Entry.TheVariants.{Boot, Line, Step}
+use Rattle.ha_model.specs.declared.record.Record.{Record}
+use Rattle.ha_config.specs.Words.{Pairs, last_of, EachAfter, EachFrom, EachWith}
+use Rattle.ha_journal.specs.Journal.{Journal, automations, more, HasEntry}
+use Rattle.ha_journal.specs.Entries.{IsBoot}
+use Rattle.ha_sight.specs.Scripts.{Branch, whole}
+use Rattle.ha_journal.specs.Waits.{next_spot}
 use Rattle.ha_model.specs.Records.{Records, records_of, actions_of, spots}
-use Rattle.ha_model.specs.RecordSteps.{more}
 use Rattle.ha_laws.specs.Makers.{Maker, Source, Worker, maker, makers, cmds_of, IsOfOne, OfOne}
 use Rattle.ha_model.specs.NextPlace.{next_item}
 use Rattle.ha_model.specs.Lawful.{is_running, IsRightEntry, ready, pick, is_line_of, is_empty, is_quiet, is_rested, is_by_worker_0, IsTurn, IsDue, Lawful}
-use Rattle.ha_model.proofs.AppendLemmas.{append-nil, SameRun, SameUpTo, ready-same}
-use Rattle.ha_model.proofs.RecordGrowth.{HasEntry, true-false}
-use Rattle.ha_model.proofs.LawfulLaws.{none-some, some-same, rested-same}
+use Rattle.ha_config.proofs.ListLemmas.{append-nil, true-false, none-some, some-same}
+use Rattle.ha_model.proofs.AppendLemmas.{SameRun, SameUpTo, ready-same}
+use Rattle.ha_model.proofs.LawfulLaws.{rested-same}
 use Rattle.ha_model.proofs.StepLaws.{ran-step}
 use Rattle.ha_laws.proofs.PrefixLaws.{records-prefix, has-more}
 

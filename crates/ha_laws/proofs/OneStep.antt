@@ -4,21 +4,20 @@ use Rattle.std.specs.Prelude.{Some, None, is_none, nat_eq, nat_lt, nat_le, flat_
 use Rattle.std.specs.Option.{option_map_or}
 use Rattle.std.proofs.lemmas.Bool.Decides.{nat_tests}
 use Rattle.std.proofs.lemmas.Option.{slice_get_within}
-use Rattle.ha_model.specs.declared.journal.Cmd.{Cmd}
-use Rattle.ha_model.specs.declared.journal.EndCause.{EndCause}
-use Rattle.ha_model.specs.declared.journal.Entry.{Entry}
-use Rattle.ha_model.specs.declared.journal.Entry.TheVariants.{Boot, Line, Step}
-use Rattle.ha_model.specs.declared.journal.Record.{Record}
-use Rattle.ha_model.specs.Words.{EachAfter}
-use Rattle.ha_model.specs.Journal.{Journal, HasEntry, automations}
-use Rattle.ha_model.specs.Waits.{next_spot}
-use Rattle.ha_model.specs.Branches.{branches_of}
+use Rattle.ha_config.specs.declared.command.Cmd.{Cmd}
+use Rattle.ha_model.specs.declared.record.EndCause.{EndCause}
+use Rattle.ha_journal.specs.declared.entry.Entry.{Entry}
+use Rattle.ha_journal.specs.declared.entry.Entry.TheVariants.{Boot, Line, Step}
+use Rattle.ha_model.specs.declared.record.Record.{Record}
+use Rattle.ha_config.specs.Words.{EachAfter}
+use Rattle.ha_journal.specs.Journal.{Journal, HasEntry, automations, more}
+use Rattle.ha_journal.specs.Waits.{next_spot}
+use Rattle.ha_sight.specs.Branches.{branches_of}
 use Rattle.ha_model.specs.Records.{Records, spot_of, spots_from, spots, actions_of, live_count}
-use Rattle.ha_model.specs.RecordSteps.{more}
 use Rattle.ha_model.specs.Lawful.{is_running, is_empty, IsRightEntry, Right, may_step, ready_of, ready, is_quiet, is_rested, is_line_of}
 use Rattle.ha_laws.specs.OneRun.{has_ended, AllEnded, IsBegun}
-use Rattle.ha_model.proofs.AppendLemmas.{append-nil}
-use Rattle.ha_model.proofs.RecordLaws.{length-more}
+use Rattle.ha_config.proofs.ListLemmas.{append-nil}
+use Rattle.ha_journal.proofs.MoreLemmas.{length-more}
 use Rattle.ha_model.proofs.RestedLaws.{rested-more}
 use Rattle.ha_model.proofs.StepLaws.{serial-at}
 

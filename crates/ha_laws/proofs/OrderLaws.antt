@@ -3,14 +3,14 @@ use Rattle.std.proofs.Common.{◌≡◌, ℕ, [], ◌∷◌, ◌++◌, length, B
 use Rattle.std.specs.Prelude.{Some, None, not, slice_get, is_none, nat_eq, nat_le, nat_lt, ◌&&◌, ◌||◌, if◌then◌else◌}
 use Rattle.std.specs.List.{list_any}
 use Rattle.std.specs.Option.{option_map_or}
-use Rattle.ha_model.specs.declared.config.Mode.{Mode}
-use Rattle.ha_model.specs.declared.journal.EndCause.{EndCause}
-use Rattle.ha_model.specs.declared.journal.Record.{Record}
-use Rattle.ha_model.specs.Journal.{Journal, automations}
+use Rattle.ha_config.specs.declared.config.Mode.{Mode}
+use Rattle.ha_model.specs.declared.record.EndCause.{EndCause}
+use Rattle.ha_model.specs.declared.record.Record.{Record}
+use Rattle.ha_journal.specs.Journal.{Journal, automations}
 use Rattle.ha_model.specs.Records.{Records, mode_of, next_place, with_ends, bare, with_begins, records_of, last_record}
 use Rattle.ha_model.specs.Lawful.{Right}
 use Rattle.ha_laws.specs.Told.{has_ended_by, is_unended}
-use Rattle.ha_model.proofs.EqualLemmas.{and_left}
+use Rattle.ha_config.proofs.EqualLemmas.{and_left}
 use Rattle.ha_model.proofs.RecordGrowth.{is-at-most}
 use Rattle.ha_model.proofs.StepLaws.{serial-at}
 use Rattle.ha_laws.proofs.ToldSteps.{step-runs}

@@ -2,20 +2,23 @@
 use Rattle.std.proofs.Common.{◌≡◌, ℕ, suc, ◌+◌, ◌-◌, ◌<◌, List, [], ◌∷◌, ◌++◌, length, Bool, true, false, cond, refl, sym, ap, subst, ◌∙◌, arith, Option, length-append}
 use Rattle.std.specs.Prelude.{Some, None, is_none, option_and_then, nat_eq, nat_lt, fold, ◌&&◌, if◌then◌else◌}
 use Rattle.std.specs.Option.{option_map_or}
-use Rattle.ha_model.specs.declared.journal.Cmd.{Cmd}
-use Rattle.ha_model.specs.declared.journal.Entry.{Entry}
-use Rattle.ha_model.specs.declared.journal.Entry.TheVariants.{Line}
-use Rattle.ha_model.specs.declared.journal.EndCause.{EndCause}
-use Rattle.ha_model.specs.declared.journal.Record.{Record}
-use Rattle.ha_model.specs.Journal.{Journal, automations}
-use Rattle.ha_model.specs.Attempts.{Attempt}
-use Rattle.ha_model.specs.Records.{Records, last_place, passing, mode_of, max_of, script_end, or_else, own_cause, replaced, is_restart_mode, is_step_of, stops, is_restart, end_here, next_place, lets_in, live_count, new_record, last_record, begin_of, calls_of, with_begins, ended, ran}
-use Rattle.ha_model.specs.RecordSteps.{more, end_now, admit_now, records_after}
+use Rattle.ha_config.specs.declared.command.Cmd.{Cmd}
+use Rattle.ha_journal.specs.declared.entry.Entry.{Entry}
+use Rattle.ha_journal.specs.declared.entry.Entry.TheVariants.{Line}
+use Rattle.ha_model.specs.declared.record.EndCause.{EndCause}
+use Rattle.ha_model.specs.declared.record.Record.{Record}
+use Rattle.ha_journal.specs.Journal.{Journal, automations, last_place, more, HasEntry}
+use Rattle.ha_journal.specs.Attempts.{Attempt, passing}
+use Rattle.ha_model.specs.Records.{Records, mode_of, max_of, script_end, own_cause, replaced, is_restart_mode, is_step_of, stops, end_here, next_place, lets_in, live_count, new_record, last_record, begin_of, calls_of, with_begins, ended, ran}
+use Rattle.ha_config.specs.Words.{or_else}
+use Rattle.ha_journal.specs.Entries.{is_restart}
+use Rattle.ha_model.specs.RecordSteps.{end_now, admit_now, records_after}
 use Rattle.ha_laws.specs.SingleMode.{AllSingle, IsPlain, started, admit_started}
-use Rattle.ha_model.specs.Lawful.{IsFair, IsTurn, Right, Running}
+use Rattle.ha_journal.specs.Commands.{IsFair}
+use Rattle.ha_model.specs.Lawful.{IsTurn, Right, Running}
 use Rattle.ha_model.proofs.RecordLaws.{at_place, ended-more, records-more}
-use Rattle.ha_model.proofs.RecordGrowth.{HasEntry, automations-more}
-use Rattle.ha_model.proofs.LawfulLaws.{has-entry, running-more}
+use Rattle.ha_journal.proofs.MoreLemmas.{automations-more, has-entry}
+use Rattle.ha_model.proofs.LawfulLaws.{running-more}
 use Rattle.ha_model.proofs.LastEntry.{last-is, or-none, calls-more, no-calls}
 
 -- no replacement but in mode restart

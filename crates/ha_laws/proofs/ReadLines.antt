@@ -2,13 +2,14 @@
 use Rattle.std.proofs.Common.{◌≡◌, ℕ, List, [], ◌∷◌, ◌++◌, map, Bool, true, false, refl, sym, ◌∙◌}
 use Rattle.std.specs.Prelude.{nat_eq, if◌then◌else◌}
 use Rattle.std.specs.List.{AllZip}
-use Rattle.ha_model.specs.declared.journal.Cmd.{Cmd}
-use Rattle.ha_model.specs.declared.journal.Entry.{Entry}
-use Rattle.ha_model.specs.declared.journal.Entry.TheVariants.{Boot, Line, Step}
-use Rattle.ha_model.specs.Journal.{Journal, IsBoot}
+use Rattle.ha_config.specs.declared.command.Cmd.{Cmd}
+use Rattle.ha_journal.specs.declared.entry.Entry.{Entry}
+use Rattle.ha_journal.specs.declared.entry.Entry.TheVariants.{Boot, Line, Step}
+use Rattle.ha_journal.specs.Journal.{Journal}
+use Rattle.ha_journal.specs.Entries.{IsBoot}
 use Rattle.ha_model.specs.Records.{Records}
 use Rattle.ha_model.specs.Lawful.{Lawful, is_quiet}
-use Rattle.ha_model.specs.Commands.{Placed, put_as, placed_from, ArePutFrom}
+use Rattle.ha_journal.specs.Commands.{Placed, put_as, placed_from, ArePutFrom}
 use Rattle.ha_laws.specs.Makers.{makers, cmds_of, OfOne}
 use Rattle.ha_laws.proofs.OneAnswer.{one_answer, one_source}
 

@@ -1,18 +1,21 @@
 -- A right journal with one more entry, whose turn it is, is lawful with its records.
 use Rattle.std.proofs.Common.{◌≡◌, ℕ, suc, ◌-◌, List, [], ◌∷◌, ◌++◌, length, refl, sym, subst, ◌∙◌, arith, append_assoc, length-append}
 use Rattle.std.specs.Prelude.{IsTrue, option_and_then}
-use Rattle.ha_model.specs.declared.journal.Item.{Item}
-use Rattle.ha_model.specs.declared.journal.Entry.{Entry}
-use Rattle.ha_model.specs.declared.journal.Entry.TheVariants.{Boot, Line, Step}
-use Rattle.ha_model.specs.Words.{last_of, EachAfter, EachFrom}
-use Rattle.ha_model.specs.Journal.{Journal, IsJournal, IsBoot, HasEntry, automations}
-use Rattle.ha_model.specs.Scripts.{Branch, whole}
+use Rattle.ha_sight.specs.declared.item.Item.{Item}
+use Rattle.ha_journal.specs.declared.entry.Entry.{Entry}
+use Rattle.ha_journal.specs.declared.entry.Entry.TheVariants.{Boot, Line, Step}
+use Rattle.ha_config.specs.Words.{last_of, EachAfter, EachFrom}
+use Rattle.ha_journal.specs.Journal.{Journal, IsJournal, HasEntry, automations, more}
+use Rattle.ha_journal.specs.Entries.{IsBoot}
+use Rattle.ha_sight.specs.Scripts.{Branch, whole}
 use Rattle.ha_model.specs.Records.{Records, spots, actions_of}
-use Rattle.ha_model.specs.RecordSteps.{more, records_after}
+use Rattle.ha_model.specs.RecordSteps.{records_after}
 use Rattle.ha_model.specs.Lawful.{is_running, IsRightEntry, Right, IsTurn, IsBusy, Lawful, Running}
-use Rattle.ha_model.proofs.AppendLemmas.{append-nil, SameUpTo}
+use Rattle.ha_config.proofs.ListLemmas.{append-nil}
+use Rattle.ha_model.proofs.AppendLemmas.{SameUpTo}
 use Rattle.ha_model.proofs.RecordLaws.{records-more}
-use Rattle.ha_model.proofs.LawfulLaws.{has-entry, same-after, running-more, closing-more}
+use Rattle.ha_journal.proofs.MoreLemmas.{has-entry}
+use Rattle.ha_model.proofs.LawfulLaws.{same-after, running-more, closing-more}
 use Rattle.ha_laws.proofs.OneAnswer.{back-same}
 
 -- the fact on the last member

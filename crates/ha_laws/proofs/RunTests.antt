@@ -11,37 +11,37 @@ use Rattle.ha_value.specs.declared.value.Value.TheViews.{roll-Value, out-roll-Va
 use Rattle.ha_value.specs.Ids.{read_entity}
 use Rattle.ha_value.specs.Numbers.{read_number, print_number}
 use Rattle.ha_value.specs.Truth.{says_yes_text}
-use Rattle.ha_model.specs.declared.template.Template.{Template}
-use Rattle.ha_model.specs.declared.template.Expr.{Expr}
-use Rattle.ha_model.specs.declared.template.Expr.TheOpen.{Expr-F}
-use Rattle.ha_model.specs.declared.template.Expr.TheViews.{roll-Expr}
-use Rattle.ha_model.specs.declared.config.Form.{Form}
-use Rattle.ha_model.specs.declared.config.Form.TheOpen.{Form-F}
-use Rattle.ha_model.specs.declared.config.Form.TheViews.{roll-Form}
-use Rattle.ha_model.specs.declared.config.SpanForm.{SpanForm}
-use Rattle.ha_model.specs.declared.config.RepeatKind.{RepeatKind}
-use Rattle.ha_model.specs.declared.config.Automation.{Automation}
-use Rattle.ha_model.specs.declared.config.Trigger.{Trigger}
-use Rattle.ha_model.specs.declared.config.TriggerRule.{TriggerRule}
-use Rattle.ha_model.specs.declared.config.Match.{Match}
-use Rattle.ha_model.specs.declared.config.Mode.{Mode}
-use Rattle.ha_model.specs.declared.config.Condition.TheOpen.{Condition-F}
-use Rattle.ha_model.specs.declared.config.Condition.TheViews.{roll-Condition}
-use Rattle.ha_model.specs.declared.config.Action.{Action}
-use Rattle.ha_model.specs.declared.config.ActionKind.TheOpen.{ActionKind-F}
-use Rattle.ha_model.specs.declared.journal.Cmd.{Cmd}
-use Rattle.ha_model.specs.declared.journal.Item.{Item}
-use Rattle.ha_model.specs.declared.journal.Entry.{Entry}
-use Rattle.ha_model.specs.declared.journal.EndCause.{EndCause}
-use Rattle.ha_model.specs.Words.{Text}
-use Rattle.ha_model.specs.Journal.{Journal}
-use Rattle.ha_model.specs.Switches.{is_on}
-use Rattle.ha_model.specs.Triggers.{variables}
-use Rattle.ha_model.specs.Scripts.{Spot, Outcome, Status, whole, turns}
-use Rattle.ha_model.specs.Waits.{next_spot}
+use Rattle.ha_config.specs.declared.template.Template.{Template}
+use Rattle.ha_config.specs.declared.template.Expr.{Expr}
+use Rattle.ha_config.specs.declared.template.Expr.TheOpen.{Expr-F}
+use Rattle.ha_config.specs.declared.template.Expr.TheViews.{roll-Expr}
+use Rattle.ha_config.specs.declared.config.Form.{Form}
+use Rattle.ha_config.specs.declared.config.Form.TheOpen.{Form-F}
+use Rattle.ha_config.specs.declared.config.Form.TheViews.{roll-Form}
+use Rattle.ha_config.specs.declared.config.SpanForm.{SpanForm}
+use Rattle.ha_config.specs.declared.config.RepeatKind.{RepeatKind}
+use Rattle.ha_config.specs.declared.config.Automation.{Automation}
+use Rattle.ha_config.specs.declared.config.Trigger.{Trigger}
+use Rattle.ha_config.specs.declared.config.TriggerRule.{TriggerRule}
+use Rattle.ha_config.specs.declared.config.Match.{Match}
+use Rattle.ha_config.specs.declared.config.Mode.{Mode}
+use Rattle.ha_config.specs.declared.config.Condition.TheOpen.{Condition-F}
+use Rattle.ha_config.specs.declared.config.Condition.TheViews.{roll-Condition}
+use Rattle.ha_config.specs.declared.config.Action.{Action}
+use Rattle.ha_config.specs.declared.config.ActionKind.TheOpen.{ActionKind-F}
+use Rattle.ha_config.specs.declared.command.Cmd.{Cmd}
+use Rattle.ha_sight.specs.declared.item.Item.{Item}
+use Rattle.ha_journal.specs.declared.entry.Entry.{Entry}
+use Rattle.ha_model.specs.declared.record.EndCause.{EndCause}
+use Rattle.ha_config.specs.Words.{Text}
+use Rattle.ha_journal.specs.Journal.{Journal}
+use Rattle.ha_journal.specs.Switches.{is_on}
+use Rattle.ha_journal.specs.Variables.{variables}
+use Rattle.ha_sight.specs.Scripts.{Spot, Outcome, Status, whole, turns}
+use Rattle.ha_journal.specs.Waits.{next_spot}
 use Rattle.ha_model.specs.Records.{records_of}
 use Rattle.ha_laws.specs.WorkedHall.{text_template, show, act}
-use Rattle.ha_model.proofs.Rolls.{rolls}
+use Rattle.ha_sight.proofs.Rolls.{rolls}
 
 abbrev start : ℕ
 start = 1714593600000

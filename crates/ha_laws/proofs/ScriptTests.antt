@@ -9,15 +9,15 @@ use Rattle.ha_value.specs.Ids.{read_entity}
 use Rattle.ha_value.specs.Numbers.{read_number, print_number}
 use Rattle.ha_value.specs.Arithmetic.{add}
 use Rattle.ha_clock.specs.SpanText.{span_of, span_seconds, number_of, number_from}
-use Rattle.ha_model.specs.declared.config.Form.TheOpen.{Form-F}
-use Rattle.ha_model.specs.declared.config.Form.TheViews.{roll-Form}
-use Rattle.ha_model.specs.declared.config.SpanForm.{SpanForm}
-use Rattle.ha_model.specs.declared.config.RepeatKind.{RepeatKind}
-use Rattle.ha_model.specs.declared.config.ActionKind.TheOpen.{ActionKind-F}
-use Rattle.ha_model.specs.declared.journal.Item.{Item}
-use Rattle.ha_model.specs.Scripts.{Outcome, Status, whole, turns}
+use Rattle.ha_config.specs.declared.config.Form.TheOpen.{Form-F}
+use Rattle.ha_config.specs.declared.config.Form.TheViews.{roll-Form}
+use Rattle.ha_config.specs.declared.config.SpanForm.{SpanForm}
+use Rattle.ha_config.specs.declared.config.RepeatKind.{RepeatKind}
+use Rattle.ha_config.specs.declared.config.ActionKind.TheOpen.{ActionKind-F}
+use Rattle.ha_sight.specs.declared.item.Item.{Item}
+use Rattle.ha_sight.specs.Scripts.{Outcome, Status, whole, turns}
 use Rattle.ha_laws.specs.WorkedHall.{text_template, act, call}
-use Rattle.ha_model.proofs.Rolls.{rolls}
+use Rattle.ha_sight.proofs.Rolls.{rolls}
 use Rattle.ha_laws.specs.WorkedScripts.{at, number, notify, N, apart, colours, raised, false_inside, delays}
 
 pub six_steps : (whole apart [] (at 1 [] ∷ at 2 [] ∷ at 3 (0 ∷ []) ∷ at 4 (1 ∷ []) ∷ at 5 (0 ∷ []) ∷ at 6 [] ∷ []))

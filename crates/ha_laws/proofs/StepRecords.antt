@@ -1,25 +1,30 @@
 -- What a Step does to the records, where all automations are of mode single and no attempt passes.
 use Rattle.std.proofs.Common.{◌≡◌, ℕ, zero, suc, ◌+◌, ◌-◌, ◌%◌, ◌<◌, ◌≤◌, List, [], ◌∷◌, length, set, Bool, true, false, cond, refl, sym, subst, ◌∙◌, rules, arith, Option}
 use Rattle.std.specs.Prelude.{Some, None, option_and_then, nat_eq, slice_get, ◌&&◌, if◌then◌else◌}
-use Rattle.ha_model.specs.declared.journal.Item.{Item}
-use Rattle.ha_model.specs.declared.journal.Entry.{Entry}
-use Rattle.ha_model.specs.declared.journal.Entry.TheVariants.{Step}
-use Rattle.ha_model.specs.declared.journal.EndCause.{EndCause}
-use Rattle.ha_model.specs.declared.journal.Record.{Record}
-use Rattle.ha_model.specs.Journal.{Journal, automations}
-use Rattle.ha_model.specs.Scripts.{Branch}
-use Rattle.ha_model.specs.Records.{Records, last_place, passing, or_else, own_cause, own_end, replaced, script_end, ran, is_step_of, stops, is_restart, next_place, is_call, calls_of, bare, ended}
-use Rattle.ha_model.specs.RecordSteps.{more, end_now, admit_now, records_after}
+use Rattle.ha_sight.specs.declared.item.Item.{Item}
+use Rattle.ha_journal.specs.declared.entry.Entry.{Entry}
+use Rattle.ha_journal.specs.declared.entry.Entry.TheVariants.{Step}
+use Rattle.ha_model.specs.declared.record.EndCause.{EndCause}
+use Rattle.ha_model.specs.declared.record.Record.{Record}
+use Rattle.ha_journal.specs.Journal.{Journal, automations, last_place, more, HasEntry}
+use Rattle.ha_sight.specs.Scripts.{Branch}
+use Rattle.ha_model.specs.Records.{Records, own_cause, own_end, replaced, script_end, ran, is_step_of, stops, next_place, calls_of, bare, ended}
+use Rattle.ha_journal.specs.Attempts.{passing}
+use Rattle.ha_config.specs.Words.{or_else}
+use Rattle.ha_journal.specs.Entries.{is_restart}
+use Rattle.ha_sight.specs.Items.{is_call}
+use Rattle.ha_model.specs.RecordSteps.{end_now, admit_now, records_after}
 use Rattle.ha_laws.specs.SingleMode.{AllSingle, SwitchesNone, with_step, step_all}
 use Rattle.ha_model.specs.NextPlace.{next_item, next_end}
 use Rattle.ha_model.specs.Lawful.{Right, Running, record_of, ready, pick, is_rested}
 use Rattle.std.proofs.lemmas.Option.{slice_get_within}
-use Rattle.ha_model.proofs.RecordLaws.{at_place, length-more, ended-more, records-more}
-use Rattle.ha_model.proofs.RecordGrowth.{HasEntry, AllBelow, below-bare}
+use Rattle.ha_model.proofs.RecordLaws.{at_place, ended-more, records-more}
+use Rattle.ha_journal.proofs.MoreLemmas.{length-more, has-entry}
+use Rattle.ha_model.proofs.RecordGrowth.{AllBelow, below-bare}
 use Rattle.ha_model.proofs.RunLaws.{below-ends, is-below}
-use Rattle.ha_model.proofs.LawfulLaws.{has-entry, none-some, running-more}
+use Rattle.ha_config.proofs.ListLemmas.{none-some, some-same}
+use Rattle.ha_model.proofs.LawfulLaws.{running-more}
 use Rattle.ha_model.proofs.StepLaws.{ran-step, picked-right, Numbered, numbered-of, ready-found}
-use Rattle.ha_model.proofs.LawfulLaws.{some-same}
 use Rattle.ha_model.proofs.LastEntry.{last-is, calls-more, or-none}
 use Rattle.ha_laws.proofs.PlainLine.{single-replaced, single-more, single-begins, filled}
 

@@ -12,22 +12,22 @@ use Rattle.ha_value.specs.Numbers.{read_number, print_number}
 use Rattle.ha_value.specs.Truth.{says_yes_text}
 use Rattle.ha_value.specs.Ids.{read_entity}
 use Rattle.ha_value.specs.Arithmetic.{add, floor_div, negate, to_whole, round}
-use Rattle.ha_model.specs.declared.template.Op.{Op}
-use Rattle.ha_model.specs.declared.template.Expr.{Expr}
-use Rattle.ha_model.specs.declared.template.Expr.TheOpen.{Expr-F}
-use Rattle.ha_model.specs.declared.template.Expr.TheViews.{roll-Expr}
-use Rattle.ha_model.specs.declared.template.Piece.{Piece}
-use Rattle.ha_model.specs.declared.template.Template.{Template}
-use Rattle.ha_model.specs.declared.template.Piece.TheOpen.{Piece-F}
-use Rattle.ha_model.specs.declared.template.Piece.TheViews.{roll-Piece, roll-Template}
-use Rattle.ha_model.specs.declared.journal.StateObject.{StateObject}
-use Rattle.ha_model.specs.Words.{Text, same_entity}
-use Rattle.ha_model.specs.States.{Sight}
-use Rattle.ha_model.specs.Values.{operate, as_data, part_at}
-use Rattle.ha_model.specs.Filters.{filtered, applied}
-use Rattle.ha_model.specs.Templates.{rendered, says, is_true_text}
-use Rattle.ha_model.specs.ValueText.{print_value}
-use Rattle.ha_model.proofs.Rolls.{rolls}
+use Rattle.ha_config.specs.declared.template.Op.{Op}
+use Rattle.ha_config.specs.declared.template.Expr.{Expr}
+use Rattle.ha_config.specs.declared.template.Expr.TheOpen.{Expr-F}
+use Rattle.ha_config.specs.declared.template.Expr.TheViews.{roll-Expr}
+use Rattle.ha_config.specs.declared.template.Piece.{Piece}
+use Rattle.ha_config.specs.declared.template.Template.{Template}
+use Rattle.ha_config.specs.declared.template.Piece.TheOpen.{Piece-F}
+use Rattle.ha_config.specs.declared.template.Piece.TheViews.{roll-Piece, roll-Template}
+use Rattle.ha_sight.specs.declared.state.StateObject.{StateObject}
+use Rattle.ha_config.specs.Words.{Text, same_entity}
+use Rattle.ha_sight.specs.Sight.{Sight}
+use Rattle.ha_sight.specs.Values.{operate, as_data, part_at}
+use Rattle.ha_sight.specs.Filters.{filtered, applied}
+use Rattle.ha_sight.specs.Templates.{rendered, says, is_true_text}
+use Rattle.ha_config.specs.ValueText.{print_value}
+use Rattle.ha_sight.proofs.Rolls.{rolls}
 
 abbrev lamp : EntityId
 lamp = record { domain = codes "light"; object = codes "x" }

@@ -1,13 +1,13 @@
 -- The texts of a journal with one more entry.
 use Rattle.std.proofs.Common.{◌≡◌, ℕ, List, [], ◌∷◌, ◌++◌, false, refl, sym, ap, ◌∙◌, append_assoc}
-use Rattle.ha_model.specs.declared.journal.Entry.{Entry}
-use Rattle.ha_model.specs.Words.{Text}
-use Rattle.ha_model.specs.Journal.{Journal, HasEntry, automations}
-use Rattle.ha_model.specs.RecordSteps.{more}
+use Rattle.ha_journal.specs.declared.entry.Entry.{Entry}
+use Rattle.ha_config.specs.Words.{Text}
+use Rattle.ha_journal.specs.Journal.{Journal, HasEntry, automations, more}
 use Rattle.ha_model.specs.Records.{Records}
-use Rattle.ha_model.specs.Commands.{placed_line, placed_from, lines_of}
-use Rattle.ha_model.specs.Texts.{texts_after, call_text_of, call_text, error_text_of, error_text, trace_line, trace_text}
-use Rattle.ha_model.proofs.RecordGrowth.{automations-more}
+use Rattle.ha_journal.specs.Commands.{placed_line, placed_from, lines_of}
+use Rattle.ha_journal.specs.EntryText.{texts_after, error_text_of, error_text, trace_line, trace_text}
+use Rattle.ha_model.specs.Texts.{call_text_of, call_text}
+use Rattle.ha_journal.proofs.MoreLemmas.{automations-more}
 
 append-none : {X : Type 0} (xs : List X) → xs ++ [] ≡ xs
 append-none [] = refl

@@ -3,14 +3,17 @@ use Rattle.std.proofs.Common.{◌≡◌, ℕ, List, [], ◌∷◌, ◌++◌, tru
 use Rattle.std.specs.Prelude.{codes}
 use Rattle.std.specs.Fmt.{digits}
 use Rattle.ha_value.specs.Numbers.{print_number}
-use Rattle.ha_model.specs.declared.journal.Cmd.{Cmd}
-use Rattle.ha_model.specs.declared.journal.Item.{Item}
-use Rattle.ha_model.specs.declared.journal.Entry.{Entry}
-use Rattle.ha_model.specs.Commands.{put_as}
-use Rattle.ha_model.specs.CommandText.{cmd_text, item_text}
-use Rattle.ha_model.specs.Texts.{call_text, error_text, store_text, check_text, rehearse_text}
+use Rattle.ha_config.specs.declared.command.Cmd.{Cmd}
+use Rattle.ha_sight.specs.declared.item.Item.{Item}
+use Rattle.ha_journal.specs.declared.entry.Entry.{Entry}
+use Rattle.ha_journal.specs.Commands.{put_as}
+use Rattle.ha_config.specs.CommandText.{cmd_text}
+use Rattle.ha_sight.specs.ItemText.{item_text}
+use Rattle.ha_model.specs.Texts.{call_text, rehearse_text}
+use Rattle.ha_journal.specs.EntryText.{error_text, store_text}
+use Rattle.ha_config.specs.CheckText.{check_text}
 use Rattle.ha_laws.specs.WorkedHall.{journal, records, hall_light}
-use Rattle.ha_model.proofs.Rolls.{rolls}
+use Rattle.ha_sight.proofs.Rolls.{rolls}
 
 -- a line, with the LF that ends it
 abbrev a_line : List ℕ → List ℕ

@@ -5,12 +5,13 @@ use Rattle.std.specs.Option.{option_map_or}
 use Rattle.std.proofs.lemmas.Bool.Decides.{leb_tells}
 use Rattle.std.proofs.lemmas.Bool.{eqb-true}
 use Rattle.std.proofs.lemmas.List.{length-take-le}
-use Rattle.ha_model.specs.declared.config.Mode.{Mode}
-use Rattle.ha_model.specs.declared.journal.EndCause.{EndCause}
-use Rattle.ha_model.specs.declared.journal.Record.{Record}
-use Rattle.ha_model.specs.Journal.{Journal, automations}
-use Rattle.ha_model.specs.Attempts.{Attempt}
-use Rattle.ha_model.specs.Records.{Records, through, last_place, passing, mode_of, max_of, lets_in, or_else, own_end, replaced, is_restart_mode, end_here, end_below, next_place, with_ends, live_count, lets_in_after, new_record, admitted, bare_below, bare, with_begins, records_of, last_record, begin_of, calls_of}
+use Rattle.ha_config.specs.declared.config.Mode.{Mode}
+use Rattle.ha_model.specs.declared.record.EndCause.{EndCause}
+use Rattle.ha_model.specs.declared.record.Record.{Record}
+use Rattle.ha_journal.specs.Journal.{Journal, automations, through, last_place}
+use Rattle.ha_journal.specs.Attempts.{Attempt, passing}
+use Rattle.ha_model.specs.Records.{Records, mode_of, max_of, lets_in, own_end, replaced, is_restart_mode, end_here, end_below, next_place, with_ends, live_count, lets_in_after, new_record, admitted, bare_below, bare, with_begins, records_of, last_record, begin_of, calls_of}
+use Rattle.ha_config.specs.Words.{or_else}
 use Rattle.ha_laws.specs.Told.{Tried, tried_at, passing_below, has_ended_by, is_unended, unended_count, is_admitted, IsRecordOf, HaveRecords}
 use Rattle.ha_model.proofs.RecordLaws.{at_place, last-through}
 use Rattle.ha_model.proofs.RecordGrowth.{EndBelow, below-ends, is-at-most, is-over}

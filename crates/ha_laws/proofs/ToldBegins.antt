@@ -6,20 +6,20 @@ use Rattle.std.specs.List.{list_any}
 use Rattle.std.specs.Option.{option_map_or}
 use Rattle.std.proofs.lemmas.Bool.{eqb-true, leb-true}
 use Rattle.std.proofs.lemmas.List.Folds.{list_any-append}
-use Rattle.ha_model.specs.declared.config.Mode.{Mode}
-use Rattle.ha_model.specs.declared.journal.EndCause.{EndCause}
-use Rattle.ha_model.specs.declared.journal.Record.{Record}
-use Rattle.ha_model.specs.Journal.{Journal, automations}
-use Rattle.ha_model.specs.Attempts.{Attempt}
-use Rattle.ha_model.specs.Records.{Records, through, last_place, passing, mode_of, or_else, own_cause, own_end, replaced, is_restart_mode, ended_by_script, script_end, ran, last_is, is_step_of, end_here, end_below, next_place, with_ends, lets_in_after, new_record, admitted, bare_below, bare, ended, with_begins, records_of, last_record, begin_of, begin_behind, calls_of}
+use Rattle.ha_config.specs.declared.config.Mode.{Mode}
+use Rattle.ha_model.specs.declared.record.EndCause.{EndCause}
+use Rattle.ha_model.specs.declared.record.Record.{Record}
+use Rattle.ha_journal.specs.Journal.{Journal, automations, through, last_place}
+use Rattle.ha_journal.specs.Attempts.{Attempt, passing}
+use Rattle.ha_model.specs.Records.{Records, mode_of, own_cause, own_end, replaced, is_restart_mode, ended_by_script, script_end, ran, last_is, is_step_of, end_here, end_below, next_place, with_ends, lets_in_after, new_record, admitted, bare_below, bare, ended, with_begins, records_of, last_record, begin_of, begin_behind, calls_of}
+use Rattle.ha_config.specs.Words.{or_else}
 use Rattle.ha_model.specs.Lawful.{Right}
 use Rattle.ha_laws.specs.Told.{has_ended_by, is_unended, outer_cause, cause_at, first_below, last_among, begins_behind, told_begin, AreTold, AreNear, ByTheRules}
-use Rattle.ha_model.proofs.EqualLemmas.{and_left}
+use Rattle.ha_config.proofs.EqualLemmas.{and_left}
 use Rattle.ha_model.proofs.RecordLaws.{at_place, last-through}
-use Rattle.ha_model.proofs.RecordGrowth.{AllBelow, is-at-most, true-false}
+use Rattle.ha_model.proofs.RecordGrowth.{AllBelow, is-at-most}
+use Rattle.ha_config.proofs.ListLemmas.{true-false, none-some, some-same}
 use Rattle.ha_model.proofs.RunLaws.{automations-through, is-below}
-use Rattle.ha_model.proofs.LawfulLaws.{none-some}
-use Rattle.ha_model.proofs.LawfulLaws.{some-same}
 use Rattle.ha_model.proofs.StepLaws.{serial-at}
 use Rattle.ha_laws.proofs.ToldAdmitted.{ended-by, end-any-next, records-admitted}
 use Rattle.ha_laws.proofs.ToldSteps.{step-runs, begins-late}

@@ -4,19 +4,18 @@ use Rattle.std.specs.Prelude.{Some, None, is_some, slice_get, nat_eq, nat_le, na
 use Rattle.std.specs.List.{list_any}
 use Rattle.std.specs.Option.{option_map_or}
 use Rattle.std.proofs.lemmas.Bool.Decides.{leb_tells}
-use Rattle.ha_model.specs.declared.config.Mode.{Mode}
-use Rattle.ha_model.specs.declared.journal.EndCause.{EndCause}
-use Rattle.ha_model.specs.declared.journal.Record.{Record}
-use Rattle.ha_model.specs.Words.{EachAfter}
-use Rattle.ha_model.specs.Journal.{Journal, automations}
-use Rattle.ha_model.specs.Attempts.{Attempt}
-use Rattle.ha_model.specs.Records.{Records, through, passing, mode_of, is_restart_mode, last_is, is_step_of, end_below, next_place, with_ends, bare, or_else, end_here, with_begins, records_of, last_record, begin_of, calls_of}
+use Rattle.ha_config.specs.declared.config.Mode.{Mode}
+use Rattle.ha_model.specs.declared.record.EndCause.{EndCause}
+use Rattle.ha_model.specs.declared.record.Record.{Record}
+use Rattle.ha_config.specs.Words.{EachAfter, or_else}
+use Rattle.ha_journal.specs.Journal.{Journal, automations, through}
+use Rattle.ha_journal.specs.Attempts.{Attempt, passing}
+use Rattle.ha_model.specs.Records.{Records, mode_of, is_restart_mode, last_is, is_step_of, end_below, next_place, with_ends, bare, end_here, with_begins, records_of, last_record, begin_of, calls_of}
 use Rattle.ha_model.specs.Lawful.{IsRightEntry}
 use Rattle.ha_laws.specs.Told.{Tried, tried_at, passing_below, has_ended_by, is_unended, IsRecordOf, HaveRecords, last_among, begins_behind, told_begin, AreTold, ByTheRules}
-use Rattle.ha_model.proofs.EqualLemmas.{and_left}
+use Rattle.ha_config.proofs.EqualLemmas.{and_left}
 use Rattle.ha_model.proofs.RecordLaws.{last-through}
-use Rattle.ha_model.proofs.RecordGrowth.{true-false}
-use Rattle.ha_model.proofs.LawfulLaws.{none-some}
+use Rattle.ha_config.proofs.ListLemmas.{true-false, none-some}
 use Rattle.ha_laws.proofs.ToldAdmitted.{AllAlike, admitted-alike, admit_each, new_of, bare-each, AllBelowPlace, below-passing, all-alike}
 use Rattle.ha_laws.proofs.ToldSteps.{step-runs}
 use Rattle.ha_laws.proofs.ToldBegins.{below, SortedFrom, Carried, past-later, end-or-none, get-middle, ends-told, E, e, M, B, f, RunsAt, begins, carry}

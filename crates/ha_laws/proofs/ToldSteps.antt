@@ -5,18 +5,16 @@ use Rattle.std.specs.Option.{option_map_or}
 use Rattle.std.proofs.lemmas.Bool.{eqb-true, leb-true}
 use Rattle.std.proofs.lemmas.Bool.Decides.{leb_tells}
 use Rattle.std.proofs.lemmas.List.{length-take-le}
-use Rattle.ha_model.specs.declared.config.Mode.{Mode}
-use Rattle.ha_model.specs.declared.journal.EndCause.{EndCause}
-use Rattle.ha_model.specs.declared.journal.Entry.{Entry}
-use Rattle.ha_model.specs.declared.journal.Entry.TheVariants.{Boot, Line, Step}
-use Rattle.ha_model.specs.declared.journal.Record.{Record}
-use Rattle.ha_model.specs.Words.{EachAfter, last_of}
-use Rattle.ha_model.specs.Journal.{Journal}
-use Rattle.ha_model.specs.Records.{Records, through, last_is, is_step_of, begin_of, begin_behind}
+use Rattle.ha_config.specs.declared.config.Mode.{Mode}
+use Rattle.ha_model.specs.declared.record.EndCause.{EndCause}
+use Rattle.ha_journal.specs.declared.entry.Entry.{Entry}
+use Rattle.ha_journal.specs.declared.entry.Entry.TheVariants.{Boot, Line, Step}
+use Rattle.ha_model.specs.declared.record.Record.{Record}
+use Rattle.ha_config.specs.Words.{EachAfter, last_of}
+use Rattle.ha_journal.specs.Journal.{Journal, through}
+use Rattle.ha_model.specs.Records.{Records, last_is, is_step_of, begin_of, begin_behind}
 use Rattle.ha_model.specs.Lawful.{IsRightEntry, is_running}
-use Rattle.ha_model.proofs.RecordGrowth.{true-false}
-use Rattle.ha_model.proofs.LawfulLaws.{none-some}
-use Rattle.ha_model.proofs.LawfulLaws.{some-same}
+use Rattle.ha_config.proofs.ListLemmas.{true-false, none-some, some-same}
 
 last-get : {X : Type 0} (p : ℕ) (xs : List X) → p < length xs → last_of (take (suc p) xs) ≡ slice_get xs p
 last-get p [] lt = absurd (omega arith)

@@ -13,33 +13,33 @@ use Rattle.ha_value.specs.Ids.{read_entity}
 use Rattle.ha_value.specs.Arithmetic.{to_whole}
 use Rattle.ha_clock.specs.Local.{local_seconds}
 use Rattle.ha_clock.specs.Zone.{zone_offset, zone_of}
-use Rattle.ha_model.specs.declared.template.Template.{Template}
-use Rattle.ha_model.specs.declared.template.Op.{Op}
-use Rattle.ha_model.specs.declared.template.Expr.{Expr}
-use Rattle.ha_model.specs.declared.template.Expr.TheOpen.{Expr-F}
-use Rattle.ha_model.specs.declared.template.Expr.TheViews.{roll-Expr}
-use Rattle.ha_model.specs.declared.config.Automation.{Automation}
-use Rattle.ha_model.specs.declared.config.Trigger.{Trigger}
-use Rattle.ha_model.specs.declared.config.TriggerRule.{TriggerRule}
-use Rattle.ha_model.specs.declared.config.Match.{Match}
-use Rattle.ha_model.specs.declared.config.Unit as unit
-use Rattle.ha_model.specs.declared.config.Mode.{Mode}
-use Rattle.ha_model.specs.declared.config.Condition.TheOpen.{Condition-F}
-use Rattle.ha_model.specs.declared.config.Condition.TheViews.{roll-Condition}
-use Rattle.ha_model.specs.declared.journal.Cmd.{Cmd}
-use Rattle.ha_model.specs.declared.journal.Item.{Item}
-use Rattle.ha_model.specs.declared.journal.Entry.{Entry}
-use Rattle.ha_model.specs.Words.{Text, Pairs}
-use Rattle.ha_model.specs.Journal.{Journal}
-use Rattle.ha_model.specs.Switches.{since}
-use Rattle.ha_model.specs.States.{reported, states}
-use Rattle.ha_model.specs.Conditions.{holds}
+use Rattle.ha_config.specs.declared.template.Template.{Template}
+use Rattle.ha_config.specs.declared.template.Op.{Op}
+use Rattle.ha_config.specs.declared.template.Expr.{Expr}
+use Rattle.ha_config.specs.declared.template.Expr.TheOpen.{Expr-F}
+use Rattle.ha_config.specs.declared.template.Expr.TheViews.{roll-Expr}
+use Rattle.ha_config.specs.declared.config.Automation.{Automation}
+use Rattle.ha_config.specs.declared.config.Trigger.{Trigger}
+use Rattle.ha_config.specs.declared.config.TriggerRule.{TriggerRule}
+use Rattle.ha_config.specs.declared.config.Match.{Match}
+use Rattle.ha_config.specs.declared.config.Unit as unit
+use Rattle.ha_config.specs.declared.config.Mode.{Mode}
+use Rattle.ha_config.specs.declared.config.Condition.TheOpen.{Condition-F}
+use Rattle.ha_config.specs.declared.config.Condition.TheViews.{roll-Condition}
+use Rattle.ha_config.specs.declared.command.Cmd.{Cmd}
+use Rattle.ha_sight.specs.declared.item.Item.{Item}
+use Rattle.ha_journal.specs.declared.entry.Entry.{Entry}
+use Rattle.ha_config.specs.Words.{Text, Pairs}
+use Rattle.ha_journal.specs.Journal.{Journal}
+use Rattle.ha_journal.specs.Switches.{since}
+use Rattle.ha_journal.specs.States.{reported, states}
+use Rattle.ha_sight.specs.Conditions.{holds}
 use Rattle.ha_clock.specs.Passed.{holds_in, passes_second}
-use Rattle.ha_model.specs.Triggers.{sight, moves}
-use Rattle.ha_model.specs.Templates.{rendered, says}
-use Rattle.ha_model.specs.Attempts.{Attempt, attempts, by_hand}
+use Rattle.ha_journal.specs.Moves.{sight, moves}
+use Rattle.ha_sight.specs.Templates.{rendered, says}
+use Rattle.ha_journal.specs.Attempts.{Attempt, attempts, by_hand}
 use Rattle.ha_laws.specs.WorkedHall.{show}
-use Rattle.ha_model.proofs.Rolls.{rolls}
+use Rattle.ha_sight.proofs.Rolls.{rolls}
 
 -- 2024-05-01T20:00:00Z
 abbrev start : ℕ

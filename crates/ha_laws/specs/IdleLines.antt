@@ -1,11 +1,11 @@
 -- A line that is only noted: one that was refused, or that says that its source failed or gave too much.
 use Rattle.std.specs.Prelude.{◌≡◌, ℕ, [], length}
 use Rattle.ha_value.specs.declared.value.EntityId.{EntityId}
-use Rattle.ha_model.specs.declared.journal.Cmd.{Cmd}
-use Rattle.ha_model.specs.Journal.{Journal, now}
-use Rattle.ha_model.specs.Switches.{is_on}
-use Rattle.ha_model.specs.States.{states}
-use Rattle.ha_model.specs.Attempts.{attempts}
+use Rattle.ha_config.specs.declared.command.Cmd.{Cmd}
+use Rattle.ha_journal.specs.Journal.{Journal, now}
+use Rattle.ha_journal.specs.Switches.{is_on}
+use Rattle.ha_journal.specs.States.{states}
+use Rattle.ha_journal.specs.Attempts.{attempts}
 use Rattle.ha_model.specs.Records.{records_of}
 
 abbrev pub IsIdle : Cmd → Type 0

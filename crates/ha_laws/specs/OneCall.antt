@@ -2,13 +2,13 @@
 use Rattle.std.specs.Prelude.{◌≡◌, true, not, nat_le, List, [], ◌∷◌, length, codes}
 use Rattle.ha_value.specs.declared.value.EntityId.{EntityId}
 use Rattle.ha_value.specs.Ids.{entity_text, is_entity}
-use Rattle.ha_model.specs.declared.template.Template.{Template}
-use Rattle.ha_model.specs.declared.template.Piece.TheVariants as piece
-use Rattle.ha_model.specs.declared.config.Action.{Action}
-use Rattle.ha_model.specs.declared.config.ActionKind.TheVariants.{Call}
-use Rattle.ha_model.specs.declared.journal.Item.{Item}
-use Rattle.ha_model.specs.Words.{Text, same}
-use Rattle.ha_model.specs.Scripts.{Outcome, Status}
+use Rattle.ha_config.specs.declared.template.Template.{Template}
+use Rattle.ha_config.specs.declared.template.Piece.TheVariants as piece
+use Rattle.ha_config.specs.declared.config.Action.{Action}
+use Rattle.ha_config.specs.declared.config.ActionKind.TheVariants.{Call}
+use Rattle.ha_sight.specs.declared.item.Item.{Item}
+use Rattle.ha_config.specs.Words.{Text, same}
+use Rattle.ha_sight.specs.Scripts.{Outcome, Status}
 
 abbrev pub literal_text : Text → Template
 literal_text text = record { pieces = piece.Text text ∷ [] }

@@ -1,16 +1,19 @@
 -- What a line that ends nobody does to the records, where all automations are of mode single.
 use Rattle.std.specs.Prelude.{ℕ, ◌+◌, ◌≡◌, List, [], ◌∷◌, ◌++◌, length, Some}
 use Rattle.std.specs.Prelude.{option_map, nat_eq, cond, if◌then◌else◌}
-use Rattle.ha_model.specs.declared.config.Mode.{Mode}
-use Rattle.ha_model.specs.declared.journal.Record.{Record}
-use Rattle.ha_model.specs.Journal.{Journal, automations}
-use Rattle.ha_model.specs.Attempts.{Attempt}
-pub use Rattle.ha_model.specs.Entries.{IsPlain, SwitchesNone}
-use Rattle.ha_model.specs.Records.{Records, or_else, mode_of, live_count, new_record, is_call}
-use Rattle.ha_model.specs.Scripts.{Branch}
-use Rattle.ha_model.specs.declared.journal.Item.{Item}
+use Rattle.ha_config.specs.declared.config.Mode.{Mode}
+use Rattle.ha_model.specs.declared.record.Record.{Record}
+use Rattle.ha_journal.specs.Journal.{Journal, automations}
+use Rattle.ha_journal.specs.Attempts.{Attempt}
+pub use Rattle.ha_config.specs.Fair.{IsPlain}
+pub use Rattle.ha_sight.specs.Items.{SwitchesNone}
+use Rattle.ha_model.specs.Records.{Records, mode_of, live_count, new_record}
+use Rattle.ha_config.specs.Words.{or_else}
+use Rattle.ha_sight.specs.Items.{is_call}
+use Rattle.ha_sight.specs.Scripts.{Branch}
+use Rattle.ha_sight.specs.declared.item.Item.{Item}
 use Rattle.ha_model.specs.NextPlace.{next_end}
-use Rattle.ha_model.specs.declared.journal.EndCause.{EndCause}
+use Rattle.ha_model.specs.declared.record.EndCause.{EndCause}
 
 -- all automations are of mode single
 abbrev pub AllSingle : Journal → Type 0

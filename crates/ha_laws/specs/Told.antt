@@ -4,14 +4,15 @@ use Rattle.std.specs.Prelude.{ℕ, zero, suc, ◌≡◌, ◌⊎◌, Bool, true, 
 use Rattle.std.specs.Prelude.{◌∷◌, ◌++◌, length, map, count_by, Option, Some, None, option_map, if◌then◌else◌}
 use Rattle.std.specs.List.{list_any}
 use Rattle.std.specs.Option.{option_map_or}
-use Rattle.ha_model.specs.declared.config.Mode.{Mode}
-use Rattle.ha_model.specs.declared.config.Automation.{Automation}
-use Rattle.ha_model.specs.declared.journal.EndCause.{EndCause}
-use Rattle.ha_model.specs.declared.journal.Record.{Record}
-use Rattle.ha_model.specs.Journal.{Journal, automations}
-use Rattle.ha_model.specs.Attempts.{Attempt}
-use Rattle.ha_model.specs.Records.{Records, through, passing, mode_of, max_of, lets_in, ended_by_script, stops}
-use Rattle.ha_model.specs.Records.{is_restart, last_is, is_restart_mode, next_place, or_else, begin_of, calls_of}
+use Rattle.ha_config.specs.declared.config.Mode.{Mode}
+use Rattle.ha_config.specs.declared.config.Automation.{Automation}
+use Rattle.ha_model.specs.declared.record.EndCause.{EndCause}
+use Rattle.ha_model.specs.declared.record.Record.{Record}
+use Rattle.ha_journal.specs.Journal.{Journal, automations, through}
+use Rattle.ha_journal.specs.Attempts.{Attempt, passing}
+use Rattle.ha_model.specs.Records.{Records, mode_of, max_of, lets_in, ended_by_script, stops, last_is, is_restart_mode, next_place, begin_of, calls_of}
+use Rattle.ha_journal.specs.Entries.{is_restart}
+use Rattle.ha_config.specs.Words.{or_else}
 
 -- ---- which attempts have a record
 

@@ -3,36 +3,36 @@ use Rattle.std.specs.Prelude.{ℕ, List, [], ◌∷◌, take, ◌+◌}
 use Rattle.std.specs.Prelude.{Some, None, codes, pos}
 use Rattle.ha_value.specs.declared.value.EntityId.{EntityId}
 use Rattle.ha_value.specs.declared.value.Value.{Value}
-use Rattle.ha_model.specs.declared.template.Template.{Template}
-use Rattle.ha_model.specs.declared.template.Piece.TheOpen.{Piece-F}
-use Rattle.ha_model.specs.declared.template.Piece.TheViews.{roll-Piece, roll-Template}
-use Rattle.ha_model.specs.declared.config.Automation.{Automation}
-use Rattle.ha_model.specs.declared.config.Trigger.{Trigger}
-use Rattle.ha_model.specs.declared.config.TriggerRule.{TriggerRule}
-use Rattle.ha_model.specs.declared.config.Match.{Match}
-use Rattle.ha_model.specs.declared.config.Mode.{Mode}
-use Rattle.ha_model.specs.declared.config.Action.{Action}
-use Rattle.ha_model.specs.declared.config.ActionKind.{ActionKind}
-use Rattle.ha_model.specs.declared.config.ActionKind.TheOpen.{ActionKind-F}
-use Rattle.ha_model.specs.declared.config.ActionKind.TheViews.{roll-ActionKind, roll-Action}
-use Rattle.ha_model.specs.declared.journal.Cmd.{Cmd}
-use Rattle.ha_model.specs.declared.journal.Item.{Item}
-use Rattle.ha_model.specs.declared.journal.Entry.{Entry}
-use Rattle.ha_model.specs.declared.journal.EndCause.{EndCause}
-use Rattle.ha_model.specs.declared.journal.Record.{Record}
+use Rattle.ha_config.specs.declared.template.Template.{Template}
+use Rattle.ha_config.specs.declared.template.Piece.TheOpen.{Piece-F}
+use Rattle.ha_config.specs.declared.template.Piece.TheViews.{roll-Piece, roll-Template}
+use Rattle.ha_config.specs.declared.config.Automation.{Automation}
+use Rattle.ha_config.specs.declared.config.Trigger.{Trigger}
+use Rattle.ha_config.specs.declared.config.TriggerRule.{TriggerRule}
+use Rattle.ha_config.specs.declared.config.Match.{Match}
+use Rattle.ha_config.specs.declared.config.Mode.{Mode}
+use Rattle.ha_config.specs.declared.config.Action.{Action}
+use Rattle.ha_config.specs.declared.config.ActionKind.{ActionKind}
+use Rattle.ha_config.specs.declared.config.ActionKind.TheOpen.{ActionKind-F}
+use Rattle.ha_config.specs.declared.config.ActionKind.TheViews.{roll-ActionKind, roll-Action}
+use Rattle.ha_config.specs.declared.command.Cmd.{Cmd}
+use Rattle.ha_sight.specs.declared.item.Item.{Item}
+use Rattle.ha_journal.specs.declared.entry.Entry.{Entry}
+use Rattle.ha_model.specs.declared.record.EndCause.{EndCause}
+use Rattle.ha_model.specs.declared.record.Record.{Record}
 use Rattle.ha_value.specs.declared.value.Num.{Num}
 use Rattle.ha_value.specs.declared.value.Value.TheOpen.{Value-F}
 use Rattle.ha_value.specs.declared.value.Value.TheViews.{roll-Value}
-use Rattle.ha_model.specs.declared.config.Form.{Form}
-use Rattle.ha_model.specs.declared.config.SpanForm.{SpanForm}
-use Rattle.ha_model.specs.declared.config.Form.TheOpen.{Form-F}
-use Rattle.ha_model.specs.declared.config.Form.TheViews.{roll-Form}
-use Rattle.ha_model.specs.declared.template.Expr.{Expr}
-use Rattle.ha_model.specs.Words.{Text, Pairs}
-use Rattle.ha_model.specs.Journal.{Journal}
-use Rattle.ha_model.specs.Triggers.{variables}
-use Rattle.ha_model.specs.Scripts.{Spot}
-use Rattle.ha_model.specs.Waits.{next_spot}
+use Rattle.ha_config.specs.declared.config.Form.{Form}
+use Rattle.ha_config.specs.declared.config.SpanForm.{SpanForm}
+use Rattle.ha_config.specs.declared.config.Form.TheOpen.{Form-F}
+use Rattle.ha_config.specs.declared.config.Form.TheViews.{roll-Form}
+use Rattle.ha_config.specs.declared.template.Expr.{Expr}
+use Rattle.ha_config.specs.Words.{Text, Pairs}
+use Rattle.ha_journal.specs.Journal.{Journal}
+use Rattle.ha_journal.specs.Variables.{variables}
+use Rattle.ha_sight.specs.Scripts.{Spot}
+use Rattle.ha_journal.specs.Waits.{next_spot}
 use Rattle.ha_model.specs.Records.{Records}
 
 abbrev pub text_template : Text → Template

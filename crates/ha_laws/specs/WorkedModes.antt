@@ -2,26 +2,25 @@
 use Rattle.std.specs.Prelude.{ℕ, [], ◌∷◌, true, false}
 use Rattle.std.specs.Prelude.{Option, Some, None, codes}
 use Rattle.ha_value.specs.declared.value.EntityId.{EntityId}
-use Rattle.ha_model.specs.declared.template.Template.{Template}
-use Rattle.ha_model.specs.declared.template.Piece.TheOpen.{Piece-F}
-use Rattle.ha_model.specs.declared.template.Piece.TheViews.{roll-Piece, roll-Template}
-use Rattle.ha_model.specs.declared.config.Automation.{Automation}
-use Rattle.ha_model.specs.declared.config.Trigger.{Trigger}
-use Rattle.ha_model.specs.declared.config.TriggerRule.{TriggerRule}
-use Rattle.ha_model.specs.declared.config.Match.{Match}
-use Rattle.ha_model.specs.declared.config.Mode.{Mode}
-use Rattle.ha_model.specs.declared.config.Action.{Action}
-use Rattle.ha_model.specs.declared.config.ActionKind.TheOpen.{ActionKind-F}
-use Rattle.ha_model.specs.declared.config.ActionKind.TheViews.{roll-ActionKind, roll-Action}
-use Rattle.ha_model.specs.declared.journal.Cmd.{Cmd}
-use Rattle.ha_model.specs.declared.journal.EndCause.{EndCause}
-use Rattle.ha_model.specs.declared.journal.Record.{Record}
-use Rattle.ha_model.specs.declared.journal.Item.{Item}
-use Rattle.ha_model.specs.declared.journal.Entry.{Entry}
-use Rattle.ha_model.specs.declared.journal.EndCause.{EndCause}
-use Rattle.ha_model.specs.Words.{Text, Pairs}
-use Rattle.ha_model.specs.Journal.{Journal}
-use Rattle.ha_model.specs.Triggers.{variables}
+use Rattle.ha_config.specs.declared.template.Template.{Template}
+use Rattle.ha_config.specs.declared.template.Piece.TheOpen.{Piece-F}
+use Rattle.ha_config.specs.declared.template.Piece.TheViews.{roll-Piece, roll-Template}
+use Rattle.ha_config.specs.declared.config.Automation.{Automation}
+use Rattle.ha_config.specs.declared.config.Trigger.{Trigger}
+use Rattle.ha_config.specs.declared.config.TriggerRule.{TriggerRule}
+use Rattle.ha_config.specs.declared.config.Match.{Match}
+use Rattle.ha_config.specs.declared.config.Mode.{Mode}
+use Rattle.ha_config.specs.declared.config.Action.{Action}
+use Rattle.ha_config.specs.declared.config.ActionKind.TheOpen.{ActionKind-F}
+use Rattle.ha_config.specs.declared.config.ActionKind.TheViews.{roll-ActionKind, roll-Action}
+use Rattle.ha_config.specs.declared.command.Cmd.{Cmd}
+use Rattle.ha_model.specs.declared.record.EndCause.{EndCause}
+use Rattle.ha_model.specs.declared.record.Record.{Record}
+use Rattle.ha_sight.specs.declared.item.Item.{Item}
+use Rattle.ha_journal.specs.declared.entry.Entry.{Entry}
+use Rattle.ha_config.specs.Words.{Text, Pairs}
+use Rattle.ha_journal.specs.Journal.{Journal}
+use Rattle.ha_journal.specs.Variables.{variables}
 
 abbrev pub text_template : Text → Template
 text_template t = roll-Template (record { pieces = roll-Piece (Piece-F.Text t) ∷ [] })

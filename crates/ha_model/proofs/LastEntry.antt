@@ -2,12 +2,12 @@
 use Rattle.std.proofs.Common.{◌≡◌, ℕ, suc, ◌+◌, ◌-◌, ◌<◌, List, [], ◌∷◌, ◌++◌, length, Bool, false, cond, refl, sym, ap, ◌∙◌, rules, arith, Option}
 use Rattle.std.specs.Prelude.{OnOk, Ok, Err, Result, Some, None, slice_get, nat_eq, fold, ◌&&◌}
 use Rattle.std.specs.Option.{option_map_or}
-use Rattle.ha_model.specs.declared.journal.Entry.{Entry}
-use Rattle.ha_model.specs.declared.journal.Entry.TheVariants.{Boot, Line, Step}
-use Rattle.ha_model.specs.Words.{last_of, EachAfter}
-use Rattle.ha_model.specs.Journal.{Journal}
-use Rattle.ha_model.specs.Records.{Records, or_else, last_is, is_call, is_call_of, calls_of}
-use Rattle.ha_model.specs.RecordSteps.{more}
+use Rattle.ha_journal.specs.declared.entry.Entry.{Entry}
+use Rattle.ha_journal.specs.declared.entry.Entry.TheVariants.{Boot, Line, Step}
+use Rattle.ha_config.specs.Words.{last_of, EachAfter, or_else}
+use Rattle.ha_journal.specs.Journal.{Journal, more}
+use Rattle.ha_model.specs.Records.{Records, last_is, is_call_of, calls_of}
+use Rattle.ha_sight.specs.Items.{is_call}
 use Rattle.ha_model.specs.Lawful.{IsRightEntry, Right}
 use Rattle.ha_model.proofs.StepLaws.{serial-at}
 use Rattle.std.proofs.lemmas.Option.{slice_get_within}

@@ -1,13 +1,13 @@
 -- What a run gives at its next place.
 use Rattle.std.specs.Prelude.{◌++◌, [], ◌∷◌, Option, option_and_then}
-use Rattle.ha_model.specs.declared.journal.Item.{Item}
-use Rattle.ha_model.specs.declared.journal.EndCause.{EndCause}
-use Rattle.ha_model.specs.declared.journal.Record.{Record}
-use Rattle.ha_model.specs.Words.{last_of}
-use Rattle.ha_model.specs.Journal.{Journal}
-use Rattle.ha_model.specs.Scripts.{Branch}
+use Rattle.ha_sight.specs.declared.item.Item.{Item}
+use Rattle.ha_model.specs.declared.record.EndCause.{EndCause}
+use Rattle.ha_model.specs.declared.record.Record.{Record}
+use Rattle.ha_config.specs.Words.{last_of}
+use Rattle.ha_journal.specs.Journal.{Journal}
+use Rattle.ha_sight.specs.Scripts.{Branch}
 use Rattle.ha_model.specs.Records.{ran_on, spots, script_end}
-use Rattle.ha_model.specs.Waits.{next_spot}
+use Rattle.ha_journal.specs.Waits.{next_spot}
 
 -- the item of a run's next place in this branch
 abbrev pub next_item : Journal → Record → Branch → Option Item

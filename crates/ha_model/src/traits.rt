@@ -1,69 +1,21 @@
 //! What the parts of the engine ask of each other: answers on one place, ends of waits, and the engine itself.
-ghost use Rattle.std.specs.Prelude.{◌≡◌, ◌↔◌, ◌<◌, ◌++◌, ◌∷◌, [], ℕ, List, Option, Some, None, Bool, true, false, length, count_by, option_map, IfOk, IfErr, OnOk, OnErr, Ok, Err};
+ghost use Rattle.std.specs.Prelude.{◌≡◌, ◌↔◌, ◌<◌, ◌++◌, ◌∷◌, [], ℕ, List, Option, Some, Bool, true, false, length, count_by, IfOk, IfErr, OnOk, OnErr, Err};
 ghost use Rattle.std.specs.List.{list_any};
-ghost use Rattle.std.specs.Option.{option_copied};
-ghost use Rattle.ha_value.specs.declared.value.Value.{Value};
-ghost use Rattle.ha_model.specs.declared.journal.Entry.{Entry};
-ghost use Rattle.ha_model.specs.declared.journal.Item.{Item};
-ghost use Rattle.ha_model.specs.declared.journal.Record.{Record};
-ghost use Rattle.ha_model.specs.declared.journal.WaitEnd.{WaitEnd};
-ghost use Rattle.ha_model.specs.Journal.{automations};
-ghost use Rattle.ha_model.specs.States.{Sight};
-ghost use Rattle.ha_model.specs.Calls.{automation_at};
-ghost use Rattle.ha_model.specs.Sights.{switch_seen, switch_of, changes_switch};
-ghost use Rattle.ha_model.specs.Texts.{store_text};
-ghost use Rattle.ha_model.specs.Templates.{rendered};
-ghost use Rattle.ha_model.specs.Conditions.{holds};
-ghost use Rattle.ha_model.specs.Commands.{put_as};
-ghost use Rattle.ha_model.specs.Lawful.{Right, IsFair, is_line_of, shuts, is_rested, is_quiet, ready, pick};
+ghost use Rattle.ha_journal.specs.declared.entry.Entry.{Entry};
+ghost use Rattle.ha_sight.specs.declared.item.Item.{Item};
+ghost use Rattle.ha_model.specs.declared.record.Record.{Record};
+ghost use Rattle.ha_journal.specs.Journal.{automations};
+ghost use Rattle.ha_journal.specs.Sights.{switch_of, changes_switch};
+ghost use Rattle.ha_journal.specs.EntryText.{store_text};
+ghost use Rattle.ha_journal.specs.Commands.{put_as, IsFair};
+ghost use Rattle.ha_model.specs.Lawful.{Right, is_line_of, shuts, is_rested, is_quiet, ready, pick};
 
-use crate::config::{Condition, Config};
-use crate::env::Env;
-use crate::faults::{CoreFault, TplFault};
-use crate::journal::{Branch, Cmd, Entry, Record, WaitEnd};
-use crate::template::Template;
-use ha_clock::Moment;
-use ha_value::{EntityId, Many, Value, Word};
+use crate::faults::CoreFault;
+use crate::record::Record;
+use ha_config::{Cmd, Config};
+use ha_journal::Entry;
+use ha_value::{Many, Word};
 use std::alloc::{AllocError, Global};
-
-/// Answers on what one place of the journal sees.
-pub trait Answers {
-    /// What the place sees.
-    ghost sight: { Self → Sight };
-
-    /// The rendered text, with blanks and breaks trimmed at both ends, as a `Value::Text`. Fault exactly where the template's meaning is
-    /// one.
-    fn render(&self, alloc: Global, template: &Template, env: &Env) -> Result<Value, TplFault>
-        ensures text { IfOk result (λ v. option_map Value.Text (rendered (sight self.now) template.now env.now) ≡ Some v) }
-        ensures fault { IfErr result (λ e. e ≡ TplFault.Fault → rendered (sight self.now) template.now env.now ≡ None) };
-
-    /// Whether the condition holds.
-    fn test(&self, alloc: Global, condition: &Condition, env: &Env) -> Result<bool, AllocError>
-        ensures { IfOk result (λ b. b ≡ holds (sight self.now) condition.now env.now) };
-
-    /// The present moment.
-    fn now(&self) -> Moment
-        ensures { result ≡ (sight self.now).now };
-
-    /// The place of the automation that has this id as its entity.
-    fn automation(&self, id: &EntityId) -> Option<u32>
-        ensures { result ≡ automation_at (sight self.now).automations id.now };
-
-    /// Whether the automation is on.
-    fn is_on(&self, automation: u32) -> bool
-        requires { automation < length (sight self.now).automations }
-        ensures { switch_seen (sight self.now) automation ≡ Some result };
-}
-
-/// The ends of pending waits.
-pub trait Ended {
-    /// How the wait of a run, by its serial, in a branch ended, if it has ended.
-    ghost ends: { Self → ℕ → List ℕ → Option WaitEnd };
-
-    /// How the wait ended; none where it has not ended by the entries so far.
-    fn ended(&self, serial: u64, branch: &Branch) -> Option<&WaitEnd>
-        ensures { option_copied result ≡ ends self.now serial branch.now };
-}
 
 /// A core: a journal with its records, to which lines and steps are put. Once memory ran out in a put it is spent, and only its journal and
 /// records are of use.

@@ -3,11 +3,14 @@ use Rattle.std.proofs.Common.{◌≡◌, ℕ, List, [], ◌∷◌, ◌++◌, ref
 use Rattle.std.specs.Prelude.{Option, Some, None, map, filter_map, flat_map, option_map, codes}
 use Rattle.std.specs.List.{enumerate_from, cons_option}
 use Rattle.ha_value.specs.declared.value.EntityId.{EntityId}
-use Rattle.ha_model.specs.declared.config.Trigger.{Trigger}
-use Rattle.ha_model.specs.declared.steps.Firing.{Firing}
-use Rattle.ha_model.specs.Journal.{Journal}
-use Rattle.ha_model.specs.Triggers as triggers
-use Rattle.ha_model.specs.Triggers.{Fired, entities_of, fired_from, variables}
+use Rattle.ha_config.specs.declared.config.Trigger.{Trigger}
+use Rattle.ha_journal.specs.declared.firing.Firing.{Firing}
+use Rattle.ha_journal.specs.Journal.{Journal}
+use Rattle.ha_journal.specs.Triggers as triggers
+use Rattle.ha_journal.specs.Triggers.{Fired}
+use Rattle.ha_sight.specs.Rules.{entities_of}
+use Rattle.ha_journal.specs.Holds.{fired_from}
+use Rattle.ha_journal.specs.Variables.{variables}
 use Rattle.ha_past.specs.Firings.{Owner, firing_by, firing_for, firings_by, firings_of}
 
 map-both : {X Y : Type 0} (f : X → Y) (xs ys : List X) → map f (xs ++ ys) ≡ map f xs ++ map f ys
@@ -31,7 +34,7 @@ module _ (j : Journal) (p : ℕ) (o : Owner) where
   of-triggers [] = refl
   of-triggers (t ∷ ts) =
       map-both (firing_by o) (triggers.firings_by j o.since p t) (flat_map (triggers.firings_by j o.since p) ts)
-      ∙ (λ i. of-entities t (entities_of j t.1.rule) i ++ of-triggers ts i)
+      ∙ (λ i. of-entities t (entities_of t.1.rule) i ++ of-triggers ts i)
 
   -- LAW: the firings of an owner are those of its triggers, each for its entities
   pub firings-by : firings_of j p o ≡ flat_map (firings_by j p o) (enumerate_from 0 o.triggers)

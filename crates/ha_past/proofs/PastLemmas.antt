@@ -3,17 +3,19 @@ use Rattle.std.proofs.Common.{◌≡◌, ℕ, suc, ◌+◌, ◌<◌, ◌≤◌, 
 use Rattle.std.specs.Prelude.{Option, Some, None, is_some, is_none, slice_get, nat_le, ◌&&◌, if◌then◌else◌}
 use Rattle.std.specs.Option.{option_map_or}
 use Rattle.ha_value.specs.declared.value.EntityId.{EntityId}
-use Rattle.ha_model.specs.declared.config.Trigger.{Trigger}
-use Rattle.ha_model.specs.declared.config.TriggerRule.{TriggerRule}
-use Rattle.ha_model.specs.declared.journal.Entry.{Entry}
-use Rattle.ha_model.specs.Entries.{is_moment}
-use Rattle.ha_model.specs.Journal.{Journal, HasEntry, zone_of, now}
-use Rattle.ha_model.specs.States.{states, switches_of}
-use Rattle.ha_model.specs.Switches.{opens_segment}
-use Rattle.ha_model.specs.Triggers.{sight, moves, starts, rule_moves, same_watched, variables}
-use Rattle.ha_model.specs.RecordSteps.{more}
-use Rattle.ha_model.proofs.SinceLaws.{take-more, get-more}
-use Rattle.ha_model.proofs.RecordLaws.{length-more}
+use Rattle.ha_config.specs.declared.config.Trigger.{Trigger}
+use Rattle.ha_config.specs.declared.config.TriggerRule.{TriggerRule}
+use Rattle.ha_journal.specs.declared.entry.Entry.{Entry}
+use Rattle.ha_journal.specs.Entries.{is_moment, opens_segment}
+use Rattle.ha_journal.specs.Journal.{Journal, HasEntry, zone_of, now, more}
+use Rattle.ha_journal.specs.States.{states, switches_of}
+use Rattle.ha_journal.specs.Moves.{sight, moves, rule_moves}
+use Rattle.ha_sight.specs.Rules.{starts}
+use Rattle.ha_journal.specs.Holds.{same_watched}
+use Rattle.ha_journal.specs.Variables.{variables}
+use Rattle.ha_journal.proofs.SinceLaws.{take-more}
+use Rattle.ha_config.proofs.ListLemmas.{get-more}
+use Rattle.ha_journal.proofs.MoreLemmas.{length-more}
 use Rattle.ha_past.specs.Holds.{is_over}
 use Rattle.ha_past.specs.Looks.{looks, watches, given}
 
@@ -48,15 +50,6 @@ moves-looks j (TriggerRule.Template t) held (Some e) p x = refl
 moves-looks j (TriggerRule.Template t) held None p x = refl
 moves-looks j TriggerRule.Start held e p x = refl
 
-pub starts-alike : (j k : Journal) (rule : TriggerRule) → starts j rule ≡ starts k rule
-starts-alike j k (TriggerRule.State entities attribute from to) = refl
-starts-alike j k (TriggerRule.Numeric entities attribute above below) = refl
-starts-alike j k (TriggerRule.Event kinds pairs) = refl
-starts-alike j k (TriggerRule.Time seconds) = refl
-starts-alike j k (TriggerRule.Pattern hours minutes seconds) = refl
-starts-alike j k (TriggerRule.Template t) = refl
-starts-alike j k TriggerRule.Start = refl
-
 pub same-watches : (j : Journal) (rule : TriggerRule) (e : Option EntityId) (i p : ℕ)
     → same_watched j rule e i p ≡ watches (sight j (suc i)) (sight j (suc p)) (take (suc i) j) (take (suc p) j) rule e
 same-watches j (TriggerRule.State entities (Some name) from to) (Some e) i p = refl
@@ -82,8 +75,8 @@ module _ (j : Journal) (x : Entry) (h : HasEntry j) where
   -- LAW: an earlier place at which a trigger moves is one at which it moves
   pub moves-more : (t : Trigger) (e : Option EntityId) (n : ℕ) → n < length j → moves (more j x) t e n ≡ moves j t e n
   moves-more t e n lt =
-      (λ i. option_map_or (λ y. if opens_segment y then starts (more j x) t.rule && is_none e else rule_moves (more j x) t.rule (is_some t.hold) e n y) (get-more j x n lt i) false)
-      ∙ (λ i. option_map_or (λ y. if opens_segment y then starts-alike (more j x) j t.rule i && is_none e else rule-more t.rule (is_some t.hold) e n y lt i) (slice_get j n) false)
+      (λ i. option_map_or (λ y. if opens_segment y then starts t.rule && is_none e else rule_moves (more j x) t.rule (is_some t.hold) e n y) (get-more j x n lt i) false)
+      ∙ (λ i. option_map_or (λ y. if opens_segment y then starts t.rule && is_none e else rule-more t.rule (is_some t.hold) e n y lt i) (slice_get j n) false)
 
   pub watched-more : (rule : TriggerRule) (e : Option EntityId) (i p : ℕ) → i < length j → p < length j → same_watched (more j x) rule e i p ≡ same_watched j rule e i p
   watched-more rule e i p one two =

@@ -2,10 +2,13 @@
 use Rattle.std.specs.Prelude.{ℕ, not, nat_eq, nat_lt, List, [], ◌∷◌, Option, find, filter}
 use Rattle.std.specs.Prelude.{filter_map, flat_map, map, option_map, codes, if◌then◌else◌}
 use Rattle.ha_value.specs.declared.value.EntityId.{EntityId}
-use Rattle.ha_model.specs.declared.config.Trigger.{Trigger}
-use Rattle.ha_model.specs.declared.steps.Firing.{Firing}
-use Rattle.ha_model.specs.Journal.{Journal}
-use Rattle.ha_model.specs.Triggers.{Fired, firings as fired, fired_from, variables, entities_of}
+use Rattle.ha_config.specs.declared.config.Trigger.{Trigger}
+use Rattle.ha_journal.specs.declared.firing.Firing.{Firing}
+use Rattle.ha_journal.specs.Journal.{Journal}
+use Rattle.ha_journal.specs.Triggers.{Fired, firings as fired}
+use Rattle.ha_journal.specs.Holds.{fired_from}
+use Rattle.ha_journal.specs.Variables.{variables}
+use Rattle.ha_sight.specs.Rules.{entities_of}
 
 -- an owner with its triggers, which fire at entries after `since`
 pub record Owner : Type 0 where
@@ -44,4 +47,4 @@ module _ (j : Journal) (p : ℕ) where
       (fired_from j t.1 e o.since p)
 
   abbrev pub firings_by : Owner → ℕ × Trigger → List Firing
-  firings_by o t = filter_map (firing_for o t) (entities_of j t.1.rule)
+  firings_by o t = filter_map (firing_for o t) (entities_of t.1.rule)

@@ -7,20 +7,20 @@ use Rattle.ha_value.specs.declared.value.EntityId.{EntityId}
 use Rattle.ha_value.specs.declared.value.Value.{Value}
 use Rattle.ha_value.specs.declared.value.Value.TheVariants.{Pairs as Map}
 use Rattle.ha_value.specs.Ids.{entity_text}
-use Rattle.ha_model.specs.declared.config.Trigger.{Trigger}
-use Rattle.ha_model.specs.declared.config.TriggerRule.{TriggerRule}
-use Rattle.ha_model.specs.declared.journal.Entry.{Entry}
-use Rattle.ha_model.specs.Words.{Pairs, same, first_pair, one_of}
-use Rattle.ha_model.specs.Equal.{same_flag}
-use Rattle.ha_model.specs.Numbers.{in_bounds}
-use Rattle.ha_model.specs.Entries.{event_in, is_moment}
-use Rattle.ha_model.specs.Journal.{Journal, now}
-use Rattle.ha_model.specs.States.{Sight}
-use Rattle.ha_model.specs.Templates.{rendered, says}
-use Rattle.ha_model.specs.RecordSteps.{more}
-pub use Rattle.ha_model.specs.Records.{or_else}
-use Rattle.ha_model.specs.Triggers.{sight, state_moves, same_optional, report_number, latest_number, pair_holds, passed}
-use Rattle.ha_model.specs.Triggers.{moves, starts, variables, head_pairs, state_value, text_or_null, number_or_null}
+use Rattle.ha_config.specs.declared.config.Trigger.{Trigger}
+use Rattle.ha_config.specs.declared.config.TriggerRule.{TriggerRule}
+use Rattle.ha_journal.specs.declared.entry.Entry.{Entry}
+use Rattle.ha_config.specs.Words.{Pairs, same, first_pair, one_of}
+use Rattle.ha_config.specs.Equal.{same_flag}
+use Rattle.ha_config.specs.Numbers.{in_bounds}
+use Rattle.ha_journal.specs.Entries.{event_in, is_moment}
+use Rattle.ha_journal.specs.Journal.{Journal, now, more}
+use Rattle.ha_sight.specs.Sight.{Sight}
+use Rattle.ha_sight.specs.Templates.{rendered, says}
+pub use Rattle.ha_config.specs.Words.{or_else}
+use Rattle.ha_journal.specs.Moves.{sight, report_number, latest_number, moves}
+use Rattle.ha_sight.specs.Rules.{state_moves, same_optional, pair_holds, passed, starts, head_pairs, state_value, text_or_null, number_or_null}
+use Rattle.ha_journal.specs.Variables.{variables}
 use Rattle.ha_past.specs.Holds.{pending}
 
 -- the rule on what is seen before and after, and the journal before
@@ -65,27 +65,27 @@ watches one two first second TriggerRule.Start e = false
 -- the variables of a trigger, by what is seen before and after the entry at which it moved
 abbrev pub given_by : Sight → Sight → Option Entry → Trigger → TriggerRule → Option EntityId → Pairs
 given_by b a y t (TriggerRule.State entities attribute from to) (Some x) =
-    head_pairs [] (codes "state") t
-    ++ ((codes "entity_id", Value.Text (entity_text x)) ∷ (codes "from_state", state_value [] x (b.states x))
-    ∷ (codes "to_state", state_value [] x (a.states x)) ∷ (codes "attribute", text_or_null [] attribute) ∷ [])
-given_by b a y t (TriggerRule.State entities attribute from to) None = head_pairs [] (codes "state") t
+    head_pairs (codes "state") t
+    ++ ((codes "entity_id", Value.Text (entity_text x)) ∷ (codes "from_state", state_value x (b.states x))
+    ∷ (codes "to_state", state_value x (a.states x)) ∷ (codes "attribute", text_or_null attribute) ∷ [])
+given_by b a y t (TriggerRule.State entities attribute from to) None = head_pairs (codes "state") t
 given_by b a y t (TriggerRule.Numeric entities attribute above below) (Some x) =
-    head_pairs [] (codes "numeric_state") t
-    ++ ((codes "entity_id", Value.Text (entity_text x)) ∷ (codes "from_state", state_value [] x (b.states x))
-    ∷ (codes "to_state", state_value [] x (a.states x))
-    ∷ (codes "above", number_or_null [] above) ∷ (codes "below", number_or_null [] below) ∷ [])
-given_by b a y t (TriggerRule.Numeric entities attribute above below) None = head_pairs [] (codes "numeric_state") t
+    head_pairs (codes "numeric_state") t
+    ++ ((codes "entity_id", Value.Text (entity_text x)) ∷ (codes "from_state", state_value x (b.states x))
+    ∷ (codes "to_state", state_value x (a.states x))
+    ∷ (codes "above", number_or_null above) ∷ (codes "below", number_or_null below) ∷ [])
+given_by b a y t (TriggerRule.Numeric entities attribute above below) None = head_pairs (codes "numeric_state") t
 given_by b a y t (TriggerRule.Event kinds pairs) o =
-    head_pairs [] (codes "event") t
+    head_pairs (codes "event") t
     ++ ((
       codes "event",
       option_map_or (λ v. Map ((codes "event_type", Value.Text v.0) ∷ (codes "data", Map v.1) ∷ []))
           (option_and_then event_in y) Value.Null,
     ) ∷ [])
-given_by b a y t (TriggerRule.Time seconds) o = head_pairs [] (codes "time") t
-given_by b a y t (TriggerRule.Pattern hours minutes seconds) o = head_pairs [] (codes "time_pattern") t
-given_by b a y t (TriggerRule.Template x) o = head_pairs [] (codes "template") t
-given_by b a y t TriggerRule.Start o = head_pairs [] (codes "homeassistant") t
+given_by b a y t (TriggerRule.Time seconds) o = head_pairs (codes "time") t
+given_by b a y t (TriggerRule.Pattern hours minutes seconds) o = head_pairs (codes "time_pattern") t
+given_by b a y t (TriggerRule.Template x) o = head_pairs (codes "template") t
+given_by b a y t TriggerRule.Start o = head_pairs (codes "homeassistant") t
 
 abbrev pub given : Sight → Sight → Option Entry → Trigger → Option EntityId → Value
 given b a y t e = Map (given_by b a y t t.rule e)
@@ -117,7 +117,7 @@ module _ (j : Journal) (x : Entry) (t : Trigger) (e : Option EntityId) (since : 
 
   -- it moves, after its since or as a start trigger
   abbrev pub moves_after : Bool
-  moves_after = moves (more j x) t e (length j) && (nat_lt since (length j) || starts (more j x) t.rule)
+  moves_after = moves (more j x) t e (length j) && (nat_lt since (length j) || starts t.rule)
 
   -- the variables with which it moves
   abbrev pub moves_with : Option Value

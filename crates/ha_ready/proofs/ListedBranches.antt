@@ -6,29 +6,28 @@ use Rattle.std.specs.Option.{option_map_or}
 use Rattle.std.proofs.lemmas.Bool.{leb-true}
 use Rattle.std.proofs.lemmas.Bool.Decides.{eqb_tells, leb_tells, nat_tests}
 use Rattle.std.proofs.lemmas.Slice.Eq.{bytes_eq-Decides}
-use Rattle.ha_model.specs.declared.config.Condition.{Condition}
-use Rattle.ha_model.specs.declared.config.RepeatKind.{RepeatKind}
-use Rattle.ha_model.specs.declared.config.Action.{Action}
-use Rattle.ha_model.specs.declared.config.ActionKind.{ActionKind}
-use Rattle.ha_model.specs.declared.config.ActionKind.TheOpen.{ActionKind-F, Action-F}
-use Rattle.ha_model.specs.declared.config.ActionKind.TheViews.{roll-ActionKind, roll-Action}
-use Rattle.ha_model.specs.declared.config.ActionKind.TheFolds.{map-ActionKind, map-Action, ind-Action}
-use Rattle.ha_model.specs.declared.journal.Item.{Item}
-use Rattle.ha_model.specs.declared.journal.Record.{Record}
-use Rattle.ha_model.specs.Words.{Pairs, comes_before}
-use Rattle.ha_model.specs.Journal.{Journal, automations}
-use Rattle.ha_model.specs.States.{Sight}
-use Rattle.ha_model.specs.Conditions.{hold_all, holds}
-use Rattle.ha_model.specs.Calls.{Checked, call_item, span_of, spans_of, count_of, forms_of, fields_of}
-use Rattle.ha_model.specs.Scripts.{Branch, Scopes, Ask, Spot, Status, Outcome, Next, Part, Meaning, flat, prefixed, gives, ends, with_place, in_order, outer, add_inside, is_deeper, front, past_front, side, on_side, woven, Loop, all_allowed, is_open, first_halt, after_lists, each_on, joined_lists, side_by_side, after_turn, turns, looped, count_loop, each_loop, while_loop, until_loop, most_turns, failed, on_checked, repeated, goes_into, lists_from, parallel, chosen, set_all, wait_value, delayed, waited, called, kind_step, run_action}
-use Rattle.ha_model.specs.Branches.{among, union, union_all, branches_from, kind_branches, action_branches, branches_of}
+use Rattle.ha_config.specs.declared.config.Condition.{Condition}
+use Rattle.ha_config.specs.declared.config.RepeatKind.{RepeatKind}
+use Rattle.ha_config.specs.declared.config.Action.{Action}
+use Rattle.ha_config.specs.declared.config.ActionKind.{ActionKind}
+use Rattle.ha_config.specs.declared.config.ActionKind.TheOpen.{ActionKind-F, Action-F}
+use Rattle.ha_config.specs.declared.config.ActionKind.TheViews.{roll-ActionKind, roll-Action}
+use Rattle.ha_config.specs.declared.config.ActionKind.TheFolds.{map-ActionKind, map-Action, ind-Action}
+use Rattle.ha_sight.specs.declared.item.Item.{Item}
+use Rattle.ha_model.specs.declared.record.Record.{Record}
+use Rattle.ha_config.specs.Words.{Pairs, comes_before}
+use Rattle.ha_journal.specs.Journal.{Journal, automations}
+use Rattle.ha_sight.specs.Sight.{Sight}
+use Rattle.ha_sight.specs.Conditions.{hold_all, holds}
+use Rattle.ha_sight.specs.Calls.{Checked, call_item, span_of, spans_of, count_of, forms_of, fields_of}
+use Rattle.ha_sight.specs.Scripts.{Branch, Scopes, Ask, Spot, Status, Outcome, Next, Part, Meaning, flat, prefixed, gives, ends, with_place, in_order, outer, add_inside, is_deeper, front, past_front, side, on_side, woven, Loop, all_allowed, is_open, first_halt, after_lists, each_on, joined_lists, side_by_side, after_turn, turns, looped, count_loop, each_loop, while_loop, until_loop, most_turns, failed, on_checked, repeated, goes_into, lists_from, parallel, chosen, set_all, wait_value, delayed, waited, called, kind_step, run_action}
+use Rattle.ha_sight.specs.Branches.{among, union, union_all, branches_from, kind_branches, action_branches, branches_of}
 use Rattle.ha_model.specs.Records.{Records, actions_of, spots, ran_on}
 use Rattle.ha_model.specs.Lawful.{may_step}
-use Rattle.ha_model.specs.Waits.{next_spot}
-use Rattle.ha_model.proofs.Rolls.{run_kind, run_action-roll, run_kind-roll, below_kind, action_branches-roll, below_kind-roll}
-use Rattle.ha_model.proofs.EqualLemmas.{same-refl, and_left, and_right}
-use Rattle.ha_model.proofs.LawfulLaws.{none-some}
-use Rattle.ha_model.proofs.RecordGrowth.{true-false}
+use Rattle.ha_journal.specs.Waits.{next_spot}
+use Rattle.ha_sight.proofs.Rolls.{run_kind, run_action-roll, run_kind-roll, below_kind, action_branches-roll, below_kind-roll}
+use Rattle.ha_config.proofs.EqualLemmas.{same-refl, and_left, and_right}
+use Rattle.ha_config.proofs.ListLemmas.{none-some, true-false}
 
 -- ---- what holds of each branch of a list
 

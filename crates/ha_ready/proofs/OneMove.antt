@@ -5,11 +5,13 @@ use Rattle.std.specs.List.{list_all, list_any}
 use Rattle.std.proofs.lemmas.Bool.{eqb-true}
 use Rattle.std.proofs.lemmas.Bool.Decides.{eqb_tells, leb_tells}
 use Rattle.ha_value.specs.declared.value.EntityId.{EntityId}
-use Rattle.ha_model.specs.declared.config.Trigger.{Trigger}
-use Rattle.ha_model.specs.Journal.{Journal}
-use Rattle.ha_model.specs.Triggers.{moves, starts, same_watched, between, fires}
-use Rattle.ha_model.proofs.EqualLemmas.{and_left, and_right}
-use Rattle.ha_model.proofs.RecordGrowth.{true-false}
+use Rattle.ha_config.specs.declared.config.Trigger.{Trigger}
+use Rattle.ha_journal.specs.Journal.{Journal}
+use Rattle.ha_journal.specs.Moves.{moves}
+use Rattle.ha_sight.specs.Rules.{starts}
+use Rattle.ha_journal.specs.Holds.{same_watched, between, fires}
+use Rattle.ha_config.proofs.EqualLemmas.{and_left, and_right}
+use Rattle.ha_config.proofs.ListLemmas.{true-false}
 use Rattle.ha_past.specs.Holds.{is_over}
 use Rattle.ha_past.proofs.HoldLaws.{at-between, still, fires-asked}
 
@@ -47,7 +49,7 @@ module _ (j : Journal) (t : Trigger) (e : Option EntityId) (since p : ℕ) where
   at_once = record t { hold = None }
 
   place-of : (i : ℕ) → fires j at_once e since p i ≡ true → i ≡ p
-  place-of i h = eqb-true i p (and_left (nat_eq i p) (moves j at_once e p) (and_left _ (nat_lt since p || starts j t.rule) h))
+  place-of i h = eqb-true i p (and_left (nat_eq i p) (moves j at_once e p) (and_left _ (nat_lt since p || starts t.rule) h))
 
 -- LAW: it fires at a place by one entry at most
 pub one-move : (j : Journal) (t : Trigger) (e : Option EntityId) (since p i k : ℕ) → i ≤ p → k ≤ p → fires j t e since p i ≡ true → fires j t e since p k ≡ true → i ≡ k

@@ -2,14 +2,14 @@
 use Rattle.std.proofs.Common.{◌≡◌, ℕ, zero, suc, ◌+◌, ◌-◌, ◌<◌, ◌≤◌, List, [], ◌∷◌, ◌++◌, length, map, filter, Bool, true, false, refl, sym, subst, ◌∙◌, rules, arith, append_assoc}
 use Rattle.std.specs.Prelude.{Some, nat_eq, nat_lt, slice_get, flat_map, if◌then◌else◌}
 use Rattle.std.specs.Option.{option_map_or}
-use Rattle.ha_model.specs.declared.journal.Record.{Record}
-use Rattle.ha_model.specs.Journal.{Journal, automations}
-use Rattle.ha_model.specs.Scripts.{Branch}
-use Rattle.ha_model.specs.Branches.{branches_of}
+use Rattle.ha_model.specs.declared.record.Record.{Record}
+use Rattle.ha_journal.specs.Journal.{Journal, automations}
+use Rattle.ha_sight.specs.Scripts.{Branch}
+use Rattle.ha_sight.specs.Branches.{branches_of}
 use Rattle.ha_model.specs.Records.{Records, actions_of}
 use Rattle.ha_model.specs.Lawful.{Right, is_running, may_step, ready, ready_of}
 use Rattle.ha_model.proofs.StepLaws.{Numbered, numbered-of}
-use Rattle.ha_model.proofs.RecordGrowth.{true-false}
+use Rattle.ha_config.proofs.ListLemmas.{true-false}
 use Rattle.ha_ready.specs.ReadyPairs.{ready_branches, branches_at, pairs_of, pairs_from, with_run, changed_at}
 
 -- ---- the list of the definition, run by run

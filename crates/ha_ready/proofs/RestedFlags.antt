@@ -2,11 +2,11 @@
 use Rattle.std.proofs.Common.{◌≡◌, ℕ, zero, suc, ◌+◌, ◌<◌, ◌≤◌, List, [], ◌∷◌, length, Bool, true, false, refl, sym, ◌∙◌, rules, arith}
 use Rattle.std.specs.Prelude.{Option, Some, None, ◌||◌, nat_eq, slice_get, if◌then◌else◌}
 use Rattle.std.specs.Option.{option_map_or}
-use Rattle.ha_model.specs.declared.journal.Entry.{Entry}
-use Rattle.ha_model.specs.declared.journal.Entry.TheVariants.{Boot, Line, Step}
-use Rattle.ha_model.specs.Journal.{Journal}
+use Rattle.ha_journal.specs.declared.entry.Entry.{Entry}
+use Rattle.ha_journal.specs.declared.entry.Entry.TheVariants.{Boot, Line, Step}
+use Rattle.ha_journal.specs.Journal.{Journal, more}
 use Rattle.ha_model.specs.Records.{Records}
-use Rattle.ha_model.specs.RecordSteps.{more, records_after}
+use Rattle.ha_model.specs.RecordSteps.{records_after}
 use Rattle.ha_model.specs.Lawful.{Right, is_line_of, is_quiet, is_rested}
 use Rattle.ha_model.proofs.LawfulLaws.{same-after, rested-same}
 use Rattle.ha_model.proofs.RestedLaws.{rested-more}

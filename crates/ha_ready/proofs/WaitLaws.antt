@@ -5,23 +5,26 @@ use Rattle.std.specs.List.{list_any, list_all, cons_option, enumerate_from}
 use Rattle.std.specs.Option.{option_map_or}
 use Rattle.ha_value.specs.declared.value.EntityId.{EntityId}
 use Rattle.ha_value.specs.declared.value.Num.{Num}
-use Rattle.ha_model.specs.declared.config.Trigger.{Trigger}
-use Rattle.ha_model.specs.declared.config.TriggerRule.{TriggerRule}
-use Rattle.ha_model.specs.declared.journal.Entry.{Entry}
-use Rattle.ha_model.specs.Entries.{is_moment}
-use Rattle.ha_model.specs.Words.{same, first_pair, first_of_list, numbers_from}
-use Rattle.ha_model.specs.Equal.{same_flag}
-use Rattle.ha_model.specs.Numbers.{in_bounds}
-use Rattle.ha_model.specs.Journal.{Journal, HasEntry}
-use Rattle.ha_model.specs.Templates.{rendered, says}
-use Rattle.ha_model.specs.Triggers.{Fired, sight, same_optional, latest_number, same_watched, fires, fired_from, variables, entities_of, firing_for, firings_by, firings}
-use Rattle.ha_model.specs.Scripts.{Ask}
-use Rattle.ha_model.specs.Waits.{completes, is_over, end_at, wait_end}
-use Rattle.ha_model.specs.Records.{or_else}
-use Rattle.ha_model.specs.RecordSteps.{more}
-use Rattle.ha_model.proofs.RecordLaws.{length-more}
-use Rattle.ha_model.proofs.SinceLaws.{take-more, get-more}
-use Rattle.ha_past.proofs.PastLemmas.{sight-more, moves-more, starts-alike, variables-more}
+use Rattle.ha_config.specs.declared.config.Trigger.{Trigger}
+use Rattle.ha_config.specs.declared.config.TriggerRule.{TriggerRule}
+use Rattle.ha_journal.specs.declared.entry.Entry.{Entry}
+use Rattle.ha_journal.specs.Entries.{is_moment}
+use Rattle.ha_config.specs.Words.{same, first_pair, first_of_list, numbers_from, or_else}
+use Rattle.ha_config.specs.Equal.{same_flag}
+use Rattle.ha_config.specs.Numbers.{in_bounds}
+use Rattle.ha_journal.specs.Journal.{Journal, HasEntry, more}
+use Rattle.ha_sight.specs.Templates.{rendered, says}
+use Rattle.ha_journal.specs.Triggers.{Fired, firing_for, firings_by, firings}
+use Rattle.ha_journal.specs.Moves.{sight, latest_number}
+use Rattle.ha_sight.specs.Rules.{same_optional, starts, entities_of}
+use Rattle.ha_journal.specs.Holds.{same_watched, fires, fired_from}
+use Rattle.ha_journal.specs.Variables.{variables}
+use Rattle.ha_sight.specs.Scripts.{Ask}
+use Rattle.ha_journal.specs.Waits.{completes, is_over, end_at, wait_end}
+use Rattle.ha_journal.proofs.MoreLemmas.{length-more}
+use Rattle.ha_journal.proofs.SinceLaws.{take-more}
+use Rattle.ha_config.proofs.ListLemmas.{get-more}
+use Rattle.ha_past.proofs.PastLemmas.{sight-more, moves-more, variables-more}
 
 -- ---- tests that agree on a stretch of numbers
 
@@ -108,7 +111,7 @@ module _ (j : Journal) (x : Entry) (h : HasEntry j) where
 
   fires-hold : (t : Trigger) (hold : Option ℕ) (e : Option EntityId) (since p i : ℕ) → i ≤ p → p < length j → fires (more j x) (record t { hold = hold }) e since p i ≡ fires j (record t { hold = hold }) e since p i
   fires-hold t None e since p i le lt =
-      (λ q. (nat_eq i p && moves-more j x h (record t { hold = None }) e p lt q) && (nat_lt since p || starts-alike (more j x) j t.rule q))
+      (λ q. (nat_eq i p && moves-more j x h (record t { hold = None }) e p lt q) && (nat_lt since p || starts t.rule))
   fires-hold t (Some d) e since p i le lt =
       let a = sight-more j x h (suc i) (omega (arith, le, lt)) in
       let b = sight-more j x h (suc p) (omega (arith, lt)) in
@@ -128,7 +131,7 @@ module _ (j : Journal) (x : Entry) (h : HasEntry j) where
   fired-more t e since q lt u v same_made =
       first-alike (fires (more j x) t e since q) (fires j t e since q) u v 0 (suc q) (λ k le. fires-more t e since q k (omega (arith, le)) lt) (λ k le. same_made k (omega (arith, le)))
 
-  entities-alike : (rule : TriggerRule) → entities_of (more j x) rule ≡ entities_of j rule
+  entities-alike : (rule : TriggerRule) → entities_of rule ≡ entities_of rule
   entities-alike (TriggerRule.State entities attribute from to) = refl
   entities-alike (TriggerRule.Numeric entities attribute above below) = refl
   entities-alike (TriggerRule.Event kinds pairs) = refl
@@ -150,7 +153,7 @@ module _ (j : Journal) (x : Entry) (h : HasEntry j) where
   firings-from since q n lt [] = refl
   firings-from since q n lt (t ∷ ts) =
       (λ i. filter_map (firing_for (more j x) since q (n, t)) (entities-alike t.rule i) ++ flat_map (firings_by (more j x) since q) (enumerate_from (n + 1) ts))
-      ∙ (λ i. each-firing since q n lt t (entities_of j t.rule) i ++ firings-from since q (n + 1) lt ts i)
+      ∙ (λ i. each-firing since q n lt t (entities_of t.rule) i ++ firings-from since q (n + 1) lt ts i)
 
   -- LAW: the firings at an earlier place are what they were
   pub firings-more : (ts : List Trigger) (since q : ℕ) → q < length j → firings (more j x) ts since q ≡ firings j ts since q

@@ -2,9 +2,9 @@
 use Rattle.std.specs.Prelude.{◌≡◌, ℕ, ◌<◌, ◌≤◌, Bool, false, not, ◌&&◌, nat_eq, List, length, slice_get}
 use Rattle.std.specs.List.{list_any}
 use Rattle.std.specs.Option.{option_map_or}
-use Rattle.ha_model.specs.Entries.{step_of}
-use Rattle.ha_model.specs.Journal.{Journal}
-use Rattle.ha_model.specs.Scripts.{Branch}
+use Rattle.ha_journal.specs.Entries.{step_of}
+use Rattle.ha_journal.specs.Journal.{Journal}
+use Rattle.ha_sight.specs.Scripts.{Branch}
 use Rattle.ha_model.specs.Records.{Records}
 use Rattle.ha_ready.specs.ReadyPairs.{branches_at, pairs_from}
 

@@ -1,7 +1,7 @@
 -- What the records tell of places that are past.
 use Rattle.std.specs.Prelude.{◌≡◌, ℕ, ◌<◌, [], ◌∷◌, Option, Some, None}
-use Rattle.ha_model.specs.declared.journal.EndCause.{EndCause}
-use Rattle.ha_model.specs.declared.journal.Record.{Record}
+use Rattle.ha_model.specs.declared.record.EndCause.{EndCause}
+use Rattle.ha_model.specs.declared.record.Record.{Record}
 use Rattle.ha_model.specs.Records.{Records}
 
 -- a begin, and an end, if there is one, stands before place n

@@ -5,9 +5,9 @@ use Rattle.ha_value.specs.declared.value.Num.{Num}
 use Rattle.ha_value.specs.Ids.{read_entity}
 use Rattle.ha_value.specs.Numbers.{read_number}
 use Rattle.ha_clock.specs.SpanText.{number_from, number_of, span_of, span_seconds}
-use Rattle.ha_model.specs.declared.config.ActionKind.TheVariants as does
-use Rattle.ha_model.specs.declared.config.Mode.{Mode}
-use Rattle.ha_model.specs.declared.config.RepeatKind.{RepeatKind}
+use Rattle.ha_config.specs.declared.config.ActionKind.TheVariants as does
+use Rattle.ha_config.specs.declared.config.Mode.{Mode}
+use Rattle.ha_config.specs.declared.config.RepeatKind.{RepeatKind}
 use Rattle.yaml_scan.specs.declared.fault.Code.TheVariants as code
 use Rattle.yaml_scan.specs.Words.{text_end, without_blanks}
 use Rattle.yaml_tree.specs.Entities.{split_from}

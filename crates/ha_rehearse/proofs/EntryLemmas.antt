@@ -5,17 +5,16 @@ use Rattle.std.specs.List.{AllZip, list_any}
 use Rattle.std.proofs.lemmas.List.{append-nil}
 use Rattle.std.proofs.lemmas.List.Folds.{list_any-append}
 use Rattle.std.proofs.lemmas.List.Sums.{sum_by-append}
-use Rattle.ha_model.specs.declared.journal.Cmd.{Cmd}
-use Rattle.ha_model.specs.declared.journal.Entry.{Entry}
-use Rattle.ha_model.specs.declared.journal.Entry.TheVariants.{Boot, Line, Step}
-use Rattle.ha_model.specs.declared.journal.Item.{Item}
-use Rattle.ha_model.specs.Commands.{ArePutFrom, Placed, has_automation, lines_of, put_as}
-use Rattle.ha_model.specs.Entries.{shuts_source}
-use Rattle.ha_model.specs.Journal.{Journal}
+use Rattle.ha_config.specs.declared.command.Cmd.{Cmd}
+use Rattle.ha_journal.specs.declared.entry.Entry.{Entry}
+use Rattle.ha_journal.specs.declared.entry.Entry.TheVariants.{Boot, Line, Step}
+use Rattle.ha_sight.specs.declared.item.Item.{Item}
+use Rattle.ha_journal.specs.Commands.{ArePutFrom, Placed, has_automation, lines_of, put_as}
+use Rattle.ha_config.specs.Fair.{shuts_source}
+use Rattle.ha_journal.specs.Journal.{Journal, more}
 use Rattle.ha_model.specs.Lawful.{Right, Running, is_line_of, is_rested, pick, shuts}
-use Rattle.ha_model.specs.RecordSteps.{more}
 use Rattle.ha_model.specs.Records.{Records}
-use Rattle.ha_model.specs.Scripts.{Branch}
+use Rattle.ha_sight.specs.Scripts.{Branch}
 use Rattle.ha_laws.specs.Makers.{IsOfOne, OfOne}
 use Rattle.ha_laws.proofs.TextLemmas.{lines-more}
 

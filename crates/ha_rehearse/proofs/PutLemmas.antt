@@ -4,18 +4,17 @@ use Rattle.std.specs.Prelude.{◌↔◌, Result, Ok, Err}
 use Rattle.std.specs.Prelude.{◌||◌}
 use Rattle.std.proofs.lemmas.Bool.{false≢true}
 use Rattle.ha_model.specs.declared.faults.CoreFault.{CoreFault}
-use Rattle.ha_model.specs.declared.journal.Cmd.{Cmd}
-use Rattle.ha_model.specs.declared.journal.Entry.{Entry}
-use Rattle.ha_model.specs.declared.journal.Entry.TheVariants.{Line, Step}
-use Rattle.ha_model.specs.declared.journal.Item.{Item}
-use Rattle.ha_model.specs.Commands.{ArePutFrom, put_as}
-use Rattle.ha_model.specs.Entries.{shuts_source}
-use Rattle.ha_model.specs.Journal.{Journal}
+use Rattle.ha_config.specs.declared.command.Cmd.{Cmd}
+use Rattle.ha_journal.specs.declared.entry.Entry.{Entry}
+use Rattle.ha_journal.specs.declared.entry.Entry.TheVariants.{Line, Step}
+use Rattle.ha_sight.specs.declared.item.Item.{Item}
+use Rattle.ha_journal.specs.Commands.{ArePutFrom, put_as}
+use Rattle.ha_config.specs.Fair.{shuts_source}
+use Rattle.ha_journal.specs.Journal.{Journal, more}
 use Rattle.ha_model.specs.Lawful.{Lawful, Right, Running, is_quiet, is_rested, pick, ready}
 use Rattle.ha_model.specs.Records.{Records}
-use Rattle.ha_model.specs.RecordSteps.{more}
-use Rattle.ha_model.specs.Scripts.{Branch}
-use Rattle.ha_model.proofs.LawfulLaws.{has-entry}
+use Rattle.ha_sight.specs.Scripts.{Branch}
+use Rattle.ha_journal.proofs.MoreLemmas.{has-entry}
 use Rattle.ha_laws.proofs.OneStep.{quiet-rested}
 use Rattle.ha_laws.proofs.RightMore.{right-closes, right-runs}
 use Rattle.flow_line.specs.Command.{cmd_of}

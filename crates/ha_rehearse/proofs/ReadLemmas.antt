@@ -4,10 +4,10 @@ use Rattle.std.specs.Prelude.{◌&&◌, if◌then◌else◌, Ok, is_some, nat_lt
 use Rattle.ha_value.specs.declared.value.EntityId.{EntityId}
 use Rattle.ha_value.specs.Ids.{read_entity}
 use Rattle.ha_clock.specs.SpanText.{span_of}
-use Rattle.ha_model.specs.declared.config.Form.{Form}
-use Rattle.ha_model.specs.declared.config.Form.TheVariants as forms
-use Rattle.ha_model.specs.declared.config.SpanForm.{SpanForm}
-use Rattle.ha_model.specs.declared.template.Template.{Template}
+use Rattle.ha_config.specs.declared.config.Form.{Form}
+use Rattle.ha_config.specs.declared.config.Form.TheVariants as forms
+use Rattle.ha_config.specs.declared.config.SpanForm.{SpanForm}
+use Rattle.ha_config.specs.declared.template.Template.{Template}
 use Rattle.yaml_scan.specs.declared.fault.Code.{Code}
 use Rattle.yaml_scan.specs.declared.fault.Code.TheVariants as code
 use Rattle.yaml_scan.specs.declared.fault.Fault.{Fault}

@@ -3,12 +3,12 @@ use Rattle.std.proofs.Common.{◌≡◌, ◌∙◌, ℕ, zero, suc, List, [], �
 use Rattle.std.specs.Prelude.{if◌then◌else◌, nat_eq, Result, Ok}
 use Rattle.std.proofs.Math.Dec.{eqb-zero-suc}
 use Rattle.std.specs.List.{AllZip}
-use Rattle.ha_model.specs.declared.config.Config.{Config}
-use Rattle.ha_model.specs.declared.journal.Cmd.{Cmd}
-use Rattle.ha_model.specs.declared.journal.Entry.{Entry}
-use Rattle.ha_model.specs.declared.journal.Entry.TheVariants.{Boot, Line, Step}
-use Rattle.ha_model.specs.Commands.{ArePutFrom, Placed, placed_from, put_as}
-use Rattle.ha_model.specs.Journal.{Journal}
+use Rattle.ha_config.specs.declared.config.Config.{Config}
+use Rattle.ha_config.specs.declared.command.Cmd.{Cmd}
+use Rattle.ha_journal.specs.declared.entry.Entry.{Entry}
+use Rattle.ha_journal.specs.declared.entry.Entry.TheVariants.{Boot, Line, Step}
+use Rattle.ha_journal.specs.Commands.{ArePutFrom, Placed, placed_from, put_as}
+use Rattle.ha_journal.specs.Journal.{Journal}
 use Rattle.ha_model.specs.Lawful.{Lawful, is_quiet}
 use Rattle.ha_model.specs.Records.{Records}
 use Rattle.ha_laws.specs.Makers.{OfOne}

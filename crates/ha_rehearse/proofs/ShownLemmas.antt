@@ -1,9 +1,9 @@
 -- The template of a rehearsal's configuration is read.
 use Rattle.std.proofs.Common.{◌≡◌, ap, refl, [], ◌∷◌, false, codes, Some}
-use Rattle.ha_model.specs.declared.template.Expr.{Expr}
-use Rattle.ha_model.specs.declared.template.Expr
-use Rattle.ha_model.specs.declared.template.Piece.{Piece}
-use Rattle.ha_model.specs.declared.template.Template.{Template}
+use Rattle.ha_config.specs.declared.template.Expr.{Expr}
+use Rattle.ha_config.specs.declared.template.Expr
+use Rattle.ha_config.specs.declared.template.Piece.{Piece}
+use Rattle.ha_config.specs.declared.template.Template.{Template}
 use Rattle.tpl_parse.specs.declared.token.Token.{Token}
 use Rattle.tpl_parse.specs.Grammar as g
 use Rattle.tpl_parse.specs.Pieces.{template_of as made_of}

@@ -1,7 +1,7 @@
 //! Laws of the definitions alone. Each is a function that does nothing; its contract is the law.
 ghost use Rattle.std.specs.Prelude.{◌≡◌, ℕ, Ok};
-ghost use Rattle.ha_model.specs.declared.config.Config.{Config};
-ghost use Rattle.ha_model.specs.Journal.{Journal};
+ghost use Rattle.ha_config.specs.declared.config.Config.{Config};
+ghost use Rattle.ha_journal.specs.Journal.{Journal};
 ghost use Rattle.ha_model.specs.Records.{Records};
 ghost use Rattle.rehearsal.specs.Generated.{config_text};
 ghost use Rattle.conf_auto.specs.Config.{config_of};

@@ -1,8 +1,8 @@
 //! The command `rehearse`.
 ghost use Rattle.std.specs.Prelude.{◌≡◌, ◌≤◌, ◌∷◌, [], false, IfErr, IfOk, Ok};
 ghost use Rattle.ha_io.specs.Counts.{Rose};
-ghost use Rattle.ha_model.specs.declared.config.Config.{Config as Configuration};
-ghost use Rattle.ha_model.specs.Sound.{IsSoundConfig};
+ghost use Rattle.ha_config.specs.declared.config.Config.{Config as Configuration};
+ghost use Rattle.ha_config.specs.Sound.{IsSoundConfig};
 ghost use Rattle.ha_model.specs.Texts.{rehearse_text};
 ghost use Rattle.ha_status.specs.Causes.{NeverFall, OneRose, WriteCause};
 ghost use Rattle.ha_status.specs.Written.{IsWritten, TookLine};
@@ -15,8 +15,10 @@ use crate::text::rehearse_text;
 use conf_auto::read_config;
 use ha_boot::Boots;
 use ha_clock::Moment;
+use ha_config::Config;
 use ha_io::{Sink, Unwritten, write_whole};
-use ha_model::{Config, CoreFault, Entry, Record};
+use ha_journal::Entry;
+use ha_model::{CoreFault, Record};
 use ha_status::{Status, told};
 use ha_value::Word;
 use rehearsal::{START, rehearse_config};

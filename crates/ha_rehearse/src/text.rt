@@ -1,9 +1,12 @@
 //! The counts that `rehearse` writes.
 ghost use Rattle.std.specs.Prelude.{◌≡◌, ◌<◌, ◌+◌, ◌++◌, cond, count_by, IfOk, OnOk, string_bytes};
-ghost use Rattle.ha_model.specs.Texts.{count_line, rehearse_text};
+ghost use Rattle.ha_config.specs.CheckText.{count_line};
+ghost use Rattle.ha_model.specs.Texts.{rehearse_text};
 ghost use Rattle.ha_rehearse.specs.Counts.{calls, is_line};
 
-use ha_model::{Entry, Item, Record};
+use ha_journal::Entry;
+use ha_model::Record;
+use ha_sight::Item;
 use std::alloc::{AllocError, Global};
 
 #[tactic(auto, unfolding(crate::specs::Counts::is_line))]

@@ -5,22 +5,21 @@ use Rattle.std.proofs.lemmas.Fmt.{decimal_digit, decimal_step}
 use Rattle.std.proofs.lemmas.List.Sums.{count_by-le-length}
 use Rattle.std.specs.Prelude.{Some, IfSome, IsTrue, ◌||◌, codes, decimal, is_some, option_map, find, slice_get, count_by, nat_lt}
 use Rattle.std.specs.List.{list_any, enumerate_from}
-use Rattle.ha_model.specs.declared.config.Automation.{Automation}
-use Rattle.ha_model.specs.declared.journal.Cmd.{Cmd}
-use Rattle.ha_model.specs.declared.journal.Item.{Item}
-use Rattle.ha_model.specs.declared.journal.Entry.{Entry}
-use Rattle.ha_model.specs.declared.journal.Entry.TheVariants.{Line, Step}
-use Rattle.ha_model.specs.Words.{Text, same}
-use Rattle.ha_model.specs.Journal.{Journal, automations}
-use Rattle.ha_model.specs.Commands.{IsFair, put_as}
-use Rattle.ha_model.specs.Scripts.{Branch}
+use Rattle.ha_config.specs.declared.config.Automation.{Automation}
+use Rattle.ha_config.specs.declared.command.Cmd.{Cmd}
+use Rattle.ha_sight.specs.declared.item.Item.{Item}
+use Rattle.ha_journal.specs.declared.entry.Entry.{Entry}
+use Rattle.ha_journal.specs.declared.entry.Entry.TheVariants.{Line, Step}
+use Rattle.ha_config.specs.Words.{Text, same}
+use Rattle.ha_journal.specs.Journal.{Journal, automations, more, HasEntry}
+use Rattle.ha_journal.specs.Commands.{IsFair, put_as}
+use Rattle.ha_sight.specs.Scripts.{Branch}
 use Rattle.ha_model.specs.Records.{Records}
-use Rattle.ha_model.specs.RecordSteps.{more}
 use Rattle.ha_model.specs.Lawful.{Right, Lawful, is_quiet, is_rested, is_line_of, pick, ready}
-use Rattle.ha_model.specs.Texts.{as_line, trace_line}
-use Rattle.ha_model.proofs.EqualLemmas.{same-sound, same-refl}
-use Rattle.ha_model.proofs.LawfulLaws.{has-entry}
-use Rattle.ha_model.proofs.RecordGrowth.{HasEntry}
+use Rattle.ha_config.specs.CheckText.{as_line}
+use Rattle.ha_journal.specs.EntryText.{trace_line}
+use Rattle.ha_config.proofs.EqualLemmas.{same-sound, same-refl}
+use Rattle.ha_journal.proofs.MoreLemmas.{has-entry}
 use Rattle.ha_texts.specs.Lines.{AreDated}
 use Rattle.flow_printed.specs.declared.line.PrintedLine.{PrintedLine}
 use Rattle.flow_printed.specs.Printed.{IsFairButForName, IsPrintOfLine}

@@ -4,7 +4,7 @@ use Rattle.std.specs.Prelude.{◌&&◌, Option, Some, None, IsSome, Result, Ok, 
 use Rattle.ha_clock.specs.Zone.{zone_of}
 use Rattle.ha_texts.proofs.TraceLemmas.{moment_ascii}
 use Rattle.std.proofs.lemmas.Str.{IsUtf8-from_ascii, is_utf8-from_IsUtf8}
-use Rattle.ha_model.proofs.EqualLemmas.{and_left, and_right}
+use Rattle.ha_config.proofs.EqualLemmas.{and_left, and_right}
 use Rattle.flow_line.specs.Grammar.{IsDocument}
 use Rattle.flow_line.proofs.PrintedValue.{print_is_spelled}
 use Rattle.ha_replay.specs.declared.boot.BootLine.{BootLine}
@@ -16,17 +16,19 @@ use Rattle.ha_value.specs.declared.value.Value.{Value}
 use Rattle.ha_value.specs.declared.value.Value.TheOpen.{Value-F}
 use Rattle.ha_value.specs.declared.value.Value.TheViews.{out-Value, out-roll-Value, roll-Value}
 use Rattle.ha_value.specs.declared.value.Value.TheFolds.{fold-roll-Value, map-Value}
-use Rattle.ha_model.proofs.Rolls.{depth_of-roll, is_sound_value-roll, print_value-roll}
+use Rattle.ha_config.proofs.ValueRolls.{depth_of-roll, is_sound_value-roll, print_value-roll}
 use Rattle.ha_clock.specs.Local.{last_moment}
 use Rattle.ha_clock.specs.Print.{moment_text}
 use Rattle.ha_clock.proofs.RoundTrip.{moment_read}
-use Rattle.ha_model.specs.declared.config.Automation.{Automation}
-use Rattle.ha_model.specs.declared.config.Config.{Config}
-use Rattle.ha_model.specs.declared.journal.Entry.{Entry}
-use Rattle.ha_model.specs.Words.{Pairs, Text}
-use Rattle.ha_model.specs.Commands.{all_distinct, has_utf8_texts, is_sound_value, keys_of, utf8_step}
-use Rattle.ha_model.specs.ValueText.{deepest, depth_of, flag_text, map_text, print_value, quoted}
-use Rattle.ha_model.specs.Texts.{as_line, stored_text, trace_line}
+use Rattle.ha_config.specs.declared.config.Automation.{Automation}
+use Rattle.ha_config.specs.declared.config.Config.{Config}
+use Rattle.ha_journal.specs.declared.entry.Entry.{Entry}
+use Rattle.ha_config.specs.Words.{Pairs, Text}
+use Rattle.ha_config.specs.ValueFacts.{all_distinct, has_utf8_texts, is_sound_value, keys_of, utf8_step}
+use Rattle.ha_config.specs.ValueText.{deepest, depth_of, flag_text, map_text, print_value, quoted}
+use Rattle.ha_config.specs.CheckText.{as_line}
+use Rattle.ha_config.specs.StoreText.{stored_text}
+use Rattle.ha_journal.specs.EntryText.{trace_line}
 use Rattle.ha_replay.specs.Boots.{HasUtf8, IsBootLine, Reads, ReadsFrom, Switches, are_stored, have_utf8_names, parts, parts_in, flag_of, stored_of, switches_of}
 use Rattle.ha_replay.proofs.OrderLemmas.{ordered-distinct}
 use Rattle.ha_replay.proofs.TextLemmas.{same-line}

@@ -1,9 +1,10 @@
 -- Commands that are fair but for their names.
 use Rattle.std.proofs.Common.{◌≡◌, refl, Bool, true, rules}
 use Rattle.std.specs.Prelude.{IsTrue, if◌then◌else◌}
-use Rattle.ha_model.specs.declared.journal.Cmd.{Cmd}
-use Rattle.ha_model.specs.Journal.{Journal}
-use Rattle.ha_model.specs.Commands.{IsFair, has_automation, put_as, no_automation}
+use Rattle.ha_config.specs.declared.command.Cmd.{Cmd}
+use Rattle.ha_journal.specs.Journal.{Journal}
+use Rattle.ha_journal.specs.Commands.{IsFair, has_automation, put_as}
+use Rattle.ha_config.specs.Fair.{no_automation}
 use Rattle.flow_printed.specs.Printed.{IsFairButForName}
 use Rattle.ha_replay.specs.Steps.{is_named}
 

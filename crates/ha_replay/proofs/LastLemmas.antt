@@ -4,15 +4,14 @@ use Rattle.std.proofs.lemmas.List.Folds.{list_any-append}
 use Rattle.std.proofs.lemmas.List.Sums.{sum_by-append}
 use Rattle.std.specs.Prelude.{◌||◌, ◌&&◌, Option, None, Some, nat_eq, count_by, if◌then◌else◌}
 use Rattle.std.specs.List.{list_any}
-use Rattle.ha_model.specs.declared.journal.Entry.{Entry}
-use Rattle.ha_model.specs.declared.journal.Entry.TheVariants.{Boot, Line, Step}
-use Rattle.ha_model.specs.Words.{EachAfter}
-use Rattle.ha_model.specs.Entries.{shuts_source}
-use Rattle.ha_model.specs.Journal.{Journal}
+use Rattle.ha_journal.specs.declared.entry.Entry.{Entry}
+use Rattle.ha_journal.specs.declared.entry.Entry.TheVariants.{Boot, Line, Step}
+use Rattle.ha_config.specs.Words.{EachAfter}
+use Rattle.ha_config.specs.Fair.{shuts_source}
+use Rattle.ha_journal.specs.Journal.{Journal}
 use Rattle.ha_model.specs.Records.{Records}
 use Rattle.ha_model.specs.Lawful.{IsTurn, is_line_of, shuts}
-use Rattle.ha_model.proofs.AppendLemmas.{append-nil}
-use Rattle.ha_model.proofs.LawfulLaws.{none-some, some-same}
+use Rattle.ha_config.proofs.ListLemmas.{append-nil, none-some, some-same}
 use Rattle.ha_replay.specs.Steps.{line_by}
 
 count-join : {X : Type 0} (p : X → Bool) (xs ys : List X) → count_by p (xs ++ ys) ≡ count_by p xs + count_by p ys

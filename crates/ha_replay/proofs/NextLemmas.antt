@@ -3,22 +3,23 @@ use Rattle.std.proofs.Common.{◌≡◌, ◌∙◌, ap, sym, subst, refl, ℕ, z
 use Rattle.std.specs.Prelude.{◌⊎◌, ◌||◌, nat_eq, nat_lt, Some, None, count_by, slice_get, if◌then◌else◌}
 use Rattle.std.specs.List.{list_all, list_any}
 use Rattle.std.specs.Option.{option_map_or}
-use Rattle.ha_model.specs.declared.journal.Cmd.{Cmd}
-use Rattle.ha_model.specs.declared.journal.Item.{Item}
-use Rattle.ha_model.specs.declared.journal.Entry.{Entry}
-use Rattle.ha_model.specs.declared.journal.Entry.TheVariants.{Boot, Line, Step}
-use Rattle.ha_model.specs.Words.{Text, EachAfter, EachFrom, EachWith, last_below}
-use Rattle.ha_model.specs.Journal.{Journal, IsJournal, IsBoot, automations}
-use Rattle.ha_model.specs.Commands.{IsFair}
-use Rattle.ha_model.specs.CommandText.{cmd_text}
-use Rattle.ha_model.specs.Scripts.{Branch}
+use Rattle.ha_config.specs.declared.command.Cmd.{Cmd}
+use Rattle.ha_sight.specs.declared.item.Item.{Item}
+use Rattle.ha_journal.specs.declared.entry.Entry.{Entry}
+use Rattle.ha_journal.specs.declared.entry.Entry.TheVariants.{Boot, Line, Step}
+use Rattle.ha_config.specs.Words.{Text, EachAfter, EachFrom, EachWith, last_below}
+use Rattle.ha_journal.specs.Journal.{Journal, IsJournal, automations, more}
+use Rattle.ha_journal.specs.Entries.{IsBoot}
+use Rattle.ha_journal.specs.Commands.{IsFair}
+use Rattle.ha_config.specs.CommandText.{cmd_text}
+use Rattle.ha_sight.specs.Scripts.{Branch}
 use Rattle.ha_model.specs.Records.{Records}
-use Rattle.ha_model.specs.RecordSteps.{more, records_after}
+use Rattle.ha_model.specs.RecordSteps.{records_after}
 use Rattle.ha_model.specs.Lawful.{IsRightEntry, Right, IsTurn, IsDue, IsBusy, IsOpen, Lawful, is_by_worker_0, is_empty, is_line_of, is_rested, pick, ready, shuts}
-use Rattle.ha_model.proofs.AppendLemmas.{append-nil, each-weaken, SameUpTo, ready-same}
+use Rattle.ha_config.proofs.ListLemmas.{append-nil, true-false}
+use Rattle.ha_model.proofs.AppendLemmas.{each-weaken, SameUpTo, ready-same}
 use Rattle.ha_model.proofs.RecordLaws.{records-more}
-use Rattle.ha_model.proofs.RecordGrowth.{true-false}
-use Rattle.ha_model.proofs.EqualLemmas.{and_left, and_right}
+use Rattle.ha_config.proofs.EqualLemmas.{and_left, and_right}
 use Rattle.ha_model.proofs.LawfulLaws.{same-after, rested-same}
 use Rattle.ha_laws.specs.Makers.{makers, maker, cmds_of}
 use Rattle.ha_laws.proofs.OneAnswer.{one_answer}

@@ -6,9 +6,9 @@ use Rattle.std.specs.Cmp.Lexicographic.{slice_partial_cmp}
 use Rattle.std.proofs.lemmas.Bool.Decides.{nat_tests}
 use Rattle.std.specs.Prelude.{Some, nat_eq, nat_lt, not, ◌&&◌, ◌||◌, if◌then◌else◌}
 use Rattle.std.specs.List.{list_any}
-use Rattle.ha_model.specs.Words.{Text, comes_before, same}
-use Rattle.ha_model.specs.Commands.{all_distinct, keys_of}
-use Rattle.ha_model.proofs.EqualLemmas.{same-sound, and_left, and_right}
+use Rattle.ha_config.specs.Words.{Text, comes_before, same}
+use Rattle.ha_config.specs.ValueFacts.{all_distinct, keys_of}
+use Rattle.ha_config.proofs.EqualLemmas.{same-sound, and_left, and_right}
 use Rattle.ha_replay.specs.Boots.{Switches, are_in_order}
 
 below : (a b : ℕ) → nat_lt a b ≡ true → a < b

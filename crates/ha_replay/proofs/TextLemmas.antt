@@ -2,14 +2,16 @@
 use Rattle.std.proofs.Common.{◌≡◌, ◌∙◌, ap, sym, ℕ, List, [], ◌∷◌, ◌++◌, get_or, append_assoc, arith}
 use Rattle.std.specs.Prelude.{codes, decimal}
 use Rattle.std.proofs.lemmas.List.{append_cancel_right}
-use Rattle.ha_model.specs.declared.config.Automation.{Automation}
-use Rattle.ha_model.specs.declared.journal.Cmd.{Cmd}
-use Rattle.ha_model.specs.declared.journal.Item.{Item}
-use Rattle.ha_model.specs.declared.journal.Entry.TheVariants.{Line, Step}
-use Rattle.ha_model.specs.Words.{Text}
-use Rattle.ha_model.specs.CommandText.{cmd_text, item_text}
-use Rattle.ha_model.specs.ValueText.{comma_joined, list_text, map_text, pair_text}
-use Rattle.ha_model.specs.Texts.{as_line, trace_line}
+use Rattle.ha_config.specs.declared.config.Automation.{Automation}
+use Rattle.ha_config.specs.declared.command.Cmd.{Cmd}
+use Rattle.ha_sight.specs.declared.item.Item.{Item}
+use Rattle.ha_journal.specs.declared.entry.Entry.TheVariants.{Line, Step}
+use Rattle.ha_config.specs.Words.{Text}
+use Rattle.ha_config.specs.CommandText.{cmd_text}
+use Rattle.ha_sight.specs.ItemText.{item_text}
+use Rattle.ha_config.specs.ValueText.{comma_joined, list_text, map_text, pair_text}
+use Rattle.ha_config.specs.CheckText.{as_line}
+use Rattle.ha_journal.specs.EntryText.{trace_line}
 use Rattle.std.specs.Prelude.{map}
 use Rattle.flow_printed.specs.Printed.{line_text}
 use Rattle.ha_replay.specs.Steps.{IsOf}

@@ -10,10 +10,11 @@ use Rattle.ha_value.specs.declared.value.Value.TheViews.{out-Value}
 use Rattle.ha_clock.specs.Local.{last_moment}
 use Rattle.ha_clock.specs.MomentText.{moment_of}
 use Rattle.ha_clock.specs.Zone.{zone_of}
-use Rattle.ha_model.specs.declared.config.Config.{Config}
-use Rattle.ha_model.specs.declared.journal.Entry.{Entry}
-use Rattle.ha_model.specs.Words.{Pairs, Text, comes_before, first_pair}
-use Rattle.ha_model.specs.Texts.{as_line, trace_line}
+use Rattle.ha_config.specs.declared.config.Config.{Config}
+use Rattle.ha_journal.specs.declared.entry.Entry.{Entry}
+use Rattle.ha_config.specs.Words.{Pairs, Text, comes_before, first_pair}
+use Rattle.ha_config.specs.CheckText.{as_line}
+use Rattle.ha_journal.specs.EntryText.{trace_line}
 use Rattle.ha_replay.specs.declared.boot.BootLine.{BootLine}
 use Rattle.ha_replay.specs.declared.boot.Parts.{Parts}
 use Rattle.ha_replay.specs.declared.fault.TraceFault.{TraceFault}

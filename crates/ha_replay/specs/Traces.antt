@@ -1,12 +1,12 @@
 -- What a line of a trace is behind these entries: the next lawful one, or the end.
 use Rattle.std.specs.Prelude.{ℕ, ◌≡◌, ◌≢◌, ◌⊎◌, Bool, true, false, Result, Ok, Err, length}
-use Rattle.ha_model.specs.declared.journal.Entry.{Entry}
-use Rattle.ha_model.specs.Words.{Text}
-use Rattle.ha_model.specs.Journal.{Journal, automations}
+use Rattle.ha_journal.specs.declared.entry.Entry.{Entry}
+use Rattle.ha_config.specs.Words.{Text}
+use Rattle.ha_journal.specs.Journal.{Journal, automations, more}
 use Rattle.ha_model.specs.Records.{Records}
-use Rattle.ha_model.specs.RecordSteps.{more}
 use Rattle.ha_model.specs.Lawful.{IsOpen, Lawful, is_quiet}
-use Rattle.ha_model.specs.Texts.{as_line, end_line, trace_line}
+use Rattle.ha_config.specs.CheckText.{as_line}
+use Rattle.ha_journal.specs.EntryText.{end_line, trace_line}
 use Rattle.ha_replay.specs.declared.fault.TraceFault.{TraceFault}
 
 -- the line, with its LF, is that of the entry, with which the journal stays lawful

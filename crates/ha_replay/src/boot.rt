@@ -1,7 +1,8 @@
 //! The first line of a trace.
 ghost use Rattle.std.specs.Prelude.{◌≡◌, ◌≤◌, ◌<◌, ◌^◌, ◌↔◌, ◌∷◌, [], IfOk, IfSome, IsTrue, length};
 ghost use Rattle.ha_clock.specs.Local.{last_moment};
-ghost use Rattle.ha_model.specs.Texts.{as_line, trace_line as trace_line_lem};
+ghost use Rattle.ha_config.specs.CheckText.{as_line};
+ghost use Rattle.ha_journal.specs.EntryText.{trace_line as trace_line_lem};
 ghost use Rattle.ha_replay.specs.Boots.{Reads, ReadsFrom, ReadsZone, boot_of, parts_in as parts_in_lem};
 
 use crate::fault::TraceFault;
@@ -9,7 +10,8 @@ use crate::same::is_same;
 use crate::stored::{are_stored, moment_under, stored_under, text_under, under};
 use flow_line::{FlowFault, read_value};
 use ha_clock::{ClockFault, Moment, Zone};
-use ha_model::{Config, Entry};
+use ha_config::Config;
+use ha_journal::Entry;
 use ha_texts::{empty_line, trace_line};
 use ha_value::{Many, Plain, Value, Word};
 use std::alloc::{AllocError, Global};

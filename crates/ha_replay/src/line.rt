@@ -3,10 +3,10 @@
 //! A line of a source gives the command that is put. Of a step the line names the worker alone: the core makes the step, and the line is
 //! compared with the one that is printed of it.
 ghost use Rattle.std.specs.Prelude.{◌≡◌, ◌≢◌, ◌<◌, ◌^◌, ◌-◌, ◌++◌, ◌||◌, ◌↔◌, ℕ, codes, false, true, length, slice_get, IfOk, IfSome, OnErr, OnOk, IsTrue};
-ghost use Rattle.ha_model.specs.Words.{Text};
-ghost use Rattle.ha_model.specs.Journal.{Journal, automations};
-ghost use Rattle.ha_model.specs.RecordSteps.{more};
-ghost use Rattle.ha_model.specs.Texts.{as_line, trace_line as trace_line_lem};
+ghost use Rattle.ha_config.specs.Words.{Text};
+ghost use Rattle.ha_journal.specs.Journal.{Journal, automations, more};
+ghost use Rattle.ha_config.specs.CheckText.{as_line};
+ghost use Rattle.ha_journal.specs.EntryText.{trace_line as trace_line_lem};
 ghost use Rattle.ha_texts.specs.Lines.{AreDated};
 ghost use Rattle.flow_printed.specs.Printed.{IsFairButForName, IsPrintOfLine};
 ghost use Rattle.ha_replay.specs.Traces.{Answers, IsEnd, IsFrontOf, Stands, most_entries, reached};
@@ -18,8 +18,10 @@ use crate::last::{is_named, next_number};
 use crate::same::is_same;
 use crate::worker::worker_of;
 use flow_printed::{PrintedLine, read_line};
-use ha_model::{Core, CoreFault, Entry, Word};
+use ha_journal::Entry;
+use ha_model::{Core, CoreFault};
 use ha_texts::trace_line;
+use ha_value::Word;
 use std::alloc::{AllocError, Global};
 
 /// The entries that a journal may have.

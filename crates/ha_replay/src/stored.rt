@@ -2,7 +2,7 @@
 ghost use Rattle.std.specs.Prelude.{◌≡◌, ◌≤◌, IfOk, IfSome, is_some};
 ghost use Rattle.std.specs.Option.{option_copied};
 ghost use Rattle.ha_clock.specs.Local.{last_moment};
-ghost use Rattle.ha_model.specs.Words.{comes_before as comes_lem, first_pair as first_lem, same};
+ghost use Rattle.ha_config.specs.Words.{comes_before as comes_lem, first_pair as first_lem, same};
 ghost use Rattle.ha_replay.specs.Boots as boots;
 
 use ha_clock::{Moment, read_moment};

@@ -1,6 +1,6 @@
 //! Whose step a line of a trace is.
 ghost use Rattle.std.specs.Prelude.{◌≡◌, ◌<◌, ◌++◌, ℕ, Some, IfSome, codes};
-ghost use Rattle.ha_model.specs.Words.{Text};
+ghost use Rattle.ha_config.specs.Words.{Text};
 ghost use Rattle.ha_replay.specs.Steps.{IsOf};
 ghost use Rattle.ha_replay.specs.Digits.{digit_of, number_before_comma as number_lem};
 

@@ -8,16 +8,16 @@ use Rattle.std.specs.Prelude.{◌&&◌, IfSome, IsSomeAnd, slice_get, if◌then�
 use Rattle.std.specs.List.{list_all}
 use Rattle.ha_io.specs.Told.{told_as}
 use Rattle.ha_io.proofs.ToldLemmas.{Gives-nothing}
-use Rattle.ha_model.specs.declared.journal.Entry.{Entry}
-use Rattle.ha_model.specs.declared.journal.Entry.TheVariants.{Boot, Line, Step}
-use Rattle.ha_model.specs.Commands.{ArePutFrom}
-use Rattle.ha_model.specs.Journal.{Journal}
+use Rattle.ha_journal.specs.declared.entry.Entry.{Entry}
+use Rattle.ha_journal.specs.declared.entry.Entry.TheVariants.{Boot, Line, Step}
+use Rattle.ha_journal.specs.Commands.{ArePutFrom}
+use Rattle.ha_journal.specs.Journal.{Journal, more}
 use Rattle.ha_model.specs.Lawful.{Lawful, Right, is_by_worker_0, is_quiet}
 use Rattle.ha_model.specs.Records.{Records}
-use Rattle.ha_model.specs.RecordSteps.{more}
-use Rattle.ha_model.specs.Sights.{changes_switch}
-use Rattle.ha_model.specs.Texts.{call_text, error_text, store_text, trace_text}
-use Rattle.ha_model.specs.Words.{Text}
+use Rattle.ha_journal.specs.Sights.{changes_switch}
+use Rattle.ha_model.specs.Texts.{call_text}
+use Rattle.ha_journal.specs.EntryText.{error_text, store_text, trace_text}
+use Rattle.ha_config.specs.Words.{Text}
 use Rattle.flow_line.specs.Command.{cmd_of}
 use Rattle.ha_status.specs.declared.status.Status.{Status}
 use Rattle.ha_status.specs.Files.{Files}

@@ -7,10 +7,10 @@ use Rattle.ha_io.specs.Counts.{Rose}
 use Rattle.ha_io.specs.Told.{HasFile}
 use Rattle.ha_io.proofs.CountLemmas.{Rose-from_zero}
 use Rattle.ha_io.proofs.ToldLemmas.{Gives-told}
-use Rattle.ha_model.specs.declared.journal.Cmd.{Cmd}
-use Rattle.ha_model.specs.Commands.{ArePutFrom}
-use Rattle.ha_model.specs.Journal.{Journal}
-use Rattle.ha_model.specs.Words.{Text}
+use Rattle.ha_config.specs.declared.command.Cmd.{Cmd}
+use Rattle.ha_journal.specs.Commands.{ArePutFrom}
+use Rattle.ha_journal.specs.Journal.{Journal}
+use Rattle.ha_config.specs.Words.{Text}
 use Rattle.ha_status.specs.declared.status.Status.{Status}
 use Rattle.ha_status.specs.Files.{Files}
 use Rattle.bus_turn.specs.declared.fault.BusFault.{BusFault}

@@ -1,6 +1,6 @@
 -- What stands where the status line is written, or memory ran out last.
 use Rattle.std.proofs.Common.{inl, inr, List, Some, None}
-use Rattle.ha_model.specs.declared.journal.Entry.{Entry}
+use Rattle.ha_journal.specs.declared.entry.Entry.{Entry}
 use Rattle.ha_status.specs.declared.status.Status.{Status}
 use Rattle.ha_run.specs.Served.{Feed}
 use Rattle.ha_run.specs.Stands.{Ran, RanFull, RanSome, RanThrough, Scene, StandsAt, Writings}

@@ -5,9 +5,9 @@ use Rattle.std.proofs.lemmas.Option.{IfSome_then, none-some, same_Some}
 use Rattle.std.specs.Prelude.{is_some}
 use Rattle.std.specs.Option.{option_map}
 use Rattle.ha_io.specs.Told.{Takes}
-use Rattle.ha_model.specs.Journal.{Journal, automations}
-use Rattle.ha_model.specs.Texts.{end_line, texts_after, trace_line, trace_text}
-use Rattle.ha_model.specs.Words.{Text}
+use Rattle.ha_journal.specs.Journal.{Journal, automations}
+use Rattle.ha_journal.specs.EntryText.{end_line, texts_after, trace_line, trace_text}
+use Rattle.ha_config.specs.Words.{Text}
 use Rattle.bus_turn.specs.declared.fault.BusFault.{BusFault}
 use Rattle.bus_turn.specs.Buses.{HasTaken, HasTakenFront, IsBetween, IsCut, IsWritten}
 use Rattle.bus_turn.specs.Ends.{Ends}

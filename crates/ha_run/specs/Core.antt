@@ -1,11 +1,12 @@
 -- What a run of a booted core leaves of what lies outside, before the status line.
 use Rattle.std.specs.Prelude.{◌≡◌, ◌⊎◌, true, false, List, [], ◌∷◌, Option, None, Some, IfSome, is_some}
-use Rattle.ha_model.specs.declared.journal.Entry.{Entry}
+use Rattle.ha_journal.specs.declared.entry.Entry.{Entry}
 use Rattle.ha_model.specs.Records.{Records}
-use Rattle.ha_model.specs.Texts.{call_text, error_text, trace_text}
+use Rattle.ha_model.specs.Texts.{call_text}
+use Rattle.ha_journal.specs.EntryText.{error_text, trace_text}
 use Rattle.ha_status.specs.declared.status.Status.{Status}
 use Rattle.ha_status.specs.Files.{Files}
-use Rattle.ha_model.specs.Words.{Text}
+use Rattle.ha_config.specs.Words.{Text}
 use Rattle.bus_turn.specs.declared.fault.BusFault.{BusFault}
 use Rattle.bus_turn.specs.Buses.{HasCause, HasTaken, HasTakenFront, HoldsStore, IsCut, IsWritten}
 use Rattle.bus_turn.specs.Shown.{BusView, bus_view}

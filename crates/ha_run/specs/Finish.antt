@@ -1,6 +1,6 @@
 -- How a run ends, once the bus has gone round. (Stages of the code, no part of what it promises.)
 use Rattle.std.specs.Prelude.{◌≡◌, ◌⊎◌, true, false, List, Option, None, Some}
-use Rattle.ha_model.specs.declared.journal.Entry.{Entry}
+use Rattle.ha_journal.specs.declared.entry.Entry.{Entry}
 use Rattle.ha_model.specs.Lawful.{is_quiet}
 use Rattle.ha_model.specs.Records.{Records}
 use Rattle.ha_status.specs.declared.status.Status.{Status}

@@ -1,7 +1,7 @@
 -- Sources that were opened and not read yet.
 use Rattle.std.specs.Prelude.{ℕ, ◌≡◌, List, [], ◌∷◌, Option, IfSome}
 use Rattle.ha_io.specs.Told.{HasFile}
-use Rattle.ha_model.specs.Words.{Text}
+use Rattle.ha_config.specs.Words.{Text}
 use Rattle.ha_status.specs.Files.{Files}
 use Rattle.ha_worker.specs.Courses.{SourceState, source_state}
 

@@ -1,9 +1,9 @@
 -- What stands at each status of a run.
 use Rattle.std.specs.Prelude.{◌≡◌, ◌≤◌, ◌⊎◌, true, false, List, [], length, Option, Some, None}
-use Rattle.ha_model.specs.declared.journal.Entry.{Entry}
+use Rattle.ha_journal.specs.declared.entry.Entry.{Entry}
 use Rattle.ha_model.specs.Lawful.{Lawful, is_quiet}
 use Rattle.ha_model.specs.Records.{Records}
-use Rattle.ha_model.specs.Words.{Text}
+use Rattle.ha_config.specs.Words.{Text}
 use Rattle.ha_status.specs.declared.status.Status.{Status}
 use Rattle.ha_status.specs.Files.{Files}
 use Rattle.ha_worker.specs.Courses.{Course, SourceState}

@@ -1,7 +1,7 @@
 //! A run over a booted core.
 ghost use Rattle.std.specs.Prelude.{◌≡◌, ◌∷◌, ◌<◌, ◌≤◌, [], false, IfSome, List, Option, length, map, option_map, vec_capacity, None, true};
 ghost use Rattle.crossbeam_channel.specs.Claims.{view};
-ghost use Rattle.ha_model.specs.declared.journal.Entry.{Entry};
+ghost use Rattle.ha_journal.specs.declared.entry.Entry.{Entry};
 ghost use Rattle.ha_texts.specs.Lines.{AreDated};
 ghost use Rattle.bus_turn.specs.Shown.{BusView};
 ghost use Rattle.bus_turn.specs.States.{keeper_of, outside_of, sink_of};
@@ -18,7 +18,8 @@ use crate::team::{gather, hire, work_all};
 use bus_pass::{Pass, Turn};
 use bus_turn::Bus;
 use ha_io::{Gate, Keeper, Sink, Source};
-use ha_model::{Core, Entry, Record};
+use ha_journal::Entry;
+use ha_model::{Core, Record};
 use ha_status::Status;
 use ha_value::Many;
 use ha_worker::Worker;

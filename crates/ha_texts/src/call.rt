@@ -1,13 +1,13 @@
 //! The line of a call.
 ghost use Rattle.std.specs.Prelude.{◌≡◌, ◌++◌, true, Some, OnOk, map, option_map};
-ghost use Rattle.ha_model.specs.CommandText.{call_pairs};
-ghost use Rattle.ha_model.specs.Entries.{call_in, is_call};
-ghost use Rattle.ha_model.specs.Texts.{call_line as call_line_lem};
-ghost use Rattle.ha_model.specs.ValueText.{comma_joined, pair_text};
+ghost use Rattle.ha_sight.specs.ItemText.{call_pairs};
+ghost use Rattle.ha_sight.specs.Items.{call_in, is_call};
+ghost use Rattle.ha_journal.specs.EntryText.{call_line as call_line_lem};
+ghost use Rattle.ha_config.specs.ValueText.{comma_joined, pair_text};
 
 use crate::parts::{push_ids, push_map, push_number};
 use flow_line::push_chars;
-use ha_model::Item;
+use ha_sight::Item;
 use ha_value::{EntityId, Value, Word};
 use std::alloc::{AllocError, Global};
 

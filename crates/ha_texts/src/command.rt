@@ -1,15 +1,15 @@
 //! Commands in the trace.
 ghost use Rattle.std.specs.Prelude.{◌≡◌, ◌≤◌, ◌++◌, OnOk};
 ghost use Rattle.ha_clock.specs.Local.{last_moment};
-ghost use Rattle.ha_model.specs.CommandText.{cmd_text};
-ghost use Rattle.ha_model.specs.declared.journal.Cmd.TheVariants.{Event, Gone, Moment as At, Refused, Report, Switch, Trigger};
+ghost use Rattle.ha_config.specs.CommandText.{cmd_text};
+ghost use Rattle.ha_config.specs.declared.command.Cmd.TheVariants.{Event, Gone, Moment as At, Refused, Report, Switch, Trigger};
 ghost use Rattle.ha_texts.specs.Lines.{IsDated, turned_text};
 
 use crate::names::{push_automation, push_flag, push_line_code, push_moment};
 use crate::parts::{push_bare_id, push_id, push_map};
 use flow_line::{push_chars, push_pairs, push_quoted};
 use ha_clock::Moment;
-use ha_model::Cmd;
+use ha_config::Cmd;
 use ha_value::{EntityId, Value, Word};
 use std::alloc::{AllocError, Global};
 

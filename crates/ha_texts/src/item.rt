@@ -1,14 +1,15 @@
 //! Items in the trace.
 ghost use Rattle.std.specs.Prelude.{◌≡◌, ◌++◌, map, OnOk};
-ghost use Rattle.ha_model.specs.CommandText.{item_text, switched_text};
-ghost use Rattle.ha_model.specs.Switches.{name_of};
-ghost use Rattle.ha_model.specs.ValueText.{list_text, quoted};
-ghost use Rattle.ha_model.specs.declared.journal.Item.TheVariants.{Call, Failed, Fired, Switched, Triggered};
+ghost use Rattle.ha_sight.specs.ItemText.{item_text, switched_text};
+ghost use Rattle.ha_config.specs.Names.{name_of};
+ghost use Rattle.ha_config.specs.ValueText.{list_text, quoted};
+ghost use Rattle.ha_sight.specs.declared.item.Item.TheVariants.{Call, Failed, Fired, Switched, Triggered};
 
 use crate::call::push_call;
 use crate::names::{push_failure_code, push_flag, push_name};
 use flow_line::{push_comma, push_pairs, push_quoted};
-use ha_model::{Automation, Item};
+use ha_config::Automation;
+use ha_sight::Item;
 use ha_value::{EntityId, Value, Word};
 use std::alloc::{AllocError, Global};
 

@@ -3,15 +3,16 @@ ghost use Rattle.std.specs.Prelude.{◌≡◌, ◌≤◌, ◌++◌, codes, decim
 ghost use Rattle.std.specs.Str.{IsAscii};
 ghost use Rattle.ha_clock.specs.Local.{last_moment};
 ghost use Rattle.ha_clock.specs.Print.{moment_text};
-ghost use Rattle.ha_model.specs.CommandText.{automation_text, failure_code, line_code};
-ghost use Rattle.ha_model.specs.Switches.{name_of};
-ghost use Rattle.ha_model.specs.Texts.{switches_text};
-ghost use Rattle.ha_model.specs.ValueText.{escaped_byte, flag_text, list_text, quoted};
+ghost use Rattle.ha_config.specs.CommandText.{automation_text, line_code};
+ghost use Rattle.ha_sight.specs.ItemText.{failure_code};
+ghost use Rattle.ha_config.specs.Names.{name_of};
+ghost use Rattle.ha_config.specs.StoreText.{switches_text};
+ghost use Rattle.ha_config.specs.ValueText.{escaped_byte, flag_text, list_text, quoted};
 
 use crate::parts::push_number;
 use flow_line::{push_chars, push_comma, push_quoted};
 use ha_clock::{Moment, print_moment};
-use ha_model::Automation;
+use ha_config::Automation;
 use ha_value::Word;
 use std::alloc::{AllocError, Global};
 

@@ -1,8 +1,8 @@
 //! The parts of a line, each appended to it.
 ghost use Rattle.std.specs.Prelude.{◌≡◌, [], ◌++◌, decimal, flat_map, map, IfOk, OnOk};
 ghost use Rattle.ha_value.specs.Ids.{entity_text};
-ghost use Rattle.ha_model.specs.CommandText.{id_text};
-ghost use Rattle.ha_model.specs.ValueText.{escaped_byte, list_text, print_pairs};
+ghost use Rattle.ha_config.specs.CommandText.{id_text};
+ghost use Rattle.ha_config.specs.ValueText.{escaped_byte, list_text, print_pairs};
 
 use flow_line::{push_chars, push_comma, push_pairs};
 use ha_value::{EntityId, Value, Word};

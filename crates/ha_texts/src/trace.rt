@@ -2,9 +2,11 @@
 ghost use Rattle.std.specs.Prelude.{◌≡◌, ◌≤◌, ◌∷◌, [], ◌++◌, OnOk, codes, decimal, map};
 ghost use Rattle.ha_clock.specs.Local.{last_moment};
 ghost use Rattle.ha_clock.specs.Print.{moment_text};
-ghost use Rattle.ha_model.specs.CommandText.{cmd_text, item_text, one_key};
-ghost use Rattle.ha_model.specs.Texts.{stored_text, trace_line as trace_line_lem};
-ghost use Rattle.ha_model.specs.ValueText.{list_text, map_text, quoted};
+ghost use Rattle.ha_config.specs.CommandText.{cmd_text, one_key};
+ghost use Rattle.ha_sight.specs.ItemText.{item_text};
+ghost use Rattle.ha_config.specs.StoreText.{stored_text};
+ghost use Rattle.ha_journal.specs.EntryText.{trace_line as trace_line_lem};
+ghost use Rattle.ha_config.specs.ValueText.{list_text, map_text, quoted};
 ghost use Rattle.ha_texts.specs.Lines.{entry_text, AreDated, IsDated};
 
 use crate::command::push_cmd;
@@ -13,7 +15,9 @@ use crate::names::{push_moment, push_numbers, push_switches};
 use crate::parts::push_number;
 use flow_line::push_quoted;
 use ha_clock::Moment;
-use ha_model::{Automation, Cmd, Config, Entry, Item};
+use ha_config::{Automation, Cmd, Config};
+use ha_journal::Entry;
+use ha_sight::Item;
 use ha_value::{Many, Word};
 use std::alloc::{AllocError, Global};
 

@@ -1,7 +1,7 @@
 -- What a run asks of its place.
 use Rattle.std.proofs.Common.{◌≡◌, List, [], ◌∷◌, Option, sym, subst}
 use Rattle.ha_io.specs.Told.{Call, IsAskedSome, and_asked}
-use Rattle.ha_model.specs.declared.journal.Entry.{Entry}
+use Rattle.ha_journal.specs.declared.entry.Entry.{Entry}
 use Rattle.ha_top.specs.Answered.{IsAskedFor}
 use Rattle.ha_io.proofs.AskedLemmas.{asked_whole}
 

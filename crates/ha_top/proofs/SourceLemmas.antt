@@ -1,7 +1,7 @@
 -- The one source of a file that was read, and what is seen of it.
 use Rattle.std.proofs.Common.{◌≡◌, ℕ, List, [], ◌∷◌, map, Option, Some, None, refl, subst, sym}
 use Rattle.std.specs.Prelude.{option_to_list}
-use Rattle.ha_model.specs.Words.{Text}
+use Rattle.ha_config.specs.Words.{Text}
 use Rattle.ha_status.specs.declared.status.Status.{Status}
 use Rattle.ha_status.specs.Causes.{ReadCause}
 use Rattle.ha_status.specs.Files.{IsHandedBack}

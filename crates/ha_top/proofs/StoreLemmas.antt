@@ -1,7 +1,7 @@
 -- Why a store was not taken.
 use Rattle.std.proofs.Common.{◌≡◌, ◌∙◌, Option, Some, None, ap, sym}
 use Rattle.std.specs.Prelude.{IfErr, IfSome, Result, Ok, Err}
-use Rattle.ha_model.specs.Words.{Text}
+use Rattle.ha_config.specs.Words.{Text}
 use Rattle.ha_status.specs.declared.status.Status.{Status}
 use Rattle.ha_top.specs.Answered.{StoreCause}
 use Rattle.ha_top.specs.Opening.{IsSwitchesFault}

@@ -1,6 +1,6 @@
 -- A run that was booted, or for which memory did not suffice. (A stage of the code, no part of what it promises.)
 use Rattle.std.specs.Prelude.{◌≡◌, ◌⊎◌, List, [], None}
-use Rattle.ha_model.specs.declared.journal.Entry.{Entry}
+use Rattle.ha_journal.specs.declared.entry.Entry.{Entry}
 use Rattle.ha_model.specs.Records.{Records}
 use Rattle.ha_status.specs.declared.status.Status.{Status}
 use Rattle.bus_turn.specs.States.{Outside}

@@ -2,7 +2,7 @@
 use Rattle.std.specs.Prelude.{ℕ, ◌≡◌, List, Option, None, Some, Err}
 use Rattle.ha_io.specs.declared.place.Opening.{Opening}
 use Rattle.store_text.specs.Store.{switches_in}
-use Rattle.ha_model.specs.Words.{Text}
+use Rattle.ha_config.specs.Words.{Text}
 use Rattle.ha_status.specs.declared.status.Status.{Status}
 use Rattle.ha_status.specs.Causes.{IsUnopened}
 use Rattle.ha_status.specs.Files.{Files}

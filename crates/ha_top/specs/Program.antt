@@ -1,6 +1,6 @@
 -- What the program answers for, by its words.
 use Rattle.std.specs.Prelude.{ℕ, ◌≡◌, ◌⊎◌, ◌∷◌, [], map, Option, Some, None, IfSome, IsSome}
-use Rattle.ha_model.specs.Words.{Text}
+use Rattle.ha_config.specs.Words.{Text}
 use Rattle.ha_status.specs.declared.status.Status.{Status}
 use Rattle.ha_status.specs.Causes.{OneRose, OpenCause, ReadCause, WriteCause}
 use Rattle.ha_status.specs.Files.{IsHandedBack}

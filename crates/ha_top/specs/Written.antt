@@ -1,6 +1,6 @@
 -- What a run wrote: what its journal gives, and then the status line.
 use Rattle.std.specs.Prelude.{◌≡◌, Option, None}
-use Rattle.ha_model.specs.Words.{Text}
+use Rattle.ha_config.specs.Words.{Text}
 use Rattle.ha_status.specs.Causes.{OneRose}
 use Rattle.ha_status.specs.Written.{TookLine}
 use Rattle.bus_turn.specs.Buses.{IsWritten}

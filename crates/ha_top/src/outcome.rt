@@ -1,7 +1,8 @@
 //! What a run of the program leaves.
 
 use ha_io::{Keeper, Place};
-use ha_model::{Entry, Record};
+use ha_journal::Entry;
+use ha_model::Record;
 use ha_status::Status;
 use ha_value::Many;
 

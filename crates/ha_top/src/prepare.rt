@@ -2,8 +2,8 @@
 ghost use Rattle.std.specs.Prelude.{◌≡◌, ◌≤◌, ◌++◌, ◌∷◌, [], ◌⊎◌, IfOk, IfErr, IfSome, List, is_none, is_ok, map, option_map, option_to_list};
 ghost use Rattle.ha_io.specs.declared.place.Opening.{Opening};
 ghost use Rattle.ha_io.specs.Told.{AreAsked};
-ghost use Rattle.ha_model.specs.Sound.{IsSoundStore};
-ghost use Rattle.ha_model.specs.Words.{Text};
+ghost use Rattle.ha_config.specs.Sound.{IsSoundStore};
+ghost use Rattle.ha_config.specs.Words.{Text};
 ghost use Rattle.ha_status.specs.Causes.{KeepCause, OpenCause};
 ghost use Rattle.bus_turn.specs.States.{sink_of};
 ghost use Rattle.ha_worker.specs.Courses.{source_of};

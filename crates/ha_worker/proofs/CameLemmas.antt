@@ -3,14 +3,13 @@ use Rattle.std.proofs.Common.{◌≤◌, Option, None, ◌≡◌, ◌∙◌, ◌
 use Rattle.std.specs.Prelude.{IfSome, IsSome, is_none}
 use Rattle.std.specs.List.{list_any}
 use Rattle.std.proofs.lemmas.List.Sums.{count_by-le-length, sum_by-append}
-use Rattle.ha_model.specs.declared.journal.Cmd.{Cmd}
-use Rattle.ha_model.specs.declared.journal.Entry.{Entry}
-use Rattle.ha_model.specs.declared.journal.Entry.TheVariants.{Boot, Line, Step}
-use Rattle.ha_model.specs.Commands.{put_as}
-use Rattle.ha_model.specs.Entries.{shuts_source}
-use Rattle.ha_model.specs.Journal.{Journal}
+use Rattle.ha_config.specs.declared.command.Cmd.{Cmd}
+use Rattle.ha_journal.specs.declared.entry.Entry.{Entry}
+use Rattle.ha_journal.specs.declared.entry.Entry.TheVariants.{Boot, Line, Step}
+use Rattle.ha_journal.specs.Commands.{put_as}
+use Rattle.ha_config.specs.Fair.{shuts_source}
+use Rattle.ha_journal.specs.Journal.{Journal, more}
 use Rattle.ha_model.specs.Lawful.{Right, Running, is_line_of, is_rested, ready, shuts}
-use Rattle.ha_model.specs.RecordSteps.{more}
 use Rattle.ha_laws.proofs.RightMore.{right-runs}
 use Rattle.bus_turn.specs.declared.fault.BusFault.{BusFault}
 use Rattle.bus_turn.specs.Buses.{Adds, IsRefusal, IsStep, Puts, Refuses}

@@ -5,10 +5,10 @@ use Rattle.ha_value.specs.Ids.{read_entity}
 use Rattle.ha_value.specs.declared.value.Value.TheViews.{out-Value}
 use Rattle.ha_clock.specs.MomentText.{moment_of}
 use Rattle.ha_value.specs.declared.value.Value.{Value}
-use Rattle.ha_model.specs.declared.journal.Cmd.{Cmd}
-use Rattle.ha_model.specs.declared.journal.Cmd.TheVariants as cmd
-use Rattle.ha_model.specs.Entries.{shuts_source}
-use Rattle.ha_model.specs.Words.{Text, Pairs, first_pair}
+use Rattle.ha_config.specs.declared.command.Cmd.{Cmd}
+use Rattle.ha_config.specs.declared.command.Cmd.TheVariants as cmd
+use Rattle.ha_config.specs.Fair.{shuts_source}
+use Rattle.ha_config.specs.Words.{Text, Pairs, first_pair}
 use Rattle.flow_line.specs.declared.keys.Command.{Command}
 use Rattle.flow_line.specs.declared.keys.Command.TheVariants.{Report, Gone, Event, Moment, Switch, Trigger, Restart}
 use Rattle.flow_line.specs.Command.{Checked, ◌>>=◌, as_cmd, as_true, at_moment, automation, flag_in, flag_of, map_of, named, only, reportable, state_of, text_of, turned, value_of, with_keys, cmd_by, cmd_of, cmd_of_pairs, command_of, event_of, gone_of, moment_of_pairs, pairs_of, report_of, restart_of, restarts, switch_of, trigger_of}

@@ -4,7 +4,7 @@ use Rattle.std.specs.Prelude.{◌&&◌, ◌==◌, if◌then◌else◌}
 use Rattle.std.specs.List.{list_all}
 use Rattle.std.proofs.lemmas.List.{append-nil}
 use Rattle.std.proofs.lemmas.List.Folds.{list_all-append}
-use Rattle.ha_model.specs.Words.{Text}
+use Rattle.ha_config.specs.Words.{Text}
 use Rattle.ha_text.specs.Lines.{IsNone, IsTaken, SameLines, counted, is_blank, lines_from, lines_of, longest, whole_from, whole_lines, without_cr}
 use Rattle.ha_worker.specs.Taken.{Took}
 

@@ -7,8 +7,8 @@ use Rattle.ha_io.specs.Counts.{Rose}
 use Rattle.ha_io.specs.Told.{Gives}
 use Rattle.ha_io.proofs.CountLemmas.{Rose-within}
 use Rattle.ha_io.proofs.ToldLemmas.{Gives-Gives, Gives-nothing}
-use Rattle.ha_model.specs.declared.journal.Cmd.{Cmd}
-use Rattle.ha_model.specs.Words.{Text}
+use Rattle.ha_config.specs.declared.command.Cmd.{Cmd}
+use Rattle.ha_config.specs.Words.{Text}
 use Rattle.ha_text.specs.Lines.{SameLines, lines_of, whole_lines}
 use Rattle.flow_line.specs.Command.{cmd_of}
 use Rattle.bus_pass.specs.declared.hand.Hand.{Hand}

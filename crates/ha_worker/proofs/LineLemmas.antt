@@ -1,8 +1,8 @@
 -- Lists of lines one behind the other, and the lines that a cut holds.
 use Rattle.std.proofs.Common.{◌≡◌, ◌∙◌, inl, inr, ⊎_elim, ℕ, List, [], ◌∷◌, ◌++◌, ap, refl, sym, subst, append_assoc, map}
 use Rattle.std.proofs.lemmas.List.{append-nil, map-append}
-use Rattle.ha_model.specs.declared.journal.Cmd.{Cmd}
-use Rattle.ha_model.specs.Words.{Text}
+use Rattle.ha_config.specs.declared.command.Cmd.{Cmd}
+use Rattle.ha_config.specs.Words.{Text}
 use Rattle.ha_text.specs.Lines.{IsTaken, whole_lines}
 use Rattle.flow_line.specs.Command.{cmd_of}
 use Rattle.bus_pass.specs.Rule.{Dues}

@@ -5,12 +5,13 @@ use Rattle.std.specs.List.{AllZip, list_any}
 use Rattle.std.specs.Option.{option_map_or}
 use Rattle.std.proofs.Math.Seq.{take-append_seam}
 use Rattle.std.proofs.lemmas.List.Sums.{sum_by-cons}
-use Rattle.ha_model.specs.declared.journal.Cmd.{Cmd}
-use Rattle.ha_model.specs.declared.journal.Entry.{Entry}
-use Rattle.ha_model.specs.declared.journal.Entry.TheVariants.{Boot, Line, Step}
-use Rattle.ha_model.specs.Commands.{ArePutFrom, Placed, placed_from, put_as}
-use Rattle.ha_model.specs.Entries.{Spoken, line_of, shuts_source}
-use Rattle.ha_model.specs.Journal.{Journal}
+use Rattle.ha_config.specs.declared.command.Cmd.{Cmd}
+use Rattle.ha_journal.specs.declared.entry.Entry.{Entry}
+use Rattle.ha_journal.specs.declared.entry.Entry.TheVariants.{Boot, Line, Step}
+use Rattle.ha_journal.specs.Commands.{ArePutFrom, Placed, placed_from, put_as}
+use Rattle.ha_journal.specs.Entries.{Spoken, line_of}
+use Rattle.ha_config.specs.Fair.{shuts_source}
+use Rattle.ha_journal.specs.Journal.{Journal}
 use Rattle.ha_model.specs.Lawful.{is_line_of, shuts}
 use Rattle.bus_pass.specs.Journal.{placed}
 use Rattle.bus_pass.specs.Rule.{AllTold, IsList, IsPutAs, bare}

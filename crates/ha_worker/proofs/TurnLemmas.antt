@@ -4,17 +4,16 @@ use Rattle.std.specs.Prelude.{◌||◌, ◌&&◌, IsSome, if◌then◌else◌, s
 use Rattle.std.specs.List.{list_any}
 use Rattle.std.proofs.lemmas.Bool.{false≢true}
 use Rattle.std.proofs.lemmas.List.Folds.{list_any-append}
-use Rattle.ha_model.specs.declared.journal.Cmd.{Cmd}
-use Rattle.ha_model.specs.declared.journal.Entry.{Entry}
-use Rattle.ha_model.specs.declared.journal.Entry.TheVariants.{Line, Step}
-use Rattle.ha_model.specs.Commands.{has_automation, put_as}
-use Rattle.ha_model.specs.Entries.{shuts_source}
-use Rattle.ha_model.specs.Journal.{HasEntry, Journal}
+use Rattle.ha_config.specs.declared.command.Cmd.{Cmd}
+use Rattle.ha_journal.specs.declared.entry.Entry.{Entry}
+use Rattle.ha_journal.specs.declared.entry.Entry.TheVariants.{Line, Step}
+use Rattle.ha_journal.specs.Commands.{has_automation, put_as}
+use Rattle.ha_config.specs.Fair.{shuts_source}
+use Rattle.ha_journal.specs.Journal.{HasEntry, Journal, more}
 use Rattle.ha_model.specs.Lawful.{Right, Running, is_quiet, is_rested, pick, shuts}
 use Rattle.ha_model.specs.Records.{Records}
-use Rattle.ha_model.specs.RecordSteps.{more}
-use Rattle.ha_model.specs.Scripts.{Branch}
-use Rattle.ha_model.proofs.LawfulLaws.{has-entry}
+use Rattle.ha_sight.specs.Scripts.{Branch}
+use Rattle.ha_journal.proofs.MoreLemmas.{has-entry}
 use Rattle.ha_laws.proofs.OneStep.{quiet-rested}
 use Rattle.bus_turn.specs.declared.fault.BusFault.{BusFault}
 use Rattle.bus_turn.specs.Buses.{Adds, HoldsStore, IsRefusal, IsStep, Puts}

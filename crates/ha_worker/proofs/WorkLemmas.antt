@@ -6,9 +6,9 @@ use Rattle.std.proofs.lemmas.List.{append-nil}
 use Rattle.std.proofs.lemmas.List.Elements.{Contains-push_cases}
 use Rattle.std.proofs.Math.Nat.{le_refl}
 use Rattle.ha_io.proofs.ToldLemmas.{Gives-nothing}
-use Rattle.ha_model.specs.declared.journal.Cmd.{Cmd}
+use Rattle.ha_config.specs.declared.command.Cmd.{Cmd}
 use Rattle.ha_model.specs.Lawful.{shuts}
-use Rattle.ha_model.specs.Words.{Text}
+use Rattle.ha_config.specs.Words.{Text}
 use Rattle.ha_text.specs.Lines.{whole_lines}
 use Rattle.flow_line.specs.Command.{cmd_of}
 use Rattle.bus_pass.specs.Rule.{Dues, child, stood}

@@ -1,7 +1,7 @@
 -- What the closing steps leave.
 use Rattle.std.specs.Prelude.{◌≡◌, true, List, [], ◌++◌}
 use Rattle.std.specs.List.{list_all}
-use Rattle.ha_model.specs.declared.journal.Entry.{Entry}
+use Rattle.ha_journal.specs.declared.entry.Entry.{Entry}
 use Rattle.ha_model.specs.Lawful.{Lawful, is_by_worker_0}
 use Rattle.bus_turn.specs.Growth.{OutGrows}
 use Rattle.bus_turn.specs.Shown.{BusView}

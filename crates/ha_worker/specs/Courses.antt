@@ -3,8 +3,8 @@ use Rattle.std.specs.Prelude.{ℕ, ◌≡◌, ◌≤◌, List, [], ◌∷◌, �
 use Rattle.std.specs.Io.KnownBytes.{IsAtEnd}
 use Rattle.ha_io.specs.Counts.{Rose}
 use Rattle.ha_io.specs.Told.{Gives}
-use Rattle.ha_model.specs.declared.journal.Cmd.{Cmd}
-use Rattle.ha_model.specs.Words.{Text}
+use Rattle.ha_config.specs.declared.command.Cmd.{Cmd}
+use Rattle.ha_config.specs.Words.{Text}
 use Rattle.ha_text.specs.Lines.{lines_of, whole_lines}
 use Rattle.flow_line.specs.Command.{cmd_of}
 

@@ -1,7 +1,7 @@
 -- What a worker puts, by what its pass knows before and after.
 use Rattle.std.specs.Prelude.{ℕ, ◌≡◌, ◌⊎◌, List, [], ◌∷◌, ◌++◌}
 use Rattle.std.specs.List.{list_any}
-use Rattle.ha_model.specs.declared.journal.Cmd.{Cmd}
+use Rattle.ha_config.specs.declared.command.Cmd.{Cmd}
 use Rattle.ha_model.specs.Lawful.{shuts}
 use Rattle.bus_pass.specs.declared.hand.Given.{Given}
 use Rattle.bus_pass.specs.declared.hand.Hand.{Hand}

@@ -1,10 +1,10 @@
 -- The commands that are read of the lines that a cut holds.
 use Rattle.std.specs.Prelude.{◌≡◌, false, List, [], ◌∷◌, map}
-use Rattle.ha_model.specs.declared.journal.Cmd.{Cmd}
-use Rattle.ha_model.specs.Commands.{IsFair, put_as}
-use Rattle.ha_model.specs.Entries.{shuts_source}
-use Rattle.ha_model.specs.Journal.{Journal}
-use Rattle.ha_model.specs.Words.{Text}
+use Rattle.ha_config.specs.declared.command.Cmd.{Cmd}
+use Rattle.ha_journal.specs.Commands.{IsFair, put_as}
+use Rattle.ha_config.specs.Fair.{shuts_source}
+use Rattle.ha_journal.specs.Journal.{Journal}
+use Rattle.ha_config.specs.Words.{Text}
 use Rattle.ha_text.specs.Lines.{whole_lines}
 use Rattle.flow_line.specs.Command.{cmd_of}
 use Rattle.ha_worker.specs.Taken.{Took}

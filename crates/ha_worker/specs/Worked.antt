@@ -1,7 +1,7 @@
 -- What a worker's work leaves, by what became of its source.
 use Rattle.std.specs.Prelude.{ℕ, ◌≡◌, List, [], ◌∷◌, ◌++◌, Contains}
-use Rattle.ha_model.specs.declared.journal.Cmd.{Cmd}
-use Rattle.ha_model.specs.Words.{Text}
+use Rattle.ha_config.specs.declared.command.Cmd.{Cmd}
+use Rattle.ha_config.specs.Words.{Text}
 use Rattle.bus_pass.specs.declared.hand.Hand.{Hand}
 use Rattle.ha_worker.specs.Courses.{Course, HasGiven, SourceState, cmds_by}
 use Rattle.ha_worker.specs.Ends.{Notes}

@@ -4,7 +4,7 @@ ghost use Rattle.flow_line.specs.Command.{cmd_of};
 ghost use Rattle.ha_worker.specs.Read.{AreOpen, AreRead};
 
 use flow_line::read_cmd;
-use ha_model::Cmd;
+use ha_config::Cmd;
 use ha_text::LineCut;
 use std::alloc::{AllocError, Global};
 use std::collections::VecDeque;

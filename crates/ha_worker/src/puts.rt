@@ -2,9 +2,9 @@
 ghost use Rattle.std.specs.Prelude.{◌≡◌, ◌<◌, ◌∷◌, [], ℕ, length, true, false, None, Some, option_to_list, IfSome, IsSome, is_none};
 ghost use Rattle.std.specs.List.{list_any};
 ghost use Rattle.std.specs.VecDeque.{deque_len};
-ghost use Rattle.ha_model.specs.Commands.{IsFair, put_as};
-ghost use Rattle.ha_model.specs.Entries.{shuts_source};
-ghost use Rattle.ha_model.specs.Journal.{Journal};
+ghost use Rattle.ha_journal.specs.Commands.{IsFair, put_as};
+ghost use Rattle.ha_config.specs.Fair.{shuts_source};
+ghost use Rattle.ha_journal.specs.Journal.{Journal};
 ghost use Rattle.ha_model.specs.Lawful.{is_rested, shuts};
 ghost use Rattle.bus_turn.specs.declared.fault.BusFault.{BusFault};
 ghost use Rattle.bus_pass.specs.Journal.{IsRestless};
@@ -12,8 +12,9 @@ ghost use Rattle.ha_worker.specs.Came.{Came, CameUntil, IsAt};
 ghost use Rattle.ha_worker.specs.Read.{AreOpen};
 
 use bus_pass::Held;
+use ha_config::Cmd;
 use ha_io::{Keeper, Sink};
-use ha_model::{Cmd, Core};
+use ha_model::Core;
 use std::alloc::Global;
 use std::collections::VecDeque;
 

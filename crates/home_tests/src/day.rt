@@ -4,7 +4,8 @@ ghost use Rattle.ha_io.specs.MemSink.{new_sink};
 
 use ha_engine::Engine;
 use ha_io::{Gate, MemFile, MemKeeper, MemPlace, MemSink, OpenGate, have_distinct_names};
-use ha_model::{EndCause, Entry, Record};
+use ha_journal::Entry;
+use ha_model::{EndCause, Record};
 use ha_status::Status;
 use ha_top::{Outcome, hearth};
 use std::alloc::{AllocError, Global};

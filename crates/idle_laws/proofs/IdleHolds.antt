@@ -4,27 +4,28 @@ use Rattle.std.specs.Prelude.{Option, Some, None, is_some, is_none, find, not, n
 use Rattle.std.specs.List.{list_all, list_any, enumerate_from}
 use Rattle.std.specs.Option.{option_map_or}
 use Rattle.ha_value.specs.declared.value.EntityId.{EntityId}
-use Rattle.ha_model.specs.declared.config.Trigger.{Trigger}
-use Rattle.ha_model.specs.declared.config.TriggerRule.{TriggerRule}
-use Rattle.ha_model.specs.declared.journal.Cmd.{Cmd}
-use Rattle.ha_model.specs.declared.journal.Entry.{Entry}
-use Rattle.ha_model.specs.declared.journal.Entry.TheVariants.{Line}
-use Rattle.ha_model.specs.Words.{Text, numbers_from, up_to, one_of}
-use Rattle.ha_model.specs.Numbers.{in_bounds}
-use Rattle.ha_model.specs.Equal.{same_flag}
-use Rattle.ha_model.specs.Entries.{event_in, is_moment, opens_segment}
-use Rattle.ha_model.specs.Journal.{Journal, HasEntry, now, zone_of}
-use Rattle.ha_model.specs.States.{Sight, states, switches_of}
-use Rattle.ha_model.specs.Templates.{rendered, says}
-use Rattle.ha_model.specs.RecordSteps.{more}
-use Rattle.ha_model.specs.Records.{or_else}
-use Rattle.ha_model.specs.Triggers.{sight, moves, starts, same_watched, between, after, report_number, latest_number, pair_holds, passed}
-use Rattle.ha_model.proofs.HeldLaws.{latest-more}
-use Rattle.ha_model.proofs.FiringLaws.{state-stays}
+use Rattle.ha_config.specs.declared.config.Trigger.{Trigger}
+use Rattle.ha_config.specs.declared.config.TriggerRule.{TriggerRule}
+use Rattle.ha_config.specs.declared.command.Cmd.{Cmd}
+use Rattle.ha_journal.specs.declared.entry.Entry.{Entry}
+use Rattle.ha_journal.specs.declared.entry.Entry.TheVariants.{Line}
+use Rattle.ha_config.specs.Words.{Text, numbers_from, up_to, one_of, or_else}
+use Rattle.ha_config.specs.Numbers.{in_bounds}
+use Rattle.ha_config.specs.Equal.{same_flag}
+use Rattle.ha_journal.specs.Entries.{event_in, is_moment, opens_segment}
+use Rattle.ha_journal.specs.Journal.{Journal, HasEntry, now, zone_of, more}
+use Rattle.ha_sight.specs.Sight.{Sight}
+use Rattle.ha_journal.specs.States.{states, switches_of}
+use Rattle.ha_sight.specs.Templates.{rendered, says}
+use Rattle.ha_journal.specs.Moves.{sight, moves, after, report_number, latest_number}
+use Rattle.ha_sight.specs.Rules.{starts, pair_holds, passed}
+use Rattle.ha_journal.specs.Holds.{same_watched, between}
+use Rattle.ha_journal.proofs.HeldLaws.{latest-more}
+use Rattle.ha_journal.proofs.FiringLaws.{state-stays}
 use Rattle.ha_model.proofs.LastEntry.{or-none}
-use Rattle.ha_model.proofs.RecordGrowth.{automations-more}
-use Rattle.ha_model.proofs.RecordLaws.{length-more, through-last}
-use Rattle.ha_model.proofs.SinceLaws.{take-before, get-last}
+use Rattle.ha_journal.proofs.MoreLemmas.{automations-more, length-more, through-last}
+use Rattle.ha_journal.proofs.SinceLaws.{take-before}
+use Rattle.ha_config.proofs.ListLemmas.{get-last}
 use Rattle.ha_past.specs.Holds.{is_over, holds_to, pending}
 use Rattle.ha_past.specs.Looks.{looks, watches}
 use Rattle.ha_past.proofs.ListLemmas.{find-snoc, find-alike, up_to-snoc, map-snoc, all-append, any-append}
@@ -121,7 +122,7 @@ module _ (j : Journal) (x : Entry) (h : HasEntry j) (s : IsQuiet x) (same : Noth
   moves-here : (t : Trigger) (e : Option EntityId) → moves k t e p ≡ false
   moves-here t e =
       moves-at j x h t e
-      ∙ (λ i. if s.opens i then starts j t.rule && is_none e else looks (sight j p) ((sight-still ∙ sight-more j x h p (omega arith)) i) j t.rule (is_some t.hold) e x)
+      ∙ (λ i. if s.opens i then starts t.rule && is_none e else looks (sight j p) ((sight-still ∙ sight-more j x h p (omega arith)) i) j t.rule (is_some t.hold) e x)
       ∙ looks-still (sight j p) j x s t.rule (is_some t.hold) e
 
   latest-still : (e : EntityId) (name : Option Text) → latest_number e name (take (suc p) k) ≡ latest_number e name (take p k)

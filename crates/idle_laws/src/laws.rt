@@ -1,12 +1,11 @@
 //! Laws of the definitions alone. Each is a function that does nothing; its contract is the law.
 ghost use Rattle.std.specs.Prelude.{◌≡◌, ℕ, Option, false, length};
 ghost use Rattle.ha_value.specs.declared.value.EntityId.{EntityId};
-ghost use Rattle.ha_model.specs.declared.config.Trigger.{Trigger};
-ghost use Rattle.ha_model.specs.declared.journal.Cmd.{Cmd};
-ghost use Rattle.ha_model.specs.declared.journal.Entry.TheVariants.{Line};
-ghost use Rattle.ha_model.specs.Journal.{Journal, HasEntry};
-ghost use Rattle.ha_model.specs.RecordSteps.{more};
-ghost use Rattle.ha_model.specs.Triggers.{moves};
+ghost use Rattle.ha_config.specs.declared.config.Trigger.{Trigger};
+ghost use Rattle.ha_config.specs.declared.command.Cmd.{Cmd};
+ghost use Rattle.ha_journal.specs.declared.entry.Entry.TheVariants.{Line};
+ghost use Rattle.ha_journal.specs.Journal.{Journal, HasEntry, more};
+ghost use Rattle.ha_journal.specs.Moves.{moves};
 ghost use Rattle.ha_laws.specs.IdleLines.{IsIdle};
 ghost use Rattle.ha_past.specs.Holds.{pending};
 

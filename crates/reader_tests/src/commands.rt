@@ -1,6 +1,7 @@
 //! Commands and printed values. What is wanted stands in the formats' own words.
 use flow_line::{print_value, read_cmd, read_value};
-use ha_model::{Cmd, EntityId, Many, Plain, Value, Word};
+use ha_config::Cmd;
+use ha_value::{EntityId, Many, Plain, Value, Word};
 use std::alloc::{AllocError, Global};
 
 /// Whether the line is refused with this code, or is a command where it is 0.

@@ -1,6 +1,6 @@
 //! Printed commands, and lines of a trace: each is read of exactly its bytes.
 use flow_printed::{read_line, read_printed};
-use ha_model::Cmd;
+use ha_config::Cmd;
 use ha_value::Word;
 use std::alloc::{AllocError, Global};
 

@@ -1,5 +1,6 @@
 //! Trees of templates, built from a list of their parts.
-use ha_model::{Boxed, Expr, Many, Num, Op, Value, Word};
+use ha_config::{Expr, Op};
+use ha_value::{Boxed, Many, Num, Value, Word};
 use std::alloc::{AllocError, Global};
 
 /// A part of a tree, behind the parts that it holds.

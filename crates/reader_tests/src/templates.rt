@@ -1,6 +1,7 @@
 //! Texts and their trees, written out by hand, and the places of faults.
 use crate::template_trees::{Part, whole};
-use ha_model::{Expr, Many, Num, Op, Piece, Plain, Template, Value, Word};
+use ha_config::{Expr, Op, Piece, Template};
+use ha_value::{Many, Num, Plain, Value, Word};
 use std::alloc::{AllocError, Global};
 use tpl_parse::{ParseFault, parse};
 

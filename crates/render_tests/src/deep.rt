@@ -1,5 +1,6 @@
 //! The longest chains that a template of 16,384 bytes can hold.
-use ha_model::{Env, Plain};
+use ha_sight::Env;
+use ha_value::Plain;
 use state_table::StateTable;
 use std::alloc::{AllocError, Global};
 use std::thread::{Threads, join};

@@ -1,5 +1,6 @@
 //! Filters, and functions of values.
-use ha_model::{Many, Num, Plain, TplFault, Value, Word};
+use ha_sight::TplFault;
+use ha_value::{Many, Num, Plain, Value, Word};
 use std::alloc::{AllocError, Global};
 use tpl_fns::{filter, function_of_values};
 

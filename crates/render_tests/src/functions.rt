@@ -1,5 +1,7 @@
 //! Functions that ask states, and operators on lists and maps.
-use ha_model::{EntityId, Env, Many, Moment, Num, Plain, Value, Word};
+use ha_clock::Moment;
+use ha_sight::Env;
+use ha_value::{EntityId, Many, Num, Plain, Value, Word};
 use state_table::StateTable;
 use std::alloc::{AllocError, Global};
 use tpl_eval::{function, render};

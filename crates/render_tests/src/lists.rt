@@ -1,5 +1,6 @@
 //! Lists in brackets, and how many values they may have.
-use ha_model::{Env, TplFault, Value};
+use ha_sight::{Env, TplFault};
+use ha_value::Value;
 use state_table::StateTable;
 use std::alloc::{AllocError, Global};
 use tpl_eval::render;

@@ -1,5 +1,7 @@
 //! States and switches, changed one after the other.
-use ha_model::{Change, EntityId, Many, Moment, Num, Value, Word};
+use ha_clock::Moment;
+use ha_sight::Change;
+use ha_value::{EntityId, Many, Num, Value, Word};
 use state_table::StateTable;
 use std::alloc::{AllocError, Global};
 

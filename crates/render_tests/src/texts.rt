@@ -1,5 +1,6 @@
 //! Templates from their text to the rendered text.
-use ha_model::{Env, TplFault, Value};
+use ha_sight::{Env, TplFault};
+use ha_value::Value;
 use state_table::StateTable;
 use std::alloc::Global;
 use tpl_eval::render;

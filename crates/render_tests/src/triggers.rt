@@ -1,7 +1,8 @@
 //! What templates read of the variable `trigger`, for each kind of trigger.
-use ha_model::{
-    EntityId, Env, Many, Moment, Num, StateObject, Trigger, TriggerData, TriggerRule, Value, Word,
-};
+use ha_clock::Moment;
+use ha_config::{Trigger, TriggerRule};
+use ha_sight::{Env, StateObject, TriggerData};
+use ha_value::{EntityId, Many, Num, Value, Word};
 use state_table::StateTable;
 use std::alloc::{AllocError, Global};
 use tpl_eval::render;

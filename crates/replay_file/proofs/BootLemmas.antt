@@ -4,14 +4,14 @@ use Rattle.std.proofs.lemmas.List.Folds.{list_all_more}
 use Rattle.std.specs.List.{list_all}
 use Rattle.std.specs.Prelude.{◌&&◌, Option, Result, Ok, Err, IsSome}
 use Rattle.ha_clock.specs.Zone.{zone_of}
-use Rattle.ha_model.specs.Texts.{trace_line}
+use Rattle.ha_journal.specs.EntryText.{trace_line}
 use Rattle.yaml_scan.specs.declared.fault.Fault.{Fault}
 use Rattle.std.specs.Str.{is_utf8}
-use Rattle.ha_model.specs.declared.config.Config.{Config}
-use Rattle.ha_model.specs.declared.journal.Entry.{Entry}
-use Rattle.ha_model.specs.declared.journal.Entry.TheVariants.{Boot, Line, Step}
-use Rattle.ha_model.specs.Words.{Text}
-use Rattle.ha_model.specs.Journal.{Journal}
+use Rattle.ha_config.specs.declared.config.Config.{Config}
+use Rattle.ha_journal.specs.declared.entry.Entry.{Entry}
+use Rattle.ha_journal.specs.declared.entry.Entry.TheVariants.{Boot, Line, Step}
+use Rattle.ha_config.specs.Words.{Text}
+use Rattle.ha_journal.specs.Journal.{Journal}
 use Rattle.ha_model.specs.Lawful.{Right}
 use Rattle.ha_model.specs.Records.{Records}
 use Rattle.conf_auto.specs.Config.{config_of}

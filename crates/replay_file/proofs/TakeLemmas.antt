@@ -8,16 +8,17 @@ use Rattle.std.proofs.lemmas.List.Folds.{list_all-append}
 use Rattle.ha_io.specs.Told.{Takes}
 use Rattle.ha_io.specs.Whole.{IsFrontTaken}
 use Rattle.ha_io.proofs.ToldLemmas.{Takes-Takes, Takes-nothing}
-use Rattle.ha_model.specs.declared.journal.Entry.{Entry}
-use Rattle.ha_model.specs.declared.journal.Entry.TheVariants.{Boot, Line, Step}
-use Rattle.ha_model.specs.Words.{Text}
-use Rattle.ha_model.specs.Journal.{HasEntry, Journal, automations}
+use Rattle.ha_journal.specs.declared.entry.Entry.{Entry}
+use Rattle.ha_journal.specs.declared.entry.Entry.TheVariants.{Boot, Line, Step}
+use Rattle.ha_config.specs.Words.{Text}
+use Rattle.ha_journal.specs.Journal.{HasEntry, Journal, automations, more}
 use Rattle.ha_model.specs.Records.{Records}
-use Rattle.ha_model.specs.RecordSteps.{more}
 use Rattle.ha_model.specs.Lawful.{Lawful, Right}
-use Rattle.ha_model.specs.Texts.{as_line, call_text, call_text_of, end_line, error_text, error_text_of, texts_after, trace_line, trace_text}
-use Rattle.ha_model.proofs.LawfulLaws.{has-entry}
-use Rattle.ha_model.proofs.RecordGrowth.{automations-more, true-false}
+use Rattle.ha_config.specs.CheckText.{as_line}
+use Rattle.ha_model.specs.Texts.{call_text, call_text_of}
+use Rattle.ha_journal.specs.EntryText.{end_line, error_text, error_text_of, texts_after, trace_line, trace_text}
+use Rattle.ha_journal.proofs.MoreLemmas.{has-entry, automations-more}
+use Rattle.ha_config.proofs.ListLemmas.{true-false}
 use Rattle.ha_laws.proofs.CallGrowth.{calls-same}
 use Rattle.ha_laws.proofs.TextLemmas.{calls-more, errors-more, trace-more}
 use Rattle.bus_turn.proofs.NumberLemmas.{numbers-more}

@@ -4,13 +4,13 @@ use Rattle.std.proofs.Math.Seq.{take-length}
 use Rattle.std.specs.Prelude.{Option, Some, None, slice_get}
 use Rattle.ha_io.specs.Told.{Takes}
 use Rattle.ha_io.proofs.ToldLemmas.{Takes-nothing}
-use Rattle.ha_model.specs.declared.journal.Entry.{Entry}
-use Rattle.ha_model.specs.Words.{Text}
-use Rattle.ha_model.specs.Journal.{Journal}
-use Rattle.ha_model.specs.RecordSteps.{more}
+use Rattle.ha_journal.specs.declared.entry.Entry.{Entry}
+use Rattle.ha_config.specs.Words.{Text}
+use Rattle.ha_journal.specs.Journal.{Journal, more}
 use Rattle.ha_model.specs.Records.{Records}
-use Rattle.ha_model.specs.Texts.{call_text_of, error_text_of}
-use Rattle.ha_model.proofs.LawfulLaws.{none-some, some-same}
+use Rattle.ha_model.specs.Texts.{call_text_of}
+use Rattle.ha_journal.specs.EntryText.{error_text_of}
+use Rattle.ha_config.proofs.ListLemmas.{none-some, some-same}
 use Rattle.bus_turn.specs.declared.fault.BusFault.{BusFault}
 use Rattle.bus_turn.specs.States.{SinkState}
 use Rattle.bus_turn.specs.Writes.{Took, TookFront, Writes}

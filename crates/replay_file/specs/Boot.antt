@@ -1,11 +1,12 @@
 -- What the first line of a trace boots.
 use Rattle.std.specs.Prelude.{◌≡◌, [], ◌∷◌}
-use Rattle.ha_model.specs.declared.journal.Entry.{Entry}
-use Rattle.ha_model.specs.Words.{Text}
-use Rattle.ha_model.specs.Journal.{Journal, automations}
+use Rattle.ha_journal.specs.declared.entry.Entry.{Entry}
+use Rattle.ha_config.specs.Words.{Text}
+use Rattle.ha_journal.specs.Journal.{Journal, automations}
 use Rattle.ha_model.specs.Records.{Records}
 use Rattle.ha_model.specs.Lawful.{Right}
-use Rattle.ha_model.specs.Texts.{as_line, trace_line}
+use Rattle.ha_config.specs.CheckText.{as_line}
+use Rattle.ha_journal.specs.EntryText.{trace_line}
 use Rattle.ha_replay.specs.declared.fault.TraceFault.{TraceFault}
 use Rattle.trace_laws.specs.Runs.{IsFirst, MayFollow}
 

@@ -1,9 +1,10 @@
 -- What is found in the bytes of a trace, and how far its calls and errors are written.
 use Rattle.std.specs.Prelude.{ℕ, suc, ◌≡◌, ◌≢◌, ◌⊎◌, Bool, true, false, [], Option, Some, length}
-use Rattle.ha_model.specs.Words.{Text}
-use Rattle.ha_model.specs.Journal.{Journal}
+use Rattle.ha_config.specs.Words.{Text}
+use Rattle.ha_journal.specs.Journal.{Journal}
 use Rattle.ha_model.specs.Records.{Records}
-use Rattle.ha_model.specs.Texts.{call_text, error_text}
+use Rattle.ha_model.specs.Texts.{call_text}
+use Rattle.ha_journal.specs.EntryText.{error_text}
 use Rattle.ha_io.specs.Told.{Takes}
 use Rattle.ha_status.specs.declared.status.Status.{Status}
 use Rattle.ha_status.specs.Written.{TookBut, TookLine}

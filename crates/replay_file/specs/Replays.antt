@@ -1,6 +1,6 @@
 -- What `replay` of a file comes to.
 use Rattle.std.specs.Prelude.{◌≤◌, ◌⊎◌, [], Option, length}
-use Rattle.ha_model.specs.Words.{Text}
+use Rattle.ha_config.specs.Words.{Text}
 use Rattle.ha_status.specs.declared.status.Status.{Status}
 use Rattle.ha_status.specs.Files.{Files}
 use Rattle.replay_file.specs.declared.front.FrontEnd.{FrontEnd}

@@ -1,6 +1,6 @@
 -- Between two lines of a trace.
 use Rattle.std.specs.Prelude.{ℕ, ◌≡◌, ◌≤◌, ◌⊎◌, Bool, false, Option, None, Some, length}
-use Rattle.ha_model.specs.Words.{Text}
+use Rattle.ha_config.specs.Words.{Text}
 use Rattle.bus_turn.specs.declared.fault.BusFault.{BusFault}
 use Rattle.bus_turn.specs.States.{SinkState}
 use Rattle.bus_turn.specs.Writes.{SinkCause, Took, TookFront}

@@ -1,10 +1,10 @@
 //! The lines of a trace, judged one after the other.
 ghost use Rattle.std.specs.Prelude.{◌≡◌, ◌<◌, ◌≤◌, ◌+◌, ◌^◌, ◌++◌, ◌∷◌, Option, IfOk, IfErr, OnOk, false, true, length};
-ghost use Rattle.ha_model.specs.declared.journal.Entry.{Entry};
-ghost use Rattle.ha_model.specs.Words.{Text};
-ghost use Rattle.ha_model.specs.Journal.{Journal};
-ghost use Rattle.ha_model.specs.RecordSteps.{more};
-ghost use Rattle.ha_model.specs.Texts.{call_text_of, error_text_of};
+ghost use Rattle.ha_journal.specs.declared.entry.Entry.{Entry};
+ghost use Rattle.ha_config.specs.Words.{Text};
+ghost use Rattle.ha_journal.specs.Journal.{Journal, more};
+ghost use Rattle.ha_model.specs.Texts.{call_text_of};
+ghost use Rattle.ha_journal.specs.EntryText.{error_text_of};
 ghost use Rattle.bus_turn.specs.States.{sink_of};
 ghost use Rattle.bus_turn.specs.Writes.{fault_of};
 ghost use Rattle.ha_status.specs.Causes.{NeverFall, OneRose, WriteCause};
@@ -21,9 +21,10 @@ use crate::front::FrontEnd;
 use bus_turn::{BusFault, write_call, write_error};
 use ha_boot::Boots;
 use ha_io::Sink;
-use ha_model::{Core, Word};
+use ha_model::Core;
 use ha_replay::{TraceFault, replay_line};
 use ha_status::Status;
+use ha_value::Word;
 use std::alloc::Global;
 
 /// The entries that a journal may have.

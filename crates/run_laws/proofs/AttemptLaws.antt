@@ -3,13 +3,14 @@ use Rattle.std.proofs.Common.{◌≡◌, ℕ, suc, ◌+◌, ◌<◌, List, [], �
 use Rattle.std.specs.Prelude.{Some, None, not, nat_eq, is_none, fold, option_map, ◌&&◌, ◌||◌, if◌then◌else◌}
 use Rattle.std.specs.Option.{option_map_or}
 use Rattle.std.proofs.lemmas.Bool.{eqb-true}
-use Rattle.ha_model.specs.declared.config.Mode.{Mode}
-use Rattle.ha_model.specs.declared.config.Automation.{Automation}
-use Rattle.ha_model.specs.declared.journal.EndCause.{EndCause}
-use Rattle.ha_model.specs.declared.journal.Record.{Record}
-use Rattle.ha_model.specs.Journal.{Journal, automations}
-use Rattle.ha_model.specs.Attempts.{Attempt}
-use Rattle.ha_model.specs.Records.{Records, mode_of, max_of, or_else, last_place, last_record, begin_of, begin_behind, is_restart_mode, calls_of, lets_in, lets_in_after, live_count, new_record}
+use Rattle.ha_config.specs.declared.config.Mode.{Mode}
+use Rattle.ha_config.specs.declared.config.Automation.{Automation}
+use Rattle.ha_model.specs.declared.record.EndCause.{EndCause}
+use Rattle.ha_model.specs.declared.record.Record.{Record}
+use Rattle.ha_journal.specs.Journal.{Journal, automations, last_place}
+use Rattle.ha_journal.specs.Attempts.{Attempt}
+use Rattle.ha_model.specs.Records.{Records, mode_of, max_of, last_record, begin_of, begin_behind, is_restart_mode, calls_of, lets_in, lets_in_after, live_count, new_record}
+use Rattle.ha_config.specs.Words.{or_else}
 use Rattle.ha_model.specs.RunSteps.{ends_for, replace_all, begins_here, begin_at, settled, joined, attempt_all}
 use Rattle.ha_model.proofs.RecordGrowth.{EndBelow, is-at-most}
 use Rattle.run_modes.specs.Table.{is_live, begin_now, new_run}

@@ -4,24 +4,24 @@ use Rattle.std.specs.Prelude.{Some, None, nat_eq, is_none, slice_get, fold, opti
 use Rattle.std.specs.List.{list_any}
 use Rattle.std.specs.Option.{option_map_or}
 use Rattle.std.proofs.lemmas.Bool.{eqb-true}
-use Rattle.ha_model.specs.declared.config.Mode.{Mode}
-use Rattle.ha_model.specs.declared.config.Automation.{Automation}
-use Rattle.ha_model.specs.declared.journal.Item.{Item}
-use Rattle.ha_model.specs.declared.journal.Cmd.{Cmd}
-use Rattle.ha_model.specs.declared.journal.Entry.{Entry}
-use Rattle.ha_model.specs.declared.journal.Entry.TheVariants.{Boot, Line, Step}
-use Rattle.ha_model.specs.declared.journal.EndCause.{EndCause}
-use Rattle.ha_model.specs.declared.journal.Record.{Record}
-use Rattle.ha_model.specs.Entries.{step_of, is_restart, is_call}
-use Rattle.ha_model.specs.Journal.{Journal, automations, HasEntry}
-use Rattle.ha_model.specs.Scripts.{Branch}
-use Rattle.ha_model.specs.Records.{Records, mode_of, or_else, own_cause, last_place, last_record, begin_of, is_step_of, is_call_of, ended_by_script, script_end, ran, stops, calls_of}
-use Rattle.ha_model.specs.RecordSteps.{more}
+use Rattle.ha_config.specs.declared.config.Mode.{Mode}
+use Rattle.ha_config.specs.declared.config.Automation.{Automation}
+use Rattle.ha_sight.specs.declared.item.Item.{Item}
+use Rattle.ha_config.specs.declared.command.Cmd.{Cmd}
+use Rattle.ha_journal.specs.declared.entry.Entry.{Entry}
+use Rattle.ha_journal.specs.declared.entry.Entry.TheVariants.{Boot, Line, Step}
+use Rattle.ha_model.specs.declared.record.EndCause.{EndCause}
+use Rattle.ha_model.specs.declared.record.Record.{Record}
+use Rattle.ha_journal.specs.Entries.{step_of, is_restart}
+use Rattle.ha_sight.specs.Items.{is_call}
+use Rattle.ha_journal.specs.Journal.{Journal, automations, HasEntry, last_place, more}
+use Rattle.ha_sight.specs.Scripts.{Branch}
+use Rattle.ha_model.specs.Records.{Records, mode_of, own_cause, last_record, begin_of, is_step_of, is_call_of, ended_by_script, script_end, ran, stops, calls_of}
+use Rattle.ha_config.specs.Words.{or_else}
 use Rattle.ha_model.specs.RunSteps.{ends_for, own_ends, begins_here, begin_at, settled}
 use Rattle.ha_model.specs.NextPlace.{next_end}
 use Rattle.ha_model.specs.Lawful.{record_of}
-use Rattle.ha_model.proofs.RecordLaws.{length-more}
-use Rattle.ha_model.proofs.RecordGrowth.{automations-more}
+use Rattle.ha_journal.proofs.MoreLemmas.{length-more, automations-more}
 use Rattle.ha_model.proofs.LastEntry.{last-is, calls-more}
 use Rattle.ha_model.proofs.StepLaws.{ran-step}
 use Rattle.run_modes.specs.Table.{is_live, end_one, stopped, called_on, ended_at}

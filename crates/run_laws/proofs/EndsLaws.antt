@@ -3,11 +3,12 @@ use Rattle.std.proofs.Common.{◌≡◌, ℕ, zero, suc, ◌+◌, ◌<◌, ◌�
 use Rattle.std.specs.Prelude.{Some, None, slice_get, nat_eq, nat_lt, is_none, option_map, ◌&&◌, ◌||◌, if◌then◌else◌}
 use Rattle.std.specs.Option.{option_map_or}
 use Rattle.std.proofs.lemmas.Bool.{eqb-true}
-use Rattle.ha_model.specs.declared.config.Mode.{Mode}
-use Rattle.ha_model.specs.declared.config.Automation.{Automation}
-use Rattle.ha_model.specs.declared.journal.EndCause.{EndCause}
-use Rattle.ha_model.specs.declared.journal.Record.{Record}
-use Rattle.ha_model.specs.Records.{Records, mode_of, or_else, last_record}
+use Rattle.ha_config.specs.declared.config.Mode.{Mode}
+use Rattle.ha_config.specs.declared.config.Automation.{Automation}
+use Rattle.ha_model.specs.declared.record.EndCause.{EndCause}
+use Rattle.ha_model.specs.declared.record.Record.{Record}
+use Rattle.ha_model.specs.Records.{Records, mode_of, last_record}
+use Rattle.ha_config.specs.Words.{or_else}
 use Rattle.ha_model.specs.RunSteps.{ends_for, begins_here}
 use Rattle.ha_model.proofs.RecordGrowth.{EndBelow}
 use Rattle.run_modes.specs.Table.{is_live, end_one, begin_kept, begins_at, begin_first, ended_at}

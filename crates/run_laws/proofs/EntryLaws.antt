@@ -4,28 +4,30 @@ use Rattle.std.specs.Prelude.{Some, None, nat_eq, nat_le, nat_lt, slice_get, opt
 use Rattle.std.specs.Option.{option_map_or}
 use Rattle.std.proofs.lemmas.Bool.{leb-true}
 use Rattle.std.proofs.lemmas.Option.{slice_get_within}
-use Rattle.ha_model.specs.declared.config.Automation.{Automation}
-use Rattle.ha_model.specs.declared.journal.Item.{Item}
-use Rattle.ha_model.specs.declared.journal.Cmd.{Cmd}
-use Rattle.ha_model.specs.declared.journal.Entry.{Entry}
-use Rattle.ha_model.specs.declared.journal.Entry.TheVariants.{Boot, Line, Step}
-use Rattle.ha_model.specs.declared.journal.EndCause.{EndCause}
-use Rattle.ha_model.specs.declared.journal.Record.{Record}
-use Rattle.ha_model.specs.Entries.{is_call, IsBoot}
-use Rattle.ha_model.specs.Journal.{Journal, automations, HasEntry}
-use Rattle.ha_model.specs.Attempts.{Attempt}
-use Rattle.ha_model.specs.Scripts.{Branch}
-use Rattle.ha_model.specs.Records.{Records, last_place, last_record, lets_in_after, new_record, is_restart_mode, mode_of, begin_of, passing, is_call_of, calls_of, own_cause, or_else, with_begins, records_of}
-use Rattle.ha_model.specs.RecordSteps.{more, records_after}
+use Rattle.ha_config.specs.declared.config.Automation.{Automation}
+use Rattle.ha_sight.specs.declared.item.Item.{Item}
+use Rattle.ha_config.specs.declared.command.Cmd.{Cmd}
+use Rattle.ha_journal.specs.declared.entry.Entry.{Entry}
+use Rattle.ha_journal.specs.declared.entry.Entry.TheVariants.{Boot, Line, Step}
+use Rattle.ha_model.specs.declared.record.EndCause.{EndCause}
+use Rattle.ha_model.specs.declared.record.Record.{Record}
+use Rattle.ha_sight.specs.Items.{is_call}
+use Rattle.ha_journal.specs.Entries.{IsBoot}
+use Rattle.ha_journal.specs.Journal.{Journal, automations, HasEntry, last_place, more}
+use Rattle.ha_journal.specs.Attempts.{Attempt, passing}
+use Rattle.ha_sight.specs.Scripts.{Branch}
+use Rattle.ha_model.specs.Records.{Records, last_record, lets_in_after, new_record, is_restart_mode, mode_of, begin_of, is_call_of, calls_of, own_cause, with_begins, records_of}
+use Rattle.ha_config.specs.Words.{or_else}
+use Rattle.ha_model.specs.RecordSteps.{records_after}
 use Rattle.ha_model.specs.RunSteps.{own_ends, begin_at, begins_here, settled, attempt_all, joined, replace_all}
 use Rattle.ha_model.specs.NextPlace.{next_end}
 use Rattle.ha_model.specs.Lawful.{record_of, IsRightEntry, Right, is_running}
-use Rattle.ha_model.proofs.RecordLaws.{length-more}
+use Rattle.ha_journal.proofs.MoreLemmas.{length-more, has-entry}
 use Rattle.ha_model.proofs.RecordGrowth.{EndBelow}
 use Rattle.ha_model.proofs.RunLaws.{ended-runs}
 use Rattle.ha_model.proofs.LastEntry.{calls-more, no-calls}
 use Rattle.ha_model.proofs.StepLaws.{serial-at}
-use Rattle.ha_model.proofs.LawfulLaws.{has-entry, right-more}
+use Rattle.ha_model.proofs.LawfulLaws.{right-more}
 use Rattle.ha_model.proofs.TableLaws.{table-more}
 use Rattle.run_modes.specs.Table.{called_on}
 use Rattle.ha_laws.specs.Order.{InOrder}

@@ -1,10 +1,10 @@
 //! Laws of the definitions alone. Each is a function that does nothing; its contract is the law.
 ghost use Rattle.std.specs.Prelude.{◌≡◌, ℕ, List, [], ◌∷◌, length};
-ghost use Rattle.ha_model.specs.declared.journal.Entry.{Entry};
-ghost use Rattle.ha_model.specs.Entries.{IsBoot};
-ghost use Rattle.ha_model.specs.Journal.{Journal};
-ghost use Rattle.ha_model.specs.Records.{Records, passing, records_of};
-ghost use Rattle.ha_model.specs.RecordSteps.{more};
+ghost use Rattle.ha_journal.specs.declared.entry.Entry.{Entry};
+ghost use Rattle.ha_journal.specs.Entries.{IsBoot};
+ghost use Rattle.ha_journal.specs.Journal.{Journal, more};
+ghost use Rattle.ha_model.specs.Records.{Records, records_of};
+ghost use Rattle.ha_journal.specs.Attempts.{passing};
 ghost use Rattle.ha_model.specs.Lawful.{IsRightEntry, Right};
 ghost use Rattle.run_modes.specs.Calls.{all_tried, steps_done, stops_done, AreTurned};
 

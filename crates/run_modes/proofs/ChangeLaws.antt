@@ -3,12 +3,12 @@ use Rattle.std.proofs.Common.{◌≡◌, ℕ, zero, suc, ◌+◌, ◌-◌, ◌<�
 use Rattle.std.specs.Prelude.{Some, None, nat_eq, is_none, slice_get, option_map, if◌then◌else◌}
 use Rattle.std.specs.Option.{option_map_or}
 use Rattle.std.proofs.lemmas.Option.{slice_get-map}
-use Rattle.ha_model.specs.declared.config.Mode.{Mode}
-use Rattle.ha_model.specs.declared.journal.EndCause.{EndCause}
-use Rattle.ha_model.specs.declared.journal.Record.{Record}
-use Rattle.ha_model.specs.Words.{Pairs}
+use Rattle.ha_config.specs.declared.config.Mode.{Mode}
+use Rattle.ha_model.specs.declared.record.EndCause.{EndCause}
+use Rattle.ha_model.specs.declared.record.Record.{Record}
+use Rattle.ha_config.specs.Words.{Pairs, or_else}
 use Rattle.ha_model.specs.Lawful.{record_of}
-use Rattle.ha_model.specs.Records.{Records, lets_in, live_count, or_else}
+use Rattle.ha_model.specs.Records.{Records, lets_in, live_count}
 use Rattle.ha_model.specs.RunSteps.{joined, replace_all}
 use Rattle.run_modes.specs.Changes.{after_attempt, after_call, after_end, after_stop}
 use Rattle.run_modes.specs.Fits.{AreNumbered}

@@ -1,9 +1,10 @@
 -- One run ends, and the next live one of its automation begins.
 use Rattle.std.proofs.Common.{◌≡◌, ℕ, zero, suc, ◌+◌, ◌-◌, ◌<◌, ◌≤◌, List, [], ◌∷◌, length, set, get_or, Bool, true, false, refl, ap, sym, subst, length-set, ◌∙◌, rules, arith, Option}
 use Rattle.std.specs.Prelude.{Some, None, IfSome, cond, nat_eq, slice_get, is_none, fold, ◌&&◌, if◌then◌else◌}
-use Rattle.ha_model.specs.declared.journal.EndCause.{EndCause}
-use Rattle.ha_model.specs.declared.journal.Record.{Record}
-use Rattle.ha_model.specs.Records.{Records, or_else}
+use Rattle.ha_model.specs.declared.record.EndCause.{EndCause}
+use Rattle.ha_model.specs.declared.record.Record.{Record}
+use Rattle.ha_model.specs.Records.{Records}
+use Rattle.ha_config.specs.Words.{or_else}
 use Rattle.run_modes.specs.declared.lanes.Lane.{Lane}
 use Rattle.run_modes.specs.Lanes.{made_in, live_in, ChangesLane, without, behind, first_of}
 use Rattle.run_modes.specs.Table.{is_live, live_of, begin_first, begins_at, ended_at, waiting_first, begun_by}

@@ -2,9 +2,10 @@
 use Rattle.std.proofs.Common.{◌≡◌, ℕ, zero, suc, ◌+◌, ◌-◌, ◌<◌, ◌≤◌, List, [], ◌∷◌, ◌++◌, length, map, set, get_or, Bool, true, false, refl, ap, sym, subst, ◌∙◌, rules, arith, Option}
 use Rattle.std.specs.Prelude.{Some, None, cond, nat_eq, slice_get, is_none, count_by, fold, ◌&&◌, if◌then◌else◌}
 use Rattle.std.proofs.lemmas.Bool.{eqb-true}
-use Rattle.ha_model.specs.declared.journal.EndCause.{EndCause}
-use Rattle.ha_model.specs.declared.journal.Record.{Record}
-use Rattle.ha_model.specs.Records.{Records, or_else, live_count}
+use Rattle.ha_model.specs.declared.record.EndCause.{EndCause}
+use Rattle.ha_model.specs.declared.record.Record.{Record}
+use Rattle.ha_model.specs.Records.{Records, live_count}
+use Rattle.ha_config.specs.Words.{or_else}
 use Rattle.ha_model.specs.RunSteps.{ends_for, replace_all}
 use Rattle.run_modes.specs.declared.lanes.Lane.{Lane}
 use Rattle.run_modes.specs.Lanes.{made_in, live_in, ChangesLane}

@@ -2,12 +2,13 @@
 use Rattle.std.specs.Prelude.{◌≡◌, ℕ, Bool, nat_eq, List, length, fold, Option, Some, None, option_and_then, if◌then◌else◌}
 use Rattle.std.specs.List.{list_any}
 use Rattle.std.specs.Option.{option_map_or}
-use Rattle.ha_model.specs.declared.journal.EndCause.{EndCause}
-use Rattle.ha_model.specs.declared.journal.Entry.{Entry}
-use Rattle.ha_model.specs.Entries.{Stepped, step_of, is_restart, is_call}
-use Rattle.ha_model.specs.Journal.{Journal, automations}
-use Rattle.ha_model.specs.Attempts.{Attempt}
-use Rattle.ha_model.specs.Records.{Records, last_place, mode_of, max_of, stops, records_of}
+use Rattle.ha_model.specs.declared.record.EndCause.{EndCause}
+use Rattle.ha_journal.specs.declared.entry.Entry.{Entry}
+use Rattle.ha_journal.specs.Entries.{Stepped, step_of, is_restart}
+use Rattle.ha_sight.specs.Items.{is_call}
+use Rattle.ha_journal.specs.Journal.{Journal, automations, last_place}
+use Rattle.ha_journal.specs.Attempts.{Attempt}
+use Rattle.ha_model.specs.Records.{Records, mode_of, max_of, stops, records_of}
 use Rattle.ha_model.specs.NextPlace.{next_end}
 use Rattle.ha_model.specs.Lawful.{record_of}
 use Rattle.run_modes.specs.Table.{RunTable, attempted, ended_at, stopped, called_on}

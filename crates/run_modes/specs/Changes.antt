@@ -1,9 +1,9 @@
 -- What each call does to one record.
 use Rattle.std.specs.Prelude.{ℕ, suc, true, false, ◌&&◌, nat_eq, Option, Some, if◌then◌else◌}
 use Rattle.std.specs.Option.{option_map_or}
-use Rattle.ha_model.specs.declared.config.Mode.{Mode}
-use Rattle.ha_model.specs.declared.journal.EndCause.{EndCause}
-use Rattle.ha_model.specs.declared.journal.Record.{Record}
+use Rattle.ha_config.specs.declared.config.Mode.{Mode}
+use Rattle.ha_model.specs.declared.record.EndCause.{EndCause}
+use Rattle.ha_model.specs.declared.record.Record.{Record}
 use Rattle.ha_model.specs.Records.{is_restart_mode}
 use Rattle.run_modes.specs.Table.{is_live, is_stopped, end_one, begins_at}
 

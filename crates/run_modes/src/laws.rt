@@ -1,8 +1,8 @@
 //! Laws of the definitions alone. Each is a function that does nothing; its contract is the law.
 ghost use Rattle.std.specs.Prelude.{◌≡◌, ℕ, suc, ◌<◌, ◌≤◌, true, Option, Some, length, option_map};
-ghost use Rattle.ha_model.specs.declared.config.Mode.{Mode};
-ghost use Rattle.ha_model.specs.declared.journal.EndCause.{EndCause};
-ghost use Rattle.ha_model.specs.Words.{Pairs};
+ghost use Rattle.ha_config.specs.declared.config.Mode.{Mode};
+ghost use Rattle.ha_model.specs.declared.record.EndCause.{EndCause};
+ghost use Rattle.ha_config.specs.Words.{Pairs};
 ghost use Rattle.ha_model.specs.Lawful.{record_of};
 ghost use Rattle.ha_model.specs.Records.{Records, lets_in, live_count};
 ghost use Rattle.run_modes.specs.Changes.{after_attempt, after_call, after_end, after_stop};

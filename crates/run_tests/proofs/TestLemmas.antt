@@ -1,8 +1,8 @@
 -- A run that was found, and that is begun and live, meets what an end asks for.
 use Rattle.std.proofs.Common.{◌≡◌, ℕ, Bool, true, false, ◌&&◌, refl, sym, true≢false, rules, Option}
 use Rattle.std.specs.Prelude.{Some, None, is_none, is_some, nat_eq}
-use Rattle.ha_model.specs.declared.journal.EndCause.{EndCause}
-use Rattle.ha_model.specs.declared.journal.Record.{Record}
+use Rattle.ha_model.specs.declared.record.EndCause.{EndCause}
+use Rattle.ha_model.specs.declared.record.Record.{Record}
 use Rattle.ha_model.specs.Lawful.{record_of}
 use Rattle.ha_model.specs.Records.{Records}
 use Rattle.run_modes.specs.Table.{HasBegun}

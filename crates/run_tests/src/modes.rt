@@ -1,11 +1,13 @@
 //! Runs of one automation, as its mode admits, begins and ends them.
 ghost use Rattle.std.specs.Prelude.{◌≡◌, ◌&&◌, ◌<◌, ◌-◌, ◌^◌, true, Some, None, is_none, is_some, nat_eq, nat_lt};
 ghost use Rattle.std.specs.Option.{option_copied};
-ghost use Rattle.ha_model.specs.declared.journal.Record.{Record as Run};
+ghost use Rattle.ha_model.specs.declared.record.Record.{Record as Run};
 ghost use Rattle.ha_model.specs.Lawful.{record_of};
 ghost use Rattle.run_modes.specs.Table.{HasBegun};
 
-use ha_model::{EndCause, Env, Mode, Record};
+use ha_config::Mode;
+use ha_model::{EndCause, Record};
+use ha_sight::Env;
 use run_modes::{Admission, Runs};
 use std::alloc::{AllocError, Global};
 

@@ -1,9 +1,10 @@
 //! Switches, and the texts that store them.
 ghost use Rattle.std.specs.Prelude.{◌≡◌, true, IfOk, length};
 ghost use Rattle.ha_value.specs.Ids.{is_name};
-ghost use Rattle.ha_model.specs.Sound.{IsSoundConfig, is_sound_automation};
+ghost use Rattle.ha_config.specs.Sound.{IsSoundConfig, is_sound_automation};
 
-use ha_model::{Automation, Config, Many, Mode, Word};
+use ha_config::{Automation, Config, Mode};
+use ha_value::{Many, Word};
 use std::alloc::{AllocError, Global};
 use store_text::{StoreFault, read_store};
 use switch_book::Switches;

@@ -2,25 +2,25 @@
 use Rattle.std.proofs.Common.{◌≡◌, ℕ, ◌+◌, Bool, true, false, List, [], ◌∷◌, ◌++◌, length, map, refl, sym, ap, subst, ◌∙◌, append-nil}
 use Rattle.std.specs.Prelude.{Option, Some, None, ok_or, option_map, nat_le, codes, ◌||◌, if◌then◌else◌}
 use Rattle.std.specs.Option.{option_map_or}
-use Rattle.ha_model.specs.declared.template.Template.{Template}
-use Rattle.ha_model.specs.declared.config.Trigger.{Trigger}
-use Rattle.ha_model.specs.declared.config.Condition.{Condition}
-use Rattle.ha_model.specs.declared.config.SpanForm.{SpanForm}
-use Rattle.ha_model.specs.declared.config.RepeatKind.{RepeatKind}
-use Rattle.ha_model.specs.declared.config.Action.{Action}
-use Rattle.ha_model.specs.declared.config.ActionKind.{ActionKind}
-use Rattle.ha_model.specs.declared.config.ActionKind.TheOpen.{ActionKind-F, Action-F}
-use Rattle.ha_model.specs.declared.config.ActionKind.TheViews.{roll-ActionKind, roll-Action}
-use Rattle.ha_model.specs.declared.config.ActionKind.TheFolds.{fold-ActionKind, fold-roll-ActionKind, fold-roll-Action, map-ActionKind, map-Action, ind-Action}
-use Rattle.ha_model.specs.declared.journal.Item.{Item}
-use Rattle.ha_model.specs.declared.journal.WaitEnd.{WaitEnd}
-use Rattle.ha_model.specs.declared.config.Form.{Form}
-use Rattle.ha_model.specs.Words.{Text, Pairs}
-use Rattle.ha_model.specs.States.{Sight}
-use Rattle.ha_model.specs.Conditions.{hold_all, holds}
-use Rattle.ha_model.specs.Calls.{call_item, span_of, spans_of, count_of, forms_of, fields_of}
-use Rattle.ha_model.specs.Scripts.{Branch, Scopes, Ask, Spot, Status, Outcome, Next, Part, Meaning, flat, gives, prefixed, ends, in_order, add_inside, count_loop, each_loop, while_loop, until_loop, most_turns, chosen, set_all, wait_value, delayed, kind_step, run_action, exec, whole}
-use Rattle.ha_model.proofs.Rolls.{run_kind, run_action-roll, run_kind-roll}
+use Rattle.ha_config.specs.declared.template.Template.{Template}
+use Rattle.ha_config.specs.declared.config.Trigger.{Trigger}
+use Rattle.ha_config.specs.declared.config.Condition.{Condition}
+use Rattle.ha_config.specs.declared.config.SpanForm.{SpanForm}
+use Rattle.ha_config.specs.declared.config.RepeatKind.{RepeatKind}
+use Rattle.ha_config.specs.declared.config.Action.{Action}
+use Rattle.ha_config.specs.declared.config.ActionKind.{ActionKind}
+use Rattle.ha_config.specs.declared.config.ActionKind.TheOpen.{ActionKind-F, Action-F}
+use Rattle.ha_config.specs.declared.config.ActionKind.TheViews.{roll-ActionKind, roll-Action}
+use Rattle.ha_config.specs.declared.config.ActionKind.TheFolds.{fold-ActionKind, fold-roll-ActionKind, fold-roll-Action, map-ActionKind, map-Action, ind-Action}
+use Rattle.ha_sight.specs.declared.item.Item.{Item}
+use Rattle.ha_sight.specs.declared.waiting.WaitEnd.{WaitEnd}
+use Rattle.ha_config.specs.declared.config.Form.{Form}
+use Rattle.ha_config.specs.Words.{Text, Pairs}
+use Rattle.ha_sight.specs.Sight.{Sight}
+use Rattle.ha_sight.specs.Conditions.{hold_all, holds}
+use Rattle.ha_sight.specs.Calls.{call_item, span_of, spans_of, count_of, forms_of, fields_of}
+use Rattle.ha_sight.specs.Scripts.{Branch, Scopes, Ask, Spot, Status, Outcome, Next, Part, Meaning, flat, gives, prefixed, ends, in_order, add_inside, count_loop, each_loop, while_loop, until_loop, most_turns, chosen, set_all, wait_value, delayed, kind_step, run_action, exec, whole}
+use Rattle.ha_sight.proofs.Rolls.{run_kind, run_action-roll, run_kind-roll}
 use Rattle.script_laws.specs.Followed.{followed}
 use Rattle.script_laws.proofs.FollowLemmas.{one-item, item-follows, place-follows, done-follows, field-follows, option-follows, then-follows, OfList, of-then}
 use Rattle.script_laws.proofs.BesideLemmas.{list_end, ended-list, SameList, SameLists, beside-follows}

@@ -2,9 +2,9 @@
 use Rattle.std.proofs.Common.{◌≡◌, Bool, true, false, List, [], ◌∷◌, ◌++◌, refl, sym, ap, ◌∙◌, append_assoc}
 use Rattle.std.specs.Prelude.{Option, Some, None, Ok, Err, ok_or, if◌then◌else◌, bytes_eq}
 use Rattle.std.specs.Option.{option_map_or}
-use Rattle.ha_model.specs.declared.journal.Item.{Item}
-use Rattle.ha_model.specs.Calls.{Checked}
-use Rattle.ha_model.specs.Scripts.{Branch, Scopes, Spot, Status, Outcome, Next, gives, prefixed, ends, with_place, outer, failed, on_checked, called}
+use Rattle.ha_sight.specs.declared.item.Item.{Item}
+use Rattle.ha_sight.specs.Calls.{Checked}
+use Rattle.ha_sight.specs.Scripts.{Branch, Scopes, Spot, Status, Outcome, Next, gives, prefixed, ends, with_place, outer, failed, on_checked, called}
 use Rattle.script_laws.specs.Direct.{Standing, Left, at_place, items_then, by_standing, and_then, does, on_field, drop_block}
 use Rattle.script_laws.specs.Followed.{follows, followed}
 

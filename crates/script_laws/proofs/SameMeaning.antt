@@ -2,14 +2,14 @@
 use Rattle.std.proofs.Common.{◌≡◌, ℕ, zero, suc, ◌-◌, Bool, true, false, List, [], ◌∷◌, ◌++◌, length, refl, sym, ap, ◌∙◌, arith}
 use Rattle.std.specs.Prelude.{Option, Some, None, nat_le, codes, ◌||◌, if◌then◌else◌}
 use Rattle.std.specs.Option.{option_map_or}
-use Rattle.ha_model.specs.declared.template.Template.{Template}
-use Rattle.ha_model.specs.declared.config.Trigger.{Trigger}
-use Rattle.ha_model.specs.declared.config.SpanForm.{SpanForm}
-use Rattle.ha_model.specs.declared.config.RepeatKind.{RepeatKind}
-use Rattle.ha_model.specs.declared.journal.Item.{Item}
-use Rattle.ha_model.specs.declared.journal.WaitEnd.{WaitEnd}
-use Rattle.ha_model.specs.Calls.{spans_of, count_of, forms_of}
-use Rattle.ha_model.specs.Scripts.{Branch, Scopes, Ask, Spot, Status, Next, Part, Loop, flat, outer, gives, ends, on_checked, add_inside, after_turn, turns, looped, count_loop, each_loop, while_loop, until_loop, most_turns, repeated, goes_into, wait_value, delayed, waited}
+use Rattle.ha_config.specs.declared.template.Template.{Template}
+use Rattle.ha_config.specs.declared.config.Trigger.{Trigger}
+use Rattle.ha_config.specs.declared.config.SpanForm.{SpanForm}
+use Rattle.ha_config.specs.declared.config.RepeatKind.{RepeatKind}
+use Rattle.ha_sight.specs.declared.item.Item.{Item}
+use Rattle.ha_sight.specs.declared.waiting.WaitEnd.{WaitEnd}
+use Rattle.ha_sight.specs.Calls.{spans_of, count_of, forms_of}
+use Rattle.ha_sight.specs.Scripts.{Branch, Scopes, Ask, Spot, Status, Next, Part, Loop, flat, outer, gives, ends, on_checked, add_inside, after_turn, turns, looped, count_loop, each_loop, while_loop, until_loop, most_turns, repeated, goes_into, wait_value, delayed, waited}
 use Rattle.script_laws.specs.Direct.{Standing, Left, Effect, leaves, at_place, items_then, and_then, does, delays, waited_for, waits, begins_wait, in_block, turns_from, repeats}
 use Rattle.script_laws.specs.Followed.{followed}
 use Rattle.script_laws.proofs.FollowLemmas.{one-item, item-follows, place-follows, done-follows, field-follows, option-follows, block-follows, block-then}

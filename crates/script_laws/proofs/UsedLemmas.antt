@@ -4,14 +4,14 @@ use Rattle.std.specs.Prelude.{Option, Some, None, Ok, Err, not, ◌&&◌, ◌||�
 use Rattle.std.specs.List.{list_any, list_all, cons_option}
 use Rattle.std.proofs.lemmas.Bool.{leb-true}
 use Rattle.ha_value.specs.declared.value.Value.{Value}
-use Rattle.ha_model.specs.declared.config.Form.{Form}
-use Rattle.ha_model.specs.declared.journal.Item.{Item}
-use Rattle.ha_model.specs.Words.{Text, Pairs, has_name, same}
-use Rattle.ha_model.specs.States.{Sight}
-use Rattle.ha_model.specs.Templates.{data_of}
-use Rattle.ha_model.specs.Calls.{Checked}
-use Rattle.ha_model.specs.Scripts.{Branch, Scopes, Spot, Loop, flat, outer, add_inside, add_where_named, set_name, set_all, is_deeper, front, past_front, side, on_side, take_item, woven}
-use Rattle.ha_model.proofs.EqualLemmas.{and_left, and_right}
+use Rattle.ha_config.specs.declared.config.Form.{Form}
+use Rattle.ha_sight.specs.declared.item.Item.{Item}
+use Rattle.ha_config.specs.Words.{Text, Pairs, has_name, same}
+use Rattle.ha_sight.specs.Sight.{Sight}
+use Rattle.ha_sight.specs.Templates.{data_of}
+use Rattle.ha_sight.specs.Calls.{Checked}
+use Rattle.ha_sight.specs.Scripts.{Branch, Scopes, Spot, Loop, flat, outer, add_inside, add_where_named, set_name, set_all, is_deeper, front, past_front, side, on_side, take_item, woven}
+use Rattle.ha_config.proofs.EqualLemmas.{and_left, and_right}
 use Rattle.script_laws.specs.Direct.{Standing, Left, Effect, leaves, at_place, items_then, by_standing, and_then, standing_of, does, nothing_then, on_field, drop_block, in_block, turns_from, if_no_place, all_used, each_beside, stands_open, stops_or, first_stop, joined_up, beside}
 use Rattle.script_laws.specs.Used.{IsUsed}
 

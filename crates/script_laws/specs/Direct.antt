@@ -4,22 +4,21 @@ use Rattle.std.specs.Prelude.{ℕ, zero, suc, ◌+◌, Bool, true, false, ◌||�
 use Rattle.std.specs.Prelude.{Some, None, Ok, Err, ok_or, codes, option_map, option_and_then, if◌then◌else◌, bytes_eq}
 use Rattle.std.specs.List.{list_any, list_all}
 use Rattle.std.specs.Option.{option_map_or}
-use Rattle.ha_model.specs.declared.template.Template.{Template}
-use Rattle.ha_model.specs.declared.config.Condition.{Condition}
-use Rattle.ha_model.specs.declared.config.Trigger.{Trigger}
-use Rattle.ha_model.specs.declared.config.SpanForm.{SpanForm}
-use Rattle.ha_model.specs.declared.config.RepeatKind.{RepeatKind}
-use Rattle.ha_model.specs.declared.config.Action.{Action}
-use Rattle.ha_model.specs.declared.config.ActionKind.TheOpen.{ActionKind-F, Action-F}
-use Rattle.ha_model.specs.declared.config.ActionKind.TheFolds.{fold-Action}
-use Rattle.ha_model.specs.declared.journal.Item.{Item}
-use Rattle.ha_model.specs.declared.journal.WaitEnd.{WaitEnd}
-use Rattle.ha_model.specs.Words.{Pairs}
-use Rattle.ha_model.specs.States.{Sight}
-use Rattle.ha_model.specs.Conditions.{hold_all, holds}
-use Rattle.ha_model.specs.Calls.{Checked, template_fault, call_item, span_of, spans_of, count_of, forms_of, fields_of}
-use Rattle.ha_model.specs.Scripts.{Branch, Scopes, Ask, Spot, Status, Outcome, Loop, flat, outer, add_inside, set_all, wait_value}
-use Rattle.ha_model.specs.Scripts.{count_loop, each_loop, while_loop, until_loop, most_turns, front, past_front, side, on_side, woven}
+use Rattle.ha_config.specs.declared.template.Template.{Template}
+use Rattle.ha_config.specs.declared.config.Condition.{Condition}
+use Rattle.ha_config.specs.declared.config.Trigger.{Trigger}
+use Rattle.ha_config.specs.declared.config.SpanForm.{SpanForm}
+use Rattle.ha_config.specs.declared.config.RepeatKind.{RepeatKind}
+use Rattle.ha_config.specs.declared.config.Action.{Action}
+use Rattle.ha_config.specs.declared.config.ActionKind.TheOpen.{ActionKind-F, Action-F}
+use Rattle.ha_config.specs.declared.config.ActionKind.TheFolds.{fold-Action}
+use Rattle.ha_sight.specs.declared.item.Item.{Item}
+use Rattle.ha_sight.specs.declared.waiting.WaitEnd.{WaitEnd}
+use Rattle.ha_config.specs.Words.{Pairs}
+use Rattle.ha_sight.specs.Sight.{Sight}
+use Rattle.ha_sight.specs.Conditions.{hold_all, holds}
+use Rattle.ha_sight.specs.Calls.{Checked, template_fault, call_item, span_of, spans_of, count_of, forms_of, fields_of}
+use Rattle.ha_sight.specs.Scripts.{Branch, Scopes, Ask, Spot, Status, Outcome, Loop, flat, outer, add_inside, set_all, wait_value, count_loop, each_loop, while_loop, until_loop, most_turns, front, past_front, side, on_side, woven}
 
 -- how a part of a script stands: what follows it in its list is next; a condition is false, so that its list is done at once; its next
 -- place is not there yet; it stopped the run, or it failed

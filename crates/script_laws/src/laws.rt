@@ -1,8 +1,8 @@
 //! Laws of the definitions alone. Each is a function that does nothing; its contract is the law.
 ghost use Rattle.std.specs.Prelude.{◌≡◌, List, Some, length};
-ghost use Rattle.ha_model.specs.declared.config.Action.{Action};
-ghost use Rattle.ha_model.specs.Words.{Pairs};
-ghost use Rattle.ha_model.specs.Scripts.{Branch, Scopes, Spot, Next, Outcome, exec, whole};
+ghost use Rattle.ha_config.specs.declared.config.Action.{Action};
+ghost use Rattle.ha_config.specs.Words.{Pairs};
+ghost use Rattle.ha_sight.specs.Scripts.{Branch, Scopes, Spot, Next, Outcome, exec, whole};
 ghost use Rattle.script_laws.specs.Direct.{Left, left_by, left_by_script};
 ghost use Rattle.script_laws.specs.Followed.{followed};
 ghost use Rattle.script_laws.specs.Used.{IsUsed};

@@ -1,11 +1,11 @@
 -- What the open blocks go on with, at each kind of place.
 use Rattle.std.proofs.Common.{◌≡◌, ℕ, zero, suc, List, [], ◌∷◌, ◌++◌, refl, ap, ◌∙◌, true, false}
 use Rattle.std.specs.Prelude.{Option, Some, None, bytes_eq}
-use Rattle.ha_model.specs.declared.config.Action.{Action}
-use Rattle.ha_model.specs.declared.journal.Item.{Item}
-use Rattle.ha_model.specs.Words.{Pairs}
-use Rattle.ha_model.specs.Scripts.{Branch, Spot, Scopes, Status, Loop, exec, ends, gives, outer, turns, run_action}
-use Rattle.ha_model.proofs.EqualLemmas.{same-refl}
+use Rattle.ha_config.specs.declared.config.Action.{Action}
+use Rattle.ha_sight.specs.declared.item.Item.{Item}
+use Rattle.ha_config.specs.Words.{Pairs}
+use Rattle.ha_sight.specs.Scripts.{Branch, Spot, Scopes, Status, Loop, exec, ends, gives, outer, turns, run_action}
+use Rattle.ha_config.proofs.EqualLemmas.{same-refl}
 use Rattle.script_step.specs.Blocks.{Round, Block, goes_on}
 
 pub outer-snoc : (scopes : Scopes) (block : Pairs) → outer (scopes ++ (block ∷ [])) ≡ scopes

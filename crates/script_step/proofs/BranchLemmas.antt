@@ -2,15 +2,15 @@
 use Rattle.std.proofs.Common.{◌≡◌, ℕ, zero, suc, ◌+◌, ◌<◌, ◌⊎◌, inl, inr, true, List, [], ◌∷◌, length, map, refl, sym, ap, subst, ◌∙◌, arith}
 use Rattle.std.specs.Prelude.{Option, Some, None, slice_get}
 use Rattle.std.specs.Option.{option_map_or}
-use Rattle.ha_model.specs.declared.config.Condition.{Condition}
-use Rattle.ha_model.specs.declared.config.Action.{Action}
-use Rattle.ha_model.specs.declared.config.ActionKind.{ActionKind}
-use Rattle.ha_model.specs.declared.config.ActionKind.TheOpen.{Action-F, ActionKind-F}
-use Rattle.ha_model.specs.declared.config.ActionKind.TheViews.{out-Action, roll-ActionKind, roll-Action}
-use Rattle.ha_model.specs.declared.config.ActionKind.TheFolds.{ind-Action, fold-ActionKind, fold_out-ActionKind, fold_out-Action, fold-roll-ActionKind, fold-roll-Action, map-ActionKind, map-Action}
-use Rattle.ha_model.specs.Scripts.{Branch}
-use Rattle.ha_model.specs.Words.{comes_before}
-use Rattle.ha_model.specs.Branches.{action_branches, branches_from, branches_of, kind_branches, union, union_all}
+use Rattle.ha_config.specs.declared.config.Condition.{Condition}
+use Rattle.ha_config.specs.declared.config.Action.{Action}
+use Rattle.ha_config.specs.declared.config.ActionKind.{ActionKind}
+use Rattle.ha_config.specs.declared.config.ActionKind.TheOpen.{Action-F, ActionKind-F}
+use Rattle.ha_config.specs.declared.config.ActionKind.TheViews.{out-Action, roll-ActionKind, roll-Action}
+use Rattle.ha_config.specs.declared.config.ActionKind.TheFolds.{ind-Action, fold-ActionKind, fold_out-ActionKind, fold_out-Action, fold-roll-ActionKind, fold-roll-Action, map-ActionKind, map-Action}
+use Rattle.ha_sight.specs.Scripts.{Branch}
+use Rattle.ha_config.specs.Words.{comes_before}
+use Rattle.ha_sight.specs.Branches.{action_branches, branches_from, branches_of, kind_branches, union, union_all}
 use Rattle.script_step.specs.declared.thread.Frame.{Frame}
 use Rattle.script_step.specs.declared.thread.Thread.{Thread}
 use Rattle.script_step.specs.Parts.{before, inner_list, kind_of, list_in, lists_in, option_list, part_in}

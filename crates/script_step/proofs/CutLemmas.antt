@@ -1,8 +1,8 @@
 -- How the pairs of blocks, in one list, change with the blocks.
 use Rattle.std.proofs.Common.{◌≡◌, ℕ, zero, suc, ◌+◌, ◌-◌, ◌<◌, ◌≤◌, List, [], ◌∷◌, ◌++◌, length, take, drop, slice_set, get_or, insert, refl, sym, ap, ◌∙◌, arith}
 use Rattle.ha_value.specs.declared.value.Value.{Value}
-use Rattle.ha_model.specs.Words.{Text, Pairs}
-use Rattle.ha_model.specs.Scripts.{Scopes, flat, outer, add_inside}
+use Rattle.ha_config.specs.Words.{Text, Pairs}
+use Rattle.ha_sight.specs.Scripts.{Scopes, flat, outer, add_inside}
 use Rattle.script_step.specs.Cuts.{cut, total, add_at}
 
 take-drop : {X : Type 0} (n : ℕ) (xs : List X) → take n xs ++ drop n xs ≡ xs

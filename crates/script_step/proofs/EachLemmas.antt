@@ -1,7 +1,7 @@
 -- Lists whose members are valued one after the other, as far as a loop over them has come.
 use Rattle.std.proofs.Common.{◌≡◌, ◌∙◌, ap, ℕ, zero, suc, ◌+◌, ◌<◌, ◌≤◌, refl, List, [], ◌∷◌, ◌++◌, length, get_or, drop, sym, arith, drop-cons, append_assoc, append-nil}
 use Rattle.std.specs.Prelude.{Option, Some, None, Err, slice_get, option_map, option_and_then}
-use Rattle.ha_model.specs.declared.faults.TplFault.{TplFault}
+use Rattle.ha_sight.specs.declared.faults.TplFault.{TplFault}
 use Rattle.script_step.specs.Fields.{Gives, Puts}
 
 -- the values of the members, or none

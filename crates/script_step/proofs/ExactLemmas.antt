@@ -3,16 +3,16 @@ use Rattle.std.proofs.Common.{◌≡◌, ℕ, zero, suc, ◌-◌, Bool, true, fa
 use Rattle.std.specs.Prelude.{Option, Some, None, Ok, Err, is_some, option_map, bytes_eq, nat_le, if◌then◌else◌}
 use Rattle.std.specs.List.{list_any}
 use Rattle.std.specs.Option.{option_map_or}
-use Rattle.ha_model.specs.declared.config.RepeatKind.{RepeatKind}
-use Rattle.ha_model.specs.declared.config.Action.{Action}
-use Rattle.ha_model.specs.declared.config.ActionKind.{ActionKind}
-use Rattle.ha_model.specs.declared.config.ActionKind.TheOpen.{ActionKind-F}
-use Rattle.ha_model.specs.declared.journal.Item.{Item}
-use Rattle.ha_model.specs.Conditions.{hold_all, holds}
-use Rattle.ha_model.specs.Calls.{Checked, call_item, span_of, spans_of, count_of, forms_of, fields_of}
-use Rattle.ha_model.specs.Scripts.{Branch, Spot, Scopes, Next, Outcome, Status, Loop, flat, exec, ends, gives, prefixed, outer, in_order, called, on_checked, failed, goes_into, looped, turns, after_turn, count_loop, each_loop, while_loop, until_loop, set_all, woven, all_allowed, is_open, first_halt, after_lists, each_on, joined_lists, side_by_side, lists_from}
-use Rattle.ha_model.proofs.Rolls.{run_action-out}
-use Rattle.ha_model.proofs.EqualLemmas.{same-refl}
+use Rattle.ha_config.specs.declared.config.RepeatKind.{RepeatKind}
+use Rattle.ha_config.specs.declared.config.Action.{Action}
+use Rattle.ha_config.specs.declared.config.ActionKind.{ActionKind}
+use Rattle.ha_config.specs.declared.config.ActionKind.TheOpen.{ActionKind-F}
+use Rattle.ha_sight.specs.declared.item.Item.{Item}
+use Rattle.ha_sight.specs.Conditions.{hold_all, holds}
+use Rattle.ha_sight.specs.Calls.{Checked, call_item, span_of, spans_of, count_of, forms_of, fields_of}
+use Rattle.ha_sight.specs.Scripts.{Branch, Spot, Scopes, Next, Outcome, Status, Loop, flat, exec, ends, gives, prefixed, outer, in_order, called, on_checked, failed, goes_into, looped, turns, after_turn, count_loop, each_loop, while_loop, until_loop, set_all, woven, all_allowed, is_open, first_halt, after_lists, each_on, joined_lists, side_by_side, lists_from}
+use Rattle.ha_sight.proofs.Rolls.{run_action-out}
+use Rattle.ha_config.proofs.EqualLemmas.{same-refl}
 use Rattle.script_step.specs.Blocks.{Round, Block, turns_behind, at_end, goes_on}
 use Rattle.script_step.specs.Parts.{kind_of, option_list}
 use Rattle.script_step.specs.Turns.{first_holding}

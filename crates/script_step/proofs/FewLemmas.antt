@@ -4,12 +4,12 @@ use Rattle.std.proofs.lemmas.Bool.Decides.{nat_tests}
 use Rattle.std.specs.Prelude.{Option, Some, None, ◌&&◌, nat_lt, slice_get}
 use Rattle.std.specs.List.{list_all}
 use Rattle.std.specs.Option.{option_map_or}
-use Rattle.ha_model.specs.declared.config.Condition.{Condition}
-use Rattle.ha_model.specs.declared.config.Action.{Action}
-use Rattle.ha_model.specs.declared.config.ActionKind.{ActionKind}
-use Rattle.ha_model.specs.declared.config.ActionKind.TheOpen.{ActionKind-F}
-use Rattle.ha_model.specs.declared.config.ActionKind.TheViews.{out-Action}
-use Rattle.ha_model.specs.declared.config.ActionKind.TheFolds.{fold-ActionKind, fold_out-ActionKind, fold_out-Action, map-ActionKind}
+use Rattle.ha_config.specs.declared.config.Condition.{Condition}
+use Rattle.ha_config.specs.declared.config.Action.{Action}
+use Rattle.ha_config.specs.declared.config.ActionKind.{ActionKind}
+use Rattle.ha_config.specs.declared.config.ActionKind.TheOpen.{ActionKind-F}
+use Rattle.ha_config.specs.declared.config.ActionKind.TheViews.{out-Action}
+use Rattle.ha_config.specs.declared.config.ActionKind.TheFolds.{fold-ActionKind, fold_out-ActionKind, fold_out-Action, map-ActionKind}
 use Rattle.script_step.specs.declared.thread.Frame.{Frame}
 use Rattle.script_step.specs.declared.thread.Thread.{Thread}
 use Rattle.script_step.specs.Few.{all_few, few_kind_step, has_few_lists, is_few_action}

@@ -3,16 +3,16 @@ use Rattle.std.proofs.Common.{◌≡◌, ◌∙◌, ap, refl, List, [], ◌∷�
 use Rattle.std.specs.Prelude.{Option, Some, None, option_map, option_and_then}
 use Rattle.ha_value.specs.declared.value.Value.{Value}
 use Rattle.ha_value.specs.declared.value.Value.TheVariants.{Items as Listed, Pairs as Mapped}
-use Rattle.ha_model.specs.declared.config.Form.{Form}
-use Rattle.ha_model.specs.declared.config.Form.TheOpen.{Form-F}
-use Rattle.ha_model.specs.declared.config.Form.TheViews.{out-Form}
-use Rattle.ha_model.specs.declared.config.Form.TheFolds.{map-Form}
-use Rattle.ha_model.specs.declared.config.Form.TheVariants.{Items, Pairs as Fields, outs-Items, outs-Pairs}
-use Rattle.ha_model.specs.States.{Sight}
-use Rattle.ha_model.specs.Words.{Text, Pairs}
-use Rattle.ha_model.specs.Templates.{Meaning, all_of, pairs_of, form_step, data_of}
-use Rattle.ha_model.specs.Calls.{forms_of, fields_of}
-use Rattle.ha_model.proofs.Rolls.{data_of-out}
+use Rattle.ha_config.specs.declared.config.Form.{Form}
+use Rattle.ha_config.specs.declared.config.Form.TheOpen.{Form-F}
+use Rattle.ha_config.specs.declared.config.Form.TheViews.{out-Form}
+use Rattle.ha_config.specs.declared.config.Form.TheFolds.{map-Form}
+use Rattle.ha_config.specs.declared.config.Form.TheVariants.{Items, Pairs as Fields, outs-Items, outs-Pairs}
+use Rattle.ha_sight.specs.Sight.{Sight}
+use Rattle.ha_config.specs.Words.{Text, Pairs}
+use Rattle.ha_sight.specs.Templates.{Meaning, all_of, pairs_of, form_step, data_of}
+use Rattle.ha_sight.specs.Calls.{forms_of, fields_of}
+use Rattle.ha_sight.proofs.Rolls.{data_of-out}
 use Rattle.script_step.proofs.EachLemmas.{each}
 
 module _ (sight : Sight) (env : Pairs) where

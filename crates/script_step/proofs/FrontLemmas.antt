@@ -2,8 +2,8 @@
 use Rattle.std.proofs.Common.{◌≡◌, ℕ, suc, Bool, true, false, List, [], ◌∷◌, ◌++◌, map, refl, sym, ap, ◌∙◌, subst}
 use Rattle.std.specs.Prelude.{Option, Some, None, is_some, slice_get, filter, nat_le, option_and_then, if◌then◌else◌}
 use Rattle.std.specs.Option.{option_map_or}
-use Rattle.ha_model.specs.declared.config.Action.{Action}
-use Rattle.ha_model.specs.Scripts.{Branch, flat}
+use Rattle.ha_config.specs.declared.config.Action.{Action}
+use Rattle.ha_sight.specs.Scripts.{Branch, flat}
 use Rattle.script_step.specs.declared.thread.Thread.{Thread}
 use Rattle.script_step.specs.declared.strand.Strand.{Strand}
 use Rattle.script_step.specs.declared.strand.Stage.{Stage}

@@ -3,23 +3,23 @@ use Rattle.std.proofs.Common.{◌≡◌, ℕ, zero, suc, ◌+◌, ◌-◌, ◌<�
 use Rattle.std.specs.Prelude.{Option, Some, None, Ok, slice_get, option_map, bytes_eq, nat_le, codes, if◌then◌else◌}
 use Rattle.std.specs.Option.{option_map_or}
 use Rattle.ha_value.specs.declared.value.Value.{Value}
-use Rattle.ha_model.specs.declared.template.Template.{Template}
-use Rattle.ha_model.specs.declared.config.Form.{Form}
-use Rattle.ha_model.specs.declared.config.RepeatKind.{RepeatKind}
-use Rattle.ha_model.specs.declared.config.Condition.{Condition}
-use Rattle.ha_model.specs.declared.config.Action.{Action}
-use Rattle.ha_model.specs.declared.config.ActionKind.{ActionKind}
-use Rattle.ha_model.specs.declared.config.ActionKind.TheOpen.{ActionKind-F}
-use Rattle.ha_model.specs.declared.config.ActionKind.TheViews.{out-Action}
-use Rattle.ha_model.specs.declared.config.ActionKind.TheFolds.{map-ActionKind}
-use Rattle.ha_model.specs.declared.journal.Item.{Item}
-use Rattle.ha_model.specs.Words.{Pairs}
-use Rattle.ha_model.specs.States.{Sight}
-use Rattle.ha_model.specs.Conditions.{hold_all}
-use Rattle.ha_model.specs.Calls.{Checked, count_of, forms_of}
-use Rattle.ha_model.specs.Scripts.{Branch, Spot, Scopes, Next, Meaning, Outcome, exec, gives, outer, flat, failed, on_checked, goes_into, chosen, in_order, looped, turns, count_loop, each_loop, while_loop, plain_turn, run_action}
-use Rattle.ha_model.proofs.Rolls.{run_action-out, run_kind-out}
-use Rattle.ha_model.proofs.EqualLemmas.{same-refl}
+use Rattle.ha_config.specs.declared.template.Template.{Template}
+use Rattle.ha_config.specs.declared.config.Form.{Form}
+use Rattle.ha_config.specs.declared.config.RepeatKind.{RepeatKind}
+use Rattle.ha_config.specs.declared.config.Condition.{Condition}
+use Rattle.ha_config.specs.declared.config.Action.{Action}
+use Rattle.ha_config.specs.declared.config.ActionKind.{ActionKind}
+use Rattle.ha_config.specs.declared.config.ActionKind.TheOpen.{ActionKind-F}
+use Rattle.ha_config.specs.declared.config.ActionKind.TheViews.{out-Action}
+use Rattle.ha_config.specs.declared.config.ActionKind.TheFolds.{map-ActionKind}
+use Rattle.ha_sight.specs.declared.item.Item.{Item}
+use Rattle.ha_config.specs.Words.{Pairs}
+use Rattle.ha_sight.specs.Sight.{Sight}
+use Rattle.ha_sight.specs.Conditions.{hold_all}
+use Rattle.ha_sight.specs.Calls.{Checked, count_of, forms_of}
+use Rattle.ha_sight.specs.Scripts.{Branch, Spot, Scopes, Next, Meaning, Outcome, exec, gives, outer, flat, failed, on_checked, goes_into, chosen, in_order, looped, turns, count_loop, each_loop, while_loop, plain_turn, run_action}
+use Rattle.ha_sight.proofs.Rolls.{run_action-out, run_kind-out}
+use Rattle.ha_config.proofs.EqualLemmas.{same-refl}
 use Rattle.script_step.specs.declared.fault.FieldFault.{FieldFault}
 use Rattle.script_step.specs.declared.thread.Rounds.{Rounds}
 use Rattle.script_step.specs.declared.thread.Turn.{Turn}

@@ -1,7 +1,7 @@
 -- The innermost block of which something is left, frame by frame.
 use Rattle.std.proofs.Common.{◌≡◌, ◌∙◌, ℕ, suc, ◌<◌, Bool, true, false, List, [], ◌∷◌, ◌++◌, length, refl, sym, ap, arith}
 use Rattle.std.specs.Prelude.{Option, Some, None, if◌then◌else◌}
-use Rattle.ha_model.specs.declared.config.Action.{Action}
+use Rattle.ha_config.specs.declared.config.Action.{Action}
 use Rattle.script_step.specs.declared.thread.Frame.{Frame}
 use Rattle.script_step.specs.declared.thread.Thread.{Thread}
 use Rattle.script_step.specs.Parts.{inner_list, list_in}

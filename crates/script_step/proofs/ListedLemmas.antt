@@ -2,12 +2,12 @@
 use Rattle.std.proofs.Common.{◌≡◌, ℕ, zero, suc, ◌<◌, ◌≤◌, ◌⊎◌, inl, inr, Bool, true, false, List, [], ◌∷◌, ◌++◌, length, map, refl, sym, ap, subst, ◌∙◌, arith, eqb-true}
 use Rattle.std.specs.Prelude.{Option, Some, None, not, ◌&&◌, is_some, nat_eq, slice_get, option_map, bytes_eq, find, filter, if◌then◌else◌}
 use Rattle.std.specs.Option.{option_map_or}
-use Rattle.ha_model.specs.declared.config.Action.{Action}
-use Rattle.ha_model.specs.declared.journal.Item.{Item}
-use Rattle.ha_model.specs.Words.{Pairs, comes_before}
-use Rattle.ha_model.specs.Scripts.{Branch, Spot, whole}
-use Rattle.ha_model.specs.Branches.{branches_of}
-use Rattle.ha_model.proofs.EqualLemmas.{same-refl}
+use Rattle.ha_config.specs.declared.config.Action.{Action}
+use Rattle.ha_sight.specs.declared.item.Item.{Item}
+use Rattle.ha_config.specs.Words.{Pairs, comes_before}
+use Rattle.ha_sight.specs.Scripts.{Branch, Spot, whole}
+use Rattle.ha_sight.specs.Branches.{branches_of}
+use Rattle.ha_config.proofs.EqualLemmas.{same-refl}
 use Rattle.script_step.specs.declared.thread.Thread.{Thread}
 use Rattle.script_step.specs.declared.strand.Strand.{Strand}
 use Rattle.script_step.specs.declared.strand.Stage.{Stage}

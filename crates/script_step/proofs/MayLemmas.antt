@@ -5,11 +5,11 @@ use Rattle.std.specs.List.{list_all}
 use Rattle.std.specs.Option.{option_map_or}
 use Rattle.std.proofs.lemmas.List.{append-nil}
 use Rattle.std.proofs.lemmas.Bool.{lt-ltb, le-ltb}
-use Rattle.ha_model.specs.declared.config.Action.{Action}
-use Rattle.ha_model.specs.declared.journal.Item.{Item}
-use Rattle.ha_model.specs.declared.journal.WaitEnd.{WaitEnd}
-use Rattle.ha_model.specs.Scripts.{Branch, Spot, Scopes, Ask, Outcome, Status, flat, ends, gives, add_inside, wait_value, woven, all_allowed, after_lists, each_on, joined_lists, side_by_side, side, on_side, front, past_front, is_deeper}
-use Rattle.ha_model.proofs.EqualLemmas.{same-refl}
+use Rattle.ha_config.specs.declared.config.Action.{Action}
+use Rattle.ha_sight.specs.declared.item.Item.{Item}
+use Rattle.ha_sight.specs.declared.waiting.WaitEnd.{WaitEnd}
+use Rattle.ha_sight.specs.Scripts.{Branch, Spot, Scopes, Ask, Outcome, Status, flat, ends, gives, add_inside, wait_value, woven, all_allowed, after_lists, each_on, joined_lists, side_by_side, side, on_side, front, past_front, is_deeper}
+use Rattle.ha_config.proofs.EqualLemmas.{same-refl}
 use Rattle.script_step.specs.declared.thread.Thread.{Thread}
 use Rattle.script_step.specs.declared.strand.End.{End}
 use Rattle.script_step.specs.declared.strand.Strand.{Strand}

@@ -5,11 +5,11 @@ use Rattle.std.specs.List.{list_any}
 use Rattle.std.specs.Option.{option_map_or}
 use Rattle.std.proofs.lemmas.Option.{get_or_from_slice_get, slice_get-get_or}
 use Rattle.ha_value.specs.declared.value.Value.{Value}
-use Rattle.ha_model.specs.declared.config.Form.{Form}
-use Rattle.ha_model.specs.States.{Sight}
-use Rattle.ha_model.specs.Words.{Text, Pairs, has_name, same}
-use Rattle.ha_model.specs.Templates.{data_of}
-use Rattle.ha_model.specs.Scripts.{Scopes, flat, add_inside, add_where_named, set_name, set_all}
+use Rattle.ha_config.specs.declared.config.Form.{Form}
+use Rattle.ha_sight.specs.Sight.{Sight}
+use Rattle.ha_config.specs.Words.{Text, Pairs, has_name, same}
+use Rattle.ha_sight.specs.Templates.{data_of}
+use Rattle.ha_sight.specs.Scripts.{Scopes, flat, add_inside, add_where_named, set_name, set_all}
 use Rattle.script_step.specs.Cuts.{add_at, cut, is_own, named_block, total}
 use Rattle.script_step.proofs.CutLemmas.{drop-plus}
 use Rattle.script_step.proofs.EachLemmas.{drop-at}

@@ -1,11 +1,11 @@
 -- The place behind a turn.
 use Rattle.std.proofs.Common.{◌≡◌, suc, ◌-◌, ◌<◌, ◌≤◌, true, false, List, [], ◌∷◌, ◌++◌, length, sym, ap, ◌∙◌, arith}
 use Rattle.std.specs.Prelude.{Some, option_map, codes}
-use Rattle.ha_model.specs.declared.config.Action.{Action}
-use Rattle.ha_model.specs.declared.config.Condition.{Condition}
-use Rattle.ha_model.specs.declared.journal.Item.{Item}
-use Rattle.ha_model.specs.States.{Sight}
-use Rattle.ha_model.specs.Scripts.{Branch, Spot, gives, outer}
+use Rattle.ha_config.specs.declared.config.Action.{Action}
+use Rattle.ha_config.specs.declared.config.Condition.{Condition}
+use Rattle.ha_sight.specs.declared.item.Item.{Item}
+use Rattle.ha_sight.specs.Sight.{Sight}
+use Rattle.ha_sight.specs.Scripts.{Branch, Spot, gives, outer}
 use Rattle.script_step.specs.declared.thread.Turn.{Turn}
 use Rattle.script_step.specs.declared.thread.Frame.{Frame}
 use Rattle.script_step.specs.declared.thread.Thread.{Thread}

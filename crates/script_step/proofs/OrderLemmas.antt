@@ -2,9 +2,9 @@
 use Rattle.std.proofs.Common.{◌≡◌, ℕ, ◌<◌, ◌⊎◌, inl, inr, Bool, true, false, List, [], ◌∷◌, map, refl, sym, ap, subst, ◌∙◌, arith}
 use Rattle.std.proofs.lemmas.Bool.Decides.{nat_tests}
 use Rattle.std.specs.Prelude.{nat_eq, nat_lt, filter, if◌then◌else◌}
-use Rattle.ha_model.specs.Scripts.{Branch}
-use Rattle.ha_model.specs.Words.{comes_before}
-use Rattle.ha_model.specs.Branches.{among, union, union_all}
+use Rattle.ha_sight.specs.Scripts.{Branch}
+use Rattle.ha_config.specs.Words.{comes_before}
+use Rattle.ha_sight.specs.Branches.{among, union, union_all}
 
 -- ---- the order
 

@@ -8,8 +8,8 @@ use Rattle.std.specs.Option.{option_map_or}
 use Rattle.ha_value.specs.declared.value.EntityId.{EntityId}
 use Rattle.ha_value.specs.declared.value.Value.{Value}
 use Rattle.ha_value.specs.declared.value.Value.TheViews.{out-Value}
-use Rattle.ha_model.specs.Words.{Text, Pairs, same, last_pair}
-use Rattle.ha_model.specs.Calls.{automation_at, automations_of, each_number_once, flag_or_true, flag_named, was_on, without_number}
+use Rattle.ha_config.specs.Words.{Text, Pairs, same, last_pair}
+use Rattle.ha_sight.specs.Calls.{automation_at, automations_of, each_number_once, flag_or_true, flag_named, was_on, without_number}
 use Rattle.script_step.specs.Own.{among, with_number}
 
 pub front-more : {X : Type 0} (xs : List X) (i : ℕ) (x : X) → i < length xs → x ≡ get_or xs i x → take (i + 1) xs ≡ take i xs ++ (x ∷ [])

@@ -4,14 +4,14 @@ use Rattle.std.specs.Prelude.{Option, Some, None, is_some, option_map, bytes_eq,
 use Rattle.std.specs.List.{list_any, list_all, starts_with}
 use Rattle.std.specs.Option.{option_map_or}
 use Rattle.std.proofs.lemmas.Bool.{ltb-true}
-use Rattle.ha_model.specs.declared.config.Action.{Action}
-use Rattle.ha_model.specs.declared.config.ActionKind.{ActionKind}
-use Rattle.ha_model.specs.declared.config.ActionKind.TheOpen.{ActionKind-F}
-use Rattle.ha_model.specs.declared.config.ActionKind.TheFolds.{map-ActionKind}
-use Rattle.ha_model.specs.declared.journal.Item.{Item}
-use Rattle.ha_model.specs.States.{Sight}
-use Rattle.ha_model.specs.Scripts.{Branch, Spot, Scopes, outer, Meaning, Outcome, Status, ends, gives, prefixed, exec, in_order, run_action, is_deeper, front, past_front, side, on_side, all_allowed, is_open, first_halt, halt_or, after_lists, each_on, joined_lists, side_by_side, lists_from}
-use Rattle.ha_model.proofs.Rolls.{run_action-out}
+use Rattle.ha_config.specs.declared.config.Action.{Action}
+use Rattle.ha_config.specs.declared.config.ActionKind.{ActionKind}
+use Rattle.ha_config.specs.declared.config.ActionKind.TheOpen.{ActionKind-F}
+use Rattle.ha_config.specs.declared.config.ActionKind.TheFolds.{map-ActionKind}
+use Rattle.ha_sight.specs.declared.item.Item.{Item}
+use Rattle.ha_sight.specs.Sight.{Sight}
+use Rattle.ha_sight.specs.Scripts.{Branch, Spot, Scopes, outer, Meaning, Outcome, Status, ends, gives, prefixed, exec, in_order, run_action, is_deeper, front, past_front, side, on_side, all_allowed, is_open, first_halt, halt_or, after_lists, each_on, joined_lists, side_by_side, lists_from}
+use Rattle.ha_sight.proofs.Rolls.{run_action-out}
 use Rattle.script_step.specs.declared.thread.Thread.{Thread}
 use Rattle.script_step.specs.declared.strand.End.{End}
 use Rattle.script_step.specs.declared.strand.Strand.{Strand}

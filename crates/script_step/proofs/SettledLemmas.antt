@@ -4,9 +4,9 @@ use Rattle.std.specs.Prelude.{Option, Some, None, is_some, option_map, nat_eq, n
 use Rattle.std.specs.List.{list_any}
 use Rattle.std.specs.Option.{option_map_or}
 use Rattle.std.proofs.lemmas.Bool.{ltb-true}
-use Rattle.ha_model.specs.declared.config.Action.{Action}
-use Rattle.ha_model.specs.Scripts.{Branch, Spot, Scopes, Outcome, Status, ends, prefixed, all_allowed, is_open, first_halt, each_on, joined_lists}
-use Rattle.ha_model.proofs.Rolls.{run_action-out}
+use Rattle.ha_config.specs.declared.config.Action.{Action}
+use Rattle.ha_sight.specs.Scripts.{Branch, Spot, Scopes, Outcome, Status, ends, prefixed, all_allowed, is_open, first_halt, each_on, joined_lists}
+use Rattle.ha_sight.proofs.Rolls.{run_action-out}
 use Rattle.script_step.specs.declared.thread.Turn.{Turn}
 use Rattle.script_step.specs.declared.thread.Thread.{Thread}
 use Rattle.script_step.specs.declared.strand.Strand.{Strand}

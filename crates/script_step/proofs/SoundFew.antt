@@ -2,13 +2,13 @@
 use Rattle.std.proofs.Common.{◌≡◌, ◌∙◌, ap, suc, Bool, true, refl, List, [], ◌∷◌, length, map, sym, subst}
 use Rattle.std.specs.Prelude.{◌&&◌, nat_lt}
 use Rattle.std.specs.List.{list_all}
-use Rattle.ha_model.specs.declared.config.Condition.{Condition}
-use Rattle.ha_model.specs.declared.config.Action.{Action}
-use Rattle.ha_model.specs.declared.config.ActionKind.{ActionKind}
-use Rattle.ha_model.specs.declared.config.ActionKind.TheOpen.{Action-F, ActionKind-F}
-use Rattle.ha_model.specs.declared.config.ActionKind.TheViews.{roll-ActionKind, roll-Action}
-use Rattle.ha_model.specs.declared.config.ActionKind.TheFolds.{ind-Action, fold-ActionKind, fold-roll-ActionKind, fold-roll-Action, map-ActionKind, map-Action}
-use Rattle.ha_model.specs.Sound.{all_true, are_sound_actions, are_sound_conditions, is_short, is_sound_action, is_sound_repeat, sound_kind_step}
+use Rattle.ha_config.specs.declared.config.Condition.{Condition}
+use Rattle.ha_config.specs.declared.config.Action.{Action}
+use Rattle.ha_config.specs.declared.config.ActionKind.{ActionKind}
+use Rattle.ha_config.specs.declared.config.ActionKind.TheOpen.{Action-F, ActionKind-F}
+use Rattle.ha_config.specs.declared.config.ActionKind.TheViews.{roll-ActionKind, roll-Action}
+use Rattle.ha_config.specs.declared.config.ActionKind.TheFolds.{ind-Action, fold-ActionKind, fold-roll-ActionKind, fold-roll-Action, map-ActionKind, map-Action}
+use Rattle.ha_config.specs.Sound.{all_true, are_sound_actions, are_sound_conditions, is_short, is_sound_action, is_sound_repeat, sound_kind_step}
 use Rattle.script_step.specs.Few.{all_few, few_kind_step, has_few_lists, is_few_action}
 use Rattle.script_step.proofs.SettledLemmas.{both}
 

@@ -1,10 +1,10 @@
 -- The parts of a span, added one after the other.
 use Rattle.std.proofs.Common.{◌≡◌, ◌∙◌, ap, ℕ, zero, suc, ◌+◌, ◌*◌, refl, List, [], ◌∷◌, drop, sym, arith}
 use Rattle.std.specs.Prelude.{Some, None, Ok, Err, ok_or, slice_get}
-use Rattle.ha_model.specs.declared.template.Template.{Template}
-use Rattle.ha_model.specs.States.{Sight}
-use Rattle.ha_model.specs.Words.{Pairs}
-use Rattle.ha_model.specs.Calls.{Checked, checked_map, checked_then, natural_of, no_duration, parts_of, text_for}
+use Rattle.ha_config.specs.declared.template.Template.{Template}
+use Rattle.ha_sight.specs.Sight.{Sight}
+use Rattle.ha_config.specs.Words.{Pairs}
+use Rattle.ha_sight.specs.Calls.{Checked, checked_map, checked_then, natural_of, no_duration, parts_of, text_for}
 use Rattle.script_step.specs.declared.fault.FieldFault.{FieldFault}
 use Rattle.script_step.specs.Fields.{IsCause}
 use Rattle.script_step.proofs.KindLemmas.{drop-get}

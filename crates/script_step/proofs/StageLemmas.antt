@@ -1,8 +1,8 @@
 -- What each stage means.
 use Rattle.std.proofs.Common.{◌≡◌, ℕ, List, [], ap, ◌∙◌}
 use Rattle.std.specs.Prelude.{Option, map}
-use Rattle.ha_model.specs.declared.config.Action.{Action}
-use Rattle.ha_model.specs.Scripts.{Branch, Spot, Scopes, Next, Outcome, flat, ends, delayed, waited, side_by_side}
+use Rattle.ha_config.specs.declared.config.Action.{Action}
+use Rattle.ha_sight.specs.Scripts.{Branch, Spot, Scopes, Next, Outcome, flat, ends, delayed, waited, side_by_side}
 use Rattle.script_step.specs.declared.strand.End.{End}
 use Rattle.script_step.specs.declared.strand.Strand.{Strand}
 use Rattle.script_step.specs.declared.strand.Stage.{Stage}

@@ -4,13 +4,13 @@ use Rattle.std.specs.Prelude.{Option, Some, None, slice_get, is_some, unwrap_or,
 use Rattle.std.specs.Option.{option_map_or}
 use Rattle.std.proofs.lemmas.List.{append-nil}
 use Rattle.std.proofs.lemmas.Bool.{lt-ltb}
-use Rattle.ha_model.specs.declared.config.Action.{Action}
-use Rattle.ha_model.specs.declared.journal.Item.{Item}
-use Rattle.ha_model.specs.declared.journal.WaitEnd.{WaitEnd}
-use Rattle.ha_model.specs.States.{Sight}
-use Rattle.ha_model.specs.Scripts.{Branch, Spot, Ask, Outcome, flat, gives, is_deeper, side, side_by_side}
-use Rattle.ha_model.proofs.EqualLemmas.{same-refl}
-use Rattle.ha_model.proofs.SideLemmas.{side-step}
+use Rattle.ha_config.specs.declared.config.Action.{Action}
+use Rattle.ha_sight.specs.declared.item.Item.{Item}
+use Rattle.ha_sight.specs.declared.waiting.WaitEnd.{WaitEnd}
+use Rattle.ha_sight.specs.Sight.{Sight}
+use Rattle.ha_sight.specs.Scripts.{Branch, Spot, Ask, Outcome, flat, gives, is_deeper, side, side_by_side}
+use Rattle.ha_config.proofs.EqualLemmas.{same-refl}
+use Rattle.ha_sight.proofs.SideLemmas.{side-step}
 use Rattle.script_step.specs.declared.thread.Thread.{Thread}
 use Rattle.script_step.specs.declared.strand.End.{End}
 use Rattle.script_step.specs.declared.strand.Strand.{Strand}

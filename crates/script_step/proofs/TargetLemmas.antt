@@ -6,10 +6,10 @@ use Rattle.std.proofs.lemmas.List.Splits.{slice_split_first}
 use Rattle.std.proofs.lemmas.Bool.Decides.{nat_tests}
 use Rattle.ha_value.specs.declared.value.EntityId.{EntityId}
 use Rattle.ha_value.specs.Ids.{read_entity}
-use Rattle.ha_model.specs.declared.template.Template.{Template}
-use Rattle.ha_model.specs.States.{Sight}
-use Rattle.ha_model.specs.Words.{Text, Pairs, without_blanks, parts_between_commas}
-use Rattle.ha_model.specs.Calls.{Checked, all_read, checked_map, checked_then, target_of, targets_of}
+use Rattle.ha_config.specs.declared.template.Template.{Template}
+use Rattle.ha_sight.specs.Sight.{Sight}
+use Rattle.ha_config.specs.Words.{Text, Pairs, without_blanks, parts_between_commas}
+use Rattle.ha_sight.specs.Calls.{Checked, all_read, checked_map, checked_then, target_of, targets_of}
 use Rattle.script_step.specs.declared.fault.FieldFault.{FieldFault}
 use Rattle.script_step.specs.Fields.{IsCause}
 use Rattle.script_step.proofs.EachLemmas.{each, Goes, goes-more, goes-fault, goes-all}

@@ -2,8 +2,8 @@
 use Rattle.std.proofs.Common.{◌≡◌, ℕ, zero, suc, Bool, ◌&&◌, true, false, List, [], ◌∷◌, ◌++◌, map, set, refl, sym, ap, ◌∙◌, rules}
 use Rattle.std.specs.Prelude.{Option, Some, None, slice_get, bytes_eq, nat_eq, option_map, option_and_then, if◌then◌else◌}
 use Rattle.std.specs.Option.{option_map_or}
-use Rattle.ha_model.specs.declared.config.Action.{Action}
-use Rattle.ha_model.specs.Scripts.{Branch, Scopes, Ask}
+use Rattle.ha_config.specs.declared.config.Action.{Action}
+use Rattle.ha_sight.specs.Scripts.{Branch, Scopes, Ask}
 use Rattle.script_step.specs.declared.strand.Strand.{Strand}
 use Rattle.script_step.specs.declared.strand.Stage.{Stage}
 use Rattle.script_step.specs.declared.strand.Stage.TheOpen.{Stage-F}

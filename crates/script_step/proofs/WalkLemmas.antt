@@ -1,7 +1,7 @@
 -- The way through some frames, and one more.
 use Rattle.std.proofs.Common.{◌≡◌, List, [], ◌∷◌, ◌++◌, refl}
-use Rattle.ha_model.specs.declared.config.Action.{Action}
-use Rattle.ha_model.specs.declared.config.Condition.{Condition}
+use Rattle.ha_config.specs.declared.config.Action.{Action}
+use Rattle.ha_config.specs.declared.config.Condition.{Condition}
 use Rattle.script_step.specs.declared.thread.Frame.{Frame}
 use Rattle.script_step.specs.Blocks.{Block}
 use Rattle.script_step.specs.Parts.{inner_list, inner_tests, list_in, tests_at, block_of, blocks_of}

@@ -1,9 +1,9 @@
 -- Scripts whose parallel blocks have few lists, so that a list has a number of 32 bits.
 use Rattle.std.specs.Prelude.{Bool, true, ◌&&◌, nat_lt, List, length}
 use Rattle.std.specs.List.{list_all}
-use Rattle.ha_model.specs.declared.config.Action.{Action}
-use Rattle.ha_model.specs.declared.config.ActionKind.TheOpen.{ActionKind-F}
-use Rattle.ha_model.specs.declared.config.ActionKind.TheFolds.{fold-Action}
+use Rattle.ha_config.specs.declared.config.Action.{Action}
+use Rattle.ha_config.specs.declared.config.ActionKind.TheOpen.{ActionKind-F}
+use Rattle.ha_config.specs.declared.config.ActionKind.TheFolds.{fold-Action}
 
 abbrev pub all_few : List Bool → Bool
 all_few bs = list_all (λ b. b) bs

@@ -1,7 +1,7 @@
 -- The fields of an action, valued: what a call that values one has to give.
 use Rattle.std.specs.Prelude.{◌≡◌, ℕ, List, [], ◌∷◌, ◌++◌, Option, Some, None, option_map, Result, Ok, Err}
-use Rattle.ha_model.specs.declared.faults.TplFault.{TplFault}
-use Rattle.ha_model.specs.Calls.{Checked, checked_map}
+use Rattle.ha_sight.specs.declared.faults.TplFault.{TplFault}
+use Rattle.ha_sight.specs.Calls.{Checked, checked_map}
 use Rattle.script_step.specs.declared.fault.FieldFault.{FieldFault}
 
 -- the value, or a fault exactly where there is none; want of memory is free

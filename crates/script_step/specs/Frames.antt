@@ -1,13 +1,13 @@
 -- What the frames of a run stand for.
 use Rattle.std.specs.Prelude.{◌≡◌, ℕ, ◌+◌, List, [], ◌∷◌, ◌++◌, Bool, Option, Some, option_map}
-use Rattle.ha_model.specs.declared.config.Action.{Action}
-use Rattle.ha_model.specs.declared.journal.Item.{Item}
-use Rattle.ha_model.specs.declared.journal.WaitAsk.{WaitAsk}
-use Rattle.ha_model.specs.declared.journal.WaitEnd.{WaitEnd}
-use Rattle.ha_model.specs.declared.steps.Progress.{Progress}
-use Rattle.ha_model.specs.Words.{Pairs}
-use Rattle.ha_model.specs.States.{Sight}
-use Rattle.ha_model.specs.Scripts.{Branch, Spot, Outcome, Ask, gives, prefixed, whole}
+use Rattle.ha_config.specs.declared.config.Action.{Action}
+use Rattle.ha_sight.specs.declared.item.Item.{Item}
+use Rattle.ha_sight.specs.declared.waiting.WaitAsk.{WaitAsk}
+use Rattle.ha_sight.specs.declared.waiting.WaitEnd.{WaitEnd}
+use Rattle.ha_sight.specs.declared.steps.Progress.{Progress}
+use Rattle.ha_config.specs.Words.{Pairs}
+use Rattle.ha_sight.specs.Sight.{Sight}
+use Rattle.ha_sight.specs.Scripts.{Branch, Spot, Outcome, Ask, gives, prefixed, whole}
 use Rattle.script_step.specs.declared.frames.Frames.{Frames}
 use Rattle.script_step.specs.Continuation.{Began, continuation, placed, may_step, asks}
 use Rattle.script_step.specs.Sides.{end_of, progress_by}

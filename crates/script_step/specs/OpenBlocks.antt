@@ -1,6 +1,6 @@
 -- The innermost block of which something is left.
 use Rattle.std.specs.Prelude.{ℕ, suc, Bool, ◌||◌, nat_lt, is_some, length, List, [], ◌∷◌, Option, Some, None, if◌then◌else◌}
-use Rattle.ha_model.specs.declared.config.Action.{Action}
+use Rattle.ha_config.specs.declared.config.Action.{Action}
 use Rattle.script_step.specs.declared.thread.Frame.{Frame}
 use Rattle.script_step.specs.declared.thread.Thread.{Thread}
 use Rattle.script_step.specs.Parts.{inner_list}

@@ -1,13 +1,13 @@
 -- The lists that stand in an action, and the open blocks of a thread, which are named by where they stand.
 use Rattle.std.specs.Prelude.{ℕ, zero, suc, ◌-◌, List, [], ◌∷◌, drop, Option, None, slice_get, option_map}
 use Rattle.std.specs.Option.{option_map_or}
-use Rattle.ha_model.specs.declared.config.Condition.{Condition}
-use Rattle.ha_model.specs.declared.config.RepeatKind.{RepeatKind}
-use Rattle.ha_model.specs.declared.config.Action.{Action}
-use Rattle.ha_model.specs.declared.config.ActionKind.{ActionKind}
-use Rattle.ha_model.specs.declared.config.ActionKind.TheOpen.{ActionKind-F}
-use Rattle.ha_model.specs.declared.config.ActionKind.TheViews.{out-ActionKind, out-Action}
-use Rattle.ha_model.specs.Scripts.{Loop, count_loop, each_loop, while_loop, until_loop}
+use Rattle.ha_config.specs.declared.config.Condition.{Condition}
+use Rattle.ha_config.specs.declared.config.RepeatKind.{RepeatKind}
+use Rattle.ha_config.specs.declared.config.Action.{Action}
+use Rattle.ha_config.specs.declared.config.ActionKind.{ActionKind}
+use Rattle.ha_config.specs.declared.config.ActionKind.TheOpen.{ActionKind-F}
+use Rattle.ha_config.specs.declared.config.ActionKind.TheViews.{out-ActionKind, out-Action}
+use Rattle.ha_sight.specs.Scripts.{Loop, count_loop, each_loop, while_loop, until_loop}
 use Rattle.script_step.specs.declared.thread.Rounds.{Rounds}
 use Rattle.script_step.specs.declared.thread.Turn.{Turn}
 use Rattle.script_step.specs.declared.thread.Frame.{Frame}

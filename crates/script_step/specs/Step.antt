@@ -1,14 +1,13 @@
 -- What a step has to give.
 use Rattle.std.specs.Prelude.{◌≡◌, ℕ, ◌-◌, List, [], ◌∷◌, ◌++◌, true, ◌||◌, map, codes, Option, Some, length, if◌then◌else◌}
-use Rattle.ha_model.specs.declared.config.Action.{Action}
-use Rattle.ha_model.specs.declared.config.ActionKind.{ActionKind}
-use Rattle.ha_model.specs.declared.config.ActionKind.TheOpen.{ActionKind-F}
-use Rattle.ha_model.specs.declared.config.ActionKind.TheFolds.{fold-ActionKind, map-ActionKind}
-use Rattle.ha_model.specs.declared.journal.Item.{Item}
-use Rattle.ha_model.specs.declared.journal.WaitEnd.{WaitEnd}
-use Rattle.ha_model.specs.States.{Sight}
-use Rattle.ha_model.specs.Scripts.{Branch, Spot, Outcome, Ask, add_inside, side_by_side, wait_value, Meaning as ActionMeaning}
-use Rattle.ha_model.specs.Scripts.{Status, ends, exec, gives, goes_into, looped, kind_step, action_step, run_action}
+use Rattle.ha_config.specs.declared.config.Action.{Action}
+use Rattle.ha_config.specs.declared.config.ActionKind.{ActionKind}
+use Rattle.ha_config.specs.declared.config.ActionKind.TheOpen.{ActionKind-F}
+use Rattle.ha_config.specs.declared.config.ActionKind.TheFolds.{fold-ActionKind, map-ActionKind}
+use Rattle.ha_sight.specs.declared.item.Item.{Item}
+use Rattle.ha_sight.specs.declared.waiting.WaitEnd.{WaitEnd}
+use Rattle.ha_sight.specs.Sight.{Sight}
+use Rattle.ha_sight.specs.Scripts.{Branch, Spot, Outcome, Ask, add_inside, side_by_side, wait_value, Meaning as ActionMeaning, Status, ends, exec, gives, goes_into, looped, kind_step, action_step, run_action}
 use Rattle.script_step.specs.declared.fault.FieldFault.{FieldFault}
 use Rattle.script_step.specs.declared.thread.Rounds.{Rounds}
 use Rattle.script_step.specs.declared.thread.Frame.{Frame}

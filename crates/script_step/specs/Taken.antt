@@ -1,5 +1,5 @@
 -- What a step gave, however its wait is kept.
-use Rattle.ha_model.specs.declared.steps.StepOut.{StepOut}
+use Rattle.ha_sight.specs.declared.steps.StepOut.{StepOut}
 use Rattle.script_step.specs.declared.taken.Taken.{Taken}
 
 abbrev pub out_of : Taken → StepOut

@@ -1,8 +1,8 @@
 -- What a step tells of the gates behind it.
 use Rattle.std.specs.Prelude.{◌≡◌, ◌≢◌, ℕ, ◌+◌, ◌⊎◌, [], ◌∷◌, Some, option_map}
-use Rattle.ha_model.specs.declared.journal.WaitAsk.{WaitAsk}
-use Rattle.ha_model.specs.declared.steps.StepOut.{StepOut}
-use Rattle.ha_model.specs.Scripts.{Ask, Branch}
+use Rattle.ha_sight.specs.declared.waiting.WaitAsk.{WaitAsk}
+use Rattle.ha_sight.specs.declared.steps.StepOut.{StepOut}
+use Rattle.ha_sight.specs.Scripts.{Ask, Branch}
 use Rattle.script_step.specs.Gates.{Fronts, Gate, gate_at}
 
 -- a gate of a branch is free, or is that of the branch that stepped, or stood there before

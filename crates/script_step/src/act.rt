@@ -1,9 +1,9 @@
 //! One action is done: each kind by its step.
 ghost use Rattle.std.specs.Prelude.{◌≡◌, ◌≤◌, ◌<◌, List, Option, IfOk, Some, OnOk, OnErr, length, true};
 ghost use Rattle.ha_clock.specs.Local.{last_moment};
-ghost use Rattle.ha_model.specs.declared.config.Action.{Action};
-ghost use Rattle.ha_model.specs.declared.config.ActionKind.TheOpen.{ActionKind-F};
-ghost use Rattle.ha_model.specs.Scripts.{Branch, Next, Scopes, Spot, called, gives};
+ghost use Rattle.ha_config.specs.declared.config.Action.{Action};
+ghost use Rattle.ha_config.specs.declared.config.ActionKind.TheOpen.{ActionKind-F};
+ghost use Rattle.ha_sight.specs.Scripts.{Branch, Next, Scopes, Spot, called, gives};
 ghost use Rattle.script_step.specs.declared.thread.Thread.{Thread};
 ghost use Rattle.script_step.specs.Continuation.{Began, own_list, thread_next};
 ghost use Rattle.script_step.specs.Sides.{is_fresh, is_plain, is_whole};
@@ -19,10 +19,9 @@ use crate::sides::parallel;
 use crate::spans::{span_of, spans_of};
 use crate::strand::{End, Stage};
 use crate::thread::Thread;
-use ha_model::{
-    Action, ActionKind, Answers, Condition, Form, Item, Many, Plain, SpanForm, Template, TplFault,
-    Word,
-};
+use ha_config::{Action, ActionKind, Condition, Form, SpanForm, Template};
+use ha_sight::{Answers, Item, TplFault};
+use ha_value::{Many, Plain, Word};
 use std::alloc::{AllocError, Global};
 
 /// The code's number of a fault, and how the run ends by it.

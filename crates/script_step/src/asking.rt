@@ -2,7 +2,7 @@
 ghost use Rattle.std.specs.Prelude.{◌≡◌, ◌≤◌, [], None, IfOk, option_map};
 ghost use Rattle.std.specs.Option.{option_copied, option_map_or};
 ghost use Rattle.ha_clock.specs.Local.{last_moment};
-ghost use Rattle.ha_model.specs.Scripts.{flat};
+ghost use Rattle.ha_sight.specs.Scripts.{flat};
 ghost use Rattle.script_step.specs.Continuation.{ask_in, asks, last_action, test_in, triggers_in};
 ghost use Rattle.script_step.specs.Parts.{kind_of};
 ghost use Rattle.script_step.specs.Frames.{asked_by};
@@ -12,7 +12,10 @@ use crate::parts::{before, list_in};
 use crate::step::side_list;
 use crate::strand::{Stage, Strand};
 use crate::thread::Thread;
-use ha_model::{Action, ActionKind, Branch, Many, Moment, Plain, Span, Template, Trigger, WaitAsk};
+use ha_clock::{Moment, Span};
+use ha_config::{Action, ActionKind, Template, Trigger};
+use ha_sight::{Branch, WaitAsk};
+use ha_value::{Many, Plain};
 use std::alloc::{AllocError, Global};
 
 /// The template of a wait.

@@ -1,14 +1,16 @@
 //! The option that is chosen, and variables that are set.
 ghost use Rattle.std.specs.Prelude.{◌≡◌, None, Some, IfOk, IfErr, OnOk, option_map};
-ghost use Rattle.ha_model.specs.Scripts.{flat, set_all, set_name};
-ghost use Rattle.ha_model.specs.Templates.{data_of};
-ghost use Rattle.ha_model.specs.declared.faults.TplFault.{TplFault};
+ghost use Rattle.ha_sight.specs.Scripts.{flat, set_all, set_name};
+ghost use Rattle.ha_sight.specs.Templates.{data_of};
+ghost use Rattle.ha_sight.specs.declared.faults.TplFault.{TplFault};
 ghost use Rattle.script_step.specs.Turns.{first_holding};
 
 use crate::fields::all_hold;
 use crate::forms::{data_of, name_of};
 use crate::scopes::Scopes;
-use ha_model::{Action, Answers, Condition, Env, Form, Many, TplFault, Value, Word};
+use ha_config::{Action, Condition, Form};
+use ha_sight::{Answers, Env, TplFault};
+use ha_value::{Many, Value, Word};
 use std::alloc::{AllocError, Global};
 
 /// The first option whose conditions all hold, else their number.

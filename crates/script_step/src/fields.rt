@@ -1,16 +1,16 @@
 //! The item of a call, and conditions.
 ghost use Rattle.std.specs.Prelude.{◌≡◌, IfOk, ok_or};
-ghost use Rattle.ha_model.specs.Conditions.{hold_all};
-ghost use Rattle.ha_model.specs.Calls.{call_item, checked_call, fields_of, template_fault};
+ghost use Rattle.ha_sight.specs.Conditions.{hold_all};
+ghost use Rattle.ha_sight.specs.Calls.{call_item, checked_call, fields_of, template_fault};
 ghost use Rattle.script_step.specs.Fields.{Checks};
 
 use crate::fault::FieldFault;
 use crate::forms::fields_of;
 use crate::own::item_of;
 use crate::targets::{service_of, targets_of};
-use ha_model::{
-    Answers, Condition, EntityId, Env, Form, Item, Many, Template, TplFault, Value, Word,
-};
+use ha_config::{Condition, Form, Template};
+use ha_sight::{Answers, Env, Item, TplFault};
+use ha_value::{EntityId, Many, Value, Word};
 use std::alloc::{AllocError, Global};
 
 /// The values of a call's data.

@@ -1,12 +1,15 @@
 //! The texts of templates, and the values of forms.
 ghost use Rattle.std.specs.Prelude.{◌≡◌, List, Option, Some, option_map};
 ghost use Rattle.ha_value.specs.declared.value.Value.{Value};
-ghost use Rattle.ha_model.specs.Words.{Pairs, Text};
-ghost use Rattle.ha_model.specs.Templates.{as_data, data_of, rendered};
-ghost use Rattle.ha_model.specs.Calls.{fields_of, forms_of};
+ghost use Rattle.ha_config.specs.Words.{Pairs, Text};
+ghost use Rattle.ha_sight.specs.Values.{as_data};
+ghost use Rattle.ha_sight.specs.Templates.{data_of, rendered};
+ghost use Rattle.ha_sight.specs.Calls.{fields_of, forms_of};
 ghost use Rattle.script_step.specs.Fields.{Gives, Puts};
 
-use ha_model::{Answers, Env, Form, Many, Plain, Template, TplFault, Value, Word, as_data};
+use ha_config::{Form, Template};
+use ha_sight::{Answers, Env, TplFault, as_data};
+use ha_value::{Many, Plain, Value, Word};
 use std::alloc::Global;
 
 /// The rendered text of a template.

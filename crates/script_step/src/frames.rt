@@ -1,6 +1,6 @@
 //! The frames of a run: where its script stands.
 ghost use Rattle.std.specs.Prelude.{◌≡◌, List, ◌∷◌, [], true, IfOk};
-ghost use Rattle.ha_model.specs.declared.config.Action.{Action};
+ghost use Rattle.ha_config.specs.declared.config.Action.{Action};
 ghost use Rattle.script_step.specs.Few.{has_few_lists};
 ghost use Rattle.script_step.specs.Sides.{end_of, first_stage, first_thread, is_settled, progress_by};
 
@@ -14,7 +14,10 @@ use crate::step::step_here;
 use crate::strand::{End, Stage, Strand};
 use crate::taken::Taken;
 use crate::thread::Thread;
-use ha_model::{Action, Answers, Branch, Ended, Env, Many, Moment, Progress, WaitEnd};
+use ha_clock::Moment;
+use ha_config::Action;
+use ha_sight::{Answers, Branch, Ended, Env, Progress, WaitEnd};
+use ha_value::Many;
 use std::alloc::{AllocError, Global};
 use std::snapshot::Snapshot;
 
@@ -64,9 +67,9 @@ fn root_of(alloc: Global, actions: &Many<Action>, env: &Env) -> Result<Strand, A
 impl Frames {
     ghost use Rattle.std.specs.Prelude.{◌≤◌, ℕ, Option, option_and_then, option_map};
     ghost use Rattle.ha_clock.specs.Local.{last_moment};
-    ghost use Rattle.ha_model.specs.declared.journal.Item.{Item};
-    ghost use Rattle.ha_model.specs.Words.{Pairs};
-    ghost use Rattle.ha_model.specs.Scripts.{Spot, whole};
+    ghost use Rattle.ha_sight.specs.declared.item.Item.{Item};
+    ghost use Rattle.ha_config.specs.Words.{Pairs};
+    ghost use Rattle.ha_sight.specs.Scripts.{Spot, whole};
     ghost use Rattle.script_step.specs.Continuation.{Began, asks, placed};
     ghost use Rattle.script_step.specs.Frames.{asked_by, continues, may, progress_of, Stands, Steps};
     ghost use Rattle.script_step.specs.Gates.{due_of, first_fronts, fronts_of, gate_at};

@@ -1,12 +1,13 @@
 //! Whether a branch of a strand may step, and the due of its delay.
 ghost use Rattle.std.specs.Prelude.{◌≡◌, Option, is_some};
-ghost use Rattle.ha_model.specs.declared.journal.WaitEnd.{WaitEnd};
+ghost use Rattle.ha_sight.specs.declared.waiting.WaitEnd.{WaitEnd};
 ghost use Rattle.script_step.specs.Continuation.{may_step};
 ghost use Rattle.script_step.specs.Gates.{dues};
 
 use crate::step::side_list;
 use crate::strand::{Stage, Strand};
-use ha_model::{Action, Moment};
+use ha_clock::Moment;
+use ha_config::Action;
 
 /// Whether a branch of a strand may step, where its wait ended or did not.
 pub fn may_step(strand: &Strand, list: &[Action], path: &[u32], now: Moment, over: bool) -> bool

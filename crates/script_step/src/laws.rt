@@ -1,16 +1,16 @@
 //! Laws of frames and scripts.
 ghost use Rattle.std.specs.Prelude.{◌≡◌, ℕ, List, [], ◌∷◌, ◌++◌, Option, Some, true, filter, is_some, option_map, option_and_then};
-ghost use Rattle.ha_model.specs.declared.config.Action.{Action};
-ghost use Rattle.ha_model.specs.declared.journal.Item.{Item};
-ghost use Rattle.ha_model.specs.declared.journal.WaitEnd.{WaitEnd};
-ghost use Rattle.ha_model.specs.Words.{Pairs};
-ghost use Rattle.ha_model.specs.States.{Sight};
-ghost use Rattle.ha_model.specs.Scripts.{Ask, Branch, Spot, whole};
+ghost use Rattle.ha_config.specs.declared.config.Action.{Action};
+ghost use Rattle.ha_sight.specs.declared.item.Item.{Item};
+ghost use Rattle.ha_sight.specs.declared.waiting.WaitEnd.{WaitEnd};
+ghost use Rattle.ha_config.specs.Words.{Pairs};
+ghost use Rattle.ha_sight.specs.Sight.{Sight};
+ghost use Rattle.ha_sight.specs.Scripts.{Ask, Branch, Spot, whole};
 ghost use Rattle.script_step.specs.declared.frames.Frames.{Frames};
 ghost use Rattle.script_step.specs.Frames.{ask_of, began_by, begins, continues, may, Stands, Steps};
 ghost use Rattle.script_step.specs.Continuation.{Began};
-ghost use Rattle.ha_model.specs.Branches.{branches_of};
-ghost use Rattle.ha_model.specs.Sound.{are_sound_actions};
+ghost use Rattle.ha_sight.specs.Branches.{branches_of};
+ghost use Rattle.ha_config.specs.Sound.{are_sound_actions};
 ghost use Rattle.script_step.specs.Few.{has_few_lists};
 ghost use Rattle.script_step.specs.Gates.{fronts_of, gate_at, lets, open_branches, open_now, wait_of};
 ghost use Rattle.script_step.specs.Ready.{Ends, ready_of};

@@ -8,7 +8,10 @@ ghost use Rattle.script_step.specs.Sides.{all_settled, is_settled, standing};
 use crate::step::side_list;
 use crate::strand::{Stage, Strand};
 use crate::thread::Thread;
-use ha_model::{Action, Branch, Ended, Many, Moment, Plain};
+use ha_clock::Moment;
+use ha_config::Action;
+use ha_sight::{Branch, Ended};
+use ha_value::{Many, Plain};
 use std::alloc::{AllocError, Global};
 
 /// Adds a branch.

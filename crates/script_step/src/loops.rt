@@ -1,9 +1,9 @@
 //! A repeat begins.
 ghost use Rattle.std.specs.Prelude.{◌≡◌, ◌≤◌, ◌<◌, List, IfOk, true};
-ghost use Rattle.ha_model.specs.declared.config.Action.{Action};
-ghost use Rattle.ha_model.specs.declared.config.RepeatKind.{RepeatKind};
-ghost use Rattle.ha_model.specs.declared.config.ActionKind.TheOpen.{ActionKind-F};
-ghost use Rattle.ha_model.specs.States.{Sight};
+ghost use Rattle.ha_config.specs.declared.config.Action.{Action};
+ghost use Rattle.ha_config.specs.declared.config.RepeatKind.{RepeatKind};
+ghost use Rattle.ha_config.specs.declared.config.ActionKind.TheOpen.{ActionKind-F};
+ghost use Rattle.ha_sight.specs.Sight.{Sight};
 ghost use Rattle.script_step.specs.Sides.{is_plain};
 ghost use Rattle.script_step.specs.Step.{Does, IsFirst};
 
@@ -14,7 +14,9 @@ use crate::spans::count_of;
 use crate::strand::Stage;
 use crate::thread::{Rounds, Thread, Turn};
 use crate::turns::hold_in_turn;
-use ha_model::{Answers, Condition, Form, Item, Many, RepeatKind, Template, TplFault};
+use ha_config::{Condition, Form, RepeatKind, Template};
+use ha_sight::{Answers, Item, TplFault};
+use ha_value::Many;
 use std::alloc::{AllocError, Global};
 
 /// How many turns a `while` or `until` may take.

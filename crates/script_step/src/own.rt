@@ -2,12 +2,13 @@
 ghost use Rattle.std.specs.Prelude.{◌≡◌, ◌<◌, true, not, IfOk, OnOk, length, map, nat_lt, unwrap_or, codes, if◌then◌else◌};
 ghost use Rattle.std.specs.List.{list_all};
 ghost use Rattle.ha_value.specs.declared.value.Value.TheViews.{out-Value};
-ghost use Rattle.ha_model.specs.declared.journal.Item.{Item};
-ghost use Rattle.ha_model.specs.Words.{same};
-ghost use Rattle.ha_model.specs.Calls.{automations_of, flag_or_true, flag_named, item_of, switched_to, was_on};
+ghost use Rattle.ha_sight.specs.declared.item.Item.{Item};
+ghost use Rattle.ha_config.specs.Words.{same};
+ghost use Rattle.ha_sight.specs.Calls.{automations_of, flag_or_true, flag_named, item_of, switched_to, was_on};
 ghost use Rattle.script_step.specs.Own.{among, with_number};
 
-use ha_model::{Answers, EntityId, Item, Many, Value, Word};
+use ha_sight::{Answers, Item};
+use ha_value::{EntityId, Many, Value, Word};
 use std::alloc::{AllocError, Global};
 
 /// What a value says as a flag: what is no flag counts as true.

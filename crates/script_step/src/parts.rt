@@ -4,7 +4,8 @@ ghost use Rattle.std.specs.Option.{option_copied};
 ghost use Rattle.script_step.specs.Parts.{before, inner_list, inner_tests, kind_of, list_in, lists_in, part_in, tests_at, tests_in};
 
 use crate::thread::Frame;
-use ha_model::{Action, ActionKind, Condition, Many, RepeatKind};
+use ha_config::{Action, ActionKind, Condition, RepeatKind};
+use ha_value::Many;
 
 /// List `k` of an action that goes into a list.
 pub fn part_in(action: &Action, k: usize) -> &[Action]

@@ -1,11 +1,12 @@
 //! The variables of the open blocks.
 ghost use Rattle.std.specs.Prelude.{◌≡◌, ◌<◌, ◌≤◌, ◌-◌, ◌∷◌, [], ◌++◌, suc, length, take, drop, Some, IfOk, IfSome, OnOk, if◌then◌else◌};
-ghost use Rattle.ha_model.specs.Words.{has_name};
-ghost use Rattle.ha_model.specs.Scripts.{flat, outer, add_inside, set_name};
+ghost use Rattle.ha_config.specs.Words.{has_name};
+ghost use Rattle.ha_sight.specs.Scripts.{flat, outer, add_inside, set_name};
 ghost use Rattle.script_step.specs.Cuts.{add_at, is_own, named_block, total};
 
 use crate::sizes::Sizes;
-use ha_model::{Env, Value, Word};
+use ha_sight::Env;
+use ha_value::{Value, Word};
 use std::alloc::{AllocError, Global};
 use std::marker::Model;
 
@@ -20,7 +21,7 @@ impl Model for Scopes {
     ghost use Rattle.std.specs.Prelude.{◌≡◌, length};
     ghost use Rattle.std.specs.Coded.{codes};
     ghost use Rattle.ha_value.specs.contracts.value.Value as v;
-    ghost use Rattle.ha_model.specs.Scripts.{Scopes};
+    ghost use Rattle.ha_sight.specs.Scripts.{Scopes};
     ghost use Rattle.script_step.specs.Cuts.{cut, total};
 
     ghost Value = { Scopes };

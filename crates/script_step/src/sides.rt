@@ -1,9 +1,9 @@
 //! The lists of a parallel block.
 ghost use Rattle.std.specs.Prelude.{◌≡◌, ◌⊎◌, List, Some, IfOk, map, true, false};
-ghost use Rattle.ha_model.specs.declared.config.Action.{Action};
-ghost use Rattle.ha_model.specs.declared.config.ActionKind.TheOpen.{ActionKind-F};
-ghost use Rattle.ha_model.specs.States.{Sight};
-ghost use Rattle.ha_model.specs.Scripts.{Branch, Spot};
+ghost use Rattle.ha_config.specs.declared.config.Action.{Action};
+ghost use Rattle.ha_config.specs.declared.config.ActionKind.TheOpen.{ActionKind-F};
+ghost use Rattle.ha_sight.specs.Sight.{Sight};
+ghost use Rattle.ha_sight.specs.Scripts.{Branch, Spot};
 ghost use Rattle.script_step.specs.declared.strand.Stage.{Stage};
 ghost use Rattle.script_step.specs.Continuation.{Began};
 ghost use Rattle.script_step.specs.Gates.{Gate, fronts_on, gate_at};
@@ -14,7 +14,9 @@ ghost use Rattle.script_step.specs.Step.{Does, thread_on};
 use crate::scopes::Scopes;
 use crate::strand::{End, Stage, Strand};
 use crate::thread::Thread;
-use ha_model::{Action, Item, Many};
+use ha_config::Action;
+use ha_sight::Item;
+use ha_value::Many;
 use std::alloc::{AllocError, Global};
 
 /// A list begins, with these variables and a block of its own.

@@ -1,12 +1,15 @@
 //! Spans and counts that are rendered.
 ghost use Rattle.std.specs.Prelude.{◌≡◌, ◌≤◌, ◌<◌, ◌*◌, true, Ok, Err, IfOk, IfSome, ok_or, option_and_then, slice_get};
-ghost use Rattle.ha_model.specs.Numbers.{is_in_range, read_number};
-ghost use Rattle.ha_model.specs.Calls.{checked_then, count_of, natural_in, natural_of, no_count, no_duration, part_lengths, parts_of, span_of, spans_of, text_for, turns_in, within_span};
+ghost use Rattle.ha_config.specs.Numbers.{is_in_range, read_number};
+ghost use Rattle.ha_sight.specs.Calls.{checked_then, count_of, natural_in, natural_of, no_count, no_duration, part_lengths, parts_of, span_of, spans_of, text_for, turns_in, within_span};
 ghost use Rattle.script_step.specs.Fields.{Checks};
 
 use crate::fault::FieldFault;
 use crate::targets::text_for;
-use ha_model::{Answers, Env, Num, Span, SpanForm, Template};
+use ha_clock::Span;
+use ha_config::{SpanForm, Template};
+use ha_sight::{Answers, Env};
+use ha_value::Num;
 use std::alloc::Global;
 
 /// A whole number that is not negative.

@@ -3,10 +3,10 @@ ghost use Rattle.std.specs.Prelude.{◌≡◌, ◌≤◌, ◌⊎◌, ℕ, ◌&&�
 ghost use Rattle.std.specs.Option.{option_map_or};
 ghost use Rattle.ha_value.specs.declared.value.Value.{Value};
 ghost use Rattle.ha_clock.specs.Local.{last_moment};
-ghost use Rattle.ha_model.specs.declared.config.Action.{Action};
-ghost use Rattle.ha_model.specs.declared.journal.Item.{Item};
-ghost use Rattle.ha_model.specs.declared.journal.WaitEnd.{WaitEnd};
-ghost use Rattle.ha_model.specs.Scripts.{Branch, Spot, add_inside, wait_value};
+ghost use Rattle.ha_config.specs.declared.config.Action.{Action};
+ghost use Rattle.ha_sight.specs.declared.item.Item.{Item};
+ghost use Rattle.ha_sight.specs.declared.waiting.WaitEnd.{WaitEnd};
+ghost use Rattle.ha_sight.specs.Scripts.{Branch, Spot, add_inside, wait_value};
 ghost use Rattle.script_step.specs.declared.strand.Strand.{Strand};
 ghost use Rattle.script_step.specs.Continuation.{Began, continuation, has_next, last_action, lists_of, may_go_on, may_side, may_step, nth_list, placed, thread_next};
 ghost use Rattle.script_step.specs.Gates.{Gate, fronts, fronts_from, fronts_on, gate_at};
@@ -23,7 +23,9 @@ use crate::sides::finished;
 use crate::strand::{End, Stage, Strand};
 use crate::thread::Thread;
 use crate::turns::named;
-use ha_model::{Action, ActionKind, Answers, Item, Many, Num, Value, WaitEnd, Word};
+use ha_config::{Action, ActionKind};
+use ha_sight::{Answers, Item, WaitEnd};
+use ha_value::{Many, Num, Value, Word};
 use std::alloc::{AllocError, Global};
 
 /// The next action, or the place behind a turn.

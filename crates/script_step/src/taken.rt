@@ -1,6 +1,6 @@
 //! What one step of a script gave.
 use crate::held::Held;
-use ha_model::{Item, Progress, WaitAsk};
+use ha_sight::{Item, Progress, WaitAsk};
 
 /// As `StepOut`, with a wait in memory of its own.
 #[derive(Drop)]

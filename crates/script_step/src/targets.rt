@@ -2,14 +2,15 @@
 ghost use Rattle.std.specs.Prelude.{◌≡◌, ◌+◌, ◌<◌, List, [], Some, Ok, Err, IfSome, drop, is_some, length, nat_eq, position, if◌then◌else◌};
 ghost use Rattle.ha_value.specs.declared.value.EntityId.{EntityId};
 ghost use Rattle.ha_value.specs.Ids.{read_entity};
-ghost use Rattle.ha_model.specs.Words.{parts_between_commas, without_blanks};
-ghost use Rattle.ha_model.specs.Calls.{Checked, all_read, entities_in, no_service, service_of, target_of, targets_of, text_for};
+ghost use Rattle.ha_config.specs.Words.{parts_between_commas, without_blanks};
+ghost use Rattle.ha_sight.specs.Calls.{Checked, all_read, entities_in, no_service, service_of, target_of, targets_of, text_for};
 ghost use Rattle.script_step.specs.Fields.{Checks, Gives, Joins, Puts};
 
 use crate::fault::FieldFault;
 use crate::forms::text_of;
-use ha_model::{Answers, EntityId, Env, Many, Template, TplFault, Word};
-use ha_value::{EntityFault, trim_blanks};
+use ha_config::Template;
+use ha_sight::{Answers, Env, TplFault};
+use ha_value::{EntityFault, EntityId, Many, Word, trim_blanks};
 use std::alloc::Global;
 
 /// The rendered text of a field.

@@ -2,7 +2,7 @@
 ghost use Rattle.std.specs.Prelude.{◌<◌, ◌≤◌};
 
 use crate::scopes::Scopes;
-use ha_model::{Many, Value};
+use ha_value::{Many, Value};
 
 /// How often a repeat takes a turn.
 #[derive(Drop)]

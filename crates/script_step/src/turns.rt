@@ -1,15 +1,17 @@
 //! The turns of a repeat.
 ghost use Rattle.std.specs.Prelude.{◌≡◌, ◌≤◌, ◌∷◌, [], ◌++◌, List, Some, None, true, codes, IfOk, OnOk, suc, slice_get, unwrap_or};
 ghost use Rattle.ha_value.specs.declared.value.Value.{Value};
-ghost use Rattle.ha_model.specs.Conditions.{hold_all};
-ghost use Rattle.ha_model.specs.Scripts.{flat, plain_turn};
+ghost use Rattle.ha_sight.specs.Conditions.{hold_all};
+ghost use Rattle.ha_sight.specs.Scripts.{flat, plain_turn};
 ghost use Rattle.script_step.specs.Parts.{loop_by};
 ghost use Rattle.script_step.specs.Turns.{turn_more, turn_value};
 
 use crate::fields::all_hold;
 use crate::scopes::Scopes;
 use crate::thread::{Rounds, Thread, Turn};
-use ha_model::{Answers, Condition, Many, Num, Plain, Value, Word};
+use ha_config::Condition;
+use ha_sight::Answers;
+use ha_value::{Many, Num, Plain, Value, Word};
 use std::alloc::{AllocError, Global};
 
 /// A pair with this name.

@@ -1,6 +1,6 @@
 //! Choices, blocks and parallel lists, with what ends them.
 use crate::play::goes;
-use ha_model::Progress;
+use ha_sight::Progress;
 
 #[test]
 fn the_first_option_that_holds_is_chosen(rt: HostRuntime) {

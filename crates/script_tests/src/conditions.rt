@@ -1,7 +1,9 @@
 //! Conditions, on the states and at the moment of a place.
 use crate::home::{home_of, tell, utc, view_of};
 use cond_eval::{View, test};
-use ha_model::{Condition, Env, Many, TriggerData, Value, Word};
+use ha_config::Condition;
+use ha_sight::{Env, TriggerData};
+use ha_value::{Many, Value, Word};
 use std::alloc::{AllocError, Global};
 
 /// The variables of a run whose trigger has the id 7.

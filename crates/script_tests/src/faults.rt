@@ -1,6 +1,6 @@
 //! Fields that fail, each with its code, and what calls and the engine's own services give.
 use crate::play::goes;
-use ha_model::Progress;
+use ha_sight::Progress;
 use std::alloc::Global;
 
 /// Whether the first step of each of these scripts fails so, and the run with it.

@@ -1,12 +1,12 @@
 //! A home of one automation, and what a place in it sees.
 ghost use Rattle.std.specs.Prelude.{IfOk, IfSome};
-ghost use Rattle.ha_model.specs.Sound.{IsSoundConfig};
+ghost use Rattle.ha_config.specs.Sound.{IsSoundConfig};
 
 use cond_eval::View;
 use conf_auto::read_config;
 use flow_line::read_cmd;
 use ha_clock::{Moment, Zone};
-use ha_model::{Cmd, Config};
+use ha_config::{Cmd, Config};
 use state_table::StateTable;
 use std::alloc::{AllocError, Global};
 

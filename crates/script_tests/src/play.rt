@@ -1,14 +1,15 @@
 //! A run of a test takes its steps.
 ghost use Rattle.std.specs.Prelude.{◌≡◌, IfOk, true};
-ghost use Rattle.ha_model.specs.Sound.{IsSoundConfig, is_sound_automation};
+ghost use Rattle.ha_config.specs.Sound.{IsSoundConfig, is_sound_automation};
 
 use crate::home::{Home, home_of, tell, utc, view_of};
 use crate::said::is_said;
 use cond_eval::View;
-use ha_model::{
-    Action, Automation, Branch, Config, Ended, Env, Firing, Item, Many, Moment, Num, Plain,
-    Progress, TriggerData, Value, WaitAsk, WaitEnd, Word,
-};
+use ha_clock::Moment;
+use ha_config::{Action, Automation, Config};
+use ha_journal::Firing;
+use ha_sight::{Branch, Ended, Env, Item, Progress, TriggerData, WaitAsk, WaitEnd};
+use ha_value::{Many, Num, Plain, Value, Word};
 use script_step::{Frames, Held, Taken};
 use std::alloc::{AllocError, Global};
 use wait_set::Waits;

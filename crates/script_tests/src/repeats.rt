@@ -1,6 +1,6 @@
 //! Repeats of all kinds, and variables that are raised in them.
 use crate::play::{goes, idles};
-use ha_model::Progress;
+use ha_sight::Progress;
 
 #[test]
 fn a_script_that_counts_chooses_and_goes_over_a_list(rt: HostRuntime) {

@@ -1,9 +1,10 @@
 //! What a step of a test's run is said to have done, in short words.
 ghost use Rattle.std.specs.Prelude.{◌≡◌, true};
-ghost use Rattle.ha_model.specs.Entries as lem;
+ghost use Rattle.ha_sight.specs.Items as lem;
 
-use ha_model::{Branch, Item, Word};
+use ha_sight::{Branch, Item};
 use ha_texts::{call_line, empty_line};
+use ha_value::Word;
 use std::alloc::{AllocError, Global};
 
 /// The call line of an item, from a short form: a service, perhaps with its data behind it; or what stands behind the number of the call.

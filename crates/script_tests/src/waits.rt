@@ -1,6 +1,7 @@
 //! Delays, and waits with their ends and timeouts.
 use crate::play::goes;
-use ha_model::{Branch, Ended, Env, Many, Progress, WaitAsk};
+use ha_sight::{Branch, Ended, Env, Progress, WaitAsk};
+use ha_value::Many;
 use std::alloc::{AllocError, Global};
 use wait_set::Waits;
 

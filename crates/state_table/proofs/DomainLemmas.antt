@@ -5,11 +5,11 @@ use Rattle.std.specs.String.{string_bytes, string_cmp}
 use Rattle.std.specs.Cmp.Lexicographic.{slice_cmp}
 use Rattle.std.specs.BTreeMap.{BTreeMap, UpdatesBy, get_by, get_by_text}
 use Rattle.std.proofs.lemmas.Map.Text.{btree_map_updates_text}
-use Rattle.ha_model.specs.declared.journal.StateObject.{StateObject}
-use Rattle.ha_model.specs.Words.{Text, Pairs, same}
-use Rattle.ha_model.specs.Equal.{same_pairs}
-use Rattle.ha_model.specs.StateStep.{next_object}
-use Rattle.ha_model.proofs.EqualLemmas.{same-sound, same_pairs-sound}
+use Rattle.ha_sight.specs.declared.state.StateObject.{StateObject}
+use Rattle.ha_config.specs.Words.{Text, Pairs, same}
+use Rattle.ha_config.specs.Equal.{same_pairs}
+use Rattle.ha_sight.specs.StateStep.{next_object}
+use Rattle.ha_config.proofs.EqualLemmas.{same-sound, same_pairs-sound}
 use Rattle.state_table.specs.Domain.{ChangesName, SaysTheSame}
 
 pub ok-then : {T E : Type 0} {P Q : Type 0} (r : Result T E) → (P → Q) → OnOk r P → OnOk r Q

@@ -1,4 +1,3 @@
 pub mod NameLemmas
-pub mod StateLaws
 pub mod DomainLemmas
 pub mod TableLemmas

@@ -1,6 +1,6 @@
 -- How a table changes at one entity, and which journals it then stands for.
-use Rattle.std.proofs.Common.{◌≡◌, ℕ, Bool, true, false, ◌&&◌, Option, subst, sym, refl, ap, ◌∙◌, nat_cmp}
-use Rattle.std.specs.Prelude.{Some, None, String, Result, IfOk, [], codes, is_some, not, option_map, if◌then◌else◌}
+use Rattle.std.proofs.Common.{◌≡◌, Bool, true, false, ◌&&◌, Option, subst, sym, refl, ap, ◌∙◌, nat_cmp}
+use Rattle.std.specs.Prelude.{Some, None, String, Result, IfOk, is_some, if◌then◌else◌}
 use Rattle.std.specs.BTreeMap.{BTreeMap, IsEmpty, get_by_text, is_at}
 use Rattle.std.specs.Map.{lookup}
 use Rattle.std.specs.Cmp.Lexicographic.{slice_cmp}
@@ -8,18 +8,11 @@ use Rattle.std.specs.String.{string_bytes}
 use Rattle.ha_value.specs.declared.value.EntityId.{EntityId}
 use Rattle.ha_value.specs.Ids.{entity_text, for_id}
 use Rattle.ha_value.specs.Lists.{after_first}
-use Rattle.ha_model.specs.declared.journal.Cmd.{Cmd}
-use Rattle.ha_model.specs.declared.journal.Entry.TheVariants.{Line}
-use Rattle.ha_model.specs.declared.journal.StateObject.{StateObject}
-use Rattle.ha_model.specs.Words.{Text, Pairs, same, same_entity}
-use Rattle.ha_model.specs.Journal.{Journal, automations, now}
-use Rattle.ha_model.specs.RecordSteps.{more}
-use Rattle.ha_model.specs.StateStep.{next_object}
-use Rattle.ha_model.specs.States.{automation_named, of_automation, reported, states}
-use Rattle.ha_model.proofs.EqualLemmas.{same-refl, same-sound, entity-sound}
-use Rattle.ha_model.proofs.IdLemmas.{IsPlain, agrees, here, turns}
-use Rattle.state_table.specs.Anew.{is_automation, sets_anew}
-use Rattle.state_table.proofs.StateLaws.{states-report, states-gone, states-restart}
+use Rattle.ha_sight.specs.declared.state.StateObject.{StateObject}
+use Rattle.ha_config.specs.Words.{Text, same, same_entity}
+use Rattle.ha_config.proofs.EqualLemmas.{same-refl, same-sound, entity-sound}
+use Rattle.ha_config.proofs.IdLemmas.{IsPlain, agrees, here, turns}
+use Rattle.state_table.specs.Anew.{is_automation}
 
 get_by_text-empty : {X Y : Type 0} (m : BTreeMap (String Y) X) → IsEmpty m → (q : Text) → get_by_text m q ≡ None
 get_by_text-empty m empty q = ap (lookup (is_at (λ k. slice_cmp nat_cmp q (string_bytes k)))) empty
@@ -31,43 +24,6 @@ ok-along r f a b e h = subst (λ o. IfOk r (λ x. x ≡ f o)) e h
 
 abbrev pub Seen : Type 0
 Seen = EntityId → Option StateObject
-
-module _ (old new : Seen) (entity : EntityId) where
-  abbrev pub Changes : Option StateObject → Type 0
-  Changes w = (q : EntityId) → new q ≡ (if same_entity entity q then w else old q)
-
-  pub stands-report : (text : Text) (attributes : Pairs) (at : ℕ) → Changes (Some (next_object (old entity) text attributes at))
-      → (j : Journal) (k n : ℕ) → ((q : EntityId) → old q ≡ states j q) → is_automation entity ≡ false
-      → at ≡ now (more j (Line k n (Cmd.Report entity text attributes)))
-      → (q : EntityId) → new q ≡ states (more j (Line k n (Cmd.Report entity text attributes))) q
-  stands-report text attributes at c j k n stands other is q = c q ∙ by (same_entity entity q) refl ∙ sym (states-report j q entity k n other text attributes)
-    where
-      by : (b : Bool) → same_entity entity q ≡ b → (if b then Some (next_object (old entity) text attributes at) else old q)
-          ≡ (if b then Some (next_object (states j q) text attributes (now (more j (Line k n (Cmd.Report entity text attributes))))) else states j q)
-      by true h = (λ i. Some (next_object ((ap old (entity-sound entity q h) ∙ stands q) i) text attributes (is i)))
-      by false h = stands q
-
-  pub stands-gone : Changes None → (j : Journal) (k n : ℕ) → ((q : EntityId) → old q ≡ states j q) → is_automation entity ≡ false
-      → (q : EntityId) → new q ≡ states (more j (Line k n (Cmd.Gone entity))) q
-  stands-gone c j k n stands other q = c q ∙ (λ i. if same_entity entity q then None else stands q i) ∙ sym (states-gone j q entity k n other)
-
-  pub stands-switch : (object : StateObject) → Changes (Some object)
-      → (j : Journal) (left : EntityId → Bool) → ((q : EntityId) → left q ≡ false → old q ≡ states j q) → states j entity ≡ Some object
-      → (q : EntityId) → (left q && not (same_entity entity q)) ≡ false → new q ≡ states j q
-  stands-switch object c j left stands is q out = c q ∙ by (same_entity entity q) refl
-    where
-      kept : (a b : Bool) → (a && not b) ≡ false → b ≡ false → a ≡ false
-      kept true true h k = k
-      kept true false h k = h
-      kept false b h k = refl
-
-      by : (b : Bool) → same_entity entity q ≡ b → (if b then Some object else old q) ≡ states j q
-      by true h = sym is ∙ ap (states j) (entity-sound entity q h)
-      by false h = stands q (kept (left q) (same_entity entity q) out h)
-
-pub stands-clear : (new : Seen) → ((q : EntityId) → new q ≡ None) → (j : Journal) (k n : ℕ)
-    → (q : EntityId) → sets_anew j (Line k n Cmd.Restart) q ≡ false → new q ≡ states (more j (Line k n Cmd.Restart)) q
-stands-clear new empty j k n q out = empty q ∙ sym (states-restart j q k n out)
 
 -- ---- the states of automations by name, and of all others by id
 
@@ -134,10 +90,3 @@ empty-seen automations others a o q = by (is_automation q) (after_first 46 q.dom
     by true dot = get_by_text-empty automations a q.object
     by false (Some rest) = refl
     by false None = get_by_text-empty others o (entity_text q)
-
-pub states-empty : (e : EntityId) → states [] e ≡ None
-states-empty e = by (same e.domain (codes "automation"))
-  where
-    by : (b : Bool) → (if b then option_map (of_automation []) (automation_named (automations []) e.object) else reported [] e) ≡ None
-    by true = refl
-    by false = refl

@@ -1,10 +1,10 @@
 -- What a report changes, and how a map with text keys changes at one key.
 use Rattle.std.specs.Prelude.{◌≡◌, Option, Some, None, String, if◌then◌else◌}
 use Rattle.std.specs.BTreeMap.{BTreeMap, get_by_text}
-use Rattle.ha_model.specs.declared.journal.StateObject.{StateObject}
-use Rattle.ha_model.specs.declared.steps.Change.{Change}
-use Rattle.ha_model.specs.Words.{Text, Pairs, same}
-use Rattle.ha_model.specs.Equal.{same_pairs}
+use Rattle.ha_sight.specs.declared.state.StateObject.{StateObject}
+use Rattle.ha_sight.specs.declared.state.Change.{Change}
+use Rattle.ha_config.specs.Words.{Text, Pairs, same}
+use Rattle.ha_config.specs.Equal.{same_pairs}
 
 -- what a report of a text and attributes changes in the state before it
 abbrev pub change_of : Option StateObject → Text → Pairs → Change

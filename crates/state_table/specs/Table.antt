@@ -1,26 +1,16 @@
 -- What a table of states says, and which journals it stands for.
-use Rattle.std.specs.Prelude.{◌≡◌, Bool, false, Option, None, if◌then◌else◌}
+use Rattle.std.specs.Prelude.{◌≡◌, Option, None, if◌then◌else◌}
 use Rattle.std.specs.BTreeMap.{get_by_text}
 use Rattle.ha_value.specs.declared.value.EntityId.{EntityId}
 use Rattle.ha_value.specs.Ids.{for_id}
-use Rattle.ha_model.specs.declared.journal.StateObject.{StateObject}
-use Rattle.ha_model.specs.Words.{same_entity}
-use Rattle.ha_model.specs.Journal.{Journal}
-use Rattle.ha_model.specs.States.{states}
+use Rattle.ha_sight.specs.declared.state.StateObject.{StateObject}
+use Rattle.ha_config.specs.Words.{same_entity}
 use Rattle.state_table.specs.Anew.{is_automation}
 use Rattle.state_table.specs.declared.table.StateTable.{StateTable}
 
 -- the state of an entity in the table: that of an automation by its name, that of another entity by its id as it is written
 abbrev pub at : StateTable → EntityId → Option StateObject
 at t e = if is_automation e then get_by_text t.automations e.object else for_id None (get_by_text t.others) e
-
--- the table stands for a journal: it has the states after it
-abbrev pub StandsFor : StateTable → Journal → Type 0
-StandsFor t j = (e : EntityId) → at t e ≡ states j e
-
--- it stands for the journal but for the entities that are left
-abbrev pub StandsBut : (EntityId → Bool) → StateTable → Journal → Type 0
-StandsBut left t j = (e : EntityId) → left e ≡ false → at t e ≡ states j e
 
 -- the new table has this at the entity, and is as the old one at the others
 abbrev pub ChangesAt : StateTable → StateTable → EntityId → Option StateObject → Type 0

@@ -1,13 +1,13 @@
 //! States by name: automations by theirs, all other entities by their ids.
 ghost use Rattle.std.specs.Prelude.{◌≡◌, None, Some, IfOk, OnErr, OnOk, is_some, string_bytes};
 ghost use Rattle.std.specs.BTreeMap.{get_by_text};
-ghost use Rattle.ha_model.specs.StateStep.{next_object as next_object_lem};
+ghost use Rattle.ha_sight.specs.StateStep.{next_object as next_object_lem};
 ghost use Rattle.state_table.specs.Domain.{change_of, ChangesName, SaysTheSame};
 
-use ha_model::{
-    Change, Many, Moment, Plain, StateObject, Value, Word, copy_pairs, next_object, same_data,
-    same_text,
-};
+use ha_clock::Moment;
+use ha_config::{same_data, same_text};
+use ha_sight::{Change, StateObject, next_object};
+use ha_value::{Many, Plain, Value, Word, copy_pairs};
 use std::alloc::{AllocError, Global};
 use std::collections::BTreeMap;
 

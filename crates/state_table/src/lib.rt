@@ -2,7 +2,6 @@
 #![tactic(auto)]
 
 mod domain;
-pub mod laws;
 mod names;
 mod table;
 

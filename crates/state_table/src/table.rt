@@ -1,22 +1,18 @@
 //! The table of states.
-ghost use Rattle.std.specs.Prelude.{◌≡◌, ◌&&◌, not, true, false, ℕ, [], ◌∷◌, Bool, None, Some, codes, IfOk, MatchOption, OnErr, OnOk, is_some, option_and_then};
+ghost use Rattle.std.specs.Prelude.{◌≡◌, true, false, None, Some, codes, IfOk, MatchOption, OnErr, OnOk, is_some, option_and_then};
 ghost use Rattle.std.specs.Option.{option_copied};
 ghost use Rattle.ha_value.specs.declared.value.EntityId.{EntityId};
 ghost use Rattle.ha_value.specs.Ids.{IsParts, read_entity};
-ghost use Rattle.ha_model.specs.declared.journal.Cmd.{Cmd};
-ghost use Rattle.ha_model.specs.declared.journal.Entry.TheVariants.{Line};
-ghost use Rattle.ha_model.specs.Words.{same_entity};
-ghost use Rattle.ha_model.specs.Journal.{Journal, now as now_of};
-ghost use Rattle.ha_model.specs.RecordSteps.{more};
-ghost use Rattle.ha_model.specs.States.{states};
-ghost use Rattle.ha_model.specs.StateStep.{next_object};
+ghost use Rattle.ha_sight.specs.StateStep.{next_object};
 ghost use Rattle.state_table.specs.Domain.{change_of};
-ghost use Rattle.state_table.specs.Anew.{is_automation, sets_anew, switch_object};
-ghost use Rattle.state_table.specs.Table.{at, AgreesWith, ChangesAt, StandsBut, StandsFor};
+ghost use Rattle.state_table.specs.Anew.{is_automation, switch_object};
+ghost use Rattle.state_table.specs.Table.{at, AgreesWith, ChangesAt};
 
 use crate::domain::{Named, put_in, remove_from, report_in, report_over};
 use crate::names::parts_of;
-use ha_model::{Change, EntityId, Many, Moment, StateObject, Value, Word};
+use ha_clock::Moment;
+use ha_sight::{Change, StateObject};
+use ha_value::{EntityId, Many, Value, Word};
 use std::alloc::{AllocError, Global};
 use std::collections::BTreeMap;
 
@@ -41,8 +37,7 @@ fn automation_in(entity: &EntityId) -> Option<&str>
 impl StateTable {
     /// No states.
     pub fn make(alloc: Global) -> StateTable
-        ensures empty { (e : EntityId) → at result e ≡ None }
-        ensures stands { StandsFor result [] }
+        ensures { (e : EntityId) → at result e ≡ None }
     {
         StateTable {
             automations: BTreeMap::new(alloc),
@@ -100,9 +95,6 @@ impl StateTable {
     ) -> Result<Change, AllocError>
         ensures change { IfOk result (λ change. change ≡ change_of (at self.old entity.now) text.now attributes.now) }
         ensures ok { OnOk result (ChangesAt self.old self.new entity.now (Some (next_object (at self.old entity.now) text.now attributes.now now))) }
-        ensures stands { OnOk result ((j : Journal) (k n : ℕ) → StandsFor self.old j → is_automation entity.now ≡ false
-            → now ≡ now_of (more j (Line k n (Cmd.Report entity.now text.now attributes.now)))
-            → StandsFor self.new (more j (Line k n (Cmd.Report entity.now text.now attributes.now)))) }
         ensures err { OnErr result (AgreesWith self.old self.new) }
     {
         match automation_in(entity) {
@@ -129,9 +121,6 @@ impl StateTable {
     ) -> Result<Option<StateObject>, AllocError>
         ensures before { IfOk result (λ before. before ≡ at self.old entity.now) }
         ensures ok { OnOk result (ChangesAt self.old self.new entity.now (Some (next_object (at self.old entity.now) text.now attributes.now now))) }
-        ensures stands { OnOk result ((j : Journal) (k n : ℕ) → StandsFor self.old j → is_automation entity.now ≡ false
-            → now ≡ now_of (more j (Line k n (Cmd.Report entity.now text.now attributes.now)))
-            → StandsFor self.new (more j (Line k n (Cmd.Report entity.now text.now attributes.now)))) }
         ensures err { OnErr result (AgreesWith self.old self.new) }
     {
         match automation_in(entity) {
@@ -151,8 +140,6 @@ impl StateTable {
     pub fn gone(&mut self, entity: &EntityId) -> bool
         ensures found { result ≡ is_some (at self.old entity.now) }
         ensures rest { ChangesAt self.old self.new entity.now None }
-        ensures stands { (j : Journal) (k n : ℕ) → StandsFor self.old j → is_automation entity.now ≡ false
-            → StandsFor self.new (more j (Line k n (Cmd.Gone entity.now))) }
     {
         match automation_in(entity) {
             Some(name) => remove_from(&mut self.automations, name),
@@ -162,8 +149,7 @@ impl StateTable {
 
     /// A Restart takes all states away; the switches of the automations are then set one by one.
     pub fn clear(&mut self)
-        ensures empty { (e : EntityId) → at self.new e ≡ None }
-        ensures stands { (j : Journal) (k n : ℕ) → StandsBut (sets_anew j (Line k n Cmd.Restart)) self.new (more j (Line k n Cmd.Restart)) }
+        ensures { (e : EntityId) → at self.new e ≡ None }
     {
         self.automations.clear();
         self.others.clear();
@@ -179,9 +165,6 @@ impl StateTable {
         now: Moment,
     ) -> Result<(), AllocError>
         ensures ok { OnOk result (ChangesAt self.old self.new entity.now (Some (switch_object on now))) }
-        ensures stands { OnOk result ((j : Journal) (left : EntityId → Bool) → StandsBut left self.old j
-            → states j entity.now ≡ Some (switch_object on now)
-            → StandsBut (λ e. left e && not (same_entity entity.now e)) self.new j) }
         ensures err { OnErr result (AgreesWith self.old self.new) }
     {
         let object = switched(alloc, on, now)?;

@@ -15,9 +15,9 @@ use Rattle.serde_json.proofs.Views.{Entry}
 use Rattle.std.specs.Prelude.{String}
 use Rattle.std.specs.Map as maps
 use Rattle.std.specs.declared.alloc.Global.{Global}
-use Rattle.ha_model.specs.Words.{Text, comes_before}
-use Rattle.ha_model.specs.Commands.{keys_of}
-use Rattle.ha_model.specs.Sound.{are_in_name_order, IsSoundStore}
+use Rattle.ha_config.specs.Words.{Text, comes_before}
+use Rattle.ha_config.specs.ValueFacts.{keys_of}
+use Rattle.ha_config.specs.Sound.{are_in_name_order, IsSoundStore}
 use Rattle.store_text.specs.Store.{Switches, flags_of}
 
 abbrev step : Text → Option Bool → Option Switches → Option Switches

@@ -17,10 +17,10 @@ use Rattle.serde_json.specs.Read.{read, max_depth}
 use Rattle.serde_json.specs.Written.{compact_text, members_text, has_float, members_have_float}
 use Rattle.serde_json.proofs.OnLiterals.{serde_json_on_literals}
 use Rattle.ha_value.specs.Ids.{is_name, is_name_byte}
-use Rattle.ha_model.specs.Words.{Text, comes_before, same}
-use Rattle.ha_model.specs.Commands.{all_distinct, keys_of}
-use Rattle.ha_model.specs.Texts.{placed_by_name, in_name_order, switches_text, store_of}
-use Rattle.ha_model.specs.ValueText.{quoted, escaped_byte, comma_joined, pair_text, flag_text}
+use Rattle.ha_config.specs.Words.{Text, comes_before, same}
+use Rattle.ha_config.specs.ValueFacts.{all_distinct, keys_of}
+use Rattle.ha_config.specs.StoreText.{placed_by_name, in_name_order, switches_text, store_of}
+use Rattle.ha_config.specs.ValueText.{quoted, escaped_byte, comma_joined, pair_text, flag_text}
 use Rattle.store_text.specs.Store.{Switches, AreStorable, flags_of, put_all, of_data, or_second, store_data, switches_in}
 use Rattle.store_text.proofs.FlagLemmas.{is_lt-comes_before}
 

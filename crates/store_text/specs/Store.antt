@@ -8,8 +8,8 @@ use Rattle.serde_json.specs.Events.{members_len}
 use Rattle.serde_json.specs.Find.{as_bool, as_integer, as_number, as_object, get_member}
 use Rattle.serde_json.specs.Read.{read}
 use Rattle.ha_value.specs.Ids.{is_name}
-use Rattle.ha_model.specs.Words.{Text}
-use Rattle.ha_model.specs.Commands.{all_distinct, keys_of}
+use Rattle.ha_config.specs.Words.{Text}
+use Rattle.ha_config.specs.ValueFacts.{all_distinct, keys_of}
 
 -- names with their switches
 abbrev pub Switches : Type 0

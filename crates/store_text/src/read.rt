@@ -3,7 +3,7 @@ ghost use Rattle.std.specs.Prelude.{◌≡◌, IfErr, IfOk, IfSome, Ok, Err, Non
 ghost use Rattle.serde_json.specs.Find.{as_bool, as_number, as_object, get_member};
 ghost use Rattle.serde_json.specs.Errors.{IsMemory};
 ghost use Rattle.serde_json.specs.View.{members_view, number_view, view};
-ghost use Rattle.ha_model.specs.Sound.{IsSoundStore};
+ghost use Rattle.ha_config.specs.Sound.{IsSoundStore};
 ghost use Rattle.store_text.specs.Store.{flags_of, of_object, of_version_one, switches_in};
 ghost use Rattle.store_text.specs.Fault.{code_of};
 

@@ -1,7 +1,7 @@
 //! Writing a store text.
 ghost use Rattle.std.specs.Prelude.{◌≡◌, IfOk, Ok};
 ghost use Rattle.serde_json.specs.View.{members_view, view};
-ghost use Rattle.ha_model.specs.Texts.{in_name_order, store_of};
+ghost use Rattle.ha_config.specs.StoreText.{in_name_order, store_of};
 ghost use Rattle.store_text.specs.Store.{AreStorable, put_all, store_data, switches_in};
 
 use ha_value::Word;

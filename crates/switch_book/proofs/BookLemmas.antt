@@ -6,12 +6,12 @@ use Rattle.std.proofs.lemmas.List.{map-set}
 use Rattle.std.proofs.Math.Seq.{map-set_same}
 use Rattle.std.proofs.lemmas.Option.{slice_get-map}
 use Rattle.ha_value.specs.Ids.{is_name}
-use Rattle.ha_model.specs.declared.config.Automation.{Automation}
-use Rattle.ha_model.specs.declared.config.Config.{Config}
-use Rattle.ha_model.specs.Words.{Text, same}
-use Rattle.ha_model.specs.Commands.{all_distinct, keys_of}
-use Rattle.ha_model.specs.Sound.{IsSoundConfig, is_sound_automation, are_sound_actions}
-use Rattle.ha_model.specs.Switches.{stored_switch}
+use Rattle.ha_config.specs.declared.config.Automation.{Automation}
+use Rattle.ha_config.specs.declared.config.Config.{Config}
+use Rattle.ha_config.specs.Words.{Text, same}
+use Rattle.ha_config.specs.ValueFacts.{all_distinct, keys_of}
+use Rattle.ha_config.specs.Sound.{IsSoundConfig, is_sound_automation, are_sound_actions}
+use Rattle.ha_config.specs.Names.{stored_switch}
 use Rattle.store_text.specs.Store.{Switches, AreStorable}
 use Rattle.switch_book.specs.Book.{flags, names_of, restored}
 use Rattle.switch_book.proofs.SwitchLaws.{names-restored}

@@ -1,17 +1,18 @@
 -- What each call on the switches leaves stands for the journal with the entry.
 use Rattle.std.proofs.Common.{◌≡◌, ℕ, ◌∷◌, [], set, Bool, true, refl, sym, ap, ◌∙◌, Option}
 use Rattle.std.specs.Prelude.{Some, None, nat_eq, unwrap_or, slice_get, option_map, if◌then◌else◌}
-use Rattle.ha_model.specs.declared.config.Automation.{Automation}
-use Rattle.ha_model.specs.declared.config.Config.{Config}
-use Rattle.ha_model.specs.declared.journal.Cmd.{Cmd}
-use Rattle.ha_model.specs.declared.journal.Entry.TheVariants.{Boot, Line}
-use Rattle.ha_model.specs.Words.{Text}
-use Rattle.ha_model.specs.Commands.{all_distinct, keys_of}
-use Rattle.ha_model.specs.Journal.{Journal, HasEntry, automations}
-use Rattle.ha_model.specs.Switches.{initial_of, is_on, on_after}
-use Rattle.ha_model.specs.Sights.{switch_of}
-use Rattle.ha_model.specs.RecordSteps.{more}
-use Rattle.ha_model.specs.Texts.{store_of, store_text}
+use Rattle.ha_config.specs.declared.config.Automation.{Automation}
+use Rattle.ha_config.specs.declared.config.Config.{Config}
+use Rattle.ha_config.specs.declared.command.Cmd.{Cmd}
+use Rattle.ha_journal.specs.declared.entry.Entry.TheVariants.{Boot, Line}
+use Rattle.ha_config.specs.Words.{Text}
+use Rattle.ha_config.specs.ValueFacts.{all_distinct, keys_of}
+use Rattle.ha_journal.specs.Journal.{Journal, HasEntry, automations, more}
+use Rattle.ha_config.specs.Names.{initial_of}
+use Rattle.ha_journal.specs.Switches.{is_on, on_after}
+use Rattle.ha_journal.specs.Sights.{switch_of}
+use Rattle.ha_config.specs.StoreText.{store_of}
+use Rattle.ha_journal.specs.EntryText.{store_text}
 use Rattle.store_text.specs.Store.{Switches, AreStorable}
 use Rattle.switch_book.specs.Book.{flags, names_of, restored, StandsFor}
 use Rattle.switch_book.proofs.SwitchLaws.{boot-stands, more-stands, flags-of-journal, names-of-journal, get-set, named-one}

@@ -7,11 +7,11 @@ use Rattle.std.specs.Cmp.Lexicographic.{slice_cmp}
 use Rattle.std.proofs.lemmas.Cmp.{nat_list_cmp_total}
 use Rattle.std.proofs.lemmas.Map.Text.{is_eq-slice_cmp}
 use Rattle.std.proofs.lemmas.Slice.Eq.{bytes_eq-Decides}
-use Rattle.ha_model.specs.Words.{Text, same, comes_before}
-use Rattle.ha_model.specs.Commands.{all_distinct, keys_of}
-use Rattle.ha_model.specs.Switches.{stored_switch}
-use Rattle.ha_model.specs.Texts.{in_name_order, placed_by_name}
-use Rattle.ha_model.specs.Sound.{are_in_name_order}
+use Rattle.ha_config.specs.Words.{Text, same, comes_before}
+use Rattle.ha_config.specs.ValueFacts.{all_distinct, keys_of}
+use Rattle.ha_config.specs.Names.{stored_switch}
+use Rattle.ha_config.specs.StoreText.{in_name_order, placed_by_name}
+use Rattle.ha_config.specs.Sound.{are_in_name_order}
 use Rattle.store_text.specs.Store.{Switches}
 use Rattle.store_text.proofs.FlagLemmas.{is_lt-comes_before}
 use Rattle.store_text.proofs.OrderLemmas.{any-in_name_order, distinct-parts}

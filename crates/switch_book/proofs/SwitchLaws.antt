@@ -5,20 +5,20 @@ use Rattle.std.specs.List.{list_any, enumerate_from}
 use Rattle.std.specs.Option.{option_map_or}
 use Rattle.std.proofs.lemmas.Option.{slice_get-map}
 use Rattle.std.proofs.lemmas.Slice.Eq.{bytes_eq-Decides}
-use Rattle.ha_model.specs.declared.config.Automation.{Automation}
-use Rattle.ha_model.specs.declared.config.Config.{Config}
-use Rattle.ha_model.specs.declared.journal.Cmd.{Cmd}
-use Rattle.ha_model.specs.declared.journal.Entry.{Entry}
-use Rattle.ha_model.specs.declared.journal.Entry.TheVariants.{Boot, Line}
-use Rattle.ha_model.specs.Words.{Text, same}
-use Rattle.ha_model.specs.Commands.{all_distinct, keys_of}
-use Rattle.ha_model.specs.Journal.{Journal, HasEntry, automations}
-use Rattle.ha_model.specs.States.{switches_of}
-use Rattle.ha_model.specs.Sights.{switch_of}
-use Rattle.ha_model.specs.Switches.{stored_switch, switched, is_on, on_after, name_of}
-use Rattle.ha_model.specs.RecordSteps.{more}
-use Rattle.ha_model.proofs.RecordGrowth.{automations-more}
-use Rattle.ha_model.proofs.SwitchLemmas.{on-more}
+use Rattle.ha_config.specs.declared.config.Automation.{Automation}
+use Rattle.ha_config.specs.declared.config.Config.{Config}
+use Rattle.ha_config.specs.declared.command.Cmd.{Cmd}
+use Rattle.ha_journal.specs.declared.entry.Entry.{Entry}
+use Rattle.ha_journal.specs.declared.entry.Entry.TheVariants.{Boot, Line}
+use Rattle.ha_config.specs.Words.{Text, same}
+use Rattle.ha_config.specs.ValueFacts.{all_distinct, keys_of}
+use Rattle.ha_journal.specs.Journal.{Journal, HasEntry, automations, more}
+use Rattle.ha_journal.specs.States.{switches_of}
+use Rattle.ha_journal.specs.Sights.{switch_of}
+use Rattle.ha_config.specs.Names.{stored_switch, name_of}
+use Rattle.ha_journal.specs.Switches.{switched, is_on, on_after}
+use Rattle.ha_journal.proofs.MoreLemmas.{automations-more}
+use Rattle.ha_journal.proofs.SwitchLemmas.{on-more}
 use Rattle.store_text.specs.Store.{Switches}
 use Rattle.switch_book.specs.Book.{flags, names_of, opening, restored, StandsFor, set_each}
 

@@ -1,10 +1,10 @@
 -- Switches by automation, and which journals they stand for.
 use Rattle.std.specs.Prelude.{◌≡◌, Bool, true, ℕ, List, [], map, fold, slice_set, Option, unwrap_or}
-use Rattle.ha_model.specs.declared.config.Automation.{Automation}
-use Rattle.ha_model.specs.Words.{Text}
-use Rattle.ha_model.specs.Journal.{Journal}
-use Rattle.ha_model.specs.States.{switches_of}
-use Rattle.ha_model.specs.Switches.{stored_switch}
+use Rattle.ha_config.specs.declared.config.Automation.{Automation}
+use Rattle.ha_config.specs.Words.{Text}
+use Rattle.ha_journal.specs.Journal.{Journal}
+use Rattle.ha_journal.specs.States.{switches_of}
+use Rattle.ha_config.specs.Names.{stored_switch}
 use Rattle.store_text.specs.Store.{Switches}
 
 abbrev pub flags : Switches → List Bool

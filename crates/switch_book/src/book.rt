@@ -1,22 +1,23 @@
 //! Which automations are on.
 ghost use Rattle.std.specs.Prelude.{◌≡◌, ◌<◌, ℕ, Bool, [], ◌∷◌, not, IfOk, Ok, length, option_map, Some, slice_get, slice_set, unwrap_or};
 ghost use Rattle.std.specs.Option.{option_copied};
-ghost use Rattle.ha_model.specs.declared.config.Automation.{Automation as Rule};
-ghost use Rattle.ha_model.specs.declared.journal.Cmd.{Cmd};
-ghost use Rattle.ha_model.specs.declared.journal.Entry.TheVariants.{Boot, Line};
-ghost use Rattle.ha_model.specs.Words.{Text};
-ghost use Rattle.ha_model.specs.Commands.{keys_of};
-ghost use Rattle.ha_model.specs.Equal.{same_flag};
-ghost use Rattle.ha_model.specs.Journal.{HasEntry, Journal, automations};
-ghost use Rattle.ha_model.specs.RecordSteps.{more};
-ghost use Rattle.ha_model.specs.Sights.{switch_of};
-ghost use Rattle.ha_model.specs.Sound.{IsSoundConfig};
-ghost use Rattle.ha_model.specs.Switches.{initial_of, stored_switch};
-ghost use Rattle.ha_model.specs.Texts.{in_name_order, store_of, store_text as stored_text};
+ghost use Rattle.ha_config.specs.declared.config.Automation.{Automation as Rule};
+ghost use Rattle.ha_config.specs.declared.command.Cmd.{Cmd};
+ghost use Rattle.ha_journal.specs.declared.entry.Entry.TheVariants.{Boot, Line};
+ghost use Rattle.ha_config.specs.Words.{Text};
+ghost use Rattle.ha_config.specs.ValueFacts.{keys_of};
+ghost use Rattle.ha_config.specs.Equal.{same_flag};
+ghost use Rattle.ha_journal.specs.Journal.{HasEntry, Journal, automations, more};
+ghost use Rattle.ha_journal.specs.Sights.{switch_of};
+ghost use Rattle.ha_config.specs.Sound.{IsSoundConfig};
+ghost use Rattle.ha_config.specs.Names.{initial_of, stored_switch};
+ghost use Rattle.ha_config.specs.StoreText.{in_name_order, store_of};
+ghost use Rattle.ha_journal.specs.EntryText.{store_text as stored_text};
 ghost use Rattle.store_text.specs.Store.{switches_in};
 ghost use Rattle.switch_book.specs.Book.{StandsFor, flags, opening, restored};
 
-use ha_model::{Automation, Config, Many, Plain, Word, same_text};
+use ha_config::{Automation, Config, same_text};
+use ha_value::{Many, Plain, Word};
 use std::alloc::{AllocError, Global};
 use std::marker::Model;
 use store_text::write_store;

@@ -1,18 +1,18 @@
 //! Laws of the definitions alone. Each is a function that does nothing; its contract is the law.
 ghost use Rattle.std.specs.Prelude.{◌≡◌, ℕ, List, [], ◌∷◌, Bool, true, Option, Some, slice_get, option_map, unwrap_or, if◌then◌else◌, nat_eq};
-ghost use Rattle.ha_model.specs.declared.config.Automation.{Automation};
-ghost use Rattle.ha_model.specs.declared.config.Config.{Config};
-ghost use Rattle.ha_model.specs.declared.journal.Cmd.{Cmd};
-ghost use Rattle.ha_model.specs.declared.journal.Entry.{Entry};
-ghost use Rattle.ha_model.specs.declared.journal.Entry.TheVariants.{Boot, Line};
-ghost use Rattle.ha_model.specs.Words.{Text};
-ghost use Rattle.ha_model.specs.Commands.{all_distinct, keys_of};
-ghost use Rattle.ha_model.specs.Journal.{Journal, HasEntry, automations};
-ghost use Rattle.ha_model.specs.RecordSteps.{more};
-ghost use Rattle.ha_model.specs.Sights.{switch_of};
-ghost use Rattle.ha_model.specs.Switches.{on_after, stored_switch, switched};
-ghost use Rattle.ha_model.specs.Sound.{are_in_name_order};
-ghost use Rattle.ha_model.specs.Texts.{in_name_order};
+ghost use Rattle.ha_config.specs.declared.config.Automation.{Automation};
+ghost use Rattle.ha_config.specs.declared.config.Config.{Config};
+ghost use Rattle.ha_config.specs.declared.command.Cmd.{Cmd};
+ghost use Rattle.ha_journal.specs.declared.entry.Entry.{Entry};
+ghost use Rattle.ha_journal.specs.declared.entry.Entry.TheVariants.{Boot, Line};
+ghost use Rattle.ha_config.specs.Words.{Text};
+ghost use Rattle.ha_config.specs.ValueFacts.{all_distinct, keys_of};
+ghost use Rattle.ha_journal.specs.Journal.{Journal, HasEntry, automations, more};
+ghost use Rattle.ha_journal.specs.Sights.{switch_of};
+ghost use Rattle.ha_journal.specs.Switches.{on_after, switched};
+ghost use Rattle.ha_config.specs.Names.{stored_switch};
+ghost use Rattle.ha_config.specs.Sound.{are_in_name_order};
+ghost use Rattle.ha_config.specs.StoreText.{in_name_order};
 ghost use Rattle.store_text.specs.Store.{Switches};
 ghost use Rattle.switch_book.specs.Book.{StandsFor, flags, names_of, restored, set_each};
 

@@ -2,8 +2,8 @@
 use Rattle.std.proofs.Common.{◌≡◌, ◌∙◌, ap, sym, refl, arith, ℕ, zero, suc, ◌-◌, ◌*◌, ◌/◌, ◌<◌, Bool, true, false, ◌||◌, List}
 use Rattle.ha_clock.specs.Local.{second_of_day}
 use Rattle.ha_clock.specs.Passed.{holds_in, passes_second, passed_count}
-use Rattle.ha_model.specs.declared.config.TriggerRule.{TriggerRule}
-use Rattle.ha_model.specs.Triggers.{passed, second_fits}
+use Rattle.ha_config.specs.declared.config.TriggerRule.{TriggerRule}
+use Rattle.ha_sight.specs.Rules.{passed, second_fits}
 use Rattle.time_match.specs.Times.{has_times}
 
 -- the second that is looked at fits

@@ -11,8 +11,8 @@ use Rattle.ha_clock.specs.Digits.{pair}
 use Rattle.ha_clock.specs.Passed.{PassesSecond, passed_count, passes_second}
 use Rattle.ha_clock.specs.Zone.{fixed, posix, is_offset, offset_in, offset_of, offset_seconds, zone_of, zone_offset}
 use Rattle.ha_clock.proofs.PassedLemmas.{passes_second-PassesSecond}
-use Rattle.ha_model.specs.declared.config.TriggerRule.{TriggerRule}
-use Rattle.ha_model.specs.Triggers.{passed, second_fits}
+use Rattle.ha_config.specs.declared.config.TriggerRule.{TriggerRule}
+use Rattle.ha_sight.specs.Rules.{passed, second_fits}
 use Rattle.time_match.specs.Times.{HasTimeBack, is_steady}
 
 offset-is : (text : List ℕ) (offset : ℤ) (at : ℕ) → zone_of text ≡ Some (fixed offset) → zone_offset text at ≡ offset

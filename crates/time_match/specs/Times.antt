@@ -2,9 +2,9 @@
 use Rattle.std.specs.Prelude.{◌≡◌, ℕ, ◌+◌, ◌-◌, ◌%◌, ◌<◌, ◌≤◌, Bool, true, false, ◌||◌, codes}
 use Rattle.std.specs.Str.{bytes_eq}
 use Rattle.ha_clock.specs.Zone.{is_offset}
-use Rattle.ha_model.specs.declared.config.TriggerRule.{TriggerRule}
-use Rattle.ha_model.specs.Words.{Text}
-use Rattle.ha_model.specs.Triggers.{second_fits}
+use Rattle.ha_config.specs.declared.config.TriggerRule.{TriggerRule}
+use Rattle.ha_config.specs.Words.{Text}
+use Rattle.ha_sight.specs.Rules.{second_fits}
 
 -- the rule is one of times or a pattern
 abbrev pub has_times : TriggerRule → Bool

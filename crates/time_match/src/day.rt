@@ -1,12 +1,12 @@
 //! The times of a rule among the seconds of a day, found without a look at each second.
 ghost use Rattle.std.specs.Prelude.{◌≡◌, ◌≤◌, ◌<◌, ◌+◌, ◌/◌, ◌%◌, ◌&&◌, ◌↔◌, ℕ, IsTrue, false, nat_le, nat_lt};
 ghost use Rattle.std.specs.List.{list_any};
-ghost use Rattle.ha_model.specs.declared.config.TriggerRule.{TriggerRule};
-ghost use Rattle.ha_model.specs.Triggers.{second_fits};
+ghost use Rattle.ha_config.specs.declared.config.TriggerRule.{TriggerRule};
+ghost use Rattle.ha_sight.specs.Rules.{second_fits};
 ghost use Rattle.time_match.specs.Times.{HasTime, HasTimeBack};
 
 use crate::times::{fits_pattern, fits_unit};
-use ha_model::{TriggerRule, Unit};
+use ha_config::{TriggerRule, Unit};
 
 const DAY: u32 = 86_400;
 

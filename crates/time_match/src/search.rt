@@ -3,13 +3,13 @@
 ghost use Rattle.std.specs.Prelude.{◌≡◌, ◌≤◌, ◌<◌, ◌-◌, ◌*◌, ◌/◌, max};
 ghost use Rattle.ha_clock.specs.Local.{last_moment, second_of_day};
 ghost use Rattle.ha_clock.specs.Passed.{holds_in, passed_count};
-ghost use Rattle.ha_model.specs.Triggers.{passed, second_fits};
+ghost use Rattle.ha_sight.specs.Rules.{passed, second_fits};
 
 use crate::day::has_time_back;
 use crate::steady::is_steady;
 use crate::times::{has_times, is_time_of};
 use ha_clock::{Moment, Zone};
-use ha_model::TriggerRule;
+use ha_config::TriggerRule;
 
 /// The local second of the day at a whole second, which is counted from 1970 on.
 fn second_of_day(zone: &Zone, second: u64) -> u32

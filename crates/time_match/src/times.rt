@@ -1,10 +1,10 @@
 //! The times of a rule.
 ghost use Rattle.std.specs.Prelude.{◌≡◌, ◌/◌, ◌%◌, ◌&&◌, nat_eq};
 ghost use Rattle.std.specs.List.{list_any};
-ghost use Rattle.ha_model.specs.Triggers.{fits_unit, second_fits};
+ghost use Rattle.ha_sight.specs.Rules.{fits_unit, second_fits};
 ghost use Rattle.time_match.specs.Times.{has_times};
 
-use ha_model::{TriggerRule, Unit};
+use ha_config::{TriggerRule, Unit};
 
 /// Whether the number fits; `/0` fits 0 alone.
 pub(crate) fn fits_unit(unit: Unit, number: u32) -> bool

@@ -2,8 +2,8 @@
 use Rattle.std.proofs.Common.{◌≡◌, ℕ, zero, suc, ◌<◌, ◌≤◌, ◌⊎◌, inl, inr, true, false, List, [], ◌∷◌, length, map, refl, sym, ap, subst, ◌∙◌, arith, length-append}
 use Rattle.std.specs.Prelude.{Option, Some, None, Result, Ok, Err, slice_get, IsOk, IsErrAnd, IfSome, IsSomeAnd}
 use Rattle.ha_io.specs.Counts.{Rose}
-use Rattle.ha_model.specs.declared.journal.Entry.{Entry}
-use Rattle.ha_model.specs.Words.{Text}
+use Rattle.ha_journal.specs.declared.entry.Entry.{Entry}
+use Rattle.ha_config.specs.Words.{Text}
 use Rattle.store_text.specs.Store.{Switches, switches_in}
 use Rattle.conf_auto.specs.Config.{config_of}
 use Rattle.ha_status.specs.declared.status.Status.{Status}

@@ -3,8 +3,9 @@ use Rattle.std.proofs.Common.{◌≡◌, ◌⊎◌, inl, inr, ◌∙◌, ap, sym
 use Rattle.std.specs.Prelude.{Option, Some, None, IfSome, IsSomeAnd}
 use Rattle.std.specs.Option.{option_map}
 use Rattle.ha_io.specs.Told.{Takes}
-use Rattle.ha_model.specs.Words.{Text}
-use Rattle.ha_model.specs.Texts.{call_text, error_text}
+use Rattle.ha_config.specs.Words.{Text}
+use Rattle.ha_model.specs.Texts.{call_text}
+use Rattle.ha_journal.specs.EntryText.{error_text}
 use Rattle.ha_status.specs.declared.status.Status.{Status}
 use Rattle.ha_status.specs.Causes.{OneRose}
 use Rattle.ha_status.specs.Files.{Files}

@@ -2,8 +2,8 @@
 use Rattle.std.proofs.Common.{◌≡◌, ap, subst, refl, ℕ, inl, inr, true, false, Bool, [], ◌∷◌, length, map, arith, length-append}
 use Rattle.std.specs.Prelude.{Option, Some, None, IsSomeAnd}
 use Rattle.ha_io.specs.Counts.{Rose}
-use Rattle.ha_model.specs.Words.{Text}
-use Rattle.ha_model.specs.Journal.{Journal}
+use Rattle.ha_config.specs.Words.{Text}
+use Rattle.ha_journal.specs.Journal.{Journal}
 use Rattle.ha_model.specs.Records.{Records}
 use Rattle.ha_status.specs.declared.status.Status.{Status}
 use Rattle.ha_status.specs.Causes.{OneRose, OpenCause, ReadCause, WriteCause}

@@ -2,11 +2,12 @@
 use Rattle.std.proofs.Common.{◌≡◌, ◌∙◌, ap, sym, subst, inl, inr, true, Bool, List, [], append-nil}
 use Rattle.std.proofs.lemmas.Str.{is_utf8-from_IsUtf8}
 use Rattle.std.specs.Prelude.{Option, Some, None, IfSome, IsSomeAnd}
-use Rattle.ha_model.specs.Words.{Text}
-use Rattle.ha_model.specs.Journal.{HasEntry, Journal}
+use Rattle.ha_config.specs.Words.{Text}
+use Rattle.ha_journal.specs.Journal.{HasEntry, Journal}
 use Rattle.ha_model.specs.Lawful.{Lawful}
 use Rattle.ha_model.specs.Records.{Records}
-use Rattle.ha_model.specs.Texts.{call_text, error_text, trace_text}
+use Rattle.ha_model.specs.Texts.{call_text}
+use Rattle.ha_journal.specs.EntryText.{error_text, trace_text}
 use Rattle.bus_turn.specs.Buses.{HasTaken}
 use Rattle.bus_turn.specs.States.{SinkState}
 use Rattle.ha_status.specs.declared.status.Status.{Status}

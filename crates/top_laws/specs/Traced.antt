@@ -1,7 +1,7 @@
 -- Runs with their traces, and files that hold one.
 use Rattle.std.specs.Prelude.{◌≡◌, ◌≤◌, ◌++◌, [], length, Some, IfSome, IsSomeAnd}
 use Rattle.ha_io.specs.Told.{Takes}
-use Rattle.ha_model.specs.Words.{Text}
+use Rattle.ha_config.specs.Words.{Text}
 use Rattle.ha_status.specs.declared.status.Status.{Status}
 use Rattle.ha_status.specs.Causes.{OneRose}
 use Rattle.ha_status.specs.Written.{IsLineOf}

@@ -1,9 +1,10 @@
 //! Laws of the definitions alone. Each is a function that does nothing; its contract is the law.
 ghost use Rattle.std.specs.Prelude.{ℕ, ◌≡◌, ◌⊎◌};
-ghost use Rattle.ha_model.specs.Words.{Text};
-ghost use Rattle.ha_model.specs.Journal.{Journal};
+ghost use Rattle.ha_config.specs.Words.{Text};
+ghost use Rattle.ha_journal.specs.Journal.{Journal};
 ghost use Rattle.ha_model.specs.Records.{Records};
-ghost use Rattle.ha_model.specs.Texts.{call_text, error_text};
+ghost use Rattle.ha_model.specs.Texts.{call_text};
+ghost use Rattle.ha_journal.specs.EntryText.{error_text};
 ghost use Rattle.ha_status.specs.declared.status.Status.{Status};
 ghost use Rattle.ha_status.specs.Causes.{OneRose};
 ghost use Rattle.ha_words.specs.declared.plan.RunWords.{RunWords};

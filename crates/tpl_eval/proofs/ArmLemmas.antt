@@ -3,12 +3,12 @@ use Rattle.std.proofs.Common.{◌≡◌, ◌∙◌, ap, ℕ, zero, suc, ◌+◌,
 use Rattle.std.specs.Prelude.{Option, Some, None, Err, slice_get, option_map, option_and_then, unwrap_or, if◌then◌else◌}
 use Rattle.ha_value.specs.declared.value.Value.{Value}
 use Rattle.ha_value.specs.Truth.{truth}
-use Rattle.ha_model.specs.declared.faults.TplFault.{TplFault}
-use Rattle.ha_model.specs.declared.template.Expr.{Expr}
-use Rattle.ha_model.specs.declared.template.Template.{Template}
-use Rattle.ha_model.specs.States.{Sight}
-use Rattle.ha_model.specs.Words.{Text, Pairs}
-use Rattle.ha_model.specs.Templates.{choose_arm, pieces_of, value_of, TemplateMeaning}
+use Rattle.ha_sight.specs.declared.faults.TplFault.{TplFault}
+use Rattle.ha_config.specs.declared.template.Expr.{Expr}
+use Rattle.ha_config.specs.declared.template.Template.{Template}
+use Rattle.ha_sight.specs.Sight.{Sight}
+use Rattle.ha_config.specs.Words.{Text, Pairs}
+use Rattle.ha_sight.specs.Templates.{choose_arm, pieces_of, value_of, TemplateMeaning}
 use Rattle.tpl_fns.specs.Outcome.{Gives}
 use Rattle.tpl_eval.specs.Pieces.{arms_of, Chooses}
 

@@ -1,8 +1,8 @@
 -- Lists, and maps, of different lengths are not equal.
 use Rattle.std.proofs.Common.{◌≡◌, ap, suc, Bool, true, false, ◌&&◌, refl, List, [], ◌∷◌, length}
 use Rattle.ha_value.specs.declared.value.Value.{Value}
-use Rattle.ha_model.specs.Words.{Pairs, same}
-use Rattle.ha_model.specs.Equal.{equal_value}
+use Rattle.ha_config.specs.Words.{Pairs, same}
+use Rattle.ha_config.specs.Equal.{equal_value}
 use Rattle.tpl_eval.specs.Operators.{equal_items, equal_pairs}
 
 and_false : (a b : Bool) → false ≡ b → false ≡ (a && b)

@@ -4,12 +4,12 @@ use Rattle.std.proofs.lemmas.Bool.Decides.{nat_tests}
 use Rattle.std.specs.Prelude.{Option, Some, None, Err, Ok, nat_le, sum_by, option_map, option_and_then, if◌then◌else◌}
 use Rattle.ha_value.specs.declared.value.Value.{Value}
 use Rattle.ha_value.specs.declared.value.Value.TheVariants.{Items}
-use Rattle.ha_model.specs.declared.faults.TplFault.{TplFault}
-use Rattle.ha_model.specs.declared.template.Expr.{Expr}
-use Rattle.ha_model.specs.States.{Sight}
-use Rattle.ha_model.specs.Words.{Pairs}
-use Rattle.ha_model.specs.Templates.{value_of}
-use Rattle.ha_model.specs.Values.{bounded_items, most_values, size_of}
+use Rattle.ha_sight.specs.declared.faults.TplFault.{TplFault}
+use Rattle.ha_config.specs.declared.template.Expr.{Expr}
+use Rattle.ha_sight.specs.Sight.{Sight}
+use Rattle.ha_config.specs.Words.{Pairs}
+use Rattle.ha_sight.specs.Templates.{value_of}
+use Rattle.ha_sight.specs.Values.{bounded_items, most_values, size_of}
 use Rattle.tpl_fns.specs.Outcome.{Gives}
 use Rattle.tpl_eval.specs.Sizes.{left_of, PutsWithin}
 use Rattle.tpl_eval.proofs.ListLemmas.{continues-all, continues-at, continues-more, Continues, values}

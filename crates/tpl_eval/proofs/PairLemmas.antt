@@ -2,11 +2,11 @@
 use Rattle.std.proofs.Common.{◌≡◌, refl}
 use Rattle.std.specs.Prelude.{Option, Some, None, option_and_then}
 use Rattle.ha_value.specs.declared.value.Value.{Value}
-use Rattle.ha_model.specs.declared.template.Op.{Op}
-use Rattle.ha_model.specs.States.{Sight}
-use Rattle.ha_model.specs.Words.{Pairs}
-use Rattle.ha_model.specs.Values.{operate}
-use Rattle.ha_model.specs.Templates.{pair_step, Meaning}
+use Rattle.ha_config.specs.declared.template.Op.{Op}
+use Rattle.ha_sight.specs.Sight.{Sight}
+use Rattle.ha_config.specs.Words.{Pairs}
+use Rattle.ha_sight.specs.Values.{operate}
+use Rattle.ha_sight.specs.Templates.{pair_step, Meaning}
 use Rattle.tpl_eval.specs.Pairs.{paired}
 
 module _ (sight : Sight) where

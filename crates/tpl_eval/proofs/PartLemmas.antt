@@ -3,7 +3,7 @@ use Rattle.std.proofs.Common.{◌≡◌, ◌∙◌, ap, ℕ, Bool, true, false, 
 use Rattle.std.specs.Prelude.{◌↔◌}
 use Rattle.std.specs.Str.Iter.{HasSubslice}
 use Rattle.std.specs.Cmp.Lexicographic.{bytes_decides}
-use Rattle.ha_model.specs.Words.{Text, begins_with, is_part_of}
+use Rattle.ha_config.specs.Words.{Text, begins_with, is_part_of}
 use Rattle.tpl_fns.proofs.ReplaceLemmas.{begins, whole}
 
 or_left : (a b : Bool) → a ≡ true → (a || b) ≡ true

@@ -2,18 +2,18 @@
 use Rattle.std.proofs.Common.{◌≡◌, ◌∙◌, ap, ℕ, zero, suc, ◌+◌, ◌<◌, ◌≤◌, refl, List, [], ◌∷◌, ◌++◌, length, get_or, drop, map, sym, subst, arith, rules, drop-cons, append_assoc, append-nil, length-append}
 use Rattle.std.specs.Prelude.{Option, Some, None, Result, Ok, Err, option_map, option_and_then, unwrap_or}
 use Rattle.ha_value.specs.declared.value.Value.{Value}
-use Rattle.ha_model.specs.declared.faults.TplFault.{TplFault}
-use Rattle.ha_model.specs.declared.template.Expr.{Expr}
-use Rattle.ha_model.specs.declared.template.Template.{Template}
-use Rattle.ha_model.specs.declared.template.Piece.TheOpen.{Piece-F}
-use Rattle.ha_model.specs.declared.template.Piece.TheVariants.{Choice, outs-Choice}
-use Rattle.ha_model.specs.declared.template.Piece.TheViews.{out-Piece, out-Template}
-use Rattle.ha_model.specs.declared.template.Piece.TheFolds.{map-Piece}
-use Rattle.ha_model.proofs.Rolls.{pieces_of-out, piece-out}
-use Rattle.ha_model.specs.declared.template.Piece.{Piece}
-use Rattle.ha_model.specs.States.{Sight}
-use Rattle.ha_model.specs.Words.{Text, Pairs}
-use Rattle.ha_model.specs.Templates.{choose_arm, joined, piece_step, pieces_of, PieceMeaning, TemplateMeaning}
+use Rattle.ha_sight.specs.declared.faults.TplFault.{TplFault}
+use Rattle.ha_config.specs.declared.template.Expr.{Expr}
+use Rattle.ha_config.specs.declared.template.Template.{Template}
+use Rattle.ha_config.specs.declared.template.Piece.TheOpen.{Piece-F}
+use Rattle.ha_config.specs.declared.template.Piece.TheVariants.{Choice, outs-Choice}
+use Rattle.ha_config.specs.declared.template.Piece.TheViews.{out-Piece, out-Template}
+use Rattle.ha_config.specs.declared.template.Piece.TheFolds.{map-Piece}
+use Rattle.ha_sight.proofs.Rolls.{pieces_of-out, piece-out}
+use Rattle.ha_config.specs.declared.template.Piece.{Piece}
+use Rattle.ha_sight.specs.Sight.{Sight}
+use Rattle.ha_config.specs.Words.{Text, Pairs}
+use Rattle.ha_sight.specs.Templates.{choose_arm, joined, piece_step, pieces_of, PieceMeaning, TemplateMeaning}
 use Rattle.tpl_eval.specs.declared.page.Page.{Page}
 use Rattle.tpl_eval.specs.Pieces.{arms_of, behind, piece_of, Chooses, Sets, TooLong, Writes}
 use Rattle.tpl_eval.proofs.ArmLemmas.{get_here, get_past}

@@ -2,16 +2,16 @@
 use Rattle.std.proofs.Common.{◌≡◌, ◌∙◌, ap, ◌≤◌, true, List, [], ◌∷◌, ◌++◌, length, map, get_or, sym, arith, append-nil}
 use Rattle.std.specs.Prelude.{Option, Some, None, nat_le, option_map, option_and_then, if◌then◌else◌}
 use Rattle.std.proofs.lemmas.Bool.Decides.{nat_tests}
-use Rattle.ha_model.specs.declared.template.Template.{Template}
-use Rattle.ha_model.specs.declared.template.Piece.{Piece}
-use Rattle.ha_model.specs.declared.template.Piece.TheVariants.{outs-Text}
-use Rattle.ha_model.specs.declared.template.Piece.TheViews.{out-Template}
-use Rattle.ha_model.specs.declared.template.Piece.TheFolds.{map-Piece}
-use Rattle.ha_model.proofs.Rolls.{pieces_of-out, piece-out}
-use Rattle.ha_model.specs.States.{Sight}
-use Rattle.ha_model.specs.Values.{bounded}
-use Rattle.ha_model.specs.Words.{Text, Pairs, without_breaks}
-use Rattle.ha_model.specs.Templates.{joined, piece_step, pieces_of, rendered, PieceMeaning, TemplateMeaning}
+use Rattle.ha_config.specs.declared.template.Template.{Template}
+use Rattle.ha_config.specs.declared.template.Piece.{Piece}
+use Rattle.ha_config.specs.declared.template.Piece.TheVariants.{outs-Text}
+use Rattle.ha_config.specs.declared.template.Piece.TheViews.{out-Template}
+use Rattle.ha_config.specs.declared.template.Piece.TheFolds.{map-Piece}
+use Rattle.ha_sight.proofs.Rolls.{pieces_of-out, piece-out}
+use Rattle.ha_sight.specs.Sight.{Sight}
+use Rattle.ha_sight.specs.Values.{bounded}
+use Rattle.ha_config.specs.Words.{Text, Pairs, without_breaks}
+use Rattle.ha_sight.specs.Templates.{joined, piece_step, pieces_of, rendered, PieceMeaning, TemplateMeaning}
 use Rattle.tpl_eval.specs.Pieces.{piece_of}
 
 one : (ps : List Piece) (p : Piece) → length ps ≡ 1 → p ≡ get_or ps 0 p → ps ≡ p ∷ []

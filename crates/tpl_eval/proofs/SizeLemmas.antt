@@ -8,9 +8,9 @@ use Rattle.ha_value.specs.declared.value.Value.TheFolds.{fold_out-Value, map-Val
 use Rattle.ha_value.specs.declared.value.Value.TheOpen.{Value-F}
 use Rattle.ha_value.specs.declared.value.Value.TheViews.{out-Value}
 use Rattle.ha_value.specs.declared.value.Value.TheVariants.{Pairs as Map, outs-Pairs}
-use Rattle.ha_model.specs.Words.{Pairs}
+use Rattle.ha_config.specs.Words.{Pairs}
 use Rattle.tpl_eval.specs.Sizes.{left_of, pairs_size}
-use Rattle.ha_model.specs.Values.{size_of, size_step}
+use Rattle.ha_sight.specs.Values.{size_of, size_step}
 
 size-pairs : (ps : Pairs) → size_of (Map ps) ≡ suc (pairs_size ps)
 size-pairs ps =

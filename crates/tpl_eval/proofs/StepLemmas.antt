@@ -3,19 +3,19 @@ use Rattle.std.proofs.Common.{◌≡◌, ◌∙◌, ap, ℕ, Bool, true, false, 
 use Rattle.std.specs.Prelude.{Option, Some, None, Err, not, option_map, option_and_then, if◌then◌else◌}
 use Rattle.ha_value.specs.declared.value.Value.{Value}
 use Rattle.ha_value.specs.Truth.{truth}
-use Rattle.ha_model.specs.declared.faults.TplFault.{TplFault}
-use Rattle.ha_model.specs.declared.template.Op.{Op}
-use Rattle.ha_model.specs.declared.template.Expr.{Expr}
-use Rattle.ha_model.specs.declared.template.Expr.TheOpen.{Expr-F}
-use Rattle.ha_model.specs.declared.template.Expr.TheViews.{out-Expr}
-use Rattle.ha_model.specs.declared.template.Expr.TheFolds.{map-Expr}
-use Rattle.ha_model.specs.declared.template.Expr.TheVariants.{At, Field, Filter, IsNone, Pair, Pick, outs-At, outs-Field, outs-Filter, outs-IsNone, outs-Pair, outs-Pick}
-use Rattle.ha_model.specs.States.{Sight}
-use Rattle.ha_model.specs.Words.{Text, Pairs}
-use Rattle.ha_model.specs.Filters.{filtered}
-use Rattle.ha_model.specs.Values.{field_of, is_null, part_at}
-use Rattle.ha_model.specs.Templates.{all_of, else_value, expr_step, value_of, Meaning}
-use Rattle.ha_model.proofs.Rolls.{value_of-out}
+use Rattle.ha_sight.specs.declared.faults.TplFault.{TplFault}
+use Rattle.ha_config.specs.declared.template.Op.{Op}
+use Rattle.ha_config.specs.declared.template.Expr.{Expr}
+use Rattle.ha_config.specs.declared.template.Expr.TheOpen.{Expr-F}
+use Rattle.ha_config.specs.declared.template.Expr.TheViews.{out-Expr}
+use Rattle.ha_config.specs.declared.template.Expr.TheFolds.{map-Expr}
+use Rattle.ha_config.specs.declared.template.Expr.TheVariants.{At, Field, Filter, IsNone, Pair, Pick, outs-At, outs-Field, outs-Filter, outs-IsNone, outs-Pair, outs-Pick}
+use Rattle.ha_sight.specs.Sight.{Sight}
+use Rattle.ha_config.specs.Words.{Text, Pairs}
+use Rattle.ha_sight.specs.Filters.{filtered}
+use Rattle.ha_sight.specs.Values.{field_of, is_null, part_at}
+use Rattle.ha_sight.specs.Templates.{all_of, else_value, expr_step, value_of, Meaning}
+use Rattle.ha_sight.proofs.Rolls.{value_of-out}
 use Rattle.tpl_fns.specs.Outcome.{Gives}
 use Rattle.tpl_eval.specs.Held.{Puts}
 use Rattle.tpl_eval.specs.Pairs.{paired}

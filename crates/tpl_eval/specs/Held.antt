@@ -1,9 +1,9 @@
 -- A value that is lent or made, and what a call that gives one answers.
 use Rattle.std.specs.Prelude.{◌≡◌, List, [], ◌∷◌, ◌++◌, Option, Some, None, option_map, Result, Ok, Err}
 use Rattle.ha_value.specs.declared.value.Value.{Value}
-use Rattle.ha_model.specs.declared.faults.TplFault.{TplFault}
-use Rattle.ha_model.specs.declared.part.Part.{Part}
-use Rattle.ha_model.specs.Parts.{part_value}
+use Rattle.ha_sight.specs.declared.faults.TplFault.{TplFault}
+use Rattle.ha_sight.specs.declared.part.Part.{Part}
+use Rattle.ha_sight.specs.Parts.{part_value}
 use Rattle.tpl_eval.specs.declared.held.Held.{Held}
 
 -- the value, wherever it is kept

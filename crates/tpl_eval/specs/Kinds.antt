@@ -1,10 +1,10 @@
 -- The kinds of expressions, and of pieces, that have more than one part within them.
 use Rattle.std.specs.Prelude.{Bool, true, false}
-use Rattle.ha_model.specs.declared.template.Expr.{Expr}
-use Rattle.ha_model.specs.declared.template.Expr.TheOpen.{Expr-F}
-use Rattle.ha_model.specs.declared.template.Piece.{Piece}
-use Rattle.ha_model.specs.declared.template.Template.{Template}
-use Rattle.ha_model.specs.declared.template.Piece.TheOpen.{Piece-F}
+use Rattle.ha_config.specs.declared.template.Expr.{Expr}
+use Rattle.ha_config.specs.declared.template.Expr.TheOpen.{Expr-F}
+use Rattle.ha_config.specs.declared.template.Piece.{Piece}
+use Rattle.ha_config.specs.declared.template.Template.{Template}
+use Rattle.ha_config.specs.declared.template.Piece.TheOpen.{Piece-F}
 
 -- a list, a function or a test, which make no long chains
 abbrev pub makes_no_chain : Expr-F Expr → Bool

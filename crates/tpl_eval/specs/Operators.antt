@@ -3,9 +3,9 @@ use Rattle.std.specs.Prelude.{Bool, List, Option, Some, None, map}
 use Rattle.ha_value.specs.declared.value.Num.{Num}
 use Rattle.ha_value.specs.declared.value.Value.{Value}
 use Rattle.ha_value.specs.declared.value.Value.TheOpen.{Value-F}
-use Rattle.ha_model.specs.Words.{Pairs, comes_before}
-use Rattle.ha_model.specs.Equal.{each_same, each_pair_same, equal_value}
-use Rattle.ha_model.specs.Numbers.{less, minus, times, over, floor_over, modulo}
+use Rattle.ha_config.specs.Words.{Pairs, comes_before}
+use Rattle.ha_config.specs.Equal.{each_same, each_pair_same, equal_value}
+use Rattle.ha_config.specs.Numbers.{less, minus, times, over, floor_over, modulo}
 use Rattle.tpl_eval.specs.declared.operators.Work.{Work}
 
 -- the arithmetic that takes numbers alone

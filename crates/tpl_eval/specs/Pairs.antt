@@ -1,10 +1,10 @@
 -- What the left operand of a pair tells of the whole.
 use Rattle.std.specs.Prelude.{◌≡◌, Option, [], option_and_then}
 use Rattle.ha_value.specs.declared.value.Value.{Value}
-use Rattle.ha_model.specs.declared.template.Op.{Op}
-use Rattle.ha_model.specs.States.{Sight}
-use Rattle.ha_model.specs.Values.{operate}
-use Rattle.ha_model.specs.Templates.{pair_step}
+use Rattle.ha_config.specs.declared.template.Op.{Op}
+use Rattle.ha_sight.specs.Sight.{Sight}
+use Rattle.ha_sight.specs.Values.{operate}
+use Rattle.ha_sight.specs.Templates.{pair_step}
 use Rattle.tpl_eval.specs.declared.pairs.Begun.{Begun}
 use Rattle.tpl_eval.specs.Held.{held_value, Yields}
 

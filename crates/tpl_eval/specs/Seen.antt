@@ -1,7 +1,7 @@
 -- What a place sees, against a table of states.
 use Rattle.std.specs.Prelude.{◌≡◌}
 use Rattle.ha_value.specs.declared.value.EntityId.{EntityId}
-use Rattle.ha_model.specs.States.{Sight}
+use Rattle.ha_sight.specs.Sight.{Sight}
 use Rattle.state_table.specs.declared.table.StateTable.{StateTable}
 use Rattle.state_table.specs.Table.{at}
 

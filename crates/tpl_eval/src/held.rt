@@ -3,14 +3,15 @@ ghost use Rattle.std.specs.Prelude.{◌≡◌, [], Option, Some, option_map, unw
 ghost use Rattle.std.specs.Option.{option_copied};
 ghost use Rattle.ha_value.specs.declared.value.Value.{Value};
 ghost use Rattle.ha_value.specs.Truth.{truth};
-ghost use Rattle.ha_model.specs.Values.{part_at};
+ghost use Rattle.ha_sight.specs.Values.{part_at};
 ghost use Rattle.tpl_fns.specs.Outcome.{Gives};
 ghost use Rattle.tpl_eval.specs.Held.{held_value, Puts, Yields};
 ghost use Rattle.tpl_eval.specs.Sizes.{PutsWithin};
 
 use crate::parts::part;
 use crate::sizes::take_size;
-use ha_model::{Many, TplFault, Value, Word};
+use ha_sight::TplFault;
+use ha_value::{Many, Value, Word};
 use std::alloc::Global;
 use tpl_fns::copied;
 

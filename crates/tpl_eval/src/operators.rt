@@ -1,17 +1,17 @@
 //! The operators of templates, on operands that are computed.
 ghost use Rattle.std.specs.Prelude.{◌≡◌, ◌++◌, not, option_and_then, option_map};
 ghost use Rattle.ha_value.specs.declared.value.Value.TheViews.{out-Value};
-ghost use Rattle.ha_model.specs.Numbers.{given as given_number};
-ghost use Rattle.ha_model.specs.Values as values;
-ghost use Rattle.ha_model.specs.Words.{comes_before as comes_before_lem};
-ghost use Rattle.ha_model.specs.Numbers.{less as less_lem};
+ghost use Rattle.ha_config.specs.Numbers.{given as given_number, less as less_lem};
+ghost use Rattle.ha_sight.specs.Values as values;
+ghost use Rattle.ha_config.specs.Words.{comes_before as comes_before_lem};
 ghost use Rattle.tpl_eval.specs.Operators as operators;
 ghost use Rattle.tpl_fns.specs.Outcome.{Gives};
 
 use crate::equal::equal;
 use crate::within::within;
-use ha_model::{Num, Op, TplFault, Value, Word};
-use ha_value::NumFault;
+use ha_config::Op;
+use ha_sight::TplFault;
+use ha_value::{Num, NumFault, Value, Word};
 use std::alloc::Global;
 use std::cmp::Ordering;
 use tpl_fns::{chosen, given, joined, printed};

@@ -1,9 +1,9 @@
 //! What a template has written and set so far.
 ghost use Rattle.std.specs.Prelude.{Option, Some, option_and_then};
 ghost use Rattle.ha_value.specs.declared.value.Value.{Value};
-ghost use Rattle.ha_model.specs.States.{Sight};
-ghost use Rattle.ha_model.specs.Values.{printed as printed_lem};
-ghost use Rattle.ha_model.specs.Templates.{value_of as value_lem};
+ghost use Rattle.ha_sight.specs.Sight.{Sight};
+ghost use Rattle.ha_sight.specs.Values.{printed as printed_lem};
+ghost use Rattle.ha_sight.specs.Templates.{value_of as value_lem};
 ghost use Rattle.tpl_fns.specs.Outcome.{Gives};
 ghost use Rattle.tpl_eval.specs.Held.{Yields};
 ghost use Rattle.tpl_eval.specs.Pieces.{Extends};
@@ -13,7 +13,9 @@ ghost use Rattle.tpl_eval.specs.Seen.{Sees};
 use crate::held::Held;
 use crate::scope::Scope;
 use crate::value::value_of;
-use ha_model::{Expr, Many, TplFault, Value, Word};
+use ha_config::Expr;
+use ha_sight::TplFault;
+use ha_value::{Many, Value, Word};
 use std::alloc::Global;
 use tpl_fns::{TEXT_LIMIT, add, printed};
 

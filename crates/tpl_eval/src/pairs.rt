@@ -1,14 +1,15 @@
 //! An operator between two values, one after the other.
 ghost use Rattle.std.specs.Prelude.{option_and_then, Option};
 ghost use Rattle.ha_value.specs.declared.value.Value.{Value};
-ghost use Rattle.ha_model.specs.States.{Sight};
-ghost use Rattle.ha_model.specs.Values.{operate as operate_lem};
+ghost use Rattle.ha_sight.specs.Sight.{Sight};
+ghost use Rattle.ha_sight.specs.Values.{operate as operate_lem};
 ghost use Rattle.tpl_eval.specs.Held.{held_value, Yields};
 ghost use Rattle.tpl_eval.specs.Pairs.{Tells};
 
 use crate::held::{Held, made};
 use crate::operators::operate;
-use ha_model::{Op, TplFault};
+use ha_config::Op;
+use ha_sight::TplFault;
 use std::alloc::Global;
 
 /// What is known once the left operand is.

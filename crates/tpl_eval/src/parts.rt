@@ -1,10 +1,10 @@
 //! The parts of maps and lists, borrowed.
 ghost use Rattle.std.specs.Prelude.{◌≡◌, unwrap_or};
 ghost use Rattle.std.specs.Option.{option_copied};
-ghost use Rattle.ha_model.specs.Values as values;
-ghost use Rattle.ha_model.specs.Words as words;
+ghost use Rattle.ha_sight.specs.Values as values;
+ghost use Rattle.ha_config.specs.Words as words;
 
-use ha_model::{Num, Value, Word};
+use ha_value::{Num, Value, Word};
 
 /// The value of the first pair of that name.
 pub fn first_pair<'a>(pairs: &'a [(Word, Value)], name: &[u8]) -> Option<&'a Value>

@@ -1,13 +1,14 @@
 //! What a path leads to: only its last part is made, and not what stands on the way.
 ghost use Rattle.std.specs.Prelude.{Option, Some, option_map};
 ghost use Rattle.ha_value.specs.declared.value.Value.{Value};
-ghost use Rattle.ha_model.specs.Parts.{part_value};
-ghost use Rattle.ha_model.specs.Values.{field_of, part_at};
+ghost use Rattle.ha_sight.specs.Parts.{part_value};
+ghost use Rattle.ha_sight.specs.Values.{field_of, part_at};
 ghost use Rattle.tpl_fns.specs.Outcome.{Gives};
 ghost use Rattle.tpl_eval.specs.Held.{Leads, Yields};
 
 use crate::held::{Held, made, part_of};
-use ha_model::{Part, TplFault, Value, Word};
+use ha_sight::{Part, TplFault};
+use ha_value::{Value, Word};
 use std::alloc::Global;
 
 /// The value of a part.

@@ -1,10 +1,10 @@
 //! The pieces of a template, written one after the other.
 ghost use Rattle.std.specs.Prelude.{◌≡◌, ◌++◌, [], ◌∷◌, option_and_then, option_map, true};
 ghost use Rattle.ha_value.specs.Truth.{truth};
-ghost use Rattle.ha_model.specs.States.{Sight};
-ghost use Rattle.ha_model.specs.Values.{printed as printed_lem};
-ghost use Rattle.ha_model.specs.Templates.{pieces_of, value_of as value_lem};
-ghost use Rattle.ha_model.specs.declared.template.Piece.TheViews.{out-Piece};
+ghost use Rattle.ha_sight.specs.Sight.{Sight};
+ghost use Rattle.ha_sight.specs.Values.{printed as printed_lem};
+ghost use Rattle.ha_sight.specs.Templates.{pieces_of, value_of as value_lem};
+ghost use Rattle.ha_config.specs.declared.template.Piece.TheViews.{out-Piece};
 ghost use Rattle.tpl_fns.specs.Outcome.{Gives};
 ghost use Rattle.tpl_eval.specs.Kinds.{is_choice};
 ghost use Rattle.tpl_eval.specs.Pieces.{Chooses, piece_of, Sets, Writes};
@@ -14,7 +14,9 @@ use crate::held::truth_of;
 use crate::page::{Page, add_shown, append, kept_value};
 use crate::scope::Scope;
 use crate::value::value_of;
-use ha_model::{Env, Expr, Piece, Plain, Template, TplFault, Value, Word};
+use ha_config::{Expr, Piece, Template};
+use ha_sight::{Env, TplFault};
+use ha_value::{Plain, Value, Word};
 use state_table::StateTable;
 use std::alloc::Global;
 

@@ -1,19 +1,18 @@
 //! A template's text.
-ghost use Rattle.std.specs.Prelude.{◌≡◌, ◌≤◌, ℕ, IfSome, Some, length, take, option_map};
+ghost use Rattle.std.specs.Prelude.{◌≡◌, ◌≤◌, IfSome, Some, length, option_map};
 ghost use Rattle.ha_value.specs.declared.value.Value.{Value};
-ghost use Rattle.ha_model.specs.declared.template.Piece.{Piece as Part};
-ghost use Rattle.ha_model.specs.Journal.{Journal};
-ghost use Rattle.ha_model.specs.States.{Sight};
-ghost use Rattle.ha_model.specs.Templates.{rendered};
-ghost use Rattle.ha_model.specs.Triggers.{sight as sight_at};
-ghost use Rattle.ha_model.specs.Words.{Pairs, without_breaks as trimmed_lem};
-ghost use Rattle.state_table.specs.Table.{StandsFor};
+ghost use Rattle.ha_config.specs.declared.template.Piece.{Piece as Part};
+ghost use Rattle.ha_sight.specs.Sight.{Sight};
+ghost use Rattle.ha_sight.specs.Templates.{rendered};
+ghost use Rattle.ha_config.specs.Words.{Pairs, without_breaks as trimmed_lem};
 ghost use Rattle.tpl_fns.specs.Outcome.{Gives};
 ghost use Rattle.tpl_eval.specs.Seen.{Sees};
 
 use crate::page::Page;
 use crate::pieces::write_template;
-use ha_model::{Env, Many, Piece, Template, TplFault, Value, Word};
+use ha_config::{Piece, Template};
+use ha_sight::{Env, TplFault};
+use ha_value::{Many, Value, Word};
 use state_table::StateTable;
 use std::alloc::Global;
 use tpl_fns::{TEXT_LIMIT, without_breaks, word};
@@ -26,7 +25,6 @@ pub fn render(
     env: &Env,
 ) -> Result<Value, TplFault>
     ensures seen { (sight : Sight) → Sees sight states.now → Gives result (option_map Value.Text (rendered sight template.now env.now)) }
-    ensures of_journal { (j : Journal) (n : ℕ) → StandsFor states.now (take n j) → Gives result (option_map Value.Text (rendered (sight_at j n) template.now env.now)) }
 {
     match text_of(alloc, template, states, env) {
         Ok(text) => Ok(Value::Text(text)),

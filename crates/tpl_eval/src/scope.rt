@@ -1,13 +1,15 @@
 //! What an expression sees.
 ghost use Rattle.std.specs.Prelude.{◌≡◌, Some, unwrap_or};
-ghost use Rattle.ha_model.specs.Parts.{part_value};
-ghost use Rattle.ha_model.specs.Words.{last_pair};
+ghost use Rattle.ha_sight.specs.Parts.{part_value};
+ghost use Rattle.ha_config.specs.Words.{last_pair};
 ghost use Rattle.tpl_eval.specs.Held.{Yields};
 ghost use Rattle.tpl_eval.specs.Scope.{variables};
 
 use crate::held::Held;
 use crate::paths::held_part;
-use ha_model::{Env, Part, Seen, TplFault, Value, Word, last_pair};
+use ha_config::last_pair;
+use ha_sight::{Env, Part, Seen, TplFault};
+use ha_value::{Value, Word};
 use state_table::StateTable;
 use std::alloc::Global;
 

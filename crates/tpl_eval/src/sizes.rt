@@ -1,12 +1,12 @@
 //! How many values a value is: itself, and those inside it.
 ghost use Rattle.std.specs.Prelude.{◌≡◌};
-ghost use Rattle.ha_model.specs.Values.{most_values, size_of};
+ghost use Rattle.ha_sight.specs.Values.{most_values, size_of};
 ghost use Rattle.tpl_eval.specs.Sizes.{items_size, left_of, pairs_size};
 
-use ha_model::{Value, Word};
+use ha_value::{Value, Word};
 
 /// The most values that a list in brackets has, those inside its items counted.
-#[tactic(auto, unfolding(ha_model::specs::Values::most_values))]
+#[tactic(auto, unfolding(ha_sight::specs::Values::most_values))]
 pub fn most_values() -> usize
     ensures { result ≡ most_values }
 {

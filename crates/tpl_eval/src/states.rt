@@ -1,23 +1,21 @@
 //! The functions, which may ask the states of entities.
-ghost use Rattle.std.specs.Prelude.{◌≡◌, ◌<◌, ◌&&◌, ℕ, [], Some, false, not, take, codes, option_and_then, option_map, unwrap_or};
+ghost use Rattle.std.specs.Prelude.{◌≡◌, ◌<◌, ◌&&◌, [], Some, false, not, codes, option_and_then, unwrap_or};
 ghost use Rattle.std.specs.Option.{option_copied, option_map_or};
 ghost use Rattle.std.specs.List.{list_any};
 ghost use Rattle.ha_value.specs.declared.value.Value.TheViews.{out-Value};
-ghost use Rattle.ha_model.specs.declared.journal.StateObject.{StateObject};
-ghost use Rattle.ha_model.specs.Equal.{equal_value};
-ghost use Rattle.ha_model.specs.Filters as filters;
-ghost use Rattle.ha_model.specs.Journal.{Journal};
-ghost use Rattle.ha_model.specs.States.{Sight};
-ghost use Rattle.ha_model.specs.Triggers.{sight as sight_at};
-ghost use Rattle.ha_model.specs.Values.{flag, text_of as text_of_value};
-ghost use Rattle.ha_model.specs.Words.{same, first_pair as first_pair_lem};
-ghost use Rattle.state_table.specs.Table.{StandsFor};
+ghost use Rattle.ha_sight.specs.declared.state.StateObject.{StateObject};
+ghost use Rattle.ha_config.specs.Equal.{equal_value};
+ghost use Rattle.ha_sight.specs.Filters as filters;
+ghost use Rattle.ha_sight.specs.Sight.{Sight};
+ghost use Rattle.ha_sight.specs.Values.{flag, text_of as text_of_value};
+ghost use Rattle.ha_config.specs.Words.{same, first_pair as first_pair_lem};
 ghost use Rattle.tpl_eval.specs.Seen.{Sees};
 ghost use Rattle.tpl_fns.specs.Outcome.{Gives};
 
 use crate::equal::equal;
 use crate::parts::first_pair;
-use ha_model::{StateObject, TplFault, Value, Word};
+use ha_sight::{StateObject, TplFault};
+use ha_value::{Value, Word};
 use state_table::StateTable;
 use std::alloc::Global;
 use tpl_fns::{copied, function_of_values, word};
@@ -35,7 +33,6 @@ pub fn function(
     states: &StateTable,
 ) -> Result<Value, TplFault>
     ensures seen { (sight : Sight) → Sees sight states.now → Gives result (filters.applied sight name args.now) }
-    ensures of_journal { (j : Journal) (n : ℕ) → StandsFor states.now (take n j) → Gives result (filters.applied (sight_at j n) name args.now) }
 {
     if 6 <= name {
         return function_of_values(alloc, name, args);

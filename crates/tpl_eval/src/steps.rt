@@ -2,9 +2,9 @@
 ghost use Rattle.std.specs.Prelude.{List, not, option_and_then, option_map, Option, if◌then◌else◌};
 ghost use Rattle.ha_value.specs.declared.value.Value.{Value};
 ghost use Rattle.ha_value.specs.Truth.{truth};
-ghost use Rattle.ha_model.specs.States.{Sight};
-ghost use Rattle.ha_model.specs.Filters.{applied, filtered};
-ghost use Rattle.ha_model.specs.Values.{is_null, negation as negation_lem};
+ghost use Rattle.ha_sight.specs.Sight.{Sight};
+ghost use Rattle.ha_sight.specs.Filters.{applied, filtered};
+ghost use Rattle.ha_sight.specs.Values.{is_null, negation as negation_lem};
 ghost use Rattle.tpl_fns.specs.Outcome.{Gives};
 ghost use Rattle.tpl_eval.specs.Held.{held_value, Yields};
 ghost use Rattle.tpl_eval.specs.Seen.{Sees};
@@ -13,7 +13,8 @@ use crate::held::{Held, made};
 use crate::operators::negation;
 use crate::scope::Scope;
 use crate::states::function;
-use ha_model::{Many, TplFault, Value};
+use ha_sight::TplFault;
+use ha_value::{Many, Value};
 use std::alloc::Global;
 use tpl_fns::filter;
 

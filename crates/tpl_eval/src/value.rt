@@ -1,10 +1,10 @@
 //! The value of an expression.
 ghost use Rattle.std.specs.Prelude.{◌≡◌, map, option_and_then, true, Option};
 ghost use Rattle.ha_value.specs.declared.value.Value.{Value};
-ghost use Rattle.ha_model.specs.States.{Sight};
-ghost use Rattle.ha_model.specs.Templates.{all_of, value_of as value_lem};
-ghost use Rattle.ha_model.specs.Values.{bounded_items};
-ghost use Rattle.ha_model.specs.declared.template.Expr.TheViews.{out-Expr};
+ghost use Rattle.ha_sight.specs.Sight.{Sight};
+ghost use Rattle.ha_sight.specs.Templates.{all_of, value_of as value_lem};
+ghost use Rattle.ha_sight.specs.Values.{bounded_items};
+ghost use Rattle.ha_config.specs.declared.template.Expr.TheViews.{out-Expr};
 ghost use Rattle.tpl_fns.specs.Outcome.{Gives};
 ghost use Rattle.tpl_eval.specs.Held.{Leads, Yields};
 ghost use Rattle.tpl_eval.specs.Kinds.{is_at, is_field, is_filter, is_pair, is_pick, is_step, makes_no_chain};
@@ -18,7 +18,9 @@ use crate::paths::{begun, field_in, held_at_end, part_in};
 use crate::scope::Scope;
 use crate::sizes::most_values;
 use crate::steps::{called, filter_with, inverted, negated, none_tested};
-use ha_model::{Expr, Many, Op, Part, TplFault, Value};
+use ha_config::{Expr, Op};
+use ha_sight::{Part, TplFault};
+use ha_value::{Many, Value};
 
 /// The value of an expression. A chain of operators is as deep as it is long, so what is done at one link stands in functions of its own,
 /// and a link takes little of the stack.

@@ -2,12 +2,13 @@
 ghost use Rattle.std.specs.Prelude.{◌≡◌};
 ghost use Rattle.std.specs.List.{list_any};
 ghost use Rattle.ha_value.specs.declared.value.Value.TheViews.{out-Value};
-ghost use Rattle.ha_model.specs.Equal.{equal_value};
-ghost use Rattle.ha_model.specs.Values.{is_within};
-ghost use Rattle.ha_model.specs.Words.{has_name, is_part_of};
+ghost use Rattle.ha_config.specs.Equal.{equal_value};
+ghost use Rattle.ha_sight.specs.Values.{is_within};
+ghost use Rattle.ha_config.specs.Words.{has_name, is_part_of};
 
 use crate::equal::equal;
-use ha_model::{Value, Word, same_text};
+use ha_config::same_text;
+use ha_value::{Value, Word};
 
 fn has_item(items: &[Value], wanted: &Value) -> bool
     ensures { result ≡ list_any (equal_value wanted.now) items.now }

@@ -3,9 +3,9 @@ use Rattle.std.proofs.Common.{◌≡◌, ◌∙◌, ◌≤◌, ap, ℕ, zero, su
 use Rattle.std.specs.Prelude.{Option, Some, None, slice_get, option_and_then, option_map, if◌then◌else◌}
 use Rattle.ha_value.specs.declared.value.Num.{Num}
 use Rattle.ha_value.specs.declared.value.Value.{Value}
-use Rattle.ha_model.specs.Words.{last_of}
-use Rattle.ha_model.specs.Values.{number_of}
-use Rattle.ha_model.specs.Filters.{all_numbers, best, best_of}
+use Rattle.ha_config.specs.Words.{last_of}
+use Rattle.ha_sight.specs.Values.{number_of}
+use Rattle.ha_sight.specs.Filters.{all_numbers, best, best_of}
 use Rattle.tpl_fns.specs.declared.lists.Side.{Side}
 use Rattle.tpl_fns.specs.Extremes.{beats, better}
 

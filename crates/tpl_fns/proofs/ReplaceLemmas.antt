@@ -4,9 +4,9 @@ use Rattle.std.specs.Prelude.{nat_le, Option, Some, None, Err, MatchOption, if�
 use Rattle.std.proofs.lemmas.Bool.Decides.{nat_tests}
 use Rattle.std.specs.Cmp.Lexicographic.{bytes_decides}
 use Rattle.std.specs.Str.Pattern.{LacksTextAt, FindsText, SplitsAroundMatch}
-use Rattle.ha_model.specs.declared.faults.TplFault.{TplFault}
-use Rattle.ha_model.specs.Values.{bounded}
-use Rattle.ha_model.specs.Words.{Text, begins_with, replaced_all, replaced_behind}
+use Rattle.ha_sight.specs.declared.faults.TplFault.{TplFault}
+use Rattle.ha_sight.specs.Values.{bounded}
+use Rattle.ha_config.specs.Words.{Text, begins_with, replaced_all, replaced_behind}
 use Rattle.tpl_fns.specs.Outcome.{Adds, Gives}
 
 unless : (b : Bool) → (b ≡ true → ⊥) → b ≡ false

@@ -1,7 +1,7 @@
 -- The least and the greatest of numbers, one after the other.
 use Rattle.std.specs.Prelude.{Bool, Option, Some, None, if◌then◌else◌}
 use Rattle.ha_value.specs.declared.value.Num.{Num}
-use Rattle.ha_model.specs.Numbers.{less}
+use Rattle.ha_config.specs.Numbers.{less}
 use Rattle.tpl_fns.specs.declared.lists.Side.{Side}
 
 -- the new number is better than the one so far

@@ -1,14 +1,15 @@
 //! The filters, by their numbers.
 ghost use Rattle.std.specs.Prelude.{Some, if◌then◌else◌};
-ghost use Rattle.ha_model.specs.Values.{is_null};
-ghost use Rattle.ha_model.specs.Filters.{bare_filter, filter_without, filter_with, filtered};
+ghost use Rattle.ha_sight.specs.Values.{is_null};
+ghost use Rattle.ha_sight.specs.Filters.{bare_filter, filter_without, filter_with, filtered};
 ghost use Rattle.tpl_fns.specs.Outcome.{Gives};
 
 use crate::lists::{count, first, last};
 use crate::numbers::{is_number, to_float, to_int, to_places, without_sign};
 use crate::outcome::copied;
 use crate::texts::{replaced, to_lower, to_text, to_upper, trimmed};
-use ha_model::{TplFault, Value};
+use ha_sight::TplFault;
+use ha_value::Value;
 use std::alloc::Global;
 
 /// What a filter makes of a value.

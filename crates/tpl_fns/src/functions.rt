@@ -1,14 +1,15 @@
 //! The functions that ask no state, by their numbers.
 ghost use Rattle.std.specs.Prelude.{◌≡◌, ◌≤◌, Some, if◌then◌else◌};
 ghost use Rattle.ha_value.specs.Truth.{truth};
-ghost use Rattle.ha_model.specs.States.{Sight};
-ghost use Rattle.ha_model.specs.Filters.{applied, by_count, function_one, function_two, function_three};
+ghost use Rattle.ha_sight.specs.Sight.{Sight};
+ghost use Rattle.ha_sight.specs.Filters.{applied, by_count, function_one, function_two, function_three};
 ghost use Rattle.tpl_fns.specs.Outcome.{Gives};
 
 use crate::lists::{Side, extreme};
 use crate::numbers::{is_number, to_float, to_int};
 use crate::outcome::copied;
-use ha_model::{TplFault, Value};
+use ha_sight::TplFault;
+use ha_value::Value;
 use std::alloc::Global;
 
 /// What a function that asks no state gives: 6 `int`, 7 `float`, 8 `min`, 9 `max`, 10 `iif` and

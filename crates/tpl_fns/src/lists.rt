@@ -2,14 +2,16 @@
 ghost use Rattle.std.specs.Prelude.{◌≡◌, ◌<◌, ◌^◌, Some, None, option_and_then, option_map, unwrap_or};
 ghost use Rattle.std.specs.Option.{option_copied};
 ghost use Rattle.ha_value.specs.declared.value.Value.TheViews.{out-Value};
-ghost use Rattle.ha_model.specs.Filters as filters;
-ghost use Rattle.ha_model.specs.Values as values;
-ghost use Rattle.ha_model.specs.Words.{first_of_list, last_of};
+ghost use Rattle.ha_sight.specs.Filters as filters;
+ghost use Rattle.ha_sight.specs.Values as values;
+ghost use Rattle.ha_config.specs.Words.{first_of_list, last_of};
 ghost use Rattle.tpl_fns.specs.Outcome.{Gives};
 ghost use Rattle.tpl_fns.specs.Extremes.{beats, better};
 
 use crate::outcome::{copied, given};
-use ha_model::{Num, TplFault, Value, characters};
+use ha_config::characters;
+use ha_sight::TplFault;
+use ha_value::{Num, Value};
 use std::alloc::Global;
 use std::cmp::Ordering;
 

@@ -2,14 +2,15 @@
 ghost use Rattle.std.specs.Prelude.{◌≡◌, ◌≤◌, IfSome, option_and_then, option_map};
 ghost use Rattle.std.specs.Option.{option_copied, option_to_list};
 ghost use Rattle.ha_value.specs.declared.value.Value.TheViews.{out-Value};
-ghost use Rattle.ha_model.specs.Filters as filters;
-ghost use Rattle.ha_model.specs.Numbers.{absolute as absolute_lem, as_fixed};
-ghost use Rattle.ha_model.specs.Values.{number_of};
+ghost use Rattle.ha_sight.specs.Filters as filters;
+ghost use Rattle.ha_config.specs.Numbers.{absolute as absolute_lem, as_fixed};
+ghost use Rattle.ha_sight.specs.Values.{number_of};
 ghost use Rattle.tpl_fns.specs.Outcome.{Gives, or_other, small};
 
 use crate::outcome::{copied, given};
 use crate::texts::without_breaks;
-use ha_model::{Num, TplFault, Value};
+use ha_sight::TplFault;
+use ha_value::{Num, Value};
 use std::alloc::Global;
 
 /// The number of a number, of a text that is number text without its blanks and breaks, and of a

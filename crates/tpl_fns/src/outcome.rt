@@ -2,7 +2,8 @@
 ghost use Rattle.std.specs.Prelude.{◌≡◌, Some, option_map};
 ghost use Rattle.tpl_fns.specs.Outcome.{Gives};
 
-use ha_model::{Num, TplFault, Value};
+use ha_sight::TplFault;
+use ha_value::{Num, Value};
 use std::alloc::Global;
 
 /// The number, or a fault.

@@ -1,15 +1,15 @@
 //! Filters on texts.
 ghost use Rattle.std.specs.Prelude.{◌≡◌, ◌≤◌, ◌<◌, ◌^◌, ◌+◌, ◌++◌, length, Some, IfOk};
 ghost use Rattle.ha_value.specs.Lists.{after_front, before_end};
-ghost use Rattle.ha_model.specs.Filters as filters;
-ghost use Rattle.ha_model.specs.Values as values;
-ghost use Rattle.ha_model.specs.Words.{lower, upper, replaced_all, without_breaks as without_breaks_lem};
+ghost use Rattle.ha_sight.specs.Filters as filters;
+ghost use Rattle.ha_sight.specs.Values as values;
+ghost use Rattle.ha_config.specs.Words.{lower, upper, replaced_all, without_breaks as without_breaks_lem};
 ghost use Rattle.ha_value.specs.Numbers.{print_number};
 ghost use Rattle.ha_value.specs.Truth.{is_blank_or_break};
 ghost use Rattle.tpl_fns.specs.Outcome.{Adds, Gives};
 
-use ha_model::{Num, TplFault, Value, Word};
-use ha_value::is_blank_or_break;
+use ha_sight::TplFault;
+use ha_value::{Num, Value, Word, is_blank_or_break};
 use std::alloc::{AllocError, Global};
 
 /// The bytes that a text made in a template may have.

@@ -1,9 +1,9 @@
 -- Sums, tests and comparisons.
 use Rattle.std.proofs.Common.{◌≡◌, ℕ, Bool, true, false, cond, not, ◌⊎◌, inl, inr, List, [], ◌∷◌, ◌++◌, length, drop, Option, Some, None, refl, sym, ap, ◌∙◌, subst, append_assoc}
 use Rattle.ha_value.specs.declared.value.Value.{Value}
-use Rattle.ha_model.specs.declared.template.Op.{Op}
-use Rattle.ha_model.specs.declared.template.Expr.{Expr}
-use Rattle.ha_model.specs.declared.template.Expr
+use Rattle.ha_config.specs.declared.template.Op.{Op}
+use Rattle.ha_config.specs.declared.template.Expr.{Expr}
+use Rattle.ha_config.specs.declared.template.Expr
 use Rattle.reading.specs.Answer.{◌>>=◌, made}
 use Rattle.reading.proofs.Basics.{chosen_is}
 use Rattle.tpl_parse.specs.declared.token.Token.{Token}

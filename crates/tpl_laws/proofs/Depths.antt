@@ -3,7 +3,7 @@ use Rattle.std.proofs.Common.{◌≡◌, ℕ, zero, suc, ◌+◌, ◌-◌, ◌�
 use Rattle.std.specs.Prelude.{◌==◌, ◌&&◌, max, nat_le}
 use Rattle.std.proofs.lemmas.Bool.{and_parts, cases_lt, eqb-true, le-leb, leb-true}
 use Rattle.ha_value.specs.declared.value.Value.{Value}
-use Rattle.ha_model.specs.declared.template.Expr.{Expr}
+use Rattle.ha_config.specs.declared.template.Expr.{Expr}
 use Rattle.reading.proofs.Basics.{chosen_is}
 use Rattle.tpl_parse.specs.declared.token.Token.{Token}
 use Rattle.tpl_parse.specs.declared.table.Filter.{Filter}

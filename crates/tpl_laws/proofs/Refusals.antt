@@ -1,6 +1,6 @@
 -- What stands before the place of a refusal goes on to a text of the grammar.
 use Rattle.std.proofs.Common.{◌≡◌, ℕ, zero, suc, ◌+◌, ◌-◌, ◌<◌, Bool, false, ◌⊎◌, inl, inr, List, [], ◌∷◌, ◌++◌, length, take, Option, Some, None, Result, Ok, Err, refl, sym, ap, ◌∙◌, subst, arith, append_assoc, append-nil, length-append}
-use Rattle.ha_model.specs.declared.template.Template.{Template}
+use Rattle.ha_config.specs.declared.template.Template.{Template}
 use Rattle.reading.specs.Answer.{◌>>=◌}
 use Rattle.tpl_parse.specs.declared.fault.ParseFault.{ParseFault}
 use Rattle.tpl_parse.specs.declared.fault.ParseFault.TheVariants as faults

@@ -1,10 +1,10 @@
 -- Texts that go on to the end of the whole from a place within it, by the choices that are open there.
 use Rattle.std.proofs.Common.{◌≡◌, ℕ, ◌<◌, Bool, true, false, cond, ◌⊎◌, inl, inr, List, [], ◌∷◌, ◌++◌, length, Option, Some, None, refl, sym, ap, ◌∙◌, subst, arith, append_assoc, append-nil}
 use Rattle.std.specs.Prelude.{◌==◌, encode_utf8}
-use Rattle.ha_model.specs.declared.template.Expr.{Expr}
-use Rattle.ha_model.specs.declared.template.Piece.{Piece}
-use Rattle.ha_model.specs.declared.template.Piece
-use Rattle.ha_model.specs.declared.template.Template.{Template}
+use Rattle.ha_config.specs.declared.template.Expr.{Expr}
+use Rattle.ha_config.specs.declared.template.Piece.{Piece}
+use Rattle.ha_config.specs.declared.template.Piece
+use Rattle.ha_config.specs.declared.template.Template.{Template}
 use Rattle.reading.specs.Answer.{front}
 use Rattle.reading.proofs.Characters.{ascii_read}
 use Rattle.tpl_parse.specs.declared.token.Token.{Token}

@@ -1,6 +1,6 @@
 -- A refusal, and what its place is in terms of the grammar.
 use Rattle.std.specs.Prelude.{◌≡◌, ℕ, ◌+◌, List, length, Result, Ok, Err}
-use Rattle.ha_model.specs.declared.template.Template.{Template}
+use Rattle.ha_config.specs.declared.template.Template.{Template}
 use Rattle.reading.specs.declared.fault.Bad.{Bad}
 use Rattle.tpl_parse.specs.declared.fault.ParseFault.{ParseFault}
 use Rattle.tpl_parse.specs.declared.fault.ParseFault.TheVariants as faults

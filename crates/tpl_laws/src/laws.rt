@@ -1,7 +1,7 @@
 //! Laws of the definitions. Each is the contract of a function that does nothing.
 
 ghost use Rattle.std.specs.Prelude.{◌⊎◌, ℕ, Result};
-ghost use Rattle.ha_model.specs.declared.template.Template.{Template};
+ghost use Rattle.ha_config.specs.declared.template.Template.{Template};
 ghost use Rattle.tpl_parse.specs.declared.fault.ParseFault.{ParseFault};
 ghost use Rattle.tpl_parse.specs.Grammar.{IsTemplate};
 ghost use Rattle.tpl_parse.specs.Pieces.{template};

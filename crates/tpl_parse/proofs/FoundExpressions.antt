@@ -2,9 +2,9 @@
 use Rattle.std.proofs.Common.{◌≡◌, ℕ, suc, zero, Bool, true, false, cond, not, ◌⊎◌, inl, inr, List, [], ◌∷◌, length, drop, Option, Some, None, Ok, refl, sym, ap, ◌∙◌, subst}
 use Rattle.std.specs.Prelude.{◌==◌, ◌||◌, ◌&&◌, is_some}
 use Rattle.std.proofs.lemmas.Bool.{and_parts}
-use Rattle.ha_model.specs.declared.template.Op.{Op}
-use Rattle.ha_model.specs.declared.template.Expr.{Expr}
-use Rattle.ha_model.specs.declared.template.Expr
+use Rattle.ha_config.specs.declared.template.Op.{Op}
+use Rattle.ha_config.specs.declared.template.Expr.{Expr}
+use Rattle.ha_config.specs.declared.template.Expr
 use Rattle.reading.specs.Answer.{◌>>=◌, made, stop}
 use Rattle.reading.specs.Bytes.{sees}
 use Rattle.reading.proofs.Basics.{bind_ok, ok_parts, made_ok, chosen as chosen_of, chosen_is}

@@ -2,7 +2,7 @@
 use Rattle.std.proofs.Common.{◌≡◌, ℕ, suc, zero, Bool, true, false, cond, inl, inr, List, [], ◌∷◌, ◌++◌, length, drop, Option, Some, None, Ok, refl, sym, ap, ◌∙◌, subst}
 use Rattle.std.specs.Prelude.{◌==◌, ◌&&◌, encode_utf8}
 use Rattle.std.proofs.lemmas.Bool.{and_parts, eqb-true}
-use Rattle.ha_model.specs.declared.template.Expr.{Expr}
+use Rattle.ha_config.specs.declared.template.Expr.{Expr}
 use Rattle.reading.specs.Answer.{◌>>=◌}
 use Rattle.reading.specs.Bytes.{sees}
 use Rattle.reading.proofs.Basics.{bind_ok, ok_parts, chosen as chosen_of}

@@ -1,7 +1,7 @@
 -- A phrase of the grammar is read, where none of the tokens stands behind it with which it could go on.
 use Rattle.std.proofs.Common.{◌≡◌, ℕ, suc, ◌≤◌, ◌<◌, true, false, List, length, refl, ap, ◌∙◌, arith}
-use Rattle.ha_model.specs.declared.template.Expr.{Expr}
-use Rattle.ha_model.specs.declared.template.Op.{Op}
+use Rattle.ha_config.specs.declared.template.Expr.{Expr}
+use Rattle.ha_config.specs.declared.template.Op.{Op}
 use Rattle.reading.specs.Answer.{front}
 use Rattle.reading.specs.Bytes.{sees}
 use Rattle.tpl_parse.specs.declared.token.Token.{Token}

@@ -2,9 +2,9 @@
 use Rattle.std.proofs.Common.{◌≡◌, ℕ, suc, zero, ◌≤◌, ◌<◌, Bool, true, false, List, [], ◌∷◌, length, Option, Some, None, Ok, refl, ap, ◌∙◌, arith}
 use Rattle.std.specs.Prelude.{◌==◌, ◌||◌, ◌&&◌, nat_le, is_some}
 use Rattle.std.proofs.lemmas.Bool.{cond-true, and_parts, leb-true, eq-eqb}
-use Rattle.ha_model.specs.declared.template.Op.{Op}
-use Rattle.ha_model.specs.declared.template.Expr.{Expr}
-use Rattle.ha_model.specs.declared.template.Expr
+use Rattle.ha_config.specs.declared.template.Op.{Op}
+use Rattle.ha_config.specs.declared.template.Expr.{Expr}
+use Rattle.ha_config.specs.declared.template.Expr
 use Rattle.reading.specs.Answer.{◌>>=◌, Answer}
 use Rattle.reading.specs.Bytes.{sees}
 use Rattle.reading.proofs.Basics.{made_ok}

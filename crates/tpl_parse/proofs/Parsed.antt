@@ -1,7 +1,7 @@
 -- What `parse` answers is the tree of the grammar: both clauses follow from what reading gives.
 use Rattle.std.proofs.Common.{◌≡◌, ℕ, List, [], Result, Ok, Err, sym, ◌∙◌}
 use Rattle.std.specs.Prelude.{IfOk}
-use Rattle.ha_model.specs.declared.template.Template.{Template}
+use Rattle.ha_config.specs.declared.template.Template.{Template}
 use Rattle.reading.proofs.Basics.{ok_parts}
 use Rattle.tpl_parse.specs.declared.fault.ParseFault.{ParseFault}
 use Rattle.tpl_parse.specs.declared.fault.ParseFault.TheVariants as faults

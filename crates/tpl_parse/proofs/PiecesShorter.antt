@@ -2,7 +2,7 @@
 use Rattle.std.proofs.Common.{ℕ, zero, suc, ◌≤◌, true, false, cond, inl, inr, List, [], ◌∷◌, length, drop, Option, Some, None, Ok, arith}
 use Rattle.std.specs.Prelude.{◌&&◌}
 use Rattle.std.proofs.Math.ListN.{length-drop}
-use Rattle.ha_model.specs.declared.template.Template.{Template}
+use Rattle.ha_config.specs.declared.template.Template.{Template}
 use Rattle.reading.specs.Bytes.{sees}
 use Rattle.reading.proofs.Basics.{chosen_is}
 use Rattle.reading.proofs.Shorter.{kept, refused, bind, either, made_leaves}

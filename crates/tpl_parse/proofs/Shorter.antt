@@ -5,9 +5,9 @@ use Rattle.std.proofs.Math.ListN.{length-drop}
 use Rattle.ha_value.specs.declared.value.Num.{Num}
 use Rattle.ha_value.specs.declared.value.Value.{Value}
 use Rattle.ha_value.specs.Numbers.{read_number}
-use Rattle.ha_model.specs.declared.template.Op.{Op}
-use Rattle.ha_model.specs.declared.template.Expr.{Expr}
-use Rattle.ha_model.specs.declared.template.Expr
+use Rattle.ha_config.specs.declared.template.Op.{Op}
+use Rattle.ha_config.specs.declared.template.Expr.{Expr}
+use Rattle.ha_config.specs.declared.template.Expr
 use Rattle.reading.specs.declared.fault.Bad.{Bad}
 use Rattle.reading.specs.Answer.{Answer, front, made}
 use Rattle.reading.specs.Bytes.{skip_digits}

@@ -4,7 +4,7 @@ use Rattle.reading.specs.declared.fault.Stop.{Stop}
 use Rattle.reading.specs.declared.fault.Stop.TheVariants as stops
 use Rattle.reading.specs.Answer.{Answer, Gives, front}
 use Rattle.reading.specs.Bytes.{sees}
-use Rattle.ha_model.specs.declared.template.Template.{Template}
+use Rattle.ha_config.specs.declared.template.Template.{Template}
 use Rattle.tpl_parse.specs.declared.pieces.Tag.{Tag}
 use Rattle.tpl_parse.specs.declared.token.Token.{Token}
 use Rattle.std.specs.List.{find}

@@ -1,6 +1,6 @@
 -- A template that is read leaves nothing, and its fault is within the text.
 use Rattle.std.proofs.Common.{◌≡◌, ℕ, zero, suc, ◌≤◌, true, false, inl, inr, List, [], ◌∷◌, length, Option, Some, None, Ok, Err, refl, sym, ap, ◌∙◌, arith}
-use Rattle.ha_model.specs.declared.template.Template.{Template}
+use Rattle.ha_config.specs.declared.template.Template.{Template}
 use Rattle.reading.proofs.Basics.{bind_ok, ok_parts, chosen}
 use Rattle.reading.proofs.Shorter.{fault_by}
 use Rattle.tpl_parse.specs.declared.pieces.Tag.{Tag}

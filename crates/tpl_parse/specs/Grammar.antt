@@ -6,12 +6,12 @@ use Rattle.std.specs.Char.{IsScalar, is_ascii_digit}
 use Rattle.ha_value.specs.declared.value.Num.{Num}
 use Rattle.ha_value.specs.declared.value.Value.{Value}
 use Rattle.ha_value.specs.Numbers.{read_number}
-use Rattle.ha_model.specs.declared.template.Op.{Op}
-use Rattle.ha_model.specs.declared.template.Expr.{Expr}
-use Rattle.ha_model.specs.declared.template.Expr
-use Rattle.ha_model.specs.declared.template.Piece.{Piece}
-use Rattle.ha_model.specs.declared.template.Piece
-use Rattle.ha_model.specs.declared.template.Template.{Template}
+use Rattle.ha_config.specs.declared.template.Op.{Op}
+use Rattle.ha_config.specs.declared.template.Expr.{Expr}
+use Rattle.ha_config.specs.declared.template.Expr
+use Rattle.ha_config.specs.declared.template.Piece.{Piece}
+use Rattle.ha_config.specs.declared.template.Piece
+use Rattle.ha_config.specs.declared.template.Template.{Template}
 use Rattle.reading.specs.Bytes.{sees}
 use Rattle.tpl_parse.specs.declared.fault.ParseFault.{ParseFault}
 use Rattle.tpl_parse.specs.declared.fault.ParseFault.TheVariants as faults

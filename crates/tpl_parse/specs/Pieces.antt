@@ -1,10 +1,10 @@
 -- Reading a template: texts and the tags between them.
 use Rattle.std.specs.Prelude.{ℕ, zero, suc, Bool, true, false, ◌&&◌, ◌==◌, if◌then◌else◌, List, []}
 use Rattle.std.specs.Prelude.{◌∷◌, ◌++◌, length, drop, reverse, Option, Some, None, Ok}
-use Rattle.ha_model.specs.declared.template.Expr.{Expr}
-use Rattle.ha_model.specs.declared.template.Piece.{Piece}
-use Rattle.ha_model.specs.declared.template.Piece
-use Rattle.ha_model.specs.declared.template.Template.{Template}
+use Rattle.ha_config.specs.declared.template.Expr.{Expr}
+use Rattle.ha_config.specs.declared.template.Piece.{Piece}
+use Rattle.ha_config.specs.declared.template.Piece
+use Rattle.ha_config.specs.declared.template.Template.{Template}
 use Rattle.reading.specs.Answer.{◌>>=◌, front, made, stop}
 use Rattle.reading.specs.Bytes.{sees}
 use Rattle.tpl_parse.specs.declared.token.Token.{Token}

@@ -1,6 +1,6 @@
 -- What the place of a refusal is in terms of the grammar.
 use Rattle.std.specs.Prelude.{ℕ, suc, ◌≤◌, ◌<◌, List, ◌++◌, length, take, Result, Ok, Err}
-use Rattle.ha_model.specs.declared.template.Template.{Template}
+use Rattle.ha_config.specs.declared.template.Template.{Template}
 use Rattle.tpl_parse.specs.declared.fault.ParseFault.{ParseFault}
 use Rattle.tpl_parse.specs.declared.fault.ParseFault.TheVariants as faults
 use Rattle.tpl_parse.specs.Grammar.{IsTemplate}

@@ -2,7 +2,7 @@
 
 ghost use Rattle.std.specs.Prelude.{◌≡◌, ◌≤◌, Some, IfSome, length, drop, max};
 ghost use Rattle.reading.specs.Answer.{Gives, made};
-ghost use Rattle.ha_model.specs.declared.template.Op.{Op};
+ghost use Rattle.ha_config.specs.declared.template.Op.{Op};
 ghost use Rattle.tpl_parse.specs.declared.token.Token.{Token};
 ghost use Rattle.reading.specs.declared.fault.Stop.{Stop};
 ghost use Rattle.std.specs.List.{find};
@@ -12,7 +12,7 @@ ghost use Rattle.tpl_parse.specs.Reading.{behind_operator, chain, comparator, co
 use crate::parser::{Parser, Stopped};
 use crate::token::{Token, reach, stands};
 use crate::tree::{Tree, none_test_of, pair, pick, turned};
-use ha_model::Op;
+use ha_config::Op;
 use std::alloc::Global;
 
 /// The levels of operators that group from the left, the weakest first. `not` and the comparisons stand between `And` and `Sum`.

@@ -1,15 +1,15 @@
 //! What has been read of a template: its pieces, and the choices that are still open.
 
 ghost use Rattle.std.specs.Prelude.{◌≡◌, ◌++◌, [], ◌∷◌, false, None, List, reverse, OnOk, IfOk, IsUtf8};
-ghost use Rattle.ha_model.specs.declared.template.Piece.{Piece};
+ghost use Rattle.ha_config.specs.declared.template.Piece.{Piece};
 ghost use Rattle.tpl_parse.specs.Pieces.{Choosing, arms_with, begun, closed, fallback_of, next_arm, none_open, statements, template_of, trimmed, with_piece, with_text};
 ghost use Rattle.tpl_parse.specs.Token.{spaces};
 
 use crate::parser::Parser;
 use crate::token::Token;
 use crate::tree::{discard, discard_arms, discard_pieces};
-use ha_model::{Boxed, Expr, Many, Piece, Template, Word};
-use ha_value::is_blank_or_break;
+use ha_config::{Expr, Piece, Template};
+use ha_value::{Boxed, Many, Word, is_blank_or_break};
 use std::alloc::{AllocError, Global};
 use std::marker::Model;
 
@@ -25,9 +25,9 @@ pub struct Choosing {
 impl Model for Choosing {
     ghost use Rattle.tpl_parse.specs.Pieces.{Choosing as Known};
     ghost use Rattle.std.specs.Coded.{codes};
-    ghost use Rattle.ha_model.specs.contracts.template.Expr as e;
-    ghost use Rattle.ha_model.specs.contracts.template.Piece as p;
-    ghost use Rattle.ha_model.specs.contracts.template.Template as t;
+    ghost use Rattle.ha_config.specs.contracts.template.Expr as e;
+    ghost use Rattle.ha_config.specs.contracts.template.Piece as p;
+    ghost use Rattle.ha_config.specs.contracts.template.Template as t;
 
     ghost Value = { Known };
 
@@ -48,9 +48,9 @@ impl Model for Found {
     ghost use Rattle.std.specs.Prelude.{reverse};
     ghost use Rattle.tpl_parse.specs.Pieces.{Found as Known};
     ghost use Rattle.std.specs.Coded.{codes};
-    ghost use Rattle.ha_model.specs.contracts.template.Expr as e;
-    ghost use Rattle.ha_model.specs.contracts.template.Piece as p;
-    ghost use Rattle.ha_model.specs.contracts.template.Template as t;
+    ghost use Rattle.ha_config.specs.contracts.template.Expr as e;
+    ghost use Rattle.ha_config.specs.contracts.template.Piece as p;
+    ghost use Rattle.ha_config.specs.contracts.template.Template as t;
 
     ghost Value = { Known };
 

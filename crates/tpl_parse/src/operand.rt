@@ -1,7 +1,7 @@
 //! Operands: atoms, with what is asked of them, signs and filters.
 
 ghost use Rattle.std.specs.Prelude.{◌≡◌, ◌&&◌, ◌||◌, ◌==◌, Some, is_some, IfOk, IsUtf8, if◌then◌else◌};
-ghost use Rattle.ha_model.specs.declared.template.Expr.{Expr};
+ghost use Rattle.ha_config.specs.declared.template.Expr.{Expr};
 ghost use Rattle.reading.specs.Answer.{Gives};
 ghost use Rattle.tpl_parse.specs.Token.{next_is, past, spaces};
 ghost use Rattle.tpl_parse.specs.Reading.{arguments, atom, call_or_name, constant, enclosed, inside, filter_arguments, filtered, not_called, opened, reached, signed, word_atom};
@@ -11,7 +11,7 @@ use crate::parser::{Parser, Stopped};
 use crate::table::{Counts, Function, function_named};
 use crate::token::{Token, begins_name, is_reserved};
 use crate::tree::{Tree, Trees, call_of, field, filter_of, list, named, negative, part_at, plain};
-use ha_model::{Value, Word};
+use ha_value::{Value, Word};
 use std::alloc::{AllocError, Global};
 
 /// The value of a word that stands for one.

@@ -14,7 +14,7 @@ use crate::found::Found;
 use crate::parser::{Parser, Stopped};
 use crate::token::{Token, stands};
 use crate::tree::Tree;
-use ha_model::{Piece, Template};
+use ha_config::{Piece, Template};
 use std::alloc::Global;
 
 /// How many expressions, `not`s and signs may be opened in a tag's expression: 64 with itself.

@@ -1,7 +1,7 @@
 //! The reader of a whole template.
 
 ghost use Rattle.std.specs.Prelude.{◌<◌, ◌^◌, length, IfOk};
-ghost use Rattle.ha_model.specs.declared.template.Template.{Template};
+ghost use Rattle.ha_config.specs.declared.template.Template.{Template};
 ghost use Rattle.tpl_parse.specs.Grammar.{Answers, IsTemplate};
 ghost use Rattle.tpl_parse.specs.Pieces.{template};
 ghost use Rattle.tpl_parse.specs.Refused.{Stops};
@@ -9,7 +9,7 @@ ghost use Rattle.tpl_parse.specs.Tells.{Tells};
 
 use crate::fault::ParseFault;
 use crate::parser::Parser;
-use ha_model::Template;
+use ha_config::Template;
 use reading::Stop;
 use std::alloc::Global;
 

@@ -2,10 +2,11 @@
 //! long as its text, whatever the stack.
 
 ghost use Rattle.std.specs.Prelude.{◌≡◌, ◌++◌, [], ◌∷◌, None, Some, length, IfOk, OnOk};
-ghost use Rattle.ha_model.specs.declared.template.Expr.{Expr};
+ghost use Rattle.ha_config.specs.declared.template.Expr.{Expr};
 ghost use Rattle.std.specs.Option.{option_copied};
 
-use ha_model::{Boxed, Expr, Many, Op, Piece, Template, Value, Word};
+use ha_config::{Expr, Op, Piece, Template};
+use ha_value::{Boxed, Many, Value, Word};
 use std::alloc::{AllocError, AllocFailed, Global};
 use std::marker::Model;
 
@@ -120,9 +121,9 @@ pub struct Tree {
 }
 
 impl Model for Tree {
-    ghost use Rattle.ha_model.specs.declared.template.Expr.{Expr};
+    ghost use Rattle.ha_config.specs.declared.template.Expr.{Expr};
     ghost use Rattle.std.specs.Coded.{codes};
-    ghost use Rattle.ha_model.specs.contracts.template.Expr as e;
+    ghost use Rattle.ha_config.specs.contracts.template.Expr as e;
 
     ghost Value = { Expr };
 
@@ -168,9 +169,9 @@ pub struct Trees {
 
 impl Model for Trees {
     ghost use Rattle.std.specs.Prelude.{List};
-    ghost use Rattle.ha_model.specs.declared.template.Expr.{Expr};
+    ghost use Rattle.ha_config.specs.declared.template.Expr.{Expr};
     ghost use Rattle.std.specs.Coded.{codes};
-    ghost use Rattle.ha_model.specs.contracts.template.Expr as e;
+    ghost use Rattle.ha_config.specs.contracts.template.Expr as e;
 
     ghost Value = { List Expr };
 

@@ -1,10 +1,10 @@
 -- A text that begins with a line begins with no other.
 use Rattle.std.proofs.Common.{◌≡◌, ◌∙◌, ap, sym, refl, ℕ, [], ◌∷◌, ◌++◌, Bool, true, append_assoc}
 use Rattle.std.specs.Prelude.{◌&&◌, not, nat_eq}
-use Rattle.ha_model.specs.Words.{Text}
-use Rattle.ha_model.specs.Texts.{as_line}
-use Rattle.ha_model.proofs.EqualLemmas.{and_right}
-use Rattle.ha_model.proofs.RecordGrowth.{true-false}
+use Rattle.ha_config.specs.Words.{Text}
+use Rattle.ha_config.specs.CheckText.{as_line}
+use Rattle.ha_config.proofs.EqualLemmas.{and_right}
+use Rattle.ha_config.proofs.ListLemmas.{true-false}
 use Rattle.trace_laws.specs.Lines.{is_one_line}
 use Rattle.trace_laws.proofs.FeedLemmas.{HasOneFeed}
 

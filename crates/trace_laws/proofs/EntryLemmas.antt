@@ -2,20 +2,20 @@
 use Rattle.std.proofs.Common.{◌≡◌, ◌∙◌, ap, sym, refl, ℕ, ◌<◌, ◌^◌, List, ◌∷◌, drop, get_or, length, arith}
 use Rattle.std.proofs.lemmas.List.Sums.{count_by-le-length}
 use Rattle.std.specs.Prelude.{count_by}
-use Rattle.ha_model.specs.declared.config.Automation.{Automation}
-use Rattle.ha_model.specs.declared.journal.Cmd.{Cmd}
-use Rattle.ha_model.specs.declared.journal.Item.{Item}
-use Rattle.ha_model.specs.declared.journal.Entry.{Entry}
-use Rattle.ha_model.specs.declared.journal.Entry.TheVariants.{Boot, Line, Step}
-use Rattle.ha_model.specs.Words.{Text}
-use Rattle.ha_model.specs.Journal.{HasEntry, Journal}
-use Rattle.ha_model.specs.Commands.{IsFair}
-use Rattle.ha_model.specs.CommandText.{cmd_text}
+use Rattle.ha_config.specs.declared.config.Automation.{Automation}
+use Rattle.ha_config.specs.declared.command.Cmd.{Cmd}
+use Rattle.ha_sight.specs.declared.item.Item.{Item}
+use Rattle.ha_journal.specs.declared.entry.Entry.{Entry}
+use Rattle.ha_journal.specs.declared.entry.Entry.TheVariants.{Boot, Line, Step}
+use Rattle.ha_config.specs.Words.{Text}
+use Rattle.ha_journal.specs.Journal.{HasEntry, Journal}
+use Rattle.ha_journal.specs.Commands.{IsFair}
+use Rattle.ha_config.specs.CommandText.{cmd_text}
 use Rattle.ha_model.specs.Lawful.{is_line_of}
 use Rattle.ha_model.specs.Records.{Records}
-use Rattle.ha_model.specs.Scripts.{Branch}
-use Rattle.ha_model.specs.Texts.{end_line, trace_line}
-use Rattle.ha_model.proofs.LawfulLaws.{some-same}
+use Rattle.ha_sight.specs.Scripts.{Branch}
+use Rattle.ha_journal.specs.EntryText.{end_line, trace_line}
+use Rattle.ha_config.proofs.ListLemmas.{some-same}
 use Rattle.ha_laws.specs.Makers.{Worker}
 use Rattle.ha_laws.proofs.OneAnswer.{Rest, rest-same, same-step}
 use Rattle.flow_printed.specs.declared.line.PrintedLine.{PrintedLine}

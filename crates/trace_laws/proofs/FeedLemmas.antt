@@ -14,18 +14,21 @@ use Rattle.ha_value.specs.Ids.{entity_text}
 use Rattle.ha_value.specs.Lists.{before_end}
 use Rattle.ha_value.specs.Numbers.{digit, is_digit_zero, places_text, print_number, sign_text}
 use Rattle.ha_clock.specs.Print.{moment_text}
-use Rattle.ha_model.specs.declared.config.Automation.{Automation}
-use Rattle.ha_model.specs.declared.journal.Cmd.{Cmd}
-use Rattle.ha_model.specs.declared.journal.Entry.{Entry}
-use Rattle.ha_model.specs.declared.journal.Entry.TheVariants.{Boot, Line, Step}
-use Rattle.ha_model.specs.declared.journal.Item.{Item}
-use Rattle.ha_model.specs.Words.{Pairs, Text}
-use Rattle.ha_model.specs.Switches.{name_of}
-use Rattle.ha_model.specs.ValueText.{comma_joined, escaped_byte, flag_text, list_text, map_text, pair_text, print_pairs, print_step, print_value, quoted}
-use Rattle.ha_model.specs.CommandText.{call_pairs, cmd_text, failure_code, id_text, item_text, line_code, one_key, switched_text}
-use Rattle.ha_model.specs.Texts.{as_line, end_line, stored_text, trace_line}
-use Rattle.ha_model.proofs.EqualLemmas.{and_left, and_right}
-use Rattle.ha_model.proofs.Rolls.{print_value-roll}
+use Rattle.ha_config.specs.declared.config.Automation.{Automation}
+use Rattle.ha_config.specs.declared.command.Cmd.{Cmd}
+use Rattle.ha_journal.specs.declared.entry.Entry.{Entry}
+use Rattle.ha_journal.specs.declared.entry.Entry.TheVariants.{Boot, Line, Step}
+use Rattle.ha_sight.specs.declared.item.Item.{Item}
+use Rattle.ha_config.specs.Words.{Pairs, Text}
+use Rattle.ha_config.specs.Names.{name_of}
+use Rattle.ha_config.specs.ValueText.{comma_joined, escaped_byte, flag_text, list_text, map_text, pair_text, print_pairs, print_step, print_value, quoted}
+use Rattle.ha_sight.specs.ItemText.{call_pairs, failure_code, item_text, switched_text}
+use Rattle.ha_config.specs.CommandText.{cmd_text, id_text, line_code, one_key}
+use Rattle.ha_config.specs.CheckText.{as_line}
+use Rattle.ha_journal.specs.EntryText.{end_line, trace_line}
+use Rattle.ha_config.specs.StoreText.{stored_text}
+use Rattle.ha_config.proofs.EqualLemmas.{and_left, and_right}
+use Rattle.ha_config.proofs.ValueRolls.{print_value-roll}
 use Rattle.trace_laws.specs.Lines.{is_one_line}
 
 abbrev no_feed : ℕ → Bool

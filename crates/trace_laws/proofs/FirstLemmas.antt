@@ -2,13 +2,14 @@
 use Rattle.std.proofs.Common.{◌≡◌, ◌∙◌, ap, sym, List}
 use Rattle.std.specs.Prelude.{Ok, Result}
 use Rattle.yaml_scan.specs.declared.fault.Fault.{Fault}
-use Rattle.ha_model.specs.declared.config.Automation.{Automation}
-use Rattle.ha_model.specs.declared.config.Config.{Config}
-use Rattle.ha_model.specs.declared.journal.Entry.{Entry}
-use Rattle.ha_model.specs.declared.journal.Entry.TheVariants.{Boot, Line, Step}
-use Rattle.ha_model.specs.Words.{Text}
-use Rattle.ha_model.specs.Texts.{as_line, trace_line}
-use Rattle.ha_model.proofs.LawfulLaws.{some-same}
+use Rattle.ha_config.specs.declared.config.Automation.{Automation}
+use Rattle.ha_config.specs.declared.config.Config.{Config}
+use Rattle.ha_journal.specs.declared.entry.Entry.{Entry}
+use Rattle.ha_journal.specs.declared.entry.Entry.TheVariants.{Boot, Line, Step}
+use Rattle.ha_config.specs.Words.{Text}
+use Rattle.ha_config.specs.CheckText.{as_line}
+use Rattle.ha_journal.specs.EntryText.{trace_line}
+use Rattle.ha_config.proofs.ListLemmas.{some-same}
 use Rattle.flow_line.proofs.Whole.{document_read, same_value}
 use Rattle.conf_auto.specs.Config.{config_of}
 use Rattle.ha_replay.specs.declared.boot.BootLine.{BootLine}

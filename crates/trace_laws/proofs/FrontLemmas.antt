@@ -3,14 +3,15 @@ use Rattle.std.proofs.Common.{◌≡◌, ◌∙◌, sym, subst, refl, ℕ, suc, 
 use Rattle.std.proofs.lemmas.List.Folds.{list_all-append}
 use Rattle.std.specs.List.{list_all}
 use Rattle.std.specs.Prelude.{◌⊎◌, Some}
-use Rattle.ha_model.specs.declared.journal.Entry.{Entry}
-use Rattle.ha_model.specs.declared.journal.Entry.TheVariants.{Boot, Line, Step}
-use Rattle.ha_model.specs.Words.{EachAfter, EachFrom, EachWith}
-use Rattle.ha_model.specs.Journal.{HasEntry, IsBoot, IsJournal, Journal}
+use Rattle.ha_journal.specs.declared.entry.Entry.{Entry}
+use Rattle.ha_journal.specs.declared.entry.Entry.TheVariants.{Boot, Line, Step}
+use Rattle.ha_config.specs.Words.{EachAfter, EachFrom, EachWith}
+use Rattle.ha_journal.specs.Journal.{HasEntry, IsJournal, Journal}
+use Rattle.ha_journal.specs.Entries.{IsBoot}
 use Rattle.ha_model.specs.Records.{Records, records_of}
 use Rattle.ha_model.specs.Lawful.{IsDue, IsRightEntry, IsTurn, Lawful, is_by_worker_0, is_rested, pick}
 use Rattle.ha_model.proofs.AppendLemmas.{each-snoc, ready-same, SameUpTo}
-use Rattle.ha_model.proofs.EqualLemmas.{and_left}
+use Rattle.ha_config.proofs.EqualLemmas.{and_left}
 use Rattle.ha_model.proofs.LawfulLaws.{rested-same}
 use Rattle.ha_laws.proofs.PrefixLaws.{records-prefix, same-less}
 use Rattle.ha_laws.proofs.RightMore.{right-back}

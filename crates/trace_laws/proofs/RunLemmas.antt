@@ -1,15 +1,14 @@
 -- What a text begins with tells the run.
 use Rattle.std.proofs.Common.{◌≡◌, ◌≢◌, ◌∙◌, ap, sym, subst, refl, ℕ, suc, ◌+◌, ◌≤◌, inl, inr, List, [], ◌∷◌, ◌++◌, length, Bool, true, false, arith, append_assoc, append-nil, length-append}
 use Rattle.std.specs.Prelude.{◌⊎◌, if◌then◌else◌}
-use Rattle.ha_model.specs.declared.config.Automation.{Automation}
-use Rattle.ha_model.specs.declared.journal.Entry.{Entry}
-use Rattle.ha_model.specs.Words.{Text}
-use Rattle.ha_model.specs.Journal.{HasEntry, Journal, automations}
+use Rattle.ha_config.specs.declared.config.Automation.{Automation}
+use Rattle.ha_journal.specs.declared.entry.Entry.{Entry}
+use Rattle.ha_config.specs.Words.{Text}
+use Rattle.ha_journal.specs.Journal.{HasEntry, Journal, automations, more}
 use Rattle.ha_model.specs.Lawful.{Lawful, is_quiet}
 use Rattle.ha_model.specs.Records.{Records, records_of}
-use Rattle.ha_model.specs.RecordSteps.{more}
-use Rattle.ha_model.specs.Texts.{end_line, trace_line}
-use Rattle.ha_model.proofs.RecordGrowth.{true-false}
+use Rattle.ha_journal.specs.EntryText.{end_line, trace_line}
+use Rattle.ha_config.proofs.ListLemmas.{true-false}
 use Rattle.ha_laws.proofs.OneAnswer.{Rest, whole-rest}
 use Rattle.ha_replay.specs.Traces.{IsEnd, most_entries}
 use Rattle.trace_laws.specs.Lines.{Cuts}

@@ -1,14 +1,13 @@
 -- Two lawful runs, whose traces go on with the same bytes behind the same entries: one goes on as the other begins.
 use Rattle.std.proofs.Common.{◌≡◌, ◌∙◌, ap, sym, subst, refl, ℕ, suc, ◌+◌, ◌<◌, ◌^◌, inl, inr, List, [], ◌∷◌, ◌++◌, length, Bool, true, false, arith, append_assoc, length-append}
 use Rattle.std.specs.Prelude.{◌⊎◌, if◌then◌else◌}
-use Rattle.ha_model.specs.declared.config.Automation.{Automation}
-use Rattle.ha_model.specs.declared.journal.Entry.{Entry}
-use Rattle.ha_model.specs.Words.{Text}
-use Rattle.ha_model.specs.Journal.{HasEntry, Journal}
+use Rattle.ha_config.specs.declared.config.Automation.{Automation}
+use Rattle.ha_journal.specs.declared.entry.Entry.{Entry}
+use Rattle.ha_config.specs.Words.{Text}
+use Rattle.ha_journal.specs.Journal.{HasEntry, Journal, more}
 use Rattle.ha_model.specs.Records.{Records}
-use Rattle.ha_model.specs.RecordSteps.{more}
-use Rattle.ha_model.specs.Texts.{end_line, texts_after, trace_line}
-use Rattle.ha_model.proofs.AppendLemmas.{append-nil}
+use Rattle.ha_journal.specs.EntryText.{end_line, texts_after, trace_line}
+use Rattle.ha_config.proofs.ListLemmas.{append-nil}
 use Rattle.ha_laws.proofs.OneAnswer.{Rest, rest-tail}
 use Rattle.ha_laws.proofs.PrefixLaws.{has-more}
 use Rattle.trace_laws.proofs.CutLemmas.{one_front}

@@ -2,15 +2,15 @@
 use Rattle.std.specs.Prelude.{ℕ, ◌≡◌, ◌≤◌, ◌+◌, ◌⊎◌, Bool, true, [], ◌∷◌, ◌++◌, length, Option, Ok, IsSome, if◌then◌else◌}
 use Rattle.ha_clock.specs.Local.{last_moment}
 use Rattle.ha_clock.specs.Zone.{zone_of}
-use Rattle.ha_model.specs.declared.config.Config.{Config}
-use Rattle.ha_model.specs.declared.journal.Entry.{Entry}
-use Rattle.ha_model.specs.declared.journal.Entry.TheVariants.{Boot, Line, Step}
-use Rattle.ha_model.specs.Words.{Text}
-use Rattle.ha_model.specs.Journal.{HasEntry, Journal, automations}
+use Rattle.ha_config.specs.declared.config.Config.{Config}
+use Rattle.ha_journal.specs.declared.entry.Entry.{Entry}
+use Rattle.ha_journal.specs.declared.entry.Entry.TheVariants.{Boot, Line, Step}
+use Rattle.ha_config.specs.Words.{Text}
+use Rattle.ha_journal.specs.Journal.{HasEntry, Journal, automations, more}
 use Rattle.ha_model.specs.Records.{Records}
-use Rattle.ha_model.specs.RecordSteps.{more}
 use Rattle.ha_model.specs.Lawful.{Lawful, is_quiet}
-use Rattle.ha_model.specs.Texts.{as_line, trace_line, trace_text}
+use Rattle.ha_config.specs.CheckText.{as_line}
+use Rattle.ha_journal.specs.EntryText.{trace_line, trace_text}
 use Rattle.conf_auto.specs.Config.{config_of}
 use Rattle.ha_replay.specs.declared.boot.BootLine.{BootLine}
 use Rattle.ha_replay.specs.Boots.{HasUtf8, Switches, are_stored}

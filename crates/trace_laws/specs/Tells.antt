@@ -1,7 +1,7 @@
 -- What the bytes of a trace tell of its run.
 use Rattle.std.specs.Prelude.{ℕ, ◌≡◌, ◌≤◌, ◌⊎◌, Bool, true, []}
-use Rattle.ha_model.specs.Words.{Text}
-use Rattle.ha_model.specs.Journal.{Journal}
+use Rattle.ha_config.specs.Words.{Text}
+use Rattle.ha_journal.specs.Journal.{Journal}
 use Rattle.ha_model.specs.Records.{Records}
 use Rattle.ha_replay.specs.Traces.{IsEnd}
 use Rattle.trace_laws.specs.Lines.{Cuts}

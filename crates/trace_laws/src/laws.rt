@@ -1,7 +1,7 @@
 //! Laws of the definitions alone. Each is a function that does nothing; its contract is the law.
 ghost use Rattle.std.specs.Prelude.{◌≡◌, ◌≢◌, ◌≤◌, ◌++◌, [], Bool, true, length};
-ghost use Rattle.ha_model.specs.Words.{Text};
-ghost use Rattle.ha_model.specs.Journal.{HasEntry, Journal};
+ghost use Rattle.ha_config.specs.Words.{Text};
+ghost use Rattle.ha_journal.specs.Journal.{HasEntry, Journal};
 ghost use Rattle.ha_model.specs.Records.{Records, records_of};
 ghost use Rattle.ha_replay.specs.Traces.{most_entries};
 ghost use Rattle.trace_laws.specs.Runs.{Begins, IsRun, line_count};

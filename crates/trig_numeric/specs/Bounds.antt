@@ -1,9 +1,9 @@
 -- Numeric triggers: the number that a state gives, in the bounds of a rule.
 use Rattle.std.specs.Prelude.{Bool, true, false, Option, None, option_map, option_and_then}
-use Rattle.ha_model.specs.declared.config.TriggerRule.{TriggerRule}
-use Rattle.ha_model.specs.declared.journal.StateObject.{StateObject}
-use Rattle.ha_model.specs.Numbers.{in_bounds}
-use Rattle.ha_model.specs.Conditions.{watched_number}
+use Rattle.ha_config.specs.declared.config.TriggerRule.{TriggerRule}
+use Rattle.ha_sight.specs.declared.state.StateObject.{StateObject}
+use Rattle.ha_config.specs.Numbers.{in_bounds}
+use Rattle.ha_sight.specs.Conditions.{watched_number}
 
 abbrev pub is_numeric : TriggerRule → Bool
 is_numeric (TriggerRule.State entities attribute from to) = false

@@ -2,9 +2,10 @@
 ghost use Rattle.std.specs.Prelude.{◌≡◌, option_and_then};
 ghost use Rattle.std.specs.Option.{option_copied};
 ghost use Rattle.ha_value.specs.Numbers.{kept_in_range, print_number, read_number};
-ghost use Rattle.ha_model.specs.Conditions.{attribute_text, number_watched};
+ghost use Rattle.ha_sight.specs.Conditions.{attribute_text, number_watched};
 
-use ha_model::{Num, Value, Word, first_pair};
+use ha_config::first_pair;
+use ha_value::{Num, Value, Word};
 
 /// The number, where it is in range.
 fn in_range(number: Num) -> Option<Num>

@@ -1,11 +1,13 @@
 //! The bounds of numeric triggers.
 ghost use Rattle.std.specs.Prelude.{◌≡◌, true};
 ghost use Rattle.std.specs.Option.{option_copied};
-ghost use Rattle.ha_model.specs.Numbers as numbers;
+ghost use Rattle.ha_config.specs.Numbers as numbers;
 ghost use Rattle.trig_numeric.specs.Bounds.{is_numeric, rule_in};
 
 use crate::numbers::number_in;
-use ha_model::{Num, StateObject, TriggerRule};
+use ha_config::TriggerRule;
+use ha_sight::StateObject;
+use ha_value::Num;
 use std::cmp::Ordering;
 
 fn is_less(left: &Num, right: &Num) -> bool

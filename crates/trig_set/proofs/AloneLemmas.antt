@@ -2,17 +2,17 @@
 use Rattle.std.proofs.Common.{◌≡◌, ℕ, zero, suc, List, [], ◌∷◌, ◌++◌, length, map, Bool, true, false, refl, sym, ap, subst, ◌∙◌}
 use Rattle.std.specs.Prelude.{Option, Some, None, MatchOption, flat_map, nat_lt, option_map, slice_get, if◌then◌else◌}
 use Rattle.ha_value.specs.declared.value.EntityId.{EntityId}
-use Rattle.ha_model.specs.declared.journal.Cmd.{Cmd}
-use Rattle.ha_model.specs.declared.journal.Entry.{Entry}
-use Rattle.ha_model.specs.declared.journal.Entry.TheVariants.{Line}
-use Rattle.ha_model.specs.declared.journal.StateObject.{StateObject}
-use Rattle.ha_model.specs.Conditions.{number_watched}
-use Rattle.ha_model.specs.Journal.{Journal, now, zone_of}
-use Rattle.ha_model.specs.RecordSteps.{more}
-use Rattle.ha_model.specs.States.{Sight, states}
-use Rattle.ha_model.specs.Words.{Text, Pairs, same_entity}
-use Rattle.ha_model.proofs.EqualLemmas.{entity-sound}
-use Rattle.ha_model.proofs.HeldLaws.{latest-more}
+use Rattle.ha_config.specs.declared.command.Cmd.{Cmd}
+use Rattle.ha_journal.specs.declared.entry.Entry.{Entry}
+use Rattle.ha_journal.specs.declared.entry.Entry.TheVariants.{Line}
+use Rattle.ha_sight.specs.declared.state.StateObject.{StateObject}
+use Rattle.ha_sight.specs.Conditions.{number_watched}
+use Rattle.ha_journal.specs.Journal.{Journal, now, zone_of, more}
+use Rattle.ha_sight.specs.Sight.{Sight}
+use Rattle.ha_journal.specs.States.{states}
+use Rattle.ha_config.specs.Words.{Text, Pairs, same_entity}
+use Rattle.ha_config.proofs.EqualLemmas.{entity-sound}
+use Rattle.ha_journal.proofs.HeldLaws.{latest-more}
 use Rattle.ha_past.specs.Firings.{firings, firings_of}
 use Rattle.ha_past.specs.Looks.{or_else}
 use Rattle.event_bus.specs.Subjects.{Subject, knows}

@@ -7,8 +7,8 @@ use Rattle.std.specs.Str.Parse.{digits_value}
 use Rattle.ha_value.specs.declared.value.Num.{Num}
 use Rattle.ha_value.specs.Lists.{some_all, before_first, after_first}
 use Rattle.ha_value.specs.Numbers.{kept_in_range, nearest, number_from, read_number, signed}
-use Rattle.ha_model.specs.Conditions.{number_watched}
-use Rattle.ha_model.specs.Words.{Text, Pairs}
+use Rattle.ha_sight.specs.Conditions.{number_watched}
+use Rattle.ha_config.specs.Words.{Text, Pairs}
 use Rattle.trig_set.specs.Table.{begins_as_number}
 
 none-from : (m : Bool) (whole : List ℕ) (places : Option (List ℕ)) → some_all is_ascii_digit whole ≡ false → number_from m whole places ≡ None

@@ -5,11 +5,11 @@ use Rattle.std.specs.List.{enumerate_from, list_all, list_any}
 use Rattle.std.proofs.lemmas.Bool.Decides.{nat_tests}
 use Rattle.std.proofs.lemmas.List.{take_more}
 use Rattle.ha_value.specs.declared.value.EntityId.{EntityId}
-use Rattle.ha_model.specs.declared.config.Trigger.{Trigger}
-use Rattle.ha_model.specs.Journal.{Journal}
-use Rattle.ha_model.specs.Words.{same_entity}
-use Rattle.ha_model.specs.Sound.{may_hold, is_sound_rule, is_sound_trigger, if_there}
-use Rattle.ha_model.specs.Triggers.{each_once, without_entity, entities_of}
+use Rattle.ha_config.specs.declared.config.Trigger.{Trigger}
+use Rattle.ha_journal.specs.Journal.{Journal}
+use Rattle.ha_config.specs.Words.{same_entity}
+use Rattle.ha_config.specs.Sound.{may_hold, is_sound_rule, is_sound_trigger, if_there}
+use Rattle.ha_sight.specs.Rules.{each_once, without_entity, entities_of}
 use Rattle.trig_set.specs.declared.spot.Spot.{Spot}
 use Rattle.trig_set.specs.declared.spot.Held.{Held}
 use Rattle.trig_set.specs.Blank.{is_blank, are_blank, entity_places}
@@ -66,7 +66,7 @@ module _ (n : ℕ) (front : List (ℕ × Option EntityId)) (es : List EntityId) 
 -- ---- the places of triggers
 
 abbrev spread : ℕ × Trigger → List (ℕ × Option EntityId)
-spread t = map {A = Option EntityId} {B = ℕ × Option EntityId} (λ e. (t.0, e)) (entities_of [] t.1.rule)
+spread t = map {A = Option EntityId} {B = ℕ × Option EntityId} (λ e. (t.0, e)) (entities_of t.1.rule)
 
 nil-right : {X : Type 0} (xs : List X) → xs ++ [] ≡ xs
 nil-right [] = refl
@@ -86,7 +86,7 @@ length-first (x ∷ xs) (suc n) le = ap suc (length-first xs n (omega (arith, le
 
 -- LAW: one more trigger's places
 pub places-more : (front : List (ℕ × Option EntityId)) (ts : List Trigger) (place : ℕ) (d : Trigger) → place < length ts
-    → (front ++ places_of [] (take place ts)) ++ map (λ e. (place, e)) (entities_of [] (get_or ts place d).rule) ≡ front ++ places_of [] (take (place + 1) ts)
+    → (front ++ places_of [] (take place ts)) ++ map (λ e. (place, e)) (entities_of (get_or ts place d).rule) ≡ front ++ places_of [] (take (place + 1) ts)
 places-more front ts place d lt =
     append_assoc front (places_of [] (take place ts)) (spread (place, get_or ts place d))
     ∙ ap (λ l. front ++ l)

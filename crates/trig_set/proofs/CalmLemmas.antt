@@ -7,22 +7,22 @@ use Rattle.timer_queue.specs.Timers.{Timer, due_of}
 use Rattle.ha_value.specs.declared.value.EntityId.{EntityId}
 use Rattle.ha_value.specs.declared.value.Num.{Num}
 use Rattle.ha_value.specs.declared.value.Value.{Value}
-use Rattle.ha_model.specs.declared.config.Trigger.{Trigger}
-use Rattle.ha_model.specs.declared.config.TriggerRule.{TriggerRule}
-use Rattle.ha_model.specs.declared.journal.Entry.{Entry}
-use Rattle.ha_model.specs.Conditions.{number_watched}
-use Rattle.ha_model.specs.Entries.{Reported, event_in, is_moment, report_in}
-use Rattle.ha_model.specs.Equal.{same_flag}
-use Rattle.ha_model.specs.Journal.{Journal, HasEntry, now}
-use Rattle.ha_model.specs.Numbers.{in_bounds}
-use Rattle.ha_model.specs.RecordSteps.{more}
-use Rattle.ha_model.specs.Sound.{may_hold}
-use Rattle.ha_model.specs.States.{Sight, states}
-use Rattle.ha_model.specs.Switches.{opens_segment}
-use Rattle.ha_model.specs.Triggers.{latest_number, pair_holds, passed, report_number, sight}
-use Rattle.ha_model.specs.Words.{Text, Pairs, one_of, same_entity}
-use Rattle.ha_model.proofs.EqualLemmas.{same-refl}
-use Rattle.ha_model.proofs.HeldLaws.{latest-more}
+use Rattle.ha_config.specs.declared.config.Trigger.{Trigger}
+use Rattle.ha_config.specs.declared.config.TriggerRule.{TriggerRule}
+use Rattle.ha_journal.specs.declared.entry.Entry.{Entry}
+use Rattle.ha_sight.specs.Conditions.{number_watched}
+use Rattle.ha_journal.specs.Entries.{Reported, event_in, is_moment, report_in, opens_segment}
+use Rattle.ha_config.specs.Equal.{same_flag}
+use Rattle.ha_journal.specs.Journal.{Journal, HasEntry, now, more}
+use Rattle.ha_config.specs.Numbers.{in_bounds}
+use Rattle.ha_config.specs.Sound.{may_hold}
+use Rattle.ha_sight.specs.Sight.{Sight}
+use Rattle.ha_journal.specs.States.{states}
+use Rattle.ha_journal.specs.Moves.{latest_number, report_number, sight}
+use Rattle.ha_sight.specs.Rules.{pair_holds, passed}
+use Rattle.ha_config.specs.Words.{Text, Pairs, one_of, same_entity}
+use Rattle.ha_config.proofs.EqualLemmas.{same-refl}
+use Rattle.ha_journal.proofs.HeldLaws.{latest-more}
 use Rattle.ha_past.specs.Firings.{firings_of}
 use Rattle.ha_past.specs.Looks.{given, looks, moves_with, or_else, watches}
 use Rattle.event_bus.specs.Subjects.{Subject, concerns}

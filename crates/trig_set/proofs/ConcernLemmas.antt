@@ -3,16 +3,15 @@ use Rattle.std.proofs.Common.{◌≡◌, ℕ, zero, suc, ◌<◌, List, [], ◌�
 use Rattle.std.specs.Prelude.{Option, Some, None, MatchOption, nat_lt, option_map, slice_get, if◌then◌else◌}
 use Rattle.std.specs.Option.{option_map_or}
 use Rattle.ha_value.specs.declared.value.EntityId.{EntityId}
-use Rattle.ha_model.specs.declared.config.Trigger.{Trigger}
-use Rattle.ha_model.specs.declared.journal.Entry.{Entry}
-use Rattle.ha_model.specs.Entries.{event_in, is_moment, opens_segment}
-use Rattle.ha_model.specs.Journal.{Journal, IsJournal, now}
-use Rattle.ha_model.specs.RecordSteps.{more}
-use Rattle.ha_model.specs.States.{states}
+use Rattle.ha_config.specs.declared.config.Trigger.{Trigger}
+use Rattle.ha_journal.specs.declared.entry.Entry.{Entry}
+use Rattle.ha_journal.specs.Entries.{event_in, is_moment, opens_segment}
+use Rattle.ha_journal.specs.Journal.{Journal, IsJournal, now, more}
+use Rattle.ha_journal.specs.States.{states}
 use Rattle.timer_queue.specs.Timers.{Timer, due_of}
 use Rattle.timer_queue.proofs.TimerLemmas.{later_than}
-use Rattle.ha_model.specs.Words.{Text, same_entity}
-use Rattle.ha_model.proofs.EqualLemmas.{entity-sound}
+use Rattle.ha_config.specs.Words.{Text, same_entity}
+use Rattle.ha_config.proofs.EqualLemmas.{entity-sound}
 use Rattle.ha_past.specs.Firings.{firings_of}
 use Rattle.event_bus.specs.declared.index.Index.{Index}
 use Rattle.event_bus.specs.Subjects.{Subject, concerns, knows}

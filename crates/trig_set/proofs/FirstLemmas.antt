@@ -9,11 +9,10 @@ use Rattle.std.specs.String.{string_bytes, string_cmp}
 use Rattle.std.proofs.lemmas.Map.Text.{btree_set_updates_text}
 use Rattle.ha_value.specs.declared.value.Num.{Num}
 use Rattle.ha_value.specs.declared.value.Value.{Value}
-use Rattle.ha_model.specs.Conditions.{attribute_text}
-use Rattle.ha_model.specs.Numbers.{read_number}
-use Rattle.ha_model.specs.Records.{or_else}
-use Rattle.ha_model.specs.Words.{Text, Pairs, same, first_pair}
-use Rattle.ha_model.proofs.EqualLemmas.{same-sound}
+use Rattle.ha_sight.specs.Conditions.{attribute_text}
+use Rattle.ha_config.specs.Numbers.{read_number}
+use Rattle.ha_config.specs.Words.{or_else, Text, Pairs, same, first_pair}
+use Rattle.ha_config.proofs.EqualLemmas.{same-sound}
 use Rattle.trig_set.specs.Table.{SoFar}
 
 first-more : (q : Text) (front : Pairs) (a : Text × Value) → first_pair q (front ++ (a ∷ [])) ≡ or_else (first_pair q front) (if same a.0 q then Some a.1 else None)

@@ -4,16 +4,18 @@ use Rattle.std.specs.Prelude.{Option, Some, None, is_some, nat_lt, nat_le, optio
 use Rattle.std.proofs.lemmas.Bool.Decides.{nat_tests}
 use Rattle.ha_value.specs.declared.value.EntityId.{EntityId}
 use Rattle.ha_value.specs.declared.value.Value.{Value}
-use Rattle.ha_model.specs.declared.config.Trigger.{Trigger}
-use Rattle.ha_model.specs.declared.config.TriggerRule.{TriggerRule}
-use Rattle.ha_model.specs.declared.journal.Entry.{Entry}
-use Rattle.ha_model.specs.Entries.{is_moment}
-use Rattle.ha_model.specs.Journal.{Journal, now}
-use Rattle.ha_model.specs.Sound.{may_hold}
-use Rattle.ha_model.specs.States.{Sight}
-use Rattle.ha_model.specs.Triggers.{sight, moves, starts, variables, fired_from}
-use Rattle.ha_model.specs.RecordSteps.{more}
-use Rattle.ha_model.proofs.RecordLaws.{through-last}
+use Rattle.ha_config.specs.declared.config.Trigger.{Trigger}
+use Rattle.ha_config.specs.declared.config.TriggerRule.{TriggerRule}
+use Rattle.ha_journal.specs.declared.entry.Entry.{Entry}
+use Rattle.ha_journal.specs.Entries.{is_moment}
+use Rattle.ha_journal.specs.Journal.{Journal, now, more}
+use Rattle.ha_config.specs.Sound.{may_hold}
+use Rattle.ha_sight.specs.Sight.{Sight}
+use Rattle.ha_journal.specs.Moves.{sight, moves}
+use Rattle.ha_sight.specs.Rules.{starts}
+use Rattle.ha_journal.specs.Variables.{variables}
+use Rattle.ha_journal.specs.Holds.{fired_from}
+use Rattle.ha_journal.proofs.MoreLemmas.{through-last}
 use Rattle.trig_set.specs.declared.spot.Held.{Held}
 use Rattle.trig_set.specs.declared.spot.Spot.{Spot}
 use Rattle.trig_set.specs.Kept.{Keeps, Moved, Fired, Settles, holding, holds_well, is_template, is_true, ripened, ripened_by}
@@ -25,7 +27,7 @@ module _ (j : Journal) (x : Entry) (t : Trigger) (since : ℕ) (e : Option Entit
   longer : Journal
   longer = more j x
 
-  start-not : (k : Journal) (rule : TriggerRule) → may_hold rule ≡ true → starts k rule ≡ false
+  start-not : (k : Journal) (rule : TriggerRule) → may_hold rule ≡ true → starts rule ≡ false
   start-not k (TriggerRule.State entities attribute from to) m = refl
   start-not k (TriggerRule.Numeric entities attribute above below) m = refl
   start-not k (TriggerRule.Event kinds pairs) m = refl

@@ -6,7 +6,7 @@ use Rattle.std.specs.BTreeMap.{is_at}
 use Rattle.std.specs.BTreeSet.{BTreeSet, IsLowerBound}
 use Rattle.std.specs.Ordering.{is_gt}
 use Rattle.std.proofs.lemmas.Bool.Decides.{eqb_tells, nat_tests}
-use Rattle.ha_model.specs.Words.{up_to}
+use Rattle.ha_config.specs.Words.{up_to}
 use Rattle.event_bus.specs.Lists.{has}
 use Rattle.timer_queue.specs.Timers.{Timer, after_due, due_of, first_due}
 use Rattle.trig_set.specs.declared.owners.Attached.{Attached}

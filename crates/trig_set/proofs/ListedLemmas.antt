@@ -4,11 +4,11 @@ use Rattle.std.specs.Prelude.{Option, Some, None, IsNone, MatchOption, flat_map,
 use Rattle.std.specs.List.{enumerate_from, list_all, list_any}
 use Rattle.std.proofs.lemmas.Bool.Decides.{nat_tests}
 use Rattle.ha_value.specs.declared.value.EntityId.{EntityId}
-use Rattle.ha_model.specs.declared.config.Trigger.{Trigger}
-use Rattle.ha_model.specs.declared.config.TriggerRule.{TriggerRule}
-use Rattle.ha_model.specs.Triggers.{each_once, entities_of, without_entity}
-use Rattle.ha_model.specs.Words.{same_entity}
-use Rattle.ha_model.proofs.EqualLemmas.{and_left, and_right}
+use Rattle.ha_config.specs.declared.config.Trigger.{Trigger}
+use Rattle.ha_config.specs.declared.config.TriggerRule.{TriggerRule}
+use Rattle.ha_sight.specs.Rules.{each_once, entities_of, without_entity}
+use Rattle.ha_config.specs.Words.{same_entity}
+use Rattle.ha_config.proofs.EqualLemmas.{and_left, and_right}
 use Rattle.ha_past.specs.Firings.{Owner, owner_named, placed, without_owner}
 use Rattle.event_bus.specs.declared.index.Index.{Index}
 use Rattle.event_bus.specs.Subjects.{Subject, by_entity, concerns, knows}
@@ -189,7 +189,7 @@ any-some f (x ∷ xs) h = by (f (Some x)) (any-some f xs) h
     by false g h = g h
 
 -- LAW: what concerns a trigger for one of its entities concerns it
-pub heeds-for : (rule : TriggerRule) (n : ℕ) (e : Option EntityId) (s : Subject) → slice_get (entities_of [] rule) n ≡ Some e → concerns rule e s ≡ true → heeds rule s ≡ true
+pub heeds-for : (rule : TriggerRule) (n : ℕ) (e : Option EntityId) (s : Subject) → slice_get (entities_of rule) n ≡ Some e → concerns rule e s ≡ true → heeds rule s ≡ true
 heeds-for (TriggerRule.State entities attribute from to) n e s at h =
     any-once (λ e. by_entity (Some e) s) entities (any-some (λ o. by_entity o s) (each_once entities) (any-at (λ o. by_entity o s) (map Some (each_once entities)) n e at h))
 heeds-for (TriggerRule.Numeric entities attribute above below) n e s at h =
@@ -216,14 +216,14 @@ get-behind : (front : List Trigger) (t : Trigger) (rest : List Trigger) → slic
 get-behind [] t rest = refl
 get-behind (x ∷ xs) t rest = get-behind xs t rest
 
-module _ (P : ℕ × Option EntityId → Type 0) (triggers : List Trigger) (each : (k n : ℕ) (t : Trigger) (e : Option EntityId) → slice_get triggers k ≡ Some t → slice_get (entities_of [] t.rule) n ≡ Some e → P (k, e)) where
+module _ (P : ℕ × Option EntityId → Type 0) (triggers : List Trigger) (each : (k n : ℕ) (t : Trigger) (e : Option EntityId) → slice_get triggers k ≡ Some t → slice_get (entities_of t.rule) n ≡ Some e → P (k, e)) where
   from : (front rest : List Trigger) → triggers ≡ front ++ rest
-      → (n : ℕ) → MatchOption (slice_get (flat_map (λ t. map (λ e. (t.0, e)) (entities_of [] t.1.rule)) (enumerate_from (length front) rest)) n) (Unit {0}) P
+      → (n : ℕ) → MatchOption (slice_get (flat_map (λ t. map (λ e. (t.0, e)) (entities_of t.1.rule)) (enumerate_from (length front) rest)) n) (Unit {0}) P
   from front [] is = λ n. tt
   from front (t ∷ rest) is =
-      all-append P (map (λ e. (length front, e)) (entities_of [] t.rule)) (flat_map (λ u. map (λ e. (u.0, e)) (entities_of [] u.1.rule)) (enumerate_from (length front + 1) rest))
-      (all-map (λ e. (length front, e)) P (entities_of [] t.rule) (λ m e at. each (length front) m t e (ap (λ l. slice_get l (length front)) is ∙ get-behind front t rest) at))
-      (subst (λ k. (n : ℕ) → MatchOption (slice_get (flat_map (λ u. map (λ e. (u.0, e)) (entities_of [] u.1.rule)) (enumerate_from k rest)) n) (Unit {0}) P) (longer front)
+      all-append P (map (λ e. (length front, e)) (entities_of t.rule)) (flat_map (λ u. map (λ e. (u.0, e)) (entities_of u.1.rule)) (enumerate_from (length front + 1) rest))
+      (all-map (λ e. (length front, e)) P (entities_of t.rule) (λ m e at. each (length front) m t e (ap (λ l. slice_get l (length front)) is ∙ get-behind front t rest) at))
+      (subst (λ k. (n : ℕ) → MatchOption (slice_get (flat_map (λ u. map (λ e. (u.0, e)) (entities_of u.1.rule)) (enumerate_from k rest)) n) (Unit {0}) P) (longer front)
       (from (front ++ (t ∷ [])) rest (is ∙ joined front)))
     where
       longer : (xs : List Trigger) → length (xs ++ (t ∷ [])) ≡ length xs + 1

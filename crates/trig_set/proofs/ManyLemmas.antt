@@ -6,10 +6,10 @@ use Rattle.std.specs.Option.{option_map_or}
 use Rattle.std.specs.BTreeMap.{is_at}
 use Rattle.std.specs.BTreeSet.{BTreeSet}
 use Rattle.std.proofs.lemmas.Bool.Decides.{leb_tells, nat_tests}
-use Rattle.ha_model.specs.declared.config.Trigger.{Trigger}
-use Rattle.ha_model.specs.declared.journal.Entry.{Entry}
-use Rattle.ha_model.specs.Journal.{Journal}
-use Rattle.ha_model.specs.Switches.{opens_segment}
+use Rattle.ha_config.specs.declared.config.Trigger.{Trigger}
+use Rattle.ha_journal.specs.declared.entry.Entry.{Entry}
+use Rattle.ha_journal.specs.Journal.{Journal}
+use Rattle.ha_journal.specs.Entries.{opens_segment}
 use Rattle.timer_queue.specs.Timers.{Timer}
 use Rattle.event_bus.specs.declared.index.Index.{Index}
 use Rattle.event_bus.specs.Lists.{has}

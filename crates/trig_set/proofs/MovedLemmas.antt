@@ -7,32 +7,33 @@ use Rattle.std.proofs.lemmas.Bool.Decides.{nat_tests}
 use Rattle.ha_value.specs.declared.value.EntityId.{EntityId}
 use Rattle.ha_value.specs.declared.value.Value.{Value}
 use Rattle.ha_value.specs.declared.value.Value.TheVariants.{Pairs as Map}
-use Rattle.ha_model.specs.declared.config.Match.{Match}
-use Rattle.ha_model.specs.declared.config.Trigger.{Trigger}
-use Rattle.ha_model.specs.declared.config.TriggerRule.{TriggerRule}
-use Rattle.ha_model.specs.declared.journal.Entry.{Entry}
-use Rattle.ha_model.specs.declared.journal.StateObject.{StateObject}
-use Rattle.ha_model.specs.Equal.{same_pairs}
-use Rattle.ha_model.specs.Conditions.{attribute_text, number_watched}
+use Rattle.ha_config.specs.declared.config.Match.{Match}
+use Rattle.ha_config.specs.declared.config.Trigger.{Trigger}
+use Rattle.ha_config.specs.declared.config.TriggerRule.{TriggerRule}
+use Rattle.ha_journal.specs.declared.entry.Entry.{Entry}
+use Rattle.ha_sight.specs.declared.state.StateObject.{StateObject}
+use Rattle.ha_config.specs.Equal.{same_pairs}
+use Rattle.ha_sight.specs.Conditions.{attribute_text, number_watched}
 use Rattle.ha_value.specs.Ids.{entity_text}
-use Rattle.ha_model.proofs.FiringLaws.{state-stays}
-use Rattle.ha_model.specs.Words.{Text, Pairs, same, same_entity, first_pair, one_of}
+use Rattle.ha_journal.proofs.FiringLaws.{state-stays}
+use Rattle.ha_config.specs.Words.{Text, Pairs, same, same_entity, first_pair, one_of}
 use Rattle.std.specs.List.{list_all}
-use Rattle.ha_model.specs.Numbers.{in_bounds}
+use Rattle.ha_config.specs.Numbers.{in_bounds}
 use Rattle.ha_value.specs.declared.value.Num.{Num}
-use Rattle.ha_model.specs.declared.journal.Entry.TheVariants.{Boot, Line, Step}
-use Rattle.ha_model.specs.Journal.{Journal, HasEntry, IsJournal, zone_of, now}
-use Rattle.ha_model.specs.States.{Sight, states}
-use Rattle.ha_model.specs.Switches.{opens_segment}
-use Rattle.ha_model.specs.Triggers.{sight, matches, is_absent, same_optional, state_value, text_or_null, number_or_null, report_number, latest_number, passed, pair_holds, state_moves, moves, rule_moves, starts, variables, head_pairs}
-use Rattle.ha_model.specs.RecordSteps.{more}
-use Rattle.ha_model.proofs.EqualLemmas.{same-refl, same_value-refl}
-use Rattle.ha_model.proofs.RecordLaws.{through-last}
-use Rattle.ha_model.proofs.SinceLaws.{get-last}
+use Rattle.ha_journal.specs.declared.entry.Entry.TheVariants.{Boot, Line, Step}
+use Rattle.ha_journal.specs.Journal.{Journal, HasEntry, IsJournal, zone_of, now, more}
+use Rattle.ha_sight.specs.Sight.{Sight}
+use Rattle.ha_journal.specs.States.{states}
+use Rattle.ha_journal.specs.Entries.{opens_segment, Reported, report_in, event_in, is_moment}
+use Rattle.ha_journal.specs.Moves.{sight, report_number, latest_number, moves, rule_moves}
+use Rattle.ha_sight.specs.Rules.{matches, is_absent, same_optional, state_value, text_or_null, number_or_null, passed, pair_holds, state_moves, starts, head_pairs}
+use Rattle.ha_journal.specs.Variables.{variables}
+use Rattle.ha_config.proofs.EqualLemmas.{same-refl, same_value-refl}
+use Rattle.ha_journal.proofs.MoreLemmas.{through-last}
+use Rattle.ha_config.proofs.ListLemmas.{get-last}
 use Rattle.trig_state.specs.States as rule_of
-use Rattle.ha_model.specs.declared.config.Unit as unit
-use Rattle.ha_model.specs.declared.template.Template.{Template}
-use Rattle.ha_model.specs.Entries.{Reported, report_in, event_in, is_moment}
+use Rattle.ha_config.specs.declared.config.Unit as unit
+use Rattle.ha_config.specs.declared.template.Template.{Template}
 use Rattle.trig_set.specs.Kept.{is_true}
 use Rattle.ha_past.specs.Looks.{looks, watches, given, given_by, moves_with}
 use Rattle.trig_set.specs.Next.{reports}
@@ -54,8 +55,8 @@ module _ (j : Journal) (x : Entry) where
       let some : 0 < length j = grind (arith, nat_tests, lt) in
       let h = has-place j 0 some in
       let here = sight-more j x h (length j) (omega arith) in
-      (λ i. if moves-at j x h t e i && (lt i || starts (more j x) t.rule) then Some (variables-given (more j x) t e (length j) i) else None)
-      ∙ (λ i. if (if opens i then starts j t.rule && is_none e else looks (sight j (length j)) (sight (more j x) (suc (length j))) j t.rule (is_some t.hold) e x) && true then Some (given (here i) (sight (more j x) (suc (length j))) (get-last j x i) t e) else None)
+      (λ i. if moves-at j x h t e i && (lt i || starts t.rule) then Some (variables-given (more j x) t e (length j) i) else None)
+      ∙ (λ i. if (if opens i then starts t.rule && is_none e else looks (sight j (length j)) (sight (more j x) (suc (length j))) j t.rule (is_some t.hold) e x) && true then Some (given (here i) (sight (more j x) (suc (length j))) (get-last j x i) t e) else None)
       ∙ by (looks (sight j (length j)) (sight (more j x) (suc (length j))) j t.rule (is_some t.hold) e x)
     where
       by : (b : Bool) → (if b && true then Some (given (sight j (length j)) (sight (more j x) (suc (length j))) (Some x) t e) else None) ≡ (if b then Some (given (sight j (length j)) (sight (more j x) (suc (length j))) (Some x) t e) else None)
@@ -65,15 +66,15 @@ module _ (j : Journal) (x : Entry) where
   -- LAW: it does not move before its since, but as a start trigger
   pub moves-not : (t : Trigger) (e : Option EntityId) (since : ℕ) → HasEntry j → opens_segment x ≡ false → nat_lt since (length j) ≡ false → moves_with j x t e since ≡ None
   moves-not t e since h opens lt =
-      (λ i. if moves-at j x h t e i && (lt i || starts (more j x) t.rule) then Some (variables (more j x) t e (length j)) else None)
-      ∙ (λ i. if (if opens i then starts j t.rule && is_none e else looks (sight j (length j)) (sight (more j x) (suc (length j))) j t.rule (is_some t.hold) e x) && starts (more j x) t.rule then Some (variables (more j x) t e (length j)) else None)
+      (λ i. if moves-at j x h t e i && (lt i || starts t.rule) then Some (variables (more j x) t e (length j)) else None)
+      ∙ (λ i. if (if opens i then starts t.rule && is_none e else looks (sight j (length j)) (sight (more j x) (suc (length j))) j t.rule (is_some t.hold) e x) && starts t.rule then Some (variables (more j x) t e (length j)) else None)
       ∙ (λ i. if none t.rule i then Some (variables (more j x) t e (length j)) else None)
     where
       and-false : (b : Bool) → (b && false) ≡ false
       and-false true = refl
       and-false false = refl
 
-      none : (rule : TriggerRule) → (looks (sight j (length j)) (sight (more j x) (suc (length j))) j rule (is_some t.hold) e x && starts (more j x) rule) ≡ false
+      none : (rule : TriggerRule) → (looks (sight j (length j)) (sight (more j x) (suc (length j))) j rule (is_some t.hold) e x && starts rule) ≡ false
       none (TriggerRule.State entities attribute from to) = and-false (looks (sight j (length j)) (sight (more j x) (suc (length j))) j (TriggerRule.State entities attribute from to) (is_some t.hold) e x)
       none (TriggerRule.Numeric entities attribute above below) = and-false (looks (sight j (length j)) (sight (more j x) (suc (length j))) j (TriggerRule.Numeric entities attribute above below) (is_some t.hold) e x)
       none (TriggerRule.Event kinds pairs) = and-false (looks (sight j (length j)) (sight (more j x) (suc (length j))) j (TriggerRule.Event kinds pairs) (is_some t.hold) e x)
@@ -160,7 +161,7 @@ module _ (j : Journal) (x : Entry) (rule : TriggerRule) (e : EntityId) (is : rul
 -- ---- where a segment opens
 
 module _ (j : Journal) (x : Entry) (t : Trigger) (e : Option EntityId) (since : ℕ) (opens : opens_segment x ≡ true) where
-  start-alike : (a b : Journal) (rule : TriggerRule) → starts a rule ≡ starts b rule
+  start-alike : (a b : Journal) (rule : TriggerRule) → starts rule ≡ starts rule
   start-alike a b (TriggerRule.State entities attribute from to) = refl
   start-alike a b (TriggerRule.Numeric entities attribute above below) = refl
   start-alike a b (TriggerRule.Event kinds pairs) = refl
@@ -169,12 +170,12 @@ module _ (j : Journal) (x : Entry) (t : Trigger) (e : Option EntityId) (since : 
   start-alike a b (TriggerRule.Template u) = refl
   start-alike a b TriggerRule.Start = refl
 
-  opened : moves (more j x) t e (length j) ≡ (starts [] t.rule && is_none e)
+  opened : moves (more j x) t e (length j) ≡ (starts t.rule && is_none e)
   opened =
       (λ i. option_map_or (λ y. if opens_segment y then start-alike (more j x) [] t.rule i && is_none e else rule_moves (more j x) t.rule (is_some t.hold) e (length j) y) (get-last j x i) false)
-      ∙ (λ i. if opens i then starts [] t.rule && is_none e else rule_moves (more j x) t.rule (is_some t.hold) e (length j) x)
+      ∙ (λ i. if opens i then starts t.rule && is_none e else rule_moves (more j x) t.rule (is_some t.hold) e (length j) x)
 
-  bare-start : (rule : TriggerRule) → starts [] rule ≡ true → given_by (sight (more j x) (length j)) (sight (more j x) (suc (length j))) (Some x) t rule e ≡ head_pairs [] (codes "homeassistant") t
+  bare-start : (rule : TriggerRule) → starts rule ≡ true → given_by (sight (more j x) (length j)) (sight (more j x) (suc (length j))) (Some x) t rule e ≡ head_pairs (codes "homeassistant") t
   bare-start (TriggerRule.State entities attribute from to) s = cc
   bare-start (TriggerRule.Numeric entities attribute above below) s = cc
   bare-start (TriggerRule.Event kinds pairs) s = cc
@@ -184,13 +185,13 @@ module _ (j : Journal) (x : Entry) (t : Trigger) (e : Option EntityId) (since : 
   bare-start TriggerRule.Start s = refl
 
   -- LAW: only start triggers move, and they have no variables of their own
-  pub moves-open : moves_with j x t e since ≡ (if starts [] t.rule && is_none e then Some (Map (head_pairs [] (codes "homeassistant") t)) else None)
+  pub moves-open : moves_with j x t e since ≡ (if starts t.rule && is_none e then Some (Map (head_pairs (codes "homeassistant") t)) else None)
   moves-open =
       (λ i. if opened i && (nat_lt since (length j) || start-alike (more j x) [] t.rule i) then Some (variables-given (more j x) t e (length j) i) else None)
-      ∙ (λ i. if (starts [] t.rule && is_none e) && (nat_lt since (length j) || starts [] t.rule) then Some (given (sight (more j x) (length j)) (sight (more j x) (suc (length j))) (get-last j x i) t e) else None)
-      ∙ by (starts [] t.rule) refl
+      ∙ (λ i. if (starts t.rule && is_none e) && (nat_lt since (length j) || starts t.rule) then Some (given (sight (more j x) (length j)) (sight (more j x) (suc (length j))) (get-last j x i) t e) else None)
+      ∙ by (starts t.rule) refl
     where
-      by : (b : Bool) → starts [] t.rule ≡ b → (if (b && is_none e) && (nat_lt since (length j) || b) then Some (Map (given_by (sight (more j x) (length j)) (sight (more j x) (suc (length j))) (Some x) t t.rule e)) else None) ≡ (if b && is_none e then Some (Map (head_pairs [] (codes "homeassistant") t)) else None)
+      by : (b : Bool) → starts t.rule ≡ b → (if (b && is_none e) && (nat_lt since (length j) || b) then Some (Map (given_by (sight (more j x) (length j)) (sight (more j x) (suc (length j))) (Some x) t t.rule e)) else None) ≡ (if b && is_none e then Some (Map (head_pairs (codes "homeassistant") t)) else None)
       by true s = also (is_none e) (nat_lt since (length j)) ∙ (λ i. if is_none e then Some (Map (bare-start t.rule s i)) else None)
         where
           also : (a b : Bool) → (if a && (b || true) then Some (Map (given_by (sight (more j x) (length j)) (sight (more j x) (suc (length j))) (Some x) t t.rule e)) else None) ≡ (if a then Some (Map (given_by (sight (more j x) (length j)) (sight (more j x) (suc (length j))) (Some x) t t.rule e)) else None)
@@ -246,13 +247,13 @@ moves-face attribute from to held a b c d p q =
 value_of : EntityId → Face → Value
 value_of e f = option_map_or (λ o. Map ((codes "entity_id", Value.Text (entity_text e)) ∷ (codes "domain", Value.Text e.domain) ∷ (codes "object_id", Value.Text e.object) ∷ (codes "state", Value.Text o.0) ∷ (codes "attributes", Map o.1) ∷ [])) f Value.Null
 
-valued-face : (e : EntityId) (s : Option StateObject) → state_value [] e s ≡ value_of e (face s)
+valued-face : (e : EntityId) (s : Option StateObject) → state_value e s ≡ value_of e (face s)
 unfolding value_of
 valued-face e None = refl
 valued-face e (Some s) = refl
 
 -- LAW: and is the same value
-pub value-face : (e : EntityId) (a c : Option StateObject) → face a ≡ face c → state_value [] e a ≡ state_value [] e c
+pub value-face : (e : EntityId) (a c : Option StateObject) → face a ≡ face c → state_value e a ≡ state_value e c
 value-face e a c p = valued-face e a ∙ ap (value_of e) p ∙ sym (valued-face e c)
 
 module _ (j : Journal) (x : Entry) (t : Trigger) (e : EntityId) (entities : List EntityId) (attribute : Option Text) (from to : Match) (is : t.rule ≡ TriggerRule.State entities attribute from to) where
@@ -261,7 +262,7 @@ module _ (j : Journal) (x : Entry) (t : Trigger) (e : EntityId) (entities : List
   state_target = if looks (sight j (length j)) (sight (more j x) (suc (length j))) j t.rule (is_some t.hold) (Some e) x then Some (given (sight j (length j)) (sight (more j x) (suc (length j))) (Some x) t (Some e)) else None
 
   abbrev pub state_made : Option StateObject → Option StateObject → Option Value
-  state_made old new = if state_moves attribute from to (is_some t.hold) old new then Some (Map (head_pairs [] (codes "state") t ++ ((codes "entity_id", Value.Text (entity_text e)) ∷ (codes "from_state", state_value [] e old) ∷ (codes "to_state", state_value [] e new) ∷ (codes "attribute", text_or_null [] attribute) ∷ []))) else None
+  state_made old new = if state_moves attribute from to (is_some t.hold) old new then Some (Map (head_pairs (codes "state") t ++ ((codes "entity_id", Value.Text (entity_text e)) ∷ (codes "from_state", state_value e old) ∷ (codes "to_state", state_value e new) ∷ (codes "attribute", text_or_null attribute) ∷ []))) else None
 
   target-is : state_target ≡ state_made (states j e) (states (more j x) e)
   target-is =
@@ -272,13 +273,13 @@ module _ (j : Journal) (x : Entry) (t : Trigger) (e : EntityId) (entities : List
   pub unlisted-moves : states (more j x) e ≡ states j e → None ≡ state_target
   unlisted-moves same =
       sym (target-is
-      ∙ (λ i. if state_moves attribute from to (is_some t.hold) (states j e) (same i) then Some (Map (head_pairs [] (codes "state") t ++ ((codes "entity_id", Value.Text (entity_text e)) ∷ (codes "from_state", state_value [] e (states j e)) ∷ (codes "to_state", state_value [] e (same i)) ∷ (codes "attribute", text_or_null [] attribute) ∷ []))) else None)
-      ∙ (λ i. if state-stays attribute from to (is_some t.hold) (states j e) i then Some (Map (head_pairs [] (codes "state") t ++ ((codes "entity_id", Value.Text (entity_text e)) ∷ (codes "from_state", state_value [] e (states j e)) ∷ (codes "to_state", state_value [] e (states j e)) ∷ (codes "attribute", text_or_null [] attribute) ∷ []))) else None))
+      ∙ (λ i. if state_moves attribute from to (is_some t.hold) (states j e) (same i) then Some (Map (head_pairs (codes "state") t ++ ((codes "entity_id", Value.Text (entity_text e)) ∷ (codes "from_state", state_value e (states j e)) ∷ (codes "to_state", state_value e (same i)) ∷ (codes "attribute", text_or_null attribute) ∷ []))) else None)
+      ∙ (λ i. if state-stays attribute from to (is_some t.hold) (states j e) i then Some (Map (head_pairs (codes "state") t ++ ((codes "entity_id", Value.Text (entity_text e)) ∷ (codes "from_state", state_value e (states j e)) ∷ (codes "to_state", state_value e (states j e)) ∷ (codes "attribute", text_or_null attribute) ∷ []))) else None))
 
   -- LAW: of one that is listed the listed states tell it
   pub listed-moves : (old new : Option StateObject) → face old ≡ face (states j e) → face new ≡ face (states (more j x) e) → state_made old new ≡ state_target
   listed-moves old new p q =
-      (λ i. if moves-face attribute from to (is_some t.hold) old new (states j e) (states (more j x) e) p q i then Some (Map (head_pairs [] (codes "state") t ++ ((codes "entity_id", Value.Text (entity_text e)) ∷ (codes "from_state", value-face e old (states j e) p i) ∷ (codes "to_state", value-face e new (states (more j x) e) q i) ∷ (codes "attribute", text_or_null [] attribute) ∷ []))) else None)
+      (λ i. if moves-face attribute from to (is_some t.hold) old new (states j e) (states (more j x) e) p q i then Some (Map (head_pairs (codes "state") t ++ ((codes "entity_id", Value.Text (entity_text e)) ∷ (codes "from_state", value-face e old (states j e) p i) ∷ (codes "to_state", value-face e new (states (more j x) e) q i) ∷ (codes "attribute", text_or_null attribute) ∷ []))) else None)
       ∙ sym target-is
 
 module _ (j : Journal) (x : Entry) (t : Trigger) (e : EntityId) (entities : List EntityId) (attribute : Option Text) (above below : Option Num) (is : t.rule ≡ TriggerRule.Numeric entities attribute above below) where
@@ -290,7 +291,7 @@ module _ (j : Journal) (x : Entry) (t : Trigger) (e : EntityId) (entities : List
   number_crosses = option_map_or (in_bounds above below) (report_number e attribute x) false && not (option_map_or (in_bounds above below) (latest_number e attribute j) false)
 
   abbrev pub number_made : Bool → Option StateObject → Option StateObject → Option Value
-  number_made crosses old new = if crosses then Some (Map (head_pairs [] (codes "numeric_state") t ++ ((codes "entity_id", Value.Text (entity_text e)) ∷ (codes "from_state", state_value [] e old) ∷ (codes "to_state", state_value [] e new) ∷ (codes "above", number_or_null [] above) ∷ (codes "below", number_or_null [] below) ∷ []))) else None
+  number_made crosses old new = if crosses then Some (Map (head_pairs (codes "numeric_state") t ++ ((codes "entity_id", Value.Text (entity_text e)) ∷ (codes "from_state", state_value e old) ∷ (codes "to_state", state_value e new) ∷ (codes "above", number_or_null above) ∷ (codes "below", number_or_null below) ∷ []))) else None
 
   number-is : number_target ≡ number_made number_crosses (states j e) (states (more j x) e)
   number-is =
@@ -310,7 +311,7 @@ module _ (j : Journal) (x : Entry) (t : Trigger) (e : EntityId) (entities : List
   -- LAW: of one that is listed the listed states tell what it gives
   pub listed-number : (crosses : Bool) (old new : Option StateObject) → crosses ≡ number_crosses → face old ≡ face (states j e) → face new ≡ face (states (more j x) e) → number_made crosses old new ≡ number_target
   listed-number crosses old new b p q =
-      (λ i. if b i then Some (Map (head_pairs [] (codes "numeric_state") t ++ ((codes "entity_id", Value.Text (entity_text e)) ∷ (codes "from_state", value-face e old (states j e) p i) ∷ (codes "to_state", value-face e new (states (more j x) e) q i) ∷ (codes "above", number_or_null [] above) ∷ (codes "below", number_or_null [] below) ∷ []))) else None)
+      (λ i. if b i then Some (Map (head_pairs (codes "numeric_state") t ++ ((codes "entity_id", Value.Text (entity_text e)) ∷ (codes "from_state", value-face e old (states j e) p i) ∷ (codes "to_state", value-face e new (states (more j x) e) q i) ∷ (codes "above", number_or_null above) ∷ (codes "below", number_or_null below) ∷ []))) else None)
       ∙ sym number-is
 
 -- ---- events
@@ -332,7 +333,7 @@ module _ (b a : Sight) (j : Journal) (x : Entry) (t : Trigger) (kinds : List Tex
   event_target = if looks b a j t.rule (is_some t.hold) None x then Some (given b a (Some x) t None) else None
 
   abbrev event_made : Option (Text × Pairs) → Option Value
-  event_made o = if option_map_or (λ v. one_of v.0 kinds && list_all (pair_holds v.1) pairs) o false then Some (Map (head_pairs [] (codes "event") t ++ ((codes "event", option_map_or (λ v. Map ((codes "event_type", Value.Text v.0) ∷ (codes "data", Map v.1) ∷ [])) o Value.Null) ∷ []))) else None
+  event_made o = if option_map_or (λ v. one_of v.0 kinds && list_all (pair_holds v.1) pairs) o false then Some (Map (head_pairs (codes "event") t ++ ((codes "event", option_map_or (λ v. Map ((codes "event_type", Value.Text v.0) ∷ (codes "data", Map v.1) ∷ [])) o Value.Null) ∷ []))) else None
 
   event-is : event_target ≡ event_made (event_in x)
   event-is = (λ i. if looks b a j (is i) (is_some t.hold) None x then Some (Map (given_by b a (Some x) t (is i) None)) else None)
@@ -347,9 +348,9 @@ module _ (b a : Sight) (j : Journal) (x : Entry) (t : Trigger) (kinds : List Tex
   -- LAW: an event moves one that names it
   pub event-told : (kind : Text) (fields : Pairs) (named : Bool) → Some kind ≡ option_map (λ v. v.0) (event_in x) → Some fields ≡ option_map (λ v. v.1) (event_in x)
       → named ≡ (one_of kind kinds && list_all (pair_holds fields) pairs)
-      → (if named then Some (Map (head_pairs [] (codes "event") t ++ ((codes "event", Map ((codes "event_type", Value.Text kind) ∷ (codes "data", Map fields) ∷ [])) ∷ []))) else None) ≡ event_target
+      → (if named then Some (Map (head_pairs (codes "event") t ++ ((codes "event", Map ((codes "event_type", Value.Text kind) ∷ (codes "data", Map fields) ∷ [])) ∷ []))) else None) ≡ event_target
   event-told kind fields named k d n =
-      (λ i. if n i then Some (Map (head_pairs [] (codes "event") t ++ ((codes "event", Map ((codes "event_type", Value.Text kind) ∷ (codes "data", Map fields) ∷ [])) ∷ []))) else None)
+      (λ i. if n i then Some (Map (head_pairs (codes "event") t ++ ((codes "event", Map ((codes "event_type", Value.Text kind) ∷ (codes "data", Map fields) ∷ [])) ∷ []))) else None)
       ∙ sym (event-is ∙ ap event_made (both-parts (event_in x) kind fields k d))
 
 -- ---- times and templates
@@ -371,20 +372,20 @@ module _ (j : Journal) (x : Entry) (t : Trigger) where
     seen_to : to ≡ (sight (more j x) (suc (length j))).now
     seen_to = to-is ∙ ap now (sym (through-last j x))
 
-    pub time-target : (seconds : List ℕ) → t.rule ≡ TriggerRule.Time seconds → (if is_moment x && passed t.rule zone from to then Some (Map (head_pairs [] (codes "time") t)) else None) ≡ bare_target
+    pub time-target : (seconds : List ℕ) → t.rule ≡ TriggerRule.Time seconds → (if is_moment x && passed t.rule zone from to then Some (Map (head_pairs (codes "time") t)) else None) ≡ bare_target
     time-target seconds is =
-        (λ i. if is_moment x && passed (is i) (seen_zone i) (seen_from i) (seen_to i) then Some (Map (head_pairs [] (codes "time") t)) else None)
+        (λ i. if is_moment x && passed (is i) (seen_zone i) (seen_from i) (seen_to i) then Some (Map (head_pairs (codes "time") t)) else None)
         ∙ sym (target-by (TriggerRule.Time seconds) is)
 
-    pub pattern-target : (hours minutes seconds : unit.Unit) → t.rule ≡ TriggerRule.Pattern hours minutes seconds → (if is_moment x && passed t.rule zone from to then Some (Map (head_pairs [] (codes "time_pattern") t)) else None) ≡ bare_target
+    pub pattern-target : (hours minutes seconds : unit.Unit) → t.rule ≡ TriggerRule.Pattern hours minutes seconds → (if is_moment x && passed t.rule zone from to then Some (Map (head_pairs (codes "time_pattern") t)) else None) ≡ bare_target
     pattern-target hours minutes seconds is =
-        (λ i. if is_moment x && passed (is i) (seen_zone i) (seen_from i) (seen_to i) then Some (Map (head_pairs [] (codes "time_pattern") t)) else None)
+        (λ i. if is_moment x && passed (is i) (seen_zone i) (seen_from i) (seen_to i) then Some (Map (head_pairs (codes "time_pattern") t)) else None)
         ∙ sym (target-by (TriggerRule.Pattern hours minutes seconds) is)
 
   pub template-target : (u : Template) (now-true was-true : Bool) → t.rule ≡ TriggerRule.Template u → now-true ≡ is_true (sight (more j x) (length (more j x))) t.rule → was-true ≡ is_true (sight j (length j)) t.rule
-      → (if now-true && not was-true then Some (Map (head_pairs [] (codes "template") t)) else None) ≡ bare_target
+      → (if now-true && not was-true then Some (Map (head_pairs (codes "template") t)) else None) ≡ bare_target
   template-target u now-true was-true is a b =
-      (λ i. if ((a ∙ (λ k. is_true (sym (sight-whole j x) k) (is k))) i) && not ((b ∙ (λ k. is_true (sight j (length j)) (is k))) i) then Some (Map (head_pairs [] (codes "template") t)) else None)
+      (λ i. if ((a ∙ (λ k. is_true (sym (sight-whole j x) k) (is k))) i) && not ((b ∙ (λ k. is_true (sight j (length j)) (is k))) i) then Some (Map (head_pairs (codes "template") t)) else None)
       ∙ sym (target-by (TriggerRule.Template u) is)
 
 pub past-of : (j : Journal) (since : ℕ) → nat_lt since (length j) ≡ true → HasEntry j

@@ -3,14 +3,13 @@ use Rattle.std.proofs.Common.{◌≡◌, ℕ, zero, suc, ◌+◌, List, [], ◌�
 use Rattle.std.specs.Prelude.{Option, Some, None, MatchOption, filter_map, slice_get, option_and_then, nat_le, if◌then◌else◌}
 use Rattle.timer_queue.specs.Timers.{Timer}
 use Rattle.ha_value.specs.declared.value.EntityId.{EntityId}
-use Rattle.ha_model.specs.declared.config.Trigger.{Trigger}
-use Rattle.ha_model.specs.declared.config.TriggerRule.{TriggerRule}
-use Rattle.ha_model.specs.declared.journal.Entry.{Entry}
-use Rattle.ha_model.specs.declared.steps.Firing.{Firing}
-use Rattle.ha_model.specs.Entries.{is_moment}
-use Rattle.ha_model.specs.Journal.{Journal, now}
-use Rattle.ha_model.specs.Triggers.{entities_of}
-use Rattle.ha_model.specs.RecordSteps.{more}
+use Rattle.ha_config.specs.declared.config.Trigger.{Trigger}
+use Rattle.ha_config.specs.declared.config.TriggerRule.{TriggerRule}
+use Rattle.ha_journal.specs.declared.entry.Entry.{Entry}
+use Rattle.ha_journal.specs.declared.firing.Firing.{Firing}
+use Rattle.ha_journal.specs.Entries.{is_moment}
+use Rattle.ha_journal.specs.Journal.{Journal, now, more}
+use Rattle.ha_sight.specs.Rules.{entities_of}
 use Rattle.std.specs.Prelude.{flat_map}
 use Rattle.std.specs.List.{enumerate_from}
 use Rattle.trig_set.specs.declared.spot.Held.{Held}
@@ -53,7 +52,7 @@ ripened-place to s = by s.hold
     by None = refl
     by (Some h) = chosen h (nat_le h.due to)
 
-entities-alike : (j k : Journal) (rule : TriggerRule) → entities_of j rule ≡ entities_of k rule
+entities-alike : (j k : Journal) (rule : TriggerRule) → entities_of rule ≡ entities_of rule
 entities-alike j k (TriggerRule.State entities attribute from to) = refl
 entities-alike j k (TriggerRule.Numeric entities attribute above below) = refl
 entities-alike j k (TriggerRule.Event kinds pairs) = refl
@@ -63,7 +62,7 @@ entities-alike j k (TriggerRule.Template t) = refl
 entities-alike j k TriggerRule.Start = refl
 
 abbrev spread : Journal → ℕ × Trigger → List (ℕ × Option EntityId)
-spread j t = map {A = Option EntityId} {B = ℕ × Option EntityId} (λ e. (t.0, e)) (entities_of j t.1.rule)
+spread j t = map {A = Option EntityId} {B = ℕ × Option EntityId} (λ e. (t.0, e)) (entities_of t.1.rule)
 
 spread-alike : (j k : Journal) (n : ℕ) (ts : List Trigger) → flat_map (spread j) (enumerate_from n ts) ≡ flat_map (spread k) (enumerate_from n ts)
 spread-alike j k n [] = refl

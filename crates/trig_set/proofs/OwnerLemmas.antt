@@ -5,12 +5,13 @@ use Rattle.std.specs.List.{cons_option, enumerate_from}
 use Rattle.std.proofs.lemmas.List.Elements.{filter_map-append}
 use Rattle.ha_value.specs.declared.value.EntityId.{EntityId}
 use Rattle.ha_value.specs.declared.value.Value.{Value}
-use Rattle.ha_model.specs.declared.config.Trigger.{Trigger}
-use Rattle.ha_model.specs.declared.journal.Entry.{Entry}
-use Rattle.ha_model.specs.declared.steps.Firing.{Firing}
-use Rattle.ha_model.specs.Journal.{Journal}
-use Rattle.ha_model.specs.Triggers.{entities_of, fired_from, variables}
-use Rattle.ha_model.specs.RecordSteps.{more}
+use Rattle.ha_config.specs.declared.config.Trigger.{Trigger}
+use Rattle.ha_journal.specs.declared.entry.Entry.{Entry}
+use Rattle.ha_journal.specs.declared.firing.Firing.{Firing}
+use Rattle.ha_journal.specs.Journal.{Journal, more}
+use Rattle.ha_sight.specs.Rules.{entities_of}
+use Rattle.ha_journal.specs.Holds.{fired_from}
+use Rattle.ha_journal.specs.Variables.{variables}
 use Rattle.trig_set.specs.declared.spot.Spot.{Spot}
 use Rattle.ha_past.specs.Firings.{Owner, firing_for, firings_by, firings_of}
 use Rattle.ha_past.proofs.FiringLemmas.{firings-by}
@@ -43,12 +44,12 @@ module _ (j : Journal) (p : ℕ) (o : Owner) where
   length-one (x ∷ xs) t = omega (arith, length-one xs t)
 
   of-triggers : (front rest : List Trigger) → o.triggers ≡ front ++ rest
-      → filter_map firing_at (flat_map (λ t. map (λ e. (t.0, e)) (entities_of j t.1.rule)) (enumerate_from (length front) rest)) ≡ flat_map (firings_by j p o) (enumerate_from (length front) rest)
+      → filter_map firing_at (flat_map (λ t. map (λ e. (t.0, e)) (entities_of t.1.rule)) (enumerate_from (length front) rest)) ≡ flat_map (firings_by j p o) (enumerate_from (length front) rest)
   of-triggers front [] is = refl
   of-triggers front (t ∷ rest) is =
-      filter_map-append firing_at (map (λ e. (length front, e)) (entities_of j t.rule)) (flat_map (λ t. map (λ e. (t.0, e)) (entities_of j t.1.rule)) (enumerate_from (length front + 1) rest))
-      ∙ (λ i. of-trigger (length front) t (ap (λ l. slice_get l (length front)) is ∙ get-behind front t rest) (entities_of j t.rule) i
-      ++ filter_map firing_at (flat_map (λ t. map (λ e. (t.0, e)) (entities_of j t.1.rule)) (enumerate_from (sym (length-one front t) i) rest)))
+      filter_map-append firing_at (map (λ e. (length front, e)) (entities_of t.rule)) (flat_map (λ t. map (λ e. (t.0, e)) (entities_of t.1.rule)) (enumerate_from (length front + 1) rest))
+      ∙ (λ i. of-trigger (length front) t (ap (λ l. slice_get l (length front)) is ∙ get-behind front t rest) (entities_of t.rule) i
+      ++ filter_map firing_at (flat_map (λ t. map (λ e. (t.0, e)) (entities_of t.1.rule)) (enumerate_from (sym (length-one front t) i) rest)))
       ∙ (λ i. firings_by j p o (length front, t) ++ of-triggers (front ++ (t ∷ [])) rest (is ∙ sym (append_assoc front (t ∷ []) rest)) i)
       ∙ (λ i. firings_by j p o (length front, t) ++ flat_map (firings_by j p o) (enumerate_from (length-one front t i) rest))
 

@@ -4,10 +4,9 @@ use Rattle.std.proofs.Common.{take, drop, ◌≡◌, ℕ, zero, suc, ◌+◌, �
 use Rattle.std.specs.Prelude.{Some, None, MatchOption, flat_map, slice_get, nat_eq}
 use Rattle.std.specs.Option.{option_map_or}
 use Rattle.std.proofs.lemmas.Bool.Decides.{nat_tests}
-use Rattle.ha_model.specs.declared.journal.Entry.{Entry}
-use Rattle.ha_model.specs.Journal.{Journal}
-use Rattle.ha_model.specs.Words.{numbers_from, up_to}
-use Rattle.ha_model.specs.RecordSteps.{more}
+use Rattle.ha_journal.specs.declared.entry.Entry.{Entry}
+use Rattle.ha_journal.specs.Journal.{Journal, more}
+use Rattle.ha_config.specs.Words.{numbers_from, up_to}
 use Rattle.trig_set.specs.declared.owners.Attached.{Attached}
 use Rattle.ha_past.specs.Firings.{firings_of, firings}
 use Rattle.trig_set.specs.Order.{owner_of}

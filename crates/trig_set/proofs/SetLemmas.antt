@@ -3,13 +3,12 @@ use Rattle.std.proofs.Common.{◌≡◌, ℕ, zero, suc, List, [], ◌∷◌, �
 use Rattle.std.specs.Prelude.{Option, Some, None, IsSome, MatchOption, slice_get, nat_lt, ◌||◌}
 use Rattle.std.proofs.lemmas.List.{take_all}
 use Rattle.ha_clock.specs.Zone as clock
-use Rattle.ha_model.specs.declared.journal.Entry.{Entry}
-use Rattle.ha_model.specs.declared.journal.Entry.TheVariants.{Boot, Line, Step}
-use Rattle.ha_model.specs.Words.{Text, EachFrom}
-use Rattle.ha_model.specs.Entries.{boot_of, IsBoot}
-use Rattle.ha_model.specs.Journal.{Journal, IsJournal, HasEntry, zone_of, now}
-use Rattle.ha_model.specs.RecordSteps.{more}
-use Rattle.ha_model.specs.Triggers.{sight}
+use Rattle.ha_journal.specs.declared.entry.Entry.{Entry}
+use Rattle.ha_journal.specs.declared.entry.Entry.TheVariants.{Boot, Line, Step}
+use Rattle.ha_config.specs.Words.{Text, EachFrom}
+use Rattle.ha_journal.specs.Entries.{boot_of, IsBoot}
+use Rattle.ha_journal.specs.Journal.{Journal, IsJournal, HasEntry, zone_of, now, more}
+use Rattle.ha_journal.specs.Moves.{sight}
 use Rattle.trig_set.specs.declared.owners.Attached.{Attached}
 use Rattle.trig_set.specs.Next.{has_earlier}
 use Rattle.trig_set.specs.Order.{owner_of}

@@ -4,23 +4,23 @@ use Rattle.std.specs.Prelude.{Option, Some, None, MatchOption, slice_get, find, 
 use Rattle.std.specs.List.{enumerate_from}
 use Rattle.std.specs.Option.{option_map_or}
 use Rattle.ha_value.specs.declared.value.EntityId.{EntityId}
-use Rattle.ha_model.specs.declared.config.Automation.{Automation}
-use Rattle.ha_model.specs.declared.journal.Cmd.{Cmd}
-use Rattle.ha_model.specs.declared.journal.Entry.{Entry}
-use Rattle.ha_model.specs.declared.journal.Entry.TheVariants.{Boot, Line, Step}
-use Rattle.ha_model.specs.declared.journal.StateObject.{StateObject}
-use Rattle.ha_model.specs.Calls.{automation_at}
-use Rattle.ha_model.specs.Entries.{report_in, gone_in, is_restart}
-use Rattle.ha_model.specs.Journal.{Journal, automations, now}
-use Rattle.ha_model.specs.RecordSteps.{more}
-use Rattle.ha_model.specs.Sights.{switch_seen}
-use Rattle.ha_model.specs.States.{Sight, automation_named, of_automation, reported, states, switches_of}
-use Rattle.ha_model.specs.StateStep.{next_object}
-use Rattle.ha_model.specs.Switches.{is_on}
-use Rattle.ha_model.specs.Triggers.{sight}
-use Rattle.ha_model.specs.Words.{Text, Pairs, same, same_entity}
-use Rattle.ha_model.proofs.EqualLemmas.{entity-sound}
-use Rattle.ha_model.proofs.StateLemmas.{reported-report, reported-gone, reported-restart, reported-other}
+use Rattle.ha_config.specs.declared.config.Automation.{Automation}
+use Rattle.ha_config.specs.declared.command.Cmd.{Cmd}
+use Rattle.ha_journal.specs.declared.entry.Entry.{Entry}
+use Rattle.ha_journal.specs.declared.entry.Entry.TheVariants.{Boot, Line, Step}
+use Rattle.ha_sight.specs.declared.state.StateObject.{StateObject}
+use Rattle.ha_sight.specs.Calls.{automation_at}
+use Rattle.ha_journal.specs.Entries.{report_in, gone_in, is_restart}
+use Rattle.ha_journal.specs.Journal.{Journal, automations, now, more}
+use Rattle.ha_sight.specs.Sight.{switch_seen, Sight}
+use Rattle.ha_config.specs.Names.{automation_named}
+use Rattle.ha_journal.specs.States.{of_automation, reported, states, switches_of}
+use Rattle.ha_sight.specs.StateStep.{next_object}
+use Rattle.ha_journal.specs.Switches.{is_on}
+use Rattle.ha_journal.specs.Moves.{sight}
+use Rattle.ha_config.specs.Words.{Text, Pairs, same, same_entity}
+use Rattle.ha_config.proofs.EqualLemmas.{entity-sound}
+use Rattle.ha_journal.proofs.StateLemmas.{reported-report, reported-gone, reported-restart, reported-other}
 use Rattle.trig_set.specs.declared.scene.Shift.{Shift}
 use Rattle.trig_set.specs.Next.{Listed, reports, state_listed}
 use Rattle.trig_set.specs.Scenes.{face, shift_of}

@@ -10,8 +10,8 @@ use Rattle.ha_value.specs.declared.value.EntityId.{EntityId}
 use Rattle.ha_value.specs.declared.value.Num.{Num}
 use Rattle.ha_value.specs.Ids.{entity_text, for_id}
 use Rattle.ha_value.specs.Lists.{after_first}
-use Rattle.ha_model.specs.Words.{Text, same}
-use Rattle.ha_model.proofs.EqualLemmas.{same-sound}
+use Rattle.ha_config.specs.Words.{Text, same}
+use Rattle.ha_config.proofs.EqualLemmas.{same-sound}
 use Rattle.trig_set.specs.declared.numbers.Latest.{Latest}
 use Rattle.ha_past.specs.Looks.{or_else}
 use Rattle.trig_set.specs.Table.{ChangesName, number_of, numbers_in}

@@ -1,8 +1,8 @@
 -- Whom an entry leaves aside.
 use Rattle.std.specs.Prelude.{◌≡◌, ℕ, true, false, List, MatchOption, map, option_map, slice_get}
 use Rattle.std.specs.BTreeSet.{BTreeSet}
-use Rattle.ha_model.specs.declared.journal.Entry.{Entry}
-use Rattle.ha_model.specs.Entries.{event_in, is_moment, opens_segment}
+use Rattle.ha_journal.specs.declared.entry.Entry.{Entry}
+use Rattle.ha_journal.specs.Entries.{event_in, is_moment, opens_segment}
 use Rattle.timer_queue.specs.Timers.{Timer, due_of}
 use Rattle.event_bus.specs.declared.index.Index.{Index}
 use Rattle.event_bus.specs.Lists.{has}

@@ -3,23 +3,23 @@ use Rattle.std.specs.Prelude.{◌≡◌, ℕ, ◌+◌, Bool, true, false, nat_lt
 use Rattle.std.specs.Prelude.{flat_map, slice_get, slice_set, nat_le, codes, is_some, option_map, option_and_then, if◌then◌else◌}
 use Rattle.std.specs.List.{enumerate_from}
 use Rattle.std.specs.Option.{option_map_or}
-use Rattle.ha_model.specs.declared.steps.Firing.{Firing}
+use Rattle.ha_journal.specs.declared.firing.Firing.{Firing}
 use Rattle.ha_value.specs.declared.value.EntityId.{EntityId}
 use Rattle.ha_value.specs.declared.value.Value.{Value}
 use Rattle.timer_queue.specs.Timers.{Timer, due_of, distinct_keys}
-use Rattle.ha_model.specs.declared.config.Trigger.{Trigger}
-use Rattle.ha_model.specs.declared.config.TriggerRule.{TriggerRule}
-use Rattle.ha_model.specs.declared.journal.Entry.{Entry}
-use Rattle.ha_model.specs.Entries.{is_moment}
-use Rattle.ha_model.specs.Journal.{Journal, now}
-use Rattle.ha_model.specs.States.{Sight}
-use Rattle.ha_model.specs.Templates.{rendered, says}
-use Rattle.ha_model.specs.Triggers.{sight, entities_of}
-use Rattle.ha_model.specs.Sound.{may_hold, is_sound_rule}
+use Rattle.ha_config.specs.declared.config.Trigger.{Trigger}
+use Rattle.ha_config.specs.declared.config.TriggerRule.{TriggerRule}
+use Rattle.ha_journal.specs.declared.entry.Entry.{Entry}
+use Rattle.ha_journal.specs.Entries.{is_moment}
+use Rattle.ha_journal.specs.Journal.{Journal, now, more}
+use Rattle.ha_sight.specs.Sight.{Sight}
+use Rattle.ha_sight.specs.Templates.{rendered, says}
+use Rattle.ha_journal.specs.Moves.{sight}
+use Rattle.ha_sight.specs.Rules.{entities_of}
+use Rattle.ha_config.specs.Sound.{may_hold, is_sound_rule}
 use Rattle.trig_set.specs.declared.spot.Held.{Held}
 use Rattle.trig_set.specs.declared.spot.Spot.{Spot}
 use Rattle.ha_past.specs.Looks.{Holding, standing, arrived, at_once, ripe_value, unripe, or_else}
-use Rattle.ha_model.specs.RecordSteps.{more}
 
 -- the template of a rule is true; other rules have none
 abbrev pub is_true : Sight → TriggerRule → Bool
@@ -108,7 +108,7 @@ AreWell triggers = (n : ℕ) → MatchOption (slice_get triggers n) (Unit {0}) h
 
 -- where the spots of triggers stand: each trigger's index with each of its entities
 abbrev pub places_of : Journal → List Trigger → List (ℕ × Option EntityId)
-places_of j triggers = flat_map (λ t. map (λ e. (t.0, e)) (entities_of j t.1.rule)) (enumerate_from 0 triggers)
+places_of j triggers = flat_map (λ t. map (λ e. (t.0, e)) (entities_of t.1.rule)) (enumerate_from 0 triggers)
 
 abbrev pub place_of : Spot → ℕ × Option EntityId
 place_of s = (s.trigger, s.entity)

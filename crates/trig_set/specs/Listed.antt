@@ -1,7 +1,7 @@
 -- What an index has for triggers, each with one of its entities.
 use Rattle.std.specs.Prelude.{◌≡◌, ℕ, true, List, MatchOption, Option, slice_get}
 use Rattle.ha_value.specs.declared.value.EntityId.{EntityId}
-use Rattle.ha_model.specs.declared.config.Trigger.{Trigger}
+use Rattle.ha_config.specs.declared.config.Trigger.{Trigger}
 use Rattle.event_bus.specs.declared.index.Index.{Index}
 use Rattle.event_bus.specs.Subjects.{Subject, concerns, knows}
 

@@ -6,14 +6,14 @@ use Rattle.ha_past.specs.Firings.{Owner}
 use Rattle.ha_value.specs.declared.value.EntityId.{EntityId}
 use Rattle.ha_clock.specs.Zone as clock
 use Rattle.ha_clock.specs.Local.{last_moment}
-use Rattle.ha_model.specs.declared.journal.Entry.{Entry}
-use Rattle.ha_model.specs.declared.journal.StateObject.{StateObject}
-use Rattle.ha_model.specs.Words.{same_entity}
-use Rattle.ha_model.specs.Entries.{report_in}
-use Rattle.ha_model.specs.Journal.{Journal, IsJournal, zone_of, now}
-use Rattle.ha_model.specs.States.{Sight, states}
-use Rattle.ha_model.specs.RecordSteps.{more}
-use Rattle.ha_model.specs.Triggers.{sight}
+use Rattle.ha_journal.specs.declared.entry.Entry.{Entry}
+use Rattle.ha_sight.specs.declared.state.StateObject.{StateObject}
+use Rattle.ha_config.specs.Words.{same_entity}
+use Rattle.ha_journal.specs.Entries.{report_in}
+use Rattle.ha_journal.specs.Journal.{Journal, IsJournal, zone_of, now, more}
+use Rattle.ha_sight.specs.Sight.{Sight}
+use Rattle.ha_journal.specs.States.{states}
+use Rattle.ha_journal.specs.Moves.{sight}
 
 abbrev pub Listed : Type 0
 Listed = List (EntityId × Option StateObject)

@@ -2,13 +2,12 @@
 use Rattle.std.specs.Prelude.{◌≡◌, ℕ, true, false, nat_lt, List, [], ◌∷◌, Option, MatchOption, find, length, option_map}
 use Rattle.std.specs.Option.{option_copied}
 use Rattle.ha_value.specs.declared.value.EntityId.{EntityId}
-use Rattle.ha_model.specs.declared.journal.Entry.{Entry}
-use Rattle.ha_model.specs.declared.journal.StateObject.{StateObject}
-use Rattle.ha_model.specs.Words.{Text, Pairs, same_entity}
-use Rattle.ha_model.specs.Journal.{Journal, IsJournal, zone_of, now}
-use Rattle.ha_model.specs.States.{states}
-use Rattle.ha_model.specs.RecordSteps.{more}
-use Rattle.ha_model.specs.Triggers.{latest_number}
+use Rattle.ha_journal.specs.declared.entry.Entry.{Entry}
+use Rattle.ha_sight.specs.declared.state.StateObject.{StateObject}
+use Rattle.ha_config.specs.Words.{Text, Pairs, same_entity}
+use Rattle.ha_journal.specs.Journal.{Journal, IsJournal, zone_of, now, more}
+use Rattle.ha_journal.specs.States.{states}
+use Rattle.ha_journal.specs.Moves.{latest_number}
 use Rattle.trig_set.specs.declared.scene.Shift.{Shift}
 use Rattle.trig_set.specs.declared.scene.Shifts.{Shifts}
 use Rattle.trig_set.specs.declared.scene.Scene.{Scene}

@@ -2,13 +2,12 @@
 use Rattle.std.specs.Prelude.{◌≡◌, Bool, false, ◌||◌, List, [], ◌∷◌, Option, Some, None, option_map, option_and_then, codes, if◌then◌else◌}
 use Rattle.std.specs.Option.{option_map_or}
 use Rattle.ha_value.specs.declared.value.EntityId.{EntityId}
-use Rattle.ha_model.specs.declared.journal.Entry.{Entry}
-use Rattle.ha_model.specs.declared.journal.StateObject.{StateObject}
-use Rattle.ha_model.specs.Calls.{automation_at}
-use Rattle.ha_model.specs.Entries.{report_in, gone_in, is_restart}
-use Rattle.ha_model.specs.Sights.{switch_seen}
-use Rattle.ha_model.specs.States.{Sight}
-use Rattle.ha_model.specs.Words.{Text, Pairs, same, same_entity}
+use Rattle.ha_journal.specs.declared.entry.Entry.{Entry}
+use Rattle.ha_sight.specs.declared.state.StateObject.{StateObject}
+use Rattle.ha_sight.specs.Calls.{automation_at}
+use Rattle.ha_journal.specs.Entries.{report_in, gone_in, is_restart}
+use Rattle.ha_sight.specs.Sight.{switch_seen, Sight}
+use Rattle.ha_config.specs.Words.{Text, Pairs, same, same_entity}
 use Rattle.trig_set.specs.declared.scene.Shift.{Shift}
 use Rattle.trig_set.specs.Next.{Listed}
 use Rattle.trig_set.specs.Scenes.{face}

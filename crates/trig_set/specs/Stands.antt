@@ -2,12 +2,11 @@
 use Rattle.std.specs.Prelude.{◌≡◌, ℕ, List, [], Option, MatchOption, length, map, slice_get}
 use Rattle.std.specs.Option.{option_map_or}
 use Rattle.ha_value.specs.declared.value.EntityId.{EntityId}
-use Rattle.ha_model.specs.declared.journal.Entry.{Entry}
-use Rattle.ha_model.specs.declared.steps.Firing.{Firing}
-use Rattle.ha_model.specs.Words.{Text}
-use Rattle.ha_model.specs.Journal.{Journal, HasEntry, zone_of, now}
-use Rattle.ha_model.specs.RecordSteps.{more}
-use Rattle.ha_model.specs.Triggers.{latest_number}
+use Rattle.ha_journal.specs.declared.entry.Entry.{Entry}
+use Rattle.ha_journal.specs.declared.firing.Firing.{Firing}
+use Rattle.ha_config.specs.Words.{Text}
+use Rattle.ha_journal.specs.Journal.{Journal, HasEntry, zone_of, now, more}
+use Rattle.ha_journal.specs.Moves.{latest_number}
 use Rattle.trig_set.specs.declared.owners.Attached.{Attached}
 use Rattle.trig_set.specs.declared.set.TrigSet.{TrigSet}
 use Rattle.ha_past.specs.Firings.{Owner, firings_of}

@@ -6,9 +6,8 @@ use Rattle.ha_value.specs.declared.value.EntityId.{EntityId}
 use Rattle.ha_value.specs.declared.value.Num.{Num}
 use Rattle.ha_value.specs.Ids.{for_id}
 use Rattle.ha_value.specs.Numbers.{begins_number}
-use Rattle.ha_model.specs.Conditions.{number_watched}
-use Rattle.ha_model.specs.Records.{or_else}
-use Rattle.ha_model.specs.Words.{Text, Pairs, same, first_pair}
+use Rattle.ha_sight.specs.Conditions.{number_watched}
+use Rattle.ha_config.specs.Words.{or_else, Text, Pairs, same, first_pair}
 use Rattle.trig_set.specs.declared.numbers.Latest.{Latest}
 use Rattle.trig_set.specs.declared.numbers.Numbers.{Numbers}
 

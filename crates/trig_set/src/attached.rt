@@ -3,20 +3,21 @@ ghost use Rattle.std.specs.Prelude.{◌≡◌, ◌≤◌, ◌<◌, ℕ, IfOk, On
 ghost use Rattle.std.specs.List.{cons_option};
 ghost use Rattle.ha_clock.specs.Local.{last_moment};
 ghost use Rattle.timer_queue.specs.Timers.{distinct_keys, due_of};
-ghost use Rattle.ha_model.specs.declared.config.Trigger.{Trigger};
-ghost use Rattle.ha_model.specs.Entries.{is_moment};
-ghost use Rattle.ha_model.specs.Journal.{Journal};
-ghost use Rattle.ha_model.specs.RecordSteps.{more};
-ghost use Rattle.ha_model.specs.Triggers.{sight};
+ghost use Rattle.ha_config.specs.declared.config.Trigger.{Trigger};
+ghost use Rattle.ha_journal.specs.Entries.{is_moment};
+ghost use Rattle.ha_journal.specs.Journal.{Journal, more};
+ghost use Rattle.ha_journal.specs.Moves.{sight};
 ghost use Rattle.ha_past.specs.Firings.{firings_of};
 ghost use Rattle.trig_set.specs.Kept.{All, At, AreTimed, AreWell, SpotsStand, Keeps, KeepsAt, Moved, MovedAt, cleared, due_in, firing_in, holds_well, is_true, place_of, ripened, ripened_if, taken, taken_at};
 ghost use Rattle.trig_set.specs.Scenes.{Shows};
 
 use crate::scene::Scene;
 use crate::spot::{Spot, step};
-use ha_model::{
-    Answers, Cmd, Entry, Env, Firing, Many, Moment, Plain, Trigger, TriggerData, TriggerRule,
-};
+use ha_clock::Moment;
+use ha_config::{Cmd, Trigger, TriggerRule};
+use ha_journal::{Entry, Firing};
+use ha_sight::{Answers, Env, TriggerData};
+use ha_value::{Many, Plain};
 use std::alloc::{AllocError, Global};
 use timer_queue::TimerQueue;
 use trig_template::template_true;

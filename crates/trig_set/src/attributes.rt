@@ -2,13 +2,13 @@
 ghost use Rattle.std.specs.Prelude.{◌≡◌, ◌∷◌, ◌++◌, [], Option, Some, OnOk, if◌then◌else◌};
 ghost use Rattle.std.specs.BTreeMap.{get_by_text};
 ghost use Rattle.ha_value.specs.declared.value.Num.{Num as Number};
-ghost use Rattle.ha_model.specs.Conditions.{number_watched};
-ghost use Rattle.ha_model.specs.Words.{Text, Pairs, same};
+ghost use Rattle.ha_sight.specs.Conditions.{number_watched};
+ghost use Rattle.ha_config.specs.Words.{Text, Pairs, same};
 ghost use Rattle.ha_past.specs.Looks.{or_else};
 ghost use Rattle.trig_set.specs.Table.{SoFar};
 
 use crate::numbers::key_of;
-use ha_model::{Num, Value, Word};
+use ha_value::{Num, Value, Word};
 use std::alloc::{AllocError, Global};
 use std::collections::{BTreeMap, BTreeSet};
 use trig_numeric::number_of;

@@ -2,7 +2,8 @@
 ghost use Rattle.std.specs.Prelude.{◌≡◌, ◌∷◌, ◌++◌, [], IfOk, OnOk};
 
 use crate::scene::Shift;
-use ha_model::{EntityId, Many, Plain, StateObject};
+use ha_sight::StateObject;
+use ha_value::{EntityId, Many, Plain};
 use std::alloc::{AllocError, Global};
 use std::marker::Model;
 

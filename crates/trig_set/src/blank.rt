@@ -3,15 +3,16 @@ ghost use Rattle.std.specs.Prelude.{◌≡◌, ◌≤◌, ◌<◌, ◌+◌, ◌+
 ghost use Rattle.std.specs.List.{list_any};
 ghost use Rattle.ha_value.specs.declared.value.EntityId.{EntityId as Entity};
 ghost use Rattle.event_bus.specs.Subjects.{Subject, concerns, knows};
-ghost use Rattle.ha_model.specs.Words.{same_entity};
-ghost use Rattle.ha_model.specs.Triggers.{each_once, entities_of};
+ghost use Rattle.ha_config.specs.Words.{same_entity};
+ghost use Rattle.ha_sight.specs.Rules.{each_once, entities_of};
 ghost use Rattle.trig_set.specs.Blank.{are_blank, entity_places};
 ghost use Rattle.trig_set.specs.Kept.{place_of, places_of};
 
 use crate::many_spots::FEW;
 use crate::spot::Spot;
 use event_bus::Index;
-use ha_model::{EntityId, Plain, Trigger, TriggerRule, same_id};
+use ha_config::{Trigger, TriggerRule, same_id};
+use ha_value::{EntityId, Plain};
 use std::alloc::{AllocError, Global};
 
 /// One more spot, with nothing kept.
@@ -155,7 +156,7 @@ fn add_trigger(
     trigger: &Trigger,
     spots: &mut Vec<Spot>,
 ) -> Result<(), AllocError>
-    ensures places { OnOk result (map place_of spots.new.items ≡ map place_of spots.old.items ++ map (λ e. (index, e)) (entities_of [] trigger.now.rule)) }
+    ensures places { OnOk result (map place_of spots.new.items ≡ map place_of spots.old.items ++ map (λ e. (index, e)) (entities_of trigger.now.rule)) }
     ensures blank { OnOk result (are_blank spots.old.items ≡ true → are_blank spots.new.items ≡ true) }
 {
     match &trigger.rule {

@@ -3,7 +3,7 @@ ghost use Rattle.std.specs.Prelude.{◌≡◌, ◌≤◌, ℕ, OnOk, IfOk, Match
 ghost use Rattle.std.specs.Option.{option_copied, option_map_or};
 ghost use Rattle.event_bus.specs.Lists.{has};
 ghost use Rattle.event_bus.specs.Subjects.{Subject, knows};
-ghost use Rattle.ha_model.specs.Entries.{event_in, is_moment, opens_segment};
+ghost use Rattle.ha_journal.specs.Entries.{event_in, is_moment, opens_segment};
 ghost use Rattle.timer_queue.specs.Timers.{due_of};
 ghost use Rattle.trig_set.specs.Concerned.{IsAside, OfOthers};
 ghost use Rattle.trig_set.specs.Order.{ascend, owner_of};
@@ -17,7 +17,8 @@ use crate::owners::Attached;
 use crate::places::Places;
 use crate::scene::Shift;
 use event_bus::Index;
-use ha_model::{Entry, Moment};
+use ha_clock::Moment;
+use ha_journal::Entry;
 use std::alloc::{AllocError, Global};
 use std::collections::BTreeSet;
 use timer_queue::TimerQueue;

@@ -1,10 +1,11 @@
 //! Whether two values are equal, by value.
 ghost use Rattle.std.specs.Prelude.{◌≡◌};
-ghost use Rattle.ha_model.specs.Equal.{equal_value, same_flag};
-ghost use Rattle.ha_model.specs.Numbers as numbers;
+ghost use Rattle.ha_config.specs.Equal.{equal_value, same_flag};
+ghost use Rattle.ha_config.specs.Numbers as numbers;
 ghost use Rattle.trig_set.specs.Equality as operators;
 
-use ha_model::{Num, Value, Word, same_text};
+use ha_config::same_text;
+use ha_value::{Num, Value, Word};
 use std::cmp::Ordering;
 
 pub fn equal_flag(left: bool, right: bool) -> bool

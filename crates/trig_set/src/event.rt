@@ -2,12 +2,15 @@
 ghost use Rattle.std.specs.Prelude.{◌≡◌, ◌&&◌, option_map};
 ghost use Rattle.std.specs.Option.{option_copied};
 ghost use Rattle.std.specs.List.{list_all};
-ghost use Rattle.ha_model.specs.Entries.{event_in};
-ghost use Rattle.ha_model.specs.Triggers as triggers;
-ghost use Rattle.ha_model.specs.Words as words;
+ghost use Rattle.ha_journal.specs.Entries.{event_in};
+ghost use Rattle.ha_sight.specs.Rules as triggers;
+ghost use Rattle.ha_config.specs.Words as words;
 
 use crate::equal::equal;
-use ha_model::{Cmd, Entry, Item, Many, Value, Word, first_pair, same_text};
+use ha_config::{Cmd, first_pair, same_text};
+use ha_journal::Entry;
+use ha_sight::Item;
+use ha_value::{Many, Value, Word};
 
 /// The kind of the event, if the entry is one.
 pub fn kind_in(entry: &Entry) -> Option<&Word>

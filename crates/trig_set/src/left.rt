@@ -4,7 +4,7 @@ ghost use Rattle.event_bus.specs.Lists.{has};
 ghost use Rattle.event_bus.specs.Subjects.{Subject, knows};
 
 use event_bus::Index;
-use ha_model::EntityId;
+use ha_value::EntityId;
 use std::collections::BTreeSet;
 
 /// Whether nobody is listed.

@@ -5,7 +5,8 @@ ghost use Rattle.event_bus.specs.Subjects.{Subject, concerns, knows};
 ghost use Rattle.trig_set.specs.Known.{heed, heeds};
 
 use event_bus::Index;
-use ha_model::{EntityId, Trigger, TriggerRule};
+use ha_config::{Trigger, TriggerRule};
+use ha_value::EntityId;
 use std::alloc::{AllocError, Global};
 
 /// Lists an owner for entities of one of its triggers.

@@ -1,22 +1,22 @@
 //! Whether what a trigger watches stays.
 ghost use Rattle.std.specs.Prelude.{◌≡◌, ℕ, length, nat_lt, suc, true, false, Some};
 ghost use Rattle.std.specs.Option.{option_copied, option_map_or};
-ghost use Rattle.ha_model.specs.Entries.{opens_segment};
-ghost use Rattle.ha_model.specs.Equal.{same_flag};
-ghost use Rattle.ha_model.specs.Numbers.{in_bounds as in_bounds_lem};
-ghost use Rattle.ha_model.specs.Triggers.{latest_number, report_number};
+ghost use Rattle.ha_journal.specs.Entries.{opens_segment};
+ghost use Rattle.ha_config.specs.Equal.{same_flag};
+ghost use Rattle.ha_config.specs.Numbers.{in_bounds as in_bounds_lem};
+ghost use Rattle.ha_journal.specs.Moves.{latest_number, report_number, sight};
 ghost use Rattle.trig_state.specs.States.{is_state};
-ghost use Rattle.ha_model.specs.Journal.{Journal};
-ghost use Rattle.ha_model.specs.RecordSteps.{more};
-ghost use Rattle.ha_model.specs.Sound.{may_hold};
-ghost use Rattle.ha_model.specs.Triggers.{sight};
+ghost use Rattle.ha_journal.specs.Journal.{Journal, more};
+ghost use Rattle.ha_config.specs.Sound.{may_hold};
 ghost use Rattle.trig_set.specs.Kept.{is_true};
 ghost use Rattle.ha_past.specs.Looks.{watches};
 ghost use Rattle.trig_set.specs.Scenes.{Shows, shift_of as shift_of_lem};
 
 use crate::equal::equal_flag;
 use crate::scene::{Scene, Shift};
-use ha_model::{Cmd, EntityId, Entry, Num, TriggerRule, Word, same_id};
+use ha_config::{Cmd, TriggerRule, same_id};
+use ha_journal::Entry;
+use ha_value::{EntityId, Num, Word};
 use trig_numeric::{in_bounds, number_in};
 use trig_state::state_stays;
 

@@ -1,17 +1,17 @@
 //! Whether an entry moves a trigger, and with which variables.
 ghost use Rattle.std.specs.Prelude.{◌≡◌, ◌≤◌, ◌<◌, ℕ, ◌&&◌, ◌∷◌, ◌++◌, [], codes, not, IfOk, MatchOption, Some, None, Bool, true, false, length, nat_lt, suc, is_none, is_some, if◌then◌else◌};
 ghost use Rattle.std.specs.Option.{option_copied, option_map_or};
-ghost use Rattle.ha_model.specs.Numbers.{in_bounds as in_bounds_lem};
+ghost use Rattle.ha_config.specs.Numbers.{in_bounds as in_bounds_lem};
 ghost use Rattle.ha_clock.specs.Local.{last_moment};
 ghost use Rattle.ha_value.specs.declared.value.Value.TheVariants.{Pairs as Map};
-ghost use Rattle.ha_model.specs.Entries.{opens_segment, is_moment as is_moment_lem};
-ghost use Rattle.ha_model.specs.Words.{Text};
-ghost use Rattle.ha_model.specs.Journal.{Journal};
-ghost use Rattle.ha_model.specs.RecordSteps.{more};
-ghost use Rattle.ha_model.specs.Triggers.{sight, starts, head_pairs, state_value, text_or_null, number_or_null, report_number, latest_number, passed};
+ghost use Rattle.ha_journal.specs.Entries.{opens_segment, is_moment as is_moment_lem};
+ghost use Rattle.ha_config.specs.Words.{Text};
+ghost use Rattle.ha_journal.specs.Journal.{Journal, more};
+ghost use Rattle.ha_journal.specs.Moves.{sight, report_number, latest_number};
+ghost use Rattle.ha_sight.specs.Rules.{starts, head_pairs, state_value, text_or_null, number_or_null, passed};
 ghost use Rattle.ha_value.specs.Ids.{entity_text};
 ghost use Rattle.trig_numeric.specs.Bounds.{is_numeric};
-ghost use Rattle.ha_model.specs.States.{Sight};
+ghost use Rattle.ha_sight.specs.Sight.{Sight};
 ghost use Rattle.ha_past.specs.Looks.{is_event};
 ghost use Rattle.trig_state.specs.States.{is_state, rule_moves};
 ghost use Rattle.trig_set.specs.Kept.{is_true, holds_well};
@@ -22,7 +22,10 @@ use crate::attached::is_moment;
 use crate::event::{data_in, is_named, kind_in};
 use crate::moved::{is_within, opens, reported_number, shift_of};
 use crate::scene::{Scene, Shift};
-use ha_model::{EntityId, Entry, Many, Num, Trigger, TriggerData, TriggerRule, Value, Word};
+use ha_config::{Trigger, TriggerRule};
+use ha_journal::Entry;
+use ha_sight::TriggerData;
+use ha_value::{EntityId, Many, Num, Value, Word};
 use std::alloc::{AllocError, Global};
 use time_match::passed;
 use trig_state::state_moves;
@@ -33,7 +36,7 @@ fn started(
     trigger: &Trigger,
     entity: Option<&EntityId>,
 ) -> Result<Option<TriggerData>, AllocError>
-    ensures { IfOk result (λ v. v ≡ (if starts [] trigger.now.rule && is_none (option_copied entity.entry) then Some (Map (head_pairs [] (codes "homeassistant") trigger.now)) else None)) }
+    ensures { IfOk result (λ v. v ≡ (if starts trigger.now.rule && is_none (option_copied entity.entry) then Some (Map (head_pairs (codes "homeassistant") trigger.now)) else None)) }
 {
     match (&trigger.rule, entity) {
         (TriggerRule::Start, None) => Ok(Some(TriggerData::bare(alloc, "homeassistant", trigger)?)),
@@ -48,7 +51,7 @@ fn of_template(
     is: bool,
     was: bool,
 ) -> Result<Option<TriggerData>, AllocError>
-    ensures { IfOk result (λ v. v ≡ (if is && not was then Some (Map (head_pairs [] (codes "template") trigger.now)) else None)) }
+    ensures { IfOk result (λ v. v ≡ (if is && not was then Some (Map (head_pairs (codes "template") trigger.now)) else None)) }
 {
     if is && !was {
         Ok(Some(TriggerData::bare(alloc, "template", trigger)?))
@@ -66,7 +69,7 @@ fn of_time(
 ) -> Result<Option<TriggerData>, AllocError>
     requires { scene.now.to ≤ last_moment }
     ensures { IfOk result (λ v. (zone : Text) → MatchOption (option_copied scene.now.zone) ⊥ (λ z. z ≡ zone)
-        → v ≡ (if is_moment_lem scene.now.entry.now && passed trigger.now.rule zone scene.now.from scene.now.to then Some (Map (head_pairs [] platform.now trigger.now)) else None)) }
+        → v ≡ (if is_moment_lem scene.now.entry.now && passed trigger.now.rule zone scene.now.from scene.now.to then Some (Map (head_pairs platform.now trigger.now)) else None)) }
 {
     let Some(zone) = scene.zone else {
         return Ok(None);
@@ -109,7 +112,7 @@ fn of_shift(
 ) -> Result<Option<TriggerData>, AllocError>
     requires { is_state trigger.now.rule ≡ true }
     ensures { IfOk result (λ v. v ≡ (if rule_moves trigger.now.rule (is_some trigger.now.hold) shift.now.old shift.now.new
-        then Some (Map (head_pairs [] (codes "state") trigger.now ++ ((codes "entity_id", Value.Text (entity_text entity.now)) ∷ (codes "from_state", state_value [] entity.now shift.now.old) ∷ (codes "to_state", state_value [] entity.now shift.now.new) ∷ (codes "attribute", text_or_null [] attribute.now) ∷ []))) else None)) }
+        then Some (Map (head_pairs (codes "state") trigger.now ++ ((codes "entity_id", Value.Text (entity_text entity.now)) ∷ (codes "from_state", state_value entity.now shift.now.old) ∷ (codes "to_state", state_value entity.now shift.now.new) ∷ (codes "attribute", text_or_null attribute.now) ∷ []))) else None)) }
 {
     let held = trigger.hold.is_some();
     if !state_moves(
@@ -186,7 +189,7 @@ fn of_crossing(
     crosses: bool,
 ) -> Result<Option<TriggerData>, AllocError>
     ensures { IfOk result (λ v. v ≡ (if crosses
-        then Some (Map (head_pairs [] (codes "numeric_state") trigger.now ++ ((codes "entity_id", Value.Text (entity_text entity.now)) ∷ (codes "from_state", state_value [] entity.now shift.now.old) ∷ (codes "to_state", state_value [] entity.now shift.now.new) ∷ (codes "above", number_or_null [] above) ∷ (codes "below", number_or_null [] below) ∷ []))) else None)) }
+        then Some (Map (head_pairs (codes "numeric_state") trigger.now ++ ((codes "entity_id", Value.Text (entity_text entity.now)) ∷ (codes "from_state", state_value entity.now shift.now.old) ∷ (codes "to_state", state_value entity.now shift.now.new) ∷ (codes "above", number_or_null above) ∷ (codes "below", number_or_null below) ∷ []))) else None)) }
 {
     if !crosses {
         return Ok(None);
@@ -234,7 +237,7 @@ fn of_named(
     named: bool,
 ) -> Result<Option<TriggerData>, AllocError>
     ensures { IfOk result (λ v. v ≡ (if named
-        then Some (Map (head_pairs [] (codes "event") trigger.now ++ ((codes "event", Map ((codes "event_type", Value.Text kind.now) ∷ (codes "data", Map fields.now) ∷ [])) ∷ []))) else None)) }
+        then Some (Map (head_pairs (codes "event") trigger.now ++ ((codes "event", Map ((codes "event_type", Value.Text kind.now) ∷ (codes "data", Map fields.now) ∷ [])) ∷ []))) else None)) }
 {
     if !named {
         return Ok(None);

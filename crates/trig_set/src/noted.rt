@@ -2,10 +2,9 @@
 ghost use Rattle.std.specs.Prelude.{◌≡◌, ◌≤◌, ◌++◌, ℕ, [], OnOk, false, flat_map, length, map, nat_eq, slice_get, true};
 ghost use Rattle.ha_clock.specs.Local.{last_moment};
 ghost use Rattle.event_bus.specs.Lists.{has};
-ghost use Rattle.ha_model.specs.Journal.{Journal};
-ghost use Rattle.ha_model.specs.Words.{up_to};
-ghost use Rattle.ha_model.specs.RecordSteps.{more};
-ghost use Rattle.ha_model.specs.Triggers.{sight};
+ghost use Rattle.ha_journal.specs.Journal.{Journal, more};
+ghost use Rattle.ha_config.specs.Words.{up_to};
+ghost use Rattle.ha_journal.specs.Moves.{sight};
 ghost use Rattle.timer_queue.specs.Timers.{due_of};
 ghost use Rattle.ha_past.specs.Firings.{firings};
 ghost use Rattle.trig_set.specs.Known.{AreKnown};
@@ -20,7 +19,9 @@ use crate::owners::{Attached, note_at};
 use crate::places::Places;
 use crate::scene::Scene;
 use event_bus::Index;
-use ha_model::{Answers, Firing, Many};
+use ha_journal::Firing;
+use ha_sight::Answers;
+use ha_value::Many;
 use std::alloc::{AllocError, Global};
 use timer_queue::TimerQueue;
 

@@ -4,17 +4,18 @@ ghost use Rattle.std.specs.BTreeMap.{get_by_text};
 ghost use Rattle.std.specs.Option.{option_copied};
 ghost use Rattle.ha_value.specs.declared.value.EntityId.{EntityId as Entity};
 ghost use Rattle.ha_value.specs.Ids.{for_id};
-ghost use Rattle.ha_model.specs.Words.{Text, same, same_entity};
-ghost use Rattle.ha_model.specs.Conditions.{number_watched};
-ghost use Rattle.ha_model.specs.Entries.{opens_segment};
-ghost use Rattle.ha_model.specs.Triggers.{report_number};
+ghost use Rattle.ha_config.specs.Words.{Text, same, same_entity};
+ghost use Rattle.ha_sight.specs.Conditions.{number_watched};
+ghost use Rattle.ha_journal.specs.Entries.{opens_segment};
+ghost use Rattle.ha_journal.specs.Moves.{report_number};
 ghost use Rattle.ha_past.specs.Looks.{or_else};
 ghost use Rattle.trig_set.specs.Table.{begins_as_number, number_at, number_given, number_of, numbers_in};
 
 use crate::attributes::put_attributes;
 use crate::moved::opens;
-use ha_model::{Cmd, EntityId, Entry, Many, Num, Value, Word};
-use ha_value::begins_number;
+use ha_config::Cmd;
+use ha_journal::Entry;
+use ha_value::{EntityId, Many, Num, Value, Word, begins_number};
 use std::alloc::{AllocError, Global};
 use std::collections::BTreeMap;
 

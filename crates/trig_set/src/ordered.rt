@@ -1,9 +1,8 @@
 //! The owners, in the order of their numbers.
 ghost use Rattle.std.specs.Prelude.{◌≡◌, ◌≤◌, ◌++◌, ℕ, [], IsNone, List, OnErr, OnOk, length, map, true};
 ghost use Rattle.ha_clock.specs.Local.{last_moment};
-ghost use Rattle.ha_model.specs.Journal.{Journal};
-ghost use Rattle.ha_model.specs.RecordSteps.{more};
-ghost use Rattle.ha_model.specs.Triggers.{sight};
+ghost use Rattle.ha_journal.specs.Journal.{Journal, more};
+ghost use Rattle.ha_journal.specs.Moves.{sight};
 ghost use Rattle.ha_past.specs.Firings.{firings, owner_named, placed, without_owner};
 ghost use Rattle.timer_queue.specs.Timers.{Timer, removed};
 ghost use Rattle.trig_set.specs.Known.{AreKnown};
@@ -17,7 +16,9 @@ use crate::noted::note_owners;
 use crate::owners::{Attached, unlist_owner};
 use crate::scene::Scene;
 use event_bus::Index;
-use ha_model::{Answers, Firing, Many};
+use ha_journal::Firing;
+use ha_sight::Answers;
+use ha_value::Many;
 use std::alloc::{AllocError, Global};
 use std::marker::Model;
 use timer_queue::TimerQueue;
@@ -32,9 +33,9 @@ impl Model for Owners {
     ghost use Rattle.std.specs.Coded.{codes};
     ghost use Rattle.std.specs.Prelude.{◌≡◌, List, map, true};
     ghost use Rattle.ha_value.specs.contracts.value.Value as value;
-    ghost use Rattle.ha_model.specs.contracts.template.Expr as expr;
-    ghost use Rattle.ha_model.specs.contracts.template.Piece as piece;
-    ghost use Rattle.ha_model.specs.contracts.template.Template as template;
+    ghost use Rattle.ha_config.specs.contracts.template.Expr as expr;
+    ghost use Rattle.ha_config.specs.contracts.template.Piece as piece;
+    ghost use Rattle.ha_config.specs.contracts.template.Template as template;
     ghost use Rattle.trig_set.specs.declared.owners.Attached.{Attached};
     ghost use Rattle.trig_set.specs.Order.{ascend, owner_of};
 

@@ -1,10 +1,9 @@
 //! One owner of triggers, with what is kept for it.
 ghost use Rattle.std.specs.Prelude.{◌≡◌, ◌≤◌, ◌<◌, ◌++◌, ℕ, List, IfOk, IsTrue, OnOk, length, map, false, nat_eq, slice_get};
 ghost use Rattle.ha_clock.specs.Local.{last_moment};
-ghost use Rattle.ha_model.specs.Journal.{Journal};
-ghost use Rattle.ha_model.specs.RecordSteps.{more};
-ghost use Rattle.ha_model.specs.Sound.{are_sound_triggers};
-ghost use Rattle.ha_model.specs.Triggers.{sight};
+ghost use Rattle.ha_journal.specs.Journal.{Journal, more};
+ghost use Rattle.ha_config.specs.Sound.{are_sound_triggers};
+ghost use Rattle.ha_journal.specs.Moves.{sight};
 ghost use Rattle.timer_queue.specs.Timers.{Timer};
 ghost use Rattle.ha_past.specs.Firings.{firings_of, without_owner};
 ghost use Rattle.trig_set.specs.Known.{AreKnown};
@@ -21,7 +20,10 @@ use crate::many_spots::{Listed, list_many, note_listed};
 use crate::scene::Scene;
 use crate::spot::Spot;
 use event_bus::Index;
-use ha_model::{Answers, Firing, Many, Plain, Trigger};
+use ha_config::Trigger;
+use ha_journal::Firing;
+use ha_sight::Answers;
+use ha_value::{Many, Plain};
 use std::alloc::{AllocError, Global};
 use timer_queue::TimerQueue;
 

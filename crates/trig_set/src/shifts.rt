@@ -1,23 +1,23 @@
 //! What an entry changes of each entity.
 ghost use Rattle.std.specs.Prelude.{◌≡◌, ◌∷◌, ◌++◌, [], ℕ, None, Some, Bool, IfOk, OnOk, length, option_map, option_and_then, if◌then◌else◌};
 ghost use Rattle.std.specs.Option.{option_copied};
-ghost use Rattle.ha_model.specs.Calls.{automation_at};
-ghost use Rattle.ha_model.specs.Entries.{report_in as report_in_lem};
-ghost use Rattle.ha_model.specs.Journal.{Journal, IsJournal};
-ghost use Rattle.ha_model.specs.RecordSteps.{more};
-ghost use Rattle.ha_model.specs.Sights.{switch_seen};
-ghost use Rattle.ha_model.specs.Triggers.{sight};
-ghost use Rattle.ha_model.specs.Words.{Text, Pairs, same_entity};
+ghost use Rattle.ha_sight.specs.Calls.{automation_at};
+ghost use Rattle.ha_journal.specs.Entries.{report_in as report_in_lem};
+ghost use Rattle.ha_journal.specs.Journal.{Journal, IsJournal, more};
+ghost use Rattle.ha_sight.specs.Sight.{switch_seen};
+ghost use Rattle.ha_journal.specs.Moves.{sight};
+ghost use Rattle.ha_config.specs.Words.{Text, Pairs, same_entity};
 ghost use Rattle.trig_set.specs.Next.{AreListed, Listed};
 ghost use Rattle.trig_set.specs.Scenes.{AreShifts, face, shifts_in};
 ghost use Rattle.trig_set.specs.Shifts.{AreMade, IsMade, face_after, face_of_switch, is_automation, next_face, removes};
 
 use crate::before::Before;
 use crate::scene::{Shift, Shifts};
-use ha_model::{
-    Answers, Cmd, EntityId, Entry, Many, Moment, Plain, StateObject, Value, Word, copy_pairs,
-    same_id,
-};
+use ha_clock::Moment;
+use ha_config::{Cmd, same_id};
+use ha_journal::Entry;
+use ha_sight::{Answers, StateObject};
+use ha_value::{EntityId, Many, Plain, Value, Word, copy_pairs};
 use std::alloc::{AllocError, Global};
 
 /// Whether the entity is of the domain of automations.

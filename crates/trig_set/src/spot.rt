@@ -2,9 +2,8 @@
 ghost use Rattle.std.specs.Prelude.{◌≡◌, ◌≤◌, ◌+◌, IfOk, OnOk, Some, None, length, is_some, is_none, true, option_map, if◌then◌else◌};
 ghost use Rattle.std.specs.Option.{option_copied};
 ghost use Rattle.ha_clock.specs.Local.{last_moment};
-ghost use Rattle.ha_model.specs.Journal.{Journal};
-ghost use Rattle.ha_model.specs.RecordSteps.{more};
-ghost use Rattle.ha_model.specs.Triggers.{sight};
+ghost use Rattle.ha_journal.specs.Journal.{Journal, more};
+ghost use Rattle.ha_journal.specs.Moves.{sight};
 ghost use Rattle.trig_set.specs.Kept.{Keeps, Moved, Settles, holding, holds_well, is_true, place_of};
 ghost use Rattle.ha_past.specs.Looks.{Holding, or_else, stays_watched};
 ghost use Rattle.trig_set.specs.Scenes.{Shows};
@@ -12,7 +11,10 @@ ghost use Rattle.trig_set.specs.Scenes.{Shows};
 use crate::moved::stays;
 use crate::moving::given;
 use crate::scene::Scene;
-use ha_model::{EntityId, Moment, Span, Trigger, TriggerData};
+use ha_clock::{Moment, Span};
+use ha_config::Trigger;
+use ha_sight::TriggerData;
+use ha_value::EntityId;
 use std::alloc::{AllocError, Global};
 
 /// A hold (`for`) that is pending.

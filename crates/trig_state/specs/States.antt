@@ -2,10 +2,10 @@
 use Rattle.std.specs.Prelude.{Bool, true, false, Option, None, Some, is_none, option_and_then}
 use Rattle.std.specs.Option.{option_map_or}
 use Rattle.ha_value.specs.declared.value.Value.{Value}
-use Rattle.ha_model.specs.declared.config.TriggerRule.{TriggerRule}
-use Rattle.ha_model.specs.declared.journal.StateObject.{StateObject}
-use Rattle.ha_model.specs.Words.{Text, same, first_pair}
-use Rattle.ha_model.specs.Triggers.{same_optional, state_moves}
+use Rattle.ha_config.specs.declared.config.TriggerRule.{TriggerRule}
+use Rattle.ha_sight.specs.declared.state.StateObject.{StateObject}
+use Rattle.ha_config.specs.Words.{Text, same, first_pair}
+use Rattle.ha_sight.specs.Rules.{same_optional, state_moves}
 
 abbrev pub is_state : TriggerRule → Bool
 is_state (TriggerRule.State entities attribute from to) = true

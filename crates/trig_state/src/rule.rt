@@ -1,14 +1,16 @@
 //! The rule of state triggers.
 ghost use Rattle.std.specs.Prelude.{◌≡◌, ◌||◌, ◌&&◌, true, not, None, Some, IfOk, option_map};
 ghost use Rattle.std.specs.Option.{option_copied, option_map_or};
-ghost use Rattle.ha_model.specs.Equal.{same_pairs};
-ghost use Rattle.ha_model.specs.Triggers as triggers;
-ghost use Rattle.ha_model.specs.Words.{same};
+ghost use Rattle.ha_config.specs.Equal.{same_pairs};
+ghost use Rattle.ha_sight.specs.Rules as triggers;
+ghost use Rattle.ha_config.specs.Words.{same};
 ghost use Rattle.trig_state.specs.States.{is_state, rule_moves, rule_stays, text_stays};
 
 use crate::sides::{are_absent, matches};
 use crate::texts::{attribute_in, same_optional, text_in};
-use ha_model::{Match, StateObject, TriggerRule, Word, same_data, same_text};
+use ha_config::{Match, TriggerRule, same_data, same_text};
+use ha_sight::StateObject;
+use ha_value::Word;
 use std::alloc::{AllocError, Global};
 
 /// Whether a trigger without `attribute` looks at the change.

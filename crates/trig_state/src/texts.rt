@@ -1,12 +1,14 @@
 //! The attributes of a state, and their texts.
 ghost use Rattle.std.specs.Prelude.{◌≡◌, IfOk, option_and_then};
 ghost use Rattle.std.specs.Option.{option_copied};
-ghost use Rattle.ha_model.specs.Conditions as conditions;
-ghost use Rattle.ha_model.specs.Equal.{same_value};
-ghost use Rattle.ha_model.specs.Triggers as triggers;
+ghost use Rattle.ha_sight.specs.Conditions as conditions;
+ghost use Rattle.ha_config.specs.Equal.{same_value};
+ghost use Rattle.ha_sight.specs.Rules as triggers;
 ghost use Rattle.trig_state.specs.States as states;
 
-use ha_model::{Plain, StateObject, Value, Word, attribute_text, first_pair};
+use ha_config::first_pair;
+use ha_sight::{StateObject, attribute_text};
+use ha_value::{Plain, Value, Word};
 use std::alloc::{AllocError, Global};
 
 /// The attribute of a state, where both are there.

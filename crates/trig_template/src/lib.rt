@@ -2,9 +2,10 @@
 #![tactic(auto)]
 
 ghost use Rattle.std.specs.Prelude.{◌≡◌, [], IfOk};
-ghost use Rattle.ha_model.specs.Templates.{rendered, says};
+ghost use Rattle.ha_sight.specs.Templates.{rendered, says};
 
-use ha_model::{Answers, Env, Template, true_in};
+use ha_config::Template;
+use ha_sight::{Answers, Env, true_in};
 use std::alloc::{AllocError, Global};
 
 /// Whether the template of a trigger is true, in the empty environment: its text is a number other than zero, or one of `true`, `yes`, `on`

@@ -2,7 +2,7 @@
 use crate::home::Step::{Clock, Gone, Has, Restart, Says};
 use crate::home::{Expected, goes_at_eight, goes_until_detached, row};
 use crate::triggers::{held, over_twenty, state, text};
-use ha_model::Match;
+use ha_config::Match;
 use std::alloc::{AllocError, Global};
 
 const DOOR: &str = "binary_sensor.d";

@@ -1,14 +1,14 @@
 //! Attached triggers, with the states that the entries before leave.
 ghost use Rattle.std.specs.Prelude.{◌≤◌, IsTrue};
 ghost use Rattle.ha_clock.specs.Local.{last_moment};
-ghost use Rattle.ha_model.specs.Sound.{are_sound_triggers};
+ghost use Rattle.ha_config.specs.Sound.{are_sound_triggers};
 
 use cond_eval::View;
-use ha_clock::Zone;
-use ha_model::{
-    Cmd, Config, EntityId, Entry, Firing, Many, Moment, Num, Plain, StateObject, Trigger, Value,
-    Word,
-};
+use ha_clock::{Moment, Zone};
+use ha_config::{Cmd, Config, Trigger};
+use ha_journal::{Entry, Firing};
+use ha_sight::StateObject;
+use ha_value::{EntityId, Many, Num, Plain, Value, Word};
 use state_table::StateTable;
 use std::alloc::{AllocError, Global};
 use trig_set::{Before, TrigSet};

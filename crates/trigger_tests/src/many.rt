@@ -1,12 +1,13 @@
 //! An owner with a trigger on many entities, beside triggers of other kinds.
 ghost use Rattle.std.specs.Prelude.{IfOk, IsTrue};
-ghost use Rattle.ha_model.specs.Sound.{are_sound_triggers, is_sound_rule, is_sound_trigger, may_hold};
+ghost use Rattle.ha_config.specs.Sound.{are_sound_triggers, is_sound_rule, is_sound_trigger, may_hold};
 
 use crate::home::Step::{Clock, Event, Gone, Has, Restart, Says};
 use crate::home::{Expected, goes_at_eight, goes_until_detached, row};
 use crate::templates::over_twenty as template_over_twenty;
 use crate::triggers::{event, five_seconds, over_twenty, state, text};
-use ha_model::{Many, Trigger, TriggerRule, Word};
+use ha_config::{Trigger, TriggerRule};
+use ha_value::{Many, Word};
 use std::alloc::{AllocError, Global};
 
 /// The ids of twenty lights.

@@ -1,11 +1,11 @@
 //! Triggers without `for`.
 ghost use Rattle.std.specs.Prelude.{IsTrue};
-ghost use Rattle.ha_model.specs.Sound.{is_sound_match};
+ghost use Rattle.ha_config.specs.Sound.{is_sound_match};
 
 use crate::home::Step::{Clock, Event, Gone, Has, Restart, Says};
 use crate::home::{EIGHT, goes, goes_at_eight, row};
 use crate::triggers::{event, event_two, one, over_twenty, state, text, two};
-use ha_model::{Match, TriggerRule};
+use ha_config::{Match, TriggerRule};
 use std::alloc::{AllocError, Global};
 
 /// Whether it fires where the lamp turns on, and then this where an attribute comes to it.

@@ -1,11 +1,12 @@
 //! Triggers on a template.
 ghost use Rattle.std.specs.Prelude.{IfOk, IsTrue};
-ghost use Rattle.ha_model.specs.Sound.{is_sound_expr, is_sound_rule, may_hold};
+ghost use Rattle.ha_config.specs.Sound.{is_sound_expr, is_sound_rule, may_hold};
 
 use crate::home::Step::{Clock, Gone, Says};
 use crate::home::{goes_at_eight, row};
 use crate::triggers::{held, one};
-use ha_model::{Boxed, Expr, Many, Num, Op, Piece, Template, TriggerRule, Value, Word};
+use ha_config::{Expr, Op, Piece, Template, TriggerRule};
+use ha_value::{Boxed, Many, Num, Value, Word};
 use std::alloc::{AllocError, Global};
 
 /// `states(id)|int`.

@@ -1,11 +1,12 @@
 //! Times that pass.
 ghost use Rattle.std.specs.Prelude.{◌&&◌, IsTrue};
-ghost use Rattle.ha_model.specs.Sound.{is_sound_unit};
+ghost use Rattle.ha_config.specs.Sound.{is_sound_unit};
 
 use crate::home::Step::Clock;
 use crate::home::{EIGHT, Expected, goes, goes_at_eight, row};
 use crate::triggers::one;
-use ha_model::{Many, TriggerRule, Unit};
+use ha_config::{TriggerRule, Unit};
+use ha_value::Many;
 use std::alloc::{AllocError, Global};
 
 const BERLIN: &str = "CET-1CEST,M3.5.0,M10.5.0/3";

@@ -1,9 +1,11 @@
 //! Triggers by the parts that a test names.
 ghost use Rattle.std.specs.Prelude.{◌&&◌, IfOk, IsTrue, nat_lt};
-ghost use Rattle.ha_model.specs.Sound.{are_sound_triggers, if_there, is_short, is_sound_match, is_sound_rule, may_hold};
+ghost use Rattle.ha_config.specs.Sound.{are_sound_triggers, if_there, is_short, is_sound_match, is_sound_rule, may_hold};
 
 use crate::home::entity;
-use ha_model::{EntityId, Many, Match, Num, Span, Trigger, TriggerRule, Value, Word};
+use ha_clock::Span;
+use ha_config::{Match, Trigger, TriggerRule};
+use ha_value::{EntityId, Many, Num, Value, Word};
 use std::alloc::{AllocError, Global};
 
 /// A trigger, with its `for`.

@@ -8,7 +8,7 @@ use Rattle.std.specs.BTreeSet.{BTreeSet, IsLowerBound, Updates}
 use Rattle.std.specs.Ordering.{is_gt}
 use Rattle.std.proofs.lemmas.Bool.{cases_lt}
 use Rattle.std.proofs.lemmas.Bool.Decides.{eqb_tells, nat_tests}
-use Rattle.ha_model.specs.declared.steps.Firing.{Firing}
+use Rattle.ha_journal.specs.declared.firing.Firing.{Firing}
 use Rattle.wait_set.specs.declared.asked.Asked.{Asked}
 use Rattle.wait_set.specs.Concern.{Ascend, fires_for, has}
 

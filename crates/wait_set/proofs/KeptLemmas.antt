@@ -8,7 +8,7 @@ use Rattle.std.proofs.lemmas.List.Elements.{All-cons, All-filter, All-head, All-
 use Rattle.std.proofs.lemmas.List.Kept.{AllPairs-filter}
 use Rattle.std.proofs.lemmas.List.Quantifiers.{all_pairs_push}
 use Rattle.std.proofs.lemmas.Option.{slice_get-get_or}
-use Rattle.ha_model.specs.declared.journal.WaitEnd.{WaitEnd}
+use Rattle.ha_sight.specs.declared.waiting.WaitEnd.{WaitEnd}
 use Rattle.timer_queue.specs.Timers.{Timer, removed}
 use Rattle.wait_set.specs.declared.asked.Asked.{Asked}
 use Rattle.wait_set.specs.Asked.{added, is_of}

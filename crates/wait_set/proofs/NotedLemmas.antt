@@ -2,8 +2,8 @@
 use Rattle.std.proofs.Common.{◌≡◌, ℕ, zero, suc, ◌+◌, ◌<◌, ◌≤◌, List, [], ◌∷◌, ◌++◌, length, take, drop, set, get_or, Bool, true, false, refl, sym, ap, subst, ◌∙◌, arith, append_assoc, option_to_list}
 use Rattle.std.specs.Prelude.{is_none, is_some, ◌&&◌, if◌then◌else◌}
 use Rattle.std.proofs.lemmas.Option.{slice_get_read}
-use Rattle.ha_model.specs.declared.steps.Firing.{Firing}
-use Rattle.ha_model.specs.States.{Sight}
+use Rattle.ha_journal.specs.declared.firing.Firing.{Firing}
+use Rattle.ha_sight.specs.Sight.{Sight}
 use Rattle.wait_set.specs.declared.asked.Asked.{Asked}
 use Rattle.wait_set.specs.Asked.{ended_at, ends_in, noted, noted_at, noted_one, owners_ended}
 use Rattle.wait_set.specs.Concern.{IsStill}

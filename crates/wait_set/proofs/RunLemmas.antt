@@ -5,8 +5,8 @@ use Rattle.std.specs.BTreeSet.{BTreeSet}
 use Rattle.std.proofs.lemmas.Bool.{cases_lt, eqb-true}
 use Rattle.std.proofs.lemmas.Bool.Decides.{eqb_tells}
 use Rattle.wait_set.specs.declared.asked.Asked.{Asked}
-use Rattle.ha_model.specs.Words.{same}
-use Rattle.ha_model.specs.Scripts.{Branch}
+use Rattle.ha_config.specs.Words.{same}
+use Rattle.ha_sight.specs.Scripts.{Branch}
 use Rattle.wait_set.specs.Asked.{is_of, owners_of, wait_of}
 use Rattle.wait_set.specs.Concern.{Ascend}
 use Rattle.wait_set.specs.Runs.{HasNone, IsOfRun, IsPaired, Pair, has_pair}

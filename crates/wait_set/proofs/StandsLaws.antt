@@ -4,20 +4,18 @@ use Rattle.std.specs.Prelude.{Some, None, not, nat_eq, nat_le, is_some, find, op
 use Rattle.std.specs.Option.{option_map_or}
 use Rattle.ha_value.specs.declared.value.Num.{Num}
 use Rattle.ha_value.specs.declared.value.Value.{Value}
-use Rattle.ha_model.specs.declared.journal.Entry.{Entry}
-use Rattle.ha_model.specs.declared.journal.WaitAsk.{WaitAsk}
-use Rattle.ha_model.specs.declared.journal.WaitEnd.{WaitEnd}
-use Rattle.ha_model.specs.declared.steps.Firing.{Firing}
-use Rattle.ha_model.specs.Words.{first_of_list, numbers_from}
-use Rattle.ha_model.specs.Journal.{Journal, HasEntry}
-use Rattle.ha_model.specs.States.{Sight}
-use Rattle.ha_model.specs.Templates.{rendered, says}
-use Rattle.ha_model.specs.Triggers.{sight}
-use Rattle.ha_model.specs.Scripts.{Ask}
-use Rattle.ha_model.specs.Waits.{all_fired, completes, is_over, end_at, wait_end}
-use Rattle.ha_model.specs.Records.{or_else}
-use Rattle.ha_model.specs.RecordSteps.{more}
-use Rattle.ha_model.proofs.RecordLaws.{length-more}
+use Rattle.ha_journal.specs.declared.entry.Entry.{Entry}
+use Rattle.ha_sight.specs.declared.waiting.WaitAsk.{WaitAsk}
+use Rattle.ha_sight.specs.declared.waiting.WaitEnd.{WaitEnd}
+use Rattle.ha_journal.specs.declared.firing.Firing.{Firing}
+use Rattle.ha_config.specs.Words.{first_of_list, numbers_from, or_else}
+use Rattle.ha_journal.specs.Journal.{Journal, HasEntry, more}
+use Rattle.ha_sight.specs.Sight.{Sight}
+use Rattle.ha_sight.specs.Templates.{rendered, says}
+use Rattle.ha_journal.specs.Moves.{sight}
+use Rattle.ha_sight.specs.Scripts.{Ask}
+use Rattle.ha_journal.specs.Waits.{all_fired, completes, is_over, end_at, wait_end}
+use Rattle.ha_journal.proofs.MoreLemmas.{length-more}
 use Rattle.wait_set.specs.declared.asked.Asked.{Asked}
 use Rattle.wait_set.specs.Asked.{is_of, added, without_run, fired_values, is_done, is_late, end_with, end_now, noted_one, noted}
 use Rattle.wait_set.specs.Stands.{IsAsk, StandsOne, StandsFor, AreFired, IsNext}

@@ -3,10 +3,10 @@ use Rattle.std.proofs.Common.{◌≡◌, ℕ, zero, suc, ◌+◌, ◌<◌, List,
 use Rattle.std.specs.Prelude.{Some, None, nat_eq, is_some, is_none, ◌&&◌, ◌||◌, if◌then◌else◌}
 use Rattle.std.specs.List.{list_any}
 use Rattle.std.proofs.lemmas.Bool.{eqb-true}
-use Rattle.ha_model.specs.declared.journal.WaitEnd.{WaitEnd}
-use Rattle.ha_model.specs.declared.steps.Firing.{Firing}
-use Rattle.ha_model.specs.States.{Sight}
-use Rattle.ha_model.specs.Records.{or_else}
+use Rattle.ha_sight.specs.declared.waiting.WaitEnd.{WaitEnd}
+use Rattle.ha_journal.specs.declared.firing.Firing.{Firing}
+use Rattle.ha_sight.specs.Sight.{Sight}
+use Rattle.ha_config.specs.Words.{or_else}
 use Rattle.timer_queue.specs.Timers.{Timer, removed}
 use Rattle.timer_queue.proofs.TimerLemmas.{due_of-removed}
 use Rattle.wait_set.specs.declared.asked.Asked.{Asked}

@@ -6,21 +6,23 @@ use Rattle.std.specs.Option.{option_map_or}
 use Rattle.ha_value.specs.declared.value.EntityId.{EntityId}
 use Rattle.ha_value.specs.declared.value.Num.{Num}
 use Rattle.ha_value.specs.declared.value.Value.{Value}
-use Rattle.ha_model.specs.declared.config.Trigger.{Trigger}
-use Rattle.ha_model.specs.declared.config.TriggerRule.{TriggerRule}
-use Rattle.ha_model.specs.declared.journal.Entry.{Entry}
-use Rattle.ha_model.specs.Entries.{is_moment}
-use Rattle.ha_model.specs.Words.{first_of_list, numbers_from}
-use Rattle.ha_model.specs.Journal.{Journal, HasEntry}
-use Rattle.ha_model.specs.Templates.{rendered, says}
-use Rattle.ha_model.specs.Triggers.{sight, same_watched, fires, variables, entities_of, Fired, firing_for, firings_by}
-use Rattle.ha_model.specs.Scripts.{Ask}
-use Rattle.ha_model.specs.Waits.{all_fired, completes, is_over, end_at, wait_end}
-use Rattle.ha_model.specs.Records.{or_else}
-use Rattle.ha_model.specs.RecordSteps.{more}
-use Rattle.ha_model.proofs.RecordLaws.{length-more}
-use Rattle.ha_model.proofs.SinceLaws.{get-more}
-use Rattle.ha_past.proofs.PastLemmas.{sight-more, moves-more, watched-more, starts-alike, variables-more}
+use Rattle.ha_config.specs.declared.config.Trigger.{Trigger}
+use Rattle.ha_config.specs.declared.config.TriggerRule.{TriggerRule}
+use Rattle.ha_journal.specs.declared.entry.Entry.{Entry}
+use Rattle.ha_journal.specs.Entries.{is_moment}
+use Rattle.ha_config.specs.Words.{first_of_list, numbers_from, or_else}
+use Rattle.ha_journal.specs.Journal.{Journal, HasEntry, more}
+use Rattle.ha_sight.specs.Templates.{rendered, says}
+use Rattle.ha_journal.specs.Moves.{sight}
+use Rattle.ha_journal.specs.Holds.{same_watched, fires}
+use Rattle.ha_journal.specs.Variables.{variables}
+use Rattle.ha_sight.specs.Rules.{starts, entities_of}
+use Rattle.ha_journal.specs.Triggers.{Fired, firing_for, firings_by}
+use Rattle.ha_sight.specs.Scripts.{Ask}
+use Rattle.ha_journal.specs.Waits.{all_fired, completes, is_over, end_at, wait_end}
+use Rattle.ha_journal.proofs.MoreLemmas.{length-more}
+use Rattle.ha_config.proofs.ListLemmas.{get-more}
+use Rattle.ha_past.proofs.PastLemmas.{sight-more, moves-more, watched-more, variables-more}
 
 -- ---- tests that agree on a stretch of numbers
 
@@ -85,7 +87,7 @@ has-length (e ∷ es) h = omega arith
 module _ (j : Journal) (x : Entry) (h : HasEntry j) where
   fires-hold : (t : Trigger) (hold : Option ℕ) (e : Option EntityId) (since p i : ℕ) → i ≤ p → p < length j → fires (more j x) (record t { hold = hold }) e since p i ≡ fires j (record t { hold = hold }) e since p i
   fires-hold t None e since p i le lt =
-      (λ q. (nat_eq i p && moves-more j x h (record t { hold = None }) e p lt q) && (nat_lt since p || starts-alike (more j x) j t.rule q))
+      (λ q. (nat_eq i p && moves-more j x h (record t { hold = None }) e p lt q) && (nat_lt since p || starts t.rule))
   fires-hold t (Some d) e since p i le lt =
       let a = sight-more j x h (suc i) (omega (arith, le, lt)) in
       let b = sight-more j x h (suc p) (omega (arith, lt)) in
@@ -105,7 +107,7 @@ module _ (j : Journal) (x : Entry) (h : HasEntry j) where
       (λ k le. fires-more t.1 e since q k (omega (arith, le)) lt)
       (λ k le. (let v = variables-more j x h t.1 e k (omega (arith, le, lt)) in λ i. record { trigger = t.0; entity = e; variables = v i }))
 
-  entities-alike : (rule : TriggerRule) → entities_of (more j x) rule ≡ entities_of j rule
+  entities-alike : (rule : TriggerRule) → entities_of rule ≡ entities_of rule
   entities-alike (TriggerRule.State entities attribute from to) = refl
   entities-alike (TriggerRule.Numeric entities attribute above below) = refl
   entities-alike (TriggerRule.Event kinds pairs) = refl
@@ -122,7 +124,7 @@ module _ (j : Journal) (x : Entry) (h : HasEntry j) where
   firings-more [] p q lt = refl
   firings-more (t ∷ ts) p q lt =
       (λ i. filter_map (firing_for (more j x) p q t) (entities-alike t.1.rule i) ++ flat_map (firings_by (more j x) p q) ts)
-      ∙ (λ i. each-fired p q lt t (entities_of j t.1.rule) i ++ firings-more ts p q lt i)
+      ∙ (λ i. each-fired p q lt t (entities_of t.1.rule) i ++ firings-more ts p q lt i)
 
   all-fired-more : (ask : Ask) (p q : ℕ) → q < length j → all_fired (more j x) ask p q ≡ all_fired j ask p q
   all-fired-more ask p q lt = ap (map {A = Fired} {B = Value} (λ f. f.variables)) (firings-more (enumerate_from 0 ask.triggers) p q lt)

@@ -3,8 +3,8 @@ use Rattle.std.specs.Prelude.{◌≡◌, ◌<◌, ℕ, Bool, false, nat_eq, List
 use Rattle.std.specs.List.{AllPairs, list_any}
 use Rattle.std.specs.BTreeSet.{BTreeSet, contains}
 use Rattle.std.specs.Ordering.{nat_cmp}
-use Rattle.ha_model.specs.declared.steps.Firing.{Firing}
-use Rattle.ha_model.specs.States.{Sight}
+use Rattle.ha_journal.specs.declared.firing.Firing.{Firing}
+use Rattle.ha_sight.specs.Sight.{Sight}
 use Rattle.wait_set.specs.declared.asked.Asked.{Asked}
 use Rattle.wait_set.specs.Asked.{ends_in, noted_one}
 

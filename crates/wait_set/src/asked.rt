@@ -3,13 +3,16 @@ ghost use Rattle.std.specs.Prelude.{◌≡◌, ◌+◌, ◌-◌, ◌*◌, ◌≤
 ghost use Rattle.std.specs.Option.{option_copied, option_map_or};
 ghost use Rattle.ha_value.specs.declared.value.Num as num;
 ghost use Rattle.ha_value.specs.declared.value.Value.{Value as Data};
-ghost use Rattle.ha_model.specs.declared.steps.Firing.{Firing as Fire};
-ghost use Rattle.ha_model.specs.Words.{first_of_list};
-ghost use Rattle.ha_model.specs.Templates.{rendered, says};
+ghost use Rattle.ha_journal.specs.declared.firing.Firing.{Firing as Fire};
+ghost use Rattle.ha_config.specs.Words.{first_of_list};
+ghost use Rattle.ha_sight.specs.Templates.{rendered, says};
 ghost use Rattle.wait_set.specs.Asked as lem;
 ghost use Rattle.wait_set.specs.Asked.{fired_values, is_late, noted_one, value_of};
 
-use ha_model::{Answers, Branch, Env, Firing, Many, Moment, Num, Value, WaitAsk, WaitEnd, true_in};
+use ha_clock::Moment;
+use ha_journal::Firing;
+use ha_sight::{Answers, Branch, Env, WaitAsk, WaitEnd, true_in};
+use ha_value::{Many, Num, Value};
 use std::alloc::{AllocError, Global};
 
 /// A wait: who owns its triggers, the entry of the step that asked for it, what it waits for, and

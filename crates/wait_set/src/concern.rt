@@ -6,7 +6,8 @@ ghost use Rattle.wait_set.specs.Concern.{Ascend, OfOthers, fires_for, has};
 ghost use Rattle.wait_set.specs.Timers.{IsLater};
 
 use crate::asked::Asked;
-use ha_model::{Firing, Moment};
+use ha_clock::Moment;
+use ha_journal::Firing;
 use std::alloc::{AllocError, Global};
 use std::collections::BTreeSet;
 use timer_queue::TimerQueue;

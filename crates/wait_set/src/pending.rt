@@ -5,7 +5,7 @@ ghost use Rattle.wait_set.specs.Concern.{has};
 ghost use Rattle.wait_set.specs.Runs.{has_pair};
 
 use crate::runs::list_run;
-use ha_model::WaitAsk;
+use ha_sight::WaitAsk;
 use std::alloc::AllocError;
 use std::collections::BTreeSet;
 use timer_queue::TimerQueue;

@@ -8,7 +8,7 @@ ghost use Rattle.wait_set.specs.Runs.{HasNone, IsOfRun, IsPaired, has_pair};
 
 use crate::asked::{Asked, is_of};
 use crate::concern::place_of;
-use ha_model::Branch;
+use ha_sight::Branch;
 use std::alloc::AllocError;
 use std::collections::BTreeSet;
 

@@ -1,10 +1,9 @@
 //! The set of pending and ended waits.
 ghost use Rattle.std.specs.Prelude.{◌≡◌, ◌≤◌, ◌<◌, ◌-◌, suc, take, drop, filter, not, vec_capacity, [], ◌∷◌, ◌++◌, All, Bool, IfSome, IsNone, OnOk, OnErr, None, Some, true, false, length, nat_eq, is_none, is_some, ◌||◌, ◌&&◌, ℕ};
 ghost use Rattle.std.specs.List.{list_any};
-ghost use Rattle.ha_model.specs.declared.journal.Entry.{Entry};
-ghost use Rattle.ha_model.specs.Journal.{HasEntry, Journal};
-ghost use Rattle.ha_model.specs.RecordSteps.{more};
-ghost use Rattle.ha_model.specs.Scripts.{Branch as Path};
+ghost use Rattle.ha_journal.specs.declared.entry.Entry.{Entry};
+ghost use Rattle.ha_journal.specs.Journal.{HasEntry, Journal, more};
+ghost use Rattle.ha_sight.specs.Scripts.{Branch as Path};
 ghost use Rattle.wait_set.specs.declared.asked.Asked.{Asked as Wait};
 ghost use Rattle.wait_set.specs.Asked.{added, end_of, ended_at, is_of, noted, noted_at, owners_ended, owners_of, wait_of, without_run};
 ghost use Rattle.wait_set.specs.Concern.{Ascend, IsStill, OfOthers, has};
@@ -17,7 +16,10 @@ use crate::asked::{Asked, is_of, note_one};
 use crate::concern::concerned;
 use crate::pending::{Pending, list_ask, mark, settle};
 use crate::runs::{ask_of, next_place, owner_from, owner_in, unlist};
-use ha_model::{Answers, Branch, Ended, Firing, Many, Moment, WaitAsk, WaitEnd};
+use ha_clock::Moment;
+use ha_journal::Firing;
+use ha_sight::{Answers, Branch, Ended, WaitAsk, WaitEnd};
+use ha_value::Many;
 use std::alloc::{AllocError, Global};
 use std::collections::BTreeSet;
 use std::marker::Model;
@@ -37,9 +39,9 @@ pub struct Waits {
 impl Model for Waits {
     ghost use Rattle.std.specs.Coded.{codes};
     ghost use Rattle.ha_value.specs.contracts.value.Value as value;
-    ghost use Rattle.ha_model.specs.contracts.template.Expr as expr;
-    ghost use Rattle.ha_model.specs.contracts.template.Piece as piece;
-    ghost use Rattle.ha_model.specs.contracts.template.Template as template;
+    ghost use Rattle.ha_config.specs.contracts.template.Expr as expr;
+    ghost use Rattle.ha_config.specs.contracts.template.Piece as piece;
+    ghost use Rattle.ha_config.specs.contracts.template.Template as template;
     ghost use Rattle.wait_set.specs.Asked.{WaitTable};
 
     ghost Value = { WaitTable };

@@ -1,8 +1,8 @@
 use Rattle.std.proofs.Common.{◌≡◌, ◌∙◌, ap, sym, append_assoc, [], ◌∷◌, ◌++◌, codes, decimal}
 use Rattle.std.proofs.lemmas.Result.{IfOk-weaker}
-use Rattle.ha_model.specs.CommandText.{one_key}
-use Rattle.ha_model.specs.Texts.{as_line}
-use Rattle.ha_model.specs.Words.{Text}
+use Rattle.ha_config.specs.CommandText.{one_key}
+use Rattle.ha_config.specs.CheckText.{as_line}
+use Rattle.ha_config.specs.Words.{Text}
 use Rattle.bus_turn.proofs.end.end_line.Goals as goal
 
 shape : (n : Text) → codes "{\"end\":" ++ (n ++ codes "}\n") ≡ as_line (one_key (codes "end") n)

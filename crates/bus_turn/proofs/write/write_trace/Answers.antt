@@ -1,6 +1,6 @@
 use Rattle.std.proofs.Common.{ap}
 use Rattle.std.specs.Prelude.{option_map}
-use Rattle.ha_model.specs.Texts.{trace_line}
+use Rattle.ha_journal.specs.EntryText.{trace_line}
 use Rattle.bus_turn.specs.States.{sink_state}
 use Rattle.bus_turn.proofs.WriteLemmas.{writes-in}
 use Rattle.bus_turn.proofs.write.write_trace.Goals as goal

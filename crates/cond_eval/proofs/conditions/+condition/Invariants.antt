@@ -1,6 +1,6 @@
 use Rattle.std.proofs.Common.{◌≡◌, drop}
 use Rattle.std.specs.List.{list_all, list_any}
-use Rattle.ha_model.specs.Conditions as conditions
+use Rattle.ha_sight.specs.Conditions as conditions
 use Rattle.cond_eval.specs.Seen.{seen}
 use Rattle.cond_eval.proofs.conditions.+condition.Given as goal
 

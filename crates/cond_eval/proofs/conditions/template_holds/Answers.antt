@@ -1,5 +1,5 @@
 use Rattle.std.proofs.Common.{◌∙◌, ap, refl, sym}
-use Rattle.ha_model.specs.Templates.{is_true_text, rendered}
+use Rattle.ha_sight.specs.Templates.{is_true_text, rendered}
 use Rattle.cond_eval.specs.Seen.{seen}
 use Rattle.cond_eval.proofs.CaseLemmas.{no-text, same-text}
 use Rattle.cond_eval.proofs.conditions.template_holds.Goals as goal

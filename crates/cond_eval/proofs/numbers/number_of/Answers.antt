@@ -2,7 +2,7 @@ use Rattle.std.proofs.Common.{◌≡◌, ◌∙◌, ap, refl, sym, Bool, true, f
 use Rattle.std.specs.Prelude.{Some, None, option_and_then, if◌then◌else◌}
 use Rattle.ha_value.specs.declared.value.Value.{Value}
 use Rattle.ha_value.specs.declared.value.Value.TheVariants.{outs-Flag}
-use Rattle.ha_model.specs.Conditions.{attribute_kind_text, attribute_text}
+use Rattle.ha_sight.specs.Conditions.{attribute_kind_text, attribute_text}
 use Rattle.ha_value.specs.Numbers.{read_number}
 use Rattle.cond_eval.proofs.numbers.number_of.Goals as goal
 

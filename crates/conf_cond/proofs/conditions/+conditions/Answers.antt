@@ -1,7 +1,7 @@
 use Rattle.std.proofs.Common.{◌∙◌, sym, ap, subst, Option, List, Some, Ok, ◌&&◌, refl, false}
 use Rattle.yaml_scan.specs.Answers.{Gives}
-use Rattle.ha_model.specs.declared.config.Condition.{Condition}
-use Rattle.ha_model.specs.declared.config.Condition.TheVariants as made_of
+use Rattle.ha_config.specs.declared.config.Condition.{Condition}
+use Rattle.ha_config.specs.declared.config.Condition.TheVariants as made_of
 use Rattle.yaml_tree.specs.Readers.{is_null_word}
 use Rattle.conf_field.specs.declared.key.Key.TheVariants as key
 use Rattle.conf_field.specs.declared.table.Row.{Row}

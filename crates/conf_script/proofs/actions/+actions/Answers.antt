@@ -1,7 +1,7 @@
 use Rattle.std.proofs.Common.{◌∙◌, sym, ap, subst, Option, List, Ok, [], ◌&&◌, Bool, true, if◌then◌else◌, refl, ℕ}
 use Rattle.yaml_scan.specs.Answers.{Gives}
 use Rattle.yaml_scan.specs.declared.fault.Code.TheVariants as code
-use Rattle.ha_model.specs.declared.config.Action.{Action}
+use Rattle.ha_config.specs.declared.config.Action.{Action}
 use Rattle.yaml_tree.specs.Readers.{is_null_word, line_of}
 use Rattle.conf_field.specs.declared.key.Key.TheVariants as key
 use Rattle.conf_field.specs.Readings.{Read, behind, keep, made, bad}

@@ -1,5 +1,5 @@
 use Rattle.std.proofs.Common.{◌≡◌, ◌∙◌, ap, sym, subst, ℕ, List, [], ◌∷◌, ◌++◌, ◌+◌, true, false, drop, get_or, Result}
-use Rattle.ha_model.specs.declared.template.Template.{Template}
+use Rattle.ha_config.specs.declared.template.Template.{Template}
 use Rattle.yaml_scan.specs.Answers.{Gives}
 use Rattle.yaml_scan.specs.declared.fault.YamlFault.{YamlFault}
 use Rattle.conf_field.specs.Readings.{Read, behind}

@@ -1,5 +1,5 @@
 use Rattle.std.proofs.Common.{◌≡◌, List, [], drop}
-use Rattle.ha_model.specs.declared.template.Template.{Template}
+use Rattle.ha_config.specs.declared.template.Template.{Template}
 use Rattle.yaml_scan.specs.Answers.{Gives}
 use Rattle.conf_field.specs.Readings.{Read}
 use Rattle.conf_script.specs.Calls.{ids_from}

@@ -1,7 +1,7 @@
 use Rattle.std.proofs.Common.{◌∙◌, sym, subst, Bool, false, if◌then◌else◌}
 use Rattle.yaml_scan.specs.Answers.{Gives}
 use Rattle.conf_field.specs.Readings.{made}
-use Rattle.ha_model.specs.declared.config.SpanForm.TheVariants as spans
+use Rattle.ha_config.specs.declared.config.SpanForm.TheVariants as spans
 use Rattle.conf_field.specs.Spans.{span_map}
 use Rattle.conf_script.specs.Forms as forms
 use Rattle.conf_script.proofs.forms.map_span.Goals as goal

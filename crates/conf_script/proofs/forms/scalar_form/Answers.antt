@@ -2,7 +2,7 @@ use Rattle.std.proofs.Common.{◌∙◌, sym, subst, Bool, true, false, Some, if
 use Rattle.yaml_scan.specs.Answers.{Gives}
 use Rattle.conf_field.specs.Readings.{made}
 use Rattle.conf_field.specs.Kinds as kinds
-use Rattle.ha_model.specs.declared.config.Form.TheVariants as forms
+use Rattle.ha_config.specs.declared.config.Form.TheVariants as forms
 use Rattle.conf_field.specs.Values.{bare_value}
 use Rattle.conf_script.proofs.forms.scalar_form.Goals as goal
 

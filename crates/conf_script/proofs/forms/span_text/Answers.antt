@@ -2,7 +2,7 @@ use Rattle.std.proofs.Common.{◌∙◌, sym, subst, Bool, true, false, Some, if
 use Rattle.yaml_scan.specs.Answers.{Gives}
 use Rattle.conf_field.specs.Readings.{made}
 use Rattle.conf_field.specs.Kinds as kinds
-use Rattle.ha_model.specs.declared.config.SpanForm.TheVariants as spans
+use Rattle.ha_config.specs.declared.config.SpanForm.TheVariants as spans
 use Rattle.conf_field.specs.Spans.{span_text as literal_span}
 use Rattle.conf_script.proofs.forms.span_text.Goals as goal
 

@@ -1,5 +1,5 @@
 use Rattle.std.proofs.Common.{List, [], Ok, sym, subst, ap}
-use Rattle.ha_model.specs.declared.config.Trigger.{Trigger}
+use Rattle.ha_config.specs.declared.config.Trigger.{Trigger}
 use Rattle.yaml_scan.specs.Answers.{Gives}
 use Rattle.conf_field.specs.Readings as readings
 use Rattle.conf_field.specs.Readings.{Read}

@@ -1,6 +1,7 @@
+use Rattle.state_laws.proofs.StandLemmas.{stands-report}
 use Rattle.std.proofs.Common.{[], ◌∷◌, ap, refl, sym, ◌∙◌}
-use Rattle.ha_model.specs.declared.journal.Cmd.{Cmd}
-use Rattle.ha_model.specs.declared.journal.Entry.TheVariants.{Line}
+use Rattle.ha_config.specs.declared.command.Cmd.{Cmd}
+use Rattle.ha_journal.specs.declared.entry.Entry.TheVariants.{Line}
 use Rattle.state_table.specs.Table.{at}
 use Rattle.engine_parts.proofs.SeeLemmas.{report-listed}
 use Rattle.engine_entry.proofs.EnterPlain.{entered-as, fair-as, last-same, no-automation, now-as}
@@ -15,7 +16,7 @@ returns-clause-entered c k rs h is left =
     let now_is = now-as k rs p h cmd is refl in
     let old = h.kept.going.sees.looks in
     let entered = entered-as k rs p h cmd is tt c.report.new.self p.at ((e, at p.states e) ∷ [])
-    (c.in_ok-report.ensures.stands h.j h.source h.number old.states_stand plain now_is) now_is old.in_time
+    (stands-report (at p.states) _ e c.args.text.now c.args.attributes.now p.at c.in_ok-report.ensures.ok h.j h.source h.number old.states_stand plain now_is) now_is old.in_time
     (report-listed p.states h.j h.source h.number e c.args.text.now c.args.attributes.now old.states_stand plain) in
     record {
       sees = entered.sees;

@@ -1,10 +1,10 @@
 use Rattle.std.proofs.Common.{◌≡◌, [], false, sym, ap, subst, ◌∙◌}
 use Rattle.std.specs.Prelude.{None}
-use Rattle.ha_model.specs.declared.journal.Cmd.{Cmd}
-use Rattle.ha_model.specs.declared.journal.Entry.TheVariants.{Line}
-use Rattle.ha_model.specs.Entries.{IsPlain, gone_in, report_in}
-use Rattle.ha_model.specs.Journal.{now}
-use Rattle.ha_model.specs.RecordSteps.{more}
+use Rattle.ha_config.specs.declared.command.Cmd.{Cmd}
+use Rattle.ha_journal.specs.declared.entry.Entry.TheVariants.{Line}
+use Rattle.ha_config.specs.Fair.{IsPlain}
+use Rattle.ha_journal.specs.Entries.{gone_in, report_in}
+use Rattle.ha_journal.specs.Journal.{now, more}
 use Rattle.trig_set.specs.Next.{Listed}
 use Rattle.engine_parts.specs.Stages.{Entered}
 use Rattle.engine_entry.proofs.EnterPlain.{plain-entered, states-left, nothing-listed, moment-now}

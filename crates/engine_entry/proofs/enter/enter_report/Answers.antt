@@ -1,5 +1,5 @@
 use Rattle.std.proofs.Common.{refl}
-use Rattle.ha_model.specs.declared.journal.Cmd.{Cmd}
+use Rattle.ha_config.specs.declared.command.Cmd.{Cmd}
 use Rattle.engine_entry.proofs.EnterPlain.{entered-as, fair-as, no-automation, now-as}
 use Rattle.engine_entry.proofs.enter.enter_report.Goals as goal
 

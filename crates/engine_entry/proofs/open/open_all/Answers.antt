@@ -1,8 +1,7 @@
 use Rattle.std.proofs.Common.{◌≡◌, ◌∙◌, List, length, sym, ap, arith}
 use Rattle.std.specs.Prelude.{Some, slice_get}
-use Rattle.ha_model.specs.declared.config.Automation.{Automation}
-use Rattle.ha_model.specs.Journal.{automations}
-use Rattle.ha_model.specs.RecordSteps.{more}
+use Rattle.ha_config.specs.declared.config.Automation.{Automation}
+use Rattle.ha_journal.specs.Journal.{automations, more}
 use Rattle.engine_entry.proofs.NamedLemmas.{read-here}
 use Rattle.engine_entry.proofs.OpenLemmas.{open-end}
 use Rattle.engine_entry.proofs.open.open_all.Goals as goal

@@ -1,13 +1,14 @@
+use Rattle.state_table.specs.Table.{at}
+use Rattle.state_laws.proofs.StandLemmas.{stands-switch}
 use Rattle.std.proofs.Common.{◌≡◌, ◌∙◌, Bool, ◌&&◌, not, refl, sym, subst, arith}
 use Rattle.std.specs.Prelude.{Some, IsNone, if◌then◌else◌}
 use Rattle.ha_value.specs.declared.value.EntityId.{EntityId}
-use Rattle.ha_model.specs.Journal.{Journal, automations}
-use Rattle.ha_model.specs.RecordSteps.{more}
-use Rattle.ha_model.specs.States.{states}
-use Rattle.ha_model.specs.Words.{same_entity}
+use Rattle.ha_journal.specs.Journal.{Journal, automations, more}
+use Rattle.ha_journal.specs.States.{states}
+use Rattle.ha_config.specs.Words.{same_entity}
 use Rattle.ha_past.specs.Firings.{placed}
 use Rattle.state_table.specs.Anew.{switch_object}
-use Rattle.state_table.specs.Table.{StandsBut}
+use Rattle.state_laws.specs.Stands.{StandsBut}
 use Rattle.trig_set.specs.Stands.{attached}
 use Rattle.engine_entry.specs.Opened.{left_from}
 use Rattle.engine_entry.specs.Turned.{is_left}
@@ -30,7 +31,7 @@ returns c h =
     let state : states k c.in_ok-entity.entity ≡ Some (switch_object c.args.on c.args.now)
     = (λ i. states k (own i)) ∙ open-state h.j h.x h.opens h.sound c.args.automation c.args.rule.now h.here ∙ (λ i. Some (switch_object (h.on_is i) (sym h.at_is i))) in
     open-next h.j h.x h.opens h.sound c.args.automation c.args.rule.now h.here c.args.states.now c.set_switch.new.self c.args.triggers.now c.attach_on.new.triggers
-    (subst (λ (v : EntityId). StandsBut (λ e. left e && not (same_entity v e)) c.set_switch.new.self k) own (c.in_ok-set_switch.ensures.stands k left h.opened.stand state))
+    (subst (λ (v : EntityId). StandsBut (λ e. left e && not (same_entity v e)) c.set_switch.new.self k) own (stands-switch (at c.args.states.now) (at c.set_switch.new.self) c.in_ok-entity.entity (switch_object c.args.on c.args.now) c.in_ok-set_switch.ensures.ok k left h.opened.stand state))
     (c.in_ok-attach_on.ensures.owners
     ∙ (λ i. if sym h.on_is i then placed (record { owner = c.args.automation; triggers = c.args.rule.now.triggers; since = h.place_is i }) (attached c.args.triggers.now) else attached c.args.triggers.now))
     (c.in_ok-attach_on.ensures.stands h.j h.opened.triggers_stand (omega (arith, h.place_is))) h.opened

@@ -1,9 +1,9 @@
 use Rattle.std.proofs.Common.{◌≡◌, [], false, sym, subst, ◌∙◌}
 use Rattle.std.specs.Prelude.{Option}
-use Rattle.ha_model.specs.declared.journal.Item.{Item}
-use Rattle.ha_model.specs.declared.journal.WaitAsk.{WaitAsk}
-use Rattle.ha_model.specs.Entries.{SwitchesNone}
-use Rattle.ha_model.specs.Journal.{Journal}
+use Rattle.ha_sight.specs.declared.item.Item.{Item}
+use Rattle.ha_sight.specs.declared.waiting.WaitAsk.{WaitAsk}
+use Rattle.ha_sight.specs.Items.{SwitchesNone}
+use Rattle.ha_journal.specs.Journal.{Journal}
 use Rattle.trig_set.specs.Next.{Listed}
 use Rattle.engine_parts.specs.declared.parts.Parts.{Parts}
 use Rattle.engine_entry.specs.Stepping.{IsTaken, StepEntered, StepHere}

@@ -1,5 +1,5 @@
 use Rattle.std.proofs.Common.{sym, ◌∙◌}
-use Rattle.ha_model.specs.declared.journal.Entry.TheVariants.{Step}
+use Rattle.ha_journal.specs.declared.entry.Entry.TheVariants.{Step}
 use Rattle.engine_entry.proofs.step_enter.last_item.Goals as goal
 
 pub returns : goal.returns

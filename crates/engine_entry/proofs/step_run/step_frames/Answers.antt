@@ -1,6 +1,6 @@
 use Rattle.std.proofs.Common.{◌≡◌, length, sym, subst, ◌∙◌}
-use Rattle.ha_model.specs.States.{Sight}
-use Rattle.ha_model.specs.Triggers.{sight}
+use Rattle.ha_sight.specs.Sight.{Sight}
+use Rattle.ha_journal.specs.Moves.{sight}
 use Rattle.std.specs.Prelude.{option_map}
 use Rattle.script_step.specs.Continuation.{asks}
 use Rattle.script_step.specs.Frames.{asked_by}

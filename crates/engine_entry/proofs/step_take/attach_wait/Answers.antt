@@ -1,8 +1,8 @@
 use Rattle.std.proofs.Common.{◌≡◌, ◌+◌, false, sym, subst}
 use Rattle.std.specs.Prelude.{IsTrue, None, OnOk, ◌&&◌, is_none}
 use Rattle.std.specs.List.{list_any}
-use Rattle.ha_model.specs.declared.journal.WaitAsk.{WaitAsk}
-use Rattle.ha_model.specs.Sound.{are_sound_triggers}
+use Rattle.ha_sight.specs.declared.waiting.WaitAsk.{WaitAsk}
+use Rattle.ha_config.specs.Sound.{are_sound_triggers}
 use Rattle.wait_set.specs.Asked.{added, is_of}
 use Rattle.engine_entry.proofs.step_take.attach_wait.Goals as goal
 

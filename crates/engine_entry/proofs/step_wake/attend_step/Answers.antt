@@ -1,5 +1,5 @@
 use Rattle.std.proofs.Common.{◌≡◌, length, sym, ap, subst, ◌∙◌, arith}
-use Rattle.ha_model.specs.Records.{last_place}
+use Rattle.ha_journal.specs.Journal.{last_place}
 use Rattle.trig_set.specs.Stands.{attached}
 use Rattle.engine_parts.specs.declared.parts.Parts.{Parts}
 use Rattle.engine_parts.specs.Kept.{KeysBelow}

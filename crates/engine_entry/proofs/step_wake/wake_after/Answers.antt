@@ -1,7 +1,7 @@
 use Rattle.std.proofs.Common.{◌≡◌, ◌-◌, suc, length, sym, ap, subst, ◌∙◌, arith}
-use Rattle.ha_model.specs.declared.journal.Entry.TheVariants.{Step}
-use Rattle.ha_model.specs.Records.{last_place}
-use Rattle.ha_model.proofs.RecordLaws.{length-more}
+use Rattle.ha_journal.specs.declared.entry.Entry.TheVariants.{Step}
+use Rattle.ha_journal.specs.Journal.{last_place}
+use Rattle.ha_journal.proofs.MoreLemmas.{length-more}
 use Rattle.wait_set.specs.Timers.{timer_added}
 use Rattle.engine_parts.specs.Kept.{KeysBelow}
 use Rattle.engine_entry.specs.Stepping.{asks_with}

@@ -1,8 +1,7 @@
 use Rattle.std.proofs.Common.{◌≡◌, ℕ, ◌-◌, List, [], length, Bool, false, sym, ap, subst, ◌∙◌, arith}
-use Rattle.ha_model.specs.declared.config.Automation.{Automation}
-use Rattle.ha_model.specs.Journal.{Journal, automations}
-use Rattle.ha_model.proofs.RecordGrowth.{automations-more}
-use Rattle.ha_model.proofs.RecordLaws.{length-more}
+use Rattle.ha_config.specs.declared.config.Automation.{Automation}
+use Rattle.ha_journal.specs.Journal.{Journal, automations}
+use Rattle.ha_journal.proofs.MoreLemmas.{automations-more, length-more}
 use Rattle.trig_set.specs.Next.{Listed}
 use Rattle.engine_parts.specs.declared.parts.Parts.{Parts}
 use Rattle.engine_entry.specs.Between.{Between, Turning, TurnsAll}

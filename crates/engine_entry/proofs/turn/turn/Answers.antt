@@ -5,7 +5,7 @@ use Rattle.trig_set.specs.Stands.{attached}
 use Rattle.engine_parts.specs.Owners.{AreBelow}
 use Rattle.engine_parts.proofs.DetachLemmas.{below-without}
 use Rattle.engine_entry.proofs.PlaceLemmas.{below-placed}
-use Rattle.ha_model.specs.Journal.{automations}
+use Rattle.ha_journal.specs.Journal.{automations}
 use Rattle.engine_entry.proofs.NamedLemmas.{sound-at, sound-few, sound-triggers}
 use Rattle.engine_entry.proofs.TurnedParts.{fresh-on, turned-none, turned-some}
 use Rattle.engine_entry.proofs.turn.turn.Goals as goal

@@ -1,6 +1,6 @@
 use Rattle.std.proofs.Common.{◌≡◌, ◌<◌, ℕ, List, Bool, length, get_or, false, ◌∙◌}
 use Rattle.std.specs.Prelude.{Some, slice_get}
-use Rattle.ha_model.specs.declared.config.Automation.{Automation}
+use Rattle.ha_config.specs.declared.config.Automation.{Automation}
 use Rattle.trig_set.specs.Next.{Listed}
 use Rattle.engine_parts.specs.declared.parts.Parts.{Parts}
 use Rattle.engine_entry.specs.Between.{TurnsAll}

@@ -1,5 +1,5 @@
 use Rattle.std.proofs.Common.{◌≡◌, drop}
-use Rattle.ha_model.specs.Conditions.{hold_all}
+use Rattle.ha_sight.specs.Conditions.{hold_all}
 use Rattle.engine_parts.proofs.attempts.hold_all.Given as goal
 
 abbrev pub invariant-tests : goal.invariant-tests

@@ -1,7 +1,7 @@
+use Rattle.state_laws.proofs.SeenLemmas.{parts_see}
 use Rattle.std.proofs.Common.{◌≡◌, ◌-◌, length, sym, ap, subst, ◌∙◌}
-use Rattle.ha_model.specs.declared.journal.Entry.{Entry}
-use Rattle.ha_model.specs.Journal.{Journal}
-use Rattle.ha_model.specs.RecordSteps.{more}
+use Rattle.ha_journal.specs.declared.entry.Entry.{Entry}
+use Rattle.ha_journal.specs.Journal.{Journal, more}
 use Rattle.cond_eval.specs.Seen.{seen}
 use Rattle.trig_set.specs.Next.{IsNext}
 use Rattle.ha_past.specs.Firings.{firings}
@@ -21,7 +21,7 @@ returns-clause-told c =
     let t = c.args.triggers.now in
     let w = c.args.waits.now in
     let same : c.last_entry.result.now ≡ h.x = c.last_entry.ensures h.j h.x h.journal_is in
-    let sees = c.make-view.ensures k (view-of k c.args.states.now c.configuration.result.now c.args.zone.now c.args.at c.requires.looks c.requires.sound c.configuration.ensures) in
+    let sees = c.make-view.ensures ∙ parts_see c.args.states.now c.configuration.result.now c.args.zone.now c.args.at k (view-of k c.args.states.now c.configuration.result.now c.args.zone.now c.args.at c.requires.looks c.requires.sound c.configuration.ensures) in
     let next = subst (λ (y : Entry). IsNext h.j (length k - 1) y c.args.before (seen c.make-view.result) (triggers.attached t)) (sym same)
     (untold-next k t w c.args.before h c.args.states.now c.args.zone.now c.args.at (seen c.make-view.result) c.requires.looks sees) in
     let told = subst (λ (y : Entry). waits.AreFired (more h.j y) (length k - 1) (firings (more h.j y) (length k - 1) (triggers.attached t)) w.asks) (sym same) (untold-told k t w c.args.before h) in
@@ -37,7 +37,7 @@ returns-clause-fired c =
     let t = c.args.triggers.now in
     let w = c.args.waits.now in
     let same : c.last_entry.result.now ≡ h.x = c.last_entry.ensures h.j h.x h.journal_is in
-    let sees = c.make-view.ensures k (view-of k c.args.states.now c.configuration.result.now c.args.zone.now c.args.at c.requires.looks c.requires.sound c.configuration.ensures) in
+    let sees = c.make-view.ensures ∙ parts_see c.args.states.now c.configuration.result.now c.args.zone.now c.args.at k (view-of k c.args.states.now c.configuration.result.now c.args.zone.now c.args.at c.requires.looks c.requires.sound c.configuration.ensures) in
     let next = subst (λ (y : Entry). IsNext h.j (length k - 1) y c.args.before (seen c.make-view.result) (triggers.attached t)) (sym same)
     (untold-next k t w c.args.before h c.args.states.now c.args.zone.now c.args.at (seen c.make-view.result) c.requires.looks sees) in
     c.in_ok-fired.ensures.fired h.j h.triggers_stand next

@@ -1,6 +1,6 @@
 use Rattle.std.proofs.Common.{◌≡◌, ℕ, ◌-◌, ◌≤◌, [], ◌∷◌, drop, length}
 use Rattle.std.specs.Prelude.{Some, slice_get}
-use Rattle.ha_model.specs.Journal.{Journal}
+use Rattle.ha_journal.specs.Journal.{Journal}
 use Rattle.trig_set.specs.Stands.{StandsFor, attached}
 use Rattle.wait_set.specs.Asked.{owners_of, without_run}
 use Rattle.engine_parts.specs.Kept.{Owned}

@@ -1,6 +1,6 @@
 use Rattle.std.proofs.Common.{◌≡◌, ℕ, ◌-◌, List, length, set, filter, sym, subst, arith}
 use Rattle.std.specs.Prelude.{Option, None, not, nat_eq}
-use Rattle.ha_model.specs.Scripts.{Branch}
+use Rattle.ha_sight.specs.Scripts.{Branch}
 use Rattle.script_step.specs.declared.frames.Frames.{Frames}
 use Rattle.trig_set.specs.Stands.{attached}
 use Rattle.wait_set.specs.Asked.{WaitTable, without_run}

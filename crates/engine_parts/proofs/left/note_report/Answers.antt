@@ -1,7 +1,9 @@
+use Rattle.state_laws.proofs.SeenLemmas.{parts_see}
+use Rattle.std.proofs.Common.{◌∙◌}
 use Rattle.std.proofs.Common.{◌-◌, [], ◌∷◌, length, sym, subst}
-use Rattle.ha_model.specs.declared.journal.Entry.{Entry}
-use Rattle.ha_model.specs.RecordSteps.{more}
-use Rattle.ha_model.specs.Triggers.{sight}
+use Rattle.ha_journal.specs.declared.entry.Entry.{Entry}
+use Rattle.ha_journal.specs.Journal.{more}
+use Rattle.ha_journal.specs.Moves.{sight}
 use Rattle.cond_eval.specs.Seen.{seen}
 use Rattle.trig_set.specs.Stands as triggers
 use Rattle.wait_set.specs.Stands as waits
@@ -25,7 +27,7 @@ returns-clause-told c =
     let j = h.untold.j in
     let next = left-next k t w e text attributes h c.args.states.now c.args.zone.now c.args.at c.requires.looks in
     let none = left-quiet k t w e text attributes h c.args.states.now c.args.zone.now c.args.at c.requires.looks c.note_left.ensures.fired in
-    let sees = c.make-view.ensures k (view-of k c.args.states.now c.configuration.result.now c.args.zone.now c.args.at c.requires.looks c.requires.sound c.configuration.ensures) in
+    let sees = c.make-view.ensures ∙ parts_see c.args.states.now c.configuration.result.now c.args.zone.now c.args.at k (view-of k c.args.states.now c.configuration.result.now c.args.zone.now c.args.at c.requires.looks c.requires.sound c.configuration.ensures) in
     told-by k t w ((e, h.old) ∷ []) h.untold c.note_left.new.self c.note_waits.new.waits c.note_left.ensures.kept
     (subst (λ (y : Entry). triggers.StandsFor c.note_left.new.self (more j y)) (sym h.x_is)
     (c.in_ok-note_left.ensures.stands j h.source h.number (length k - 1) h.old (sight k (length k)) h.untold.triggers_stand next (left-now k t w e text attributes h c.args.states.now c.args.zone.now c.args.at c.requires.looks)))

@@ -1,5 +1,5 @@
 use Rattle.std.proofs.Common.{ℕ, ◌+◌, ◌-◌, ◌/◌, ◌<◌, ◌≤◌, length, sym, subst, ◌∙◌, arith}
-use Rattle.ha_model.specs.Scripts.{Branch}
+use Rattle.ha_sight.specs.Scripts.{Branch}
 use Rattle.engine_parts.proofs.LowerLemmas.{lower-within, passed-lower, reached-lower, less, late}
 use Rattle.engine_parts.proofs.ready.lower.Goals as goal
 

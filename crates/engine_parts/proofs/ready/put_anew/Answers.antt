@@ -1,6 +1,6 @@
 use Rattle.std.proofs.Common.{◌≡◌, ◌≤◌, ℕ, List, [], ◌++◌, length, take, drop, filter, sym, ap, subst, ◌∙◌, arith}
 use Rattle.std.specs.Prelude.{not, nat_eq}
-use Rattle.ha_model.specs.Scripts.{Branch}
+use Rattle.ha_sight.specs.Scripts.{Branch}
 use Rattle.ha_ready.specs.ReadyPairs.{changed_at, pairs_from, pairs_of, with_run}
 use Rattle.ha_ready.proofs.ReadyLemmas.{change-run}
 use Rattle.engine_parts.specs.Lower.{Ascends, lower}

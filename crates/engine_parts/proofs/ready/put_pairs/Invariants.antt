@@ -1,5 +1,5 @@
 use Rattle.std.proofs.Common.{◌≡◌, List, ◌++◌, take, drop, length}
-use Rattle.ha_model.specs.Scripts.{Branch}
+use Rattle.ha_sight.specs.Scripts.{Branch}
 use Rattle.ha_ready.specs.ReadyPairs.{pairs_of}
 use Rattle.engine_parts.proofs.ready.put_pairs.Given as goal
 

@@ -1,5 +1,5 @@
 use Rattle.std.proofs.Common.{ℕ, List, sym, ap, subst, ◌∙◌}
-use Rattle.ha_model.specs.Scripts.{Branch}
+use Rattle.ha_sight.specs.Scripts.{Branch}
 use Rattle.engine_parts.specs.Lower.{Ascends, lower}
 use Rattle.engine_parts.proofs.OverLemmas.{one-said, put-over}
 use Rattle.engine_parts.proofs.PutLemmas.{pairs-ascend}

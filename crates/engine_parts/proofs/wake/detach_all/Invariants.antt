@@ -1,5 +1,5 @@
 use Rattle.std.proofs.Common.{◌≡◌, drop}
-use Rattle.ha_model.specs.Journal.{Journal}
+use Rattle.ha_journal.specs.Journal.{Journal}
 use Rattle.trig_set.specs.Stands.{StandsFor, attached}
 use Rattle.wait_set.specs.Asked.{WaitTable}
 use Rattle.engine_parts.specs.Pending.{AreOthers, AreWaits}

@@ -2,7 +2,7 @@ use Rattle.std.proofs.Common.{◌≡◌, ◌-◌, length, sym, subst, ◌∙◌,
 use Rattle.std.specs.Prelude.{Option, Some, None, slice_get, option_and_then}
 use Rattle.std.specs.Option.{option_copied}
 use Rattle.ha_model.proofs.LastEntry.{ok-then}
-use Rattle.ha_model.specs.Journal.{automations}
+use Rattle.ha_journal.specs.Journal.{automations}
 use Rattle.ha_model.specs.Records.{actions_of}
 use Rattle.script_step.specs.declared.frames.Frames.{Frames}
 use Rattle.ha_ready.specs.Agree.{AgreesBut, touched}

@@ -1,5 +1,5 @@
 use Rattle.std.proofs.Common.{ℕ, List, [], ◌++◌, refl, sym, subst, ap, ◌∙◌}
-use Rattle.ha_model.proofs.AppendLemmas.{append-nil}
+use Rattle.ha_config.proofs.ListLemmas.{append-nil}
 use Rattle.engine_parts.specs.Waiting.{fresh}
 use Rattle.trig_set.specs.Stands.{attached}
 use Rattle.engine_parts.specs.Pending.{AreOthers, AreWaits}

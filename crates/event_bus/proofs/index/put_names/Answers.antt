@@ -1,6 +1,6 @@
 use Rattle.std.proofs.Common.{take, ◌∙◌}
 use Rattle.std.specs.Prelude.{◌||◌}
-use Rattle.ha_model.specs.Words.{one_of, same}
+use Rattle.ha_config.specs.Words.{one_of, same}
 use Rattle.event_bus.specs.Lists.{has_at}
 use Rattle.event_bus.proofs.IndexLemmas.{names-kept, names-more, names-part}
 use Rattle.event_bus.proofs.index.put_names.Goals as goal

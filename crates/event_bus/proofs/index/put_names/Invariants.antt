@@ -1,6 +1,6 @@
 use Rattle.std.proofs.Common.{◌≡◌, ℕ, take, false}
 use Rattle.std.specs.Prelude.{nat_eq, ◌||◌}
-use Rattle.ha_model.specs.Words.{Text, one_of}
+use Rattle.ha_config.specs.Words.{Text, one_of}
 use Rattle.event_bus.specs.Lists.{has_at}
 use Rattle.event_bus.proofs.index.put_names.Given as goal
 

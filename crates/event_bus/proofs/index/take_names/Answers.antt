@@ -1,6 +1,6 @@
 use Rattle.std.proofs.Common.{◌∙◌}
 use Rattle.std.specs.Prelude.{◌&&◌, not}
-use Rattle.ha_model.specs.Words.{same}
+use Rattle.ha_config.specs.Words.{same}
 use Rattle.event_bus.specs.Lists.{has_at}
 use Rattle.event_bus.proofs.IndexLemmas.{names-less}
 use Rattle.event_bus.proofs.index.take_names.Goals as goal

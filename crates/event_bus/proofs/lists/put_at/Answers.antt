@@ -1,6 +1,6 @@
 use Rattle.std.proofs.Common.{◌∙◌, refl, rules, true, Some, None}
 use Rattle.std.specs.Prelude.{◌||◌}
-use Rattle.ha_model.specs.Words.{same}
+use Rattle.ha_config.specs.Words.{same}
 use Rattle.event_bus.specs.Lists.{has, has_at}
 use Rattle.event_bus.proofs.ListLemmas.{and-true, as-before, changes-name, err-then, inserts-name, none-in, on-then, passes-too}
 use Rattle.event_bus.proofs.lists.put_at.Goals as goal

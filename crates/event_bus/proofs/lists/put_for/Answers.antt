@@ -1,7 +1,7 @@
 use Rattle.std.proofs.Common.{◌∙◌, ap, false, refl}
 use Rattle.std.specs.Prelude.{◌||◌}
-use Rattle.ha_model.specs.Words.{Text, same}
-use Rattle.ha_model.proofs.IdLemmas.{agrees, turns}
+use Rattle.ha_config.specs.Words.{Text, same}
+use Rattle.ha_config.proofs.IdLemmas.{agrees, turns}
 use Rattle.event_bus.specs.Lists.{has_at}
 use Rattle.event_bus.proofs.ListLemmas.{err-then, on-then}
 use Rattle.event_bus.proofs.lists.put_for.Goals as goal

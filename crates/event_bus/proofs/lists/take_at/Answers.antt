@@ -1,6 +1,6 @@
 use Rattle.std.proofs.Common.{◌∙◌, refl, rules, true, Some}
 use Rattle.std.specs.Prelude.{◌&&◌, not}
-use Rattle.ha_model.specs.Words.{same}
+use Rattle.ha_config.specs.Words.{same}
 use Rattle.event_bus.specs.Lists.{has, has_at}
 use Rattle.event_bus.proofs.ListLemmas.{and-true, as-before, changes-name, passes-not}
 use Rattle.event_bus.proofs.lists.take_at.Goals as goal

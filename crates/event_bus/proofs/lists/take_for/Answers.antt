@@ -1,7 +1,7 @@
 use Rattle.std.proofs.Common.{◌∙◌, ap, false, refl}
 use Rattle.std.specs.Prelude.{◌&&◌, not}
-use Rattle.ha_model.specs.Words.{Text, same}
-use Rattle.ha_model.proofs.IdLemmas.{agrees, turns}
+use Rattle.ha_config.specs.Words.{Text, same}
+use Rattle.ha_config.proofs.IdLemmas.{agrees, turns}
 use Rattle.event_bus.specs.Lists.{has_at}
 use Rattle.event_bus.proofs.lists.take_for.Goals as goal
 

@@ -1,6 +1,6 @@
 use Rattle.std.proofs.Common.{◌≡◌, filter, take}
 use Rattle.std.specs.Prelude.{option_to_list}
-use Rattle.ha_model.specs.Words.{has_name}
+use Rattle.ha_config.specs.Words.{has_name}
 use Rattle.flow_line.specs.Command.{key_of}
 use Rattle.flow_line.proofs.keys.only_command.Given as goal
 

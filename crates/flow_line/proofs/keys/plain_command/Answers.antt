@@ -1,5 +1,5 @@
 use Rattle.std.proofs.Common.{◌≡◌, true, subst, sym}
-use Rattle.ha_model.specs.Words.{Text, same}
+use Rattle.ha_config.specs.Words.{Text, same}
 use Rattle.flow_line.specs.Command.{key_of}
 use Rattle.flow_line.proofs.PlainKeys.{of_first}
 use Rattle.flow_line.proofs.keys.plain_command.Goals as goal

@@ -1,4 +1,4 @@
-use Rattle.ha_model.specs.ValueText.{print_value}
+use Rattle.ha_config.specs.ValueText.{print_value}
 use Rattle.flow_line.proofs.PrintedValue.{print_is_spelled}
 use Rattle.flow_line.proofs.Whole.{document_read}
 use Rattle.flow_line.proofs.laws.printed_value_is_read.Goals as goal

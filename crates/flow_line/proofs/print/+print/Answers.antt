@@ -1,8 +1,8 @@
 use Rattle.std.proofs.Common.{List, [], ◌∷◌, ◌++◌, ap, ◌∙◌}
 use Rattle.std.proofs.lemmas.Result.{on_ok_weaker}
 use Rattle.ha_value.specs.declared.value.Value.{Value}
-use Rattle.ha_model.specs.Words.{Text}
-use Rattle.ha_model.specs.ValueText.{comma_joined, pair_text, print_value}
+use Rattle.ha_config.specs.Words.{Text}
+use Rattle.ha_config.specs.ValueText.{comma_joined, pair_text, print_value}
 use Rattle.flow_line.proofs.Joined.{all_joined, each_pair, of_pairs, one_further, pair_shown}
 use Rattle.flow_line.proofs.print.+print.Goals as goal
 

@@ -1,7 +1,7 @@
 use Rattle.std.proofs.Common.{◌≡◌, ◌++◌, map, take}
 use Rattle.ha_value.specs.declared.value.Value.{Value}
-use Rattle.ha_model.specs.Words.{Text}
-use Rattle.ha_model.specs.ValueText.{comma_joined, pair_text, print_value}
+use Rattle.ha_config.specs.Words.{Text}
+use Rattle.ha_config.specs.ValueText.{comma_joined, pair_text, print_value}
 use Rattle.flow_line.proofs.print.+print.Given as goal
 
 abbrev pub invariant-push_items-loop-i : goal.invariant-push_items-loop-i

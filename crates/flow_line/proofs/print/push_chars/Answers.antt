@@ -1,5 +1,5 @@
 use Rattle.std.proofs.Common.{◌≡◌, ◌++◌, List, ℕ, ap, sym, subst, ◌∙◌, length, flat_map, ◌<◌, IsUtf8, OnOk}
-use Rattle.ha_model.specs.ValueText.{escaped_byte}
+use Rattle.ha_config.specs.ValueText.{escaped_byte}
 use Rattle.flow_line.proofs.PlainRuns.{small, front_utf8, behind_utf8, one_run, less_left, last_run}
 use Rattle.flow_line.proofs.print.push_chars.Goals as goal
 

@@ -1,5 +1,5 @@
 use Rattle.std.proofs.Common.{◌≡◌, ◌++◌, flat_map, length, IsUtf8}
-use Rattle.ha_model.specs.ValueText.{escaped_byte}
+use Rattle.ha_config.specs.ValueText.{escaped_byte}
 use Rattle.flow_line.proofs.print.push_chars.Given as goal
 
 abbrev pub invariant-runs : goal.invariant-runs

@@ -1,6 +1,6 @@
 use Rattle.std.proofs.Common.{◌≡◌, map, take}
 use Rattle.std.specs.List.{concat}
-use Rattle.ha_model.specs.Texts.{check_line}
+use Rattle.ha_config.specs.CheckText.{check_line}
 use Rattle.ha_check.proofs.lines.automation_lines.Given as goal
 
 abbrev pub invariant-loop-automation : goal.invariant-loop-automation

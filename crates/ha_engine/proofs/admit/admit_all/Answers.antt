@@ -1,6 +1,6 @@
 use Rattle.std.proofs.Common.{◌≡◌, ℕ, suc, ◌+◌, List, [], ◌∷◌, ◌++◌, length, sym, ap, subst, ◌∙◌, arith}
 use Rattle.std.specs.Prelude.{Option, MatchOption, vec_len, option_to_list}
-use Rattle.ha_model.specs.Attempts.{Attempt}
+use Rattle.ha_journal.specs.Attempts.{Attempt}
 use Rattle.ha_model.specs.Records.{Records}
 use Rattle.run_modes.specs.Calls.{all_tried}
 use Rattle.ha_engine.specs.declared.admit.Prepared.{Prepared}

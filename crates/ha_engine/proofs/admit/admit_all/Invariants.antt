@@ -1,8 +1,7 @@
 use Rattle.std.proofs.Common.{◌≡◌, ℕ, ◌<◌, ◌≤◌, List, length}
 use Rattle.std.specs.Prelude.{vec_len}
-use Rattle.ha_model.specs.Attempts.{Attempt}
-use Rattle.ha_model.specs.Journal.{Journal}
-use Rattle.ha_model.specs.Records.{last_place}
+use Rattle.ha_journal.specs.Attempts.{Attempt}
+use Rattle.ha_journal.specs.Journal.{Journal, last_place}
 use Rattle.run_modes.specs.Calls.{all_tried}
 use Rattle.ha_engine.specs.Admits.{ArePrepared, from_end}
 use Rattle.engine_parts.specs.Kept.{Going, nobody}

@@ -1,7 +1,7 @@
 use Rattle.std.proofs.Common.{length, sym, subst, ◌∙◌}
-use Rattle.ha_model.specs.Journal.{Journal}
+use Rattle.ha_journal.specs.Journal.{Journal}
 use Rattle.ha_model.specs.Lawful.{Right}
-use Rattle.ha_model.specs.Triggers.{sight}
+use Rattle.ha_journal.specs.Moves.{sight}
 use Rattle.script_step.specs.Taken.{out_of}
 use Rattle.engine_parts.specs.Kept.{Kept}
 use Rattle.engine_entry.specs.Stepping.{MaySlot, SlotStep, StepPushed}

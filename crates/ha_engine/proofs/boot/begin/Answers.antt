@@ -1,10 +1,11 @@
 use Rattle.std.proofs.Common.{◌≡◌, [], length, List, sym, ap, subst, ◌∙◌, arith}
 use Rattle.std.specs.Prelude.{Bool}
 use Rattle.std.specs.Global.{Vec}
-use Rattle.ha_model.specs.declared.journal.Entry.{Entry}
-use Rattle.ha_model.specs.declared.journal.Entry.TheVariants.{Boot}
-use Rattle.ha_model.specs.Journal.{Journal}
-use Rattle.ha_model.specs.Records.{Records, passing, records_of}
+use Rattle.ha_journal.specs.declared.entry.Entry.{Entry}
+use Rattle.ha_journal.specs.declared.entry.Entry.TheVariants.{Boot}
+use Rattle.ha_journal.specs.Journal.{Journal}
+use Rattle.ha_model.specs.Records.{Records, records_of}
+use Rattle.ha_journal.specs.Attempts.{passing}
 use Rattle.ha_model.specs.Lawful.{Right}
 use Rattle.run_modes.specs.Calls.{all_tried}
 use Rattle.run_laws.proofs.EntryLaws.{by-first-calls}

@@ -1,9 +1,9 @@
 use Rattle.std.proofs.Common.{◌≡◌, ◌+◌, ◌-◌, List, [], ◌∷◌, length, filter, true, sym, ap, subst, ◌∙◌, refl, arith}
 use Rattle.std.specs.Prelude.{Option}
 use Rattle.timer_queue.specs.Timers.{Timer}
-use Rattle.ha_model.specs.declared.journal.Entry.{Entry}
-use Rattle.ha_model.specs.declared.journal.Entry.TheVariants.{Boot}
-use Rattle.ha_model.specs.Journal.{Journal}
+use Rattle.ha_journal.specs.declared.entry.Entry.{Entry}
+use Rattle.ha_journal.specs.declared.entry.Entry.TheVariants.{Boot}
+use Rattle.ha_journal.specs.Journal.{Journal}
 use Rattle.script_step.specs.declared.frames.Frames.{Frames}
 use Rattle.switch_book.specs.Book as switches
 use Rattle.trig_set.specs.Stands as triggers

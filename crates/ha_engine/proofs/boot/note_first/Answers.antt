@@ -1,11 +1,9 @@
 use Rattle.std.proofs.Common.{◌≡◌, ◌-◌, [], ◌∷◌, length, filter, sym, ap, subst, ◌∙◌, refl, arith}
-use Rattle.ha_model.specs.declared.journal.Entry.{Entry}
-use Rattle.ha_model.specs.declared.journal.Entry.TheVariants.{Boot}
-use Rattle.ha_model.specs.Attempts.{fired}
-use Rattle.ha_model.specs.Journal.{Journal}
-use Rattle.ha_model.specs.Records.{last_place}
-use Rattle.ha_model.specs.RecordSteps.{more}
-use Rattle.ha_model.specs.Triggers.{sight}
+use Rattle.ha_journal.specs.declared.entry.Entry.{Entry}
+use Rattle.ha_journal.specs.declared.entry.Entry.TheVariants.{Boot}
+use Rattle.ha_journal.specs.Attempts.{fired}
+use Rattle.ha_journal.specs.Journal.{Journal, last_place, more}
+use Rattle.ha_journal.specs.Moves.{sight}
 use Rattle.cond_eval.specs.Seen.{seen}
 use Rattle.trig_set.specs.Next.{IsNext, Listed}
 use Rattle.trig_set.specs.Stands as triggers

@@ -1,5 +1,7 @@
+use Rattle.std.proofs.Common.{sym}
+use Rattle.state_laws.proofs.StandLemmas.{states-empty}
 use Rattle.std.proofs.Common.{ap, subst, ◌∙◌}
-use Rattle.ha_model.specs.Journal.{Journal, automations}
+use Rattle.ha_journal.specs.Journal.{Journal, automations}
 use Rattle.switch_book.specs.Book.{StandsFor}
 use Rattle.ha_engine.proofs.BeginLemmas.{boot-opening}
 use Rattle.ha_engine.proofs.boot.open_first.Goals as goal
@@ -8,7 +10,7 @@ pub open_all-requires : goal.open_all-requires
 open_all-requires c =
     let h = c.requires in
     boot-opening h.text h.config h.stored c.args.start c.args.zone.now h.sound c.args.switches.now (subst (λ (i : Journal). StandsFor c.args.switches.now i) h.journal_is h.switches_stand)
-    c.make-states.result c.make-triggers.result c.make-states.ensures.stands c.make-triggers.ensures.empty c.make-triggers.ensures.stands c.as_slice.result.now
+    c.make-states.result c.make-triggers.result (λ e. c.make-states.ensures e ∙ sym (states-empty e)) c.make-triggers.ensures.empty c.make-triggers.ensures.stands c.as_slice.result.now
     (c.as_slice.ensures ∙ c.configuration.ensures ∙ ap automations h.journal_is)
 
 pub returns : goal.returns
@@ -27,6 +29,6 @@ returns c =
       };
       opened = c.in_ok-open_all.ensures
           (boot-opening h.text h.config h.stored c.args.start c.args.zone.now h.sound c.args.switches.now (subst (λ (i : Journal). StandsFor c.args.switches.now i) h.journal_is h.switches_stand)
-          c.make-states.result c.make-triggers.result c.make-states.ensures.stands c.make-triggers.ensures.empty c.make-triggers.ensures.stands c.as_slice.result.now
+          c.make-states.result c.make-triggers.result (λ e. c.make-states.ensures e ∙ sym (states-empty e)) c.make-triggers.ensures.empty c.make-triggers.ensures.stands c.as_slice.result.now
           (c.as_slice.ensures ∙ c.configuration.ensures ∙ ap automations h.journal_is));
     }

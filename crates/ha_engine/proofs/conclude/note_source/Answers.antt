@@ -1,5 +1,5 @@
 use Rattle.std.proofs.Common.{◌≡◌, List, Bool, eqb, sym, ap, subst, ◌∙◌}
-use Rattle.ha_model.specs.Journal.{Journal}
+use Rattle.ha_journal.specs.Journal.{Journal}
 use Rattle.ha_model.specs.Records.{Records}
 use Rattle.ha_model.specs.RecordSteps.{records_after}
 use Rattle.ha_model.specs.Lawful.{is_empty, is_quiet}

@@ -1,11 +1,12 @@
 use Rattle.std.proofs.Common.{◌≡◌, ◌-◌, ◌<◌, length, sym, ap, subst, ◌∙◌, refl, arith}
 use Rattle.std.specs.Prelude.{Bool, vec_len}
 use Rattle.std.specs.Global.{Vec}
-use Rattle.ha_model.specs.Journal.{Journal}
-use Rattle.ha_model.specs.Records.{Records, passing}
+use Rattle.ha_journal.specs.Journal.{Journal}
+use Rattle.ha_model.specs.Records.{Records}
+use Rattle.ha_journal.specs.Attempts.{passing}
 use Rattle.ha_model.specs.RecordSteps.{records_after}
 use Rattle.ha_model.specs.Lawful.{Right}
-use Rattle.ha_model.proofs.RecordLaws.{length-more}
+use Rattle.ha_journal.proofs.MoreLemmas.{length-more}
 use Rattle.engine_parts.specs.Kept.{Going, Kept, nobody}
 use Rattle.ha_ready.specs.RestedFlags.{RestedKept}
 use Rattle.ha_engine.proofs.conclude.settle.Goals as goal

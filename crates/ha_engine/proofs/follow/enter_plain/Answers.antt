@@ -1,5 +1,5 @@
 use Rattle.std.proofs.Common.{sym, subst, ◌∙◌}
-use Rattle.ha_model.specs.Entries.{IsPlain}
+use Rattle.ha_config.specs.Fair.{IsPlain}
 use Rattle.engine_parts.specs.Stages.{IsOther}
 use Rattle.ha_engine.proofs.follow.enter_plain.Goals as goal
 

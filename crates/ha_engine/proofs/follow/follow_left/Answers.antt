@@ -1,11 +1,11 @@
 use Rattle.std.proofs.Common.{◌≡◌, [], ap, arith, sym, subst, ◌∙◌}
 use Rattle.std.specs.Prelude.{Bool, vec_len}
 use Rattle.std.specs.Global.{Vec}
-use Rattle.ha_model.specs.declared.journal.Cmd.{Cmd}
-use Rattle.ha_model.specs.declared.journal.Entry.TheVariants.{Line}
-use Rattle.ha_model.specs.Entries.{IsPlain}
-use Rattle.ha_model.specs.Records.{passing}
-use Rattle.ha_model.specs.RecordSteps.{more}
+use Rattle.ha_config.specs.declared.command.Cmd.{Cmd}
+use Rattle.ha_journal.specs.declared.entry.Entry.TheVariants.{Line}
+use Rattle.ha_config.specs.Fair.{IsPlain}
+use Rattle.ha_journal.specs.Attempts.{passing}
+use Rattle.ha_journal.specs.Journal.{more}
 use Rattle.ha_ready.specs.RestedFlags.{RestedKept}
 use Rattle.engine_parts.specs.declared.parts.Parts.{Parts}
 use Rattle.engine_parts.specs.Stages.{LineTold, RunsBefore}

@@ -1,7 +1,7 @@
 use Rattle.std.proofs.Common.{◌≡◌, ◌∙◌, Bool, refl, sym}
 use Rattle.ha_value.specs.declared.word.Word.{Word}
-use Rattle.ha_model.specs.declared.journal.Cmd.{Cmd}
-use Rattle.ha_model.specs.Entries.{IsPlain}
+use Rattle.ha_config.specs.declared.command.Cmd.{Cmd}
+use Rattle.ha_config.specs.Fair.{IsPlain}
 use Rattle.ha_engine.proofs.follow.follow_line.Goals as goal
 
 plain-of : (cmd : Cmd) → ((name : Word) (on stop : Bool) → cmd ≡ Cmd.Switch name on stop → ⊥) → (cmd ≡ Cmd.Restart → ⊥) → IsPlain cmd

@@ -1,7 +1,7 @@
 use Rattle.std.proofs.Common.{sym, subst, ◌∙◌}
 use Rattle.std.specs.Prelude.{Bool}
 use Rattle.std.specs.Global.{Vec}
-use Rattle.ha_model.specs.Entries.{IsPlain}
+use Rattle.ha_config.specs.Fair.{IsPlain}
 use Rattle.ha_ready.specs.RestedFlags.{RestedKept}
 use Rattle.trig_set.specs.Next.{Listed}
 use Rattle.engine_parts.specs.Stages.{Entered, RunsBefore}

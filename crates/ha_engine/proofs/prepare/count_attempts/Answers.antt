@@ -1,6 +1,6 @@
 use Rattle.std.proofs.Common.{ℕ, List, length, take, ap, ◌∙◌, arith}
 use Rattle.std.proofs.lemmas.List.{take_all}
-use Rattle.ha_model.specs.declared.steps.Firing.{Firing}
+use Rattle.ha_journal.specs.declared.firing.Firing.{Firing}
 use Rattle.engine_parts.specs.Owners.{attempts_by}
 use Rattle.ha_engine.proofs.PrepareLemmas.{take-at, attempts-weigh, weight-small}
 use Rattle.ha_engine.proofs.prepare.count_attempts.Goals as goal

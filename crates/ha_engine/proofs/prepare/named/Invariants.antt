@@ -1,9 +1,9 @@
 use Rattle.std.proofs.Common.{◌≡◌, ℕ, drop}
 use Rattle.std.specs.Prelude.{find, option_map}
 use Rattle.std.specs.List.{enumerate_from}
-use Rattle.ha_model.specs.declared.config.Automation.{Automation}
-use Rattle.ha_model.specs.States.{automation_named}
-use Rattle.ha_model.specs.Words.{same}
+use Rattle.ha_config.specs.declared.config.Automation.{Automation}
+use Rattle.ha_config.specs.Names.{automation_named}
+use Rattle.ha_config.specs.Words.{same}
 use Rattle.ha_engine.proofs.prepare.named.Given as goal
 
 abbrev pub invariant-rules : goal.invariant-rules

@@ -1,10 +1,9 @@
 use Rattle.std.proofs.Common.{◌≡◌, suc, ◌-◌, ◌<◌, length, sym, ap, ◌∙◌, arith}
 use Rattle.std.specs.Prelude.{IfOk, Ok, Err, Result, Some, slice_get}
-use Rattle.ha_model.specs.Journal.{Journal}
-use Rattle.ha_model.specs.Records.{last_place}
-use Rattle.ha_model.specs.Triggers.{sight}
-use Rattle.ha_model.proofs.RecordLaws.{length-more}
-use Rattle.ha_model.proofs.SinceLaws.{get-last}
+use Rattle.ha_journal.specs.Journal.{Journal, last_place}
+use Rattle.ha_journal.specs.Moves.{sight}
+use Rattle.ha_journal.proofs.MoreLemmas.{length-more}
+use Rattle.ha_config.proofs.ListLemmas.{get-last}
 use Rattle.cond_eval.specs.Seen.{seen}
 use Rattle.ha_engine.proofs.PrepareLemmas.{journal-some, last-split}
 use Rattle.engine_parts.proofs.ViewLemmas.{view-of}

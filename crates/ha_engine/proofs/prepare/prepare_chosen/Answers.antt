@@ -1,7 +1,7 @@
 use Rattle.std.proofs.Common.{◌≡◌, ℕ, suc, ◌+◌, ◌-◌, List, ◌∷◌, drop, map, get_or, sym, ap, subst, ◌∙◌, arith, drop-cons}
-use Rattle.ha_model.specs.Attempts.{Attempt, by_hand, passes}
-use Rattle.ha_model.specs.Records.{last_place}
-use Rattle.ha_model.specs.Words.{Pairs}
+use Rattle.ha_journal.specs.Attempts.{Attempt, by_hand, passes}
+use Rattle.ha_journal.specs.Journal.{last_place}
+use Rattle.ha_config.specs.Words.{Pairs}
 use Rattle.ha_engine.specs.Admits.{ArePassing, IsPut, asked_for}
 use Rattle.ha_engine.proofs.PrepareLemmas.{passing-next}
 use Rattle.ha_engine.proofs.prepare.prepare_chosen.Goals as goal

@@ -1,8 +1,7 @@
 use Rattle.std.proofs.Common.{◌≡◌, suc, ◌≤◌, drop, length, map}
-use Rattle.ha_model.specs.Attempts.{by_hand}
-use Rattle.ha_model.specs.Journal.{Journal, automations}
-use Rattle.ha_model.specs.Records.{last_place}
-use Rattle.ha_model.specs.Triggers.{sight}
+use Rattle.ha_journal.specs.Attempts.{by_hand}
+use Rattle.ha_journal.specs.Journal.{Journal, automations, last_place}
+use Rattle.ha_journal.specs.Moves.{sight}
 use Rattle.ha_engine.specs.Admits.{ArePassing, asked_for}
 use Rattle.ha_engine.proofs.prepare.prepare_chosen.Given as goal
 

@@ -1,9 +1,9 @@
 use Rattle.std.proofs.Common.{◌+◌, List, [], ◌∷◌, ◌++◌, length, sym, ap, subst, ◌∙◌, arith, append_assoc}
-use Rattle.ha_model.specs.declared.steps.Firing.{Firing}
+use Rattle.ha_journal.specs.declared.firing.Firing.{Firing}
 use Rattle.ha_engine.specs.declared.admit.Prepared.{Prepared}
 use Rattle.ha_engine.specs.Admits.{ArePassing}
 use Rattle.engine_parts.specs.Owners.{attempts_by}
-use Rattle.ha_model.proofs.AppendLemmas.{append-nil}
+use Rattle.ha_config.proofs.ListLemmas.{append-nil}
 use Rattle.ha_engine.proofs.PrepareLemmas.{attempts-weigh}
 use Rattle.ha_engine.proofs.prepare.prepare_fired.Goals as goal
 

@@ -1,8 +1,7 @@
 use Rattle.std.proofs.Common.{◌≡◌, suc, List, ◌++◌, length}
-use Rattle.ha_model.specs.declared.steps.Firing.{Firing}
-use Rattle.ha_model.specs.Journal.{Journal, automations}
-use Rattle.ha_model.specs.Records.{last_place}
-use Rattle.ha_model.specs.Triggers.{sight}
+use Rattle.ha_journal.specs.declared.firing.Firing.{Firing}
+use Rattle.ha_journal.specs.Journal.{Journal, automations, last_place}
+use Rattle.ha_journal.specs.Moves.{sight}
 use Rattle.ha_engine.specs.Admits.{ArePassing}
 use Rattle.engine_parts.specs.Owners.{attempts_by}
 use Rattle.ha_engine.proofs.prepare.prepare_fired.Given as goal

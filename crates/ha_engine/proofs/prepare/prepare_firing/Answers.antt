@@ -1,7 +1,7 @@
 use Rattle.std.proofs.Common.{◌≡◌, ◌-◌, ◌≤◌, List, true, sym, subst, ◌∙◌, arith, rules}
 use Rattle.std.specs.Prelude.{if◌then◌else◌}
-use Rattle.ha_model.specs.declared.steps.Firing.{Firing}
-use Rattle.ha_model.specs.Attempts.{Attempt}
+use Rattle.ha_journal.specs.declared.firing.Firing.{Firing}
+use Rattle.ha_journal.specs.Attempts.{Attempt}
 use Rattle.ha_engine.specs.Admits.{ArePassing}
 use Rattle.engine_parts.specs.Owners.{attempt_by, attempts_by, is_attempt}
 use Rattle.ha_engine.proofs.PrepareLemmas.{first-attempt, passing-next}

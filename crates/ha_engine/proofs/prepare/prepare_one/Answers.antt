@@ -1,12 +1,12 @@
 use Rattle.std.proofs.Common.{◌≡◌, ℕ, true, false, sym, ap, subst, ◌∙◌}
 use Rattle.std.specs.Prelude.{Option, ◌||◌, slice_get}
 use Rattle.std.specs.Option.{option_copied, option_map_or}
-use Rattle.ha_model.specs.declared.config.Automation.{Automation}
-use Rattle.ha_model.specs.Attempts.{passes}
-use Rattle.ha_model.specs.Conditions.{hold_all}
-use Rattle.ha_model.specs.Journal.{automations, unit_of}
-use Rattle.ha_model.specs.Records.{last_place}
-use Rattle.ha_model.specs.Sound.{are_sound_actions}
+use Rattle.ha_config.specs.declared.config.Automation.{Automation}
+use Rattle.ha_journal.specs.Attempts.{passes}
+use Rattle.ha_sight.specs.Conditions.{hold_all}
+use Rattle.ha_journal.specs.Journal.{automations, last_place}
+use Rattle.ha_config.specs.Names.{unit_of}
+use Rattle.ha_config.specs.Sound.{are_sound_actions}
 use Rattle.ha_engine.specs.Admits.{IsPut, asked_for}
 use Rattle.ha_engine.proofs.PrepareLemmas.{ready-prepared, sound-all, sound-at}
 use Rattle.ha_engine.proofs.prepare.prepare_one.Goals as goal

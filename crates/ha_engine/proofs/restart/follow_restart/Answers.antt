@@ -1,8 +1,8 @@
 use Rattle.std.proofs.Common.{◌-◌, Bool, length, sym, subst, ap, ◌∙◌}
 use Rattle.std.specs.Prelude.{None}
 use Rattle.std.specs.Global.{Vec}
-use Rattle.ha_model.specs.declared.journal.EndCause.{EndCause}
-use Rattle.ha_model.specs.Journal.{Journal}
+use Rattle.ha_model.specs.declared.record.EndCause.{EndCause}
+use Rattle.ha_journal.specs.Journal.{Journal}
 use Rattle.ha_model.specs.Records.{Records}
 use Rattle.run_modes.specs.Table.{stopped}
 use Rattle.ha_ready.specs.RestedFlags.{RestedKept}

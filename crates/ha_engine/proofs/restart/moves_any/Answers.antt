@@ -1,8 +1,9 @@
 use Rattle.std.proofs.Common.{◌≡◌, ℕ, List, Bool, not, ◌||◌, sym, ap, ◌∙◌}
 use Rattle.std.specs.Prelude.{Some, slice_get, unwrap_or}
-use Rattle.ha_model.specs.declared.config.Automation.{Automation}
-use Rattle.ha_model.specs.Equal.{same_flag}
-use Rattle.ha_model.specs.Switches.{initial_of, is_on}
+use Rattle.ha_config.specs.declared.config.Automation.{Automation}
+use Rattle.ha_config.specs.Equal.{same_flag}
+use Rattle.ha_config.specs.Names.{initial_of}
+use Rattle.ha_journal.specs.Switches.{is_on}
 use Rattle.engine_entry.proofs.NamedLemmas.{read-here}
 use Rattle.ha_engine.proofs.RestartLine.{any-up, moves-as}
 use Rattle.ha_engine.proofs.restart.moves_any.Goals as goal

@@ -1,10 +1,11 @@
 use Rattle.std.proofs.Common.{◌≡◌, not}
 use Rattle.std.specs.Prelude.{unwrap_or}
 use Rattle.std.specs.List.{list_any}
-use Rattle.ha_model.specs.Equal.{same_flag}
-use Rattle.ha_model.specs.Journal.{Journal, automations}
-use Rattle.ha_model.specs.Switches.{initial_of, is_on}
-use Rattle.ha_model.specs.Words.{up_to}
+use Rattle.ha_config.specs.Equal.{same_flag}
+use Rattle.ha_journal.specs.Journal.{Journal, automations}
+use Rattle.ha_config.specs.Names.{initial_of}
+use Rattle.ha_journal.specs.Switches.{is_on}
+use Rattle.ha_config.specs.Words.{up_to}
 use Rattle.switch_book.specs.Book.{StandsFor}
 use Rattle.ha_engine.proofs.restart.moves_any.Given as goal
 

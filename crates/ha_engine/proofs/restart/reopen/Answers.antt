@@ -1,11 +1,11 @@
 use Rattle.std.proofs.Common.{◌≡◌, ◌∙◌, length, sym, ap, subst}
 use Rattle.std.specs.Prelude.{not, unwrap_or}
 use Rattle.std.specs.List.{list_any}
-use Rattle.ha_model.specs.Equal.{same_flag}
-use Rattle.ha_model.specs.Journal.{Journal, automations}
-use Rattle.ha_model.specs.RecordSteps.{more}
-use Rattle.ha_model.specs.Switches.{initial_of, is_on}
-use Rattle.ha_model.specs.Words.{up_to}
+use Rattle.ha_config.specs.Equal.{same_flag}
+use Rattle.ha_journal.specs.Journal.{Journal, automations, more}
+use Rattle.ha_config.specs.Names.{initial_of}
+use Rattle.ha_journal.specs.Switches.{is_on}
+use Rattle.ha_config.specs.Words.{up_to}
 use Rattle.store_text.specs.Store.{Switches}
 use Rattle.switch_book.specs.Book as switches
 use Rattle.engine_parts.specs.declared.parts.Parts.{Parts}

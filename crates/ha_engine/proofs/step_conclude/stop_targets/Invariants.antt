@@ -1,5 +1,5 @@
 use Rattle.std.proofs.Common.{◌≡◌, ◌<◌, ◌≤◌, ℕ, length, drop}
-use Rattle.ha_model.specs.Journal.{Journal}
+use Rattle.ha_journal.specs.Journal.{Journal}
 use Rattle.engine_parts.specs.Kept.{Going, nobody}
 use Rattle.engine_parts.specs.Records.{HasRoom, IsTable}
 use Rattle.engine_entry.specs.Stepping.{stops_each}

@@ -1,8 +1,8 @@
 use Rattle.std.proofs.Common.{◌≡◌, ◌-◌, ◌<◌, length, sym, ap, subst, ◌∙◌, arith}
 use Rattle.std.specs.Prelude.{Bool, None, Some}
 use Rattle.std.specs.Global.{Vec}
-use Rattle.ha_model.specs.declared.journal.Record.{Record}
-use Rattle.ha_model.specs.Entries.{is_call}
+use Rattle.ha_model.specs.declared.record.Record.{Record}
+use Rattle.ha_sight.specs.Items.{is_call}
 use Rattle.ha_model.specs.Lawful.{record_of}
 use Rattle.ha_model.specs.Records.{Records}
 use Rattle.ha_ready.specs.RestedFlags.{RestedKept}

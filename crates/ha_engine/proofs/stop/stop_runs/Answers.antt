@@ -1,6 +1,6 @@
 use Rattle.std.specs.Prelude.{Some}
 use Rattle.std.proofs.Common.{sym, subst}
-use Rattle.ha_model.specs.declared.journal.EndCause.{EndCause}
+use Rattle.ha_model.specs.declared.record.EndCause.{EndCause}
 use Rattle.ha_model.specs.Records.{Records}
 use Rattle.run_modes.specs.Table.{live_of, stopped}
 use Rattle.ha_engine.specs.Admits.{are_in}

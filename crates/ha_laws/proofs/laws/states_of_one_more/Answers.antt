@@ -1,4 +1,4 @@
-use Rattle.ha_model.proofs.StateLemmas.{reported-report, reported-gone, reported-restart, reported-other}
+use Rattle.ha_journal.proofs.StateLemmas.{reported-report, reported-gone, reported-restart, reported-other}
 use Rattle.ha_laws.proofs.laws.states_of_one_more.Goals as goal
 
 pub returns-clause-report : goal.returns-clause-report

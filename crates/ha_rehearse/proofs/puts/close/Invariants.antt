@@ -1,5 +1,5 @@
 use Rattle.std.proofs.Common.{◌≡◌, ◌-◌, ℕ, false, length}
-use Rattle.ha_model.specs.declared.journal.Entry.{Entry}
+use Rattle.ha_journal.specs.declared.entry.Entry.{Entry}
 use Rattle.ha_model.specs.Lawful.{Lawful}
 use Rattle.ha_rehearse.specs.Puts.{Closing}
 use Rattle.ha_rehearse.proofs.puts.close.Given as goal

@@ -1,5 +1,5 @@
 use Rattle.std.proofs.Common.{◌≡◌, true, false}
-use Rattle.ha_model.specs.declared.journal.Entry.{Entry}
+use Rattle.ha_journal.specs.declared.entry.Entry.{Entry}
 use Rattle.ha_model.specs.Lawful.{is_rested}
 use Rattle.rehearsal.specs.Generated.{x_at}
 use Rattle.ha_rehearse.specs.Puts.{On}

@@ -1,5 +1,5 @@
 use Rattle.std.proofs.Common.{◌≡◌, ◌-◌, ℕ, false, length}
-use Rattle.ha_model.specs.declared.journal.Entry.{Entry}
+use Rattle.ha_journal.specs.declared.entry.Entry.{Entry}
 use Rattle.ha_model.specs.Lawful.{Running}
 use Rattle.ha_rehearse.specs.Puts.{On}
 use Rattle.ha_rehearse.proofs.puts.settle.Given as goal

@@ -2,7 +2,7 @@ use Rattle.std.proofs.Common.{◌≡◌, ◌∙◌, ap, refl, codes, subst, sym}
 use Rattle.std.specs.Prelude.{IsSome}
 use Rattle.ha_clock.proofs.OnLiterals.{ha_clock_on_literals}
 use Rattle.ha_clock.specs.Zone.{zone_of}
-use Rattle.ha_model.specs.Words.{Text}
+use Rattle.ha_config.specs.Words.{Text}
 use Rattle.rehearsal.specs.Generated.{config_text}
 use Rattle.conf_auto.specs.Config.{config_of}
 use Rattle.ha_rehearse.proofs.ConfigLemmas.{config_read}

@@ -1,6 +1,6 @@
 use Rattle.std.proofs.Common.{◌≡◌, ◌∙◌, append_assoc, ◌++◌, codes, decimal}
 use Rattle.std.proofs.lemmas.Result.{IfOk-weaker}
-use Rattle.ha_model.specs.Words.{Text}
+use Rattle.ha_config.specs.Words.{Text}
 use Rattle.ha_rehearse.proofs.text.count_line.Goals as goal
 
 shape : (what space n end : Text) → what ++ (space ++ (n ++ end)) ≡ ((what ++ space) ++ n) ++ end

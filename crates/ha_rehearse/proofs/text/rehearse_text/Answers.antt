@@ -1,6 +1,6 @@
 use Rattle.std.proofs.Common.{◌≡◌, ◌∙◌, [], ◌++◌, ap, count_by, length, codes}
-use Rattle.ha_model.specs.Texts.{count_line}
-use Rattle.ha_model.specs.Words.{Text}
+use Rattle.ha_config.specs.CheckText.{count_line}
+use Rattle.ha_config.specs.Words.{Text}
 use Rattle.ha_rehearse.specs.Counts.{calls, is_line}
 use Rattle.ha_rehearse.proofs.text.rehearse_text.Goals as goal
 

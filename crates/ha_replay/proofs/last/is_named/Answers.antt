@@ -1,8 +1,8 @@
 use Rattle.std.proofs.Common.{◌∙◌, ap, sym}
 use Rattle.std.specs.List.{list_any}
-use Rattle.ha_model.specs.declared.config.Automation.{Automation}
-use Rattle.ha_model.specs.Journal.{automations}
-use Rattle.ha_model.specs.Words.{same}
+use Rattle.ha_config.specs.declared.config.Automation.{Automation}
+use Rattle.ha_journal.specs.Journal.{automations}
+use Rattle.ha_config.specs.Words.{same}
 use Rattle.ha_replay.specs.Steps.{is_named as is_named_lem}
 use Rattle.ha_replay.proofs.AnswerLemmas.{named-from}
 use Rattle.ha_replay.proofs.last.is_named.Goals as goal

@@ -1,7 +1,7 @@
 use Rattle.std.proofs.Common.{◌∙◌, rules, sym}
-use Rattle.ha_model.specs.declared.journal.Entry.TheVariants.{Step}
-use Rattle.ha_model.specs.Texts.{trace_line}
-use Rattle.ha_model.proofs.LawfulLaws.{has-entry}
+use Rattle.ha_journal.specs.declared.entry.Entry.TheVariants.{Step}
+use Rattle.ha_journal.specs.EntryText.{trace_line}
+use Rattle.ha_journal.proofs.MoreLemmas.{has-entry}
 use Rattle.ha_replay.specs.Traces.{reached}
 use Rattle.ha_replay.proofs.AnswerLemmas.{automations-more, made-step, no-worker, other-step, step-dated, step-taken}
 use Rattle.ha_replay.proofs.line.put_worker.Goals as goal

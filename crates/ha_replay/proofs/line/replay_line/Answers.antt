@@ -1,5 +1,5 @@
 use Rattle.std.proofs.Common.{◌∙◌, ◌<◌, ◌^◌, length, rules, sym}
-use Rattle.ha_model.proofs.LawfulLaws.{none-some, some-same}
+use Rattle.ha_config.proofs.ListLemmas.{none-some, some-same}
 use Rattle.ha_replay.specs.Traces.{reached}
 use Rattle.ha_replay.proofs.AnswerLemmas.{no-reader}
 use Rattle.ha_replay.proofs.line.replay_line.Goals as goal

@@ -1,5 +1,5 @@
 use Rattle.std.proofs.Common.{◌≡◌, drop}
-use Rattle.ha_model.specs.Words as words
+use Rattle.ha_config.specs.Words as words
 use Rattle.ha_replay.proofs.stored.first_pair.Given as goal
 
 abbrev pub invariant-loop-pair : goal.invariant-loop-pair

@@ -1,5 +1,5 @@
 use Rattle.std.proofs.Common.{codes}
-use Rattle.ha_model.specs.ValueText.{print_pairs, quoted}
+use Rattle.ha_config.specs.ValueText.{print_pairs, quoted}
 use Rattle.ha_texts.proofs.LineLemmas.{two_pairs}
 use Rattle.ha_texts.proofs.command.push_event.Goals as goal
 

@@ -1,5 +1,5 @@
 use Rattle.std.proofs.Common.{[], ◌∷◌, codes}
-use Rattle.ha_model.specs.ValueText.{map_text, print_pairs, quoted}
+use Rattle.ha_config.specs.ValueText.{map_text, print_pairs, quoted}
 use Rattle.ha_texts.proofs.LineLemmas.{one_pair, two_pairs}
 use Rattle.ha_texts.proofs.item.push_fired.Goals as goal
 

@@ -4,7 +4,7 @@ use Rattle.std.specs.Option.{option_map}
 use Rattle.ha_io.specs.declared.place.Opening.{Opening}
 use Rattle.ha_io.specs.Told.{AreAsked, IsAskedSome}
 use Rattle.ha_io.proofs.AskedLemmas.{asked_front, asked_some, asked_then}
-use Rattle.ha_model.specs.Words.{Text}
+use Rattle.ha_config.specs.Words.{Text}
 use Rattle.ha_status.specs.Causes.{OpenCause}
 use Rattle.ha_status.specs.Files.{HoldsText}
 use Rattle.bus_turn.specs.States.{keeper_of, sink_of}

@@ -3,7 +3,7 @@ use Rattle.std.specs.Prelude.{IfSome, is_none, is_ok}
 use Rattle.ha_io.specs.declared.place.Opening.{Opening}
 use Rattle.ha_io.specs.Told.{AreAsked, IsAskedSome}
 use Rattle.ha_io.proofs.AskedLemmas.{asked_front, asked_then}
-use Rattle.ha_model.specs.Words.{Text}
+use Rattle.ha_config.specs.Words.{Text}
 use Rattle.ha_status.specs.Causes.{OpenCause}
 use Rattle.ha_worker.specs.Courses.{source_of}
 use Rattle.ha_run.specs.Served.{AreOpened}

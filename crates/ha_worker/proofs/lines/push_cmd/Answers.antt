@@ -1,6 +1,7 @@
+use Rattle.ha_journal.specs.Commands.{has_automation}
 use Rattle.std.proofs.Common.{List, [], ◌∷◌, ◌++◌, ◌∙◌, ap}
-use Rattle.ha_model.specs.declared.journal.Cmd.{Cmd}
-use Rattle.ha_model.specs.Entries.{shuts_source}
+use Rattle.ha_config.specs.declared.command.Cmd.{Cmd}
+use Rattle.ha_config.specs.Fair.{shuts_source}
 use Rattle.ha_worker.proofs.CmdLemmas.{read_open}
 use Rattle.ha_worker.proofs.ReadLemmas.{open_more}
 use Rattle.ha_worker.proofs.lines.push_cmd.Goals as goal
@@ -8,4 +9,4 @@ use Rattle.ha_worker.proofs.lines.push_cmd.Goals as goal
 pub returns-clause-open : goal.returns-clause-open
 returns-clause-open c =
     rw (c.push_back_reserved.ensures.items ∙ ap (λ (cs : List Cmd). cs ++ (c.in_ok-cmd.cmd ∷ [])) c.reserve.ensures.items)
-    (open_more c.args.cmds.now.items c.in_ok-cmd.cmd c.requires.open (ap shuts_source c.in_ok-cmd.ensures.exact ∙ read_open c.args.line.now, c.in_ok-cmd.ensures.fair))
+    (open_more c.args.cmds.now.items c.in_ok-cmd.cmd c.requires.open (ap shuts_source c.in_ok-cmd.ensures.exact ∙ read_open c.args.line.now, (λ j. c.in_ok-cmd.ensures.fair (has_automation j))))

@@ -1,5 +1,5 @@
 use Rattle.std.proofs.Common.{◌≡◌, List, length, map}
-use Rattle.ha_model.specs.Words.{Text}
+use Rattle.ha_config.specs.Words.{Text}
 use Rattle.flow_line.specs.Command.{cmd_of}
 use Rattle.ha_text.specs.Lines.{whole_lines}
 use Rattle.ha_worker.specs.Read.{AreOpen}

@@ -1,6 +1,6 @@
 use Rattle.std.proofs.Common.{◌≡◌, ◌++◌, false, None, List, length}
 use Rattle.std.specs.List.{list_any}
-use Rattle.ha_model.specs.declared.journal.Cmd.{Cmd}
+use Rattle.ha_config.specs.declared.command.Cmd.{Cmd}
 use Rattle.ha_model.specs.Lawful.{shuts}
 use Rattle.ha_worker.specs.Came.{Came}
 use Rattle.ha_worker.specs.Read.{AreOpen}

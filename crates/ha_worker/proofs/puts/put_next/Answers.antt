@@ -1,6 +1,6 @@
 use Rattle.std.proofs.Common.{◌≡◌, ◌∙◌, List, [], ◌∷◌, ◌++◌, ap, arith, length, rules, sym}
 use Rattle.std.proofs.lemmas.Bool.{false≢true}
-use Rattle.ha_model.specs.declared.journal.Cmd.{Cmd}
+use Rattle.ha_config.specs.declared.command.Cmd.{Cmd}
 use Rattle.ha_worker.proofs.CameLemmas.{none_came, none_of, some_came, some_of_more}
 use Rattle.ha_worker.proofs.puts.put_next.Goals as goal
 

@@ -1,5 +1,5 @@
 use Rattle.std.proofs.Common.{[], ◌≤◌, arith, false, length, refl, rules, sym}
-use Rattle.ha_model.proofs.RecordGrowth.{true-false}
+use Rattle.ha_config.proofs.ListLemmas.{true-false}
 use Rattle.ha_replay.specs.Traces.{reached}
 use Rattle.replay_file.specs.Fronts.{most_bytes}
 use Rattle.replay_file.specs.Steps.{IsReady}

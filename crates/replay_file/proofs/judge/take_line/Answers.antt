@@ -1,5 +1,5 @@
 use Rattle.std.proofs.Common.{refl, rules, true}
-use Rattle.ha_model.proofs.LawfulLaws.{has-entry}
+use Rattle.ha_journal.proofs.MoreLemmas.{has-entry}
 use Rattle.ha_replay.specs.Traces.{reached}
 use Rattle.replay_file.proofs.TakeLemmas.{at_same, end_of, end_taken, entry_cut, entry_of, entry_taken, not_taken, ready_ended}
 use Rattle.replay_file.proofs.judge.take_line.Goals as goal

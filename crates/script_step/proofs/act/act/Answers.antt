@@ -1,10 +1,10 @@
 use Rattle.std.proofs.Common.{◌≡◌, ◌∙◌, sym, ap, subst, length}
-use Rattle.ha_model.specs.declared.config.ActionKind.TheOpen.{ActionKind-F}
-use Rattle.ha_model.specs.declared.config.ActionKind.TheViews.{out-ActionKind}
-use Rattle.ha_model.specs.declared.config.ActionKind.TheVariants.{outs-Call, outs-Delay, outs-WaitUntil, outs-WaitFor, outs-Choose, outs-If, outs-Repeat, outs-Parallel, outs-Block, outs-Set, outs-Fire, outs-Stop, outs-Test}
-use Rattle.ha_model.specs.declared.config.Action.{Action}
-use Rattle.ha_model.specs.declared.config.ActionKind.{ActionKind}
-use Rattle.ha_model.specs.declared.journal.Item.{Item}
+use Rattle.ha_config.specs.declared.config.ActionKind.TheOpen.{ActionKind-F}
+use Rattle.ha_config.specs.declared.config.ActionKind.TheViews.{out-ActionKind}
+use Rattle.ha_config.specs.declared.config.ActionKind.TheVariants.{outs-Call, outs-Delay, outs-WaitUntil, outs-WaitFor, outs-Choose, outs-If, outs-Repeat, outs-Parallel, outs-Block, outs-Set, outs-Fire, outs-Stop, outs-Test}
+use Rattle.ha_config.specs.declared.config.Action.{Action}
+use Rattle.ha_config.specs.declared.config.ActionKind.{ActionKind}
+use Rattle.ha_sight.specs.declared.item.Item.{Item}
 use Rattle.script_step.specs.declared.strand.End.{End}
 use Rattle.script_step.specs.declared.strand.Stage.{Stage}
 use Rattle.script_step.specs.Parts.{kind_of, list_in, lists_in}

@@ -1,6 +1,6 @@
 use Rattle.std.proofs.Common.{◌≡◌, ◌∙◌, sym, true, false, refl}
-use Rattle.ha_model.specs.Scripts.{flat}
-use Rattle.ha_model.specs.Conditions.{hold_all}
+use Rattle.ha_sight.specs.Scripts.{flat}
+use Rattle.ha_sight.specs.Conditions.{hold_all}
 use Rattle.script_step.proofs.IfLemmas.{if_ok}
 use Rattle.script_step.proofs.KindLemmas.{if-done}
 use Rattle.script_step.proofs.act.choose_side.Goals as goal

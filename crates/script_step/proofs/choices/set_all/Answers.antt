@@ -1,5 +1,5 @@
 use Rattle.std.proofs.Common.{◌∙◌, ◌+◌, ap, drop}
-use Rattle.ha_model.specs.Scripts.{set_all}
+use Rattle.ha_sight.specs.Scripts.{set_all}
 use Rattle.script_step.proofs.EachLemmas.{drop-at}
 use Rattle.script_step.proofs.NameLemmas.{set-more, set-fault}
 use Rattle.script_step.proofs.choices.set_all.Goals as goal

@@ -1,5 +1,5 @@
 use Rattle.std.proofs.Common.{◌≡◌, drop}
-use Rattle.ha_model.specs.Scripts.{set_all}
+use Rattle.ha_sight.specs.Scripts.{set_all}
 use Rattle.script_step.proofs.choices.set_all.Given as goal
 
 abbrev pub invariant-loop-i : goal.invariant-loop-i

@@ -1,8 +1,8 @@
 use Rattle.std.proofs.Common.{◌∙◌, ◌+◌, sym, subst, drop, List, Option}
 use Rattle.ha_value.specs.declared.value.Value.{Value}
-use Rattle.ha_model.specs.Words.{Text}
-use Rattle.ha_model.specs.Templates.{data_of}
-use Rattle.ha_model.specs.Calls.{forms_of, fields_of}
+use Rattle.ha_config.specs.Words.{Text}
+use Rattle.ha_sight.specs.Templates.{data_of}
+use Rattle.ha_sight.specs.Calls.{forms_of, fields_of}
 use Rattle.script_step.specs.Fields.{Gives}
 use Rattle.script_step.proofs.EachLemmas.{goes-fault, goes-more, goes-all, drop-at, drop-past, fault-gives}
 use Rattle.script_step.proofs.FormLemmas.{data-items, data-pairs, fields-each, field_value}

@@ -1,5 +1,5 @@
 use Rattle.std.proofs.Common.{drop}
-use Rattle.ha_model.specs.Templates.{data_of}
+use Rattle.ha_sight.specs.Templates.{data_of}
 use Rattle.script_step.proofs.EachLemmas.{Goes}
 use Rattle.script_step.proofs.FormLemmas.{field_value}
 use Rattle.script_step.proofs.forms.+data.Given as goal

@@ -1,6 +1,6 @@
 use Rattle.std.proofs.Common.{◌∙◌, sym, ap, refl}
-use Rattle.ha_model.specs.declared.journal.Item.{Item}
-use Rattle.ha_model.specs.Scripts.{gives}
+use Rattle.ha_sight.specs.declared.item.Item.{Item}
+use Rattle.ha_sight.specs.Scripts.{gives}
 use Rattle.script_step.specs.Continuation.{last_action, thread_next}
 use Rattle.script_step.proofs.KindLemmas.{first-turn}
 use Rattle.script_step.proofs.StageLemmas.{stage-ready}

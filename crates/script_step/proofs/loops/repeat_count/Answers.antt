@@ -1,7 +1,7 @@
 use Rattle.std.proofs.Common.{◌≡◌, ◌∙◌, sym, ap, Ok, arith}
 use Rattle.std.proofs.lemmas.Bool.{le-leb}
-use Rattle.ha_model.specs.Calls.{count_of}
-use Rattle.ha_model.specs.Scripts.{flat}
+use Rattle.ha_sight.specs.Calls.{count_of}
+use Rattle.ha_sight.specs.Scripts.{flat}
 use Rattle.script_step.proofs.IfLemmas.{if_ok}
 use Rattle.script_step.proofs.KindLemmas.{count-done}
 use Rattle.script_step.proofs.loops.repeat_count.Goals as goal

@@ -1,6 +1,6 @@
 use Rattle.std.proofs.Common.{◌≡◌, ◌∙◌, sym, ap, ◌++◌, ◌∷◌, [], true}
-use Rattle.ha_model.specs.Conditions.{hold_all}
-use Rattle.ha_model.specs.Scripts.{flat, plain_turn}
+use Rattle.ha_sight.specs.Conditions.{hold_all}
+use Rattle.ha_sight.specs.Scripts.{flat, plain_turn}
 use Rattle.script_step.specs.declared.thread.Rounds.{Rounds}
 use Rattle.script_step.proofs.IfLemmas.{if_ok}
 use Rattle.script_step.proofs.KindLemmas.{while-done, first-from}

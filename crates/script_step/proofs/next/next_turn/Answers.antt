@@ -1,6 +1,6 @@
 use Rattle.std.proofs.Common.{◌≡◌, ◌∙◌, sym, ap, arith, suc, true, false, ◌++◌, ◌∷◌, []}
 use Rattle.std.specs.Prelude.{codes}
-use Rattle.ha_model.specs.Scripts.{outer}
+use Rattle.ha_sight.specs.Scripts.{outer}
 use Rattle.script_step.specs.Blocks.{goes_on}
 use Rattle.script_step.specs.Parts.{tests_at, loop_by, blocks_of}
 use Rattle.script_step.specs.Turns.{turn_value}

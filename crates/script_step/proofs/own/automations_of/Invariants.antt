@@ -1,5 +1,5 @@
 use Rattle.std.proofs.Common.{◌≡◌, length, take}
-use Rattle.ha_model.specs.Calls.{automations_of}
+use Rattle.ha_sight.specs.Calls.{automations_of}
 use Rattle.script_step.proofs.OwnLemmas.{Below}
 use Rattle.script_step.proofs.own.automations_of.Given as goal
 

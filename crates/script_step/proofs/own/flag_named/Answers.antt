@@ -1,8 +1,8 @@
 use Rattle.std.proofs.Common.{◌∙◌, sym}
 use Rattle.std.specs.Prelude.{if◌then◌else◌}
 use Rattle.ha_value.specs.declared.value.Value.TheViews.{out-Value}
-use Rattle.ha_model.specs.Words.{same}
-use Rattle.ha_model.specs.Calls.{flag_or_true}
+use Rattle.ha_config.specs.Words.{same}
+use Rattle.ha_sight.specs.Calls.{flag_or_true}
 use Rattle.script_step.proofs.OwnLemmas.{flag-more}
 use Rattle.script_step.proofs.own.flag_named.Goals as goal
 

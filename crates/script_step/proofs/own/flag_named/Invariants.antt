@@ -1,5 +1,5 @@
 use Rattle.std.proofs.Common.{◌≡◌, take}
-use Rattle.ha_model.specs.Calls.{flag_named}
+use Rattle.ha_sight.specs.Calls.{flag_named}
 use Rattle.script_step.proofs.own.flag_named.Given as goal
 
 abbrev pub invariant-loop-i : goal.invariant-loop-i

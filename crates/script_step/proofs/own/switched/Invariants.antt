@@ -1,6 +1,6 @@
 use Rattle.std.proofs.Common.{◌≡◌, map, take}
 use Rattle.std.specs.Prelude.{not, unwrap_or}
-use Rattle.ha_model.specs.Calls.{switched_to, was_on}
+use Rattle.ha_sight.specs.Calls.{switched_to, was_on}
 use Rattle.script_step.proofs.own.switched.Given as goal
 
 abbrev pub invariant-loop-i : goal.invariant-loop-i

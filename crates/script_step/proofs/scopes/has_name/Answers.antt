@@ -1,6 +1,6 @@
 use Rattle.std.proofs.Common.{◌∙◌, ◌+◌, ◌-◌, ◌<◌, sym, arith, drop, length, take}
 use Rattle.std.specs.Prelude.{◌||◌}
-use Rattle.ha_model.specs.Words.{has_name}
+use Rattle.ha_config.specs.Words.{has_name}
 use Rattle.script_step.proofs.NameLemmas.{name-at}
 use Rattle.script_step.proofs.scopes.has_name.Goals as goal
 

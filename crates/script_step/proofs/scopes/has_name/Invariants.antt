@@ -1,5 +1,5 @@
 use Rattle.std.proofs.Common.{◌≡◌, ◌-◌, drop, take}
-use Rattle.ha_model.specs.Words.{has_name}
+use Rattle.ha_config.specs.Words.{has_name}
 use Rattle.script_step.proofs.scopes.has_name.Given as goal
 
 abbrev pub invariant-loop-i : goal.invariant-loop-i

@@ -1,5 +1,5 @@
 use Rattle.std.proofs.Common.{◌+◌, sym, ap, arith}
-use Rattle.ha_model.specs.Calls.{part_lengths}
+use Rattle.ha_sight.specs.Calls.{part_lengths}
 use Rattle.script_step.proofs.EachLemmas.{drop-at, some-left}
 use Rattle.script_step.proofs.SpanLemmas.{totals-more, totals-fault, totals-over}
 use Rattle.script_step.proofs.spans.parts_of.Goals as goal

@@ -1,5 +1,5 @@
 use Rattle.std.proofs.Common.{◌≤◌, ◌*◌, drop}
-use Rattle.ha_model.specs.Calls.{part_lengths}
+use Rattle.ha_sight.specs.Calls.{part_lengths}
 use Rattle.script_step.proofs.SpanLemmas.{Totals}
 use Rattle.script_step.proofs.spans.parts_of.Given as goal
 

@@ -1,6 +1,6 @@
 use Rattle.std.proofs.Common.{length, map, ◌≡◌, ◌∙◌, ◌+◌, ◌*◌, ◌<◌, ◌≤◌, sym, ap, subst, arith, rules, true, List, ◌∷◌, ℕ, Some, insert}
 use Rattle.std.proofs.lemmas.List.Edits.{length-remove}
-use Rattle.ha_model.specs.declared.config.Action.{Action}
+use Rattle.ha_config.specs.declared.config.Action.{Action}
 use Rattle.script_step.specs.declared.strand.Strand.{Strand}
 use Rattle.script_step.specs.Continuation.{last_action, lists_of, may_step}
 use Rattle.script_step.specs.Step.{IsStep, IsSide}
@@ -8,7 +8,7 @@ use Rattle.script_step.proofs.StepLemmas.{may-inner, may-ready, may-wait, step-r
 use Rattle.std.specs.Prelude.{nat_eq}
 use Rattle.script_step.specs.Sides.{all_settled, standing, is_settled, stage_settled}
 use Rattle.script_step.proofs.WholeLemmas.{plain-whole, whole-lists, whole-sides, strand-stands, settled-set, settled-get, set-many}
-use Rattle.ha_model.specs.Scripts.{Branch}
+use Rattle.ha_sight.specs.Scripts.{Branch}
 use Rattle.script_step.specs.declared.strand.Stage.TheVariants.{Sides}
 use Rattle.script_step.specs.Continuation.{Began, placed}
 use Rattle.script_step.specs.Gates.{Fronts, Gate, fronts, fronts_from, fronts_on, gate_at}

@@ -1,8 +1,8 @@
 use Rattle.std.proofs.Common.{◌≡◌, [], Ok, Err}
 use Rattle.std.specs.Prelude.{Result, Option, IfOk}
-use Rattle.ha_model.specs.declared.journal.Item.{Item}
-use Rattle.ha_model.specs.declared.journal.WaitEnd.{WaitEnd}
-use Rattle.ha_model.specs.Scripts.{Branch}
+use Rattle.ha_sight.specs.declared.item.Item.{Item}
+use Rattle.ha_sight.specs.declared.waiting.WaitEnd.{WaitEnd}
+use Rattle.ha_sight.specs.Scripts.{Branch}
 use Rattle.script_step.specs.declared.strand.Stage.{Stage}
 use Rattle.script_step.specs.Step.{IsStep}
 use Rattle.script_step.proofs.StepLemmas.{may-ready}

@@ -1,6 +1,6 @@
 use Rattle.std.proofs.Common.{◌∙◌, subst}
 use Rattle.std.specs.Prelude.{Option}
-use Rattle.ha_model.specs.declared.journal.WaitEnd.{WaitEnd}
+use Rattle.ha_sight.specs.declared.waiting.WaitEnd.{WaitEnd}
 use Rattle.script_step.specs.declared.strand.Strand.{Strand}
 use Rattle.script_step.specs.Continuation.{may_step}
 use Rattle.script_step.specs.Gates.{fronts}

@@ -1,7 +1,7 @@
 use Rattle.std.proofs.Common.{List, take, refl}
 use Rattle.ha_value.specs.declared.value.EntityId.{EntityId}
-use Rattle.ha_model.specs.Calls.{all_read}
-use Rattle.ha_model.specs.Words.{parts_between_commas}
+use Rattle.ha_sight.specs.Calls.{all_read}
+use Rattle.ha_config.specs.Words.{parts_between_commas}
 use Rattle.script_step.proofs.EachLemmas.{fault-gives}
 use Rattle.script_step.proofs.TargetLemmas.{part-more, part-fault, last-part, last-fault, read_part}
 use Rattle.script_step.proofs.targets.all_read.Goals as goal

@@ -1,5 +1,5 @@
 use Rattle.std.proofs.Common.{◌+◌, drop}
-use Rattle.ha_model.specs.Calls.{target_of}
+use Rattle.ha_sight.specs.Calls.{target_of}
 use Rattle.script_step.proofs.EachLemmas.{drop-at, drop-past}
 use Rattle.script_step.proofs.TargetLemmas.{names-more, names-fault, names-all}
 use Rattle.script_step.proofs.targets.targets_of.Goals as goal

@@ -1,8 +1,8 @@
 use Rattle.std.proofs.Common.{◌≡◌, sym, subst, ◌∙◌}
 use Rattle.std.specs.Prelude.{None, OnOk}
-use Rattle.ha_model.specs.StateStep.{next_object}
-use Rattle.ha_model.specs.Words.{Pairs}
-use Rattle.ha_model.proofs.EqualLemmas.{same_pairs-sound}
+use Rattle.ha_sight.specs.StateStep.{next_object}
+use Rattle.ha_config.specs.Words.{Pairs}
+use Rattle.ha_config.proofs.EqualLemmas.{same_pairs-sound}
 use Rattle.state_table.proofs.domain.write.Goals as goal
 
 pub returns-then-same_data-clause-ok : goal.returns-then-same_data-clause-ok

@@ -1,7 +1,7 @@
 use Rattle.std.proofs.Common.{◌≡◌, ◌<◌, ◌≤◌, ℕ, length, slice_get}
 use Rattle.std.specs.Prelude.{option_map, unwrap_or}
-use Rattle.ha_model.specs.Commands.{keys_of}
-use Rattle.ha_model.specs.Switches.{initial_of}
+use Rattle.ha_config.specs.ValueFacts.{keys_of}
+use Rattle.ha_config.specs.Names.{initial_of}
 use Rattle.switch_book.specs.Book.{flags}
 use Rattle.switch_book.proofs.book.restart_all.Given as goal
 

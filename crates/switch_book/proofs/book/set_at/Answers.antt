@@ -1,7 +1,7 @@
 use Rattle.std.proofs.Common.{◌≡◌, ◌∙◌, ap, refl, Bool, true, false, not, Some}
 use mathlib.Core.Bool.{beq}
 use Rattle.std.proofs.lemmas.Option.{slice_get_read}
-use Rattle.ha_model.specs.Equal.{same_flag}
+use Rattle.ha_config.specs.Equal.{same_flag}
 use Rattle.switch_book.proofs.BookLemmas.{flags-set, names-set, flag-before}
 use Rattle.switch_book.proofs.book.set_at.Goals as goal
 

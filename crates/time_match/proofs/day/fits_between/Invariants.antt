@@ -1,6 +1,6 @@
 use Rattle.std.proofs.Common.{◌-◌, ◌≡◌, ◌≤◌, ◌<◌, ℕ, false}
-use Rattle.ha_model.specs.declared.config.TriggerRule.{TriggerRule}
-use Rattle.ha_model.specs.Triggers.{second_fits}
+use Rattle.ha_config.specs.declared.config.TriggerRule.{TriggerRule}
+use Rattle.ha_sight.specs.Rules.{second_fits}
 use Rattle.time_match.proofs.day.fits_between.Given as goal
 
 abbrev pub invariant-loop-second : goal.invariant-loop-second

@@ -1,6 +1,6 @@
 use Rattle.std.proofs.Common.{◌≡◌, ◌∙◌, ◌↔◌, ◌&&◌, nat_le, nat_lt, true, ap, sym, subst}
 use Rattle.std.specs.List.{list_any}
-use Rattle.ha_model.specs.declared.config.TriggerRule.{TriggerRule}
+use Rattle.ha_config.specs.declared.config.TriggerRule.{TriggerRule}
 use Rattle.time_match.specs.Times.{HasTime}
 use Rattle.time_match.proofs.DayLemmas.{listed}
 use Rattle.time_match.proofs.day.has_time.Goals as goal

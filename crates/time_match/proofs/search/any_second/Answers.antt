@@ -1,6 +1,6 @@
 use Rattle.std.proofs.Common.{◌≡◌, ◌∙◌, ap, sym, arith, ◌<◌, ◌-◌}
 use Rattle.ha_clock.specs.Passed.{holds_in}
-use Rattle.ha_model.specs.Triggers.{second_fits}
+use Rattle.ha_sight.specs.Rules.{second_fits}
 use Rattle.time_match.proofs.SearchLemmas.{behind, found, none_left}
 use Rattle.time_match.proofs.search.any_second.Goals as goal
 

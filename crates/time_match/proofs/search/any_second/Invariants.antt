@@ -1,7 +1,7 @@
 use Rattle.std.proofs.Common.{◌≡◌, ◌≤◌, ◌*◌}
 use Rattle.ha_clock.specs.Local.{last_moment}
 use Rattle.ha_clock.specs.Passed.{holds_in}
-use Rattle.ha_model.specs.Triggers.{second_fits}
+use Rattle.ha_sight.specs.Rules.{second_fits}
 use Rattle.time_match.proofs.search.any_second.Given as goal
 
 abbrev pub invariant-loop-left : goal.invariant-loop-left

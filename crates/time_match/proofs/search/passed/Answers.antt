@@ -1,7 +1,7 @@
 use Rattle.std.proofs.Common.{◌≡◌, ◌∙◌, ◌*◌, ◌/◌, ◌↔◌, IsTrue, ap, sym, subst, ℕ}
 use Rattle.ha_clock.specs.Local.{second_of_day}
 use Rattle.ha_clock.specs.Passed.{holds_in, passed_count}
-use Rattle.ha_model.specs.Triggers.{second_fits}
+use Rattle.ha_sight.specs.Rules.{second_fits}
 use Rattle.time_match.specs.Times.{HasTimeBack}
 use Rattle.time_match.proofs.SearchLemmas.{no_times, searched}
 use Rattle.time_match.proofs.SteadyLemmas.{steady-passes}

@@ -1,6 +1,6 @@
 use Rattle.std.proofs.Common.{◌∙◌, ap, ◌++◌, get_or, refl, sym, subst}
 use Rattle.std.specs.Prelude.{Option, Ok, Err}
-use Rattle.ha_model.specs.Words.{Text, Pairs}
+use Rattle.ha_config.specs.Words.{Text, Pairs}
 use Rattle.tpl_eval.specs.Pieces.{behind, Chooses, Writes}
 use Rattle.tpl_eval.proofs.PieceLemmas.{choice-arm, choice-fault, choice-none, follows-all, follows-fault, follows-more, template-is, written}
 use Rattle.tpl_eval.proofs.pieces.+pieces.Goals as goal

@@ -1,5 +1,5 @@
 use Rattle.std.proofs.Common.{◌≤◌, ◌++◌, length}
-use Rattle.ha_model.specs.States.{Sight}
+use Rattle.ha_sight.specs.Sight.{Sight}
 use Rattle.tpl_eval.specs.Seen.{Sees}
 use Rattle.tpl_eval.proofs.PieceLemmas.{written, Follows}
 use Rattle.tpl_eval.proofs.pieces.+pieces.Given as goal

@@ -1,6 +1,6 @@
 use Rattle.std.proofs.Common.{◌∙◌, ap, sym, ◌++◌}
-use Rattle.ha_model.specs.Words.{Pairs}
-use Rattle.ha_model.specs.Templates.{value_of}
+use Rattle.ha_config.specs.Words.{Pairs}
+use Rattle.ha_sight.specs.Templates.{value_of}
 use Rattle.tpl_eval.proofs.PieceLemmas.{set-writes}
 use Rattle.tpl_eval.proofs.pieces.assign.Goals as goal
 

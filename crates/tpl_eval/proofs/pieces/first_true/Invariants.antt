@@ -1,5 +1,5 @@
 use Rattle.std.proofs.Common.{◌++◌}
-use Rattle.ha_model.specs.States.{Sight}
+use Rattle.ha_sight.specs.Sight.{Sight}
 use Rattle.tpl_eval.specs.Seen.{Sees}
 use Rattle.tpl_eval.proofs.ArmLemmas.{Passes}
 use Rattle.tpl_eval.proofs.pieces.first_true.Given as goal

@@ -1,6 +1,6 @@
 use Rattle.std.proofs.Common.{subst, sym}
 use Rattle.std.specs.Prelude.{Option}
-use Rattle.ha_model.specs.Words.{Text}
+use Rattle.ha_config.specs.Words.{Text}
 use Rattle.tpl_fns.specs.Outcome.{Gives}
 use Rattle.tpl_eval.proofs.rendering.text_of.Goals as goal
 

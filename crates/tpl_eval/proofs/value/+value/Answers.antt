@@ -1,8 +1,8 @@
 use Rattle.std.proofs.Common.{◌∙◌, sym, subst}
 use Rattle.std.specs.Prelude.{Option, Some}
 use Rattle.ha_value.specs.declared.value.Value.{Value}
-use Rattle.ha_model.specs.Parts.{part_value}
-use Rattle.ha_model.specs.Templates.{value_of}
+use Rattle.ha_sight.specs.Parts.{part_value}
+use Rattle.ha_sight.specs.Templates.{value_of}
 use Rattle.tpl_eval.specs.Held.{held_value, Leads, Yields}
 use Rattle.tpl_eval.specs.Scope.{variables}
 use Rattle.tpl_eval.proofs.ListLemmas.{continues-more, continues-fault, values}

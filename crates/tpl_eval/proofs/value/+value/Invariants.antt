@@ -1,4 +1,4 @@
-use Rattle.ha_model.specs.States.{Sight}
+use Rattle.ha_sight.specs.Sight.{Sight}
 use Rattle.tpl_eval.specs.Scope.{variables}
 use Rattle.tpl_eval.specs.Seen.{Sees}
 use Rattle.tpl_eval.proofs.ItemLemmas.{GoesOn}

@@ -1,5 +1,5 @@
 use Rattle.std.proofs.Common.{◌∙◌, ap, sym, refl, rules, [], ◌++◌}
-use Rattle.ha_model.specs.Values.{bounded}
+use Rattle.ha_sight.specs.Values.{bounded}
 use Rattle.tpl_fns.proofs.ReplaceLemmas.{fits, no-more, part-faults, replaced-more, replaced-none, split-none}
 use Rattle.tpl_fns.proofs.texts.replaced_text.Goals as goal
 

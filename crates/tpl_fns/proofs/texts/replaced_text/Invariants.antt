@@ -1,7 +1,7 @@
 use denote.Text.{Utf8}
 use denote.Shadow.{shadow}
 use Rattle.std.proofs.Common.{◌≡◌, ◌++◌, ◌≤◌, length}
-use Rattle.ha_model.specs.Words.{replaced_all}
+use Rattle.ha_config.specs.Words.{replaced_all}
 use Rattle.tpl_fns.proofs.texts.replaced_text.Given as goal
 
 abbrev pub invariant-loop-before : goal.invariant-loop-before

@@ -1,6 +1,6 @@
 use Rattle.std.proofs.Common.{◌∙◌, sym, if◌then◌else◌}
 use Rattle.std.specs.BTreeMap.{get_by_text}
-use Rattle.ha_model.specs.Words.{same}
+use Rattle.ha_config.specs.Words.{same}
 use Rattle.ha_past.specs.Looks.{or_else}
 use Rattle.trig_set.proofs.TableLemmas.{changes-name}
 use Rattle.trig_set.proofs.attributes.put_number.Goals as goal

@@ -1,7 +1,7 @@
 use Rattle.std.proofs.Common.{◌∙◌, ◌∷◌, ◌++◌, [], ap, sym, Some}
 use Rattle.std.proofs.Common.{take}
 use Rattle.std.specs.List.{list_any}
-use Rattle.ha_model.specs.Words.{same_entity}
+use Rattle.ha_config.specs.Words.{same_entity}
 use Rattle.trig_set.proofs.OnLemmas.{on-then}
 use Rattle.trig_set.proofs.BlankLemmas.{place-again, place-new}
 use Rattle.trig_set.proofs.blank.add_at.Goals as goal

@@ -1,5 +1,5 @@
 use Rattle.std.proofs.Common.{◌≡◌, ◌++◌, map, take, true}
-use Rattle.ha_model.specs.Triggers.{each_once}
+use Rattle.ha_sight.specs.Rules.{each_once}
 use Rattle.trig_set.specs.Blank.{are_blank, entity_places}
 use Rattle.trig_set.specs.Kept.{place_of}
 use Rattle.trig_set.proofs.blank.add_few.Given as goal

@@ -1,6 +1,6 @@
 use Rattle.std.proofs.Common.{◌≡◌, ◌∙◌, ℕ, refl, sym, true, false}
 use Rattle.event_bus.specs.Subjects.{Subject, knows}
-use Rattle.ha_model.specs.Entries.{is_moment}
+use Rattle.ha_journal.specs.Entries.{is_moment}
 use Rattle.timer_queue.specs.Timers.{due_of}
 use Rattle.trig_set.specs.Queued.{IsLater}
 use Rattle.trig_set.proofs.CalmLemmas.{never}

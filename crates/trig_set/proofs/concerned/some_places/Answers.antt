@@ -1,7 +1,7 @@
 use Rattle.std.proofs.Common.{◌≡◌, ℕ, true, false}
 use Rattle.std.specs.Prelude.{MatchOption, option_map, slice_get}
 use Rattle.event_bus.specs.Subjects.{Subject, knows}
-use Rattle.ha_model.specs.Entries.{event_in, is_moment}
+use Rattle.ha_journal.specs.Entries.{event_in, is_moment}
 use Rattle.timer_queue.specs.Timers.{due_of}
 use Rattle.trig_set.specs.Concerned.{IsAside}
 use Rattle.trig_set.specs.Queued.{IsLater}

@@ -1,5 +1,5 @@
 use Rattle.std.proofs.Common.{◌∙◌, sym}
-use Rattle.ha_model.specs.Entries.{is_moment}
+use Rattle.ha_journal.specs.Entries.{is_moment}
 use Rattle.trig_set.proofs.CalmLemmas.{never}
 use Rattle.trig_set.proofs.OnLemmas.{on-then}
 use Rattle.trig_set.proofs.many_spots.put_timed.Goals as goal

@@ -1,9 +1,8 @@
 use Rattle.std.proofs.Common.{◌≡◌, ℕ, false, length, map, true}
 use Rattle.std.specs.Prelude.{slice_get}
 use Rattle.event_bus.specs.Lists.{has}
-use Rattle.ha_model.specs.Journal.{Journal}
-use Rattle.ha_model.specs.RecordSteps.{more}
-use Rattle.ha_model.specs.Triggers.{sight}
+use Rattle.ha_journal.specs.Journal.{Journal, more}
+use Rattle.ha_journal.specs.Moves.{sight}
 use Rattle.trig_set.specs.Kept.{All, At, AreTimed, AreWell, KeepsAt, MovedAt, place_of}
 use Rattle.trig_set.specs.Scenes.{Shows}
 use Rattle.trig_set.proofs.many_spots.step_some.Given as goal

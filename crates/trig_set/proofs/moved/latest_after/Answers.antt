@@ -1,9 +1,9 @@
 use Rattle.std.proofs.Common.{◌∙◌, sym, None}
 use Rattle.std.specs.Prelude.{if◌then◌else◌}
 use Rattle.std.specs.Option.{option_copied}
-use Rattle.ha_model.specs.Triggers.{latest_number, report_number}
+use Rattle.ha_journal.specs.Moves.{latest_number, report_number}
 use Rattle.ha_past.specs.Looks.{or_else}
-use Rattle.ha_model.proofs.HeldLaws.{latest-more}
+use Rattle.ha_journal.proofs.HeldLaws.{latest-more}
 use Rattle.trig_set.proofs.moved.latest_after.Goals as goal
 
 pub returns-then-opens : goal.returns-then-opens

@@ -1,8 +1,8 @@
 use Rattle.std.proofs.Common.{◌∙◌, Option, ap, false}
 use Rattle.ha_value.specs.declared.value.Num.{Num}
 use Rattle.std.specs.Option.{option_copied, option_map_or}
-use Rattle.ha_model.specs.Equal.{same_flag}
-use Rattle.ha_model.specs.Numbers.{in_bounds}
+use Rattle.ha_config.specs.Equal.{same_flag}
+use Rattle.ha_config.specs.Numbers.{in_bounds}
 use Rattle.trig_set.proofs.moved.numeric_stays_in.Goals as goal
 
 pub returns : goal.returns

@@ -1,8 +1,8 @@
 use Rattle.std.proofs.Common.{◌≡◌, ◌∙◌, ap, sym, subst, false}
 use Rattle.std.specs.Prelude.{MatchOption}
 use Rattle.std.specs.Option.{option_copied}
-use Rattle.ha_model.specs.States.{states}
-use Rattle.ha_model.specs.RecordSteps.{more}
+use Rattle.ha_journal.specs.States.{states}
+use Rattle.ha_journal.specs.Journal.{more}
 use Rattle.trig_state.specs.States.{rule_stays}
 use Rattle.trig_set.specs.Next.{reports}
 use Rattle.trig_set.specs.Scenes.{face}

@@ -1,8 +1,8 @@
 use Rattle.std.proofs.Common.{◌∙◌, sym, suc, length}
 use Rattle.std.specs.Option.{option_copied}
-use Rattle.ha_model.specs.Equal.{same_flag}
-use Rattle.ha_model.specs.RecordSteps.{more}
-use Rattle.ha_model.specs.Triggers.{sight}
+use Rattle.ha_config.specs.Equal.{same_flag}
+use Rattle.ha_journal.specs.Journal.{more}
+use Rattle.ha_journal.specs.Moves.{sight}
 use Rattle.trig_set.specs.Kept.{is_true}
 use Rattle.ha_past.specs.Looks.{watches}
 use Rattle.ha_past.proofs.PastLemmas.{sight-whole}

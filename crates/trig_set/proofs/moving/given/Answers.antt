@@ -1,6 +1,6 @@
 use Rattle.std.proofs.Common.{◌≡◌, ◌∙◌, sym, length, false, arith}
 use Rattle.std.specs.Option.{option_copied}
-use Rattle.ha_model.specs.Switches.{opens_segment}
+use Rattle.ha_journal.specs.Entries.{opens_segment}
 use Rattle.trig_set.proofs.OnLemmas.{ok-then}
 use Rattle.trig_set.proofs.MovedLemmas.{moves-by, moves-not, moves-open, has-past, lt-is, lt-isnt}
 use Rattle.trig_set.proofs.moving.given.Goals as goal

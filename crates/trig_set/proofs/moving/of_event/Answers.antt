@@ -2,8 +2,8 @@ use Rattle.std.proofs.Common.{◌∙◌, ap, sym}
 use Rattle.std.specs.Prelude.{◌&&◌}
 use Rattle.std.specs.List.{list_all}
 use Rattle.std.specs.Option.{option_copied}
-use Rattle.ha_model.specs.Triggers.{pair_holds}
-use Rattle.ha_model.specs.Words.{one_of}
+use Rattle.ha_sight.specs.Rules.{pair_holds}
+use Rattle.ha_config.specs.Words.{one_of}
 use Rattle.trig_set.proofs.OnLemmas.{ok-then}
 use Rattle.trig_set.proofs.MovedLemmas.{event-told}
 use Rattle.trig_set.proofs.moving.of_event.Goals as goal

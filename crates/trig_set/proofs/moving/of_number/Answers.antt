@@ -1,10 +1,10 @@
 use Rattle.std.proofs.Common.{◌≡◌, ◌∙◌, ap, sym, subst, false}
 use Rattle.std.specs.Prelude.{MatchOption, not, ◌&&◌}
 use Rattle.std.specs.Option.{option_copied, option_map_or}
-use Rattle.ha_model.specs.Numbers.{in_bounds}
-use Rattle.ha_model.specs.Triggers.{report_number, latest_number}
-use Rattle.ha_model.specs.States.{states}
-use Rattle.ha_model.specs.RecordSteps.{more}
+use Rattle.ha_config.specs.Numbers.{in_bounds}
+use Rattle.ha_journal.specs.Moves.{report_number, latest_number}
+use Rattle.ha_journal.specs.States.{states}
+use Rattle.ha_journal.specs.Journal.{more}
 use Rattle.trig_set.specs.Next.{reports}
 use Rattle.trig_set.specs.Scenes.{face}
 use Rattle.trig_set.proofs.OnLemmas.{ok-then}

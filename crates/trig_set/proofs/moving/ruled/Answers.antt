@@ -1,9 +1,8 @@
 use Rattle.std.proofs.Common.{◌∙◌, refl, sym, suc, length, None, Some}
 use Rattle.std.specs.Prelude.{is_some, if◌then◌else◌}
 use Rattle.std.specs.Option.{option_copied}
-use Rattle.ha_model.specs.Journal.{zone_of}
-use Rattle.ha_model.specs.RecordSteps.{more}
-use Rattle.ha_model.specs.Triggers.{sight}
+use Rattle.ha_journal.specs.Journal.{zone_of, more}
+use Rattle.ha_journal.specs.Moves.{sight}
 use Rattle.ha_past.specs.Looks.{looks, given}
 use Rattle.trig_set.proofs.OnLemmas.{ok-then}
 use Rattle.trig_set.proofs.MovedLemmas.{time-target, pattern-target, template-target, past-of}

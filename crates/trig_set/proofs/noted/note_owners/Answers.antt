@@ -5,7 +5,7 @@ use Rattle.trig_set.specs.Queued.{HasDue}
 use Rattle.trig_set.specs.Scenes.{Shows}
 use Rattle.ha_past.specs.Firings.{firings}
 use Rattle.trig_set.specs.Stands.{AllOwners, OwnerStands}
-use Rattle.ha_model.specs.RecordSteps.{more}
+use Rattle.ha_journal.specs.Journal.{more}
 use Rattle.trig_set.proofs.OnLemmas.{on-then}
 use Rattle.trig_set.proofs.OwnersLemmas.{owners-fire, written}
 use Rattle.trig_set.proofs.noted.note_owners.Goals as goal

@@ -2,8 +2,8 @@ use Rattle.std.proofs.Common.{◌≡◌, ◌∙◌, ◌+◌, ◌++◌, zero, ref
 use Rattle.std.specs.Prelude.{flat_map}
 use Rattle.std.proofs.lemmas.Bool.Decides.{eqb_tells, leb_tells}
 use Rattle.event_bus.specs.Lists.{has}
-use Rattle.ha_model.specs.Words.{up_to}
-use Rattle.ha_model.specs.RecordSteps.{more}
+use Rattle.ha_config.specs.Words.{up_to}
+use Rattle.ha_journal.specs.Journal.{more}
 use Rattle.trig_set.specs.Order.{ascend}
 use Rattle.trig_set.specs.Queued.{HasDue}
 use Rattle.trig_set.specs.Scenes.{Shows}

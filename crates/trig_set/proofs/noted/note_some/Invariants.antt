@@ -1,10 +1,9 @@
 use Rattle.std.proofs.Common.{◌≡◌, ◌≤◌, ◌++◌, ℕ, [], false, length, map, true}
 use Rattle.std.specs.Prelude.{slice_get, flat_map}
 use Rattle.event_bus.specs.Lists.{has}
-use Rattle.ha_model.specs.Words.{up_to}
-use Rattle.ha_model.specs.Journal.{Journal}
-use Rattle.ha_model.specs.RecordSteps.{more}
-use Rattle.ha_model.specs.Triggers.{sight}
+use Rattle.ha_config.specs.Words.{up_to}
+use Rattle.ha_journal.specs.Journal.{Journal, more}
+use Rattle.ha_journal.specs.Moves.{sight}
 use Rattle.trig_set.specs.Stands.{AllOwners, AtOwner, OwnerStands, firings_at}
 use Rattle.trig_set.specs.Order.{ascend, owner_of}
 use Rattle.trig_set.specs.Queued.{HasDue}

@@ -1,5 +1,5 @@
 use Rattle.std.proofs.Common.{◌≡◌, ◌∙◌, ◌++◌, [], ap, sym, subst, map, true}
-use Rattle.ha_model.specs.Sound.{is_short, is_sound_trigger}
+use Rattle.ha_config.specs.Sound.{is_short, is_sound_trigger}
 use Rattle.std.specs.List.{list_all}
 use Rattle.trig_set.specs.Blank.{are_blank}
 use Rattle.trig_set.specs.Kept.{AreTimed, place_of, places_of}

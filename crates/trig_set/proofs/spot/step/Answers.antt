@@ -1,6 +1,6 @@
 use Rattle.std.proofs.Common.{◌∙◌, ap}
-use Rattle.ha_model.specs.Triggers.{sight}
-use Rattle.ha_model.specs.RecordSteps.{more}
+use Rattle.ha_journal.specs.Moves.{sight}
+use Rattle.ha_journal.specs.Journal.{more}
 use Rattle.std.proofs.Common.{length, suc}
 use Rattle.ha_past.specs.Looks.{moves_with, watches}
 use Rattle.trig_set.proofs.KeptLemmas.{step-moved}

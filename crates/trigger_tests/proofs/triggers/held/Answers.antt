@@ -1,4 +1,4 @@
-use Rattle.ha_model.specs.Sound.{may_hold}
+use Rattle.ha_config.specs.Sound.{may_hold}
 use Rattle.trigger_tests.proofs.TestLemmas.{held-well}
 use Rattle.trigger_tests.proofs.triggers.held.Goals as goal
 

@@ -1,8 +1,8 @@
 use Rattle.std.proofs.Common.{◌≡◌, ◌∙◌, refl, [], ◌∷◌}
 use Rattle.std.specs.Prelude.{Result, Ok, Err, Some, None, IfOk, option_map}
 use Rattle.ha_value.specs.declared.value.Value.{Value}
-use Rattle.ha_model.specs.Seen.{seen_value}
-use Rattle.ha_model.specs.Words.{Text, Pairs, first_of_list}
+use Rattle.ha_sight.specs.Seen.{seen_value}
+use Rattle.ha_config.specs.Words.{Text, Pairs, first_of_list}
 use Rattle.wait_set.specs.Asked.{value_of}
 use Rattle.wait_set.proofs.asked.first_value.Goals as goal
 

@@ -1,6 +1,6 @@
 use Rattle.std.proofs.Common.{◌≡◌, rules, subst}
-use Rattle.ha_model.specs.declared.journal.Entry.{Entry}
-use Rattle.ha_model.specs.Commands.{put_as}
+use Rattle.ha_journal.specs.declared.entry.Entry.{Entry}
+use Rattle.ha_journal.specs.Commands.{put_as}
 use Rattle.bus_turn.specs.Buses.{Puts}
 use Rattle.bus_turn.specs.Shown.{BusView}
 use Rattle.bus_pass.proofs.held.Held.line.Goals as goal

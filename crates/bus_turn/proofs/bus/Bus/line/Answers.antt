@@ -1,8 +1,8 @@
 use Rattle.std.proofs.Common.{◌≡◌, ◌∙◌, ap, refl}
 use Rattle.std.proofs.lemmas.Result.{on_ok_weaker}
-use Rattle.ha_model.specs.declared.journal.Entry.{Entry}
-use Rattle.ha_model.specs.declared.journal.Entry.TheVariants.{Line}
-use Rattle.ha_model.specs.Commands.{put_as}
+use Rattle.ha_journal.specs.declared.entry.Entry.{Entry}
+use Rattle.ha_journal.specs.declared.entry.Entry.TheVariants.{Line}
+use Rattle.ha_journal.specs.Commands.{put_as}
 use Rattle.bus_turn.specs.States.{keeper_of, outside_of, sink_of}
 use Rattle.bus_turn.specs.Shown.{BusView, bus_view}
 use Rattle.bus_turn.proofs.PutLemmas.{after-put, fresh-of}

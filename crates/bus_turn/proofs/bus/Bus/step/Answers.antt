@@ -1,6 +1,6 @@
 use Rattle.std.proofs.Common.{◌∙◌, ap, refl}
 use Rattle.std.proofs.lemmas.Result.{on_ok_weaker}
-use Rattle.ha_model.specs.declared.journal.Entry.TheVariants.{Step}
+use Rattle.ha_journal.specs.declared.entry.Entry.TheVariants.{Step}
 use Rattle.bus_turn.specs.States.{keeper_of, outside_of, sink_of}
 use Rattle.bus_turn.specs.Shown.{BusView, bus_view}
 use Rattle.bus_turn.specs.Buses.{IsStep}

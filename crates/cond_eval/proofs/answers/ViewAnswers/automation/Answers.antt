@@ -1,5 +1,5 @@
 use Rattle.std.proofs.Common.{◌∙◌, refl, sym}
-use Rattle.ha_model.specs.States.{automation_named}
+use Rattle.ha_config.specs.Names.{automation_named}
 use Rattle.cond_eval.specs.Seen.{is_shown_on}
 use Rattle.cond_eval.proofs.NameLemmas.{is-there, not-there}
 use Rattle.cond_eval.proofs.answers.ViewAnswers.automation.Goals as goal

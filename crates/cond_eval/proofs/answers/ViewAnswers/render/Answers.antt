@@ -1,6 +1,6 @@
 use Rattle.std.proofs.Common.{refl}
 use Rattle.cond_eval.specs.Seen.{seen}
-use Rattle.ha_model.specs.Templates.{rendered}
+use Rattle.ha_sight.specs.Templates.{rendered}
 use Rattle.cond_eval.proofs.CaseLemmas.{given-fault, given-text}
 use Rattle.cond_eval.proofs.answers.ViewAnswers.render.Goals as goal
 

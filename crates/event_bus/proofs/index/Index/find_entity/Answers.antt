@@ -1,7 +1,7 @@
 use Rattle.std.proofs.Common.{◌∙◌, ap, false, sym}
 use Rattle.std.specs.HashMap.{get_by_text}
 use Rattle.std.specs.Option.{option_map_or}
-use Rattle.ha_model.proofs.IdLemmas.{here}
+use Rattle.ha_config.proofs.IdLemmas.{here}
 use Rattle.event_bus.specs.Lists.{has, has_at}
 use Rattle.event_bus.proofs.index.Index.find_entity.Goals as goal
 

@@ -1,9 +1,8 @@
 use Rattle.std.proofs.Common.{◌≡◌, sym, ap, subst, ◌∙◌}
 use Rattle.std.proofs.lemmas.List.{take_at}
-use Rattle.ha_model.specs.declared.journal.Entry.TheVariants.{Line}
-use Rattle.ha_model.specs.Commands.{IsFair, put_as}
-use Rattle.ha_model.specs.Journal.{Journal}
-use Rattle.ha_model.specs.RecordSteps.{more}
+use Rattle.ha_journal.specs.declared.entry.Entry.TheVariants.{Line}
+use Rattle.ha_journal.specs.Commands.{IsFair, put_as}
+use Rattle.ha_journal.specs.Journal.{Journal, more}
 use Rattle.ha_engine.specs.Core.{Core}
 use Rattle.ha_engine.proofs.engine.Engine.append_line.Goals as goal
 

@@ -1,5 +1,5 @@
 use Rattle.std.proofs.Common.{◌<◌, length, sym, ap, subst, ◌∙◌, arith}
-use Rattle.ha_model.specs.Journal.{Journal}
+use Rattle.ha_journal.specs.Journal.{Journal}
 use Rattle.ha_model.specs.Lawful.{is_quiet}
 use Rattle.ha_engine.specs.Core.{Core}
 use Rattle.engine_entry.specs.Stepping.{Stepping}

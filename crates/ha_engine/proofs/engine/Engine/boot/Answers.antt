@@ -1,9 +1,9 @@
 use Rattle.std.proofs.Common.{◌≡◌, [], ◌∷◌, sym, subst, ◌∙◌}
 use Rattle.std.specs.Prelude.{IsSome, Option}
 use Rattle.ha_clock.specs.Zone.{zone_of}
-use Rattle.ha_model.specs.declared.journal.Entry.TheVariants.{Boot}
-use Rattle.ha_model.specs.Journal.{Journal}
-use Rattle.ha_model.specs.Words.{Text}
+use Rattle.ha_journal.specs.declared.entry.Entry.TheVariants.{Boot}
+use Rattle.ha_journal.specs.Journal.{Journal}
+use Rattle.ha_config.specs.Words.{Text}
 use Rattle.store_text.specs.Store.{Switches}
 use Rattle.switch_book.specs.Book.{StandsFor}
 use Rattle.ha_engine.proofs.engine.Engine.boot.Goals as goal

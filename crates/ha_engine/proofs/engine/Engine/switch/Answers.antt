@@ -1,5 +1,5 @@
 use Rattle.std.proofs.Common.{◌∙◌, ap}
-use Rattle.ha_model.specs.Sights.{switch_of}
+use Rattle.ha_journal.specs.Sights.{switch_of}
 use Rattle.ha_engine.specs.Core.{Core}
 use Rattle.ha_engine.proofs.engine.Engine.switch.Goals as goal
 

@@ -1,5 +1,5 @@
 use Rattle.std.proofs.Common.{ap, ◌∙◌}
-use Rattle.ha_model.specs.Entries.{shuts_source}
+use Rattle.ha_config.specs.Fair.{shuts_source}
 use Rattle.ha_model.proofs.LastEntry.{ok-then}
 use Rattle.ha_worker.proofs.CmdLemmas.{read_open}
 use Rattle.ha_worker.proofs.worker.Worker.put_line.Goals as goal

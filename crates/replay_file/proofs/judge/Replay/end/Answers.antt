@@ -1,6 +1,6 @@
 use Rattle.std.proofs.Common.{◌∙◌, ap, length, refl, sym}
 use Rattle.std.specs.Prelude.{◌==◌}
-use Rattle.ha_model.proofs.RecordGrowth.{true-false}
+use Rattle.ha_config.proofs.ListLemmas.{true-false}
 use Rattle.replay_file.proofs.TakeLemmas.{empty_is, finished, full_at_end, read_failed, refused_at_end, too_long}
 use Rattle.replay_file.proofs.judge.Replay.end.Goals as goal
 

@@ -1,5 +1,5 @@
 use Rattle.std.proofs.Common.{◌≤◌, length, Option}
-use Rattle.ha_model.specs.Words.{Text}
+use Rattle.ha_config.specs.Words.{Text}
 use Rattle.ha_status.specs.Causes.{NeverFall}
 use Rattle.ha_replay.specs.Traces.{reached}
 use Rattle.replay_file.specs.Fronts.{most_bytes}

@@ -1,7 +1,7 @@
 use Rattle.std.proofs.Common.{◌≡◌, ◌∙◌, refl, subst, List, [], Some}
 use Rattle.std.specs.Prelude.{option_map}
-use Rattle.ha_model.specs.declared.config.Action.{Action}
-use Rattle.ha_model.specs.Scripts.{Branch}
+use Rattle.ha_config.specs.declared.config.Action.{Action}
+use Rattle.ha_sight.specs.Scripts.{Branch}
 use Rattle.script_step.specs.Continuation.{asks, placed}
 use Rattle.script_step.specs.Frames.{asked_by}
 use Rattle.script_step.specs.Gates.{Gate, fronts, fronts_of, gate_at}

@@ -1,6 +1,6 @@
 use Rattle.std.proofs.Common.{◌<◌, ◌≤◌, ◌∙◌, ◌+◌, suc, sym, ap, arith, length, take, get_or, insert, slice_set}
 use Rattle.ha_value.specs.declared.value.Value.{Value}
-use Rattle.ha_model.specs.Words.{Text}
+use Rattle.ha_config.specs.Words.{Text}
 use Rattle.script_step.specs.Cuts.{cut, total, add_at}
 use Rattle.script_step.proofs.CutLemmas.{cut-add, length-cut, total-take, total-set, length-insert, get-total}
 use Rattle.script_step.proofs.scopes.Scopes.add_at.Goals as goal

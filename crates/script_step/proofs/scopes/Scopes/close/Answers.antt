@@ -1,5 +1,5 @@
 use Rattle.std.proofs.Common.{◌≡◌, ◌-◌, ◌∙◌, sym, ap, arith, length, take}
-use Rattle.ha_model.specs.Scripts.{outer}
+use Rattle.ha_sight.specs.Scripts.{outer}
 use Rattle.script_step.specs.Cuts.{cut, total}
 use Rattle.script_step.proofs.CutLemmas.{cut-close, total-snoc, length-take}
 use Rattle.script_step.proofs.scopes.Scopes.close.Goals as goal

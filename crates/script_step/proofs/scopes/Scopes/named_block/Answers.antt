@@ -1,6 +1,6 @@
 use Rattle.std.proofs.Common.{◌≡◌, ◌∙◌, ◌+◌, ◌-◌, sym, ap, arith, length, take, drop, get_or, Some}
 use Rattle.std.specs.Prelude.{if◌then◌else◌}
-use Rattle.ha_model.specs.Words.{has_name}
+use Rattle.ha_config.specs.Words.{has_name}
 use Rattle.script_step.specs.Cuts.{cut, total}
 use Rattle.script_step.proofs.CutLemmas.{length-cut, length-take, take-shorter, total-next, total-take}
 use Rattle.script_step.proofs.NameLemmas.{found-under, named-next}

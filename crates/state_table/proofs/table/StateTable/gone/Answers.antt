@@ -1,8 +1,7 @@
 use Rattle.std.proofs.Common.{◌∙◌, ap, refl, sym, None}
 use Rattle.std.specs.Prelude.{is_some}
 use Rattle.std.specs.BTreeMap.{get_by_text}
-use Rattle.state_table.specs.Table.{at}
-use Rattle.state_table.proofs.TableLemmas.{automation-changes, automation-here, other-changes, other-here, stands-gone}
+use Rattle.state_table.proofs.TableLemmas.{automation-changes, automation-here, other-changes, other-here}
 use Rattle.state_table.proofs.table.StateTable.gone.Goals as goal
 
 pub returns-in-Some-clause-found : goal.returns-in-Some-clause-found
@@ -15,9 +14,6 @@ returns-in-Some-clause-rest c =
     let t = c.args.self.now in
     automation-changes (get_by_text t.automations) (get_by_text t.others) c.args.entity.now (get_by_text c.remove_from.new.states) _ None None refl c.in-Some.ensures.0 c.in-Some.ensures.1 c.remove_from.ensures.rest
 
-pub returns-in-Some-clause-stands : goal.returns-in-Some-clause-stands
-returns-in-Some-clause-stands c = stands-gone (at c.args.self.now) _ c.args.entity.now (returns-in-Some-clause-rest c)
-
 pub returns-in-None-clause-found : goal.returns-in-None-clause-found
 returns-in-None-clause-found c =
     let t = c.args.self.now in
@@ -29,6 +25,3 @@ returns-in-None-clause-rest c =
     let t = c.args.self.now in
     other-changes (get_by_text t.automations) (get_by_text t.others) c.args.entity.now (get_by_text c.remove_from-in-None.new.states) _ None None refl c.in-None.ensures c.text.ensures.domain
     c.text.ensures.value c.remove_from-in-None.ensures.rest
-
-pub returns-in-None-clause-stands : goal.returns-in-None-clause-stands
-returns-in-None-clause-stands c = stands-gone (at c.args.self.now) _ c.args.entity.now (returns-in-None-clause-rest c)

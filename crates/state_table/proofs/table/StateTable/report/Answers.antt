@@ -1,10 +1,9 @@
 use Rattle.std.proofs.Common.{◌∙◌, ap, sym, Some}
 use Rattle.std.specs.BTreeMap.{get_by_text}
-use Rattle.ha_model.specs.StateStep.{next_object}
+use Rattle.ha_sight.specs.StateStep.{next_object}
 use Rattle.state_table.specs.Domain.{change_of}
-use Rattle.state_table.specs.Table.{at}
 use Rattle.state_table.proofs.DomainLemmas.{ok-then, err-then}
-use Rattle.state_table.proofs.TableLemmas.{automation-changes, automation-here, automations-agree, ok-along, other-changes, other-here, others-agree, stands-report}
+use Rattle.state_table.proofs.TableLemmas.{automation-changes, automation-here, automations-agree, ok-along, other-changes, other-here, others-agree}
 use Rattle.state_table.proofs.table.StateTable.report.Goals as goal
 
 pub returns-in-Some-clause-change : goal.returns-in-Some-clause-change
@@ -21,10 +20,6 @@ returns-in-Some-clause-ok c =
     (automation-changes (get_by_text t.automations) (get_by_text t.others) c.args.entity.now (get_by_text c.report_in.new.states) _ _ _
     (ap (λ o. Some (next_object o c.args.text.now c.args.attributes.now c.args.now)) before) c.in-Some.ensures.0 c.in-Some.ensures.1)
     c.report_in.ensures.ok
-
-pub returns-in-Some-clause-stands : goal.returns-in-Some-clause-stands
-returns-in-Some-clause-stands c =
-    ok-then c.report_in.result (stands-report (at c.args.self.now) _ c.args.entity.now c.args.text.now c.args.attributes.now c.args.now) (returns-in-Some-clause-ok c)
 
 pub returns-in-Some-clause-err : goal.returns-in-Some-clause-err
 returns-in-Some-clause-err c =
@@ -46,10 +41,6 @@ returns-in-None-clause-ok c =
     (other-changes (get_by_text t.automations) (get_by_text t.others) c.args.entity.now (get_by_text c.report_in-in-None.new.states) _ _ _
     (ap (λ o. Some (next_object o c.args.text.now c.args.attributes.now c.args.now)) before) c.in-None.ensures c.text.ensures.domain written)
     c.report_in-in-None.ensures.ok
-
-pub returns-in-None-clause-stands : goal.returns-in-None-clause-stands
-returns-in-None-clause-stands c =
-    ok-then c.report_in-in-None.result (stands-report (at c.args.self.now) _ c.args.entity.now c.args.text.now c.args.attributes.now c.args.now) (returns-in-None-clause-ok c)
 
 pub returns-in-None-clause-err : goal.returns-in-None-clause-err
 returns-in-None-clause-err c =

@@ -1,9 +1,8 @@
 use Rattle.std.proofs.Common.{ap, Some}
 use Rattle.std.specs.BTreeMap.{get_by_text}
 use Rattle.state_table.specs.Anew.{switch_object}
-use Rattle.state_table.specs.Table.{at}
 use Rattle.state_table.proofs.DomainLemmas.{ok-then, err-then}
-use Rattle.state_table.proofs.TableLemmas.{automation-changes, automations-agree, other-changes, others-agree, stands-switch}
+use Rattle.state_table.proofs.TableLemmas.{automation-changes, automations-agree, other-changes, others-agree}
 use Rattle.state_table.proofs.table.StateTable.set_switch.Goals as goal
 
 pub returns-in-Some-clause-ok : goal.returns-in-Some-clause-ok
@@ -13,10 +12,6 @@ returns-in-Some-clause-ok c =
     (automation-changes (get_by_text t.automations) (get_by_text t.others) c.args.entity.now (get_by_text c.put_in.new.states) _ _ (Some (switch_object c.args.on c.args.now))
     (ap (λ o. Some o) c.in_ok-object.ensures) c.in-Some.ensures.0 c.in-Some.ensures.1)
     c.put_in.ensures.ok
-
-pub returns-in-Some-clause-stands : goal.returns-in-Some-clause-stands
-returns-in-Some-clause-stands c =
-    ok-then c.put_in.result (stands-switch (at c.args.self.now) _ c.args.entity.now (switch_object c.args.on c.args.now)) (returns-in-Some-clause-ok c)
 
 pub returns-in-Some-clause-err : goal.returns-in-Some-clause-err
 returns-in-Some-clause-err c =
@@ -30,10 +25,6 @@ returns-in-None-clause-ok c =
     (other-changes (get_by_text t.automations) (get_by_text t.others) c.args.entity.now (get_by_text c.put_in-in-None.new.states) _ _ (Some (switch_object c.args.on c.args.now))
     (ap (λ o. Some o) c.in_ok-object.ensures) c.in-None.ensures c.text.ensures.domain c.text.ensures.value)
     c.put_in-in-None.ensures.ok
-
-pub returns-in-None-clause-stands : goal.returns-in-None-clause-stands
-returns-in-None-clause-stands c =
-    ok-then c.put_in-in-None.result (stands-switch (at c.args.self.now) _ c.args.entity.now (switch_object c.args.on c.args.now)) (returns-in-None-clause-ok c)
 
 pub returns-in-None-clause-err : goal.returns-in-None-clause-err
 returns-in-None-clause-err c =

@@ -1,6 +1,6 @@
 use Rattle.std.proofs.Common.{◌∙◌, ap}
 use Rattle.std.specs.Prelude.{slice_get, option_map, unwrap_or}
-use Rattle.ha_model.specs.Switches.{initial_of}
+use Rattle.ha_config.specs.Names.{initial_of}
 use Rattle.switch_book.specs.Book.{flags}
 use Rattle.switch_book.proofs.StandLemmas.{restarted-stands}
 use Rattle.switch_book.proofs.book.Switches.restart.Goals as goal

@@ -1,7 +1,7 @@
 use Rattle.std.proofs.Common.{ap, ◌∙◌, sym}
 use Rattle.std.specs.Prelude.{Option, unwrap_or}
 use Rattle.ha_value.specs.declared.value.Value.{Value}
-use Rattle.ha_model.proofs.NameLemmas.{last-first, last-second}
+use Rattle.ha_config.proofs.NameLemmas.{last-first, last-second}
 use Rattle.tpl_eval.proofs.scope.Scope.named.Goals as goal
 
 -- it was set

@@ -1,7 +1,7 @@
 use Rattle.std.proofs.Common.{◌∙◌, ap, sym}
 use Rattle.std.specs.Prelude.{None}
 use Rattle.std.specs.BTreeMap.{get_by_text}
-use Rattle.ha_model.proofs.IdLemmas.{here}
+use Rattle.ha_config.proofs.IdLemmas.{here}
 use Rattle.trig_set.proofs.numbers.Numbers.of_entity.Goals as goal
 
 pub returns : goal.returns

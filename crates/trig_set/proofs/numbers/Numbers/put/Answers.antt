@@ -1,8 +1,8 @@
 use Rattle.std.proofs.Common.{◌∙◌, ap, refl, sym}
 use Rattle.std.specs.Prelude.{None, if◌then◌else◌}
 use Rattle.ha_past.specs.Looks.{or_else}
-use Rattle.ha_model.specs.Words.{same, same_entity}
-use Rattle.ha_model.proofs.IdLemmas.{turns}
+use Rattle.ha_config.specs.Words.{same, same_entity}
+use Rattle.ha_config.proofs.IdLemmas.{turns}
 use Rattle.trig_set.specs.Table.{number_given, numbers_in}
 use Rattle.trig_set.proofs.OnLemmas.{on-then}
 use Rattle.trig_set.proofs.TableLemmas.{number-here}

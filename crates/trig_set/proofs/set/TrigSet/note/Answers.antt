@@ -1,9 +1,8 @@
 use Rattle.std.proofs.Common.{◌≡◌, ◌∙◌, ◌++◌, ap, sym, subst, None}
 use Rattle.std.specs.Prelude.{MatchOption, map, nat_lt, slice_get, if◌then◌else◌}
-use Rattle.ha_model.specs.Switches.{opens_segment}
-use Rattle.ha_model.specs.Triggers.{report_number}
-use Rattle.ha_model.specs.Journal.{zone_of}
-use Rattle.ha_model.specs.RecordSteps.{more}
+use Rattle.ha_journal.specs.Entries.{opens_segment}
+use Rattle.ha_journal.specs.Moves.{report_number}
+use Rattle.ha_journal.specs.Journal.{zone_of, more}
 use Rattle.ha_past.specs.Looks.{or_else}
 use Rattle.trig_set.specs.Scenes.{AreShifts}
 use Rattle.ha_past.specs.Firings.{firings}
@@ -12,7 +11,7 @@ use Rattle.trig_set.specs.Queued.{HasDue}
 use Rattle.trig_set.specs.Table.{number_at}
 use Rattle.trig_set.specs.Order.{owner_of}
 use Rattle.trig_set.specs.Stands.{AllOwners, OwnerStands, attached}
-use Rattle.ha_model.proofs.HeldLaws.{latest-more}
+use Rattle.ha_journal.proofs.HeldLaws.{latest-more}
 use Rattle.trig_set.proofs.SetLemmas.{zone-next, any-at, each-owner, now-seen}
 use Rattle.trig_set.proofs.set.TrigSet.note.Goals as goal
 

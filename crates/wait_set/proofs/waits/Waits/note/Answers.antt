@@ -1,5 +1,5 @@
 use Rattle.std.proofs.Common.{sym, subst}
-use Rattle.ha_model.specs.RecordSteps.{more}
+use Rattle.ha_journal.specs.Journal.{more}
 use Rattle.wait_set.specs.Stands.{StandsFor}
 use Rattle.std.proofs.Common.{◌∙◌, ap, ◌||◌, ◌++◌, nat_eq, is_some}
 use Rattle.std.specs.List.{list_any}

@@ -1,0 +1,5 @@
+pub mod EqualLemmas
+pub mod IdLemmas
+pub mod ListLemmas
+pub mod NameLemmas
+pub mod ValueRolls

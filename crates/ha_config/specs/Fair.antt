@@ -1,0 +1,78 @@
+-- Which commands a source may give, where some names are those of automations, and what stands for each.
+use Rattle.std.specs.Prelude.{ℕ, ◌≢◌, ◌≤◌, IsTrue, Bool, true, codes, if◌then◌else◌, false}
+use Rattle.std.specs.Str.{is_utf8}
+use Rattle.ha_value.specs.declared.value.EntityId.{EntityId}
+use Rattle.ha_value.specs.Ids.{is_entity, is_name}
+use Rattle.ha_clock.specs.Local.{last_moment}
+use Rattle.ha_config.specs.declared.command.Cmd.{Cmd}
+use Rattle.ha_config.specs.Words.{Text, characters}
+use Rattle.ha_config.specs.ValueFacts.{AreFairPairs}
+
+-- an entity that a line may report: in the form of an id, and no automation
+abbrev pub IsReportable : EntityId → Type 0
+IsReportable e = IsTrue (is_entity e) × (e.domain ≢ codes "automation")
+
+-- the name of an automation among these, in the form of an object id
+abbrev pub IsNamedAmong : (Text → Bool) → Text → Type 0
+IsNamedAmong has name = IsTrue (is_name name) × IsTrue (has name)
+
+-- a command that a source may give; the codes of refused lines are 1 to 10
+abbrev pub IsFairAmong : (Text → Bool) → Cmd → Type 0
+IsFairAmong has (Cmd.Report entity text attributes) =
+    IsReportable entity × IsTrue (is_utf8 text) × (characters text ≤ 255) × AreFairPairs attributes
+IsFairAmong has (Cmd.Gone entity) = IsReportable entity
+IsFairAmong has (Cmd.Event kind pairs) = IsTrue (is_utf8 kind) × AreFairPairs pairs
+IsFairAmong has (Cmd.Moment at) = at ≤ last_moment
+IsFairAmong has (Cmd.Switch name on stop) = IsNamedAmong has name
+IsFairAmong has (Cmd.Trigger name skip) = IsNamedAmong has name
+IsFairAmong has Cmd.Restart = Unit {0}
+IsFairAmong has (Cmd.Refused code) = (1 ≤ code) × (code ≤ 10)
+IsFairAmong has Cmd.Lost = Unit {0}
+IsFairAmong has Cmd.TooLong = Unit {0}
+
+-- ---- what stands for a command that was read
+
+-- a line that names no automation
+abbrev pub no_automation : ℕ
+no_automation = 9
+
+-- what stands for a command among these names: a refusal where it names no automation, else the command
+abbrev pub put_among : (Text → Bool) → Cmd → Cmd
+put_among has (Cmd.Report entity text attributes) = Cmd.Report entity text attributes
+put_among has (Cmd.Gone entity) = Cmd.Gone entity
+put_among has (Cmd.Event kind pairs) = Cmd.Event kind pairs
+put_among has (Cmd.Moment at) = Cmd.Moment at
+put_among has (Cmd.Switch name on stop) = if has name then Cmd.Switch name on stop else Cmd.Refused no_automation
+put_among has (Cmd.Trigger name skip) = if has name then Cmd.Trigger name skip else Cmd.Refused no_automation
+put_among has Cmd.Restart = Cmd.Restart
+put_among has (Cmd.Refused code) = Cmd.Refused code
+put_among has Cmd.Lost = Cmd.Lost
+put_among has Cmd.TooLong = Cmd.TooLong
+
+-- after this line its source has no other
+abbrev pub shuts_source : Cmd → Bool
+shuts_source Cmd.Lost = true
+shuts_source Cmd.TooLong = true
+shuts_source (Cmd.Report entity text attributes) = false
+shuts_source (Cmd.Gone entity) = false
+shuts_source (Cmd.Event kind pairs) = false
+shuts_source (Cmd.Moment at) = false
+shuts_source (Cmd.Switch name on stop) = false
+shuts_source (Cmd.Trigger name skip) = false
+shuts_source Cmd.Restart = false
+shuts_source (Cmd.Refused code) = false
+
+-- ---- the classes of entries that laws speak of
+
+-- a line that changes no switch and is no Restart
+abbrev pub IsPlain : Cmd → Type 0
+IsPlain (Cmd.Switch name on stop) = ⊥
+IsPlain Cmd.Restart = ⊥
+IsPlain (Cmd.Report entity text attributes) = Unit {0}
+IsPlain (Cmd.Gone entity) = Unit {0}
+IsPlain (Cmd.Event kind pairs) = Unit {0}
+IsPlain (Cmd.Moment at) = Unit {0}
+IsPlain (Cmd.Trigger name skip) = Unit {0}
+IsPlain (Cmd.Refused code) = Unit {0}
+IsPlain Cmd.Lost = Unit {0}
+IsPlain Cmd.TooLong = Unit {0}

@@ -1,0 +1,11 @@
+pub mod CheckText
+pub mod CommandText
+pub mod Equal
+pub mod Fair
+pub mod Names
+pub mod Numbers
+pub mod Sound
+pub mod StoreText
+pub mod ValueFacts
+pub mod ValueText
+pub mod Words

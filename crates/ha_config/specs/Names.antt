@@ -1,0 +1,25 @@
+-- The automations of a list by their places, and by their names.
+use Rattle.std.specs.Prelude.{ℕ, List, [], ◌∷◌, Option, slice_get, Bool, Some, None, find, option_map, if◌then◌else◌}
+use Rattle.std.specs.Option.{option_map_or}
+use Rattle.ha_config.specs.declared.config.Automation.{Automation}
+use Rattle.ha_config.specs.Words.{Text, same}
+use Rattle.std.specs.List.{enumerate_from}
+
+-- the automation of a number, by its place in the list
+abbrev pub unit_of : List Automation → ℕ → Option Automation
+unit_of all n = slice_get all n
+
+abbrev pub automation_named : List Automation → Text → Option ℕ
+automation_named all name = option_map (λ p. p.0) (find (λ p. same p.1.name name) (enumerate_from 0 all))
+
+-- the name of automation a, and its initial state, if it has one
+abbrev pub name_of : List Automation → ℕ → Text
+name_of all a = option_map_or (λ x. x.name) (unit_of all a) []
+
+abbrev pub initial_of : List Automation → ℕ → Option Bool
+initial_of all a = option_map_or (λ x. x.initial) (unit_of all a) None
+
+-- the stored switch of a name
+abbrev pub stored_switch : Text → List (Text × Bool) → Option Bool
+stored_switch name [] = None
+stored_switch name (p ∷ ps) = if same p.0 name then Some p.1 else stored_switch name ps

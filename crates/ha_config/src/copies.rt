@@ -1,0 +1,9 @@
+//! Copies of all types, and whether two values are the same.
+mod actions;
+mod command;
+mod conditions;
+mod config;
+mod forms;
+mod template;
+pub mod times;
+mod triggers;

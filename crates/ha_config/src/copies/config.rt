@@ -1,0 +1,51 @@
+//! Copies and comparisons of configurations.
+
+use crate::config::{Automation, Config, Mode};
+use ha_value::Plain;
+use std::alloc::{AllocError, Global};
+
+impl Plain for Mode {
+    fn copy(&self, _alloc: Global) -> Result<Mode, AllocError> {
+        Ok(*self)
+    }
+
+    fn same(&self, other: &Mode) -> bool {
+        *self == *other
+    }
+}
+
+impl Plain for Automation {
+    fn copy(&self, alloc: Global) -> Result<Automation, AllocError> {
+        Ok(Automation {
+            name: self.name.copy(alloc)?,
+            triggers: self.triggers.copy(alloc)?,
+            tests: self.tests.copy(alloc)?,
+            actions: self.actions.copy(alloc)?,
+            mode: self.mode,
+            max: self.max,
+            initial: self.initial,
+        })
+    }
+
+    fn same(&self, other: &Automation) -> bool {
+        self.name.same(&other.name)
+            && self.triggers.same(&other.triggers)
+            && self.tests.same(&other.tests)
+            && self.actions.same(&other.actions)
+            && self.mode.same(&other.mode)
+            && self.max == other.max
+            && self.initial.same(&other.initial)
+    }
+}
+
+impl Plain for Config {
+    fn copy(&self, alloc: Global) -> Result<Config, AllocError> {
+        Ok(Config {
+            automations: self.automations.copy(alloc)?,
+        })
+    }
+
+    fn same(&self, other: &Config) -> bool {
+        self.automations.same(&other.automations)
+    }
+}

@@ -1,0 +1,196 @@
+-- What an entry is, and what its command or item does. The other definitions ask here, so that one file knows all kinds of entries,
+-- commands and items; elsewhere a match on these types names every kind.
+use Rattle.std.specs.Prelude.{ℕ, Bool, true, false, ◌||◌, List, Option, Some, None, is_some}
+use Rattle.ha_value.specs.declared.value.EntityId.{EntityId}
+use Rattle.ha_config.specs.declared.config.Config.{Config}
+use Rattle.ha_config.specs.declared.command.Cmd.{Cmd}
+use Rattle.ha_sight.specs.declared.item.Item.{Item}
+use Rattle.ha_journal.specs.declared.entry.Entry.{Entry}
+use Rattle.ha_journal.specs.declared.entry.Entry.TheVariants.{Boot, Line, Step}
+use Rattle.ha_config.specs.Words.{Text, Pairs}
+
+-- ---- the three kinds of entries
+
+pub record Opening : Type 0 where
+  pub text : Text
+  pub config : Config
+  pub stored : Option (List (Text × Bool))
+  pub start : ℕ
+  pub zone : Text
+
+pub record Spoken : Type 0 where
+  pub source : ℕ
+  pub number : ℕ
+  pub cmd : Cmd
+
+pub record Stepped : Type 0 where
+  pub worker : ℕ
+  pub serial : ℕ
+  pub branch : List ℕ
+  pub item : Item
+
+abbrev pub boot_of : Entry → Option Opening
+boot_of (Boot text config stored start zone) = Some (record { text = text; config = config; stored = stored; start = start; zone = zone })
+boot_of (Line source number cmd) = None
+boot_of (Step worker serial branch item) = None
+
+abbrev pub line_of : Entry → Option Spoken
+line_of (Boot text config stored start zone) = None
+line_of (Line source number cmd) = Some (record { source = source; number = number; cmd = cmd })
+line_of (Step worker serial branch item) = None
+
+abbrev pub step_of : Entry → Option Stepped
+step_of (Boot text config stored start zone) = None
+step_of (Line source number cmd) = None
+step_of (Step worker serial branch item) = Some (record { worker = worker; serial = serial; branch = branch; item = item })
+
+abbrev pub IsBoot : Entry → Type 0
+IsBoot (Boot text config stored start zone) = Unit {0}
+IsBoot (Line source number cmd) = ⊥
+IsBoot (Step worker serial branch item) = ⊥
+
+-- ---- reports, events, moments
+
+pub record Reported : Type 0 where
+  pub entity : EntityId
+  pub text : Text
+  pub attributes : Pairs
+
+abbrev pub report_in : Entry → Option Reported
+report_in (Line source number (Cmd.Report entity text attributes)) = Some (record { entity = entity; text = text; attributes = attributes })
+report_in (Line source number (Cmd.Gone entity)) = None
+report_in (Line source number (Cmd.Event kind pairs)) = None
+report_in (Line source number (Cmd.Moment at)) = None
+report_in (Line source number (Cmd.Switch name on stop)) = None
+report_in (Line source number (Cmd.Trigger name skip)) = None
+report_in (Line source number Cmd.Restart) = None
+report_in (Line source number (Cmd.Refused code)) = None
+report_in (Line source number Cmd.Lost) = None
+report_in (Line source number Cmd.TooLong) = None
+report_in (Boot text config stored start zone) = None
+report_in (Step worker serial branch item) = None
+
+abbrev pub gone_in : Entry → Option EntityId
+gone_in (Line source number (Cmd.Gone entity)) = Some entity
+gone_in (Line source number (Cmd.Report entity text attributes)) = None
+gone_in (Line source number (Cmd.Event kind pairs)) = None
+gone_in (Line source number (Cmd.Moment at)) = None
+gone_in (Line source number (Cmd.Switch name on stop)) = None
+gone_in (Line source number (Cmd.Trigger name skip)) = None
+gone_in (Line source number Cmd.Restart) = None
+gone_in (Line source number (Cmd.Refused code)) = None
+gone_in (Line source number Cmd.Lost) = None
+gone_in (Line source number Cmd.TooLong) = None
+gone_in (Boot text config stored start zone) = None
+gone_in (Step worker serial branch item) = None
+
+-- the moment that a line brings
+abbrev pub moment_in : Entry → Option ℕ
+moment_in (Line source number (Cmd.Moment at)) = Some at
+moment_in (Line source number (Cmd.Report entity text attributes)) = None
+moment_in (Line source number (Cmd.Gone entity)) = None
+moment_in (Line source number (Cmd.Event kind pairs)) = None
+moment_in (Line source number (Cmd.Switch name on stop)) = None
+moment_in (Line source number (Cmd.Trigger name skip)) = None
+moment_in (Line source number Cmd.Restart) = None
+moment_in (Line source number (Cmd.Refused code)) = None
+moment_in (Line source number Cmd.Lost) = None
+moment_in (Line source number Cmd.TooLong) = None
+moment_in (Boot text config stored start zone) = None
+moment_in (Step worker serial branch item) = None
+
+abbrev pub is_moment : Entry → Bool
+is_moment x = is_some (moment_in x)
+
+-- the event that an entry is: its type and its data
+abbrev pub event_in : Entry → Option (Text × Pairs)
+event_in (Line source number (Cmd.Event kind pairs)) = Some (kind, pairs)
+event_in (Step worker serial branch (Item.Fired kind pairs)) = Some (kind, pairs)
+event_in (Line source number (Cmd.Report entity text attributes)) = None
+event_in (Line source number (Cmd.Gone entity)) = None
+event_in (Line source number (Cmd.Moment at)) = None
+event_in (Line source number (Cmd.Switch name on stop)) = None
+event_in (Line source number (Cmd.Trigger name skip)) = None
+event_in (Line source number Cmd.Restart) = None
+event_in (Line source number (Cmd.Refused code)) = None
+event_in (Line source number Cmd.Lost) = None
+event_in (Line source number Cmd.TooLong) = None
+event_in (Step worker serial branch Item.Nothing) = None
+event_in (Step worker serial branch (Item.Call service target fields)) = None
+event_in (Step worker serial branch (Item.Switched targets)) = None
+event_in (Step worker serial branch (Item.Triggered automations skip)) = None
+event_in (Step worker serial branch (Item.Failed code)) = None
+event_in (Boot text config stored start zone) = None
+
+-- ---- boots, restarts and switches
+
+abbrev pub is_restart : Entry → Bool
+is_restart (Line source number Cmd.Restart) = true
+is_restart (Line source number (Cmd.Report entity text attributes)) = false
+is_restart (Line source number (Cmd.Gone entity)) = false
+is_restart (Line source number (Cmd.Event kind pairs)) = false
+is_restart (Line source number (Cmd.Moment at)) = false
+is_restart (Line source number (Cmd.Switch name on stop)) = false
+is_restart (Line source number (Cmd.Trigger name skip)) = false
+is_restart (Line source number (Cmd.Refused code)) = false
+is_restart (Line source number Cmd.Lost) = false
+is_restart (Line source number Cmd.TooLong) = false
+is_restart (Boot text config stored start zone) = false
+is_restart (Step worker serial branch item) = false
+
+-- a Boot or a Restart
+abbrev pub opens_segment : Entry → Bool
+opens_segment x = is_some (boot_of x) || is_restart x
+
+-- what an entry does to switches: a Boot and a Restart set all, a Switch command that of a name, a Switched item those of its targets
+pub data Turning : Type 0 where
+  Opens : Option (List (Text × Bool)) → Turning
+  Restarts : Turning
+  Turns : Text → Bool → Bool → Turning
+  TurnsEach : List (ℕ × Bool × Bool) → Turning
+  Leaves : Turning
+
+abbrev pub turning : Entry → Turning
+turning (Boot text config stored start zone) = Turning.Opens stored
+turning (Line source number Cmd.Restart) = Turning.Restarts
+turning (Line source number (Cmd.Switch name on stop)) = Turning.Turns name on stop
+turning (Step worker serial branch (Item.Switched targets)) = Turning.TurnsEach targets
+turning (Line source number (Cmd.Report entity text attributes)) = Turning.Leaves
+turning (Line source number (Cmd.Gone entity)) = Turning.Leaves
+turning (Line source number (Cmd.Event kind pairs)) = Turning.Leaves
+turning (Line source number (Cmd.Moment at)) = Turning.Leaves
+turning (Line source number (Cmd.Trigger name skip)) = Turning.Leaves
+turning (Line source number (Cmd.Refused code)) = Turning.Leaves
+turning (Line source number Cmd.Lost) = Turning.Leaves
+turning (Line source number Cmd.TooLong) = Turning.Leaves
+turning (Step worker serial branch Item.Nothing) = Turning.Leaves
+turning (Step worker serial branch (Item.Call service target fields)) = Turning.Leaves
+turning (Step worker serial branch (Item.Fired kind pairs)) = Turning.Leaves
+turning (Step worker serial branch (Item.Triggered automations skip)) = Turning.Leaves
+turning (Step worker serial branch (Item.Failed code)) = Turning.Leaves
+
+-- ---- attempts that an entry names itself, with whether their conditions are skipped
+
+pub data Asked : Type 0 where
+  ByName : Text → Bool → Asked
+  ByNumber : List ℕ → Bool → Asked
+  Nobody : Asked
+
+abbrev pub asked_in : Entry → Asked
+asked_in (Line source number (Cmd.Trigger name skip)) = Asked.ByName name skip
+asked_in (Step worker serial branch (Item.Triggered automations skip)) = Asked.ByNumber automations skip
+asked_in (Line source number (Cmd.Report entity text attributes)) = Asked.Nobody
+asked_in (Line source number (Cmd.Gone entity)) = Asked.Nobody
+asked_in (Line source number (Cmd.Event kind pairs)) = Asked.Nobody
+asked_in (Line source number (Cmd.Moment at)) = Asked.Nobody
+asked_in (Line source number (Cmd.Switch name on stop)) = Asked.Nobody
+asked_in (Line source number Cmd.Restart) = Asked.Nobody
+asked_in (Line source number (Cmd.Refused code)) = Asked.Nobody
+asked_in (Line source number Cmd.Lost) = Asked.Nobody
+asked_in (Line source number Cmd.TooLong) = Asked.Nobody
+asked_in (Step worker serial branch Item.Nothing) = Asked.Nobody
+asked_in (Step worker serial branch (Item.Call service target fields)) = Asked.Nobody
+asked_in (Step worker serial branch (Item.Fired kind pairs)) = Asked.Nobody
+asked_in (Step worker serial branch (Item.Switched targets)) = Asked.Nobody
+asked_in (Step worker serial branch (Item.Failed code)) = Asked.Nobody
+asked_in (Boot text config stored start zone) = Asked.Nobody

@@ -1,0 +1,13 @@
+pub mod Attempts
+pub mod Commands
+pub mod Entries
+pub mod EntryText
+pub mod Holds
+pub mod Journal
+pub mod Moves
+pub mod Sights
+pub mod States
+pub mod Switches
+pub mod Triggers
+pub mod Variables
+pub mod Waits

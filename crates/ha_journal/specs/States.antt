@@ -1,0 +1,71 @@
+-- States: what is known of each entity after a journal.
+use Rattle.std.specs.Prelude.{ℕ, suc, Bool, true, not, ◌&&◌, List, [], Option, Some, None, take, map, filter_map, option_map, option_and_then, codes, if◌then◌else◌}
+use Rattle.std.specs.List.{enumerate_from}
+use Rattle.std.specs.Option.{option_map_or}
+use Rattle.ha_value.specs.declared.value.EntityId.{EntityId}
+use Rattle.ha_journal.specs.declared.entry.Entry.{Entry}
+use Rattle.ha_journal.specs.Entries.{report_in, gone_in, is_restart}
+use Rattle.ha_sight.specs.declared.state.StateObject.{StateObject}
+use Rattle.ha_config.specs.Words.{Text, Pairs, same, same_entity, longest_end, last_of, first_of_list}
+use Rattle.ha_journal.specs.Journal.{Journal, automations, now, stamped}
+use Rattle.ha_journal.specs.Switches.{is_on, switched_at}
+use Rattle.ha_config.specs.Equal.{same_pairs}
+use Rattle.ha_config.specs.Names.{automation_named}
+
+-- a Report of an entity, with Now after it
+pub record Seen : Type 0 where
+  pub text : Text
+  pub attributes : Pairs
+  pub at : ℕ
+
+-- the Report of e that an entry is, if it is one
+abbrev pub report_of : EntityId → ℕ × Entry → Option Seen
+report_of e s = option_and_then
+    (λ r. if same_entity r.entity e then Some (record { text = r.text; attributes = r.attributes; at = s.0 }) else None)
+    (report_in s.1)
+
+-- the entry is no Gone of e and no Restart
+abbrev pub keeps : EntityId → ℕ × Entry → Bool
+keeps e s = not (is_restart s.1) && option_map_or (λ g. not (same_entity g e)) (gone_in s.1) true
+
+-- the Reports of e after the last Gone of e and the last Restart
+abbrev pub reports : Journal → EntityId → List Seen
+reports j e = filter_map (report_of e) (longest_end (keeps e) (stamped j))
+
+-- Now after the first of the longest unbroken row at the end whose members agree with the last
+abbrev pub row_began : (Seen → Bool) → List Seen → ℕ
+row_began agrees seen = option_map_or (λ s. s.at) (first_of_list (longest_end agrees seen)) 0
+
+-- what a row of Reports stands for
+abbrev pub object_of : List Seen → Option StateObject
+object_of seen = option_map object (last_of seen)
+  where
+    object : Seen → StateObject
+    object last = record {
+      text = last.text;
+      attributes = last.attributes;
+      changed = row_began (λ s. same s.text last.text) seen;
+      updated = row_began (λ s. same s.text last.text && same_pairs s.attributes last.attributes) seen;
+    }
+
+-- the states of reported entities
+abbrev pub reported : Journal → EntityId → Option StateObject
+reported j e = object_of (reports j e)
+
+-- the state of an automation
+abbrev pub of_automation : Journal → ℕ → StateObject
+of_automation j a = record {
+  text = if is_on j a then codes "on" else codes "off";
+  attributes = [];
+  changed = now (take (suc (switched_at j a)) j);
+  updated = now (take (suc (switched_at j a)) j);
+}
+
+-- S: the states after a journal
+abbrev pub states : Journal → EntityId → Option StateObject
+states j e =
+    if same e.domain (codes "automation") then option_map (of_automation j) (automation_named (automations j) e.object)
+    else reported j e
+
+abbrev pub switches_of : Journal → List (Text × Bool)
+switches_of j = map (λ p. (p.1.name, is_on j p.0)) (enumerate_from 0 (automations j))

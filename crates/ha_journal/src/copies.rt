@@ -1,0 +1,2 @@
+//! Copies of all types, and whether two values are the same.
+mod entry;

@@ -1,0 +1,32 @@
+//! Entries of the journal.
+
+use ha_clock::Moment;
+use ha_config::{Cmd, Config};
+use ha_sight::{Branch, Item};
+use ha_value::{Many, Word};
+
+/// One entry of the journal.
+#[derive(Drop)]
+pub enum Entry {
+    /// The first entry, and no other: the configuration with its text, the stored switches, the start and the zone's text.
+    Boot {
+        text: Word,
+        config: Config,
+        stored: Option<Many<(Word, bool)>>,
+        start: Moment,
+        zone: Word,
+    },
+    /// A line of a source, numbered from 0.
+    Line {
+        source: u32,
+        number: u64,
+        cmd: Cmd,
+    },
+    /// A step of the run with this serial, in one branch of its script, made by this worker.
+    Step {
+        worker: u32,
+        serial: u64,
+        branch: Branch,
+        item: Item,
+    },
+}

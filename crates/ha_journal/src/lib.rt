@@ -1,0 +1,9 @@
+//! The journal: its entries, and the switches, states, triggers, waits and attempts that they give.
+#![tactic(auto)]
+
+mod copies;
+mod entry;
+mod firing;
+
+pub use entry::Entry;
+pub use firing::Firing;

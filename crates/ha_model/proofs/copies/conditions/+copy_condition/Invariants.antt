@@ -1,5 +1,0 @@
-use Rattle.std.proofs.Common.{◌≡◌, take}
-use Rattle.ha_model.proofs.copies.conditions.+copy_condition.Given as goal
-
-abbrev pub invariant-copy_conditions-loop-i : goal.invariant-copy_conditions-loop-i
-invariant-copy_conditions-loop-i l = l.all ≡ take l.i l.conditions

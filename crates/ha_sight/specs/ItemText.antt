@@ -1,0 +1,33 @@
+-- Items as they are printed in a trace, with all keys in their order.
+use Rattle.std.specs.Prelude.{ℕ, Bool, true, List, [], ◌∷◌, ◌++◌, map, decimal, codes}
+use Rattle.ha_value.specs.declared.value.EntityId.{EntityId}
+use Rattle.ha_config.specs.declared.config.Automation.{Automation}
+use Rattle.ha_sight.specs.declared.item.Item.{Item}
+use Rattle.ha_config.specs.Words.{Text, Pairs}
+use Rattle.ha_config.specs.ValueText.{quoted, list_text, map_text, flag_text, print_pairs}
+use Rattle.ha_config.specs.Names.{name_of}
+use Rattle.ha_config.specs.CommandText.{id_text, one_key}
+
+abbrev pub failure_code : ℕ → Text
+failure_code code = codes "F" ++ decimal code
+
+-- the service, targets and data of a call
+abbrev pub call_pairs : Text → List EntityId → Pairs → List (Text × Text)
+call_pairs service target fields =
+    (codes "service", quoted service) ∷ (codes "target", list_text (map id_text target)) ∷ (codes "data", print_pairs fields) ∷ []
+
+-- one automation that was switched, by its name
+abbrev pub switched_text : List Automation → ℕ × Bool × Bool → Text
+switched_text all s =
+    map_text ((codes "automation", quoted (name_of all s.0)) ∷ (codes "on", flag_text s.1) ∷ (codes "stop", flag_text s.2) ∷ [])
+
+abbrev pub item_text : List Automation → Item → Text
+item_text all Item.Nothing = one_key (codes "nothing") (flag_text true)
+item_text all (Item.Call service target fields) = one_key (codes "call") (map_text (call_pairs service target fields))
+item_text all (Item.Fired kind pairs) =
+    one_key (codes "fired") (map_text ((codes "event", quoted kind) ∷ (codes "data", print_pairs pairs) ∷ []))
+item_text all (Item.Switched targets) = one_key (codes "switched") (list_text (map (switched_text all) targets))
+item_text all (Item.Triggered automations skip) =
+    one_key (codes "triggered") (map_text ((codes "automations", list_text (map (λ a. quoted (name_of all a)) automations))
+    ∷ (codes "skip_condition", flag_text skip) ∷ []))
+item_text all (Item.Failed code) = one_key (codes "failed") (quoted (failure_code code))

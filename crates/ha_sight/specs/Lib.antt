@@ -1,0 +1,17 @@
+pub mod Branches
+pub mod Calls
+pub mod Conditions
+pub mod FilterNumbers
+pub mod Filters
+pub mod FunctionNumbers
+pub mod ItemText
+pub mod Items
+pub mod Parts
+pub mod Rules
+pub mod Scripts
+pub mod Seen
+pub mod Sight
+pub mod StateStep
+pub mod Templates
+pub mod TriggerValues
+pub mod Values

@@ -1,0 +1,3 @@
+pub mod StateLaws
+pub mod StandLemmas
+pub mod SeenLemmas

@@ -1,0 +1,42 @@
+-- Which journals a table of states stands for, and whose parts a view's are.
+use Rattle.std.specs.Prelude.{◌≡◌, Bool, false, ℕ, not, ◌&&◌, ◌||◌, map, true}
+use Rattle.ha_value.specs.declared.value.EntityId.{EntityId}
+use Rattle.ha_config.specs.Words.{Text}
+use Rattle.ha_journal.specs.Journal.{Journal, automations, more, now, zone_of}
+use Rattle.ha_journal.specs.States.{states}
+use Rattle.state_table.specs.Anew.{is_automation}
+use Rattle.state_table.specs.declared.table.StateTable.{StateTable}
+use Rattle.std.specs.Option.{option_map_or}
+use Rattle.ha_journal.specs.declared.entry.Entry.{Entry}
+use Rattle.ha_config.specs.Equal.{same_flag}
+use Rattle.ha_journal.specs.Entries.{opens_segment}
+use Rattle.ha_journal.specs.Switches.{is_on}
+use Rattle.ha_config.specs.Names.{automation_named}
+use Rattle.ha_config.specs.declared.config.Automation.{Automation}
+use Rattle.ha_config.specs.declared.config.Config.{Config}
+use Rattle.ha_config.specs.ValueFacts.{all_distinct}
+use Rattle.state_table.specs.Table.{at}
+
+-- the entry is a Boot or a Restart, or it changes the switch of automation a
+abbrev pub turns : Journal → Entry → ℕ → Bool
+turns j x a = opens_segment x || not (same_flag (is_on j a) (is_on (more j x) a))
+
+-- the id names an automation whose state the entry sets anew
+abbrev pub sets_anew : Journal → Entry → EntityId → Bool
+sets_anew j x e = is_automation e && option_map_or (turns j x) (automation_named (automations (more j x)) e.object) false
+
+-- the table stands for a journal: it has the states after it
+abbrev pub StandsFor : StateTable → Journal → Type 0
+StandsFor t j = (e : EntityId) → at t e ≡ states j e
+
+-- it stands for the journal but for the entities that are left
+abbrev pub StandsBut : (EntityId → Bool) → StateTable → Journal → Type 0
+StandsBut left t j = (e : EntityId) → left e ≡ false → at t e ≡ states j e
+
+-- the parts of a view are those of a journal, whose automations have names of their own
+pub record IsViewOf (states : StateTable) (config : Config) (zone : Text) (moment : ℕ) (j : Journal) : Type 0 where
+  pub states_are : StandsFor states j
+  pub config_is : config.automations ≡ automations j
+  pub names_differ : all_distinct (map (λ (a : Automation). a.name) (automations j)) ≡ true
+  pub zone_is : zone ≡ zone_of j
+  pub now_is : moment ≡ now j

@@ -1,0 +1,56 @@
+//! Laws of the definitions alone. Each is a function that does nothing; its contract is the law.
+ghost use Rattle.std.specs.Prelude.{◌≡◌, Bool, true, false, ℕ, None, Some, MatchOption, if◌then◌else◌};
+ghost use Rattle.ha_value.specs.declared.value.EntityId.{EntityId};
+ghost use Rattle.ha_config.specs.declared.command.Cmd.{Cmd};
+ghost use Rattle.ha_journal.specs.declared.entry.Entry.{Entry};
+ghost use Rattle.ha_journal.specs.declared.entry.Entry.TheVariants.{Line};
+ghost use Rattle.ha_config.specs.Words.{Text, Pairs, same_entity};
+ghost use Rattle.ha_journal.specs.Entries.{report_in, gone_in, is_restart};
+ghost use Rattle.ha_journal.specs.Journal.{Journal, automations, now, more};
+ghost use Rattle.ha_journal.specs.Switches.{is_on};
+ghost use Rattle.ha_journal.specs.States.{states};
+ghost use Rattle.ha_config.specs.Names.{automation_named};
+ghost use Rattle.ha_sight.specs.StateStep.{next_object};
+ghost use Rattle.state_table.specs.Anew.{is_automation, switch_object};
+ghost use Rattle.state_laws.specs.Stands.{sets_anew};
+ghost use Rattle.state_table.specs.declared.table.StateTable.{StateTable};
+ghost use Rattle.state_laws.specs.Stands.{StandsBut, StandsFor};
+ghost use Rattle.std.specs.Prelude.{◌≡◌, length};
+ghost use Rattle.ha_journal.specs.Moves.{sight};
+ghost use Rattle.cond_eval.specs.declared.view.View.{View};
+ghost use Rattle.cond_eval.specs.Seen.{seen};
+ghost use Rattle.state_laws.specs.Stands.{IsViewOf};
+
+/// A table that stands for a journal stands, after an entry that is no Report, Gone or Restart,
+/// for the journal with that entry but for the automations that the entry sets anew; and where
+/// none is left, it stands for it.
+pub fn switches_are_left()
+    ensures left { (t : StateTable) (j : Journal) (x : Entry) → report_in x ≡ None → gone_in x ≡ None → is_restart x ≡ false
+        → StandsFor t j → StandsBut (sets_anew j x) t (more j x) }
+    ensures none { (t : StateTable) (j : Journal) (left : EntityId → Bool) → ((e : EntityId) → left e ≡ false) → StandsBut left t j → StandsFor t j }
+{}
+
+/// The state of an entity after one more entry: of an automation that the entry sets anew, the
+/// state of its switch since Now; of what a Report or Gone of a reported entity, or a Restart, does not
+/// touch, the state before.
+pub fn states_of_one_more()
+    ensures anew { (j : Journal) (x : Entry) (e : EntityId) → sets_anew j x e ≡ true
+        → MatchOption (automation_named (automations (more j x)) e.object) ⊥
+        (λ a. states (more j x) e ≡ Some (switch_object (is_on (more j x) a) (now (more j x)))) }
+    ensures report { (j : Journal) (e entity : EntityId) (k n : ℕ) (text : Text) (attributes : Pairs) → is_automation entity ≡ false
+        → states (more j (Line k n (Cmd.Report entity text attributes))) e
+        ≡ (if same_entity entity e
+        then Some (next_object (states j e) text attributes (now (more j (Line k n (Cmd.Report entity text attributes)))))
+        else states j e) }
+    ensures gone { (j : Journal) (e entity : EntityId) (k n : ℕ) → is_automation entity ≡ false
+        → states (more j (Line k n (Cmd.Gone entity))) e ≡ (if same_entity entity e then None else states j e) }
+    ensures restart { (j : Journal) (e : EntityId) (k n : ℕ) → sets_anew j (Line k n Cmd.Restart) e ≡ false
+        → states (more j (Line k n Cmd.Restart)) e ≡ None }
+    ensures other { (j : Journal) (e : EntityId) (x : Entry) → report_in x ≡ None → gone_in x ≡ None → is_restart x ≡ false
+        → sets_anew j x e ≡ false → states (more j x) e ≡ states j e }
+{}
+
+/// A view whose parts are those of a journal sees what the journal's next entry sees.
+pub fn views_see_the_journal()
+    ensures { (v : View) (j : Journal) → IsViewOf v.states.now v.config.now v.zone.now v.at j → seen v ≡ sight j (length j) }
+{}

@@ -1,9 +1,0 @@
-use Rattle.std.proofs.Common.{◌∙◌, sym}
-use Rattle.state_table.proofs.StateLaws.{states-other}
-use Rattle.state_table.proofs.laws.switches_are_left.Goals as goal
-
-pub returns-clause-left : goal.returns-clause-left
-returns-clause-left c t j x report gone restart stands e kept = stands e ∙ sym (states-other j e x report gone restart kept)
-
-pub returns-clause-none : goal.returns-clause-none
-returns-clause-none c t j left none stands e = stands e (none e)
