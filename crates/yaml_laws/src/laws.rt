@@ -1,5 +1,5 @@
 //! Laws of the definitions alone. Each is a function that does nothing; its contract is the law.
-ghost use Rattle.std.specs.Prelude.{◌≡◌, ◌≢◌, ◌<◌, ◌+◌, ◌⊎◌, ◌↔◌, ℕ, List, Err, length};
+ghost use Rattle.std.specs.Prelude.{◌≡◌, ◌≢◌, ◌<◌, ◌+◌, ◌⊎◌, ◌↔◌, ℕ, List, Ok, Err, length};
 ghost use Rattle.yaml_scan.specs.declared.fault.Code.TheVariants.{NotUtf8, Structure, Tab};
 ghost use Rattle.yaml_scan.specs.declared.fault.Code.{Code};
 ghost use Rattle.yaml_scan.specs.declared.line.RawLine.{RawLine};
@@ -12,6 +12,12 @@ ghost use Rattle.yaml_tree.specs.declared.piece.Piece.{Piece};
 ghost use Rattle.yaml_tree.specs.Grammar.{IsTree};
 ghost use Rattle.yaml_laws.specs.Indents.{IsRoot, IsTextByIndent};
 ghost use Rattle.yaml_laws.specs.Refused.{EndsInQuotes, GoesOn, HasTree, IsBad, IsFirstLine, IsLineOf, IsTooDeep, MayMove, NoLater, SameLines};
+
+/// A text has a tree, as it is read, exactly where the grammar has it. That 64 nodes at most stand in one another is in the grammar; how
+/// long a text may be is asked by `config_of` of `conf_auto`, which takes the tree from here.
+pub fn a_text_has_the_tree_of_the_grammar()
+    ensures { (text : List ℕ) (root : Node) → (tree text ≡ Ok root) ↔ IsText text root }
+{}
 
 /// What follows a text tells no fault that stands before the text's own; and where the text has a tree, only one on a line behind it.
 pub fn what_follows_tells_no_earlier_fault()
