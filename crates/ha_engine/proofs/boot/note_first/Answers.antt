@@ -1,3 +1,4 @@
+use Rattle.state_laws.proofs.SeenLemmas.{parts_see}
 use Rattle.std.proofs.Common.{◌≡◌, ◌-◌, [], ◌∷◌, length, filter, sym, ap, subst, ◌∙◌, refl, arith}
 use Rattle.ha_journal.specs.declared.entry.Entry.{Entry}
 use Rattle.ha_journal.specs.declared.entry.Entry.TheVariants.{Boot}
@@ -26,7 +27,7 @@ returns-clause-stands c =
     let last : c.last_entry.result.now ≡ x = c.last_entry.ensures [] x h.journal_is in
     let looks = boot-looks h.text h.config h.stored c.args.start c.args.zone.now h.zone_read h.in_time c.args.states.now c.requires.opened.stand in
     let sees : seen c.make-view.result ≡ sight k (length k)
-    = c.make-view.ensures k (view-of k c.args.states.now c.configuration.result.now c.args.zone.now c.args.start
+    = c.make-view.ensures ∙ parts_see c.args.states.now c.configuration.result.now c.args.zone.now c.args.start k (view-of k c.args.states.now c.configuration.result.now c.args.zone.now c.args.start
     (subst (λ (i : Journal). Looks i c.args.states.now c.args.zone.now c.args.start) (sym h.journal_is) looks) (subst AreSound (sym h.journal_is) h.sound) c.configuration.ensures) in
     let first : IsNext [] 0 x [] (seen c.make-view.result) (triggers.attached t)
     = boot-next h.text h.config h.stored c.args.start c.args.zone.now h.sound h.zone_read h.in_time c.args.states.now t c.requires.opened (seen c.make-view.result)
@@ -46,7 +47,7 @@ returns-clause-fired c =
     let last : c.last_entry.result.now ≡ x = c.last_entry.ensures [] x h.journal_is in
     let looks = boot-looks h.text h.config h.stored c.args.start c.args.zone.now h.zone_read h.in_time c.args.states.now c.requires.opened.stand in
     let sees : seen c.make-view.result ≡ sight k (length k)
-    = c.make-view.ensures k (view-of k c.args.states.now c.configuration.result.now c.args.zone.now c.args.start
+    = c.make-view.ensures ∙ parts_see c.args.states.now c.configuration.result.now c.args.zone.now c.args.start k (view-of k c.args.states.now c.configuration.result.now c.args.zone.now c.args.start
     (subst (λ (i : Journal). Looks i c.args.states.now c.args.zone.now c.args.start) (sym h.journal_is) looks) (subst AreSound (sym h.journal_is) h.sound) c.configuration.ensures) in
     let first : IsNext [] 0 x [] (seen c.make-view.result) (triggers.attached t)
     = boot-next h.text h.config h.stored c.args.start c.args.zone.now h.sound h.zone_read h.in_time c.args.states.now t c.requires.opened (seen c.make-view.result)

@@ -1,3 +1,4 @@
+use Rattle.state_laws.proofs.SeenLemmas.{parts_see}
 use Rattle.std.proofs.Common.{◌≡◌, suc, ◌-◌, ◌<◌, length, sym, ap, ◌∙◌, arith}
 use Rattle.std.specs.Prelude.{IfOk, Ok, Err, Result, Some, slice_get}
 use Rattle.ha_journal.specs.Journal.{Journal, last_place}
@@ -21,7 +22,7 @@ returns c =
     let last = last-split k some in
     let at : last_place k ≡ length last.0 = omega (arith, length-more last.0 last.1, ap length last.2) in
     let sees : seen c.make-view.result ≡ sight k (suc (last_place k))
-    = c.make-view.ensures k (view-of k p.states c.configuration-config.result.now p.zone p.at c.requires.sees.looks c.requires.sees.sound c.configuration-config.ensures)
+    = c.make-view.ensures ∙ parts_see p.states c.configuration-config.result.now p.zone p.at k (view-of k p.states c.configuration-config.result.now p.zone p.at c.requires.sees.looks c.requires.sees.sound c.configuration-config.ensures)
     ∙ (let e : length k ≡ suc (last_place k) = omega (arith, some) in ap (sight k) e) in
     let entry : slice_get k (last_place k) ≡ Some c.last_entry.result.now
     = (λ i. slice_get (last.2 i) (at i)) ∙ get-last last.0 last.1 ∙ ap Some (sym (c.last_entry.ensures last.0 last.1 last.2)) in
