@@ -113,20 +113,37 @@ fn calls_of(alloc: Global, calls: &[&str]) -> Result<String, AllocError> {
     Ok(text)
 }
 
-/// What lies outside: the stored text, and the writes of the calls' sink that fail, counted from 1.
+/// What lies outside: the stored text, further words of the run, and which calls fail. Calls of one object are counted from 1.
 #[derive(Drop)]
 pub struct Outside {
     pub stored: Option<&'static str>,
-    pub failing_writes: &'static [u64],
+    pub more_words: &'static [&'static str],
+    /// The files that are opened, those for reading and for writing counted together.
+    pub failing_openings: &'static [u64],
+    /// Reads of the configuration.
+    pub failing_config_reads: &'static [u64],
+    /// Reads of `reports.txt`.
     pub failing_reads: &'static [u64],
+    /// Writes of calls.
+    pub failing_writes: &'static [u64],
+    /// Writes of calls that take no byte.
+    pub zero_writes: &'static [u64],
+    /// Writes of errors.
+    pub failing_error_writes: &'static [u64],
+    /// The keeper's loads and saves, counted together.
     pub failing_saves: &'static [u64],
 }
 
 /// Nothing is stored and nothing fails.
 pub const PLAIN: Outside = Outside {
     stored: None,
-    failing_writes: &[],
+    more_words: &[],
+    failing_openings: &[],
+    failing_config_reads: &[],
     failing_reads: &[],
+    failing_writes: &[],
+    zero_writes: &[],
+    failing_error_writes: &[],
     failing_saves: &[],
 };
 
@@ -140,12 +157,13 @@ fn file(alloc: Global, name: &str, bytes: &[u8], fails: &[u64]) -> Result<MemFil
     })
 }
 
-/// A sink that took nothing yet.
-fn sink(alloc: Global, fails: &[u64]) -> Result<MemSink, AllocError>
-    ensures { IfOk result (λ s. s ≡ new_sink None [] fails.now []) }
+/// A sink that took nothing yet, with the writes that fail and those that take no byte.
+fn sink(alloc: Global, fails: &[u64], zeros: &[u64]) -> Result<MemSink, AllocError>
+    ensures { IfOk result (λ s. s ≡ new_sink None [] fails.now zeros.now) }
 {
     let fails = Vec::from_slice(alloc, fails)?;
-    Ok(MemSink::make(Vec::new(alloc), fails, Vec::new(alloc)))
+    let zeros = Vec::from_slice(alloc, zeros)?;
+    Ok(MemSink::make(Vec::new(alloc), fails, zeros))
 }
 
 /// A keeper that has not failed yet.
@@ -170,13 +188,14 @@ fn run_files<R: Abort + Threads + Wait + Sync + Alloc<A = Global>, G: Gate>(
 ) -> Result<Outcome<MemPlace, MemKeeper>, AllocError> {
     let alloc = rt.alloc();
     assert!(rt; have_distinct_names(&files));
-    let mut place = MemPlace::make(alloc, files, Vec::new(alloc));
+    let openings = Vec::from_slice(alloc, outside.failing_openings)?;
+    let mut place = MemPlace::make(alloc, files, openings);
     let mut given = Vec::new(alloc);
     for word in words {
         given.push(String::from_str(alloc, word)?)?;
     }
-    let out = sink(alloc, outside.failing_writes)?;
-    let err = sink(alloc, &[])?;
+    let out = sink(alloc, outside.failing_writes, outside.zero_writes)?;
+    let err = sink(alloc, outside.failing_error_writes, &[])?;
     let keep = keeper(alloc, outside)?;
     Ok(hearth::<_, Engine, _, _, _>(
         rt,
@@ -200,7 +219,7 @@ fn run_words<R: Abort + Threads + Wait + Sync + Alloc<A = Global>>(
 ) -> Result<Outcome<MemPlace, MemKeeper>, AllocError> {
     let alloc = rt.alloc();
     let mut files = Vec::new(alloc);
-    files.push(file(alloc, "home.yaml", home, &[])?)?;
+    files.push(file(alloc, "home.yaml", home, outside.failing_config_reads)?)?;
     files.push(file(alloc, "reports.txt", reports, outside.failing_reads)?)?;
     run_files(rt, words, files, outside, &OpenGate::make())
 }
@@ -265,18 +284,19 @@ fn run<R: Abort + Threads + Wait + Sync + Alloc<A = Global>>(
     outside: &Outside,
 ) -> Result<Outcome<MemPlace, MemKeeper>, AllocError> {
     let source = source_of(rt.alloc(), day.lines)?;
+    let mut words = Vec::new(rt.alloc());
+    for word in ["run", "--config", "home.yaml", "reports.txt", "--start"] {
+        words.push(word)?;
+    }
+    words.push(day.start)?;
+    words.push("--zone")?;
+    words.push(day.zone)?;
+    for word in outside.more_words {
+        words.push(*word)?;
+    }
     run_words(
         rt,
-        &[
-            "run",
-            "--start",
-            day.start,
-            "--zone",
-            day.zone,
-            "--config",
-            "home.yaml",
-            "reports.txt",
-        ],
+        words.as_slice(),
         day.home.as_bytes(),
         source.as_bytes(),
         outside,
@@ -294,8 +314,12 @@ pub enum Fact<'a> {
     NotOpened,
     /// This source could not be read.
     NotRead(u32),
+    /// The configuration could not be read.
+    ConfigNotRead,
     /// A write failed, which is not one that took no byte.
     NotWritten,
+    /// A write took no byte.
+    NothingTaken,
     /// The store could not be loaded or saved.
     NotKept,
     /// These lines of calls, in the short form, and no others.
@@ -308,6 +332,8 @@ pub enum Fact<'a> {
     Traced(&'a str),
     /// What is stored at the end.
     Stored(&'a str),
+    /// Nothing is stored at the end.
+    NotStored,
     /// How many entries the journal has.
     Entries(usize),
     /// So many lines of each of sixteen sources, each once and in order.
@@ -381,9 +407,10 @@ fn has_all_lines(journal: &[Entry], count: u64) -> bool {
     true
 }
 
-fn is_not_read(status: &Status, of: u32) -> bool {
+/// Whether this source, or the configuration where it is none, could not be read.
+fn is_not_read(status: &Status, of: Option<u32>) -> bool {
     match status {
-        Status::ReadFault { source } => *source == Some(of),
+        Status::ReadFault { source } => *source == of,
         _ => false,
     }
 }
@@ -394,14 +421,17 @@ fn is(alloc: Global, outcome: &Outcome<MemPlace, MemKeeper>, fact: Fact<'_>) -> 
         Fact::Well => matches!(outcome.status, Status::Ok),
         Fact::NoWords => matches!(outcome.status, Status::Usage),
         Fact::NotOpened => matches!(&outcome.status, Status::OpenFault { .. }),
-        Fact::NotRead(source) => is_not_read(&outcome.status, source),
+        Fact::NotRead(source) => is_not_read(&outcome.status, Some(source)),
+        Fact::ConfigNotRead => is_not_read(&outcome.status, None),
         Fact::NotWritten => matches!(outcome.status, Status::WriteFault { zero: false }),
+        Fact::NothingTaken => matches!(outcome.status, Status::WriteFault { zero: true }),
         Fact::NotKept => matches!(outcome.status, Status::KeepFault),
         Fact::Called(calls) => are_calls(alloc, outcome.out.bytes(), calls),
         Fact::Output(text) => outcome.out.bytes() == text.as_bytes(),
         Fact::Errors(text) => outcome.err.bytes() == text.as_bytes(),
         Fact::Traced(text) => is_traced(&outcome.trace, text),
         Fact::Stored(text) => is_text(outcome.keep.text(), text),
+        Fact::NotStored => outcome.keep.text().is_none(),
         Fact::Entries(count) => outcome.journal.len() == count,
         Fact::Lines(count) => has_all_lines(outcome.journal.as_slice(), count),
         Fact::Runs(count) => outcome.records.len() == count,
@@ -439,9 +469,10 @@ pub fn words_end<R: Abort + Threads + Wait + Sync + Alloc<A = Global>>(
     words: &[&str],
     home: &[u8],
     reports: &[u8],
+    outside: &Outside,
     facts: &[Fact<'_>],
 ) -> bool {
-    match run_words(rt, words, home, reports, &PLAIN) {
+    match run_words(rt, words, home, reports, outside) {
         Ok(outcome) => holds(rt.alloc(), &outcome, facts),
         Err(_) => false,
     }

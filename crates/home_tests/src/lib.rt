@@ -18,4 +18,6 @@ mod scripts;
 #[cfg(test)]
 mod sources;
 #[cfg(test)]
+mod streams;
+#[cfg(test)]
 mod triggers;

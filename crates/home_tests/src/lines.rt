@@ -1,12 +1,12 @@
 //! Lines that are refused, and words.
 use crate::day::Fact::{Entries, Errors, NoWords, NotOpened, Output, Stored, Well};
-use crate::day::words_end;
+use crate::day::{PLAIN, words_end};
 use std::alloc::{AllocError, Global};
 use std::process::Abort;
 use std::sync::Wait;
 use std::thread::Threads;
 
-const WORDS: [&str; 6] = [
+pub const WORDS: [&str; 6] = [
     "run",
     "--config",
     "home.yaml",
@@ -16,7 +16,7 @@ const WORDS: [&str; 6] = [
 ];
 
 /// The lines of a source that are refused, each for a cause of its own.
-fn refused_lines(alloc: Global) -> Result<Vec<u8>, AllocError> {
+pub fn refused_lines(alloc: Global) -> Result<Vec<u8>, AllocError> {
     let mut source = Vec::new(alloc);
     for line in [
         "{\"report\":\"light.x\"}\n",
@@ -47,6 +47,7 @@ fn are_refused<R: Abort + Threads + Wait + Sync + Alloc<A = Global>>(rt: &R) -> 
             &WORDS,
             b"[]",
             source.as_slice(),
+            &PLAIN,
             &[Well, Output(""), Errors(REFUSALS)],
         ),
         Err(_) => false,
@@ -66,6 +67,7 @@ fn a_home_without_automations_stores_none(rt: HostRuntime) {
             &WORDS,
             b"[]",
             b"",
+            &PLAIN,
             &[
                 Well,
                 Entries(1),
@@ -86,7 +88,7 @@ fn are_no_words<R: Abort + Threads + Wait + Sync + Alloc<A = Global>>(
     rows: &[&[&str]],
 ) -> bool {
     for words in rows {
-        if !words_end(rt, words, b"[]", b"", &[NoWords, Errors(USAGE)]) {
+        if !words_end(rt, words, b"[]", b"", &PLAIN, &[NoWords, Errors(USAGE)]) {
             return false;
         }
     }
@@ -127,7 +129,8 @@ fn are_faults<R: Abort + Threads + Wait + Sync + Alloc<A = Global>>(
 ) -> bool {
     for row in rows {
         let facts = [Errors(row.1), Output("")];
-        if !words_end(rt, &["check", "home.yaml"], row.0.as_bytes(), b"", &facts) {
+        let words = ["check", "home.yaml"];
+        if !words_end(rt, &words, row.0.as_bytes(), b"", &PLAIN, &facts) {
             return false;
         }
     }
@@ -158,12 +161,14 @@ fn check_says_what_was_read(rt: HostRuntime) {
             &["check", "home.yaml"],
             HALL,
             b"",
+            &PLAIN,
             &[Well, Output(said)]
         ) && words_end(
             &rt,
             &["check", "no.yaml"],
             HALL,
             b"",
+            &PLAIN,
             &[NotOpened, Errors(none)]
         ) && are_faults(&rt, &faults)
     );

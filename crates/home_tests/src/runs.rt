@@ -7,31 +7,34 @@ use std::process::Abort;
 use std::sync::Wait;
 use std::thread::Threads;
 
-const HALL: &str =
+pub const HALL: &str =
     "- id: '1700000000001'\n  alias: Hall light\n  description: ''\n  triggers:\n  - trigger: state\n    entity_id:\n    - binary_sensor.hall\n    from:\n    to: 'on'\n  conditions: []\n  actions:\n  - action: light.turn_on\n    metadata: {}\n    data:\n      brightness: 128\n    target:\n      entity_id: light.hall\n  - delay:\n      hours: 0\n      minutes: 2\n      seconds: 0\n      milliseconds: 0\n  - action: light.turn_off\n    target:\n      entity_id: light.hall\n  mode: restart\n";
 
 const HALL_ON: &str =
     "{\"run\":\"hall_light\",\"number\":1,\"call\":1,\"service\":\"light.turn_on\",\"target\":[\"light.hall\"],\"data\":{\"brightness\":128}}";
 
+/// Somebody comes, and two minutes go by.
+pub const HALL_LINES: [&str; 3] = [
+    "r binary_sensor.hall off",
+    "r binary_sensor.hall on",
+    "m 20:02:00",
+];
+
+pub const HALL_CALLS: [&str; 2] = [
+    HALL_ON,
+    "{\"run\":\"hall_light\",\"number\":1,\"call\":2,\"service\":\"light.turn_off\",\"target\":[\"light.hall\"],\"data\":{}}",
+];
+
 #[test]
 fn a_light_goes_out_after_its_delay(rt: HostRuntime) {
-    let lines = [
-        "r binary_sensor.hall off",
-        "r binary_sensor.hall on",
-        "m 20:02:00",
-    ];
-    let want = [
-        HALL_ON,
-        "{\"run\":\"hall_light\",\"number\":1,\"call\":2,\"service\":\"light.turn_off\",\"target\":[\"light.hall\"],\"data\":{}}",
-    ];
     assert!(rt;
         ends(
             &rt,
-            &evening(HALL, &lines),
+            &evening(HALL, &HALL_LINES),
             &PLAIN,
             &[
                 Well,
-                Called(&want),
+                Called(&HALL_CALLS),
                 Errors(""),
                 Entries(8),
                 Stored("{\"switches\":{\"hall_light\":true},\"version\":1}"),
@@ -67,23 +70,29 @@ fn a_replaced_run_calls_nothing_more(rt: HostRuntime) {
     );
 }
 
+pub const QUEUE: &str =
+    "automation: [{alias: a, mode: queued, max: 2, triggers: [{trigger: event, event_type: go}], actions: [{delay: 5}, {action: notify.q, data: {n: \"{{ trigger.event.data.n }}\"}}]}]";
+
+pub const QUEUE_LINES: [&str; 6] = [
+    "{\"event\":\"go\",\"data\":{\"n\":1}}",
+    "{\"event\":\"go\",\"data\":{\"n\":2}}",
+    "{\"event\":\"go\",\"data\":{\"n\":3}}",
+    "m 20:00:05",
+    "m 20:00:10",
+    "m 20:00:20",
+];
+
+pub const QUEUE_CALLS: [&str; 2] = [
+    "{\"run\":\"a\",\"number\":1,\"call\":1,\"service\":\"notify.q\",\"target\":[],\"data\":{\"n\":1}}",
+    "{\"run\":\"a\",\"number\":2,\"call\":1,\"service\":\"notify.q\",\"target\":[],\"data\":{\"n\":2}}",
+];
+
 #[test]
 fn a_queue_takes_two_and_gives_each_its_own_event(rt: HostRuntime) {
-    let home =
-        "automation: [{alias: a, mode: queued, max: 2, triggers: [{trigger: event, event_type: go}], actions: [{delay: 5}, {action: notify.q, data: {n: \"{{ trigger.event.data.n }}\"}}]}]";
-    let lines = [
-        "{\"event\":\"go\",\"data\":{\"n\":1}}",
-        "{\"event\":\"go\",\"data\":{\"n\":2}}",
-        "{\"event\":\"go\",\"data\":{\"n\":3}}",
-        "m 20:00:05",
-        "m 20:00:10",
-        "m 20:00:20",
-    ];
-    let want = [
-        "{\"run\":\"a\",\"number\":1,\"call\":1,\"service\":\"notify.q\",\"target\":[],\"data\":{\"n\":1}}",
-        "{\"run\":\"a\",\"number\":2,\"call\":1,\"service\":\"notify.q\",\"target\":[],\"data\":{\"n\":2}}",
-    ];
-    assert!(rt; calls(&rt, home, &lines[..4], &want[..1]) && calls(&rt, home, &lines, &want));
+    assert!(rt;
+        calls(&rt, QUEUE, &QUEUE_LINES[..4], &QUEUE_CALLS[..1])
+            && calls(&rt, QUEUE, &QUEUE_LINES, &QUEUE_CALLS)
+    );
 }
 
 #[test]

@@ -3,14 +3,18 @@ use crate::day::Fact::{Called, Cause, Entries, Errors, Well};
 use crate::day::{PLAIN, calls, ends, evening, gives};
 use ha_model::EndCause;
 
+pub const WAIT: &str =
+    "automation: [{alias: z, triggers: [], actions: []}, {alias: a, triggers: [{trigger: event, event_type: go}], actions: [{delay: 5}, {action: automation.turn_off, target: {entity_id: automation.z}}, {action: automation.turn_on, target: {entity_id: automation.z}}]}, {alias: b, triggers: [{trigger: event, event_type: go}], actions: [{wait_template: \"{{ is_state('automation.z', 'off') }}\", timeout: 10}, {action: notify.b, data: {done: \"{{ wait.completed }}\", left: \"{{ wait.remaining }}\"}}]}]";
+
+pub const WAIT_LINES: [&str; 2] = ["e go", "m 20:00:05"];
+
+pub const WAIT_CALLS: [&str; 1] = [
+    "{\"run\":\"b\",\"number\":1,\"call\":1,\"service\":\"notify.b\",\"target\":[],\"data\":{\"done\":true,\"left\":5.0}}",
+];
+
 #[test]
 fn a_wait_keeps_the_end_that_it_had(rt: HostRuntime) {
-    let home =
-        "automation: [{alias: z, triggers: [], actions: []}, {alias: a, triggers: [{trigger: event, event_type: go}], actions: [{delay: 5}, {action: automation.turn_off, target: {entity_id: automation.z}}, {action: automation.turn_on, target: {entity_id: automation.z}}]}, {alias: b, triggers: [{trigger: event, event_type: go}], actions: [{wait_template: \"{{ is_state('automation.z', 'off') }}\", timeout: 10}, {action: notify.b, data: {done: \"{{ wait.completed }}\", left: \"{{ wait.remaining }}\"}}]}]";
-    let want = [
-        "{\"run\":\"b\",\"number\":1,\"call\":1,\"service\":\"notify.b\",\"target\":[],\"data\":{\"done\":true,\"left\":5.0}}",
-    ];
-    assert!(rt; calls(&rt, home, &["e go", "m 20:00:05"], &want));
+    assert!(rt; calls(&rt, WAIT, &WAIT_LINES, &WAIT_CALLS));
 }
 
 #[test]

@@ -1,6 +1,8 @@
 //! Several sources at once, and the trace.
-use crate::day::Fact::{Entries, Errors, NotRead, Traced, Well};
+use crate::day::Fact::{Called, Entries, Errors, NotRead, Traced, Well};
 use crate::day::{Fact, Lines, holds, replays, run_sources};
+use crate::runs::{HALL, HALL_CALLS, HALL_LINES, QUEUE, QUEUE_CALLS, QUEUE_LINES};
+use crate::scripts::{WAIT, WAIT_CALLS, WAIT_LINES};
 use ha_io::{Gate, MeetGate, OpenGate};
 use std::alloc::{AllocError, Global};
 use std::process::Abort;
@@ -85,21 +87,82 @@ const TRACED: &str =
 const TRACE: &str =
     "{\"boot\":{\"config\":\"[{alias: a, triggers: [{trigger: event, event_type: go}], actions: [{action: notify.x}]}]\",\"stored\":null,\"start\":\"2024-05-01T20:00:00.000Z\",\"zone\":\"UTC\"}}\n{\"source\":0,\"number\":0,\"cmd\":{\"event\":\"go\",\"data\":{}}}\n{\"worker\":0,\"run\":1,\"branch\":[],\"item\":{\"call\":{\"service\":\"notify.x\",\"target\":[],\"data\":{}}}}\n{\"source\":0,\"number\":1,\"cmd\":{\"moment\":\"2024-05-01T20:00:01.000Z\"}}\n{\"source\":0,\"number\":2,\"cmd\":{\"refused\":\"L2\"}}\n{\"end\":5}\n";
 
+/// The trace of an empty home at which a second went by.
+const SECOND: &str =
+    "{\"boot\":{\"config\":\"[]\\n\",\"stored\":null,\"start\":\"2024-05-01T20:00:00.000Z\",\"zone\":\"UTC\"}}\n{\"source\":0,\"number\":0,\"cmd\":{\"moment\":\"2024-05-01T20:00:01.000Z\"}}\n{\"end\":2}\n";
+
+/// Whether the evening of each home, with these lines, is traced so.
+fn are_traced<R: Abort + Threads + Wait + Sync + Alloc<A = Global>>(
+    rt: &R,
+    rows: &[(&str, &[&str], &str)],
+) -> bool {
+    for row in rows {
+        let source = Lines {
+            name: "a",
+            lines: row.1,
+            failing_reads: &[],
+        };
+        let facts = [Well, Traced(row.2)];
+        let words = ["--trace", "t"];
+        if !sources_end(rt, row.0, &words, &[source], &OpenGate::make(), &facts) {
+            return false;
+        }
+    }
+    true
+}
+
 #[test]
 fn a_trace_has_each_entry_and_the_end(rt: HostRuntime) {
-    let sources = [Lines {
-        name: "a",
-        lines: &["e go", "m 20:00:01", "bad"],
-        failing_reads: &[],
-    }];
     assert!(rt;
-        sources_end(
+        are_traced(
             &rt,
-            TRACED,
-            &["--trace", "t"],
-            &sources,
-            &OpenGate::make(),
-            &[Well, Traced(TRACE)]
+            &[
+                (TRACED, &["e go", "m 20:00:01", "bad"], TRACE),
+                ("[]\n", &["m 20:00:01"], SECOND),
+            ]
+        )
+    );
+}
+
+/// Whether the home makes these calls, and its trace is that of a lawful journal, which gives the same.
+fn is_replayed<R: Abort + Threads + Wait + Sync + Alloc<A = Global>>(
+    rt: &R,
+    home: &str,
+    lines: &[&str],
+    calls: &[&str],
+) -> Result<bool, AllocError> {
+    let source = Lines {
+        name: "a",
+        lines,
+        failing_reads: &[],
+    };
+    let outcome = run_sources(rt, home, &["--trace", "t"], &[source], &OpenGate::make())?;
+    Ok(holds(rt.alloc(), &outcome, &[Well, Called(calls), Errors("")]) && replays(rt, &outcome)?)
+}
+
+/// Whether it is so with each of them.
+fn are_replayed<R: Abort + Threads + Wait + Sync + Alloc<A = Global>>(
+    rt: &R,
+    rows: &[(&str, &[&str], &[&str])],
+) -> bool {
+    for row in rows {
+        if !is_replayed(rt, row.0, row.1, row.2).unwrap_or(false) {
+            return false;
+        }
+    }
+    true
+}
+
+#[test]
+fn a_delay_a_wait_and_a_queue_are_replayed(rt: HostRuntime) {
+    assert!(rt;
+        are_replayed(
+            &rt,
+            &[
+                (HALL, &HALL_LINES, &HALL_CALLS),
+                (WAIT, &WAIT_LINES, &WAIT_CALLS),
+                (QUEUE, &QUEUE_LINES, &QUEUE_CALLS),
+            ]
         )
     );
 }
