@@ -1,6 +1,10 @@
 """refusals.py PROGRAM LIBRARY [STEP]: runs homes over the program again and again, with one growth of memory refused after the other, or one
 read, write, opening or renaming, each alone and each with all of its kind behind it, and asks what stands then. With STEP each so
-many growths one is refused."""
+many growths one is refused.
+
+No answer needs two of the growths, and a run from which one of these is kept is the whole run: the room that `main` asks for before it
+lists the words, which then grows word by word; and the marks by which the last runs of an automation are found, without which they are
+looked for (`run_modes`)."""
 
 from __future__ import annotations
 
@@ -256,6 +260,8 @@ def run(home: Home, refusal: Refusal) -> Answer:
 
 
 FAULTS: list[str] = []
+SPARED: dict[str, int] = {}
+"""How many growths of each home no answer needed."""
 PASSED = 0
 
 
@@ -286,8 +292,24 @@ def ask_fronts(home: Home, refusal: Refusal, whole: Answer, answer: Answer) -> N
     ask(home, refusal, "the store is another", answer.store in may_be, answer)
 
 
+def is_whole(whole: Answer, answer: Answer) -> bool:
+    """Whether a run wrote and stored all that the whole run does, and ended alike."""
+    return (answer.status, answer.out, answer.err, answer.trace, answer.store) == (
+        whole.status,
+        whole.out,
+        whole.err,
+        whole.trace,
+        whole.store,
+    )
+
+
 def ask_growth(home: Home, refusal: Refusal, whole: Answer, answer: Answer) -> None:
-    """A refused growth ends the run by want of memory. Its line is cut where its own growth is refused."""
+    """A refused growth ends the run by want of memory, unless no answer needs it. Its line is cut where its own growth is refused."""
+    if not refusal.later and is_whole(whole, answer):
+        SPARED[home.name] = SPARED.get(home.name, 0) + 1
+        most = 2 if '"worker"' in whole.trace else 1
+        ask(home, refusal, "more growths than two are not needed", SPARED[home.name] <= most, answer)
+        return
     ask(home, refusal, "the status is not 10", answer.status == 10, answer)
     of_status = text_of(home.errors[-1:]) if whole.status else ""
     cut = refusal.later or whole.status != 0
@@ -373,7 +395,7 @@ def main() -> int:
     for fault in FAULTS[:20]:
         print(f"refusals: {fault}", file=sys.stderr)
     told = ", ".join(f"{kind} {count}" for kind, count in counts.items())
-    print(f"refusals: {PASSED} passed, {len(FAULTS)} failed ({told})")
+    print(f"refusals: {PASSED} passed, {len(FAULTS)} failed ({told}; not needed {sum(SPARED.values())})")
     return 1 if FAULTS or not all(counts.values()) else 0
 
 
