@@ -194,3 +194,74 @@ fn a_text_has_a_million_bytes_at_most(rt: HostRuntime) {
     let alloc = rt.alloc();
     assert!(rt; is_too_long(alloc, 1_048_577, true) && is_too_long(alloc, 1_048_576, false));
 }
+
+/// So many automations, each on a line of its own, with three letters as its id.
+fn automations(alloc: Global, many: u32) -> Result<Vec<u8>, AllocError> {
+    let mut text = Vec::new(alloc);
+    for at in 0..many {
+        text.extend_from_slice(b"- {triggers: [], actions: [], id: ")?;
+        for letter in [at / 676, at / 26, at] {
+            text.push(b'a' + (letter % 26) as u8)?;
+        }
+        text.extend_from_slice(b"}\n")?;
+    }
+    Ok(text)
+}
+
+/// Whether so many automations are read.
+fn are_read(alloc: Global, many: u32) -> bool {
+    match automations(alloc, many) {
+        Ok(text) => match read_config(alloc, text.as_slice()) {
+            Ok(config) => config.automations.len() == many as usize,
+            Err(_) => false,
+        },
+        Err(_) => false,
+    }
+}
+
+/// Whether so many automations are refused, at the last line, as one too many.
+fn are_too_many(alloc: Global, many: u32) -> bool {
+    match automations(alloc, many) {
+        Ok(text) => is_refused(alloc, text.as_slice(), many, 12),
+        Err(_) => false,
+    }
+}
+
+#[test]
+fn a_home_has_1024_automations_at_most(rt: HostRuntime) {
+    let alloc = rt.alloc();
+    assert!(rt; are_read(alloc, 1_024) && are_too_many(alloc, 1_025));
+}
+
+/// An automation with one condition, a template of seven bytes and so many more.
+fn conditioned(alloc: Global, more: u32) -> Result<Vec<u8>, AllocError> {
+    let mut text = Vec::from_slice(
+        alloc,
+        b"- triggers: []\n  actions: []\n  conditions: \"{{ 1 }}",
+    )?;
+    for _ in 0..more {
+        text.push(b'x')?;
+    }
+    text.extend_from_slice(b"\"\n")?;
+    Ok(text)
+}
+
+/// Whether the template with so many more bytes is read, or refused as too long, as is said.
+fn is_template(alloc: Global, more: u32, wanted: bool) -> bool {
+    match conditioned(alloc, more) {
+        Ok(text) => {
+            if wanted {
+                read_config(alloc, text.as_slice()).is_ok()
+            } else {
+                is_refused(alloc, text.as_slice(), 3, 12)
+            }
+        }
+        Err(_) => false,
+    }
+}
+
+#[test]
+fn a_template_has_16384_bytes_at_most(rt: HostRuntime) {
+    let alloc = rt.alloc();
+    assert!(rt; is_template(alloc, 16_377, true) && is_template(alloc, 16_378, false));
+}

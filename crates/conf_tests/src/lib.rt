@@ -7,6 +7,8 @@ mod actions;
 #[cfg(test)]
 mod automations;
 #[cfg(test)]
+mod checks;
+#[cfg(test)]
 mod conditions;
 #[cfg(test)]
 mod editor;

@@ -88,6 +88,33 @@ fn long_states_and_lines_are_refused(rt: HostRuntime) {
     );
 }
 
+/// An event whose data has so many lists in one another. They stand in two maps, that of the line and that of the data.
+fn nested(alloc: Global, lists: usize) -> Result<String, AllocError> {
+    let mut line = String::from_str(alloc, "{\"event\":\"x\",\"data\":{\"a\":")?;
+    for _i in 0..lists {
+        line.push_str("[")?;
+    }
+    for _i in 0..lists {
+        line.push_str("]")?;
+    }
+    line.push_str("}}")?;
+    Ok(line)
+}
+
+/// Whether an event with so many lists has this code.
+fn is_nested(alloc: Global, lists: usize, code: u8) -> bool {
+    match nested(alloc, lists) {
+        Ok(line) => is_refused(alloc, line.as_bytes(), code),
+        Err(_) => false,
+    }
+}
+
+#[test]
+fn thirty_two_brackets_stand_in_one_another(rt: HostRuntime) {
+    let alloc = rt.alloc();
+    assert!(rt; is_nested(alloc, 30, 0) && is_nested(alloc, 31, 2));
+}
+
 /// Appends the printed pairs.
 fn push_pairs(
     alloc: Global,

@@ -23,16 +23,21 @@ fn light(alloc: Global) -> Result<EntityId, AllocError> {
     EntityId::of_parts(alloc, "light", "x")
 }
 
-/// A table in which `light.x` is on.
+/// A table in which `light.x` is on, at the level 7.
 fn lit(alloc: Global) -> Result<StateTable, AllocError> {
     let mut table = StateTable::make(alloc);
     let lamp = light(alloc)?;
     let on = Word::from_str(alloc, "on")?;
+    let mut attributes = Many::make(alloc);
+    attributes.push((
+        Word::from_str(alloc, "level")?,
+        Value::Number(Num::Whole(7)),
+    ))?;
     table.report(
         alloc,
         &lamp,
         &on,
-        &Many::make(alloc),
+        &attributes,
         Moment::at(1_714_593_600_000),
     )?;
     Ok(table)
@@ -94,14 +99,13 @@ fn home(alloc: Global) -> Result<Env, AllocError> {
     Ok(Env::of_pairs(pairs))
 }
 
-/// Whether a short text is a template that renders as this text where `home` is that map.
-fn gives(alloc: Global, env: &Env, text: &str, wanted: &str) -> bool {
+/// Whether a short text is a template that renders as this text over these states, where `home` is that map.
+fn gives(alloc: Global, states: &StateTable, env: &Env, text: &str, wanted: &str) -> bool {
     if text.len() > 1000 {
         return false;
     }
-    let states = StateTable::make(alloc);
     match parse(alloc, text.as_bytes()) {
-        Ok(template) => match render(alloc, &template, &states, env) {
+        Ok(template) => match render(alloc, &template, states, env) {
             Ok(Value::Text(rendered)) => rendered.as_str() == wanted,
             _ => false,
         },
@@ -109,13 +113,16 @@ fn gives(alloc: Global, env: &Env, text: &str, wanted: &str) -> bool {
     }
 }
 
-/// Whether each of them renders so.
+/// Whether each of them renders so, where `light.x` is on.
 fn give(alloc: Global, rows: &[(&str, &str)]) -> bool {
     let Ok(env) = home(alloc) else {
         return false;
     };
+    let Ok(states) = lit(alloc) else {
+        return false;
+    };
     for row in rows {
-        if !gives(alloc, &env, row.0, row.1) {
+        if !gives(alloc, &states, &env, row.0, row.1) {
             return false;
         }
     }
@@ -134,6 +141,27 @@ fn texts_lists_and_maps_are_asked(rt: HostRuntime) {
                 ("{{ [3, 'on'][-2] }}", "3"),
                 ("{{ [3, 'on'][-1] }}", "on"),
                 ("{{ home.room }}", "hall"),
+            ]
+        )
+    );
+}
+
+#[test]
+fn each_function_of_states_once(rt: HostRuntime) {
+    assert!(rt;
+        give(
+            rt.alloc(),
+            &[
+                ("{{ states('light.x') }}", "on"),
+                ("{{ states('light.y') }}", "unknown"),
+                ("{{ state_attr('light.x', 'level') }}", "7"),
+                ("{{ state_attr('light.x', 'color') is none }}", "True"),
+                ("{{ is_state('light.x', 'on') }}", "True"),
+                ("{{ is_state('light.x', 'off') }}", "False"),
+                ("{{ is_state_attr('light.x', 'level', 7) }}", "True"),
+                ("{{ is_state_attr('light.x', 'level', '7') }}", "False"),
+                ("{{ has_value('light.x') }}", "True"),
+                ("{{ has_value('light.y') }}", "False"),
             ]
         )
     );

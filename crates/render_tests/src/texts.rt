@@ -82,6 +82,48 @@ fn filters_are_rendered(rt: HostRuntime) {
 }
 
 #[test]
+fn each_filter_once(rt: HostRuntime) {
+    assert!(rt;
+        give(
+            rt.alloc(),
+            &[
+                ("{{ '-2.7'|int }}", "-2"),
+                ("{{ ' 3 '|float }}", "3.0"),
+                ("{{ 2.345|round(1) }}", "2.3"),
+                ("{{ -7.5|abs }}", "7.5"),
+                ("{{ 'On'|lower }}", "on"),
+                ("{{ 'On'|upper }}", "ON"),
+                ("{{ '[' ~ ' a '|trim ~ ']' }}", "[a]"),
+                ("{{ 'Tür'|length }}", "3"),
+                ("{{ missing|default(1) }}", "1"),
+                ("{{ [1, 2]|first }}", "1"),
+                ("{{ [1, 2]|last }}", "2"),
+                ("{{ 'aaa'|replace('aa', 'b') }}", "ba"),
+                ("{{ 3.50|string }}", "3.5"),
+                ("{{ '1e3'|is_number }}", "False"),
+            ]
+        )
+    );
+}
+
+#[test]
+fn each_function_of_values_once(rt: HostRuntime) {
+    assert!(rt;
+        give(
+            rt.alloc(),
+            &[
+                ("{{ int('no', 0) }}", "0"),
+                ("{{ float('1.5') }}", "1.5"),
+                ("{{ min(2, 1.5) }}", "1.5"),
+                ("{{ max([1, 2.5]) }}", "2.5"),
+                ("{{ iif(true, 'yes', 'no') }}", "yes"),
+                ("{{ is_number(3) }}", "True"),
+            ]
+        )
+    );
+}
+
+#[test]
 fn what_does_not_decide_is_not_computed(rt: HostRuntime) {
     let alloc = rt.alloc();
     assert!(rt;

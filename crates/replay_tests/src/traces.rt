@@ -122,6 +122,48 @@ fn are_fronts_refused(alloc: Global, parts: &[&str]) -> Result<bool, AllocError>
     Ok(true)
 }
 
+/// What is told of a trace without calls and errors that is refused at its first, second or third line.
+const TOLD: [&str; 3] = [
+    "hearth: trace line 1: T\n",
+    "hearth: trace line 2: T\n",
+    "hearth: trace line 3: T\n",
+];
+
+/// How many lines of a text are whole.
+fn whole_lines(text: &[u8]) -> usize {
+    let mut lines: usize = 0;
+    for byte in text {
+        if *byte == b'\n' {
+            lines = lines.saturating_add(1);
+        }
+    }
+    lines
+}
+
+/// Whether the text is refused at the line behind its last whole one, and nothing else is written.
+fn is_told(alloc: Global, text: &[u8]) -> Result<bool, AllocError> {
+    let Some(told) = TOLD.get(whole_lines(text)) else {
+        return Ok(false);
+    };
+    match replayed(alloc, Vec::from_slice(alloc, text)?, Vec::new(alloc))? {
+        Some((given, out, err)) => Ok(
+            given == 11 && out.bytes().is_empty() && err.bytes() == told.as_bytes(),
+        ),
+        None => Ok(false),
+    }
+}
+
+/// Whether it is so for each front of the trace, but the whole.
+fn are_fronts_told(alloc: Global, parts: &[&str]) -> Result<bool, AllocError> {
+    let trace = joined(alloc, parts)?;
+    for count in 0..trace.len() {
+        if !is_told(alloc, &trace[..count])? {
+            return Ok(false);
+        }
+    }
+    Ok(true)
+}
+
 /// Whether the trace is refused whichever byte of its middle part is another.
 fn is_each_byte_told(
     alloc: Global,
@@ -238,6 +280,12 @@ fn a_home_is_replayed(rt: HostRuntime) {
             (0, CALLS, "source 0 line 1: L2\n")
         )
     );
+}
+
+#[test]
+fn each_front_is_refused_at_its_last_line(rt: HostRuntime) {
+    let parts = [BOOT, FIRST, "{\"end\":2}\n"];
+    assert!(rt; are_fronts_told(rt.alloc(), &parts).unwrap_or(false));
 }
 
 #[test]

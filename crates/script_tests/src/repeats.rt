@@ -96,6 +96,19 @@ fn the_turn_after_the_ten_thousandth_faults(rt: HostRuntime) {
 }
 
 #[test]
+fn ten_thousand_turns_end_well(rt: HostRuntime) {
+    let before =
+        "[{repeat: {while: \"{{ repeat.index <= 10000 }}\", sequence: []}}, {action: notify.x}]";
+    let behind =
+        "[{repeat: {until: \"{{ repeat.index == 10000 }}\", sequence: []}}, {action: notify.x}]";
+    let said = ["[] notify.x"];
+    assert!(rt;
+        idles(rt.alloc(), before, 10_001, &said, Progress::Done)
+            && idles(rt.alloc(), behind, 10_001, &said, Progress::Done)
+    );
+}
+
+#[test]
 fn a_count_has_no_limit_of_turns(rt: HostRuntime) {
     let actions = "[{repeat: {count: 10001, sequence: []}}, {action: notify.x}]";
     assert!(rt;
