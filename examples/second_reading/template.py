@@ -3,13 +3,13 @@
 from __future__ import annotations
 
 import re
-from dataclasses import dataclass, field
 from functools import lru_cache
-from typing import Callable, Mapping, Optional, Protocol
+from typing import Callable, Mapping, Optional
 
-from .filters import FILTERS, FUNCTIONS, compare, function
-from .values import (BLANKS, Fault, Num, Value, arithmetic, bounded, bounded_list, equal, printed, read_number, truth,
-                     whole)
+from . import tree
+from .filters import FILTERS, FUNCTIONS
+from .tree import Expr, Piece, Scene, States
+from .values import BLANKS, Value, bounded, read_number
 
 WORDS = {"and", "or", "not", "in", "is", "if", "else", "elif", "endif", "set", "true", "false", "none",
          "True", "False", "None", "defined"}
@@ -17,100 +17,22 @@ NAME = re.compile(r"[A-Za-z_][A-Za-z0-9_]*")
 NUMBER = re.compile(r"[0-9]+(\.[0-9]+)?")
 SIGNS = ("==", "!=", "<=", ">=", "//", "<", ">", "+", "-", "*", "/", "%", "~", "|", ".", ",", "(", ")", "[", "]", "=")
 ESCAPES = {"\\": "\\", "'": "'", '"': '"', "n": "\n", "t": "\t"}
-
-
-class States(Protocol):
-    """What a template sees of the states."""
-
-    def state_text(self, entity: str) -> Optional[str]:
-        """The text of an entity, if it is there."""
-
-    def state_attributes(self, entity: str) -> Mapping[str, Value]:
-        """The attributes of an entity, empty where it isn't there."""
-
-
-@dataclass
-class Scene:
-    """What an expression is computed in: the states, the run's names, and those set so far."""
-
-    states: States
-    names: Mapping[str, Value]
-    own: dict[str, Value] = field(default_factory=dict)
-
-
-Expr = Callable[[Scene], Value]
-Piece = Callable[[Scene], str]
+DEEPEST = 64
 
 
 class GrammarError(Exception):
-    """A text that is no template."""
+    """A text that is no template: what was wanted or wrong there, with the word that it is about, and about where."""
+
+    def __init__(self, what: str, at: int, word: str = "") -> None:
+        super().__init__(f"{what} {word} at {at}")
+        self.what = what
+        self.at = at
+        self.word = word
 
 
 def holds_template(text: str) -> bool:
     """Whether a text of a configuration holds a template."""
     return any(sign in text for sign in ("{{", "{%", "{#"))
-
-
-def field_of(base: Value, key: Value) -> Value:
-    """`.name` and `[..]`: what isn't there is none."""
-    if isinstance(base, dict) and isinstance(key, str):
-        return base.get(key)
-    if isinstance(base, list) and isinstance(key, Num) and key.whole:
-        at = key.micros // 10**6
-        return base[at] if -len(base) <= at < len(base) else None
-    return None
-
-
-def pick(test: Expr, yes: Expr, no: Optional[Expr]) -> Expr:
-    """`x if c else y`; without else the empty text."""
-    return lambda scene: yes(scene) if truth(test(scene)) else (no(scene) if no else "")
-
-
-def decide(sign: str, left: Expr, right: Expr) -> Expr:
-    """`and` and `or`, which give the operand that decided."""
-    def value(scene: Scene) -> Value:
-        first = left(scene)
-        return right(scene) if truth(first) == (sign == "and") else first
-    return value
-
-
-def plus(left: Value, right: Value) -> Value:
-    """`+` of two numbers or two texts."""
-    if isinstance(left, str) and isinstance(right, str):
-        return bounded(left + right)
-    return arithmetic("+", left, right)
-
-
-def within(item: Value, group: Value) -> bool:
-    """`in`: an item of a list, a key of a map, a part of a text."""
-    if isinstance(group, list):
-        return any(equal(item, one) for one in group)
-    if isinstance(group, (dict, str)) and isinstance(item, str):
-        return item in group
-    raise Fault
-
-
-def operate(sign: str, left: Value, right: Value) -> Value:
-    """An operator that computes both its operands."""
-    if sign in ("==", "!="):
-        return equal(left, right) == (sign == "==")
-    if sign in ("<", "<=", ">", ">="):
-        return compare(sign, left, right)
-    if sign in ("in", "not in"):
-        return within(left, right) == (sign == "in")
-    if sign == "+":
-        return plus(left, right)
-    if sign == "~":
-        return bounded(printed(left) + printed(right))
-    return arithmetic(sign, left, right)
-
-
-def both(sign: str, left: Expr, right: Expr) -> Expr:
-    """An operator's expression."""
-    def value(scene: Scene) -> Value:
-        first = left(scene)
-        return operate(sign, first, right(scene))
-    return value
 
 
 class Parser:
@@ -119,6 +41,7 @@ class Parser:
     def __init__(self, text: str) -> None:
         self.text = text
         self.at = 0
+        self.open = 0
         self.trim_next = False
 
     # Tokens
@@ -146,7 +69,7 @@ class Parser:
     def need(self, wanted: str) -> None:
         """Takes a sign that has to stand here."""
         if self.sign(wanted) is None:
-            raise GrammarError(f"{wanted} wanted at {self.at} of {self.text!r}")
+            raise GrammarError("wanted", self.at, wanted)
 
     def peek_name(self) -> Optional[str]:
         """The word that stands here."""
@@ -166,7 +89,7 @@ class Parser:
         """Takes a name that is no word of the grammar."""
         here = self.peek_name()
         if here is None or here in WORDS:
-            raise GrammarError(f"name wanted at {self.at} of {self.text!r}")
+            raise GrammarError("name", self.at)
         self.at += len(here)
         return here
 
@@ -183,39 +106,52 @@ class Parser:
             else:
                 out, at = out + self.text[at], at + 1
         if at >= len(self.text):
-            raise GrammarError("open string")
+            raise GrammarError("open string", self.at)
         self.at = at + 1
         return out
 
     # Expressions
 
+    def deeper(self, part: Callable[[], Expr]) -> Expr:
+        """A part inside what is open: at most so many are open in one another."""
+        self.open += 1
+        if self.open > DEEPEST:
+            raise GrammarError("depth", self.at)
+        found = part()
+        self.open -= 1
+        return found
+
     def expression(self) -> Expr:
+        """An expression that stands in a tag, in brackets or among arguments."""
+        return self.deeper(self.any_expression)
+
+    def any_expression(self) -> Expr:
         """e := or [ "if" or [ "else" e ] ]"""
         yes = self.either()
         if not self.word("if"):
             return yes
         test = self.either()
-        return pick(test, yes, self.expression() if self.word("else") else None)
+        return tree.pick(test, yes, self.any_expression() if self.word("else") else None)
 
     def either(self) -> Expr:
         """or := and { "or" and }"""
         left = self.all_of()
         while self.word("or"):
-            left = decide("or", left, self.all_of())
+            left = tree.decide("or", left, self.all_of())
         return left
 
     def all_of(self) -> Expr:
         """and := not { "and" not }"""
         left = self.negation()
         while self.word("and"):
-            left = decide("and", left, self.negation())
+            left = tree.decide("and", left, self.negation())
         return left
 
     def negation(self) -> Expr:
         """not := "not" not | cmp"""
+        at = self.at
         if self.word("not"):
-            inner = self.negation()
-            return lambda scene: not truth(inner(scene))
+            return tree.turned(at, self.deeper(self.negation))
         return self.comparison()
 
     def comparison(self) -> Expr:
@@ -223,13 +159,13 @@ class Parser:
         left = self.sums()
         found = self.sign("==", "!=", "<=", ">=", "<", ">")
         if found:
-            return both(found, left, self.sums())
+            return tree.both(found, left, self.sums())
         if self.word("in"):
-            return both("in", left, self.sums())
+            return tree.both("in", left, self.sums())
         if self.word("not"):
             if not self.word("in"):
-                raise GrammarError("in wanted")
-            return both("not in", left, self.sums())
+                raise GrammarError("wanted", self.at, "in")
+            return tree.both("not in", left, self.sums())
         return self.is_test(left) if self.word("is") else left
 
     def is_test(self, base: Expr) -> Expr:
@@ -237,15 +173,14 @@ class Parser:
         turned = self.word("not") is not None
         wanted = self.word("none", "None", "defined")
         if wanted is None:
-            raise GrammarError("none or defined wanted")
-        holds = (wanted != "defined") != turned
-        return lambda scene: (base(scene) is None) == holds
+            raise GrammarError("no test", self.at, self.peek_name() or "")
+        return tree.is_none(base, (wanted != "defined") != turned)
 
     def row(self, part: Callable[[], Expr], *signs: str) -> Expr:
         """Operators of one level, grouped from the left."""
         left = part()
         while (found := self.sign(*signs)):
-            left = both(found, left, part())
+            left = tree.both(found, left, part())
         return left
 
     def sums(self) -> Expr:
@@ -270,21 +205,17 @@ class Parser:
     def one_filter(self, base: Expr) -> Expr:
         """One filter of a row of them."""
         name = self.name()
+        at = self.at
         args = self.arguments(")") if self.sign("(") else []
         if name not in FILTERS or len(args) not in FILTERS[name][1]:
-            raise GrammarError(f"no filter {name} of {len(args)}")
-        apply = FILTERS[name][0]
-
-        def value(scene: Scene) -> Value:
-            first = base(scene)
-            return apply(first, *[arg(scene) for arg in args])
-        return value
+            raise GrammarError("no filter", at, name)
+        return tree.filtered(name, base, args)
 
     def negative(self) -> Expr:
         """neg := "-" neg | post"""
+        at = self.at
         if self.sign("-"):
-            inner = self.negative()
-            return lambda scene: arithmetic("*", whole(-1), inner(scene))
+            return tree.negated(at, self.deeper(self.negative))
         return self.posts()
 
     def posts(self) -> Expr:
@@ -292,30 +223,13 @@ class Parser:
         base = self.atom()
         while True:
             if self.sign("."):
-                base = self.at_key(base, self.key_word())
+                base = tree.at_key(base, self.name())
             elif self.sign("["):
                 key = self.expression()
                 self.need("]")
-                base = self.at_index(base, key)
+                base = tree.at_index(base, key)
             else:
                 return base
-
-    def key_word(self) -> str:
-        """A name behind a dot."""
-        return self.name()
-
-    @staticmethod
-    def at_key(base: Expr, key: str) -> Expr:
-        """`.name`"""
-        return lambda scene: field_of(base(scene), key)
-
-    @staticmethod
-    def at_index(base: Expr, key: Expr) -> Expr:
-        """`[e]`"""
-        def value(scene: Scene) -> Value:
-            first = base(scene)
-            return field_of(first, key(scene))
-        return value
 
     def arguments(self, close: str) -> list[Expr]:
         """args := [ e { "," e } ], with the bracket that closes them."""
@@ -330,47 +244,48 @@ class Parser:
 
     def atom(self) -> Expr:
         """A number, string, word, name, call, list or bracket."""
+        self.skip()
+        at = self.at
         text = self.string()
         if text is not None:
-            return lambda scene: text
+            return tree.constant(at, text)
         found = NUMBER.match(self.text, self.at)
         if found:
-            return self.number(found.group())
+            return tree.constant(at, self.number(found.group()))
         if self.sign("["):
-            items = self.arguments("]")
-            return lambda scene: bounded_list([item(scene) for item in items])
+            return tree.listed(at, self.arguments("]"))
         if self.sign("("):
             inner = self.expression()
             self.need(")")
             return inner
-        return self.named()
+        return self.named(at)
 
-    def number(self, text: str) -> Expr:
+    def number(self, text: str) -> Value:
         """A number, which has to be in range."""
-        self.at += len(text)
         value = read_number(text)
         if value is None:
-            raise GrammarError("number out of range")
-        return lambda scene: value
+            raise GrammarError("number", self.at, text)
+        self.at += len(text)
+        return value
 
-    def named(self) -> Expr:
+    def named(self, at: int) -> Expr:
         """A constant, a variable or a function's call."""
-        for words, constant in ((("true", "True"), True), (("false", "False"), False), (("none", "None"), None)):
+        for words, value in ((("true", "True"), True), (("false", "False"), False), (("none", "None"), None)):
             if self.word(*words):
-                return lambda scene, constant=constant: constant
+                return tree.constant(at, value)
         name = self.name()
         if self.sign("("):
-            return self.call(name, self.arguments(")"))
+            return self.call(at, name, self.arguments(")"))
         if name == "states":
-            raise GrammarError("states without a call")
-        return lambda scene: scene.own[name] if name in scene.own else scene.names.get(name)
+            raise GrammarError("states alone", at, name)
+        return tree.named(at, name)
 
     @staticmethod
-    def call(name: str, args: list[Expr]) -> Expr:
+    def call(at: int, name: str, args: list[Expr]) -> Expr:
         """A function of the table."""
         if name not in FUNCTIONS or not FUNCTIONS[name](len(args)):
-            raise GrammarError(f"no function {name} of {len(args)}")
-        return lambda scene: function(name, [arg(scene) for arg in args], scene.states)
+            raise GrammarError("no function", at, name)
+        return tree.called(at, name, args)
 
     # Pieces
 
@@ -402,57 +317,54 @@ class Parser:
             self.trim_next = True
             self.at += 1
         if not self.text.startswith(end, self.at):
-            raise GrammarError(f"{end} wanted at {self.at} of {self.text!r}")
+            raise GrammarError("wanted", self.at, end)
         self.at += 2
 
     def comment(self) -> None:
         """Goes over a comment."""
         end = self.text.find("#}", self.at)
         if end < 0:
-            raise GrammarError("open comment")
+            raise GrammarError("open comment", self.at)
         self.trim_next = end > self.at and self.text[end - 1] == "-"
         self.at = end + 2
 
-    def pieces(self) -> tuple[list[Piece], Optional[str]]:
+    def pieces(self) -> tuple[tuple[Piece, ...], Optional[str]]:
         """Pieces up to the end, or to `elif`, `else` or `endif`, whose word is taken and told."""
         out: list[Piece] = []
         while True:
-            text = self.literal()
-            out.append(lambda scene, text=text: text)
+            at = self.at
+            out.append(tree.literal(at, self.literal()))
             if self.at >= len(self.text):
-                return out, None
+                return tuple(out), None
+            at = self.at
             kind = self.open_tag()
             if kind == "{#":
                 self.comment()
             elif kind == "{{":
-                out.append(self.shown())
+                inner = self.expression()
+                self.close_tag("}}")
+                out.append(tree.shown(at, inner))
             else:
                 word = self.word("elif", "else", "endif")
                 if word:
-                    return out, word
-                out.append(self.statement())
+                    return tuple(out), word
+                out.append(self.statement(at))
 
-    def shown(self) -> Piece:
-        """{{ e }}"""
-        inner = self.expression()
-        self.close_tag("}}")
-        return lambda scene: printed(inner(scene))
-
-    def statement(self) -> Piece:
+    def statement(self, at: int) -> Piece:
         """{% set %} or {% if %}"""
         if self.word("set"):
             name = self.name()
             self.need("=")
             value = self.expression()
             self.close_tag("%}")
-            return lambda scene: scene.own.__setitem__(name, value(scene)) or ""
+            return tree.assigned(at, name, value)
         if not self.word("if"):
-            raise GrammarError(f"tag at {self.at} of {self.text!r}")
-        return self.choice()
+            raise GrammarError("no tag", self.at, self.peek_name() or "")
+        return self.choice(at)
 
-    def choice(self) -> Piece:
+    def choice(self, at: int) -> Piece:
         """The arms of an `if`, the last of which may be without a test."""
-        arms: list[tuple[Expr, list[Piece]]] = []
+        arms: list[tuple[Optional[Expr], tuple[Piece, ...]]] = []
         word: Optional[str] = "if"
         while word in ("if", "elif"):
             test = self.expression()
@@ -462,27 +374,23 @@ class Parser:
         if word == "else":
             self.close_tag("%}")
             inner, word = self.pieces()
-            arms.append((lambda scene: True, inner))
+            arms.append((None, inner))
         if word != "endif":
-            raise GrammarError("endif wanted")
+            raise GrammarError("wanted", self.at, "endif")
         self.close_tag("%}")
-        return lambda scene: next((joined(body, scene) for test, body in arms if truth(test(scene))), "")
-
-
-def joined(pieces: list[Piece], scene: Scene) -> str:
-    """Pieces rendered in order."""
-    return "".join(piece(scene) for piece in pieces)
+        return tree.chosen(at, arms)
 
 
 @lru_cache(maxsize=4096)
 def parse(text: str) -> tuple[Piece, ...]:
     """The pieces of a template's text."""
-    pieces, word = Parser(text).pieces()
+    parser = Parser(text)
+    pieces, word = parser.pieces()
     if word is not None:
-        raise GrammarError(f"{word} without an if")
-    return tuple(pieces)
+        raise GrammarError("no if", parser.at, word)
+    return pieces
 
 
 def render(text: str, states: States, names: Mapping[str, Value]) -> str:
     """The rendered text, trimmed; or a Fault."""
-    return bounded(joined(list(parse(text)), Scene(states, names))).strip(BLANKS)
+    return bounded(tree.joined(parse(text), Scene(states, names))).strip(BLANKS)
