@@ -1,0 +1,31 @@
+"""What nobody can have meant in the automations of a file that are taken."""
+
+from __future__ import annotations
+
+from .walk import Walk
+from .whole_file import Automation, File
+
+Doubt = tuple[Automation, int, str]
+
+
+def doubts_of(file: File) -> list[Doubt]:
+    """The doubts of each automation without faults, in its order."""
+    names = {one.name for one in file.automations}
+    out: list[Doubt] = []
+    for automation in file.automations:
+        if automation.node.kind != "map":
+            continue
+        out += lost_letters(automation)
+        if not automation.faults:
+            Walk(automation.node, automation.name, names,
+                 lambda line, text, held=automation: out.append((held, line, text))).go()  # type: ignore[misc]
+    return out
+
+
+def lost_letters(automation: Automation) -> list[Doubt]:
+    """An alias with letters beyond ASCII, which its name has not."""
+    title = automation.node.get("alias", "id")
+    if title is None or not any(char.isalpha() and not char.isascii() for char in title.text):
+        return []
+    return [(automation, title.line, f"`{title.text}` has letters beyond ASCII: its name is `automation.{automation.name}`; "
+                                     "for another name write the alias in ASCII")]

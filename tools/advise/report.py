@@ -1,0 +1,51 @@
+"""What is told of a file, line by line."""
+
+from __future__ import annotations
+
+from dataclasses import dataclass
+
+from .cures import told
+from .notation import Fault
+from .whole_file import Automation, File
+
+
+@dataclass(frozen=True, order=True)
+class Line:
+    """A line of the report, by its place in the file and its code's number (0 where it is no refusal)."""
+
+    line: int
+    code: int
+    text: str
+    name: str
+
+    def shown(self) -> str:
+        """The line as it is printed."""
+        return f"line {self.line}: {f'automation {self.name}' if self.name else 'the file'}: {self.text}"
+
+
+def refusals(faults: list[Fault], name: str) -> list[Line]:
+    """The lines of faults. What a blueprint lacks is told once."""
+    blueprint = [fault for fault in faults if fault.code == "C5" and fault.word == "use_blueprint"]
+    if blueprint:
+        first = min(fault.line for fault in faults)
+        faults = [Fault(first, "C6", "use_blueprint")] + [fault for fault in faults if fault.code != "C6" and fault not in blueprint]
+    return [Line(fault.line, int(fault.code[1:]), told(fault), name) for fault in faults]
+
+
+def lines_of(file: File, doubts: list[tuple[Automation, int, str]]) -> list[Line]:
+    """The lines of a file: what `check` tells first, then the others by their place."""
+    found = refusals(file.faults, "")
+    for automation in file.automations:
+        found += refusals(automation.faults, automation.name)
+    found += [Line(line, 0, text, automation.name) for automation, line, text in doubts]
+    found = sorted(set(found))
+    first = file.refusal
+    if first is not None:
+        found.sort(key=lambda one: (one.line, one.code) != (first.line, int(first.code[1:])))
+    return found
+
+
+def count_line(file: File, lines: list[Line]) -> str:
+    """The last line, which counts."""
+    refused = sum(1 for one in file.automations if one.faults)
+    return f"automations {len(file.automations)}, refused {refused}, told {len(lines)}"
