@@ -17,8 +17,9 @@ def doubts_of(file: File) -> list[Doubt]:
             continue
         out += lost_letters(automation)
         if not automation.faults:
-            Walk(automation.node, automation.name, names,
-                 lambda line, text, held=automation: out.append((held, line, text))).go()  # type: ignore[misc]
+            said: list[tuple[int, str]] = []
+            Walk(automation.node, automation.name, names, lambda line, text: said.append((line, text))).go()
+            out += [(automation, line, text) for line, text in said]
     return out
 
 

@@ -3,18 +3,32 @@
 from __future__ import annotations
 
 import re
+from typing import Callable, Protocol
 
-from .notation import FORBIDDEN, SIGNS, Fault, Key, Node, Stop
+from .notation import FORBIDDEN, SIGNS, Fault, Key, Lines, Node, Stop
 from .scalars import NULLS, escape, quote_end
 
 
-class Flow:
-    """One pass over a flow that begins at a column of a line. `faults` takes what does not stop it."""
+class Notes(Protocol):
+    """Takes what does not stop a flow."""
 
-    def __init__(self, lines: "object", row: int, at: int, depth: int, notes: "object") -> None:
+    def note(self, fault: Fault) -> None:
+        """A fault with which the reading goes on."""
+
+    def deeper(self, line: int, depth: int) -> None:
+        """A node at a depth."""
+
+    def sign(self, flow: "Flow", char: str) -> Node:
+        """A sign of what is left out: the node that stands there, or a stop."""
+
+
+class Flow:
+    """One pass over a flow that begins at a column of a line."""
+
+    def __init__(self, lines: Lines, row: int, at: int, depth: int, notes: Notes) -> None:
         self.lines = lines
         self.row = row
-        self.line: str = lines.lines[row]  # type: ignore[attr-defined]
+        self.line = lines.lines[row]
         self.at = at
         self.depth = depth
         self.notes = notes
@@ -35,7 +49,7 @@ class Flow:
 
     def node(self) -> Node:
         """One node."""
-        self.notes.deeper(self.row + 1, self.depth)  # type: ignore[attr-defined]
+        self.notes.deeper(self.row + 1, self.depth)
         char = self.skip()
         if char == "[":
             return self.inside(self.items)
@@ -43,7 +57,7 @@ class Flow:
             return self.inside(self.pairs)
         return self.scalar()
 
-    def inside(self, part) -> Node:  # type: ignore[no-untyped-def]
+    def inside(self, part: Callable[[], Node]) -> Node:
         """A list or map, one level deeper."""
         self.at += 1
         self.depth += 1
@@ -68,15 +82,14 @@ class Flow:
         out = Node(self.row + 1, "map")
         while self.skip() != "}":
             key = self.key(out)
-            value = Node(self.row + 1, "null")
-            if self.skip() == ":":
+            has_colon = self.skip() == ":"
+            if has_colon:
                 self.at += 1
-                if self.skip() not in ",}":
-                    value = self.node()
-                else:
-                    self.notes.deeper(self.row + 1, self.depth)  # type: ignore[attr-defined]
+            if has_colon and self.skip() not in ",}":
+                value = self.node()
             else:
-                self.notes.deeper(self.row + 1, self.depth)  # type: ignore[attr-defined]
+                self.notes.deeper(self.row + 1, self.depth)
+                value = Node(self.row + 1, "null")
             out.pairs.append((key, value))
             if self.skip() == ",":
                 self.at += 1
@@ -100,7 +113,7 @@ class Flow:
             raise self.fault("C2", "colon")
         key = Key(found.text, self.row + 1)
         if any(other.text == key.text for other, _ in held.pairs):
-            self.notes.note(Fault(self.row + 1, "C4", "twice", key.text))  # type: ignore[attr-defined]
+            self.notes.note(Fault(self.row + 1, "C4", "twice", key.text))
         return key
 
     def scalar(self, is_key: bool = False) -> Node:
@@ -111,7 +124,7 @@ class Flow:
         if char in FORBIDDEN or re.match(r"- |: ", self.line[self.at:]):
             raise self.fault("C2", "flow", char)
         if char in SIGNS or re.match(r"\? ", self.line[self.at:]):
-            return self.notes.sign(self, char)  # type: ignore[attr-defined]
+            return self.notes.sign(self, char)
         end = self.at
         while end < len(self.line) and not self.ends(end, is_key):
             end += 1
@@ -138,7 +151,7 @@ class Flow:
         text, at = "", self.at + 1
         while at < end:
             if self.line[at] == "\\" and quote == '"':
-                char, at = escape(self.lines, self.row, at + 1)  # type: ignore[arg-type]
+                char, at = escape(self.lines, self.row, at + 1)
                 text += char
             else:
                 text += self.line[at]

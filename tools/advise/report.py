@@ -2,7 +2,7 @@
 
 from __future__ import annotations
 
-from dataclasses import dataclass
+from dataclasses import dataclass, replace
 
 from .cures import told
 from .notation import Fault
@@ -35,8 +35,13 @@ def refusals(faults: list[Fault], name: str) -> list[Line]:
 def lines_of(file: File, doubts: list[tuple[Automation, int, str]]) -> list[Line]:
     """The lines of a file: what `check` tells first, then the others by their place."""
     found = refusals(file.faults, "")
+    if file.is_cut and not file.automations:
+        found = [replace(line, text=line.text + "; the automations can't be told apart before it") for line in found]
     for automation in file.automations:
-        found += refusals(automation.faults, automation.name)
+        own = refusals(automation.faults, automation.name)
+        if automation.node.kind == "open" and own:
+            own[-1] = replace(own[-1], text=own[-1].text + "; what else this automation has is told when that is mended")
+        found += own
     found += [Line(line, 0, text, automation.name) for automation, line, text in doubts]
     found = sorted(set(found))
     first = file.refusal

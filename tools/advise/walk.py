@@ -142,13 +142,13 @@ class Walk:
             self.condition(node, names, "action")
         elif node.get("action", "service") is not None:
             self.call(node, names)
-        elif node.get("variables") is not None:
-            for key, value in node.get("variables").pairs:  # type: ignore[union-attr]
+        elif (data := node.get("variables")) is not None:
+            for key, value in data.pairs:
                 assign(blocks, key.text, self.form(value, visible(blocks)))
         elif node.get("wait_template", "wait_for_trigger") is not None:
             self.wait(node, blocks)
-        elif node.get("repeat") is not None:
-            self.repeat(node.get("repeat"), blocks)  # type: ignore[arg-type]
+        elif (repeat := node.get("repeat")) is not None:
+            self.repeat(repeat, blocks)
         elif node.get("parallel") is not None:
             for branch in several(node.get("parallel")):
                 self.script(branch, [dict(block) for block in blocks] + [{}])
@@ -158,8 +158,8 @@ class Walk:
     def plain(self, node: Node, blocks: Blocks, names: Mapping[str, Shape]) -> None:
         """A delay, an event, or lists of actions."""
         self.span(node.get("delay"), names)
-        if node.get("event_data") is not None:
-            self.form(node.get("event_data"), names)  # type: ignore[arg-type]
+        if (data := node.get("event_data")) is not None:
+            self.form(data, names)
         for one in several(node.get("if")):
             self.condition(one, names)
         for option in several(node.get("choose")):
@@ -180,8 +180,8 @@ class Walk:
             self.entities(held)
             if held is not None:
                 self.form(held, names, "entity")
-        if node.get("data") is not None:
-            self.form(node.get("data"), names)  # type: ignore[arg-type]
+        if (data := node.get("data")) is not None:
+            self.form(data, names)
         call_doubts(node, self.say, self.automations)
 
     def wait(self, node: Node, blocks: Blocks) -> None:
