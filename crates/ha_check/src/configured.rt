@@ -3,7 +3,7 @@ ghost use Rattle.std.specs.Prelude.{◌≡◌, ◌≤◌, ◌∷◌, [], IfOk, I
 ghost use Rattle.ha_io.specs.declared.place.Opening.{Opening};
 ghost use Rattle.ha_io.specs.Told.{AreAsked};
 ghost use Rattle.ha_status.specs.Causes.{OpenCause, ReadCause};
-ghost use Rattle.ha_status.specs.Files.{IsHandedBack, IsTextFault, ThereCause};
+ghost use Rattle.ha_status.specs.Files.{AskedAt, IsHandedBack, IsTextFault, ThereCause};
 ghost use Rattle.ha_config.specs.Sound.{IsSoundConfig};
 ghost use Rattle.conf_auto.specs.Config.{config_of};
 ghost use Rattle.ha_check.specs.Configured.{IsConfigOf, IsRefusal, RefusedCause};
@@ -69,6 +69,7 @@ pub fn read_config_at<P: Place>(
     ensures there { IfErr result (λ end. ThereCause (P.holds place.old) name.now end.status) }
     ensures handed_back { IfErr result (λ end. IsHandedBack name.now (map P.Source.name (option_to_list end.source)) end.status) }
 
+    ensures asked_once { IfErr result (λ end. AskedAt (name.now, Opening.Reading) (P.asked place.old) (P.asked place.new) end.status) }
     ensures asked { AreAsked (is_ok result) (P.asked place.old) ((name.now, Opening.Reading) ∷ []) (P.asked place.new) }
     ensures never_falls { P.faults place.old ≤ P.faults place.new }
     ensures same_files { P.holds place.new ≡ P.holds place.old }

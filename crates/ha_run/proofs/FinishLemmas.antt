@@ -159,9 +159,9 @@ module _ (B : List Entry → Type 0) (files : Option Files) (names : List Text) 
 
   stopped : (fault : BusFault) → Stands b (Some fault) → Store old b → Ran B (scene files names b after b.out) feeds
       → (fault ≡ BusFault.Full → (is_quiet b.records b.journal ≡ false) ⊎ OwesLine feeds) → Stood (status_of fault)
-  stopped (BusFault.Write z) h store ran due = (part_written old b store h.0, record { feeds = feeds; ran = ran })
+  stopped (BusFault.Write z) h store ran due = inl (part_written old b store h.0, record { feeds = feeds; ran = ran })
   stopped BusFault.Keep h store ran due = inr (part_written old b store h.0, record { feeds = feeds; ran = ran })
-  stopped BusFault.Memory h store ran due = inr (part_written old b store h, record { feeds = feeds; ran = ran })
+  stopped BusFault.Memory h store ran due = inr (inl (part_written old b store h, record { feeds = feeds; ran = ran }))
   stopped BusFault.Full h store ran due = (seen_whole b h.0, record { feeds = feeds; ran = ran; full = h.1; due = due refl })
 
 stop_cause : (b : BusView) (fault : BusFault) → Stands b (Some fault) → OutCause (status_of fault) b.out
@@ -209,16 +209,16 @@ end_cause j out told (Some BusFault.Full) h told_cause = absurd h
 end_cause j out told (Some BusFault.Memory) h told_cause = tt
 
 module _ (B : List Entry → Type 0) (s : Scene) (old out : Outside) (written : IfSome out.trace (HasTaken (trace_text s.journal true)) → IsEndWritten (view_of s.journal s.records out))
-    (cut : IfSome out.trace (HasTakenFront (trace_text s.journal false) (trace_text s.journal true)) → IsEndCut (view_of s.journal s.records out)) (some : RanSome B s) where
+    (cut : IfSome out.trace (HasTakenFront (trace_text s.journal false) (trace_text s.journal true)) → IsEndCut (view_of s.journal s.records out)) (through : (feeds : List Feed) × RanThrough B s feeds) where
   abbrev Over : Status → Type 0
   Over = StandsAt B s (writings old (view_of s.journal s.records out))
 
   end_stands : (told : Status) (first : Option BusFault) → HasEnded s.journal first out.trace → (IsEndWritten (view_of s.journal s.records out) → Over told) → Over (ended_status first told)
   end_stands told None h by_told = by_told (written h)
-  end_stands told (Some (BusFault.Write z)) h by_told = (inl (cut (and_front out.trace (HasTakenFront (trace_text s.journal false) (trace_text s.journal true)) (SinkFailed (BusFault.Write z)) h)), some)
+  end_stands told (Some (BusFault.Write z)) h by_told = inr (cut (and_front out.trace (HasTakenFront (trace_text s.journal false) (trace_text s.journal true)) (SinkFailed (BusFault.Write z)) h), through)
   end_stands told (Some BusFault.Keep) h by_told = absurd h
   end_stands told (Some BusFault.Full) h by_told = absurd h
-  end_stands told (Some BusFault.Memory) h by_told = inr (inl (cut (and_only out.trace (HasTakenFront (trace_text s.journal false) (trace_text s.journal true)) h)), some)
+  end_stands told (Some BusFault.Memory) h by_told = inr (inr (cut (and_only out.trace (HasTakenFront (trace_text s.journal false) (trace_text s.journal true)) h), through))
 
 -- ---- a bus that did not go round
 
@@ -269,6 +269,11 @@ module _ (boot : Entry) (old : Outside) (base : BusView) (at_boot : base.journal
         served = all_served files last.journal b.first 0 names before after ends r.feeds new
             (worked_later b.journal last.journal b.first (λ k cmds p. closed_puts b last k cmds c p) 0 before after ends r.feeds r.worked);
       }
+
+      ran_through : (last : BusView) (out : Outside) → IsBus last → 0 < length before → Closed b last → b.first ≡ None → is_quiet last.records last.journal ≡ true
+          → RanThrough (BeginsWith boot) (scene files names last after out) r.feeds
+      ran_through last out bus some c free quiet =
+          record { ran = ran_closed last bus some c; through = all_through b.journal b.first free 0 before after ends r.feeds r.worked; quiet = quiet }
 
       -- the status by the ends of the workers
       told_stands : (last : BusView) (out : Outside) → b.first ≡ None → RanThrough (BeginsWith boot) (scene files names last after out) r.feeds → IsEndWritten (view_of last.journal last.records out)
@@ -326,14 +331,8 @@ module _ (boot : Entry) (old : Outside) (base : BusView) (at_boot : base.journal
         stands = λ files names new.
             end_stands (BeginsWith boot) (scene files names last after out) old out
             (λ h. end_written last.journal last.out out e.ends.calls e.ends.errors e.ends.keep last.records whole h) (λ h. end_cut last.journal last.out out e.ends.calls e.ends.errors e.ends.keep last.records whole h)
-            (record { feeds = r.feeds; ran = ran_closed b after ends r files names new last e.bus some c.closed }) (told_by 0 ends) e.first e.has
-            (λ written. told_stands b after ends r files names new last out c.free
-            (record {
-              ran = ran_closed b after ends r files names new last e.bus some c.closed;
-              through = all_through b.journal b.first c.free 0 before after ends r.feeds r.worked;
-              quiet = e.quiet;
-            })
-            written);
+            (r.feeds, ran_through b after ends r files names new last out e.bus some c.closed c.free e.quiet) (told_by 0 ends) e.first e.has
+            (λ written. told_stands b after ends r files names new last out c.free (ran_through b after ends r files names new last out e.bus some c.closed c.free e.quiet) written);
         same = same_then old last.out out (same_then old b.out last.out (round_out b after ends r) (grown_out b.out last.out c.closed.grows)) (ended_same last.journal last.out out e.first e.ends);
         cause = end_cause last.journal out (told_by 0 ends) e.first e.has (told_cause b after ends r out c.free);
       }))

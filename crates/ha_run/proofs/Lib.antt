@@ -5,3 +5,4 @@ pub mod TeamLemmas
 pub mod CrewLemmas
 pub mod RoundLemmas
 pub mod FinishLemmas
+pub mod HandedLemmas

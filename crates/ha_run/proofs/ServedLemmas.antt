@@ -23,16 +23,16 @@ use Rattle.ha_run.specs.Team.{AreWorked, IsOver, IsWorked, told_by}
 -- ---- one source
 
 -- what was read of the file
-read_of : (course : Course) (bytes file : Text) (s s' : SourceState) → GaveBytes course bytes s s' → s.left ≡ Some file → IsReadOf course bytes file
-read_of Course.Goes bytes file s s' g e = let t = Gives-told s.left s'.left bytes file g e in (t.0, t.2)
+read_of : (course : Course) (bytes file : Text) (s s' : SourceState) → GaveBytes course bytes s s' → s.left ≡ Some file → IsReadOf course bytes s'.left file
+read_of Course.Goes bytes file s s' g e = let t = Gives-told s.left s'.left bytes file g e in (t.0, t.1, t.2)
 read_of Course.Ends bytes file s s' g e =
     let t = Gives-told s.left s'.left bytes file g.0 e in
     let end : t.0 ≡ [] = subst IsAtEnd t.1 g.1 in
-    t.2 ∙ ap (λ (z : Text). bytes ++ z) end ∙ append-nil bytes
-read_of Course.Fails bytes file s s' g e = let t = Gives-told s.left s'.left bytes file g.0 e in (t.0, t.2)
+    (t.1 ∙ ap (λ (z : Text). Some z) end, t.2 ∙ ap (λ (z : Text). bytes ++ z) end ∙ append-nil bytes)
+read_of Course.Fails bytes file s s' g e = let t = Gives-told s.left s'.left bytes file g.0 e in (t.0, t.1, t.2)
 read_of Course.Exceeds bytes file s s' g e =
     let t = Gives-told s.left s'.left (bytes ++ (g.0 ∷ [])) file g.2 e in
-    (g.1, (g.0, t.0, t.2 ∙ append_assoc bytes (g.0 ∷ []) t.0))
+    (g.1, (g.0, t.0, t.1, t.2 ∙ append_assoc bytes (g.0 ∷ []) t.0))
 
 failed_of : (course : Course) (bytes : Text) (s s' : SourceState) → GaveBytes course bytes s s' → s.faults ≡ 0 → course ≡ Course.Fails → 0 < s'.faults
 failed_of course bytes s s' g new is =
@@ -49,11 +49,11 @@ ended_of course bytes s s' g is =
 
 -- where files are told, what was read of the file of this name
 told_of : (files : Option Files) (name : Text) (course : Course) (bytes : Text) (s s' : SourceState) → HasFile files name s.left → GaveBytes course bytes s s'
-    → IfSome files (λ f. IsSomeAnd (f name) (IsReadOf course bytes))
+    → IfSome files (λ f. IsSomeAnd (f name) (IsReadOf course bytes s'.left))
 told_of None name course bytes s s' h g = tt
 told_of (Some f) name course bytes s s' h g = by (f name) h
   where
-    by : (o : Option Text) → IsSomeAnd o (λ file. s.left ≡ Some file) → IsSomeAnd o (IsReadOf course bytes)
+    by : (o : Option Text) → IsSomeAnd o (λ file. s.left ≡ Some file) → IsSomeAnd o (IsReadOf course bytes s'.left)
     by None e = e
     by (Some file) e = read_of course bytes file s s' g e
 

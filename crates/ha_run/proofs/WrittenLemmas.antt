@@ -28,20 +28,11 @@ trace_whole j = sym (ap (λ (z : Text). z ++ end_line (length j)) (append-nil (t
 between_whole : (done whole more t : Text) → whole ≡ done ++ more → t ≡ whole → IsBetween done t whole
 between_whole done whole more t e f = record { more_done = more; missing = []; begins = f ∙ e; ends = sym f ∙ sym (append-nil t) }
 
-between_done : (done whole more t : Text) → whole ≡ done ++ more → t ≡ done → IsBetween done t whole
-between_done done whole more t e f = record { more_done = []; missing = more; begins = f ∙ sym (append-nil done); ends = e ∙ ap (λ (z : Text). z ++ more) (sym f) }
-
 end_is_front : (j : Journal) (s : SinkState) → HasTaken (trace_text j true) s → HasTakenFront (trace_text j false) (trace_text j true) s
 end_is_front j s h = IfSome_then s.took h (λ t e. between_whole (trace_text j false) (trace_text j true) (end_line (length j)) t (trace_whole j) e)
 
-whole_is_front : (j : Journal) (s : SinkState) → HasTaken (trace_text j false) s → HasTakenFront (trace_text j false) (trace_text j true) s
-whole_is_front j s h = IfSome_then s.took h (λ t e. between_done (trace_text j false) (trace_text j true) (end_line (length j)) t (trace_whole j) e)
-
 pub end_cut_of_end : (b : BusView) → IsEndWritten b → IsEndCut b
 end_cut_of_end b w = record { calls = w.calls; errors = w.errors; trace = IfSome_then b.out.trace w.trace (λ s h. end_is_front b.journal s h); keep = w.keep }
-
-pub end_cut_of_whole : (b : BusView) → IsWritten b → IsEndCut b
-end_cut_of_whole b w = record { calls = w.calls; errors = w.errors; trace = IfSome_then b.out.trace w.trace (λ s h. whole_is_front b.journal s h); keep = w.keep }
 
 pub seen_whole : (b : BusView) → IsWritten b → IsWritten (view_of b.journal b.records b.out)
 seen_whole b w = record { calls = w.calls; errors = w.errors; trace = w.trace; keep = w.keep }

@@ -1,5 +1,5 @@
 -- What a run of a booted core leaves of what lies outside, before the status line.
-use Rattle.std.specs.Prelude.{◌≡◌, ◌⊎◌, true, false, List, [], ◌∷◌, Option, None, Some, IfSome, is_some}
+use Rattle.std.specs.Prelude.{ℕ, ◌≡◌, ◌⊎◌, true, false, List, [], ◌∷◌, Option, None, Some, IfSome, is_some}
 use Rattle.ha_journal.specs.declared.entry.Entry.{Entry}
 use Rattle.ha_model.specs.Records.{Records}
 use Rattle.ha_model.specs.Texts.{call_text}
@@ -36,16 +36,19 @@ IsEndWritten b = IsWrittenWith (HasTaken (trace_text b.journal true)) b
 abbrev pub IsEndCut : BusView → Type 0
 IsEndCut b = IsWrittenWith (HasTakenFront (trace_text b.journal false) (trace_text b.journal true)) b
 
--- all is written but for a part of what the last entry gives; at the boot alone the keeper may hold what it held before
+-- all is written but for the end of the trace and a part of what the last entry gives; at the boot alone the keeper may hold what it held
+-- before
 pub record IsCutFrom (before : Outside) (b : BusView) : Type 0 where
   pub cut : IsCut b
   pub store : cut.before ≡ [] → (b.out.keep.kept ≡ before.keep.kept) ⊎ HoldsStore b.journal b.out.keep
 
+-- so, or all is written but for the end of the trace
 abbrev pub IsPartWritten : Outside → BusView → Type 0
-IsPartWritten before b = IsEndCut b ⊎ IsCutFrom before b
+IsPartWritten before b = IsWritten b ⊎ IsCutFrom before b
 
 abbrev pub writings : Outside → BusView → Writings
-writings before b = record { Ended = IsEndWritten b; Whole = IsWritten b; Part = IsPartWritten before b; Nothing = ⊥ }
+writings before b =
+    record { Ended = IsEndWritten b; EndCut = IsEndCut b; Whole = IsWritten b; Part = IsPartWritten before b; Nothing = ⊥ }
 
 -- ---- what stays of what lies outside
 
@@ -65,6 +68,14 @@ pub record SameOutside (before after : Outside) : Type 0 where
   pub errors : SameSink before.errors after.errors
   pub trace : SameTrace before.trace after.trace
   pub keep : is_some after.keep.kept ≡ is_some before.keep.kept
+
+-- where the run came to its end, the trace's sink, where there is one, keeps none of the bytes that it took
+abbrev pub IsHandedOn : Option ℕ → Status → Type 0
+IsHandedOn None status = Unit {0}
+IsHandedOn (Some kept) Status.Ok = kept ≡ 0
+IsHandedOn (Some kept) (Status.ReadFault source) = kept ≡ 0
+IsHandedOn (Some kept) (Status.SourceTooLong source) = kept ≡ 0
+IsHandedOn (Some kept) status = Unit {0}
 
 -- ---- a run
 

@@ -1,5 +1,5 @@
 -- What becomes of the sources of a run, and of their lines.
-use Rattle.std.specs.Prelude.{ℕ, zero, suc, ◌≡◌, ◌≢◌, ◌<◌, ◌≤◌, ◌⊎◌, List, [], ◌∷◌, ◌++◌, length, Option, IfSome, IsSomeAnd}
+use Rattle.std.specs.Prelude.{ℕ, zero, suc, ◌≡◌, ◌≢◌, ◌<◌, ◌≤◌, ◌⊎◌, List, [], ◌∷◌, ◌++◌, length, Option, Some, IfSome, IsSomeAnd}
 use Rattle.ha_config.specs.declared.command.Cmd.{Cmd}
 use Rattle.ha_journal.specs.declared.entry.Entry.{Entry}
 use Rattle.ha_journal.specs.declared.entry.Entry.TheVariants.{Boot, Line, Step}
@@ -22,13 +22,14 @@ pub record Feed : Type 0 where
   pub course : Course
   pub unput : List Cmd
 
--- the bytes that were read of a file: all of it at its end, its first bytes while it goes on and after a failure, and as many as it may
--- give where it has more
-abbrev pub IsReadOf : Course → Text → Text → Type 0
-IsReadOf Course.Goes bytes file = (rest : Text) × (file ≡ bytes ++ rest)
-IsReadOf Course.Ends bytes file = file ≡ bytes
-IsReadOf Course.Fails bytes file = (rest : Text) × (file ≡ bytes ++ rest)
-IsReadOf Course.Exceeds bytes file = (length bytes ≡ most_bytes) × ((next : ℕ) × (rest : Text) × (file ≡ bytes ++ next ∷ rest))
+-- The bytes that were read of a file, by what is left of it in its source: all of it at its end; all but what is left while it goes on and
+-- after a failure; and as many as it may give where it has more, of which one byte was taken.
+abbrev pub IsReadOf : Course → Text → Option Text → Text → Type 0
+IsReadOf Course.Goes bytes left file = (rest : Text) × (left ≡ Some rest) × (file ≡ bytes ++ rest)
+IsReadOf Course.Ends bytes left file = (left ≡ Some []) × (file ≡ bytes)
+IsReadOf Course.Fails bytes left file = (rest : Text) × (left ≡ Some rest) × (file ≡ bytes ++ rest)
+IsReadOf Course.Exceeds bytes left file =
+    (length bytes ≡ most_bytes) × ((next : ℕ) × (rest : Text) × (left ≡ Some rest) × (file ≡ bytes ++ next ∷ rest))
 
 -- Of source k, which has this name, these bytes were read, within its bound; its lines in the journal are put from all their commands, in
 -- order, each once, but for the last ones, which are not put. At its end nothing is left in it; where a read failed, its count tells.
@@ -36,7 +37,7 @@ pub record IsServed (files : Option Files) (journal : List Entry) (k : ℕ) (nam
   pub bytes : Text
   pub put : List Cmd
   pub named : IfSome source.name (λ told. told ≡ name)
-  pub read : IfSome files (λ f. IsSomeAnd (f name) (IsReadOf feed.course bytes))
+  pub read : IfSome files (λ f. IsSomeAnd (f name) (IsReadOf feed.course bytes source.left))
   pub within : length bytes ≤ most_bytes
   pub cmds_are : cmds_by feed.course bytes ≡ put ++ feed.unput
   pub puts : ArePutFrom k journal put

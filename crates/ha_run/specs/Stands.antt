@@ -52,33 +52,44 @@ pub record RanNothing (s : Scene) : Type 0 where
   pub no_record : s.records ≡ []
   pub opened : AreOpened s.names s.sources
 
+-- nothing was booted, and no source was opened
+pub record OpenedNone (s : Scene) : Type 0 where
+  pub no_entry : s.journal ≡ []
+  pub no_record : s.records ≡ []
+  pub no_source : s.sources ≡ []
+
 -- nothing was booted, and the source of the configuration alone is there
 pub record NotRead (s : Scene) : Type 0 where
   pub no_entry : s.journal ≡ []
   pub no_record : s.records ≡ []
   pub one : length s.sources ≡ 1
 
--- What was written of a journal: all that is due, with the end of the trace; all but that end; all but a part of what the last entry gives,
--- or of that end; nothing.
+-- What was written of a journal: all that is due, with the end of the trace; all of it, but of that end a front at most; all but that end;
+-- all but that end and a part of what the last entry gives; nothing.
 pub record Writings : Type 1 where
   pub Ended : Type 0
+  pub EndCut : Type 0
   pub Whole : Type 0
   pub Part : Type 0
   pub Nothing : Type 0
 
 -- What stands at each status.
 module _ (Begins : List Entry → Type 0) (s : Scene) (w : Writings) where
+  -- a fault cut the run; or all sources were through and no run could go on, and the fault came no earlier than at the end of the trace
+  abbrev pub IsCutShort : Type 0
+  IsCutShort = (w.Part × RanSome Begins s) ⊎ (w.EndCut × ((feeds : List Feed) × RanThrough Begins s feeds))
+
   abbrev pub StandsAt : Status → Type 0
   StandsAt Status.Ok = w.Ended × ((feeds : List Feed) × RanThrough Begins s feeds × Each IsEnded feeds)
   StandsAt Status.Usage = ⊥
-  StandsAt (Status.ConfigRefused line code) = w.Nothing × RanNothing s
+  StandsAt (Status.ConfigRefused line code) = w.Nothing × OpenedNone s
   StandsAt (Status.OpenFault name) = w.Nothing × RanNothing s
   StandsAt (Status.ReadFault None) = w.Nothing × NotRead s
   StandsAt (Status.ReadFault (Some k)) = w.Ended × ((feeds : List Feed) × RanThrough Begins s feeds × IsFirst Course.Fails k feeds)
-  StandsAt (Status.WriteFault zero) = w.Part × RanSome Begins s
-  StandsAt Status.KeepFault = (w.Nothing × RanNothing s) ⊎ (w.Part × RanSome Begins s)
+  StandsAt (Status.WriteFault zero) = IsCutShort
+  StandsAt Status.KeepFault = (w.Nothing × OpenedNone s) ⊎ (w.Part × RanSome Begins s)
   StandsAt Status.JournalFull = w.Whole × RanFull Begins s
   StandsAt (Status.SourceTooLong k) = w.Ended × ((feeds : List Feed) × RanThrough Begins s feeds × IsFirst Course.Exceeds k feeds)
-  StandsAt (Status.StoreRefused code) = w.Nothing × RanNothing s
-  StandsAt Status.Memory = (w.Nothing × (RanNothing s ⊎ NotRead s)) ⊎ (w.Part × RanSome Begins s)
+  StandsAt (Status.StoreRefused code) = w.Nothing × OpenedNone s
+  StandsAt Status.Memory = (w.Nothing × (RanNothing s ⊎ NotRead s)) ⊎ IsCutShort
   StandsAt (Status.TraceRefused line) = ⊥

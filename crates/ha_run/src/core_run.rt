@@ -8,7 +8,7 @@ ghost use Rattle.bus_turn.specs.States.{keeper_of, outside_of, sink_of};
 ghost use Rattle.bus_pass.specs.Origins.{origin_of};
 ghost use Rattle.bus_pass.specs.Turns.{IsPassOf};
 ghost use Rattle.ha_worker.specs.declared.end.WorkerEnd.{WorkerEnd as End};
-ghost use Rattle.ha_run.specs.Core.{CoreRan};
+ghost use Rattle.ha_run.specs.Core.{CoreRan, IsHandedOn};
 ghost use Rattle.ha_run.specs.Opened.{source_of};
 ghost use Rattle.ha_run.specs.Team.{IsLead, Teamed, WentRound, told_by};
 
@@ -163,7 +163,8 @@ pub fn run_core<
     requires no_calls { IfSome (K.written out) (λ t. t ≡ []) }
     requires no_errors { IfSome (K.written err) (λ t. t ≡ []) }
     requires no_trace { IfSome trace (λ k. IfSome (K.written k) (λ t. t ≡ [])) }
-    ensures { let s = sink_of K.written K.faults K.zeros K.name in
+    ensures handed { IsHandedOn (option_map K.kept result.trace) result.status }
+    ensures ran { let s = sink_of K.written K.faults K.zeros K.name in
         let q = keeper_of Q.kept Q.faults in
         (boot : Entry) → C.entries core ≡ boot ∷ []
         → CoreRan boot (outside_of s q out err trace keep) (map (source_of S.faults S.left S.name) sources) result.status result.journal result.records

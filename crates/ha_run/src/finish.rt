@@ -1,11 +1,12 @@
 //! The end of a run, when the workers have ended.
-ghost use Rattle.std.specs.Prelude.{◌≡◌, None, true};
+ghost use Rattle.std.specs.Prelude.{◌≡◌, None, option_map, true};
 ghost use Rattle.ha_model.specs.Lawful.{Lawful, is_quiet};
 ghost use Rattle.bus_turn.specs.States.{keeper_of, outside_of, sink_of};
-ghost use Rattle.ha_run.specs.Finish.{Finishes, MayClose, StopsOrEnds};
+ghost use Rattle.ha_run.specs.Core.{IsHandedOn};
+ghost use Rattle.ha_run.specs.Finish.{Finishes, MayClose, StopsOrEnds, ended_status};
 
 use crate::status::status_of;
-use bus_turn::{Bus, Ended};
+use bus_turn::{Bus, BusFault, Ended};
 use ha_io::{Keeper, Sink};
 use ha_journal::Entry;
 use ha_model::{Core, Record};
@@ -58,12 +59,23 @@ fn stopped<C: Core, K: Sink, Q: Keeper>(bus: Bus<C, K, Q>, status: Status) -> Re
     }
 }
 
+/// The status behind the end line of the trace: that of a fault of this line, and else `told`.
+fn status_behind(first: Option<BusFault>, told: Status) -> Status
+    ensures { result ≡ ended_status first told }
+{
+    match first {
+        Some(fault) => status_of(fault),
+        None => told,
+    }
+}
+
 /// Ends a bus that keeps no fault and on which no run can go on: the end line of the trace is written. The status is `told`, unless that
 /// fails.
 fn ended<C: Core, K: Sink, Q: Keeper>(alloc: Global, bus: Bus<C, K, Q>, told: Status) -> Rest<K, Q>
     requires free { bus.first ≡ None }
     requires quiet { is_quiet bus.records bus.journal ≡ true }
-    ensures { let s = sink_of K.written K.faults K.zeros K.name in
+    ensures handed { IsHandedOn (option_map K.kept result.trace) result.status }
+    ensures ends { let s = sink_of K.written K.faults K.zeros K.name in
         let q = keeper_of Q.kept Q.faults in
         StopsOrEnds told result.status result.journal result.records (outside_of s q result.calls result.errors result.trace result.keep) bus }
 {
@@ -76,10 +88,7 @@ fn ended<C: Core, K: Sink, Q: Keeper>(alloc: Global, bus: Bus<C, K, Q>, told: St
         keep,
         first,
     } = bus.end(alloc);
-    let status = match first {
-        Some(fault) => status_of(fault),
-        None => told,
-    };
+    let status = status_behind(first, told);
     let (journal, records) = core.into_parts();
     Rest {
         status,
@@ -95,7 +104,8 @@ fn ended<C: Core, K: Sink, Q: Keeper>(alloc: Global, bus: Bus<C, K, Q>, told: St
 /// Ends a bus: the status is that of its first fault, and else `told`.
 fn end<C: Core, K: Sink, Q: Keeper>(alloc: Global, bus: Bus<C, K, Q>, told: Status) -> Rest<K, Q>
     requires quiet { bus.first ≡ None → is_quiet bus.records bus.journal ≡ true }
-    ensures { let s = sink_of K.written K.faults K.zeros K.name in
+    ensures handed { IsHandedOn (option_map K.kept result.trace) result.status }
+    ensures ends { let s = sink_of K.written K.faults K.zeros K.name in
         let q = keeper_of Q.kept Q.faults in
         StopsOrEnds told result.status result.journal result.records (outside_of s q result.calls result.errors result.trace result.keep) bus }
 {
@@ -112,7 +122,8 @@ pub(crate) fn finish<C: Core, K: Sink, Q: Keeper>(
     told: Status,
 ) -> Rest<K, Q>
     requires lawful { bus.first ≡ None → Lawful bus.journal bus.records }
-    ensures { let s = sink_of K.written K.faults K.zeros K.name in
+    ensures handed { IsHandedOn (option_map K.kept result.trace) result.status }
+    ensures finishes { let s = sink_of K.written K.faults K.zeros K.name in
         let q = keeper_of Q.kept Q.faults in
         Finishes told result.status result.journal result.records (outside_of s q result.calls result.errors result.trace result.keep) bus }
 {

@@ -1,5 +1,6 @@
 -- The file of a configuration, and the answers of a command that did not get its text.
 use Rattle.std.specs.Prelude.{ℕ, ◌≡◌, ◌<◌, List, [], ◌∷◌, length, Option, None, Some, IfSome, IsSome}
+use Rattle.ha_io.specs.Told.{Call, and_asked}
 use Rattle.ha_status.specs.declared.status.Status.{Status}
 use Rattle.ha_status.specs.StatusLine.{Text}
 
@@ -29,6 +30,11 @@ abbrev pub LongCause : Option Files → Text → Status → Type 0
 LongCause files name (Status.ConfigRefused line code) =
     (line ≡ 1) × (code ≡ 12) × ((text : Text) × HoldsText files name text × (most_config_bytes < length text))
 LongCause files name _ = Unit {0}
+
+-- the place was asked for this once, unless memory ran out
+abbrev pub AskedAt : Call → Option (List Call) → Option (List Call) → Status → Type 0
+AskedAt call before after Status.Memory = Unit {0}
+AskedAt call before after _ = after ≡ and_asked before (call ∷ [])
 
 -- a file that was opened and not read is there, where files are told
 abbrev pub ThereCause : Option Files → Text → Status → Type 0

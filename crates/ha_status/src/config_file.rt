@@ -4,7 +4,7 @@ ghost use Rattle.std.specs.Io.KnownBytes.{IsAtEnd};
 ghost use Rattle.ha_io.specs.declared.place.Opening.{Opening};
 ghost use Rattle.ha_io.specs.Told.{AreAsked, HasFile};
 ghost use Rattle.ha_status.specs.Causes.{OpenCause, ReadCause};
-ghost use Rattle.ha_status.specs.Files.{HoldsText, IsAlone, IsHandedBack, IsTextFault, LongCause, ThereCause, most_config_bytes};
+ghost use Rattle.ha_status.specs.Files.{AskedAt, HoldsText, IsAlone, IsHandedBack, IsTextFault, LongCause, ThereCause, most_config_bytes};
 
 use crate::status::Status;
 use ha_io::{IoFault, Place, Source, Unread, read_whole};
@@ -49,6 +49,7 @@ pub fn read_config_file<P: Place>(
     ensures there { IfErr result (λ end. ThereCause (P.holds place.old) name.now end.status) }
     ensures handed_back { IfErr result (λ end. IsHandedBack name.now (map P.Source.name (option_to_list end.source)) end.status) }
 
+    ensures asked_once { IfErr result (λ end. AskedAt (name.now, Opening.Reading) (P.asked place.old) (P.asked place.new) end.status) }
     ensures asked { AreAsked (is_ok result) (P.asked place.old) ((name.now, Opening.Reading) ∷ []) (P.asked place.new) }
     ensures never_falls { P.faults place.old ≤ P.faults place.new }
     ensures same_files { P.holds place.new ≡ P.holds place.old }

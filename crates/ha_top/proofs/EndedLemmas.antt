@@ -12,6 +12,7 @@ use Rattle.ha_status.specs.Files.{IsHandedBack, IsTextFault}
 use Rattle.ha_words.specs.declared.plan.Plan.{Plan}
 use Rattle.ha_words.specs.declared.plan.RunWords.{RunWords}
 use Rattle.bus_turn.specs.States.{KeeperState}
+use Rattle.ha_run.specs.Core.{IsHandedOn}
 use Rattle.ha_run.specs.Served.{AreOpened}
 use Rattle.ha_run.specs.Stands.{StandsAt}
 use Rattle.ha_check.specs.Checked.{IsAnswerOf, IsCheckStatus, IsOutput}
@@ -23,11 +24,11 @@ use Rattle.replay_file.specs.Replays.{IsUnread}
 use Rattle.replay_file.proofs.TakeLemmas.{whole_taken}
 use Rattle.ha_top.specs.Views.{After, Before}
 use Rattle.ha_top.specs.Written.{AreTheSame, LineBehind, NoneWritten, written}
-use Rattle.ha_top.specs.Answered.{Answered, IsBooted, IsStore, IsStoreFault, IsTaken, IsTraceOf, RunOpenCause, StoreCause, WriteFailed, WriteTookNone, opens, scene}
+use Rattle.ha_top.specs.Answered.{Answered, IsBooted, IsStore, IsStoreFault, IsTaken, IsTraceOf, RunOpenCause, StopsAt, StoreCause, WriteFailed, WriteTookNone, opens, scene}
 use Rattle.ha_top.specs.Program.{AnsweredBy, Checked, HasNoJournal, Rehearsed, Replayed, Unplanned}
 use Rattle.ha_top.proofs.AskedLemmas.{asked_early}
 use Rattle.ha_top.proofs.EarlyLemmas.{if_all, sink_same}
-use Rattle.ha_top.proofs.ToldLemmas.{still_told}
+use Rattle.ha_top.proofs.ToldLemmas.{memory_handed, still_told}
 
 answer_of : (file : Option Text) → IsAnswerOf file Status.Memory
 answer_of None = tt
@@ -81,6 +82,8 @@ module _ (b : Before) (a : After) (l : IsLeft b a) where
 
   unread : (words : RunWords) → Answered words b a
   unread words = record {
+    stops = at (λ s. StopsAt words b.place.files a.journal a.sources b.place.asked a.place.asked s) tt;
+    handed = at (λ s. IsHandedOn a.kept_back s) (memory_handed a.kept_back);
     stands = at (λ s. StandsAt (IsBooted words b) (scene words b a) (written b a) s) (inl (
       none,
       inl (record {

@@ -3,6 +3,7 @@ pub mod EarlyLemmas
 pub mod EndedLemmas
 pub mod OpenLemmas
 pub mod RunLemmas
+pub mod StopLemmas
 pub mod StoreLemmas
 pub mod ToldLemmas
 pub mod SourceLemmas

@@ -3,6 +3,8 @@ use Rattle.std.proofs.Common.{◌≡◌, ◌∙◌, ◌≤◌, ◌-◌, ℕ, suc
 use Rattle.std.proofs.lemmas.List.{append-nil}
 use Rattle.std.specs.Prelude.{IfSome, if◌then◌else◌}
 use Rattle.ha_io.specs.declared.place.Opening.{Opening}
+use Rattle.ha_io.specs.Told.{Call, and_asked}
+use Rattle.ha_io.proofs.AskedLemmas.{asked_then}
 use Rattle.ha_config.specs.Words.{Text}
 use Rattle.ha_status.specs.declared.status.Status.{Status}
 use Rattle.ha_status.specs.Causes.{OpenCause}
@@ -11,7 +13,7 @@ use Rattle.ha_status.proofs.CauseLemmas.{unopened_within}
 use Rattle.ha_worker.specs.Courses.{SourceState}
 use Rattle.ha_run.specs.Opened.{AreNew, IsOpened}
 use Rattle.ha_run.specs.Served.{AreOpened}
-use Rattle.ha_top.specs.Opening.{IsOpenFault, OpensAs}
+use Rattle.ha_top.specs.Opening.{IsOpenFault, OpensAs, StoppedAmong, StoppedAt}
 use Rattle.ha_top.proofs.EarlyLemmas.{contains_behind, open_cases}
 
 -- one more was opened
@@ -83,6 +85,41 @@ opens_more files files' names later name sources sources' all s fault same is h 
     subst (λ z. OpensAs files z all fault) (append_assoc names (name ∷ []) later)
     (subst (λ f. OpensAs f ((names ++ name ∷ []) ++ later) all fault) same
     (go (names ++ name ∷ []) (subst (λ z. AreNew files' (names ++ name ∷ []) z) (sym is) (subst (λ f. AreNew f (names ++ name ∷ []) (sources ++ s ∷ [])) (sym same) (new_more files names sources name s h o)))))
+
+-- ---- where opening stopped
+
+-- the first of the names was not opened
+pub stopped_first : (files : Option Files) (had later : List Text) (name : Text) (sources : List SourceState) (before after : Option (List Call)) (s : Status) → IsOpenFault s → AreNew files had sources
+    → StoppedAt (name, Opening.Reading) before after s → StoppedAmong files had (name ∷ later) sources before after s
+stopped_first files had later name sources before after s fault new =
+    open_cases (λ z. StoppedAt (name, Opening.Reading) before after z → StoppedAmong files had (name ∷ later) sources before after z) s fault
+    (λ n u. (
+      [],
+      later,
+      ap (λ (z : Text). z ∷ later) (sym u.0),
+      subst (λ z. AreNew files z sources) (sym (append-nil had)) new,
+      subst (λ (z : Text). after ≡ and_asked before ((z, Opening.Reading) ∷ [])) (sym u.0) u.1,
+    ))
+    (λ u. tt)
+
+-- one was, and opening stopped at a later one
+pub stopped_later : (files files' : Option Files) (had later : List Text) (name : Text) (sources sources' all : List SourceState) (s : SourceState) (before between after : Option (List Call))
+    (fault : Option Status) → files' ≡ files → sources' ≡ sources ++ s ∷ [] → AreNew files had sources → IsOpened files name s → between ≡ and_asked before ((name, Opening.Reading) ∷ [])
+    → IfSome fault IsOpenFault → ((front : List Text) → AreNew files' front sources' → IfSome fault (StoppedAmong files' front later all between after))
+    → IfSome fault (StoppedAmong files had (name ∷ later) all before after)
+stopped_later files files' had later name sources sources' all s before between after None same is new opened first fault go = tt
+stopped_later files files' had later name sources sources' all s before between after (Some x) same is new opened first fault go =
+    open_cases (λ z. StoppedAmong files' (had ++ name ∷ []) later all between after z → StoppedAmong files had (name ∷ later) all before after z) x fault
+    (λ n u. (
+      name ∷ u.0,
+      u.1,
+      ap (λ (z : List Text). name ∷ z) u.2,
+      subst (λ f. AreNew f (had ++ name ∷ u.0) all) same (subst (λ z. AreNew files' z all) (append_assoc had (name ∷ []) u.0) u.3),
+      asked_then true before between after ((name, Opening.Reading) ∷ []) (map (λ (m : Text). (m, Opening.Reading)) u.0 ++ (n, Opening.Reading) ∷ []) first u.4,
+    ))
+    (λ u. tt)
+    (go (had ++ name ∷ []) (subst (λ z. AreNew files' (had ++ name ∷ []) z) (sym is)
+    (subst (λ f. AreNew f (had ++ name ∷ []) (sources ++ s ∷ [])) (sym same) (new_more files had sources name s new opened))))
 
 -- ---- why one was not opened
 

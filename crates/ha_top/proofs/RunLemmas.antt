@@ -1,11 +1,13 @@
 -- What a run answers for that was booted.
 use Rattle.std.proofs.Common.{◌≡◌, ◌⊎◌, inl, inr, ◌∙◌, ◌≤◌, ◌<◌, ℕ, zero, suc, Bool, true, false, List, [], ◌∷◌, map, Option, Some, None, ap, refl, sym, subst, arith}
 use Rattle.std.specs.Prelude.{IfSome, IsSomeAnd, Ok, is_some, slice_get}
+use Rattle.ha_io.specs.Told.{Call}
 use Rattle.ha_config.specs.declared.config.Config.{Config}
 use Rattle.ha_journal.specs.declared.entry.Entry.{Entry}
 use Rattle.ha_journal.specs.declared.entry.Entry.TheVariants.{Boot}
 use Rattle.ha_config.specs.Sound.{IsSoundStore}
 use Rattle.ha_config.specs.Words.{Text}
+use Rattle.ha_model.specs.Records.{Records}
 use Rattle.store_text.specs.Store.{Switches}
 use Rattle.ha_status.specs.declared.status.Status.{Status}
 use Rattle.ha_status.specs.Causes.{IsUnread, KeepCause, ReadCause, WriteCause}
@@ -21,13 +23,13 @@ use Rattle.ha_worker.specs.Courses.{Course, SourceState}
 use Rattle.ha_run.specs.Core.{BeginsWith, CoreRan, IsPartWritten, OutCause, SameSink, SameTrace, view_of, writings}
 use Rattle.ha_run.specs.Opened.{AreNew}
 use Rattle.ha_run.specs.Served.{AreServed, Feed, IsFirst}
-use Rattle.ha_run.specs.Stands.{Scene, StandsAt, Writings}
+use Rattle.ha_run.specs.Stands.{IsCutShort, Scene, StandsAt, Writings}
 use Rattle.ha_run.proofs.TellLemmas.{stands_in}
 use Rattle.conf_auto.specs.Config.{config_of}
 use Rattle.ha_check.specs.Configured.{RefusedCause}
 use Rattle.ha_top.specs.Views.{After, Before}
 use Rattle.ha_top.specs.Written.{handed, seen}
-use Rattle.ha_top.specs.Answered.{AreStored, IsBooted, IsNamedTrace, IsStoreFault, IsTraceOf, RunOpenCause, StoreCause, WriteFailed, WriteTookNone, scene}
+use Rattle.ha_top.specs.Answered.{AreStored, IsBooted, IsNamedTrace, IsStoreFault, IsTraceOf, RunOpenCause, StopsAt, StoreCause, WriteFailed, WriteTookNone, scene}
 use Rattle.ha_top.specs.Booted.{RanOrNot}
 use Rattle.ha_top.specs.Opening.{IsOpenFault}
 use Rattle.ha_top.specs.Lived.{Lived, unlined}
@@ -37,6 +39,10 @@ use Rattle.ha_top.proofs.OpenLemmas.{opened_all}
 -- ---- the statuses of a run
 
 module _ (B : List Entry → Type 0) (s : Scene) (w : Writings) (never : w.Nothing → ⊥) where
+  begins_short : IsCutShort B s w → B s.journal
+  begins_short (inl h) = h.1.ran.begins
+  begins_short (inr h) = h.1.1.ran.begins
+
   begins_so : (x : Status) → StandsAt B s w x → B s.journal
   begins_so Status.Ok h = h.1.1.ran.begins
   begins_so Status.Usage h = absurd h
@@ -44,14 +50,14 @@ module _ (B : List Entry → Type 0) (s : Scene) (w : Writings) (never : w.Nothi
   begins_so (Status.OpenFault name) h = absurd (never h.0)
   begins_so (Status.ReadFault None) h = absurd (never h.0)
   begins_so (Status.ReadFault (Some k)) h = h.1.1.ran.begins
-  begins_so (Status.WriteFault z) h = h.1.ran.begins
+  begins_so (Status.WriteFault z) h = begins_short h
   begins_so Status.KeepFault (inl h) = absurd (never h.0)
   begins_so Status.KeepFault (inr h) = h.1.ran.begins
   begins_so Status.JournalFull h = h.1.ran.begins
   begins_so (Status.SourceTooLong k) h = h.1.1.ran.begins
   begins_so (Status.StoreRefused code) h = absurd (never h.0)
   begins_so Status.Memory (inl h) = absurd (never h.0)
-  begins_so Status.Memory (inr h) = h.1.ran.begins
+  begins_so Status.Memory (inr h) = begins_short h
   begins_so (Status.TraceRefused line) h = absurd h
 
   -- what follows a boot
@@ -72,6 +78,20 @@ module _ (B : List Entry → Type 0) (s : Scene) (w : Writings) (never : w.Nothi
     run_cases (Status.StoreRefused code) h = absurd (never h.0)
     run_cases Status.Memory h = memory
     run_cases (Status.TraceRefused line) h = absurd h
+
+-- what was opened before a boot concerns no run that was booted, or for which memory did not suffice
+pub ran_stops : (words : RunWords) (files : Option Files) (names : List Text) (boot : Entry) (old : Outside) (opened : List SourceState) (status : Status) (journal : List Entry) (records : Records)
+    (sources : List SourceState) (out : Outside) (before after : Option (List Call)) → AreNew files names opened → RanOrNot boot old opened status journal records sources out
+    → StopsAt words files journal sources before after status
+ran_stops words files names boot old opened status journal records sources out before after new (inl u) =
+    subst (λ z. StopsAt words files journal sources before after z) (sym u.status_is) tt
+ran_stops words files names boot old opened status journal records sources out before after new (inr r) =
+    let s : Scene = record { files = files; names = names; journal = journal; records = records; sources = sources } in
+    let w = writings old (view_of journal records out) in
+    let stands = r.stands files names new in
+    let begins = begins_so (BeginsWith boot) s w (λ u. u) status stands in
+    let never : journal ≡ [] → ⊥ = λ e. let bad : ◌≡◌ {A = List Entry} [] (boot ∷ begins.0) = sym e ∙ begins.1 in cc in
+    run_cases (BeginsWith boot) s w (λ u. u) (λ z. StopsAt words files journal sources before after z) (λ z. tt) (λ e. absurd (never e)) (λ k feeds served first. tt) tt tt tt (λ k. tt) status stands
 
 -- ---- the sources
 
@@ -213,7 +233,7 @@ module _ (words : RunWords) (b : Before) (a : After) (keep : KeeperState) (text 
     -- the run as it is before its status line
     lived_run : Lived words b a
     lived_run = record {
-      stands = stands_in (BeginsWith boot) (IsBooted words b) (scene words b a) begins (writings old view) (unlined b a) (λ w. w) (λ w. w) part (λ u. absurd u) a.status from_core;
+      stands = stands_in (BeginsWith boot) (IsBooted words b) (scene words b a) begins (writings old view) (unlined b a) (λ w. w) (λ w. w) (λ w. w) part (λ u. absurd u) a.status from_core;
       traced = (let h = begins_so (BeginsWith boot) (scene words b a) (writings old view) (λ u. u) a.status from_core in traced h.0 h.1);
       same = record {
         out = sink_grows b.out a.out new.out_faults new.out_zeros r.same.calls;

@@ -4,7 +4,8 @@ use Rattle.std.specs.Prelude.{option_to_list}
 use Rattle.ha_config.specs.Words.{Text}
 use Rattle.ha_status.specs.declared.status.Status.{Status}
 use Rattle.ha_status.specs.Causes.{ReadCause}
-use Rattle.ha_status.specs.Files.{IsHandedBack}
+use Rattle.ha_status.specs.Files.{Files, IsHandedBack}
+use Rattle.replay_file.specs.Replays.{IsReplay}
 use Rattle.ha_worker.specs.Courses.{SourceState, source_of}
 
 module _ {S : Type 0} (faults : S → ℕ) (left : S → Option (List ℕ)) (name : S → Option (List ℕ)) where
@@ -34,6 +35,9 @@ module _ {S : Type 0} (faults : S → ℕ) (left : S → Option (List ℕ)) (nam
     faults_are = subst (λ z. map (λ (s : SourceState). s.faults) (seen z) ≡ map faults (option_to_list o)) (sym is) (faults_of o)
 
 -- the same by other names
+pub replay_as : (files : Option Files) (name name' : Text) (ls ms : List (Option Text)) (s : Status) (C E : Text → Type 0) → name' ≡ name → ls ≡ ms → IsReplay files name' ms s C E → IsReplay files name ls s C E
+replay_as files name name' ls ms s C E same e h = subst (λ n. IsReplay files n ls s C E) same (subst (λ z. IsReplay files name' z s C E) (sym e) h)
+
 pub handed_back_as : (name name' : Text) (s : Status) (xs ys : List (Option Text)) → name' ≡ name → xs ≡ ys → IsHandedBack name' ys s → IsHandedBack name xs s
 handed_back_as name name' s xs ys same e h = subst (λ n. IsHandedBack n xs s) same (subst (λ z. IsHandedBack name' z s) (sym e) h)
 

@@ -15,14 +15,14 @@ use Rattle.ha_words.specs.declared.plan.RunWords.{RunWords}
 use Rattle.bus_turn.specs.Buses.{IsWritten}
 use Rattle.bus_turn.specs.States.{SinkState}
 use Rattle.ha_worker.specs.Courses.{SourceState}
-use Rattle.ha_run.specs.Core.{IsEndWritten, IsPartWritten}
+use Rattle.ha_run.specs.Core.{IsEndCut, IsEndWritten, IsHandedOn, IsPartWritten}
 use Rattle.ha_run.specs.Stands.{StandsAt}
 use Rattle.ha_run.proofs.TellLemmas.{stands_in, stands_memory}
-use Rattle.ha_run.proofs.WrittenLemmas.{end_cut_of_end, end_cut_of_whole}
+use Rattle.ha_run.proofs.WrittenLemmas.{end_cut_of_end}
 use Rattle.ha_check.specs.Configured.{RefusedCause}
 use Rattle.ha_top.specs.Views.{After, Before}
-use Rattle.ha_top.specs.Written.{AllWritten, EndWritten, LineBehind, NoneWritten, SomeWritten, handed, seen, written}
-use Rattle.ha_top.specs.Answered.{Answered, IsAskedFor, IsBooted, IsStore, IsStoreFault, IsTaken, RunOpenCause, StoreCause, WriteFailed, WriteTookNone, opens, scene}
+use Rattle.ha_top.specs.Written.{AllWritten, EndCutWritten, EndWritten, LineBehind, NoneWritten, SomeWritten, handed, seen, written}
+use Rattle.ha_top.specs.Answered.{Answered, IsAskedFor, IsBooted, IsStore, IsStoreFault, IsTaken, RunOpenCause, StopsAt, StoreCause, WriteFailed, WriteTookNone, opens, scene}
 use Rattle.ha_top.specs.Lived.{Lived, Untouched, unlined}
 
 if_all : {X : Type 0} (o : Option X) (P : X → Type 0) → ((x : X) → P x) → IfSome o P
@@ -33,9 +33,14 @@ pub still_told : (o : Option Text) (line : Text) → is_some (option_map (λ (al
 still_told None line = refl
 still_told (Some t) line = refl
 
+pub memory_handed : (kept : Option ℕ) → IsHandedOn kept Status.Memory
+memory_handed None = tt
+memory_handed (Some n) = tt
+
 module _ (words : RunWords) (b : Before) (a : After) (r : Status) (err : SinkState) (l : Lived words b a) (is : (r ≡ a.status) ⊎ (r ≡ Status.Memory))
     (line : TookLine (OneRose a.err.faults err.faults a.err.zeros err.zeros) r a.err.took err.took) (faults : a.err.faults ≤ err.faults) (zeros : a.err.zeros ≤ err.zeros) (name : err.name ≡ a.err.name)
-    (asked : IsAskedFor (opens words) a.journal b.place.asked a.place.asked) where
+    (asked : IsAskedFor (opens words) a.journal b.place.asked a.place.asked) (stops : StopsAt words b.place.files a.journal a.sources b.place.asked a.place.asked a.status)
+    (handed_on : IsHandedOn a.kept_back a.status) where
   abbrev told_after : After
   told_after = record a { status = r; err = err }
 
@@ -52,8 +57,11 @@ module _ (words : RunWords) (b : Before) (a : After) (r : Status) (err : SinkSta
   end_texts : IsEndWritten (seen a a.err.took) → IsEndWritten (seen told_after a.err.took)
   end_texts w = record { calls = w.calls; errors = w.errors; trace = w.trace; keep = w.keep }
 
+  cut_texts : IsEndCut (seen a a.err.took) → IsEndCut (seen told_after a.err.took)
+  cut_texts w = record { calls = w.calls; errors = w.errors; trace = w.trace; keep = w.keep }
+
   part : IsPartWritten (handed b) (seen a a.err.took) → IsPartWritten (handed b) (seen told_after a.err.took)
-  part (inl w) = inl (record { calls = w.calls; errors = w.errors; trace = w.trace; keep = w.keep })
+  part (inl w) = inl (texts w)
   part (inr w) = inr (record {
     cut = record { before = w.cut.before; last = w.cut.last; is = w.cut.is; calls = w.cut.calls; errors = w.cut.errors; trace = w.cut.trace; keep = w.cut.keep };
     store = w.store;
@@ -61,6 +69,9 @@ module _ (words : RunWords) (b : Before) (a : After) (r : Status) (err : SinkSta
 
   ended : IsEndWritten (seen a a.err.took) → EndWritten b told_after
   ended w = record { errors = a.err.took; texts = end_texts w; line = behind }
+
+  end_cut : IsEndCut (seen a a.err.took) → EndCutWritten b told_after
+  end_cut w = record { errors = a.err.took; texts = cut_texts w; line = behind }
 
   all : IsWritten (seen a a.err.took) → AllWritten b told_after
   all w = record { errors = a.err.took; texts = texts w; line = behind }
@@ -81,10 +92,10 @@ module _ (words : RunWords) (b : Before) (a : After) (r : Status) (err : SinkSta
     where
       by : (r ≡ a.status) ⊎ (r ≡ Status.Memory) → StandsAt (IsBooted words b) (scene words b told_after) (written b told_after) r
       by (inl e) = subst (StandsAt (IsBooted words b) (scene words b told_after) (written b told_after)) (sym e)
-          (stands_in (IsBooted words b) (IsBooted words b) (scene words b a) (λ h. h) (unlined b a) (written b told_after) ended all some none a.status l.stands)
+          (stands_in (IsBooted words b) (IsBooted words b) (scene words b a) (λ h. h) (unlined b a) (written b told_after) ended end_cut all some none a.status l.stands)
       by (inr e) = subst (StandsAt (IsBooted words b) (scene words b told_after) (written b told_after)) (sym e)
-          (stands_memory (IsBooted words b) (scene words b a) (unlined b a) (written b told_after) some none (λ w. some (inl (end_cut_of_end (seen a a.err.took) w)))
-          (λ w. some (inl (end_cut_of_whole (seen a a.err.took) w))) a.status l.stands)
+          (stands_memory (IsBooted words b) (scene words b a) (unlined b a) (written b told_after) end_cut some none (λ w. end_cut (end_cut_of_end (seen a a.err.took) w))
+          (λ w. some (inl w)) a.status l.stands)
 
   later : (x x' y : ℕ) → OneRose x x' y a.err.faults → OneRose x x' y err.faults
   later x x' y (inl h) = inl h
@@ -108,6 +119,8 @@ module _ (words : RunWords) (b : Before) (a : After) (r : Status) (err : SinkSta
     stands = stood;
     traced = l.traced;
     asked = asked;
+    stops = told_status (λ s. StopsAt words b.place.files a.journal a.sources b.place.asked a.place.asked s) a.status r is stops tt;
+    handed = told_status (λ s. IsHandedOn a.kept_back s) a.status r is handed_on (memory_handed a.kept_back);
     same = record {
       out = l.same.out;
       err = record {

@@ -12,10 +12,13 @@ use Rattle.ha_config.specs.Words.{Text}
 use Rattle.store_text.specs.Store.{Switches, switches_in}
 use Rattle.ha_status.specs.declared.status.Status.{Status}
 use Rattle.ha_status.specs.Causes.{IsUnopened, KeepCause, OneRose, ReadCause, WriteCause}
-use Rattle.ha_status.specs.Files.{HoldsText, IsTextFault}
+use Rattle.ha_status.specs.Files.{Files, HoldsText, IsTextFault}
 use Rattle.ha_words.specs.declared.plan.RunWords.{RunWords}
 use Rattle.ha_words.specs.PlanOf.{IsRunnable}
 use Rattle.bus_turn.specs.States.{SinkState}
+use Rattle.ha_worker.specs.Courses.{SourceState}
+use Rattle.ha_run.specs.Core.{IsHandedOn}
+use Rattle.ha_run.specs.Opened.{AreNew}
 use Rattle.ha_run.specs.Stands.{Scene, StandsAt}
 use Rattle.conf_auto.specs.Config.{config_of}
 use Rattle.ha_check.specs.Configured.{RefusedCause}
@@ -82,6 +85,45 @@ abbrev pub IsAskedFor : List Call → List Entry → Option (List Call) → Opti
 IsAskedFor calls [] before after = IsAskedSome before calls after
 IsAskedFor calls (boot ∷ later) before after = after ≡ and_asked before calls
 
+-- ---- what was opened where nothing was booted
+
+-- the place was asked for the configuration alone
+abbrev pub AsksConfig : RunWords → Option (List Call) → Option (List Call) → Type 0
+AsksConfig words before after = after ≡ and_asked before ((words.config, Opening.Reading) ∷ [])
+
+-- it was asked for the configuration and for these sources, which were opened, and then for this file
+abbrev pub AsksUpTo : RunWords → List Text → Call → Option (List Call) → Option (List Call) → Type 0
+AsksUpTo words opened failed before after =
+    after ≡ and_asked before ((words.config, Opening.Reading) ∷ map (λ name. (name, Opening.Reading)) opened ++ failed ∷ [])
+
+-- a source was not opened: those of the names before it were, they were not read, and nothing further was opened
+pub record StopsAtSource (words : RunWords) (files : Option Files) (sources : List SourceState) (name : Text)
+    (before after : Option (List Call)) : Type 0 where
+  pub opened : List Text
+  pub later : List Text
+  pub names_are : words.sources ≡ opened ++ name ∷ later
+  pub sources_are : AreNew files opened sources
+  pub asked : AsksUpTo words opened (name, Opening.Reading) before after
+
+-- the trace was not opened: all sources were, and were not read
+pub record StopsAtTrace (words : RunWords) (files : Option Files) (sources : List SourceState) (name : Text)
+    (before after : Option (List Call)) : Type 0 where
+  pub name_is : words.trace ≡ Some name
+  pub sources_are : AreNew files words.sources sources
+  pub asked : AsksUpTo words words.sources (name, Opening.Writing) before after
+
+-- What was opened where a run did not come to its boot, and which sources are handed back. A configuration or a store that is not taken opens
+-- nothing else, and an opening that failed is the last one.
+abbrev pub StopsAt : RunWords → Option Files → List Entry → List SourceState → Option (List Call) → Option (List Call) → Status → Type 0
+StopsAt words files journal sources before after (Status.ConfigRefused line code) = AsksConfig words before after
+StopsAt words files journal sources before after (Status.ReadFault None) = AsksConfig words before after
+StopsAt words files journal sources before after (Status.StoreRefused code) = AsksConfig words before after
+StopsAt words files journal sources before after Status.KeepFault = journal ≡ [] → AsksConfig words before after
+StopsAt words files journal sources before after (Status.OpenFault name) =
+    ((name ≡ words.config) × (sources ≡ []) × AsksConfig words before after)
+    ⊎ (StopsAtSource words files sources name before after ⊎ StopsAtTrace words files sources name before after)
+StopsAt words files journal sources before after status = Unit {0}
+
 -- ---- the trace
 
 -- a trace is there exactly where the words name one, and has that name, where it is told
@@ -118,6 +160,8 @@ pub record Answered (words : RunWords) (b : Before) (a : After) : Type 0 where
   pub stands : StandsAt (IsBooted words b) (scene words b a) (written b a) a.status
   pub traced : IsTraceOf words.trace a.journal a.trace
   pub asked : IsAskedFor (opens words) a.journal b.place.asked a.place.asked
+  pub stops : StopsAt words b.place.files a.journal a.sources b.place.asked a.place.asked a.status
+  pub handed : IsHandedOn a.kept_back a.status
   pub same : AreTheSame b a
   -- A configuration is refused with the line and code of its text, and where none is taken, one of its answers comes first. A store
   -- likewise.

@@ -4,7 +4,7 @@ use Rattle.bus_turn.specs.Buses.{IsWritten}
 use Rattle.ha_status.specs.Causes.{KeepCause, ReadCause, WriteCause}
 use Rattle.ha_status.specs.Files.{IsTextFault}
 use Rattle.ha_words.specs.declared.plan.RunWords.{RunWords}
-use Rattle.ha_run.specs.Core.{IsEndWritten, IsPartWritten}
+use Rattle.ha_run.specs.Core.{IsEndCut, IsEndWritten, IsPartWritten}
 use Rattle.ha_run.specs.Stands.{StandsAt, Writings}
 use Rattle.ha_check.specs.Configured.{RefusedCause}
 use Rattle.ha_top.specs.Views.{After, Before}
@@ -24,6 +24,7 @@ abbrev pub unlined : Before → After → Writings
 unlined b a =
     record {
       Ended = IsEndWritten (seen a a.err.took);
+      EndCut = IsEndCut (seen a a.err.took);
       Whole = IsWritten
           (seen a a.err.took);
       Part = IsPartWritten (handed b) (seen a a.err.took);

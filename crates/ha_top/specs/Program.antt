@@ -50,8 +50,8 @@ pub record Checked (name : Text) (b : Before) (a : After) : Type 0 where
 
 -- `replay` of the trace in the file of this name
 pub record Replayed (name : Text) (b : Before) (a : After) : Type 0 where
-  -- the status by the bytes of the file, and the calls and errors of the run that they begin with
-  pub replay : IsReplay b.place.files name a.status (λ t. IsTaken a.status t b.out.took a.out.took)
+  -- the status by the bytes that were read of the file, and the calls and errors of the run that they begin with
+  pub replay : IsReplay b.place.files name (map (λ s. s.left) a.sources) a.status (λ t. IsTaken a.status t b.out.took a.out.took)
       (λ t. AreErrorsTaken (OneRose b.err.faults a.err.faults b.err.zeros a.err.zeros) a.status t b.err.took a.err.took)
   pub asked : IsAskedSome b.place.asked ((name, Opening.Reading) ∷ []) a.place.asked
   pub nothing : HasNoJournal b a

@@ -35,6 +35,7 @@ pub record After : Type 0 where
   pub out : SinkState
   pub err : SinkState
   pub trace : Option SinkState
+  pub kept_back : Option ℕ  -- the bytes that the trace's sink took and has not handed on
   pub keep : KeeperState
 
 abbrev pub place_state : Option Files → ℕ → Option (Option (Text × Opening)) → Option (List Call) → PlaceState
@@ -44,8 +45,8 @@ abbrev pub before_run : PlaceState → SinkState → SinkState → KeeperState �
 before_run place out err keep = record { place = place; out = out; err = err; keep = keep }
 
 abbrev pub after_run : Status → List Entry → Records → List SourceState
-    → PlaceState → SinkState → SinkState → Option SinkState → KeeperState → After
-after_run status journal records sources place out err trace keep = record {
+    → PlaceState → SinkState → SinkState → Option SinkState → Option ℕ → KeeperState → After
+after_run status journal records sources place out err trace kept_back keep = record {
   status = status;
   journal = journal;
   records = records;
@@ -54,5 +55,6 @@ after_run status journal records sources place out err trace keep = record {
   out = out;
   err = err;
   trace = trace;
+  kept_back = kept_back;
   keep = keep;
 }

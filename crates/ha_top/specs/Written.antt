@@ -7,7 +7,7 @@ use Rattle.bus_turn.specs.Buses.{IsWritten}
 use Rattle.bus_turn.specs.Growth.{KeeperGrows, SinkGrows}
 use Rattle.bus_turn.specs.Shown.{BusView}
 use Rattle.bus_turn.specs.States.{Outside, outside}
-use Rattle.ha_run.specs.Core.{IsEndWritten, IsPartWritten, view_of}
+use Rattle.ha_run.specs.Core.{IsEndCut, IsEndWritten, IsPartWritten, view_of}
 use Rattle.ha_run.specs.Stands.{Writings}
 use Rattle.ha_top.specs.Views.{After, Before}
 
@@ -29,14 +29,20 @@ pub record EndWritten (b : Before) (a : After) : Type 0 where
   pub texts : IsEndWritten (seen a errors)
   pub line : LineBehind b a errors
 
+-- they took exactly that, but for a part of the end line of the trace
+pub record EndCutWritten (b : Before) (a : After) : Type 0 where
+  pub errors : Option Text
+  pub texts : IsEndCut (seen a errors)
+  pub line : LineBehind b a errors
+
 -- they took exactly that, but for the end line of the trace
 pub record AllWritten (b : Before) (a : After) : Type 0 where
   pub errors : Option Text
   pub texts : IsWritten (seen a errors)
   pub line : LineBehind b a errors
 
--- They took that, but for a part of the end line, or for that line and a part of what the last entry gives, at most. At the boot alone the
--- keeper may hold what it held before.
+-- They took that, but for the end line and a part of what the last entry gives at most. At the boot alone the keeper may hold what it held
+-- before.
 pub record SomeWritten (b : Before) (a : After) : Type 0 where
   pub errors : Option Text
   pub texts : IsPartWritten (handed b) (seen a errors)
@@ -50,7 +56,14 @@ pub record NoneWritten (b : Before) (a : After) : Type 0 where
   pub line : LineBehind b a b.err.took
 
 abbrev pub written : Before → After → Writings
-written b a = record { Ended = EndWritten b a; Whole = AllWritten b a; Part = SomeWritten b a; Nothing = NoneWritten b a }
+written b a =
+    record {
+      Ended = EndWritten b a;
+      EndCut = EndCutWritten b a;
+      Whole = AllWritten b a;
+      Part = SomeWritten b a;
+      Nothing = NoneWritten b a;
+    }
 
 -- the sinks and the keeper are those that were handed in: what they tell is told as before, they have their names, and no count fell
 pub record AreTheSame (b : Before) (a : After) : Type 0 where

@@ -6,7 +6,8 @@ ghost use Rattle.ha_journal.specs.declared.entry.Entry.TheVariants.{Boot};
 ghost use Rattle.ha_config.specs.Sound.{IsSoundConfig};
 ghost use Rattle.bus_turn.specs.States.{keeper_of, outside_of, sink_of};
 ghost use Rattle.ha_worker.specs.Courses.{source_of};
-ghost use Rattle.ha_top.specs.Answered.{IsAskedFor, opens};
+ghost use Rattle.ha_run.specs.Core.{IsHandedOn};
+ghost use Rattle.ha_top.specs.Answered.{IsAskedFor, StopsAt, opens};
 ghost use Rattle.ha_top.specs.Booted.{RanOrNot};
 ghost use Rattle.ha_top.specs.Lived.{Lived};
 ghost use Rattle.ha_top.specs.Unready.{GivesBack};
@@ -42,6 +43,7 @@ fn unbooted<P: Place, Q: Keeper>(
     ensures out { result.out ≡ out }
     ensures err { result.err ≡ err }
     ensures trace { result.trace ≡ None }
+    ensures handed { IsHandedOn (option_map P.Sink.kept result.trace) result.status }
     ensures keep { result.keep ≡ keep }
 {
     Outcome {
@@ -96,7 +98,8 @@ fn run_booted<R: Threads + Wait + Sync, E: Boots, P: Place, Q: Keeper, G: Gate>(
     requires no_calls { IfSome (P.Sink.written out) (λ t. t ≡ []) }
     requires no_errors { IfSome (P.Sink.written err) (λ t. t ≡ []) }
     requires no_trace { IfSome trace (λ sink. IfSome (P.Sink.written sink) (λ t. t ≡ [])) }
-    ensures { let s = sink_of P.Sink.written P.Sink.faults P.Sink.zeros P.Sink.name in
+    ensures handed { IsHandedOn (option_map P.Sink.kept result.trace) result.status }
+    ensures ran { let s = sink_of P.Sink.written P.Sink.faults P.Sink.zeros P.Sink.name in
         let q = keeper_of Q.kept Q.faults in
         RanOrNot (Boot text config stored words.now.start words.now.zone) (outside_of s q out err trace keep) (map (source_of P.Source.faults P.Source.left P.Source.name) sources)
         result.status result.journal result.records (map (source_of P.Source.faults P.Source.left P.Source.name) result.sources) (outside_of s q result.out result.err result.trace result.keep) }
@@ -152,8 +155,10 @@ pub(crate) fn run_files<R: Threads + Wait + Sync, E: Boots, P: Place, Q: Keeper,
     requires keep_new { Q.faults keep ≡ 0 }
     ensures lived { let s = sink_of P.Sink.written P.Sink.faults P.Sink.zeros P.Sink.name in
         let q = keeper_of Q.kept Q.faults in
-        Lived words.now (before_run (place_state (P.holds place.old) (P.faults place.old) (P.last place.old) (P.asked place.old)) (s out) (s err) (q keep)) (after_run result.status result.journal result.records (map (source_of P.Source.faults P.Source.left P.Source.name) result.sources) (place_state (P.holds place.new) (P.faults place.new) (P.last place.new) (P.asked place.new)) (s result.out) (s result.err) (option_map s result.trace) (q result.keep)) }
+        Lived words.now (before_run (place_state (P.holds place.old) (P.faults place.old) (P.last place.old) (P.asked place.old)) (s out) (s err) (q keep)) (after_run result.status result.journal result.records (map (source_of P.Source.faults P.Source.left P.Source.name) result.sources) (place_state (P.holds place.new) (P.faults place.new) (P.last place.new) (P.asked place.new)) (s result.out) (s result.err) (option_map s result.trace) (option_map P.Sink.kept result.trace) (q result.keep)) }
     ensures asked { IsAskedFor (opens words.now) result.journal (P.asked place.old) (P.asked place.new) }
+    ensures stops { StopsAt words.now (P.holds place.old) result.journal (map (source_of P.Source.faults P.Source.left P.Source.name) result.sources) (P.asked place.old) (P.asked place.new) result.status }
+    ensures handed { IsHandedOn (option_map P.Sink.kept result.trace) result.status }
 {
     let mut keep = keep;
     let (text, config) = match read_config_at(alloc, place, words.config.as_str()) {

@@ -9,7 +9,7 @@ ghost use Rattle.bus_turn.specs.States.{sink_of};
 ghost use Rattle.ha_worker.specs.Courses.{source_of};
 ghost use Rattle.ha_run.specs.Opened.{AreNew, IsOpened};
 ghost use Rattle.ha_top.specs.Answered.{AreStored, IsNamedTrace, IsStoreFault, StoreCause};
-ghost use Rattle.ha_top.specs.Opening.{IsOpenFault, IsSwitchesFault, OpensAs, TraceOpenCause};
+ghost use Rattle.ha_top.specs.Opening.{IsOpenFault, IsSwitchesFault, OpensAs, StoppedAmong, StoppedAt, StoppedAtTrace, TraceOpenCause};
 
 use ha_io::{IoFault, Keeper, Place, Source};
 use ha_status::Status;
@@ -58,6 +58,7 @@ fn open_source<P: Place>(alloc: Global, place: &mut P, name: &Word) -> Result<P:
     ensures ok { IfOk result (λ source. IsOpened (P.holds place.old) name.now (source_of P.Source.faults P.Source.left P.Source.name source)) }
     ensures asked { AreAsked (is_ok result) (P.asked place.old) ((name.now, Opening.Reading) ∷ []) (P.asked place.new) }
     ensures fault { IfErr result IsOpenFault }
+    ensures stopped { IfErr result (StoppedAt (name.now, Opening.Reading) (P.asked place.old) (P.asked place.new)) }
     ensures cause { IfErr result (OpenCause (name.now ∷ []) (P.faults place.old) (P.faults place.new) (P.last place.new)) }
     ensures never_falls { P.faults place.old ≤ P.faults place.new }
     ensures same_files { P.holds place.new ≡ P.holds place.old }
@@ -89,6 +90,8 @@ pub(crate) fn open_sources<P: Place>(
     ensures opens { (before : List Text) → AreNew (P.holds place.old) before (map (source_of P.Source.faults P.Source.left P.Source.name) sources.items)
         → OpensAs (P.holds place.old) (before ++ names.now) (map (source_of P.Source.faults P.Source.left P.Source.name) result.sources) result.fault }
     ensures asked { AreAsked (is_none result.fault) (P.asked place.old) (map (λ name. (name, Opening.Reading)) names.now) (P.asked place.new) }
+    ensures stopped { (before : List Text) → AreNew (P.holds place.old) before (map (source_of P.Source.faults P.Source.left P.Source.name) sources.items)
+        → IfSome result.fault (StoppedAmong (P.holds place.old) before names.now (map (source_of P.Source.faults P.Source.left P.Source.name) result.sources) (P.asked place.old) (P.asked place.new)) }
     ensures fault { IfSome result.fault IsOpenFault }
     ensures cause { IfSome result.fault (OpenCause names.now (P.faults place.old) (P.faults place.new) (P.last place.new)) }
     ensures never_falls { P.faults place.old ≤ P.faults place.new }
@@ -129,6 +132,7 @@ pub(crate) fn open_trace<P: Place>(
     ensures asked { AreAsked (is_ok result) (P.asked place.old) (map (λ name. (name, Opening.Writing)) (option_to_list name.now)) (P.asked place.new) }
     ensures named { IfOk result (λ trace. IsNamedTrace name.now (option_map (sink_of P.Sink.written P.Sink.faults P.Sink.zeros P.Sink.name) trace)) }
     ensures fault { IfErr result IsOpenFault }
+    ensures stopped { IfErr result (StoppedAtTrace name.now (P.asked place.old) (P.asked place.new)) }
     ensures cause { IfErr result (TraceOpenCause name.now (P.faults place.old) (P.faults place.new) (P.last place.new)) }
     ensures never_falls { P.faults place.old ≤ P.faults place.new }
     ensures same_files { P.holds place.new ≡ P.holds place.old }

@@ -1,7 +1,6 @@
 //! The program as a function over its words and the outside.
-ghost use Rattle.std.specs.Prelude.{◌≡◌, ◌≤◌, ◌∷◌, [], IfSome, IsSome, IsUtf8, length, map, option_map};
+ghost use Rattle.std.specs.Prelude.{◌≡◌, ◌≤◌, ◌∷◌, [], IfSome, IsUtf8, length, map, option_map};
 ghost use Rattle.ha_clock.specs.Local.{last_moment};
-ghost use Rattle.ha_clock.specs.Zone.{zone_of};
 ghost use Rattle.bus_turn.specs.States.{keeper_of, sink_of};
 ghost use Rattle.ha_worker.specs.Courses.{source_of};
 ghost use Rattle.ha_top.specs.Answered.{Answered};
@@ -34,7 +33,6 @@ pub fn run_live<R: Threads + Wait + Sync, E: Boots, P: Place, Q: Keeper, G: Gate
     requires some { 1 ≤ length words.now.sources }
     requires few { length words.now.sources ≤ 16 }
     requires in_time { words.now.start ≤ last_moment }
-    requires zoned { IsSome (zone_of words.now.zone) }
     requires zone_is_text { IsUtf8 words.now.zone }
     requires no_calls { IfSome (P.Sink.written out) (λ t. t ≡ []) }
     requires no_errors { IfSome (P.Sink.written err) (λ t. t ≡ []) }
@@ -43,8 +41,9 @@ pub fn run_live<R: Threads + Wait + Sync, E: Boots, P: Place, Q: Keeper, G: Gate
     requires keep_new { Q.faults keep ≡ 0 }
     ensures { let s = sink_of P.Sink.written P.Sink.faults P.Sink.zeros P.Sink.name in
         let q = keeper_of Q.kept Q.faults in
-        Answered words.now (before_run (place_state (P.holds place.old) (P.faults place.old) (P.last place.old) (P.asked place.old)) (s out) (s err) (q keep)) (after_run result.status result.journal result.records (map (source_of P.Source.faults P.Source.left P.Source.name) result.sources) (place_state (P.holds place.new) (P.faults place.new) (P.last place.new) (P.asked place.new)) (s result.out) (s result.err) (option_map s result.trace) (q result.keep)) }
+        Answered words.now (before_run (place_state (P.holds place.old) (P.faults place.old) (P.last place.old) (P.asked place.old)) (s out) (s err) (q keep)) (after_run result.status result.journal result.records (map (source_of P.Source.faults P.Source.left P.Source.name) result.sources) (place_state (P.holds place.new) (P.faults place.new) (P.last place.new) (P.asked place.new)) (s result.out) (s result.err) (option_map s result.trace) (option_map P.Sink.kept result.trace) (q result.keep)) }
 {
+    let _ = words.zone.text();
     let Outcome {
         status,
         journal,

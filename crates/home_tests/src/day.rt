@@ -336,6 +336,8 @@ pub enum Fact<'a> {
     NotStored,
     /// How many entries the journal has.
     Entries(usize),
+    /// How many sources are handed back.
+    Handed(usize),
     /// So many lines of each of sixteen sources, each once and in order.
     Lines(u64),
     /// How many runs there are.
@@ -433,6 +435,7 @@ fn is(alloc: Global, outcome: &Outcome<MemPlace, MemKeeper>, fact: Fact<'_>) -> 
         Fact::Stored(text) => is_text(outcome.keep.text(), text),
         Fact::NotStored => outcome.keep.text().is_none(),
         Fact::Entries(count) => outcome.journal.len() == count,
+        Fact::Handed(count) => outcome.sources.len() == count,
         Fact::Lines(count) => has_all_lines(outcome.journal.as_slice(), count),
         Fact::Runs(count) => outcome.records.len() == count,
         Fact::End(at, cause) => first_end(outcome.records.as_slice()) == Some((at, cause)),

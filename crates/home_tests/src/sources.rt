@@ -1,6 +1,6 @@
 //! Several sources at once, and the trace.
-use crate::day::Fact::{Called, Entries, Errors, NotRead, Traced, Well};
-use crate::day::{Fact, Lines, holds, replays, run_sources};
+use crate::day::Fact::{Called, Entries, Errors, Handed, NotOpened, NotRead, Traced, Well};
+use crate::day::{Fact, Lines, PLAIN, holds, replays, run_sources, words_end};
 use crate::runs::{HALL, HALL_CALLS, HALL_LINES, QUEUE, QUEUE_CALLS, QUEUE_LINES};
 use crate::scripts::{WAIT, WAIT_CALLS, WAIT_LINES};
 use ha_io::{Gate, MeetGate, OpenGate};
@@ -51,6 +51,95 @@ fn a_source_that_fails_ends_alone(rt: HostRuntime) {
                 Errors("source 1 line 0: lost\nhearth: source 1 failed\n"),
             ]
         )
+    );
+}
+
+/// A line that is not read, and lines that are, each of 32 bytes with its end: more than one read takes.
+fn two_pieces(alloc: Global) -> Result<Vec<&'static str>, AllocError> {
+    let mut lines = Vec::new(alloc);
+    lines.push("xxxxxxxxxxxxxxxxxxxxxxxxxxxxxxx")?;
+    for _ in 0..2_100u32 {
+        lines.push("{\"event\":\"go\",\"data\":{\"a\":\"b\"}}")?;
+    }
+    Ok(lines)
+}
+
+/// Whether a source whose second read fails ends so.
+fn second_read_fails<R: Abort + Threads + Wait + Sync + Alloc<A = Global>>(
+    rt: &R,
+    facts: &[Fact<'_>],
+) -> bool {
+    match two_pieces(rt.alloc()) {
+        Ok(lines) => {
+            let sources = [Lines {
+                name: "a",
+                lines: lines.as_slice(),
+                failing_reads: &[2],
+            }];
+            sources_end(rt, "[]", &[], &sources, &OpenGate::make(), facts)
+        }
+        Err(_) => false,
+    }
+}
+
+/// A piece has 65,536 bytes: 2,048 of these lines.
+#[test]
+fn the_lines_before_a_failed_read_are_put(rt: HostRuntime) {
+    let told = "source 0 line 0: L2\nsource 0 line 2048: lost\nhearth: source 0 failed\n";
+    assert!(rt; second_read_fails(&rt, &[NotRead(0), Entries(2_050), Errors(told)]));
+}
+
+/// Whether these words, over a home without automations and a source of one line, end so.
+fn evening_ends<R: Abort + Threads + Wait + Sync + Alloc<A = Global>>(
+    rt: &R,
+    home: &str,
+    words: &[&str],
+    facts: &[Fact<'_>],
+) -> bool {
+    let alloc = rt.alloc();
+    let mut all = Vec::new(alloc);
+    for word in [
+        "run",
+        "--start",
+        "2024-05-01T20:00:00Z",
+        "--config",
+        "home.yaml",
+    ] {
+        if all.push(word).is_err() {
+            return false;
+        }
+    }
+    for word in words {
+        if all.push(*word).is_err() {
+            return false;
+        }
+    }
+    words_end(
+        rt,
+        all.as_slice(),
+        home.as_bytes(),
+        b"{\"event\":\"go\"}\n",
+        &PLAIN,
+        facts,
+    )
+}
+
+#[test]
+fn sources_that_were_opened_are_handed_back(rt: HostRuntime) {
+    let none = "hearth: cannot open none.txt\n";
+    let refused = "hearth: config line 1: C6\n";
+    assert!(rt;
+        evening_ends(
+            &rt,
+            "[]",
+            &["reports.txt", "none.txt", "reports.txt"],
+            &[NotOpened, Handed(1), Errors(none)]
+        ) && evening_ends(
+            &rt,
+            "automation: {alias: a}",
+            &["reports.txt"],
+            &[Handed(0), Errors(refused)]
+        ) && evening_ends(&rt, "[]", &["reports.txt"], &[Well, Handed(1)])
     );
 }
 

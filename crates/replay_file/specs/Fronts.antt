@@ -1,5 +1,5 @@
 -- How far a source was read.
-use Rattle.std.specs.Prelude.{ℕ, ◌≡◌, ◌<◌, ◌≤◌, List, [], ◌++◌, length, Option, None, Some, IfSome, IsSomeAnd}
+use Rattle.std.specs.Prelude.{ℕ, ◌≡◌, ◌<◌, ◌≤◌, List, [], ◌∷◌, ◌++◌, length, Option, None, Some, IfSome, IsSomeAnd}
 use Rattle.std.specs.Io.KnownBytes.{IsAtEnd}
 use Rattle.ha_io.specs.Told.{Gives}
 use Rattle.ha_status.specs.Files.{Files}
@@ -32,6 +32,15 @@ IsFrontOf text FrontEnd.Whole bytes = bytes ≡ text
 IsFrontOf text FrontEnd.Failed bytes = (rest : List ℕ) × (bytes ≡ text ++ rest)
 IsFrontOf text FrontEnd.TooLong bytes = (length text ≡ most_bytes) × ((rest : List ℕ) × (0 < length rest) × (bytes ≡ text ++ rest))
 
--- where files are told, this one was read so
-abbrev pub IsReadOf : Option Files → List ℕ → List ℕ → FrontEnd → Type 0
-IsReadOf files name text end = IfSome files (λ f. IsSomeAnd (f name) (IsFrontOf text end))
+-- So by what is left in its source: nothing at its end, and all that was not read where reading failed. Of a longer file one byte more was
+-- taken.
+abbrev pub IsReadFrom : List ℕ → FrontEnd → Option (List ℕ) → List ℕ → Type 0
+IsReadFrom text FrontEnd.Whole left bytes = (left ≡ Some []) × (bytes ≡ text)
+IsReadFrom text FrontEnd.Failed left bytes = (rest : List ℕ) × (left ≡ Some rest) × (bytes ≡ text ++ rest)
+IsReadFrom text FrontEnd.TooLong left bytes =
+    (length text ≡ most_bytes) × ((next : ℕ) × (rest : List ℕ) × (left ≡ Some rest) × (bytes ≡ text ++ next ∷ rest))
+
+-- where files are told, this one was read so, and its source, in which this is left, is the only one
+abbrev pub IsReadOf : Option Files → List ℕ → List ℕ → FrontEnd → List (Option (List ℕ)) → Type 0
+IsReadOf files name text end lefts =
+    IfSome files (λ f. (left : Option (List ℕ)) × (lefts ≡ left ∷ []) × IsSomeAnd (f name) (IsReadFrom text end left))

@@ -26,7 +26,7 @@ fn replayed<E: Boots, P: Place>(
     out: &mut P::Sink,
     err: &mut P::Sink,
 ) -> (Status, Option<P::Source>)
-    ensures replay { IsReplay (P.holds place.old) name.now result.0 (λ t. IsTaken result.0 t (P.Sink.written out.old) (P.Sink.written out.new)) (λ t. IsTaken result.0 t (P.Sink.written err.old) (P.Sink.written err.new)) }
+    ensures replay { IsReplay (P.holds place.old) name.now (map P.Source.left (option_to_list result.1)) result.0 (λ t. IsTaken result.0 t (P.Sink.written out.old) (P.Sink.written out.new)) (λ t. IsTaken result.0 t (P.Sink.written err.old) (P.Sink.written err.new)) }
     ensures unopened { OpenCause (name.now ∷ []) (P.faults place.old) (P.faults place.new) (P.last place.new) result.0 }
     ensures unread { ReadCause name.now (name.now ∷ []) (map P.Source.faults (option_to_list result.1)) (map P.Source.name (option_to_list result.1)) result.0 }
     ensures unwritten { WriteCause (OneRose (P.Sink.faults out.old) (P.Sink.faults out.new) (P.Sink.faults err.old) (P.Sink.faults err.new)) (OneRose (P.Sink.zeros out.old) (P.Sink.zeros out.new) (P.Sink.zeros err.old) (P.Sink.zeros err.new)) result.0 }
@@ -69,7 +69,7 @@ pub fn replay_call<E: Boots, P: Place>(
 ) -> (Status, Option<P::Source>)
     // The status by the bytes of the file, and the calls and errors of the run that they begin with.
     ensures replay { let faulted = OneRose (P.Sink.faults err.old) (P.Sink.faults err.new) (P.Sink.zeros err.old) (P.Sink.zeros err.new) in
-        IsReplay (P.holds place.old) name.now result.0 (λ t. IsTaken result.0 t (P.Sink.written out.old) (P.Sink.written out.new)) (λ t. AreErrorsTaken faulted result.0 t (P.Sink.written err.old) (P.Sink.written err.new)) }
+        IsReplay (P.holds place.old) name.now (map P.Source.left (option_to_list result.1)) result.0 (λ t. IsTaken result.0 t (P.Sink.written out.old) (P.Sink.written out.new)) (λ t. AreErrorsTaken faulted result.0 t (P.Sink.written err.old) (P.Sink.written err.new)) }
 
     // The outside's faults.
     ensures unopened { OpenCause (name.now ∷ []) (P.faults place.old) (P.faults place.new) (P.last place.new) result.0 }

@@ -271,6 +271,44 @@ fn the_read_fails(rt: HostRuntime) {
     );
 }
 
+/// Whether a trace that begins with these lines, and goes on with one so long that two reads are taken, of which the second fails, is given
+/// this.
+fn gives_by_one_read(
+    alloc: Global,
+    begins: &[&str],
+    wanted: Wanted<'_>,
+) -> Result<bool, AllocError> {
+    let mut parts = Vec::new(alloc);
+    for part in begins {
+        parts.push(*part)?;
+    }
+    for _ in 0..7_000u32 {
+        parts.push("0123456789")?;
+    }
+    gives(alloc, parts.as_slice(), &[2], wanted)
+}
+
+/// A failed read is told only where the whole lines before it may stand so.
+#[test]
+fn what_was_read_before_a_failure_is_judged(rt: HostRuntime) {
+    let call =
+        "{\"run\":\"a\",\"number\":1,\"call\":1,\"service\":\"notify.x\",\"target\":[],\"data\":{}}\n";
+    assert!(rt;
+        gives_by_one_read(
+            rt.alloc(),
+            &[HOME, STEPS],
+            (4, call, "hearth: source 0 failed\n")
+        )
+        .unwrap_or(false)
+            && gives_by_one_read(
+                rt.alloc(),
+                &[BOOT, SECOND],
+                (11, "", "hearth: trace line 2: T\n")
+            )
+            .unwrap_or(false)
+    );
+}
+
 #[test]
 fn a_home_is_replayed(rt: HostRuntime) {
     assert!(rt;

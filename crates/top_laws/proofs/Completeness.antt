@@ -59,9 +59,9 @@ none-unread sources h k name names u = by sources h k u.count_is
     by (s ∷ rest) h (suc k) e = by rest h.1 k e
 
 -- a source that gave more than its bound has a file of more bytes
-longer : (bytes file : Text) → IsReadOf Course.Exceeds bytes file → length file ≤ most_bytes → ⊥
-longer bytes file r le =
-    let long = ap length r.1.2 ∙ length-append bytes (r.1.0 ∷ r.1.1) in
+longer : (bytes file : Text) (left : Option Text) → IsReadOf Course.Exceeds bytes left file → length file ≤ most_bytes → ⊥
+longer bytes file left r le =
+    let long = ap length r.1.3 ∙ length-append bytes (r.1.0 ∷ r.1.1) in
     omega (arith, long, r.0, le)
 
 none-exceeds : (f : Files) (journal : List Entry) (n : ℕ) (names : List Text) (sources : List SourceState) (feeds : List Feed) → AreServed (Some f) journal n names sources feeds
@@ -73,9 +73,9 @@ none-exceeds f journal n (name ∷ names) [] feeds served h k first = served
 none-exceeds f journal n (name ∷ names) (source ∷ sources) [] served h k first = served
 none-exceeds f journal n (name ∷ names) (source ∷ sources) (feed ∷ feeds) served h zero first = by (f name) h.0 served.0.read
   where
-    by : (file : Option Text) → IsWithin file → IsSomeAnd file (IsReadOf feed.course served.0.bytes) → ⊥
+    by : (file : Option Text) → IsWithin file → IsSomeAnd file (IsReadOf feed.course served.0.bytes source.left) → ⊥
     by None h r = r
-    by (Some text) h r = longer served.0.bytes text (subst (λ (c : Course). IsReadOf c served.0.bytes text) first r) h
+    by (Some text) h r = longer served.0.bytes text source.left (subst (λ (c : Course). IsReadOf c served.0.bytes source.left text) first r) h
 none-exceeds f journal n (name ∷ names) (source ∷ sources) (feed ∷ feeds) served h (suc k) first = none-exceeds f journal (suc n) names sources feeds served.1 h.1 k first.1
 
 -- ---- counts

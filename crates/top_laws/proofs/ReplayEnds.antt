@@ -1,5 +1,5 @@
 -- So it is of a replay and of a rehearsal.
-use Rattle.std.proofs.Common.{◌≡◌, ap, subst, refl, ℕ, inl, inr, true, false, Bool, [], ◌∷◌, length, map, arith, length-append}
+use Rattle.std.proofs.Common.{◌≡◌, ap, subst, refl, ℕ, inl, inr, true, false, Bool, List, [], ◌∷◌, length, map, arith, length-append}
 use Rattle.std.specs.Prelude.{Option, Some, None, IsSomeAnd}
 use Rattle.ha_io.specs.Counts.{Rose}
 use Rattle.ha_config.specs.Words.{Text}
@@ -9,9 +9,10 @@ use Rattle.ha_status.specs.declared.status.Status.{Status}
 use Rattle.ha_status.specs.Causes.{OneRose, OpenCause, ReadCause, WriteCause}
 use Rattle.ha_status.specs.Files.{Files}
 use Rattle.replay_file.specs.declared.front.FrontEnd.{FrontEnd}
-use Rattle.replay_file.specs.Fronts.{IsFrontOf, IsReadOf}
+use Rattle.replay_file.specs.Fronts.{IsFrontOf, IsReadFrom, IsReadOf}
 use Rattle.replay_file.specs.Judged.{IsStatusOf, OfFile}
 use Rattle.replay_file.specs.Replays.{IsReplay, IsUnread}
+use Rattle.replay_file.proofs.ReplayLemmas.{front_of}
 use Rattle.trace_laws.specs.Tells.{IsNoTrace}
 use Rattle.ha_rehearse.specs.Rehearsed.{IsRehearseStatus}
 use Rattle.ha_top.specs.Views.{After, Before}
@@ -27,13 +28,14 @@ record OfTrace (text : Text) (end : FrontEnd) : Type 0 where
   front : IsFrontOf text end bytes
   whole : IsWholeTrace bytes
 
-of_trace : (files : Option Files) (name text : Text) (end : FrontEnd) → IsSomeAnd files (λ f. IsSomeAnd (f name) IsWholeTrace) → IsReadOf files name text end → OfTrace text end
-of_trace None name text end traced read = absurd traced
-of_trace (Some f) name text end traced read = by (f name) traced read
+of_trace : (files : Option Files) (name text : Text) (end : FrontEnd) (lefts : List (Option Text)) → IsSomeAnd files (λ f. IsSomeAnd (f name) IsWholeTrace)
+    → IsReadOf files name text end lefts → OfTrace text end
+of_trace None name text end lefts traced read = absurd traced
+of_trace (Some f) name text end lefts traced read = by (f name) traced read.2
   where
-    by : (file : Option Text) → IsSomeAnd file IsWholeTrace → IsSomeAnd file (IsFrontOf text end) → OfTrace text end
-    by None traced read = absurd traced
-    by (Some bytes) traced read = record { bytes = bytes; front = read; whole = traced }
+    by : (file : Option Text) → IsSomeAnd file IsWholeTrace → IsSomeAnd file (IsReadFrom text end read.0) → OfTrace text end
+    by None traced read' = absurd traced
+    by (Some bytes) traced read' = record { bytes = bytes; front = front_of bytes text end read.0 read'; whole = traced }
 
 not_none : (text : Text) (end : FrontEnd) → OfTrace text end → OfFile text end IsNoTrace → ⊥
 not_none text end o none = none o.bytes o.front o.whole.journal o.whole.records o.whole.trace
@@ -90,10 +92,10 @@ module _ (name : Text) (b : Before) (a : After) (u : IsUnhinderedReplay name b a
   judged text end j rs ended left o Status.KeepFault is read written = absurd is
   judged text end j rs ended left o (Status.StoreRefused code) is read written = absurd is
 
-  by_status : (s : Status) (C E : Text → Type 0) → IsReplay b.place.files name s C E → Opens s → Reads s → Writes s → Good s
+  by_status : (s : Status) (C E : Text → Type 0) → IsReplay b.place.files name (map (λ y. y.left) a.sources) s C E → Opens s → Reads s → Writes s → Good s
   by_status s C E (inl none) unopened read written = unread s none.0 unopened
   by_status s C E (inr h) unopened read written =
-      judged h.text h.end h.judged.journal h.judged.records h.judged.ended h.judged.left (of_trace b.place.files name h.text h.end u.traced h.read) s h.judged.status_is read written
+      judged h.text h.end h.judged.journal h.judged.records h.judged.ended h.judged.left (of_trace b.place.files name h.text h.end (map (λ y. y.left) a.sources) u.traced h.read) s h.judged.status_is read written
 
 pub replay-ends-well : (name : Text) (b : Before) (a : After) → Replayed name b a → IsUnhinderedReplay name b a → Good a.status
 replay-ends-well name b a x u = by_status name b a u a.status _ _ x.replay x.unopened x.unread x.unwritten

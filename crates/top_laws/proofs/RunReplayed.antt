@@ -1,5 +1,5 @@
 -- The trace of a run is what a replay takes, and its calls are the run's.
-use Rattle.std.proofs.Common.{◌≡◌, ◌∙◌, ap, sym, subst, inl, inr, true, Bool, List, [], append-nil}
+use Rattle.std.proofs.Common.{◌≡◌, ◌∙◌, ap, sym, subst, inl, inr, true, Bool, List, [], map, append-nil}
 use Rattle.std.proofs.lemmas.Str.{is_utf8-from_IsUtf8}
 use Rattle.std.specs.Prelude.{Option, Some, None, IfSome, IsSomeAnd}
 use Rattle.ha_config.specs.Words.{Text}
@@ -20,7 +20,7 @@ use Rattle.trace_laws.specs.Runs.{Begins, IsRun}
 use Rattle.trace_laws.specs.Tells.{IsTraceOf}
 use Rattle.trace_laws.proofs.RunLemmas.{one_run}
 use Rattle.replay_file.specs.declared.front.FrontEnd.{FrontEnd}
-use Rattle.replay_file.specs.Fronts.{IsFrontOf, IsReadOf}
+use Rattle.replay_file.specs.Fronts.{IsReadFrom, IsReadOf}
 use Rattle.replay_file.specs.Judged.{AreErrorsTaken, IsStatusOf, IsTaken}
 use Rattle.replay_file.specs.Replays.{IsReplay, Replayed as ReplayedFile}
 use Rattle.ha_top.specs.Views.{After, Before}
@@ -97,29 +97,29 @@ run-traced words b a text x t =
 
 -- ---- a replay of it
 
-held_text : (files : Option Files) (name text text' : Text) → IsSomeAnd files (λ f. f name ≡ Some text) → IsReadOf files name text' FrontEnd.Whole → text ≡ text'
-held_text None name text text' held read = absurd held
-held_text (Some f) name text text' held read = by (f name) held read
+held_text : (files : Option Files) (name text text' : Text) (lefts : List (Option Text)) → IsSomeAnd files (λ f. f name ≡ Some text) → IsReadOf files name text' FrontEnd.Whole lefts → text ≡ text'
+held_text None name text text' lefts held read = absurd held
+held_text (Some f) name text text' lefts held read = by (f name) held read.2
   where
-    by : (file : Option Text) → file ≡ Some text → IsSomeAnd file (IsFrontOf text' FrontEnd.Whole) → text ≡ text'
-    by None held read = absurd read
-    by (Some bytes) held read = sym (some_same bytes text held) ∙ read
+    by : (file : Option Text) → file ≡ Some text → IsSomeAnd file (IsReadFrom text' FrontEnd.Whole read.0) → text ≡ text'
+    by None held read' = absurd read'
+    by (Some bytes) held read' = sym (some_same bytes text held) ∙ read'.1
 
 -- the bytes that were judged well are the trace of the journal that was found
 judged_trace : (text : Text) (end : FrontEnd) (j : Journal) (rs : Records) (ended : Bool) (left : Text) → Begins text j rs ended left → IsStatusOf text end j rs ended left Status.Ok → IsTraceOf text j rs
 judged_trace text end j rs ended left begins is =
     subst (λ (z : Bool). Begins text j rs z []) is.1 (subst (λ (z : Text). Begins text j rs ended z) is.2 begins)
 
-module _ (files : Option Files) (name text : Text) (C E : Text → Type 0) (j : Journal) (rs : Records) (held : IsSomeAnd files (λ f. f name ≡ Some text)) (trace : IsTraceOf text j rs) where
-  same_run : (h : ReplayedFile files name Status.Ok C E) → C (call_text j rs) × E (error_text j)
+module _ (files : Option Files) (name text : Text) (lefts : List (Option Text)) (C E : Text → Type 0) (j : Journal) (rs : Records) (held : IsSomeAnd files (λ f. f name ≡ Some text)) (trace : IsTraceOf text j rs) where
+  same_run : (h : ReplayedFile files name lefts Status.Ok C E) → C (call_text j rs) × E (error_text j)
   same_run h =
-      let read : IsReadOf files name h.text FrontEnd.Whole = subst (IsReadOf files name h.text) h.judged.status_is.0 h.read in
+      let read : IsReadOf files name h.text FrontEnd.Whole lefts = subst (λ (z : FrontEnd). IsReadOf files name h.text z lefts) h.judged.status_is.0 h.read in
       let found = judged_trace h.text h.end h.judged.journal h.judged.records h.judged.ended h.judged.left h.judged.begins h.judged.status_is in
-      let moved : IsTraceOf text h.judged.journal h.judged.records = subst (λ (z : Text). IsTraceOf z h.judged.journal h.judged.records) (sym (held_text files name text h.text held read)) found in
+      let moved : IsTraceOf text h.judged.journal h.judged.records = subst (λ (z : Text). IsTraceOf z h.judged.journal h.judged.records) (sym (held_text files name text h.text lefts held read)) found in
       let same = one_run text h.judged.journal j h.judged.records rs moved trace in
       (subst C (λ i. call_text (same.0 i) (same.1 i)) h.judged.calls, subst E (ap error_text same.0) h.judged.errors)
 
-  replayed_well : IsReplay files name Status.Ok C E → C (call_text j rs) × E (error_text j)
+  replayed_well : IsReplay files name lefts Status.Ok C E → C (call_text j rs) × E (error_text j)
   replayed_well (inl none) = absurd none.0
   replayed_well (inr h) = same_run h
 
@@ -127,5 +127,5 @@ pub trace-replayed : (name text : Text) (b : Before) (a : After) (j : Journal) (
     → IsTaken a.status (call_text j rs) b.out.took a.out.took
     × AreErrorsTaken (OneRose b.err.faults a.err.faults b.err.zeros a.err.zeros) a.status (error_text j) b.err.took a.err.took
 trace-replayed name text b a j rs x held trace ok =
-    replayed_well b.place.files name text (λ t. IsTaken a.status t b.out.took a.out.took) (λ t. AreErrorsTaken (OneRose b.err.faults a.err.faults b.err.zeros a.err.zeros) a.status t b.err.took a.err.took) j rs held trace
-    (subst (λ (s : Status). IsReplay b.place.files name s (λ t. IsTaken a.status t b.out.took a.out.took) (λ t. AreErrorsTaken (OneRose b.err.faults a.err.faults b.err.zeros a.err.zeros) a.status t b.err.took a.err.took)) ok x.replay)
+    replayed_well b.place.files name text (map (λ y. y.left) a.sources) (λ t. IsTaken a.status t b.out.took a.out.took) (λ t. AreErrorsTaken (OneRose b.err.faults a.err.faults b.err.zeros a.err.zeros) a.status t b.err.took a.err.took) j rs held trace
+    (subst (λ (s : Status). IsReplay b.place.files name (map (λ y. y.left) a.sources) s (λ t. IsTaken a.status t b.out.took a.out.took) (λ t. AreErrorsTaken (OneRose b.err.faults a.err.faults b.err.zeros a.err.zeros) a.status t b.err.took a.err.took)) ok x.replay)

@@ -3,7 +3,7 @@ use Rattle.std.specs.Option.{option_map}
 use Rattle.bus_turn.specs.States.{keeper_of, sink_of}
 use Rattle.ha_worker.specs.Courses.{source_of}
 use Rattle.ha_top.proofs.EndedLemmas.{unreplayed}
-use Rattle.ha_top.proofs.SourceLemmas.{faults_are, handed_back_as, lefts_are, names_are, unread_as}
+use Rattle.ha_top.proofs.SourceLemmas.{faults_are, handed_back_as, lefts_are, names_are, replay_as, unread_as}
 use Rattle.ha_top.proofs.program.replay.Goals as goal
 
 pub returns-in_default : goal.returns-in_default
@@ -31,7 +31,7 @@ returns g c =
     let source = g.P.Source.Source in
     let handed = c.replay_call-status.result.1 in
     record {
-      replay = rw (← c.as_str.ensures.value) c.replay_call-status.ensures.replay;
+      replay = replay_as _ _ _ _ _ _ _ _ same (lefts_are source.faults source.left source.name handed c.listed.result c.listed.ensures) e.replay;
       asked = search rules;
       nothing = search rules;
       handed_back = handed_back_as _ _ _ _ _ same (names_are source.faults source.left source.name handed c.listed.result c.listed.ensures) e.handed_back;
