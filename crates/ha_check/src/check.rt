@@ -23,6 +23,7 @@ fn show<K: Sink>(alloc: Global, config: &Config, out: &mut K) -> Status
     ensures written { IsWritten result (check_text config.now) (K.written out.old) (K.written out.new) }
     ensures cause { WriteCause (Rose (K.faults out.old) (K.faults out.new)) (Rose (K.zeros out.old) (K.zeros out.new)) result }
     ensures counts { NeverFall (K.faults out.old) (K.faults out.new) (K.zeros out.old) (K.zeros out.new) }
+    ensures same_name { K.name out.new ≡ K.name out.old }
 {
     let Ok(text) = check_text(alloc, config) else {
         return Status::Memory;
@@ -52,6 +53,7 @@ fn checked<P: Place>(
     ensures handed_back { IsHandedBack name.now (map P.Source.name (option_to_list result.1)) result.0 }
     ensures at_end { IsSome (P.holds place.old) → result.0 ≡ Status.Ok → map P.Source.left (option_to_list result.1) ≡ Some [] ∷ [] }
     ensures counts { NeverFall (P.Sink.faults out.old) (P.Sink.faults out.new) (P.Sink.zeros out.old) (P.Sink.zeros out.new) }
+    ensures same_name { P.Sink.name out.new ≡ P.Sink.name out.old }
     ensures asked { IsAskedSome (P.asked place.old) ((name.now, Opening.Reading) ∷ []) (P.asked place.new) }
     ensures never_falls { P.faults place.old ≤ P.faults place.new }
     ensures same_files { P.holds place.new ≡ P.holds place.old }
@@ -99,6 +101,8 @@ pub fn check_call<P: Place>(
     ensures same_files { P.holds place.new ≡ P.holds place.old }
     ensures out_counts { NeverFall (P.Sink.faults out.old) (P.Sink.faults out.new) (P.Sink.zeros out.old) (P.Sink.zeros out.new) }
     ensures err_counts { NeverFall (P.Sink.faults err.old) (P.Sink.faults err.new) (P.Sink.zeros err.old) (P.Sink.zeros err.new) }
+    ensures out_name { P.Sink.name out.new ≡ P.Sink.name out.old }
+    ensures err_name { P.Sink.name err.new ≡ P.Sink.name err.old }
 {
     let (status, source) = checked(alloc, name, place, out);
     (told(alloc, err, status), source)

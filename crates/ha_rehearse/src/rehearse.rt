@@ -85,6 +85,7 @@ fn show<K: Sink>(alloc: Global, journal: &[Entry], records: &[Record], out: &mut
     ensures written { IsWritten result (rehearse_text journal.now records.now) (K.written out.old) (K.written out.new) }
     ensures cause { WriteCause (Rose (K.faults out.old) (K.faults out.new)) (Rose (K.zeros out.old) (K.zeros out.new)) result }
     ensures counts { NeverFall (K.faults out.old) (K.faults out.new) (K.zeros out.old) (K.zeros out.new) }
+    ensures same_name { K.name out.new ≡ K.name out.old }
 {
     let Ok(text) = rehearse_text(alloc, journal, records) else {
         return Status::Memory;
@@ -104,6 +105,7 @@ fn tried<C: Boots, K: Sink>(alloc: Global, lines: u32, out: &mut K) -> Status
     ensures output { IsCounted lines result (K.written out.old) (K.written out.new) }
     ensures unwritten { WriteCause (Rose (K.faults out.old) (K.faults out.new)) (Rose (K.zeros out.old) (K.zeros out.new)) result }
     ensures counts { NeverFall (K.faults out.old) (K.faults out.new) (K.zeros out.old) (K.zeros out.new) }
+    ensures same_name { K.name out.new ≡ K.name out.old }
 {
     match rehearsed::<C>(alloc, lines) {
         Ok(core) => show(alloc, core.journal(), core.records(), out),
@@ -132,6 +134,8 @@ pub fn rehearse_call<C: Boots, K: Sink>(
     // The sinks afterwards.
     ensures out_counts { NeverFall (K.faults out.old) (K.faults out.new) (K.zeros out.old) (K.zeros out.new) }
     ensures err_counts { NeverFall (K.faults err.old) (K.faults err.new) (K.zeros err.old) (K.zeros err.new) }
+    ensures out_name { K.name out.new ≡ K.name out.old }
+    ensures err_name { K.name err.new ≡ K.name err.old }
 {
     let status = tried::<C, K>(alloc, lines, out);
     told(alloc, err, status)

@@ -6,4 +6,5 @@ pub mod RunLemmas
 pub mod StopLemmas
 pub mod StoreLemmas
 pub mod ToldLemmas
+pub mod SameLemmas
 pub mod SourceLemmas

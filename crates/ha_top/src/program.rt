@@ -1,5 +1,6 @@
 //! The program: what its words ask for.
 ghost use Rattle.std.specs.Prelude.{◌≡◌, ◌<◌, ◌≤◌, ◌⊎◌, [], IfSome, None, map, option_map, option_to_list, string_bytes, vec_capacity, vec_len};
+ghost use Rattle.bus_turn.specs.Growth.{SinkGrows};
 ghost use Rattle.bus_turn.specs.States.{keeper_of, sink_of};
 ghost use Rattle.ha_worker.specs.Courses.{source_of};
 ghost use Rattle.ha_io.specs.Counts.{Rose};
@@ -8,6 +9,7 @@ ghost use Rattle.ha_status.specs.Written.{TookLine};
 ghost use Rattle.ha_words.specs.PlanOf.{plan_of};
 ghost use Rattle.ha_rehearse.specs.Rehearsed.{IsCounted, IsRehearseStatus};
 ghost use Rattle.ha_top.specs.Program.{AnsweredBy, Checked, Replayed};
+ghost use Rattle.ha_top.specs.Written.{AreTheSame};
 ghost use Rattle.ha_top.specs.Views.{after_run, before_run, place_state};
 
 use crate::outcome::Outcome;
@@ -42,6 +44,7 @@ fn ended<P: Place, Q: Keeper>(
     ensures line { TookLine (OneRose (P.Sink.faults err) (P.Sink.faults result.err) (P.Sink.zeros err) (P.Sink.zeros result.err)) result.status (P.Sink.written err) (P.Sink.written result.err) }
     ensures counts { NeverFall (P.Sink.faults err) (P.Sink.faults result.err) (P.Sink.zeros err) (P.Sink.zeros result.err) }
     ensures same_name { P.Sink.name result.err ≡ P.Sink.name err }
+    ensures same_err { SinkGrows (sink_of P.Sink.written P.Sink.faults P.Sink.zeros P.Sink.name err) (sink_of P.Sink.written P.Sink.faults P.Sink.zeros P.Sink.name result.err) }
 {
     let mut err = err;
     let status = told(alloc, &mut err, status);
@@ -78,7 +81,10 @@ fn check<P: Place, Q: Keeper>(
     err: P::Sink,
     keep: Q,
 ) -> Outcome<P, Q>
-    ensures { let s = sink_of P.Sink.written P.Sink.faults P.Sink.zeros P.Sink.name in
+    ensures same_keep { result.keep ≡ keep }
+    ensures same_out { SinkGrows (sink_of P.Sink.written P.Sink.faults P.Sink.zeros P.Sink.name out) (sink_of P.Sink.written P.Sink.faults P.Sink.zeros P.Sink.name result.out) }
+    ensures same_err { SinkGrows (sink_of P.Sink.written P.Sink.faults P.Sink.zeros P.Sink.name err) (sink_of P.Sink.written P.Sink.faults P.Sink.zeros P.Sink.name result.err) }
+    ensures answers { let s = sink_of P.Sink.written P.Sink.faults P.Sink.zeros P.Sink.name in
         let q = keeper_of Q.kept Q.faults in
         Checked name.now (before_run (place_state (P.holds place.old) (P.faults place.old) (P.last place.old) (P.asked place.old)) (s out) (s err) (q keep)) (after_run result.status result.journal result.records (map (source_of P.Source.faults P.Source.left P.Source.name) result.sources) (place_state (P.holds place.new) (P.faults place.new) (P.last place.new) (P.asked place.new)) (s result.out) (s result.err) (option_map s result.trace) (option_map P.Sink.kept result.trace) (q result.keep)) }
 {
@@ -109,7 +115,10 @@ fn replay<E: Boots, P: Place, Q: Keeper>(
     err: P::Sink,
     keep: Q,
 ) -> Outcome<P, Q>
-    ensures { let s = sink_of P.Sink.written P.Sink.faults P.Sink.zeros P.Sink.name in
+    ensures same_keep { result.keep ≡ keep }
+    ensures same_out { SinkGrows (sink_of P.Sink.written P.Sink.faults P.Sink.zeros P.Sink.name out) (sink_of P.Sink.written P.Sink.faults P.Sink.zeros P.Sink.name result.out) }
+    ensures same_err { SinkGrows (sink_of P.Sink.written P.Sink.faults P.Sink.zeros P.Sink.name err) (sink_of P.Sink.written P.Sink.faults P.Sink.zeros P.Sink.name result.err) }
+    ensures answers { let s = sink_of P.Sink.written P.Sink.faults P.Sink.zeros P.Sink.name in
         let q = keeper_of Q.kept Q.faults in
         Replayed name.now (before_run (place_state (P.holds place.old) (P.faults place.old) (P.last place.old) (P.asked place.old)) (s out) (s err) (q keep)) (after_run result.status result.journal result.records (map (source_of P.Source.faults P.Source.left P.Source.name) result.sources) (place_state (P.holds place.new) (P.faults place.new) (P.last place.new) (P.asked place.new)) (s result.out) (s result.err) (option_map s result.trace) (option_map P.Sink.kept result.trace) (q result.keep)) }
 {
@@ -140,6 +149,8 @@ fn rehearse<E: Boots, P: Place, Q: Keeper>(
     keep: Q,
 ) -> Outcome<P, Q>
     requires few { lines ≤ 100_000 }
+    ensures same_out { SinkGrows (sink_of P.Sink.written P.Sink.faults P.Sink.zeros P.Sink.name out) (sink_of P.Sink.written P.Sink.faults P.Sink.zeros P.Sink.name result.out) }
+    ensures same_err { SinkGrows (sink_of P.Sink.written P.Sink.faults P.Sink.zeros P.Sink.name err) (sink_of P.Sink.written P.Sink.faults P.Sink.zeros P.Sink.name result.err) }
     ensures answer { IsRehearseStatus lines result.status }
     ensures unwritten { WriteCause (Rose (P.Sink.faults out) (P.Sink.faults result.out)) (Rose (P.Sink.zeros out) (P.Sink.zeros result.out)) result.status }
     ensures output { IsCounted lines result.status (P.Sink.written out) (P.Sink.written result.out) }
@@ -181,7 +192,11 @@ pub fn hearth<R: Threads + Wait + Sync, E: Boots, P: Place, Q: Keeper, G: Gate>(
     requires out_new { (P.Sink.faults out ≡ 0) × (P.Sink.zeros out ≡ 0) }
     requires err_new { (P.Sink.faults err ≡ 0) × (P.Sink.zeros err ≡ 0) }
     requires keep_new { Q.faults keep ≡ 0 }
-    ensures { let s = sink_of P.Sink.written P.Sink.faults P.Sink.zeros P.Sink.name in
+    // The sinks and the keeper are those that were handed in, whatever the words ask for.
+    ensures same { let s = sink_of P.Sink.written P.Sink.faults P.Sink.zeros P.Sink.name in
+        let q = keeper_of Q.kept Q.faults in
+        AreTheSame (before_run (place_state (P.holds place.old) (P.faults place.old) (P.last place.old) (P.asked place.old)) (s out) (s err) (q keep)) (after_run result.status result.journal result.records (map (source_of P.Source.faults P.Source.left P.Source.name) result.sources) (place_state (P.holds place.new) (P.faults place.new) (P.last place.new) (P.asked place.new)) (s result.out) (s result.err) (option_map s result.trace) (option_map P.Sink.kept result.trace) (q result.keep)) }
+    ensures answers { let s = sink_of P.Sink.written P.Sink.faults P.Sink.zeros P.Sink.name in
         let q = keeper_of Q.kept Q.faults in
         AnsweredBy (plan_of (map string_bytes words.now)) (before_run (place_state (P.holds place.old) (P.faults place.old) (P.last place.old) (P.asked place.old)) (s out) (s err) (q keep)) (after_run result.status result.journal result.records (map (source_of P.Source.faults P.Source.left P.Source.name) result.sources) (place_state (P.holds place.new) (P.faults place.new) (P.last place.new) (P.asked place.new)) (s result.out) (s result.err) (option_map s result.trace) (option_map P.Sink.kept result.trace) (q result.keep)) }
 {

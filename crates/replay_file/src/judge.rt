@@ -113,6 +113,8 @@ fn take_line<C: Core, K: Sink>(
     ensures cause { IfErr result (λ status. WriteCause (OneRose (K.faults out.old) (K.faults out.new) (K.faults err.old) (K.faults err.new)) (OneRose (K.zeros out.old) (K.zeros out.new) (K.zeros err.old) (K.zeros err.new)) status) }
     ensures out_counts { NeverFall (K.faults out.old) (K.faults out.new) (K.zeros out.old) (K.zeros out.new) }
     ensures err_counts { NeverFall (K.faults err.old) (K.faults err.new) (K.zeros err.old) (K.zeros err.new) }
+    ensures out_name { K.name out.new ≡ K.name out.old }
+    ensures err_name { K.name err.new ≡ K.name err.old }
 {
     match replay_line(alloc, shown, core, line, closing) {
         Ok(true) => Ok(true),
@@ -144,6 +146,8 @@ impl<E: Boots> Replay<E> {
         ensures cause { IfErr result (λ status. WriteCause (OneRose (K.faults out.old) (K.faults out.new) (K.faults err.old) (K.faults err.new)) (OneRose (K.zeros out.old) (K.zeros out.new) (K.zeros err.old) (K.zeros err.new)) status) }
         ensures out_counts { NeverFall (K.faults out.old) (K.faults out.new) (K.zeros out.old) (K.zeros out.new) }
         ensures err_counts { NeverFall (K.faults err.old) (K.faults err.new) (K.zeros err.old) (K.zeros err.new) }
+        ensures out_name { K.name out.new ≡ K.name out.old }
+        ensures err_name { K.name err.new ≡ K.name err.old }
     {
         if self.ended {
             return Err(status_of(TraceFault::Refused, self.lines));
@@ -209,6 +213,8 @@ impl<E: Boots> Replay<E> {
         ensures cause { WriteCause (OneRose (K.faults out.old) (K.faults out.new) (K.faults err.old) (K.faults err.new)) (OneRose (K.zeros out.old) (K.zeros out.new) (K.zeros err.old) (K.zeros err.new)) result }
         ensures out_counts { NeverFall (K.faults out.old) (K.faults out.new) (K.zeros out.old) (K.zeros out.new) }
         ensures err_counts { NeverFall (K.faults err.old) (K.faults err.new) (K.zeros err.old) (K.zeros err.new) }
+        ensures out_name { K.name out.new ≡ K.name out.old }
+        ensures err_name { K.name err.new ≡ K.name err.old }
     {
         let mut left = lines;
         'lines: while let Some(cut) = cut_line(left) {
@@ -235,6 +241,8 @@ pub(crate) fn judge<E: Boots, K: Sink>(
     ensures cause { WriteCause (OneRose (K.faults out.old) (K.faults out.new) (K.faults err.old) (K.faults err.new)) (OneRose (K.zeros out.old) (K.zeros out.new) (K.zeros err.old) (K.zeros err.new)) result }
     ensures out_counts { NeverFall (K.faults out.old) (K.faults out.new) (K.zeros out.old) (K.zeros out.new) }
     ensures err_counts { NeverFall (K.faults err.old) (K.faults err.new) (K.zeros err.old) (K.zeros err.new) }
+    ensures out_name { K.name out.new ≡ K.name out.old }
+    ensures err_name { K.name err.new ≡ K.name err.old }
 {
     let Some(first) = cut_line(text) else {
         return match end {

@@ -37,6 +37,8 @@ fn replayed<E: Boots, P: Place>(
     ensures same_files { P.holds place.new ≡ P.holds place.old }
     ensures out_counts { NeverFall (P.Sink.faults out.old) (P.Sink.faults out.new) (P.Sink.zeros out.old) (P.Sink.zeros out.new) }
     ensures err_counts { NeverFall (P.Sink.faults err.old) (P.Sink.faults err.new) (P.Sink.zeros err.old) (P.Sink.zeros err.new) }
+    ensures out_name { P.Sink.name out.new ≡ P.Sink.name out.old }
+    ensures err_name { P.Sink.name err.new ≡ P.Sink.name err.old }
 {
     let mut source = match place.reading(alloc, name) {
         Ok(source) => source,
@@ -84,6 +86,8 @@ pub fn replay_call<E: Boots, P: Place>(
     ensures same_files { P.holds place.new ≡ P.holds place.old }
     ensures out_counts { NeverFall (P.Sink.faults out.old) (P.Sink.faults out.new) (P.Sink.zeros out.old) (P.Sink.zeros out.new) }
     ensures err_counts { NeverFall (P.Sink.faults err.old) (P.Sink.faults err.new) (P.Sink.zeros err.old) (P.Sink.zeros err.new) }
+    ensures out_name { P.Sink.name out.new ≡ P.Sink.name out.old }
+    ensures err_name { P.Sink.name err.new ≡ P.Sink.name err.old }
 {
     let (status, source) = replayed::<E, P>(alloc, name, place, out, err);
     (told(alloc, err, status), source)

@@ -2,11 +2,13 @@ use Rattle.std.proofs.Common.{ap, map, refl}
 use Rattle.std.specs.Option.{option_map}
 use Rattle.bus_turn.specs.States.{keeper_of, sink_of}
 use Rattle.ha_worker.specs.Courses.{source_of}
+use Rattle.ha_top.proofs.EarlyLemmas.{sink_same}
 use Rattle.ha_top.proofs.EndedLemmas.{unchecked}
+use Rattle.ha_top.proofs.SameLemmas.{line_told, output_told}
 use Rattle.ha_top.proofs.program.check.Goals as goal
 
-pub returns-in_default : goal.returns-in_default
-returns-in_default g c =
+pub returns-in_default-clause-answers : goal.returns-in_default-clause-answers
+returns-in_default-clause-answers g c =
     let e = c.ended.ensures in
     let sink = sink_of g.P.Sink.Sink.written g.P.Sink.Sink.faults g.P.Sink.Sink.zeros g.P.Sink.Sink.name in
     unchecked _ _ (record {
@@ -22,3 +24,17 @@ returns-in_default g c =
       counts = e.counts;
       same_name = e.same_name;
     }) c.args.name.now
+
+pub returns-in_default-clause-same_out : goal.returns-in_default-clause-same_out
+returns-in_default-clause-same_out g c =
+    let sink = sink_of g.P.Sink.Sink.written g.P.Sink.Sink.faults g.P.Sink.Sink.zeros g.P.Sink.Sink.name in sink_same _ _ (ap sink c.ended.ensures.out)
+
+pub returns-clause-same_out : goal.returns-clause-same_out
+returns-clause-same_out g c =
+    let e = c.check_call-status.ensures in
+    record { told = output_told _ _ _ _ _ e.output; faults = e.out_counts.faults_stay; zeros = e.out_counts.zeros_stay; same_name = e.out_name }
+
+pub returns-clause-same_err : goal.returns-clause-same_err
+returns-clause-same_err g c =
+    let e = c.check_call-status.ensures in
+    record { told = line_told _ _ _ _ e.line; faults = e.err_counts.faults_stay; zeros = e.err_counts.zeros_stay; same_name = e.err_name }

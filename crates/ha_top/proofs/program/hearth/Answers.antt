@@ -5,8 +5,8 @@ use Rattle.ha_worker.specs.Courses.{source_of}
 use Rattle.ha_top.proofs.EndedLemmas.{unanswered}
 use Rattle.ha_top.proofs.program.hearth.Goals as goal
 
-pub returns-in-Err-Memory : goal.returns-in-Err-Memory
-returns-in-Err-Memory g c =
+pub returns-in-Err-Memory-clause-answers : goal.returns-in-Err-Memory-clause-answers
+returns-in-Err-Memory-clause-answers g c =
     let e = c.ended-in-Err-Memory.ensures in
     let sink = sink_of g.P.Sink.Sink.written g.P.Sink.Sink.faults g.P.Sink.Sink.zeros g.P.Sink.Sink.name in
     unanswered _ _ (record {

@@ -2,12 +2,14 @@ use Rattle.std.proofs.Common.{◌∙◌, ap, map, refl, rules}
 use Rattle.std.specs.Option.{option_map}
 use Rattle.bus_turn.specs.States.{keeper_of, sink_of}
 use Rattle.ha_worker.specs.Courses.{source_of}
+use Rattle.ha_top.proofs.EarlyLemmas.{sink_same}
 use Rattle.ha_top.proofs.EndedLemmas.{unreplayed}
+use Rattle.ha_top.proofs.SameLemmas.{calls_told, replay_errors_told}
 use Rattle.ha_top.proofs.SourceLemmas.{faults_are, handed_back_as, lefts_are, names_are, replay_as, unread_as}
 use Rattle.ha_top.proofs.program.replay.Goals as goal
 
-pub returns-in_default : goal.returns-in_default
-returns-in_default g c =
+pub returns-in_default-clause-answers : goal.returns-in_default-clause-answers
+returns-in_default-clause-answers g c =
     let e = c.ended.ensures in
     let sink = sink_of g.P.Sink.Sink.written g.P.Sink.Sink.faults g.P.Sink.Sink.zeros g.P.Sink.Sink.name in
     unreplayed _ _ (record {
@@ -24,8 +26,8 @@ returns-in_default g c =
       same_name = e.same_name;
     }) c.args.name.now
 
-pub returns : goal.returns
-returns g c =
+pub returns-clause-answers : goal.returns-clause-answers
+returns-clause-answers g c =
     let e = c.replay_call-status.ensures in
     let same = c.as_str.ensures.value in
     let source = g.P.Source.Source in
@@ -41,3 +43,17 @@ returns g c =
           (names_are source.faults source.left source.name handed c.listed.result c.listed.ensures) e.unread;
       unwritten = e.unwritten;
     }
+
+pub returns-in_default-clause-same_out : goal.returns-in_default-clause-same_out
+returns-in_default-clause-same_out g c =
+    let sink = sink_of g.P.Sink.Sink.written g.P.Sink.Sink.faults g.P.Sink.Sink.zeros g.P.Sink.Sink.name in sink_same _ _ (ap sink c.ended.ensures.out)
+
+pub returns-clause-same_out : goal.returns-clause-same_out
+returns-clause-same_out g c =
+    let e = c.replay_call-status.ensures in
+    record { told = calls_told _ _ _ _ _ _ _ e.replay; faults = e.out_counts.faults_stay; zeros = e.out_counts.zeros_stay; same_name = e.out_name }
+
+pub returns-clause-same_err : goal.returns-clause-same_err
+returns-clause-same_err g c =
+    let e = c.replay_call-status.ensures in
+    record { told = replay_errors_told _ _ _ _ _ _ _ _ e.replay; faults = e.err_counts.faults_stay; zeros = e.err_counts.zeros_stay; same_name = e.err_name }

@@ -1,4 +1,4 @@
-use Rattle.std.proofs.Common.{◌≤◌, arith, length}
+use Rattle.std.proofs.Common.{◌≤◌, ◌∙◌, arith, length, refl}
 use Rattle.ha_status.proofs.CauseLemmas.{falls_never}
 use Rattle.replay_file.specs.Fronts.{most_bytes}
 use Rattle.replay_file.proofs.TakeLemmas.{left_as, line_within, no_longer}
@@ -12,6 +12,8 @@ lines-init g c = record {
   at = λ text o e at. at;
   out_counts = record { faults_stay = omega arith; zeros_stay = omega arith };
   err_counts = record { faults_stay = omega arith; zeros_stay = omega arith };
+  out_name = refl;
+  err_name = refl;
 }
 
 pub take-requires-clause-short : goal.take-requires-clause-short
@@ -28,6 +30,8 @@ lines-preserved g c =
       at = λ text o e at. c.in-Ok.ensures.goes_on text c.in-Some.cut.behind.now o e (left_as text _ _ _ _ _ o _ e _ cuts.text_is (c.lines.invariant.at text o e at));
       out_counts = falls_never _ _ _ _ _ _ c.lines.invariant.out_counts c.in-Ok.ensures.out_counts;
       err_counts = falls_never _ _ _ _ _ _ c.lines.invariant.err_counts c.in-Ok.ensures.err_counts;
+      out_name = c.in-Ok.ensures.out_name ∙ c.lines.invariant.out_name;
+      err_name = c.in-Ok.ensures.err_name ∙ c.lines.invariant.err_name;
     }
 
 pub lines-smaller : goal.lines-smaller

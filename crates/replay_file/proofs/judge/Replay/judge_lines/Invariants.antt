@@ -1,4 +1,4 @@
-use Rattle.std.proofs.Common.{◌≤◌, length, Option}
+use Rattle.std.proofs.Common.{◌≡◌, ◌≤◌, length, Option}
 use Rattle.ha_config.specs.Words.{Text}
 use Rattle.ha_status.specs.Causes.{NeverFall}
 use Rattle.ha_replay.specs.Traces.{reached}
@@ -17,6 +17,8 @@ invariant-lines g l =
           → IsAt text (g.E.Core.entries l.self.core) (g.E.Core.runs l.self.core) l.self.ended l.left o (g.K.Sink.written l.out) e (g.K.Sink.written l.err);
       out_counts : NeverFall (g.K.Sink.faults s.out) (g.K.Sink.faults l.out) (g.K.Sink.zeros s.out) (g.K.Sink.zeros l.out);
       err_counts : NeverFall (g.K.Sink.faults s.err) (g.K.Sink.faults l.err) (g.K.Sink.zeros s.err) (g.K.Sink.zeros l.err);
+      out_name : g.K.Sink.name l.out ≡ g.K.Sink.name s.out;
+      err_name : g.K.Sink.name l.err ≡ g.K.Sink.name s.err;
     }
 
 abbrev pub decreases-lines : goal.decreases-lines
