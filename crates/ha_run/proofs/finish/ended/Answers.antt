@@ -8,4 +8,4 @@ pub returns-clause-handed : goal.returns-clause-handed
 returns-clause-handed g c =
     let kept = g.K.Sink.kept in
     let e = c.end-core in
-    subst (IsHandedOn (option_map kept e.result.trace)) (sym c.status_behind.ensures) (end_handed kept e.result.trace c.args.told e.result.first e.ensures.handed)
+    subst (IsHandedOn (option_map kept e.result.trace)) (sym c.status_behind-status.ensures) (end_handed kept e.result.trace c.args.told e.result.first e.ensures.handed)
