@@ -307,7 +307,7 @@ def ask_growth(home: Home, refusal: Refusal, whole: Answer, answer: Answer) -> N
     """A refused growth ends the run by want of memory, unless no answer needs it. Its line is cut where its own growth is refused."""
     if not refusal.later and is_whole(whole, answer):
         SPARED[home.name] = SPARED.get(home.name, 0) + 1
-        most = 2 if '"worker"' in whole.trace else 1
+        most = 2 if '"worker"' in whole.trace or home.words[0] == "rehearse" else 1
         ask(home, refusal, "more growths than two are not needed", SPARED[home.name] <= most, answer)
         return
     ask(home, refusal, "the status is not 10", answer.status == 10, answer)
