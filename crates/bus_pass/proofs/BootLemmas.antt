@@ -2,7 +2,7 @@
 use Rattle.std.proofs.Common.{◌≡◌, ◌∙◌, ap, refl, sym, subst, ℕ, [], ◌∷◌, length, arith}
 use Rattle.std.specs.Prelude.{Some}
 use Rattle.ha_journal.specs.declared.entry.Entry.{Entry}
-use Rattle.ha_journal.specs.declared.entry.Entry.TheVariants.{Boot, Line, Step}
+use Rattle.ha_journal.specs.declared.entry.Entry.TheVariants.{Boot, Line, Step, Again}
 use Rattle.ha_journal.specs.Journal.{Journal}
 use Rattle.ha_model.specs.Lawful.{Right, Running}
 use Rattle.ha_model.specs.Records.{Records}
@@ -12,12 +12,14 @@ use Rattle.bus_turn.specs.Buses.{IsBus, Stands}
 use Rattle.bus_pass.specs.Journal.{placed}
 
 running : (boot : Entry) (rs : Records) → Right (boot ∷ []) rs → Running (boot ∷ []) rs
-running (Boot text config stored start zone) rs right = record { lawful = record { right = right; turns = (tt, tt); closed = (tt, tt) }; is_open = (tt, tt) }
+running (Boot text config stored start zone carry) rs right = record { lawful = record { right = right; turns = (tt, tt); closed = (tt, tt) }; is_open = (tt, tt) }
+running (Again number start stored carry) rs right = absurd right.journal.0
 running (Line source number cmd) rs right = absurd right.journal.0
 running (Step worker serial branch item) rs right = absurd right.journal.0
 
 alone : (boot : Entry) (rs : Records) → Right (boot ∷ []) rs → (k : ℕ) → placed k 0 (boot ∷ []) ≡ []
-alone (Boot text config stored start zone) rs right k = refl
+alone (Boot text config stored start zone carry) rs right k = refl
+alone (Again number start stored carry) rs right k = absurd right.journal.0
 alone (Line source number cmd) rs right k = absurd right.journal.0
 alone (Step worker serial branch item) rs right k = absurd right.journal.0
 

@@ -1,14 +1,15 @@
 -- Entries of a journal, by their workers.
 use Rattle.std.specs.Prelude.{ℕ, ◌+◌, ◌==◌, ◌≡◌, Bool, false, cond, List, [], ◌∷◌}
 use Rattle.ha_journal.specs.declared.entry.Entry.{Entry}
-use Rattle.ha_journal.specs.declared.entry.Entry.TheVariants.{Boot, Line, Step}
+use Rattle.ha_journal.specs.declared.entry.Entry.TheVariants.{Boot, Line, Step, Again}
 use Rattle.ha_journal.specs.Journal.{Journal}
 use Rattle.ha_model.specs.Lawful.{is_quiet}
 use Rattle.ha_model.specs.Records.{records_of}
 
 -- the entry is a line of source k, or a step of worker k
 abbrev pub is_of : ℕ → Entry → Bool
-is_of k (Boot text config stored start zone) = false
+is_of k (Boot text config stored start zone carry) = false
+is_of k (Again number start stored carry) = false
 is_of k (Line source number cmd) = source == k
 is_of k (Step worker serial branch item) = worker == k
 

@@ -2,7 +2,7 @@
 use Rattle.std.specs.Prelude.{ℕ, ◌-◌, List, Option, None, if◌then◌else◌, nat_le, slice_get}
 use Rattle.ha_config.specs.declared.command.Cmd.{Cmd}
 use Rattle.ha_journal.specs.declared.entry.Entry.{Entry}
-use Rattle.ha_journal.specs.declared.entry.Entry.TheVariants.{Boot, Line, Step}
+use Rattle.ha_journal.specs.declared.entry.Entry.TheVariants.{Boot, Line, Step, Again}
 
 -- the commands that were read, the number of the line of the first, and the number of the first line that was not put
 pub record Reading : Type 0 where
@@ -22,7 +22,8 @@ abbrev pub Reads : Type 0
 Reads = Entry → Option Cmd
 
 abbrev pub read_for : ℕ → List Cmd → Reads
-read_for from cmds (Boot text config stored start zone) = None
+read_for from cmds (Boot text config stored start zone carry) = None
+read_for from cmds (Again number start stored carry) = None
 read_for from cmds (Line source number cmd) = cmd_at from cmds number
 read_for from cmds (Step worker serial branch item) = None
 

@@ -6,7 +6,7 @@ use mathlib.Core.Option as maybe
 use lib.ListN.{get_elem?}
 use Rattle.ha_config.specs.declared.command.Cmd.{Cmd}
 use Rattle.ha_journal.specs.declared.entry.Entry.{Entry}
-use Rattle.ha_journal.specs.declared.entry.Entry.TheVariants.{Boot, Line, Step}
+use Rattle.ha_journal.specs.declared.entry.Entry.TheVariants.{Boot, Line, Step, Again}
 use Rattle.ha_journal.specs.Commands.{put_as}
 use Rattle.ha_journal.specs.Journal.{Journal}
 use Rattle.bus_turn.specs.declared.fault.BusFault.{BusFault}
@@ -52,7 +52,8 @@ grown n read more (s ∷ ss) = stood s.worker (s.given ++ notes s.worker n read 
 
 -- a line is what stands at its place for the command that was read
 abbrev pub IsPutAs : Journal → Entry → Option Cmd → Type 0
-IsPutAs before (Boot text config stored start zone) read = Unit {0}
+IsPutAs before (Boot text config stored start zone carry) read = Unit {0}
+IsPutAs before (Again number start stored carry) read = Unit {0}
 IsPutAs before (Line source number cmd) read = (c : Cmd) × (read ≡ Some c) × (cmd ≡ put_as before c)
 IsPutAs before (Step worker serial branch item) read = Unit {0}
 

@@ -5,7 +5,7 @@ use Rattle.std.specs.Prelude.{Option, Some, None, ◌&&◌, cond, nat_eq, slice_
 use Rattle.std.specs.Option.{option_map_or}
 use Rattle.ha_config.specs.declared.config.Automation.{Automation}
 use Rattle.ha_journal.specs.declared.entry.Entry.{Entry}
-use Rattle.ha_journal.specs.declared.entry.Entry.TheVariants.{Boot, Line, Step}
+use Rattle.ha_journal.specs.declared.entry.Entry.TheVariants.{Boot, Line, Step, Again}
 use Rattle.ha_sight.specs.declared.item.Item.{Item}
 use Rattle.ha_model.specs.declared.record.Record.{Record}
 use Rattle.ha_config.specs.Words.{EachAfter, Text}
@@ -79,7 +79,8 @@ module _ (before : Journal) (worker serial : ℕ) (branch : List ℕ) (item : It
 
 pub called-is : (before : Journal) (x : Entry) (rs : Records) (all : List Automation) → Right (more before x) rs → all ≡ automations (more before x)
     → text_in (called_line all rs x) ≡ call_text_of rs before x
-called-is before (Boot text config stored start zone) rs all right is = refl
+called-is before (Boot text config stored start zone carry) rs all right is = refl
+called-is before (Again number start stored carry) rs all right is = refl
 called-is before (Line source number cmd) rs all right is = refl
 called-is before (Step worker serial branch item) rs all right is = step-line before worker serial branch item rs right all is
 

@@ -150,7 +150,7 @@ fn line_of_step(
             Some(run) => line_of_call(alloc, shown, automations, run, item),
             None => Ok(()),
         },
-        Entry::Boot { .. } | Entry::Line { .. } => Ok(()),
+        Entry::Boot { .. } | Entry::Line { .. } | Entry::Again { .. } => Ok(()),
     }
 }
 
@@ -205,7 +205,7 @@ fn is_error(entry: &Entry) -> bool
     ensures { result ≡ is_some (error_line entry.now) }
 {
     match entry {
-        Entry::Boot { .. } => false,
+        Entry::Boot { .. } | Entry::Again { .. } => false,
         Entry::Line { cmd, .. } => matches!(cmd, Cmd::Refused(_) | Cmd::Lost | Cmd::TooLong),
         Entry::Step { item, .. } => matches!(item, Item::Failed(_)),
     }

@@ -6,7 +6,7 @@ use Rattle.std.proofs.lemmas.Option.{slice_get_within}
 use Rattle.timer_queue.specs.Timers.{Timer}
 use Rattle.ha_config.specs.declared.command.Cmd.{Cmd}
 use Rattle.ha_journal.specs.declared.entry.Entry.{Entry}
-use Rattle.ha_journal.specs.declared.entry.Entry.TheVariants.{Boot, Line, Step}
+use Rattle.ha_journal.specs.declared.entry.Entry.TheVariants.{Boot, Line, Step, Again}
 use Rattle.ha_model.specs.declared.record.Record.{Record}
 use Rattle.ha_config.specs.Words.{EachAfter}
 use Rattle.ha_journal.specs.Entries.{step_of}
@@ -60,7 +60,8 @@ still-runs p m le r runs end =
 -- an entry that is a Step of the run, with its serial
 step-there : (s : ℕ) (y : Entry) → option_map_or (λ t. nat_eq t.serial s) (step_of y) false ≡ true → (rs : Records) (d : Journal) → IsRightEntry rs d y
     → (r : Record) × (record_of rs s ≡ Some r) × (r.serial ≡ s) × (is_running (length d) r ≡ true)
-step-there s (Boot text config stored start zone) h rs d right = absurd (let bad : ◌≡◌ {A = Bool} false true = h in cc)
+step-there s (Boot text config stored start zone carry) h rs d right = absurd (let bad : ◌≡◌ {A = Bool} false true = h in cc)
+step-there s (Again number start stored carry) h rs d right = absurd (let bad : ◌≡◌ {A = Bool} false true = h in cc)
 step-there s (Line source number cmd) h rs d right = absurd (let bad : ◌≡◌ {A = Bool} false true = h in cc)
 step-there s (Step worker serial branch item) h rs d right =
     let own : serial ≡ s = eq-of serial s h in

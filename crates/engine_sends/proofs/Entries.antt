@@ -6,6 +6,7 @@ use denote.Param.Send.{IsSend, sendable}
 use Rattle.std.specs.contracts.option.Option as Option
 use Rattle.ha_config.specs.contracts.command.Cmd as Cmd
 use Rattle.ha_sight.specs.contracts.item.Item as Item
+use Rattle.ha_journal.specs.contracts.carry.Carry as Carry
 use Rattle.ha_journal.specs.contracts.entry.Entry as Entry
 use Rattle.ha_model.specs.contracts.record.EndCause as EndCause
 use Rattle.ha_model.specs.contracts.record.Record as Record
@@ -21,8 +22,11 @@ command_field = search scripts depth 60 fits 20000
 pub item_field : IsSend Item.the_field.row
 item_field = search scripts depth 60 fits 20000
 
+pub carry_field : IsSend Carry.the_field.row
+carry_field = search scripts depth 60 fits 20000
+
 pub entry_field : IsSend Entry.the_field.row
-entry_field = search (command_field, item_field, scripts) depth 60 fits 20000
+entry_field = search (carry_field, command_field, item_field, scripts) depth 60 fits 20000
 
 pub entry_send : IsSend Entry.the_row
 entry_send = search (entry_field, sendable) depth 60 fits 20000

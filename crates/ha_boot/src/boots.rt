@@ -4,6 +4,7 @@ ghost use Rattle.ha_clock.specs.Local.{last_moment};
 ghost use Rattle.ha_clock.specs.Zone.{zone_of};
 ghost use Rattle.ha_journal.specs.declared.entry.Entry.TheVariants.{Boot};
 ghost use Rattle.ha_config.specs.Sound.{IsSoundConfig};
+ghost use Rattle.ha_journal.specs.Entries.{first_carry};
 
 use ha_clock::Moment;
 use ha_config::Config;
@@ -27,6 +28,6 @@ pub trait Boots: Core + Drop + Send {
         requires config { IsSoundConfig config }
         requires zone { IsSome (zone_of zone) }
         requires start { start ≤ last_moment }
-        ensures entries { IfOk result (λ core. Self.entries core ≡ Boot text config stored start zone ∷ []) }
+        ensures entries { IfOk result (λ core. Self.entries core ≡ Boot text config stored start zone first_carry ∷ []) }
         ensures spent { IfOk result (λ core. Self.is_spent core ≡ false) };
 }

@@ -5,6 +5,7 @@ use Rattle.ha_clock.specs.Zone as clock
 use Rattle.ha_clock.specs.Local.{last_moment}
 use Rattle.ha_config.specs.declared.config.Automation.{Automation}
 use Rattle.ha_config.specs.declared.config.Config.{Config}
+use Rattle.ha_journal.specs.declared.carry.Carry.{Carry}
 use Rattle.ha_journal.specs.declared.entry.Entry.{Entry}
 use Rattle.ha_journal.specs.declared.entry.Entry.TheVariants.{Boot}
 use Rattle.ha_journal.specs.Journal.{Journal, automations, now, zone_of}
@@ -46,9 +47,9 @@ true-count : (n : ℕ) → length (trues n) ≡ n
 true-count zero = refl
 true-count (suc n) = ap suc (true-count n)
 
-module _ (text : Text) (config : Config) (stored : Option Switches) (start : ℕ) (zone : Text) where
+module _ (text : Text) (config : Config) (stored : Option Switches) (start : ℕ) (zone : Text) (carry : Carry) where
   abbrev x : Entry
-  x = Boot text config stored start zone
+  x = Boot text config stored start zone carry
 
   abbrev k : Journal
   k = x ∷ []

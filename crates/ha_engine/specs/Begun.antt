@@ -3,6 +3,7 @@ use Rattle.std.specs.Prelude.{◌≡◌, ℕ, ◌≤◌, zero, suc, true, Bool, 
 use Rattle.ha_clock.specs.Zone.{zone_of}
 use Rattle.ha_clock.specs.Local.{last_moment}
 use Rattle.ha_config.specs.declared.config.Config.{Config}
+use Rattle.ha_journal.specs.declared.carry.Carry.{Carry}
 use Rattle.ha_journal.specs.declared.entry.Entry.TheVariants.{Boot}
 use Rattle.ha_journal.specs.Journal.{Journal}
 use Rattle.ha_config.specs.Sound.{IsSoundConfig}
@@ -18,7 +19,8 @@ pub record Begun (k : Journal) (s : Switches) (zone : Text) (at : ℕ) : Type 0 
   pub text : Text
   pub config : Config
   pub stored : Option Switches
-  pub journal_is : k ≡ Boot text config stored at zone ∷ []
+  pub carry : Carry
+  pub journal_is : k ≡ Boot text config stored at zone carry ∷ []
   pub sound : IsSoundConfig config
   pub zone_read : IsSome (zone_of zone)
   pub in_time : at ≤ last_moment
@@ -27,7 +29,7 @@ pub record Begun (k : Journal) (s : Switches) (zone : Text) (at : ℕ) : Type 0 
 -- all automations are set, and the triggers are still to be told of the boot
 pub record BegunWith (k : Journal) (s : Switches) (zone : Text) (at : ℕ) (table : StateTable) (t : TrigSet) : Type 0 where
   pub begun : Begun k s zone at
-  pub opened : AllOpened [] (Boot begun.text begun.config begun.stored at zone) table t
+  pub opened : AllOpened [] (Boot begun.text begun.config begun.stored at zone begun.carry) table t
 
 -- so many sources, of which each is rested
 abbrev pub trues : ℕ → List Bool

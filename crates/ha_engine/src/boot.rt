@@ -4,6 +4,7 @@ ghost use Rattle.ha_clock.specs.Local.{last_moment};
 ghost use Rattle.ha_clock.specs.Zone.{zone_of};
 ghost use Rattle.ha_journal.specs.declared.entry.Entry.TheVariants.{Boot};
 ghost use Rattle.ha_journal.specs.Attempts.{fired as fired_lem};
+ghost use Rattle.ha_journal.specs.Entries.{first_carry};
 ghost use Rattle.ha_journal.specs.Journal.{last_place};
 ghost use Rattle.ha_model.specs.Records.{records_of};
 ghost use Rattle.ha_model.specs.Lawful.{Right};
@@ -25,7 +26,7 @@ use engine_parts::ready::Ready;
 use engine_parts::slots::Slots;
 use ha_clock::{ClockFault, Moment, Zone};
 use ha_config::Config;
-use ha_journal::{Entry, Firing};
+use ha_journal::{Carry, Entry, Firing};
 use ha_value::{Many, Word};
 use run_modes::Runs;
 use state_table::StateTable;
@@ -55,8 +56,9 @@ fn first_journal(
     stored: Option<Many<(Word, bool)>>,
     start: Moment,
     zone: Word,
+    carry: Carry,
 ) -> Result<Vec<Entry>, AllocError>
-    ensures { IfOk result (λ j. j.items ≡ Boot text config stored start zone ∷ []) }
+    ensures { IfOk result (λ j. j.items ≡ Boot text config stored start zone carry ∷ []) }
 {
     let mut journal = Vec::new(alloc);
     journal.push(Entry::Boot {
@@ -65,6 +67,7 @@ fn first_journal(
         stored,
         start,
         zone,
+        carry,
     })?;
     Ok(journal)
 }
@@ -202,14 +205,15 @@ impl Engine {
         requires config { IsSoundConfig config }
         requires zone { IsSome (zone_of zone) }
         requires start { start ≤ last_moment }
-        ensures entries { IfOk result (λ e. e.entries ≡ Boot text config stored start zone ∷ []) }
-        ensures runs { IfOk result (λ e. e.runs ≡ records_of (Boot text config stored start zone ∷ [])) }
+        ensures entries { IfOk result (λ e. e.entries ≡ Boot text config stored start zone first_carry ∷ []) }
+        ensures runs { IfOk result (λ e. e.runs ≡ records_of (Boot text config stored start zone first_carry ∷ [])) }
         ensures right { IfOk result (λ e. Right e.entries e.runs) }
         ensures spent { IfOk result (λ e. e.is_spent ≡ false) }
     {
         let read = read_zone(alloc, &zone)?;
         let switches = Switches::restore(alloc, &config, stored.as_ref())?;
-        let journal = first_journal(alloc, text, config, stored, start, zone)?;
+        let carry = Carry::first(alloc)?;
+        let journal = first_journal(alloc, text, config, stored, start, zone, carry)?;
         let (runs, parts) = begin(alloc, journal.as_slice(), switches, read, start)?;
         Ok(Engine {
             alloc,

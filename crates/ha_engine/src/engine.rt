@@ -143,7 +143,7 @@ fn settle_entry(alloc: Global, before: &[Entry], last: &mut Entry)
 {
     match last {
         Entry::Line { cmd, .. } => settle_cmd(alloc, before, cmd),
-        Entry::Boot { .. } | Entry::Step { .. } => {}
+        Entry::Boot { .. } | Entry::Step { .. } | Entry::Again { .. } => {}
     }
 }
 

@@ -1,7 +1,7 @@
 -- Parts of a journal with one more entry.
 use Rattle.std.proofs.Common.{◌≡◌, ℕ, suc, ◌-◌, ◌<◌, [], ◌∷◌, length, refl, arith, length-append}
 use Rattle.ha_journal.specs.declared.entry.Entry.{Entry}
-use Rattle.ha_journal.specs.declared.entry.Entry.TheVariants.{Boot, Line, Step}
+use Rattle.ha_journal.specs.declared.entry.Entry.TheVariants.{Boot, Line, Step, Again}
 use Rattle.ha_journal.specs.Journal.{Journal, IsJournal, automations, more, HasEntry, through}
 use Rattle.std.proofs.lemmas.List.{take-append-le, take_all}
 
@@ -11,7 +11,8 @@ has-entry (e ∷ es) h = tt
 
 pub automations-more : (j : Journal) (x : Entry) → HasEntry j → automations j ≡ automations (more j x)
 automations-more [] x h = absurd h
-automations-more (Boot text config stored start zone ∷ es) x h = refl
+automations-more (Boot text config stored start zone carry ∷ es) x h = refl
+automations-more (Again number start stored carry ∷ es) x h = refl
 automations-more (Line source number cmd ∷ es) x h = refl
 automations-more (Step worker serial branch item ∷ es) x h = refl
 

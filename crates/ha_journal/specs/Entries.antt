@@ -1,15 +1,16 @@
 -- What an entry is, and what its command or item does. The other definitions ask here, so that one file knows all kinds of entries,
 -- commands and items; elsewhere a match on these types names every kind.
-use Rattle.std.specs.Prelude.{ℕ, Bool, true, false, ◌||◌, List, Option, Some, None, is_some}
+use Rattle.std.specs.Prelude.{ℕ, Bool, true, false, ◌||◌, List, [], replicate, Option, Some, None, is_some}
 use Rattle.ha_value.specs.declared.value.EntityId.{EntityId}
 use Rattle.ha_config.specs.declared.config.Config.{Config}
 use Rattle.ha_config.specs.declared.command.Cmd.{Cmd}
 use Rattle.ha_sight.specs.declared.item.Item.{Item}
+use Rattle.ha_journal.specs.declared.carry.Carry.{Carry}
 use Rattle.ha_journal.specs.declared.entry.Entry.{Entry}
-use Rattle.ha_journal.specs.declared.entry.Entry.TheVariants.{Boot, Line, Step}
+use Rattle.ha_journal.specs.declared.entry.Entry.TheVariants.{Boot, Line, Step, Again}
 use Rattle.ha_config.specs.Words.{Text, Pairs}
 
--- ---- the three kinds of entries
+-- ---- the kinds of entries
 
 pub record Opening : Type 0 where
   pub text : Text
@@ -17,6 +18,14 @@ pub record Opening : Type 0 where
   pub stored : Option (List (Text × Bool))
   pub start : ℕ
   pub zone : Text
+  pub carry : Carry
+
+-- what opens a segment behind a Restart
+pub record Reopening : Type 0 where
+  pub number : ℕ
+  pub start : ℕ
+  pub stored : List (Text × Bool)
+  pub carry : Carry
 
 pub record Spoken : Type 0 where
   pub source : ℕ
@@ -29,25 +38,50 @@ pub record Stepped : Type 0 where
   pub branch : List ℕ
   pub item : Item
 
+-- what the first segment takes over: nothing
+abbrev pub first_carry : Carry
+first_carry = record { serials = 0; numbers = []; lines = replicate 16 0; shut = []; last = [] }
+
 abbrev pub boot_of : Entry → Option Opening
-boot_of (Boot text config stored start zone) = Some (record { text = text; config = config; stored = stored; start = start; zone = zone })
+boot_of (Boot text config stored start zone carry) =
+    Some (record { text = text; config = config; stored = stored; start = start; zone = zone; carry = carry })
+boot_of (Again number start stored carry) = None
 boot_of (Line source number cmd) = None
 boot_of (Step worker serial branch item) = None
 
+abbrev pub again_in : Entry → Option Reopening
+again_in (Boot text config stored start zone carry) = None
+again_in (Line source number cmd) = None
+again_in (Step worker serial branch item) = None
+again_in (Again number start stored carry) = Some (record { number = number; start = start; stored = stored; carry = carry })
+
+abbrev pub is_again : Entry → Bool
+is_again x = is_some (again_in x)
+
 abbrev pub line_of : Entry → Option Spoken
-line_of (Boot text config stored start zone) = None
+line_of (Boot text config stored start zone carry) = None
+line_of (Again number start stored carry) = None
 line_of (Line source number cmd) = Some (record { source = source; number = number; cmd = cmd })
 line_of (Step worker serial branch item) = None
 
 abbrev pub step_of : Entry → Option Stepped
-step_of (Boot text config stored start zone) = None
+step_of (Boot text config stored start zone carry) = None
+step_of (Again number start stored carry) = None
 step_of (Line source number cmd) = None
 step_of (Step worker serial branch item) = Some (record { worker = worker; serial = serial; branch = branch; item = item })
 
 abbrev pub IsBoot : Entry → Type 0
-IsBoot (Boot text config stored start zone) = Unit {0}
+IsBoot (Boot text config stored start zone carry) = Unit {0}
+IsBoot (Again number start stored carry) = ⊥
 IsBoot (Line source number cmd) = ⊥
 IsBoot (Step worker serial branch item) = ⊥
+
+-- a Boot or an Again: a segment begins with it
+abbrev pub BeginsSegment : Entry → Type 0
+BeginsSegment (Boot text config stored start zone carry) = Unit {0}
+BeginsSegment (Again number start stored carry) = Unit {0}
+BeginsSegment (Line source number cmd) = ⊥
+BeginsSegment (Step worker serial branch item) = ⊥
 
 -- ---- reports, events, moments
 
@@ -67,7 +101,8 @@ report_in (Line source number Cmd.Restart) = None
 report_in (Line source number (Cmd.Refused code)) = None
 report_in (Line source number Cmd.Lost) = None
 report_in (Line source number Cmd.TooLong) = None
-report_in (Boot text config stored start zone) = None
+report_in (Boot text config stored start zone carry) = None
+report_in (Again number start stored carry) = None
 report_in (Step worker serial branch item) = None
 
 abbrev pub gone_in : Entry → Option EntityId
@@ -81,7 +116,8 @@ gone_in (Line source number Cmd.Restart) = None
 gone_in (Line source number (Cmd.Refused code)) = None
 gone_in (Line source number Cmd.Lost) = None
 gone_in (Line source number Cmd.TooLong) = None
-gone_in (Boot text config stored start zone) = None
+gone_in (Boot text config stored start zone carry) = None
+gone_in (Again number start stored carry) = None
 gone_in (Step worker serial branch item) = None
 
 -- the moment that a line brings
@@ -96,7 +132,8 @@ moment_in (Line source number Cmd.Restart) = None
 moment_in (Line source number (Cmd.Refused code)) = None
 moment_in (Line source number Cmd.Lost) = None
 moment_in (Line source number Cmd.TooLong) = None
-moment_in (Boot text config stored start zone) = None
+moment_in (Boot text config stored start zone carry) = None
+moment_in (Again number start stored carry) = None
 moment_in (Step worker serial branch item) = None
 
 abbrev pub is_moment : Entry → Bool
@@ -120,9 +157,13 @@ event_in (Step worker serial branch (Item.Call service target fields)) = None
 event_in (Step worker serial branch (Item.Switched targets)) = None
 event_in (Step worker serial branch (Item.Triggered automations skip)) = None
 event_in (Step worker serial branch (Item.Failed code)) = None
-event_in (Boot text config stored start zone) = None
+event_in (Boot text config stored start zone carry) = None
+event_in (Again number start stored carry) = None
 
 -- ---- boots, restarts and switches
+
+abbrev pub is_boot : Entry → Bool
+is_boot x = is_some (boot_of x)
 
 abbrev pub is_restart : Entry → Bool
 is_restart (Line source number Cmd.Restart) = true
@@ -135,12 +176,25 @@ is_restart (Line source number (Cmd.Trigger name skip)) = false
 is_restart (Line source number (Cmd.Refused code)) = false
 is_restart (Line source number Cmd.Lost) = false
 is_restart (Line source number Cmd.TooLong) = false
-is_restart (Boot text config stored start zone) = false
+is_restart (Boot text config stored start zone carry) = false
+is_restart (Again number start stored carry) = false
 is_restart (Step worker serial branch item) = false
+
+abbrev pub restarts : Cmd → Bool
+restarts Cmd.Restart = true
+restarts (Cmd.Report entity text attributes) = false
+restarts (Cmd.Gone entity) = false
+restarts (Cmd.Event kind pairs) = false
+restarts (Cmd.Moment at) = false
+restarts (Cmd.Switch name on stop) = false
+restarts (Cmd.Trigger name skip) = false
+restarts (Cmd.Refused code) = false
+restarts Cmd.Lost = false
+restarts Cmd.TooLong = false
 
 -- a Boot or a Restart
 abbrev pub opens_segment : Entry → Bool
-opens_segment x = is_some (boot_of x) || is_restart x
+opens_segment x = is_boot x || is_restart x
 
 -- what an entry does to switches: a Boot and a Restart set all, a Switch command that of a name, a Switched item those of its targets
 pub data Turning : Type 0 where
@@ -151,7 +205,8 @@ pub data Turning : Type 0 where
   Leaves : Turning
 
 abbrev pub turning : Entry → Turning
-turning (Boot text config stored start zone) = Turning.Opens stored
+turning (Boot text config stored start zone carry) = Turning.Opens stored
+turning (Again number start stored carry) = Turning.Leaves
 turning (Line source number Cmd.Restart) = Turning.Restarts
 turning (Line source number (Cmd.Switch name on stop)) = Turning.Turns name on stop
 turning (Step worker serial branch (Item.Switched targets)) = Turning.TurnsEach targets
@@ -193,4 +248,5 @@ asked_in (Step worker serial branch (Item.Call service target fields)) = Asked.N
 asked_in (Step worker serial branch (Item.Fired kind pairs)) = Asked.Nobody
 asked_in (Step worker serial branch (Item.Switched targets)) = Asked.Nobody
 asked_in (Step worker serial branch (Item.Failed code)) = Asked.Nobody
-asked_in (Boot text config stored start zone) = Asked.Nobody
+asked_in (Boot text config stored start zone carry) = Asked.Nobody
+asked_in (Again number start stored carry) = Asked.Nobody

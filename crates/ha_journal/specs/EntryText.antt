@@ -5,7 +5,7 @@ use Rattle.ha_clock.specs.Print.{moment_text}
 use Rattle.ha_config.specs.declared.config.Automation.{Automation}
 use Rattle.ha_config.specs.declared.command.Cmd.{Cmd}
 use Rattle.ha_journal.specs.declared.entry.Entry.{Entry}
-use Rattle.ha_journal.specs.declared.entry.Entry.TheVariants.{Boot, Line, Step}
+use Rattle.ha_journal.specs.declared.entry.Entry.TheVariants.{Boot, Line, Step, Again}
 use Rattle.ha_config.specs.Words.{Text}
 use Rattle.ha_sight.specs.Items.{Called, failure_in}
 use Rattle.ha_journal.specs.Journal.{Journal, automations}
@@ -46,7 +46,8 @@ refusal_text Cmd.TooLong = Some (codes "too long")
 
 -- the error line of an entry, if it has one
 abbrev pub error_line : Entry → Option Text
-error_line (Boot text config stored start zone) = None
+error_line (Boot text config stored start zone carry) = None
+error_line (Again number start stored carry) = None
 error_line (Line source number cmd) =
     option_map
     (λ why. as_line (codes "source " ++ decimal source ++ codes " line " ++ decimal number ++ codes ": " ++ why))
@@ -66,7 +67,7 @@ store_text j = store_of (switches_of j)
 
 -- the trace line of an entry
 abbrev pub trace_line : List Automation → Entry → Text
-trace_line all (Boot text config stored start zone) =
+trace_line all (Boot text config stored start zone carry) =
     as_line (one_key (codes "boot") (map_text ((codes "config", quoted text) ∷ (codes "stored", stored_text stored)
     ∷ (codes "start", quoted (moment_text start)) ∷ (codes "zone", quoted zone) ∷ [])))
 trace_line all (Line source number cmd) =
@@ -74,6 +75,7 @@ trace_line all (Line source number cmd) =
 trace_line all (Step worker serial branch item) =
     as_line (map_text ((codes "worker", decimal worker) ∷ (codes "run", decimal serial)
     ∷ (codes "branch", list_text (map decimal branch)) ∷ (codes "item", item_text all item) ∷ []))
+trace_line all (Again number start stored carry) = as_line (one_key (codes "again") (decimal number))
 
 abbrev pub end_line : ℕ → Text
 end_line n = as_line (one_key (codes "end") (decimal n))

@@ -4,15 +4,15 @@ use Rattle.std.specs.Option.{option_map_or}
 use Rattle.ha_config.specs.declared.config.Automation.{Automation}
 use Rattle.ha_journal.specs.declared.entry.Entry.{Entry}
 use Rattle.ha_config.specs.Words.{Text, EachFrom}
-use Rattle.ha_journal.specs.Entries.{boot_of, moment_in, IsBoot}
+use Rattle.ha_journal.specs.Entries.{boot_of, moment_in, IsBoot, BeginsSegment}
 
 abbrev pub Journal : Type 0
 Journal = List Entry
 
--- the first entry is a Boot, and no other is
+-- the first entry is a Boot, and every other one a Line or a Step
 abbrev pub IsJournal : Journal → Type 0
 IsJournal [] = ⊥
-IsJournal (e ∷ es) = IsBoot e × EachFrom (λ n x. ¬ IsBoot x) 1 es
+IsJournal (e ∷ es) = IsBoot e × EachFrom (λ n x. ¬ BeginsSegment x) 1 es
 
 -- there is an entry
 abbrev pub HasEntry : Journal → Type 0

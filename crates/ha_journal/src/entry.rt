@@ -1,5 +1,6 @@
 //! Entries of the journal.
 
+use crate::carry::Carry;
 use ha_clock::Moment;
 use ha_config::{Cmd, Config};
 use ha_sight::{Branch, Item};
@@ -15,6 +16,7 @@ pub enum Entry {
         stored: Option<Many<(Word, bool)>>,
         start: Moment,
         zone: Word,
+        carry: Carry,
     },
     /// A line of a source, numbered from 0.
     Line {
@@ -28,5 +30,13 @@ pub enum Entry {
         serial: u64,
         branch: Branch,
         item: Item,
+    },
+    /// Behind each restart line: it opens the next segment, as a boot with the first one's configuration and zone would. `number` counts
+    /// these entries from 1, `start` is the present moment, and the stored switches are those that the restart left.
+    Again {
+        number: u32,
+        start: Moment,
+        stored: Many<(Word, bool)>,
+        carry: Carry,
     },
 }

@@ -1,9 +1,11 @@
 //! The journal: its entries, and the switches, states, triggers, waits and attempts that they give.
 #![tactic(auto)]
 
+mod carry;
 mod copies;
 mod entry;
 mod firing;
 
+pub use carry::Carry;
 pub use entry::Entry;
 pub use firing::Firing;

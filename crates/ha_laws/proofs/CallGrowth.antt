@@ -3,7 +3,7 @@ use Rattle.std.proofs.Common.{◌≡◌, ℕ, zero, suc, ◌-◌, [], ◌∷◌,
 use Rattle.std.specs.Prelude.{Some, None, slice_get}
 use Rattle.std.specs.Option.{option_map_or}
 use Rattle.ha_journal.specs.declared.entry.Entry.{Entry}
-use Rattle.ha_journal.specs.declared.entry.Entry.TheVariants.{Boot, Line, Step}
+use Rattle.ha_journal.specs.declared.entry.Entry.TheVariants.{Boot, Line, Step, Again}
 use Rattle.ha_model.specs.declared.record.Record.{Record}
 use Rattle.ha_config.specs.Words.{Text, EachAfter}
 use Rattle.ha_sight.specs.Items.{Called, call_in}
@@ -53,7 +53,8 @@ step-same before s call rs rs' r same e =
 
 module _ (rs rs' : Records) (same : SameNumbers rs rs') where
   text-same : (before : Journal) (x : Entry) → IsRightEntry rs before x → call_text_of rs before x ≡ call_text_of rs' before x
-  text-same before (Boot text config stored start zone) h = refl
+  text-same before (Boot text config stored start zone carry) h = refl
+  text-same before (Again number start stored carry) h = refl
   text-same before (Line source number cmd) h = refl
   text-same before (Step worker serial branch item) h = by (call_in item)
     where

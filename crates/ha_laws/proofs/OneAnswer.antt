@@ -6,11 +6,11 @@ use Rattle.std.specs.Prelude.{Some, slice_get, count_by, option_and_then, nat_eq
 use Rattle.ha_config.specs.declared.command.Cmd.{Cmd}
 use Rattle.ha_sight.specs.declared.item.Item.{Item}
 use Rattle.ha_journal.specs.declared.entry.Entry.{Entry}
-use Rattle.ha_journal.specs.declared.entry.Entry.TheVariants.{Boot, Line, Step}
+use Rattle.ha_journal.specs.declared.entry.Entry.TheVariants.{Boot, Line, Step, Again}
 use Rattle.ha_model.specs.declared.record.Record.{Record}
 use Rattle.ha_config.specs.Words.{Pairs, last_of, EachAfter, EachFrom, EachWith}
 use Rattle.ha_journal.specs.Journal.{Journal, automations, more, HasEntry}
-use Rattle.ha_journal.specs.Entries.{IsBoot}
+use Rattle.ha_journal.specs.Entries.{BeginsSegment}
 use Rattle.ha_sight.specs.Scripts.{Branch, whole}
 use Rattle.ha_journal.specs.Waits.{next_spot}
 use Rattle.ha_model.specs.Records.{Records, records_of, actions_of, spots}
@@ -23,11 +23,11 @@ use Rattle.ha_model.proofs.LawfulLaws.{rested-same}
 use Rattle.ha_model.proofs.StepLaws.{ran-step}
 use Rattle.ha_laws.proofs.PrefixLaws.{records-prefix, has-more}
 
-abbrev tail_of : {X : Type 0} → List X → List X
+abbrev pub tail_of : {X : Type 0} → List X → List X
 tail_of [] = []
 tail_of (x ∷ xs) = xs
 
-abbrev head_or : {X : Type 0} → X → List X → X
+abbrev pub head_or : {X : Type 0} → X → List X → X
 head_or d [] = d
 head_or d (x ∷ xs) = x
 
@@ -44,12 +44,12 @@ abbrev item_by : Journal → ℕ → Pairs → ℕ → Branch → Option Item
 item_by j a env serial branch = option_and_then (λ o. last_of o.items) (whole (actions_of (automations j) a) env (spots j serial ++ (next_spot j branch ∷ [])))
 
 -- what a Step of this pair gives, if it is right
-record GivesItem (d : Journal) (serial : ℕ) (branch : Branch) (item : Item) : Type 0 where
-  run : Record
-  found : slice_get (records_of d) (serial - 1) ≡ Some run
-  item_is : next_item d run branch ≡ Some item
+pub record GivesItem (d : Journal) (serial : ℕ) (branch : Branch) (item : Item) : Type 0 where
+  pub run : Record
+  pub found : slice_get (records_of d) (serial - 1) ≡ Some run
+  pub item_is : next_item d run branch ≡ Some item
 
-gives-item : (d : Journal) (rs : Records) → HasEntry d → SameUpTo (length d) (records_of d) rs → (k serial : ℕ) (branch : Branch) (item : Item) → IsRightEntry rs d (Step k serial branch item) → GivesItem d serial branch item
+pub gives-item : (d : Journal) (rs : Records) → HasEntry d → SameUpTo (length d) (records_of d) rs → (k serial : ℕ) (branch : Branch) (item : Item) → IsRightEntry rs d (Step k serial branch item) → GivesItem d serial branch item
 gives-item d rs h s k serial branch item right =
     let x : Entry = Step k serial branch item in
     let place : length (d ++ (x ∷ [])) - 1 ≡ length d = omega (arith, length-append d (x ∷ [])) in
@@ -61,16 +61,16 @@ gives-item d rs h s k serial branch item right =
           ∙ sym (λ i. option_and_then (λ o. last_of o.items) (ran-step d k serial branch item right.0 h right.2 i)) ∙ right.3.item_is;
     }
 
-one-item : (d : Journal) (serial : ℕ) (branch : Branch) (item item' : Item) → GivesItem d serial branch item → GivesItem d serial branch item' → item ≡ item'
+pub one-item : (d : Journal) (serial : ℕ) (branch : Branch) (item item' : Item) → GivesItem d serial branch item → GivesItem d serial branch item' → item ≡ item'
 one-item d serial branch item item' g g' =
     let same : g.run ≡ g'.run = some-same g.run g'.run (sym g.found ∙ g'.found) in
     some-same item item' (sym g.item_is ∙ (λ i. next_item d (same i) branch) ∙ g'.item_is)
 
-abbrev source_or : ℕ → Maker → ℕ
+abbrev pub source_or : ℕ → Maker → ℕ
 source_or n (Source k) = k
 source_or n _ = n
 
-abbrev worker_or : ℕ → Maker → ℕ
+abbrev pub worker_or : ℕ → Maker → ℕ
 worker_or n (Worker k) = k
 worker_or n _ = n
 
@@ -78,7 +78,7 @@ abbrev IsSource : Maker → Type 0
 IsSource (Source k) = Unit {0}
 IsSource _ = ⊥
 
-equal-self : (a b : ℕ) → a ≡ b → nat_eq a b ≡ true
+pub equal-self : (a b : ℕ) → a ≡ b → nat_eq a b ≡ true
 equal-self a b e = search (rules, e)
 
 -- two entries after the same prefix
@@ -103,20 +103,21 @@ same-step d rs rs' h same same' k s b item k' s' b' item' makers t t' right righ
     (λ i. Step (ks i) (pairs i).0 (pairs i).1 (items i))
 
 abbrev pub NoBoots : ℕ → Journal → Type 0
-NoBoots n xs = EachFrom (λ n x. ¬ IsBoot x) n xs
+NoBoots n xs = EachFrom (λ n x. ¬ BeginsSegment x) n xs
 
-abbrev IsEmptyList : {X : Type 0} → List X → Type 0
+abbrev pub IsEmptyList : {X : Type 0} → List X → Type 0
 IsEmptyList [] = Unit {0}
 IsEmptyList (x ∷ xs) = ⊥
 
-empty-not : {X : Type 0} (x : X) (xs : List X) → [] ≡ x ∷ xs → ⊥
+pub empty-not : {X : Type 0} (x : X) (xs : List X) → [] ≡ x ∷ xs → ⊥
 empty-not x xs e = subst IsEmptyList e tt
 
-cmds-tail : (q : ℕ) (x y : Entry) (xs ys : Journal) → x ≡ y → cmds_of q (x ∷ xs) ≡ cmds_of q (y ∷ ys) → cmds_of q xs ≡ cmds_of q ys
+pub cmds-tail : (q : ℕ) (x y : Entry) (xs ys : Journal) → x ≡ y → cmds_of q (x ∷ xs) ≡ cmds_of q (y ∷ ys) → cmds_of q xs ≡ cmds_of q ys
 cmds-tail q x y xs ys e same = go x (same ∙ (λ i. cmds_of q (sym e i ∷ ys)))
   where
     go : (x : Entry) → cmds_of q (x ∷ xs) ≡ cmds_of q (x ∷ ys) → cmds_of q xs ≡ cmds_of q ys
-    go (Boot text config stored start zone) h = h
+    go (Boot text config stored start zone carry) h = h
+    go (Again number start stored carry) h = h
     go (Step worker serial branch item) h = h
     go (Line source number cmd) h = by (nat_eq source q) h
       where
@@ -145,11 +146,14 @@ pub rest-same : (d : Journal) (xs : Journal) (rs : Records) → HasEntry d → R
 rest-same d xs rs h r = subst (SameUpTo (length d) (records_of d)) (sym r.records_are) (records-prefix d xs h)
 
 same-entry : (d : Journal) (rs rs' : Records) → HasEntry d → (x y : Entry) (xs ys : Journal) → Rest d (x ∷ xs) rs → Rest d (y ∷ ys) rs' → maker x ≡ maker y → ((q : ℕ) → cmds_of q (x ∷ xs) ≡ cmds_of q (y ∷ ys)) → x ≡ y
-same-entry d rs rs' h (Boot text config stored start zone) y xs ys r r' makers cmds = absurd (r.no_boots.0 tt)
-same-entry d rs rs' h (Line k n cmd) (Boot text config stored start zone) xs ys r r' makers cmds = absurd (r'.no_boots.0 tt)
+same-entry d rs rs' h (Boot text config stored start zone carry) y xs ys r r' makers cmds = absurd (r.no_boots.0 tt)
+same-entry d rs rs' h (Again number start stored carry) y xs ys r r' makers cmds = absurd (r.no_boots.0 tt)
+same-entry d rs rs' h (Line k n cmd) (Boot text config stored start zone carry) xs ys r r' makers cmds = absurd (r'.no_boots.0 tt)
+same-entry d rs rs' h (Line k n cmd) (Again number start stored carry) xs ys r r' makers cmds = absurd (r'.no_boots.0 tt)
 same-entry d rs rs' h (Line k n cmd) (Line k' n' cmd') xs ys r r' makers cmds = same-line d rs rs' k n k' n' cmd cmd' xs ys makers r.turns.0 r'.turns.0 cmds
 same-entry d rs rs' h (Line k n cmd) (Step k' s' b' item') xs ys r r' makers cmds = absurd (subst IsSource makers tt)
-same-entry d rs rs' h (Step k s b item) (Boot text config stored start zone) xs ys r r' makers cmds = absurd (r'.no_boots.0 tt)
+same-entry d rs rs' h (Step k s b item) (Boot text config stored start zone carry) xs ys r r' makers cmds = absurd (r'.no_boots.0 tt)
+same-entry d rs rs' h (Step k s b item) (Again number start stored carry) xs ys r r' makers cmds = absurd (r'.no_boots.0 tt)
 same-entry d rs rs' h (Step k s b item) (Line k' n' cmd') xs ys r r' makers cmds = absurd (subst IsSource (sym makers) tt)
 same-entry d rs rs' h (Step k s b item) (Step k' s' b' item') xs ys r r' makers cmds =
     same-step d rs rs' h (rest-same d (Step k s b item ∷ xs) rs h r) (rest-same d (Step k' s' b' item' ∷ ys) rs' h r') k s b item k' s' b' item' makers r.turns.0 r'.turns.0 r.entries.0 r'.entries.0
@@ -185,7 +189,8 @@ one_answer boot xs ys rs rs' lawful lawful' all cmds =
 
 closing-cmds : (q : ℕ) (xs : Journal) → list_all is_by_worker_0 xs ≡ true → cmds_of q xs ≡ []
 closing-cmds q [] h = refl
-closing-cmds q (Boot text config stored start zone ∷ xs) h = closing-cmds q xs (and_right false (list_all is_by_worker_0 xs) h)
+closing-cmds q (Boot text config stored start zone carry ∷ xs) h = closing-cmds q xs (and_right false (list_all is_by_worker_0 xs) h)
+closing-cmds q (Again number start stored carry ∷ xs) h = closing-cmds q xs (and_right false (list_all is_by_worker_0 xs) h)
 closing-cmds q (Line source number cmd ∷ xs) h = absurd (true-false (sym h))
 closing-cmds q (Step worker serial branch item ∷ xs) h = closing-cmds q xs (and_right (nat_eq worker 0) (list_all is_by_worker_0 xs) h)
 
@@ -199,7 +204,8 @@ line-or-step d rs rs' s s' k n cmd k' t b item xs ys zero_k zero_k' turn (inr (z
 
 -- a quiet prefix is the whole
 quiet-end : (d : Journal) (rs rs' : Records) → HasEntry d → SameUpTo (length d) (records_of d) rs → SameUpTo (length d) (records_of d) rs' → is_quiet rs d ≡ true → (y : Entry) (ys : Journal) → NoBoots 0 (y ∷ []) → IsTurn rs' d y → ((q : ℕ) → [] ≡ cmds_of q (y ∷ ys)) → ⊥
-quiet-end d rs rs' h s s' quiet (Boot text config stored start zone) ys boots turn cmds = boots.0 tt
+quiet-end d rs rs' h s s' quiet (Boot text config stored start zone carry) ys boots turn cmds = boots.0 tt
+quiet-end d rs rs' h s s' quiet (Again number start stored carry) ys boots turn cmds = boots.0 tt
 quiet-end d rs rs' h s s' quiet (Line k n cmd) ys boots turn cmds = empty-not cmd (cmds_of k ys) (cmds k ∙ (λ i. if equal-self k k refl i then cmd ∷ cmds_of k ys else cmds_of k ys))
 quiet-end d rs rs' h s s' quiet (Step k t b item) ys boots turn cmds =
     let same : ready rs d ≡ ready rs' d = sym (ready-same (length d) (records_of d) rs s d (omega arith)) ∙ ready-same (length d) (records_of d) rs' s' d (omega arith) in
@@ -225,9 +231,12 @@ source-rest (x ∷ xs) d rs rs' h (y ∷ ys) r r' due due' one one' quiet quiet'
     (λ i. e i ∷ rest i)
   where
     both : (x y : Entry) → Rest d (x ∷ xs) rs → Rest d (y ∷ ys) rs' → IsDue rs d (x ∷ xs) → IsDue rs' d (y ∷ ys) → IsOfOne x → IsOfOne y → ((q : ℕ) → cmds_of q (x ∷ xs) ≡ cmds_of q (y ∷ ys)) → x ≡ y
-    both (Boot text config stored start zone) y r r' g g' o o' cmds = absurd (r.no_boots.0 tt)
-    both (Line k n cmd) (Boot text config stored start zone) r r' g g' o o' cmds = absurd (r'.no_boots.0 tt)
-    both (Step k s b item) (Boot text config stored start zone) r r' g g' o o' cmds = absurd (r'.no_boots.0 tt)
+    both (Boot text config stored start zone carry) y r r' g g' o o' cmds = absurd (r.no_boots.0 tt)
+    both (Again number start stored carry) y r r' g g' o o' cmds = absurd (r.no_boots.0 tt)
+    both (Line k n cmd) (Boot text config stored start zone carry) r r' g g' o o' cmds = absurd (r'.no_boots.0 tt)
+    both (Line k n cmd) (Again number start stored carry) r r' g g' o o' cmds = absurd (r'.no_boots.0 tt)
+    both (Step k s b item) (Boot text config stored start zone carry) r r' g g' o o' cmds = absurd (r'.no_boots.0 tt)
+    both (Step k s b item) (Again number start stored carry) r r' g g' o o' cmds = absurd (r'.no_boots.0 tt)
     both (Line k n cmd) (Line k' n' cmd') r r' g g' o o' cmds = same-entry d rs rs' h (Line k n cmd) (Line k' n' cmd') xs ys r r' (ap Source (o ∙ sym o')) cmds
     both (Step k s b item) (Step k' s' b' item') r r' g g' o o' cmds = same-entry d rs rs' h (Step k s b item) (Step k' s' b' item') xs ys r r' (ap Worker (o ∙ sym o')) cmds
     both (Line k n cmd) (Step k' s' b' item') r r' g g' o o' cmds =

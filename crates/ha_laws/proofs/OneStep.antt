@@ -7,7 +7,7 @@ use Rattle.std.proofs.lemmas.Option.{slice_get_within}
 use Rattle.ha_config.specs.declared.command.Cmd.{Cmd}
 use Rattle.ha_model.specs.declared.record.EndCause.{EndCause}
 use Rattle.ha_journal.specs.declared.entry.Entry.{Entry}
-use Rattle.ha_journal.specs.declared.entry.Entry.TheVariants.{Boot, Line, Step}
+use Rattle.ha_journal.specs.declared.entry.Entry.TheVariants.{Boot, Line, Step, Again}
 use Rattle.ha_model.specs.declared.record.Record.{Record}
 use Rattle.ha_config.specs.Words.{EachAfter}
 use Rattle.ha_journal.specs.Journal.{Journal, HasEntry, automations, more}
@@ -140,7 +140,8 @@ pub no-places : (j : Journal) (rs : Records) → Right j rs → (s : ℕ) → le
 no-places j rs right s lt = go [] j right.entries
   where
     is_none' : (before : Journal) (y : Entry) → IsRightEntry rs before y → spot_of s before y ≡ []
-    is_none' before (Boot text config stored start zone) h = refl
+    is_none' before (Boot text config stored start zone carry) h = refl
+    is_none' before (Again number start stored carry) h = refl
     is_none' before (Line source number cmd) h = refl
     is_none' before (Step worker t branch item) h =
         let within : t - 1 < length rs = slice_get_within rs (t - 1) h.0 h.1 in

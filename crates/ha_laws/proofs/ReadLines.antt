@@ -4,7 +4,7 @@ use Rattle.std.specs.Prelude.{nat_eq, if◌then◌else◌}
 use Rattle.std.specs.List.{AllZip}
 use Rattle.ha_config.specs.declared.command.Cmd.{Cmd}
 use Rattle.ha_journal.specs.declared.entry.Entry.{Entry}
-use Rattle.ha_journal.specs.declared.entry.Entry.TheVariants.{Boot, Line, Step}
+use Rattle.ha_journal.specs.declared.entry.Entry.TheVariants.{Boot, Line, Step, Again}
 use Rattle.ha_journal.specs.Journal.{Journal}
 use Rattle.ha_journal.specs.Entries.{IsBoot}
 use Rattle.ha_model.specs.Records.{Records}
@@ -34,7 +34,8 @@ StandFor ls cs = AllZip (λ l c. l.cmd ≡ put_as l.before c) ls cs
 lines-from : (boot : Entry) (q : ℕ) (d xs : Journal) (cs : List Cmd) → StandFor (placed_from q (boot ∷ d) xs) cs → cmds_of q xs ≡ put_behind boot cs
 lines-from boot q d [] [] h = refl
 lines-from boot q d [] (c ∷ cs) h = absurd h
-lines-from boot q d (Boot text config stored start zone ∷ xs) cs h = lines-from boot q (d ++ (Boot text config stored start zone ∷ [])) xs cs h
+lines-from boot q d (Boot text config stored start zone carry ∷ xs) cs h = lines-from boot q (d ++ (Boot text config stored start zone carry ∷ [])) xs cs h
+lines-from boot q d (Again number start stored carry ∷ xs) cs h = lines-from boot q (d ++ (Again number start stored carry ∷ [])) xs cs h
 lines-from boot q d (Step worker serial branch item ∷ xs) cs h = lines-from boot q (d ++ (Step worker serial branch item ∷ [])) xs cs h
 lines-from boot q d (Line source number cmd ∷ xs) cs h =
     by (nat_eq source q) cs (lines-from boot q (d ++ (Line source number cmd ∷ [])) xs) h
@@ -50,7 +51,8 @@ lines-from boot q d (Line source number cmd ∷ xs) cs h =
 
 -- the commands of a source are what is put behind the Boot for those that were read
 commands-put : (boot : Entry) → IsBoot boot → (q : ℕ) (xs : Journal) (cs : List Cmd) → ArePutFrom q (boot ∷ xs) cs → cmds_of q xs ≡ put_behind boot cs
-commands-put (Boot text config stored start zone) h q xs cs put = lines-from (Boot text config stored start zone) q [] xs cs put
+commands-put (Boot text config stored start zone carry) h q xs cs put = lines-from (Boot text config stored start zone carry) q [] xs cs put
+commands-put (Again number start stored carry) h q xs cs put = absurd h
 commands-put (Line source number cmd) h q xs cs put = absurd h
 commands-put (Step worker serial branch item) h q xs cs put = absurd h
 

@@ -3,10 +3,10 @@ use Rattle.std.proofs.Common.{◌≡◌, ℕ, suc, ◌-◌, List, [], ◌∷◌,
 use Rattle.std.specs.Prelude.{IsTrue, option_and_then}
 use Rattle.ha_sight.specs.declared.item.Item.{Item}
 use Rattle.ha_journal.specs.declared.entry.Entry.{Entry}
-use Rattle.ha_journal.specs.declared.entry.Entry.TheVariants.{Boot, Line, Step}
+use Rattle.ha_journal.specs.declared.entry.Entry.TheVariants.{Boot, Line, Step, Again}
 use Rattle.ha_config.specs.Words.{last_of, EachAfter, EachFrom}
 use Rattle.ha_journal.specs.Journal.{Journal, IsJournal, HasEntry, automations, more}
-use Rattle.ha_journal.specs.Entries.{IsBoot}
+use Rattle.ha_journal.specs.Entries.{BeginsSegment}
 use Rattle.ha_sight.specs.Scripts.{Branch, whole}
 use Rattle.ha_model.specs.Records.{Records, spots, actions_of}
 use Rattle.ha_model.specs.RecordSteps.{records_after}
@@ -19,7 +19,7 @@ use Rattle.ha_model.proofs.LawfulLaws.{same-after, running-more, closing-more}
 use Rattle.ha_laws.proofs.OneAnswer.{back-same}
 
 -- the fact on the last member
-each-last : {X : Type 0} (P : List X → X → Type 0) (before xs : List X) (x : X) → EachAfter P before (xs ++ (x ∷ [])) → P (before ++ xs) x
+pub each-last : {X : Type 0} (P : List X → X → Type 0) (before xs : List X) (x : X) → EachAfter P before (xs ++ (x ∷ [])) → P (before ++ xs) x
 each-last P before [] x h = subst (λ l. P l x) (sym (append-nil before)) h.0
 each-last P before (y ∷ ys) x h = subst (λ l. P l x) (append_assoc before (y ∷ []) ys) (each-last P (before ++ (y ∷ [])) ys x h.1)
 
@@ -27,14 +27,15 @@ from-last : {X : Type 0} (P : X → Type 0) (n : ℕ) (xs : List X) (x : X) → 
 from-last P n [] x h = h.0
 from-last P n (y ∷ ys) x h = from-last P (suc n) ys x h.1
 
--- behind an entry no other is a Boot
-no-boot : (j : Journal) (x : Entry) → HasEntry j → IsJournal (more j x) → IsBoot x → ⊥
-no-boot [] x some h = absurd some
-no-boot (e ∷ es) x some h = from-last (λ y. IsBoot y → ⊥) 1 es x h.1
+-- behind an entry none begins a segment
+no-begin : (j : Journal) (x : Entry) → HasEntry j → IsJournal (more j x) → BeginsSegment x → ⊥
+no-begin [] x some h = absurd some
+no-begin (e ∷ es) x some h = from-last (λ y. BeginsSegment y → ⊥) 1 es x h.1
 
 -- what makes an entry right by the new records makes it so by the old ones
 pub right-back : (n : ℕ) (rs rs' : Records) → SameUpTo n rs rs' → (d : Journal) (y : Entry) → length d ≡ n → IsRightEntry rs' d y → IsRightEntry rs d y
-right-back n rs rs' s d (Boot text config stored start zone) le h = tt
+right-back n rs rs' s d (Boot text config stored start zone carry) le h = tt
+right-back n rs rs' s d (Again number start stored carry) le h = tt
 right-back n rs rs' s d (Line source number cmd) le h = h
 right-back n rs rs' s d (Step worker serial branch item) le h =
     let y : Entry = Step worker serial branch item in
@@ -63,7 +64,7 @@ pub right-runs : (j : Journal) (rs rs' : Records) (x : Entry) → Running j rs �
 right-runs j rs rs' x run new turn busy =
     let old = run.lawful.right in
     let e = new-records j rs rs' x old new in
-    subst (Running (more j x)) (sym e) (running-more j rs x run (no-boot j x (has-entry j old.journal) new.journal) (last-right j rs rs' x old new) turn busy)
+    subst (Running (more j x)) (sym e) (running-more j rs x run (no-begin j x (has-entry j old.journal) new.journal) (last-right j rs rs' x old new) turn busy)
 
 -- LAW: a lawful journal, and right with one more step of worker 0 whose turn it is, is lawful with the new records
 pub right-closes : (j : Journal) (rs rs' : Records) (serial : ℕ) (branch : Branch) (item : Item) → Lawful j rs → Right (more j (Step 0 serial branch item)) rs' → IsTurn rs j (Step 0 serial branch item)

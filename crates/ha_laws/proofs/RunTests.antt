@@ -34,6 +34,7 @@ use Rattle.ha_sight.specs.declared.item.Item.{Item}
 use Rattle.ha_journal.specs.declared.entry.Entry.{Entry}
 use Rattle.ha_model.specs.declared.record.EndCause.{EndCause}
 use Rattle.ha_config.specs.Words.{Text}
+use Rattle.ha_journal.specs.Entries.{first_carry}
 use Rattle.ha_journal.specs.Journal.{Journal}
 use Rattle.ha_journal.specs.Switches.{is_on}
 use Rattle.ha_journal.specs.Variables.{variables}
@@ -57,7 +58,7 @@ abbrev automation : Text → List Trigger → List Action → Mode → Option Bo
 automation name ts actions mode initial = record { name = name; triggers = ts; tests = []; actions = actions; mode = mode; max = 10; initial = initial }
 
 abbrev boot : List Automation → Entry
-boot all = Entry.Boot [] (record { automations = all }) None start (codes "UTC")
+boot all = Entry.Boot [] (record { automations = all }) None start (codes "UTC") first_carry
 
 abbrev go : Entry
 go = Entry.Line 0 0 (Cmd.Event (codes "go") [])

@@ -8,7 +8,7 @@ use Rattle.std.proofs.lemmas.List.{length-take-le}
 use Rattle.ha_config.specs.declared.config.Mode.{Mode}
 use Rattle.ha_model.specs.declared.record.EndCause.{EndCause}
 use Rattle.ha_journal.specs.declared.entry.Entry.{Entry}
-use Rattle.ha_journal.specs.declared.entry.Entry.TheVariants.{Boot, Line, Step}
+use Rattle.ha_journal.specs.declared.entry.Entry.TheVariants.{Boot, Line, Step, Again}
 use Rattle.ha_model.specs.declared.record.Record.{Record}
 use Rattle.ha_config.specs.Words.{EachAfter, last_of}
 use Rattle.ha_journal.specs.Journal.{Journal, through}
@@ -37,7 +37,8 @@ pub step-runs : (j : Journal) (rs : Records) (i p : ℕ) (f : Record) → EachAf
 step-runs j rs i p f right lt found serial step = by (slice_get j p) refl ((λ k. option_map_or (is_step_of f.serial) (sym (last-get p j lt) k) false) ∙ step)
   where
     entry : (x : Entry) → slice_get j p ≡ Some x → is_step_of f.serial x ≡ true → is_running p f ≡ true
-    entry (Boot text config stored start zone) e h = absurd (true-false (sym h))
+    entry (Boot text config stored start zone carry) e h = absurd (true-false (sym h))
+    entry (Again number start stored carry) e h = absurd (true-false (sym h))
     entry (Line source number cmd) e h = absurd (true-false (sym h))
     entry (Step worker s branch item) e h =
         let right_entry : IsRightEntry rs (take p j) (Step worker s branch item) = each-at (IsRightEntry rs) [] j p (Step worker s branch item) right e in

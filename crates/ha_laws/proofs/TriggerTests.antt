@@ -30,6 +30,7 @@ use Rattle.ha_config.specs.declared.command.Cmd.{Cmd}
 use Rattle.ha_sight.specs.declared.item.Item.{Item}
 use Rattle.ha_journal.specs.declared.entry.Entry.{Entry}
 use Rattle.ha_config.specs.Words.{Text, Pairs}
+use Rattle.ha_journal.specs.Entries.{first_carry}
 use Rattle.ha_journal.specs.Journal.{Journal}
 use Rattle.ha_journal.specs.Switches.{since}
 use Rattle.ha_journal.specs.States.{reported, states}
@@ -52,7 +53,7 @@ abbrev trigger : TriggerRule → Option ℕ → Trigger
 trigger rule hold = record { id = codes "0"; idx = 0; rule = rule; hold = hold }
 
 abbrev boot : List Automation → Entry
-boot all = Entry.Boot [] (record { automations = all }) None start (codes "UTC")
+boot all = Entry.Boot [] (record { automations = all }) None start (codes "UTC") first_carry
 
 abbrev lamp : EntityId
 lamp = record { domain = codes "light"; object = codes "x" }

@@ -20,6 +20,7 @@ use Rattle.ha_journal.specs.declared.entry.Entry.{Entry}
 use Rattle.ha_model.specs.declared.record.EndCause.{EndCause}
 use Rattle.ha_model.specs.declared.record.Record.{Record}
 use Rattle.ha_config.specs.Words.{Text, Pairs}
+use Rattle.ha_journal.specs.Entries.{first_carry}
 use Rattle.ha_journal.specs.Journal.{Journal}
 use Rattle.ha_journal.specs.Variables.{variables}
 use Rattle.ha_journal.specs.Attempts.{Attempt, attempts}
@@ -49,7 +50,7 @@ boot rule =
         max = 10;
         initial = None;
       } ∷ [];
-    }) None start (codes "UTC")
+    }) None start (codes "UTC") first_carry
 
 abbrev pub report : Text → Pairs → Entry
 report t ps = Entry.Line 0 0 (Cmd.Report lamp t ps)
@@ -104,7 +105,7 @@ abbrev pub queue : Automation
 queue = record (door Mode.Queued) { max = 1 }
 
 abbrev pub queue_boot : Entry
-queue_boot = Entry.Boot [] (record { automations = queue ∷ [] }) None start (codes "UTC")
+queue_boot = Entry.Boot [] (record { automations = queue ∷ [] }) None start (codes "UTC") first_carry
 
 -- it opens at 2, at 4 and at 7; its first run calls at 5, and is done
 abbrev pub queue_of_one : Journal

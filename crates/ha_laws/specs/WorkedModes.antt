@@ -19,6 +19,7 @@ use Rattle.ha_model.specs.declared.record.Record.{Record}
 use Rattle.ha_sight.specs.declared.item.Item.{Item}
 use Rattle.ha_journal.specs.declared.entry.Entry.{Entry}
 use Rattle.ha_config.specs.Words.{Text, Pairs}
+use Rattle.ha_journal.specs.Entries.{first_carry}
 use Rattle.ha_journal.specs.Journal.{Journal}
 use Rattle.ha_journal.specs.Variables.{variables}
 
@@ -66,7 +67,7 @@ abbrev pub turned_on : Item
 turned_on = Item.Call (codes "light.turn_on") (porch ∷ []) []
 
 abbrev pub boot : Mode → Entry
-boot m = Entry.Boot [] (record { automations = door m ∷ [] }) None start (codes "UTC")
+boot m = Entry.Boot [] (record { automations = door m ∷ [] }) None start (codes "UTC") first_carry
 
 abbrev pub twice : Mode → Journal
 twice m = boot m ∷ report 0 (codes "off") ∷ report 1 (codes "on") ∷ report 2 (codes "off") ∷ report 3 (codes "on") ∷ []

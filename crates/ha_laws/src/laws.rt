@@ -12,7 +12,7 @@ ghost use Rattle.ha_journal.specs.declared.entry.Entry.TheVariants.{Line, Step};
 ghost use Rattle.ha_sight.specs.declared.item.Item.{Item};
 ghost use Rattle.ha_model.specs.declared.record.Record.{Record};
 ghost use Rattle.ha_config.specs.Words.{Text, Pairs, EachAfter, same_entity};
-ghost use Rattle.ha_journal.specs.Entries.{report_in, gone_in, is_restart, IsBoot};
+ghost use Rattle.ha_journal.specs.Entries.{report_in, gone_in, is_restart, BeginsSegment};
 ghost use Rattle.ha_journal.specs.Journal.{Journal, HasEntry, automations, brings, now as now_lem, more};
 ghost use Rattle.ha_journal.specs.Switches.{is_on, on_after};
 ghost use Rattle.ha_journal.specs.States.{reported};
@@ -112,9 +112,9 @@ pub fn rested_of_one_more()
 /// stays so with a line whose turn it is and with a step of a worker that is not rested; and a
 /// lawful one stays lawful with a step of worker 0.
 pub fn one_more_is_lawful()
-    ensures right { (j : Journal) (rs : Records) (x : Entry) → Right j rs → (IsBoot x → ⊥) → IsRightEntry rs j x
+    ensures right { (j : Journal) (rs : Records) (x : Entry) → Right j rs → (BeginsSegment x → ⊥) → IsRightEntry rs j x
         → Right (more j x) (records_after j rs x) }
-    ensures running { (j : Journal) (rs : Records) (x : Entry) → Running j rs → (IsBoot x → ⊥) → IsRightEntry rs j x → IsTurn rs j x
+    ensures running { (j : Journal) (rs : Records) (x : Entry) → Running j rs → (BeginsSegment x → ⊥) → IsRightEntry rs j x → IsTurn rs j x
         → IsBusy rs j x → Running (more j x) (records_after j rs x) }
     ensures closing { (j : Journal) (rs : Records) (serial : ℕ) (branch : Branch) (item : Item) → Lawful j rs
         → IsRightEntry rs j (Step 0 serial branch item) → IsTurn rs j (Step 0 serial branch item)

@@ -3,7 +3,7 @@ use Rattle.std.proofs.Common.{◌≡◌, ℕ, suc, ◌+◌, ◌-◌, ◌<◌, Li
 use Rattle.std.specs.Prelude.{OnOk, Ok, Err, Result, Some, None, slice_get, nat_eq, fold, ◌&&◌}
 use Rattle.std.specs.Option.{option_map_or}
 use Rattle.ha_journal.specs.declared.entry.Entry.{Entry}
-use Rattle.ha_journal.specs.declared.entry.Entry.TheVariants.{Boot, Line, Step}
+use Rattle.ha_journal.specs.declared.entry.Entry.TheVariants.{Boot, Line, Step, Again}
 use Rattle.ha_config.specs.Words.{last_of, EachAfter, or_else}
 use Rattle.ha_journal.specs.Journal.{Journal, more}
 use Rattle.ha_model.specs.Records.{Records, last_is, is_call_of, calls_of}
@@ -40,7 +40,8 @@ pub no-calls : (j : Journal) (rs : Records) → Right j rs → (s : ℕ) → len
 no-calls j rs right s lt = go 0 [] j right.entries
   where
     is_none' : (before : Journal) (y : Entry) → IsRightEntry rs before y → is_call_of s y ≡ false
-    is_none' before (Boot text config stored start zone) h = refl
+    is_none' before (Boot text config stored start zone carry) h = refl
+    is_none' before (Again number start stored carry) h = refl
     is_none' before (Line source number cmd) h = refl
     is_none' before (Step worker t branch item) h =
         let within : t - 1 < length rs = slice_get_within rs (t - 1) h.0 h.1 in

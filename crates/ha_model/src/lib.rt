@@ -13,7 +13,7 @@ pub use ha_config::{
     RepeatKind, SpanForm, Template, Trigger, TriggerRule, Unit, characters, first_pair, last_pair,
     run_name, same_data, same_id, same_text,
 };
-pub use ha_journal::{Entry, Firing};
+pub use ha_journal::{Carry, Entry, Firing};
 pub use ha_sight::{
     Answers, Branch, Change, Ended, Env, Item, Part, Progress, Seen, StateObject, StepOut,
     TplFault, TriggerData, WaitAsk, WaitEnd, as_data, attribute_text, next_object, true_in,

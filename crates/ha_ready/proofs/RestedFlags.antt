@@ -3,7 +3,7 @@ use Rattle.std.proofs.Common.{◌≡◌, ℕ, zero, suc, ◌+◌, ◌<◌, ◌�
 use Rattle.std.specs.Prelude.{Option, Some, None, ◌||◌, nat_eq, slice_get, if◌then◌else◌}
 use Rattle.std.specs.Option.{option_map_or}
 use Rattle.ha_journal.specs.declared.entry.Entry.{Entry}
-use Rattle.ha_journal.specs.declared.entry.Entry.TheVariants.{Boot, Line, Step}
+use Rattle.ha_journal.specs.declared.entry.Entry.TheVariants.{Boot, Line, Step, Again}
 use Rattle.ha_journal.specs.Journal.{Journal, more}
 use Rattle.ha_model.specs.Records.{Records}
 use Rattle.ha_model.specs.RecordSteps.{records_after}
@@ -21,7 +21,8 @@ rested-after j rs x right k =
     ∙ (λ i. (if of-source x i then false else is_rested rs k j) || is_quiet rs' (more j x))
   where
     of-source : (x : Entry) → is_line_of k x ≡ option_map_or (λ s. nat_eq s k) (source_of x) false
-    of-source (Boot text config stored start zone) = refl
+    of-source (Boot text config stored start zone carry) = refl
+    of-source (Again number start stored carry) = refl
     of-source (Line source number cmd) = refl
     of-source (Step worker serial branch item) = refl
 

@@ -7,7 +7,7 @@ use Rattle.std.proofs.lemmas.List.Folds.{list_any-append}
 use Rattle.std.proofs.lemmas.List.Sums.{sum_by-append}
 use Rattle.ha_config.specs.declared.command.Cmd.{Cmd}
 use Rattle.ha_journal.specs.declared.entry.Entry.{Entry}
-use Rattle.ha_journal.specs.declared.entry.Entry.TheVariants.{Boot, Line, Step}
+use Rattle.ha_journal.specs.declared.entry.Entry.TheVariants.{Boot, Line, Step, Again}
 use Rattle.ha_sight.specs.declared.item.Item.{Item}
 use Rattle.ha_journal.specs.Commands.{ArePutFrom, Placed, has_automation, lines_of, put_as}
 use Rattle.ha_config.specs.Fair.{shuts_source}
@@ -21,32 +21,38 @@ use Rattle.ha_laws.proofs.TextLemmas.{lines-more}
 -- ---- a boot alone
 
 pub boot_runs : (rs : Records) (x : Entry) → Right (x ∷ []) rs → Running (x ∷ []) rs
-boot_runs rs (Boot text config stored start zone) right = record { lawful = record { right = right; turns = (tt, tt); closed = (tt, tt) }; is_open = (tt, tt) }
+boot_runs rs (Boot text config stored start zone carry) right = record { lawful = record { right = right; turns = (tt, tt); closed = (tt, tt) }; is_open = (tt, tt) }
+boot_runs rs (Again number start stored carry) right = absurd right.journal.0
 boot_runs rs (Line source number cmd) right = absurd right.journal.0
 boot_runs rs (Step worker serial branch item) right = absurd right.journal.0
 
 pub boot_alone : (rs : Records) (x : Entry) → Right (x ∷ []) rs → OfOne (x ∷ [])
-boot_alone rs (Boot text config stored start zone) right = (tt, tt)
+boot_alone rs (Boot text config stored start zone carry) right = (tt, tt)
+boot_alone rs (Again number start stored carry) right = absurd right.journal.0
 boot_alone rs (Line source number cmd) right = absurd right.journal.0
 boot_alone rs (Step worker serial branch item) right = absurd right.journal.0
 
 pub boot_puts : (rs : Records) (x : Entry) → Right (x ∷ []) rs → ArePutFrom 0 (x ∷ []) []
-boot_puts rs (Boot text config stored start zone) right = tt
+boot_puts rs (Boot text config stored start zone carry) right = tt
+boot_puts rs (Again number start stored carry) right = absurd right.journal.0
 boot_puts rs (Line source number cmd) right = absurd right.journal.0
 boot_puts rs (Step worker serial branch item) right = absurd right.journal.0
 
 pub boot_number : (rs : Records) (x : Entry) → Right (x ∷ []) rs → count_by (is_line_of 0) (x ∷ []) ≡ 0
-boot_number rs (Boot text config stored start zone) right = refl
+boot_number rs (Boot text config stored start zone carry) right = refl
+boot_number rs (Again number start stored carry) right = absurd right.journal.0
 boot_number rs (Line source number cmd) right = absurd right.journal.0
 boot_number rs (Step worker serial branch item) right = absurd right.journal.0
 
 pub boot_open : (rs : Records) (x : Entry) → Right (x ∷ []) rs → list_any (shuts 0) (x ∷ []) ≡ false
-boot_open rs (Boot text config stored start zone) right = refl
+boot_open rs (Boot text config stored start zone carry) right = refl
+boot_open rs (Again number start stored carry) right = absurd right.journal.0
 boot_open rs (Line source number cmd) right = absurd right.journal.0
 boot_open rs (Step worker serial branch item) right = absurd right.journal.0
 
 pub boot_rested : (rs : Records) (x : Entry) → Right (x ∷ []) rs → is_rested rs 0 (x ∷ []) ≡ true
-boot_rested rs (Boot text config stored start zone) right = refl
+boot_rested rs (Boot text config stored start zone carry) right = refl
+boot_rested rs (Again number start stored carry) right = absurd right.journal.0
 boot_rested rs (Line source number cmd) right = absurd right.journal.0
 boot_rested rs (Step worker serial branch item) right = absurd right.journal.0
 

@@ -6,7 +6,7 @@ use Rattle.std.specs.List.{AllZip}
 use Rattle.ha_config.specs.declared.config.Config.{Config}
 use Rattle.ha_config.specs.declared.command.Cmd.{Cmd}
 use Rattle.ha_journal.specs.declared.entry.Entry.{Entry}
-use Rattle.ha_journal.specs.declared.entry.Entry.TheVariants.{Boot, Line, Step}
+use Rattle.ha_journal.specs.declared.entry.Entry.TheVariants.{Boot, Line, Step, Again}
 use Rattle.ha_journal.specs.Commands.{ArePutFrom, Placed, placed_from, put_as}
 use Rattle.ha_journal.specs.Journal.{Journal}
 use Rattle.ha_model.specs.Lawful.{Lawful, is_quiet}
@@ -21,7 +21,8 @@ use Rattle.ha_rehearse.specs.Rehearsed.{Rehearsed, boot_of}
 -- no other source has a line
 no_others : (k : ℕ) (before j : Journal) → OfOne j → placed_from (suc k) before j ≡ []
 no_others k before [] h = refl
-no_others k before (Boot text config stored start zone ∷ xs) h = no_others k (before ++ (Boot text config stored start zone ∷ [])) xs h.1
+no_others k before (Boot text config stored start zone carry ∷ xs) h = no_others k (before ++ (Boot text config stored start zone carry ∷ [])) xs h.1
+no_others k before (Again number start stored carry ∷ xs) h = no_others k (before ++ (Again number start stored carry ∷ [])) xs h.1
 no_others k before (Step worker serial branch item ∷ xs) h = no_others k (before ++ (Step worker serial branch item ∷ [])) xs h.1
 no_others k before (Line source number cmd ∷ xs) h =
     let other : nat_eq source (suc k) ≡ false = ap (λ s. nat_eq s (suc k)) h.0 ∙ eqb-zero-suc k in

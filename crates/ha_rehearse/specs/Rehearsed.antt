@@ -3,6 +3,7 @@ use Rattle.std.specs.Prelude.{ℕ, ◌≡◌, ◌≤◌, ◌⊎◌, true, Option
 use Rattle.ha_config.specs.declared.config.Config.{Config}
 use Rattle.ha_journal.specs.declared.entry.Entry.{Entry}
 use Rattle.ha_journal.specs.declared.entry.Entry.TheVariants.{Boot}
+use Rattle.ha_journal.specs.Entries.{first_carry}
 use Rattle.ha_journal.specs.Journal.{Journal}
 use Rattle.ha_model.specs.Lawful.{is_quiet}
 use Rattle.ha_model.specs.Records.{Records}
@@ -16,7 +17,7 @@ use Rattle.ha_rehearse.specs.Puts.{Closing, IsFull}
 
 -- the boot of the generated configuration, at its start, in UTC, without stored switches
 abbrev pub boot_of : Config → Entry
-boot_of config = Boot config_text config None start (codes "UTC")
+boot_of config = Boot config_text config None start (codes "UTC") first_carry
 
 -- The journal is lawful with its records. It begins with the boot of the configuration that the generated text is, and its lines are the
 -- first n generated ones, of source 0 alone.

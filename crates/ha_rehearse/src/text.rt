@@ -22,7 +22,7 @@ fn calls(entry: &Entry) -> bool
 {
     match entry {
         Entry::Step { item, .. } => matches!(item, Item::Call { .. }),
-        Entry::Boot { .. } | Entry::Line { .. } => false,
+        Entry::Boot { .. } | Entry::Line { .. } | Entry::Again { .. } => false,
     }
 }
 

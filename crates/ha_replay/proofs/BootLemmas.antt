@@ -28,6 +28,7 @@ use Rattle.ha_config.specs.ValueFacts.{all_distinct, has_utf8_texts, is_sound_va
 use Rattle.ha_config.specs.ValueText.{deepest, depth_of, flag_text, map_text, print_value, quoted}
 use Rattle.ha_config.specs.CheckText.{as_line}
 use Rattle.ha_config.specs.StoreText.{stored_text}
+use Rattle.ha_journal.specs.Entries.{first_carry}
 use Rattle.ha_journal.specs.EntryText.{trace_line}
 use Rattle.ha_replay.specs.Boots.{HasUtf8, IsBootLine, Reads, ReadsFrom, Switches, are_stored, have_utf8_names, parts, parts_in, flag_of, stored_of, switches_of}
 use Rattle.ha_replay.proofs.OrderLemmas.{ordered-distinct}
@@ -74,7 +75,7 @@ inner-printed text stored start zone =
 
 -- the line of a Boot is what is printed of its value
 pub boot-printed : (all : List Automation) (config : Config) (text : Text) (stored : Option Switches) (start : ℕ) (zone : Text)
-    → trace_line all (Entry.Boot text config stored start zone) ≡ as_line (print_value (boot_value text stored start zone))
+    → trace_line all (Entry.Boot text config stored start zone first_carry) ≡ as_line (print_value (boot_value text stored start zone))
 boot-printed all config text stored start zone =
     sym (ap as_line (print_value-roll (Value-F.Pairs ((codes "boot", inner_value text stored start zone) ∷ [])) ∙ (λ i. map_text ((codes "boot", inner-printed text stored start zone i) ∷ []))))
 
@@ -225,7 +226,7 @@ reads-line line value (Ok b) only h =
     let are = h.2 in
     let of = h.3 in
     record {
-      line_is = λ config. are.line_is ∙ (λ i. trace_line [] (Entry.Boot (of.0 i) no_automation (of.1 i) (of.2 i) (of.3 i)));
+      line_is = λ config. are.line_is ∙ (λ i. trace_line [] (Entry.Boot (of.0 i) no_automation (of.1 i) (of.2 i) (of.3 i) first_carry));
       start = subst (λ n. n ≤ last_moment) of.2 are.start;
       zone = subst (λ z. IsSome (zone_of z)) of.3 are.zone;
       ordered = (λ i. are_stored (sym of.1 i)) ∙ are.ordered;

@@ -5,7 +5,7 @@ use Rattle.std.proofs.lemmas.List.Sums.{sum_by-append}
 use Rattle.std.specs.Prelude.{◌||◌, ◌&&◌, Option, None, Some, nat_eq, count_by, if◌then◌else◌}
 use Rattle.std.specs.List.{list_any}
 use Rattle.ha_journal.specs.declared.entry.Entry.{Entry}
-use Rattle.ha_journal.specs.declared.entry.Entry.TheVariants.{Boot, Line, Step}
+use Rattle.ha_journal.specs.declared.entry.Entry.TheVariants.{Boot, Line, Step, Again}
 use Rattle.ha_config.specs.Words.{EachAfter}
 use Rattle.ha_config.specs.Fair.{shuts_source}
 use Rattle.ha_journal.specs.Journal.{Journal}
@@ -39,7 +39,8 @@ record NoLine (k : ℕ) (x : Entry) : Type 0 where
   opens : shuts k x ≡ false
 
 no-line : (k : ℕ) (x : Entry) → line_by k x ≡ None → NoLine k x
-no-line k (Boot text config stored start zone) e = record { is_none = refl; opens = refl }
+no-line k (Boot text config stored start zone carry) e = record { is_none = refl; opens = refl }
+no-line k (Again number start stored carry) e = record { is_none = refl; opens = refl }
 no-line k (Step worker serial branch item) e = record { is_none = refl; opens = refl }
 no-line k (Line q n cmd) e = by (nat_eq q k) (shuts_source cmd) refl e
   where
@@ -55,7 +56,8 @@ record OwnLine (k n : ℕ) (shut : Bool) (before : Journal) (x : Entry) : Type 0
   unshut : list_any (shuts k) before ≡ false
 
 own-line : (rs : Records) (k n : ℕ) (shut : Bool) (before : Journal) (x : Entry) → IsTurn rs before x → line_by k x ≡ Some (n, shut) → OwnLine k n shut before x
-own-line rs k n shut before (Boot text config stored start zone) turn e = absurd (none-some (n, shut) e)
+own-line rs k n shut before (Boot text config stored start zone carry) turn e = absurd (none-some (n, shut) e)
+own-line rs k n shut before (Again number start stored carry) turn e = absurd (none-some (n, shut) e)
 own-line rs k n shut before (Step worker serial branch item) turn e = absurd (none-some (n, shut) e)
 own-line rs k n shut before (Line q m cmd) turn e = by (nat_eq q k) (shuts_source cmd) refl refl e
   where

@@ -6,10 +6,10 @@ use Rattle.std.specs.Option.{option_map_or}
 use Rattle.ha_config.specs.declared.command.Cmd.{Cmd}
 use Rattle.ha_sight.specs.declared.item.Item.{Item}
 use Rattle.ha_journal.specs.declared.entry.Entry.{Entry}
-use Rattle.ha_journal.specs.declared.entry.Entry.TheVariants.{Boot, Line, Step}
+use Rattle.ha_journal.specs.declared.entry.Entry.TheVariants.{Boot, Line, Step, Again}
 use Rattle.ha_config.specs.Words.{Text, EachAfter, EachFrom, EachWith, last_below}
 use Rattle.ha_journal.specs.Journal.{Journal, IsJournal, automations, more}
-use Rattle.ha_journal.specs.Entries.{IsBoot}
+use Rattle.ha_journal.specs.Entries.{BeginsSegment}
 use Rattle.ha_journal.specs.Commands.{IsFair}
 use Rattle.ha_config.specs.CommandText.{cmd_text}
 use Rattle.ha_sight.specs.Scripts.{Branch}
@@ -66,7 +66,8 @@ module _ (j : Journal) (rs rs' : Records) (x : Entry) (old : Right j rs) (new : 
   same-ready = ready-same (length j) rs rs' same-records j (omega arith)
 
   busy-back : (d : Journal) (y : Entry) → length d ≤ length j → IsBusy rs' d y → IsBusy rs d y
-  busy-back d (Boot text config stored start zone) le h = tt
+  busy-back d (Boot text config stored start zone carry) le h = tt
+  busy-back d (Again number start stored carry) le h = tt
   busy-back d (Line k number cmd) le h = tt
   busy-back d (Step k serial branch item) le h = rested-same (length j) rs rs' same-records k d le ∙ h
 
@@ -82,7 +83,8 @@ with-busy a (inr c) = inr c
 -- either no step so far closes, or what stands last is by worker 0
 open-or-closed : (rs : Records) (before xs : Journal) (x : Entry) → EachWith (IsDue rs) before (xs ++ (x ∷ [])) → EachAfter (IsBusy rs) before xs ⊎ (is_by_worker_0 x ≡ true)
 open-or-closed rs before [] x h = inl tt
-open-or-closed rs before (Boot text config stored start zone ∷ ys) x h = with-busy tt (open-or-closed rs (before ++ (Boot text config stored start zone ∷ [])) ys x h.1)
+open-or-closed rs before (Boot text config stored start zone carry ∷ ys) x h = with-busy tt (open-or-closed rs (before ++ (Boot text config stored start zone carry ∷ [])) ys x h.1)
+open-or-closed rs before (Again number start stored carry ∷ ys) x h = with-busy tt (open-or-closed rs (before ++ (Again number start stored carry ∷ [])) ys x h.1)
 open-or-closed rs before (Line k number cmd ∷ ys) x h = with-busy tt (open-or-closed rs (before ++ (Line k number cmd ∷ [])) ys x h.1)
 open-or-closed rs before (Step k serial branch item ∷ ys) x h = by h.0 (open-or-closed rs (before ++ (Step k serial branch item ∷ [])) ys x h.1)
   where
@@ -143,7 +145,8 @@ none-below test (suc n) misses = rw (misses n) (none-below test n misses)
 no-line-of : (rs : Records) (before xs : Journal) (k : ℕ) → 16 ≤ k → EachAfter (IsTurn rs) before xs → (m : ℕ) → option_map_or (is_line_of k) (slice_get xs m) false ≡ false
 no-line-of rs before [] k far h m = refl
 no-line-of rs before (x ∷ xs) k far h (suc m) = no-line-of rs (before ++ (x ∷ [])) xs k far h.1 m
-no-line-of rs before (Boot text config stored start zone ∷ xs) k far h zero = refl
+no-line-of rs before (Boot text config stored start zone carry ∷ xs) k far h zero = refl
+no-line-of rs before (Again number start stored carry ∷ xs) k far h zero = refl
 no-line-of rs before (Step q serial branch item ∷ xs) k far h zero = refl
 no-line-of rs before (Line q number cmd ∷ xs) k far h zero = other q k (omega (arith, far, h.0.0))
   where
@@ -209,17 +212,19 @@ step-facts r line k serial branch item rs' stands next =
 
 -- ---- nothing else may stand next
 
-no-boot : (j : Journal) (x : Entry) → IsJournal j → IsJournal (more j x) → IsBoot x → ⊥
-no-boot [] x old new = absurd old
-no-boot (e ∷ es) x old new = from-last (λ y. IsBoot y → ⊥) 1 es x new.1
+no-begin : (j : Journal) (x : Entry) → IsJournal j → IsJournal (more j x) → BeginsSegment x → ⊥
+no-begin [] x old new = absurd old
+no-begin (e ∷ es) x old new = from-last (λ y. BeginsSegment y → ⊥) 1 es x new.1
 
 -- no line of a source and no step is the next one
 pub nothing-next : (r : Reached) (line : Text) → Stands r
     → ((k n : ℕ) (cmd : Cmd) → LineFacts r line k n cmd → ⊥)
     → ((k serial : ℕ) (branch : Branch) (item : Item) (rs' : Records) → IsNext r.journal line (Step k serial branch item) rs' → StepFacts r line k serial branch → ⊥)
     → IsNoNext r.journal line
-nothing-next r line stands no_line no_step (Boot text config stored start zone) rs' next =
-    no-boot r.journal (Boot text config stored start zone) stands.lawful.right.journal next.lawful.right.journal tt
+nothing-next r line stands no_line no_step (Boot text config stored start zone carry) rs' next =
+    no-begin r.journal (Boot text config stored start zone carry) stands.lawful.right.journal next.lawful.right.journal tt
+nothing-next r line stands no_line no_step (Again number start stored carry) rs' next =
+    no-begin r.journal (Again number start stored carry) stands.lawful.right.journal next.lawful.right.journal tt
 nothing-next r line stands no_line no_step (Line k n cmd) rs' next = no_line k n cmd (line-facts r line k n cmd rs' stands next)
 nothing-next r line stands no_line no_step (Step k serial branch item) rs' next = no_step k serial branch item rs' next (step-facts r line k serial branch item rs' stands next)
 
@@ -286,7 +291,8 @@ makers-more (z ∷ xs) x y e = (λ i. maker z ∷ makers-more xs x y e i)
 
 cmds-more : (q : ℕ) (xs : Journal) (x y : Entry) → cmds_of q (x ∷ []) ≡ cmds_of q (y ∷ []) → cmds_of q (xs ++ (x ∷ [])) ≡ cmds_of q (xs ++ (y ∷ []))
 cmds-more q [] x y e = e
-cmds-more q (Boot text config stored start zone ∷ xs) x y e = cmds-more q xs x y e
+cmds-more q (Boot text config stored start zone carry ∷ xs) x y e = cmds-more q xs x y e
+cmds-more q (Again number start stored carry ∷ xs) x y e = cmds-more q xs x y e
 cmds-more q (Step k serial branch item ∷ xs) x y e = cmds-more q xs x y e
 cmds-more q (Line k n cmd ∷ xs) x y e = by (nat_eq k q) (cmds-more q xs x y e)
   where

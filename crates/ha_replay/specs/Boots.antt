@@ -14,6 +14,7 @@ use Rattle.ha_config.specs.declared.config.Config.{Config}
 use Rattle.ha_journal.specs.declared.entry.Entry.{Entry}
 use Rattle.ha_config.specs.Words.{Pairs, Text, comes_before, first_pair}
 use Rattle.ha_config.specs.CheckText.{as_line}
+use Rattle.ha_journal.specs.Entries.{first_carry}
 use Rattle.ha_journal.specs.EntryText.{trace_line}
 use Rattle.ha_replay.specs.declared.boot.BootLine.{BootLine}
 use Rattle.ha_replay.specs.declared.boot.Parts.{Parts}
@@ -37,7 +38,7 @@ have_utf8_names stored = option_map_or (list_all (λ p. is_utf8 p.0)) stored tru
 -- the line, with its LF, is that of a Boot with these parts, whatever its configuration
 abbrev pub IsLineOf : Text → Text → Option Switches → ℕ → Text → Type 0
 IsLineOf line text stored start zone =
-    (config : Config) → as_line line ≡ trace_line config.automations (Entry.Boot text config stored start zone)
+    (config : Config) → as_line line ≡ trace_line config.automations (Entry.Boot text config stored start zone first_carry)
 
 -- the line is the first of a trace with these parts: the moment and the zone are read, and the stored names stand in order, each once
 pub record IsBootLine (line : Text) (b : BootLine) : Type 0 where
@@ -111,7 +112,7 @@ parts_in v =
 
 -- the first entry with these parts, and with no automation
 abbrev pub boot_of : Parts → Entry
-boot_of p = Entry.Boot p.text (record { automations = [] }) p.stored p.start p.zone
+boot_of p = Entry.Boot p.text (record { automations = [] }) p.stored p.start p.zone first_carry
 
 -- the parts, with the zone that is read
 abbrev pub IsOf : Parts → BootLine → Type 0

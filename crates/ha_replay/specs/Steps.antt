@@ -5,7 +5,7 @@ use Rattle.std.specs.List.{list_any}
 use Rattle.ha_model.specs.declared.faults.CoreFault.{CoreFault}
 use Rattle.ha_config.specs.declared.command.Cmd.{Cmd}
 use Rattle.ha_journal.specs.declared.entry.Entry.{Entry}
-use Rattle.ha_journal.specs.declared.entry.Entry.TheVariants.{Boot, Line, Step}
+use Rattle.ha_journal.specs.declared.entry.Entry.TheVariants.{Boot, Line, Step, Again}
 use Rattle.ha_config.specs.Words.{Text}
 use Rattle.ha_config.specs.Fair.{shuts_source}
 use Rattle.ha_journal.specs.Journal.{Journal}
@@ -31,7 +31,8 @@ is_named j Cmd.TooLong = true
 
 -- the number of a source's line, and whether it shuts the source
 abbrev pub line_by : ℕ → Entry → Option (ℕ × Bool)
-line_by source (Boot text config stored start zone) = None
+line_by source (Boot text config stored start zone carry) = None
+line_by source (Again number start stored carry) = None
 line_by source (Line k number cmd) = if nat_eq k source then Some (number, shuts_source cmd) else None
 line_by source (Step worker serial branch item) = None
 

@@ -11,7 +11,7 @@ use crate::stored::{are_stored, moment_under, stored_under, text_under, under};
 use flow_line::{FlowFault, read_value};
 use ha_clock::{ClockFault, Moment, Zone};
 use ha_config::Config;
-use ha_journal::Entry;
+use ha_journal::{Carry, Entry};
 use ha_texts::{empty_line, trace_line};
 use ha_value::{Many, Plain, Value, Word};
 use std::alloc::{AllocError, Global};
@@ -85,6 +85,7 @@ fn boot_entries(alloc: Global, parts: &Parts) -> Result<Vec<Entry>, AllocError>
     let text = parts.text.copy(alloc)?;
     let stored = copy_stored(alloc, &parts.stored)?;
     let zone = parts.zone.copy(alloc)?;
+    let carry = Carry::first(alloc)?;
     let mut entries = Vec::new(alloc);
     entries.push(Entry::Boot {
         text,
@@ -94,6 +95,7 @@ fn boot_entries(alloc: Global, parts: &Parts) -> Result<Vec<Entry>, AllocError>
         stored,
         start: parts.start,
         zone,
+        carry,
     })?;
     Ok(entries)
 }

@@ -43,7 +43,7 @@ fn line_by(entry: &Entry, source: u32) -> Option<(u64, bool)>
                 None
             }
         }
-        Entry::Boot { .. } | Entry::Step { .. } => None,
+        Entry::Boot { .. } | Entry::Step { .. } | Entry::Again { .. } => None,
     }
 }
 

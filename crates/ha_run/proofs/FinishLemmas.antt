@@ -9,7 +9,7 @@ use Rattle.std.specs.List.{list_all}
 use Rattle.ha_io.specs.Told.{told_as}
 use Rattle.ha_io.proofs.ToldLemmas.{Gives-nothing}
 use Rattle.ha_journal.specs.declared.entry.Entry.{Entry}
-use Rattle.ha_journal.specs.declared.entry.Entry.TheVariants.{Boot, Line, Step}
+use Rattle.ha_journal.specs.declared.entry.Entry.TheVariants.{Boot, Line, Step, Again}
 use Rattle.ha_journal.specs.Commands.{ArePutFrom}
 use Rattle.ha_journal.specs.Journal.{Journal, more}
 use Rattle.ha_model.specs.Lawful.{Lawful, Right, is_by_worker_0, is_quiet}
@@ -54,17 +54,20 @@ begins_later : (boot : Entry) (j j' later : Journal) → j' ≡ j ++ later → B
 begins_later boot j j' later e h = (h.0 ++ later, e ∙ ap (λ (z : Journal). z ++ later) h.1)
 
 boot_puts : (rs : Records) (x : Entry) (k : ℕ) → Right (x ∷ []) rs → ArePutFrom k (x ∷ []) []
-boot_puts rs (Boot text config stored start zone) k right = tt
+boot_puts rs (Boot text config stored start zone carry) k right = tt
+boot_puts rs (Again number start stored carry) k right = absurd right.journal.0
 boot_puts rs (Line source number cmd) k right = absurd right.journal.0
 boot_puts rs (Step worker serial branch item) k right = absurd right.journal.0
 
 boot_lawful : (rs : Records) (x : Entry) → Right (x ∷ []) rs → Lawful (x ∷ []) rs
-boot_lawful rs (Boot text config stored start zone) right = record { right = right; turns = (tt, tt); closed = (tt, tt) }
+boot_lawful rs (Boot text config stored start zone carry) right = record { right = right; turns = (tt, tt); closed = (tt, tt) }
+boot_lawful rs (Again number start stored carry) right = absurd right.journal.0
 boot_lawful rs (Line source number cmd) right = absurd right.journal.0
 boot_lawful rs (Step worker serial branch item) right = absurd right.journal.0
 
 boot_named : (rs : Records) (x : Entry) (n : ℕ) → Right (x ∷ []) rs → Each (IsOf n) (x ∷ [])
-boot_named rs (Boot text config stored start zone) n right = (tt, tt)
+boot_named rs (Boot text config stored start zone carry) n right = (tt, tt)
+boot_named rs (Again number start stored carry) n right = absurd right.journal.0
 boot_named rs (Line source number cmd) n right = absurd right.journal.0
 boot_named rs (Step worker serial branch item) n right = absurd right.journal.0
 
@@ -83,7 +86,8 @@ snd false y e = absurd (false_true e)
 
 steps_named : (n : ℕ) (xs : List Entry) → 0 < n → list_all is_by_worker_0 xs ≡ true → Each (IsOf n) xs
 steps_named n [] some h = tt
-steps_named n (Boot text config stored start zone ∷ xs) some h = absurd (false_true h)
+steps_named n (Boot text config stored start zone carry ∷ xs) some h = absurd (false_true h)
+steps_named n (Again number start stored carry ∷ xs) some h = absurd (false_true h)
 steps_named n (Line source number cmd ∷ xs) some h = absurd (false_true h)
 steps_named n (Step worker serial branch item ∷ xs) some h =
     let e : worker ≡ 0 = eqb-true worker 0 (fst (worker == 0) (list_all is_by_worker_0 xs) h) in

@@ -5,7 +5,7 @@ use Rattle.std.proofs.lemmas.List.Elements.{Contains-append_cases}
 use Rattle.std.specs.Prelude.{Contains, IsSome, is_some}
 use Rattle.ha_config.specs.declared.command.Cmd.{Cmd}
 use Rattle.ha_journal.specs.declared.entry.Entry.{Entry}
-use Rattle.ha_journal.specs.declared.entry.Entry.TheVariants.{Boot, Line, Step}
+use Rattle.ha_journal.specs.declared.entry.Entry.TheVariants.{Boot, Line, Step, Again}
 use Rattle.ha_journal.specs.Journal.{Journal}
 use Rattle.ha_model.specs.Lawful.{Running, is_quiet}
 use Rattle.ha_model.specs.Records.{Records}
@@ -195,7 +195,8 @@ within a n h = by (below_or a n)
     by (inr high) = absurd (false_true (sym (h high) ∙ eq-eqb a a refl))
 
 of_entry : (n : ℕ) (x : Entry) → ((k : ℕ) → n ≤ k → is_of k x ≡ false) → IsOf n x
-of_entry n (Boot text config stored start zone) h = tt
+of_entry n (Boot text config stored start zone carry) h = tt
+of_entry n (Again number start stored carry) h = tt
 of_entry n (Line source number cmd) h = within source n (h source)
 of_entry n (Step worker serial branch item) h = within worker n (h worker)
 

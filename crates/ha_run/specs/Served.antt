@@ -2,7 +2,7 @@
 use Rattle.std.specs.Prelude.{ℕ, zero, suc, ◌≡◌, ◌≢◌, ◌<◌, ◌≤◌, ◌⊎◌, List, [], ◌∷◌, ◌++◌, length, Option, Some, IfSome, IsSomeAnd}
 use Rattle.ha_config.specs.declared.command.Cmd.{Cmd}
 use Rattle.ha_journal.specs.declared.entry.Entry.{Entry}
-use Rattle.ha_journal.specs.declared.entry.Entry.TheVariants.{Boot, Line, Step}
+use Rattle.ha_journal.specs.declared.entry.Entry.TheVariants.{Boot, Line, Step, Again}
 use Rattle.ha_journal.specs.Commands.{ArePutFrom}
 use Rattle.ha_config.specs.Words.{Text}
 use Rattle.ha_status.specs.Files.{Files}
@@ -53,7 +53,8 @@ AreServed files journal k names sources feeds = ⊥
 
 -- each entry is of one of the first n sources, or of its worker
 abbrev pub IsOf : ℕ → Entry → Type 0
-IsOf n (Boot text config stored start zone) = Unit {0}
+IsOf n (Boot text config stored start zone carry) = Unit {0}
+IsOf n (Again number start stored carry) = Unit {0}
 IsOf n (Line k number cmd) = k < n
 IsOf n (Step k serial branch item) = k < n
 

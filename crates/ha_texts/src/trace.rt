@@ -99,6 +99,15 @@ fn push_step(
     Ok(())
 }
 
+fn push_again(text: &mut Word, number: u32) -> Result<(), AllocError>
+    ensures { OnOk result (text.new ≡ text.old ++ one_key (codes "again") (decimal number)) }
+{
+    text.push_str("{\"again\":")?;
+    push_number(text, u64::from(number))?;
+    text.push_byte(b'}')?;
+    Ok(())
+}
+
 /// Appends an entry.
 fn push_entry(
     alloc: Global,
@@ -128,6 +137,7 @@ fn push_entry(
             branch,
             item,
         } => push_step(alloc, text, all, *worker, *serial, branch.as_slice(), item),
+        Entry::Again { number, .. } => push_again(text, *number),
     }
 }
 

@@ -5,6 +5,7 @@ use Rattle.ha_io.specs.Told.{Call}
 use Rattle.ha_config.specs.declared.config.Config.{Config}
 use Rattle.ha_journal.specs.declared.entry.Entry.{Entry}
 use Rattle.ha_journal.specs.declared.entry.Entry.TheVariants.{Boot}
+use Rattle.ha_journal.specs.Entries.{first_carry}
 use Rattle.ha_config.specs.Sound.{IsSoundStore}
 use Rattle.ha_config.specs.Words.{Text}
 use Rattle.ha_model.specs.Records.{Records}
@@ -180,7 +181,7 @@ module _ (words : RunWords) (b : Before) (a : After) (keep : KeeperState) (text 
     (new : IsNew b) (held : HoldsText b.place.files words.config text) (read : config_of text ≡ Ok config) (kept : IfSome b.keep.kept (λ k. AreStored k stored))
     (sound : IsSoundStore stored) (runnable : IsRunnable words) (new_sources : AreNew b.place.files words.sources opened) (named : IsNamedTrace words.trace trace) (same_kept : keep.kept ≡ b.keep.kept) where
   abbrev boot : Entry
-  boot = Boot text config stored words.start words.zone
+  boot = Boot text config stored words.start words.zone first_carry
 
   abbrev old : Outside
   old = outside b.out b.err trace keep

@@ -7,6 +7,7 @@ use Rattle.ha_io.specs.Told.{Call, IsAskedSome, and_asked}
 use Rattle.ha_config.specs.declared.config.Config.{Config}
 use Rattle.ha_journal.specs.declared.entry.Entry.{Entry}
 use Rattle.ha_journal.specs.declared.entry.Entry.TheVariants.{Boot}
+use Rattle.ha_journal.specs.Entries.{first_carry}
 use Rattle.ha_config.specs.Sound.{IsSoundStore}
 use Rattle.ha_config.specs.Words.{Text}
 use Rattle.store_text.specs.Store.{Switches, switches_in}
@@ -45,7 +46,7 @@ pub record IsBooted (words : RunWords) (b : Before) (journal : List Entry) : Typ
   pub stored_is : IfSome b.keep.kept (λ kept. AreStored kept stored)
   pub stored_is_sound : IsSoundStore stored
   pub runnable : IsRunnable words
-  pub boots : journal ≡ Boot text config stored words.start words.zone ∷ later
+  pub boots : journal ≡ Boot text config stored words.start words.zone first_carry ∷ later
 
 abbrev pub scene : RunWords → Before → After → Scene
 scene words b a = record { files = b.place.files; names = words.sources; journal = a.journal; records = a.records; sources = a.sources }

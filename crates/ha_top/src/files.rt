@@ -3,6 +3,7 @@ ghost use Rattle.std.specs.Prelude.{◌≡◌, ◌<◌, ◌≤◌, ◌∷◌, []
 ghost use Rattle.ha_clock.specs.Local.{last_moment};
 ghost use Rattle.ha_clock.specs.Zone.{zone_of};
 ghost use Rattle.ha_journal.specs.declared.entry.Entry.TheVariants.{Boot};
+ghost use Rattle.ha_journal.specs.Entries.{first_carry};
 ghost use Rattle.ha_config.specs.Sound.{IsSoundConfig};
 ghost use Rattle.bus_turn.specs.States.{keeper_of, outside_of, sink_of};
 ghost use Rattle.ha_worker.specs.Courses.{source_of};
@@ -101,7 +102,7 @@ fn run_booted<R: Threads + Wait + Sync, E: Boots, P: Place, Q: Keeper, G: Gate>(
     ensures handed { IsHandedOn (option_map P.Sink.kept result.trace) result.status }
     ensures ran { let s = sink_of P.Sink.written P.Sink.faults P.Sink.zeros P.Sink.name in
         let q = keeper_of Q.kept Q.faults in
-        RanOrNot (Boot text config stored words.now.start words.now.zone) (outside_of s q out err trace keep) (map (source_of P.Source.faults P.Source.left P.Source.name) sources)
+        RanOrNot (Boot text config stored words.now.start words.now.zone first_carry) (outside_of s q out err trace keep) (map (source_of P.Source.faults P.Source.left P.Source.name) sources)
         result.status result.journal result.records (map (source_of P.Source.faults P.Source.left P.Source.name) result.sources) (outside_of s q result.out result.err result.trace result.keep) }
 {
     let Ok(zone) = Word::from_bytes(alloc, words.zone.text()) else {

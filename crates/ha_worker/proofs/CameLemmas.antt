@@ -5,7 +5,7 @@ use Rattle.std.specs.List.{list_any}
 use Rattle.std.proofs.lemmas.List.Sums.{count_by-le-length, sum_by-append}
 use Rattle.ha_config.specs.declared.command.Cmd.{Cmd}
 use Rattle.ha_journal.specs.declared.entry.Entry.{Entry}
-use Rattle.ha_journal.specs.declared.entry.Entry.TheVariants.{Boot, Line, Step}
+use Rattle.ha_journal.specs.declared.entry.Entry.TheVariants.{Boot, Line, Step, Again}
 use Rattle.ha_journal.specs.Commands.{put_as}
 use Rattle.ha_config.specs.Fair.{shuts_source}
 use Rattle.ha_journal.specs.Journal.{Journal, more}
@@ -25,7 +25,8 @@ put_then : (k n : ℕ) (xs ys : List Cmd) (before es fs : Journal) → ArePut k 
 put_then k n xs ys before [] fs p q =
     subst (λ (z : List Cmd). ArePut k n (z ++ ys) before fs) (sym p)
     (subst (λ (z : Journal). ArePut k n ys z fs) (append-nil before) (subst (λ (m : ℕ). ArePut k m ys (before ++ []) fs) (omega (arith, ap length p)) q))
-put_then k n xs ys before (Boot text config stored start zone ∷ es) fs p q = absurd p
+put_then k n xs ys before (Boot text config stored start zone carry ∷ es) fs p q = absurd p
+put_then k n xs ys before (Again number start stored carry ∷ es) fs p q = absurd p
 put_then k n xs ys before (Line source number cmd ∷ es) fs p q =
     let t = p.2 in
     let e : Entry = Line source number cmd in

@@ -5,7 +5,7 @@ use Rattle.std.specs.List.{AllZip, list_all}
 use Rattle.std.proofs.lemmas.List.Folds.{list_all-append}
 use Rattle.ha_config.specs.declared.command.Cmd.{Cmd}
 use Rattle.ha_journal.specs.declared.entry.Entry.{Entry}
-use Rattle.ha_journal.specs.declared.entry.Entry.TheVariants.{Boot, Line, Step}
+use Rattle.ha_journal.specs.declared.entry.Entry.TheVariants.{Boot, Line, Step, Again}
 use Rattle.ha_journal.specs.Commands.{ArePutFrom, Placed, placed_from, placed_line, put_as}
 use Rattle.ha_journal.specs.Journal.{Journal, more}
 use Rattle.ha_model.specs.Lawful.{Lawful, Right, is_by_worker_0, is_quiet, ready}
@@ -69,7 +69,8 @@ less_room Is a b (inr p) free = absurd (subst IsRefusal free p.refusal)
 
 no_lines : (k : ℕ) (before xs : Journal) → list_all is_by_worker_0 xs ≡ true → placed_from k before xs ≡ []
 no_lines k before [] h = refl
-no_lines k before (Boot text config stored start zone ∷ xs) h = absurd (let bad : ◌≡◌ {A = Bool} false true = h in cc)
+no_lines k before (Boot text config stored start zone carry ∷ xs) h = absurd (let bad : ◌≡◌ {A = Bool} false true = h in cc)
+no_lines k before (Again number start stored carry ∷ xs) h = absurd (let bad : ◌≡◌ {A = Bool} false true = h in cc)
 no_lines k before (Line source number cmd ∷ xs) h = absurd (let bad : ◌≡◌ {A = Bool} false true = h in cc)
 no_lines k before (Step worker serial branch item ∷ xs) h = no_lines k (before ++ (Step worker serial branch item ∷ [])) xs (snd (worker == 0) (list_all is_by_worker_0 xs) h)
   where

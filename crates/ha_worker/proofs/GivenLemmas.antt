@@ -5,7 +5,7 @@ use Rattle.std.specs.Prelude.{◌-◌, if◌then◌else◌, IsSome}
 use Rattle.std.specs.List.{list_any}
 use Rattle.ha_config.specs.declared.command.Cmd.{Cmd}
 use Rattle.ha_journal.specs.declared.entry.Entry.{Entry}
-use Rattle.ha_journal.specs.declared.entry.Entry.TheVariants.{Boot, Line, Step}
+use Rattle.ha_journal.specs.declared.entry.Entry.TheVariants.{Boot, Line, Step, Again}
 use Rattle.ha_journal.specs.Journal.{Journal}
 use Rattle.ha_model.specs.Lawful.{shuts}
 use Rattle.bus_turn.specs.declared.fault.BusFault.{BusFault}
@@ -52,7 +52,8 @@ line_read false source number cmd c r n place gs read h is same e = absurd (let 
 
 are_read : (k from : ℕ) (all pre post : List Cmd) (n place : ℕ) (cmds : List Cmd) (before es : Journal) → all ≡ pre ++ (cmds ++ post) → n ≡ from + length pre → ArePut k n cmds before es → AreRead k from all n place cmds before es
 are_read k from all pre post n place cmds before [] parts at p = (tt, ap (numbered n) (sym p))
-are_read k from all pre post n place cmds before (Boot text config stored start zone ∷ es) parts at p = absurd p
+are_read k from all pre post n place cmds before (Boot text config stored start zone carry ∷ es) parts at p = absurd p
+are_read k from all pre post n place cmds before (Again number start stored carry ∷ es) parts at p = absurd p
 are_read k from all pre post n place cmds before (Line source number cmd ∷ es) parts at p =
     let t = p.2 in
     let c : Cmd = t.0 in

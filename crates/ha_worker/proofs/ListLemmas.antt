@@ -7,7 +7,7 @@ use Rattle.std.proofs.Math.Seq.{take-append_seam}
 use Rattle.std.proofs.lemmas.List.Sums.{sum_by-cons}
 use Rattle.ha_config.specs.declared.command.Cmd.{Cmd}
 use Rattle.ha_journal.specs.declared.entry.Entry.{Entry}
-use Rattle.ha_journal.specs.declared.entry.Entry.TheVariants.{Boot, Line, Step}
+use Rattle.ha_journal.specs.declared.entry.Entry.TheVariants.{Boot, Line, Step, Again}
 use Rattle.ha_journal.specs.Commands.{ArePutFrom, Placed, placed_from, put_as}
 use Rattle.ha_journal.specs.Entries.{Spoken, line_of}
 use Rattle.ha_config.specs.Fair.{shuts_source}
@@ -66,7 +66,8 @@ lines_counted (g ∷ gs) = by (line_of g.entry) (lines_counted gs) ∙ sym (coun
 
 placed_counted : (k n : ℕ) (es : List Entry) → count_by is_line (placed k n es) ≡ count_by (is_line_of k) es
 placed_counted k n [] = refl
-placed_counted k n (Boot text config stored start zone ∷ es) = placed_counted k (n + 1) es ∙ omega (arith, count-cons (is_line_of k) (Boot text config stored start zone) es)
+placed_counted k n (Boot text config stored start zone carry ∷ es) = placed_counted k (n + 1) es ∙ omega (arith, count-cons (is_line_of k) (Boot text config stored start zone carry) es)
+placed_counted k n (Again number start stored carry ∷ es) = placed_counted k (n + 1) es ∙ omega (arith, count-cons (is_line_of k) (Again number start stored carry) es)
 placed_counted k n (Line source number cmd ∷ es) = by (source == k) (placed_counted k (n + 1) es) ∙ sym (count-cons (is_line_of k) (Line source number cmd) es)
   where
     by : (b : Bool) → count_by is_line (placed k (n + 1) es) ≡ count_by (is_line_of k) es
@@ -94,7 +95,8 @@ and-false false = refl
 
 placed_shut : (k n : ℕ) (es : List Entry) → list_any (λ (p : ℕ × Entry). shuts k p.1) (placed k n es) ≡ list_any (shuts k) es
 placed_shut k n [] = refl
-placed_shut k n (Boot text config stored start zone ∷ es) = placed_shut k (n + 1) es
+placed_shut k n (Boot text config stored start zone carry ∷ es) = placed_shut k (n + 1) es
+placed_shut k n (Again number start stored carry ∷ es) = placed_shut k (n + 1) es
 placed_shut k n (Line source number cmd ∷ es) = by (source == k) refl (placed_shut k (n + 1) es)
   where
     by : (b : Bool) → (source == k) ≡ b → list_any (λ (p : ℕ × Entry). shuts k p.1) (placed k (n + 1) es) ≡ list_any (shuts k) es
@@ -189,8 +191,10 @@ none_left (g ∷ gs) n cmds is lines = absurd (cc)
 
 puts_from : (k : ℕ) (before xs : Journal) (l : List Given) (n : ℕ) (cmds : List Cmd) → AreTold k before xs l (numbered n cmds) → AreZipped k before xs cmds
 puts_from k before [] l n cmds h = subst (λ (z : List Cmd). AreZipped k before [] z) (sym (none_left l n cmds h.0 h.2)) tt
-puts_from k before (Boot text config stored start zone ∷ xs) l n cmds h =
-    puts_from k (before ++ (Boot text config stored start zone ∷ [])) xs l n cmds (passed k before (Boot text config stored start zone) xs l (numbered n cmds) h.0 h.1 h.2)
+puts_from k before (Boot text config stored start zone carry ∷ xs) l n cmds h =
+    puts_from k (before ++ (Boot text config stored start zone carry ∷ [])) xs l n cmds (passed k before (Boot text config stored start zone carry) xs l (numbered n cmds) h.0 h.1 h.2)
+puts_from k before (Again number start stored carry ∷ xs) l n cmds h =
+    puts_from k (before ++ (Again number start stored carry ∷ [])) xs l n cmds (passed k before (Again number start stored carry) xs l (numbered n cmds) h.0 h.1 h.2)
 puts_from k before (Line source number cmd ∷ xs) l n cmds h =
     by (source == k) h.0 (λ gs m cs told. puts_from k (before ++ (Line source number cmd ∷ [])) xs gs m cs told)
   where

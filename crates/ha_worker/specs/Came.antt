@@ -2,7 +2,7 @@
 use Rattle.std.specs.Prelude.{Bool, true, ℕ, ◌≡◌, ◌+◌, ◌⊎◌, List, [], ◌∷◌, ◌++◌, length, count_by, Some, IsSome, slice_get}
 use Rattle.ha_config.specs.declared.command.Cmd.{Cmd}
 use Rattle.ha_journal.specs.declared.entry.Entry.{Entry}
-use Rattle.ha_journal.specs.declared.entry.Entry.TheVariants.{Boot, Line, Step}
+use Rattle.ha_journal.specs.declared.entry.Entry.TheVariants.{Boot, Line, Step, Again}
 use Rattle.ha_journal.specs.Commands.{put_as}
 use Rattle.ha_journal.specs.Journal.{Journal, more}
 use Rattle.ha_model.specs.Lawful.{Running, is_line_of}
@@ -15,7 +15,8 @@ use Rattle.bus_pass.specs.Origins.{IsStored, origin_of}
 -- once, with the numbers from n on.
 abbrev pub ArePut : ℕ → ℕ → List Cmd → Journal → List Entry → Type 0
 ArePut k n cmds before [] = cmds ≡ []
-ArePut k n cmds before (Boot text config stored start zone ∷ es) = ⊥
+ArePut k n cmds before (Boot text config stored start zone carry ∷ es) = ⊥
+ArePut k n cmds before (Again number start stored carry ∷ es) = ⊥
 ArePut k n cmds before (Line source number cmd ∷ es) = (source ≡ k) × (number ≡ n)
     × ((c : Cmd) × (rest : List Cmd) × (cmds ≡ c ∷ rest) × (cmd ≡ put_as before c)
     × ArePut k (n + 1) rest (more before (Line source number cmd)) es)

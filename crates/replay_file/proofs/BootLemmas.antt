@@ -1,15 +1,16 @@
 -- The first line of a trace.
-use Rattle.std.proofs.Common.{◌≡◌, ◌∙◌, ◌<◌, ◌+◌, ap, sym, subst, ℕ, inl, inr, [], ◌∷◌, length, take, get_or, true, Bool}
+use Rattle.std.proofs.Common.{◌≡◌, ◌∙◌, ◌<◌, ◌+◌, ap, refl, sym, subst, ℕ, inl, inr, [], ◌∷◌, length, take, get_or, true, Bool}
 use Rattle.std.proofs.lemmas.List.Folds.{list_all_more}
 use Rattle.std.specs.List.{list_all}
 use Rattle.std.specs.Prelude.{◌&&◌, Option, Result, Ok, Err, IsSome}
 use Rattle.ha_clock.specs.Zone.{zone_of}
+use Rattle.ha_journal.specs.Entries.{first_carry}
 use Rattle.ha_journal.specs.EntryText.{trace_line}
 use Rattle.yaml_scan.specs.declared.fault.Fault.{Fault}
 use Rattle.std.specs.Str.{is_utf8}
 use Rattle.ha_config.specs.declared.config.Config.{Config}
 use Rattle.ha_journal.specs.declared.entry.Entry.{Entry}
-use Rattle.ha_journal.specs.declared.entry.Entry.TheVariants.{Boot, Line, Step}
+use Rattle.ha_journal.specs.declared.entry.Entry.TheVariants.{Boot, Line, Step, Again}
 use Rattle.ha_config.specs.Words.{Text}
 use Rattle.ha_journal.specs.Journal.{Journal}
 use Rattle.ha_model.specs.Lawful.{Right}
@@ -29,11 +30,12 @@ first_follows line (inl end) = absurd end.0
 first_follows line (inr next) = by next.0 next.2
   where
     by : (x : Entry) → GoesOn [] line x next.1 → (b : BootLine) × (config : Config) × IsConfigured b config × IsBootLine line b
-    by (Boot text config stored start zone) g =
-        let first : IsConfigured (boot_line text stored start zone) config = g.run.0 in
+    by (Boot text config stored start zone carry) g =
+        let first : IsConfigured (boot_line text stored start zone) config = g.run.0.0 in
         (boot_line text stored start zone, config, first, record { line_is = λ other. g.line_is; start = first.start; zone = first.zone; ordered = first.ordered })
     by (Line source number cmd) g = absurd g.run.0
     by (Step worker serial branch item) g = absurd g.run.0
+    by (Again number start stored carry) g = absurd g.run.0
 
 -- a line that is not read is none
 pub unread_first : (line : Text) (fault : TraceFault) → Reads line (Err fault) → IsUnbooted line fault
@@ -54,7 +56,7 @@ are_utf8 text stored start zone t n z = record { text = t; names = n; zone = z }
 -- the zone is held by another name
 pub with_zone : (line : Text) (b : BootLine) (zone : Text) → zone ≡ b.zone → IsBootLine line b → IsBootLine line (boot_line b.text b.stored b.start zone)
 with_zone line b zone e is = record {
-  line_is = λ config. is.line_is config ∙ (λ i. trace_line config.automations (Boot b.text config b.stored b.start (sym e i)));
+  line_is = λ config. is.line_is config ∙ (λ i. trace_line config.automations (Boot b.text config b.stored b.start (sym e i) first_carry));
   start = is.start;
   zone = subst (λ z. IsSome (zone_of z)) (sym e) is.zone;
   ordered = is.ordered;
@@ -71,5 +73,5 @@ texts_more pairs i p lt is h u = list_all_more (λ (q : Text × Bool). is_utf8 q
 
 -- the core that was booted
 pub booted : (line text : Text) (config : Config) (stored : Option Switches) (start : ℕ) (zone : Text) (j : Journal) (rs : Records) → IsConfigured (boot_line text stored start zone) config
-    → IsBootLine line (boot_line text stored start zone) → j ≡ Boot text config stored start zone ∷ [] → Right j rs → IsBooted line j rs
-booted line text config stored start zone j rs made is e right = record { first = Boot text config stored start zone; journal = e; is_first = made; line_is = is.line_is config; right = right }
+    → IsBootLine line (boot_line text stored start zone) → j ≡ Boot text config stored start zone first_carry ∷ [] → Right j rs → IsBooted line j rs
+booted line text config stored start zone j rs made is e right = record { first = Boot text config stored start zone first_carry; journal = e; is_first = (made, refl); line_is = is.line_is config; right = right }

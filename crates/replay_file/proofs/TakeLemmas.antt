@@ -9,7 +9,7 @@ use Rattle.ha_io.specs.Told.{Takes}
 use Rattle.ha_io.specs.Whole.{IsFrontTaken}
 use Rattle.ha_io.proofs.ToldLemmas.{Takes-Takes, Takes-nothing}
 use Rattle.ha_journal.specs.declared.entry.Entry.{Entry}
-use Rattle.ha_journal.specs.declared.entry.Entry.TheVariants.{Boot, Line, Step}
+use Rattle.ha_journal.specs.declared.entry.Entry.TheVariants.{Boot, Line, Step, Again}
 use Rattle.ha_config.specs.Words.{Text}
 use Rattle.ha_journal.specs.Journal.{HasEntry, Journal, automations, more}
 use Rattle.ha_model.specs.Records.{Records}
@@ -352,7 +352,8 @@ module _ (text line behind : Text) (end : FrontEnd) (r r' : Reached) (lines : �
 
 -- the journal of a first entry alone is lawful, and has no closing step
 first_stands : (first : Entry) (rs : Records) → IsFirst first → Right (first ∷ []) rs → Stands (reached (first ∷ []) rs false)
-first_stands (Boot text config stored start zone) rs is right = record { lawful = record { right = right; turns = (tt, tt); closed = (tt, tt) }; closing = (tt, tt) }
+first_stands (Boot text config stored start zone carry) rs is right = record { lawful = record { right = right; turns = (tt, tt); closed = (tt, tt) }; closing = (tt, tt) }
+first_stands (Again number start stored carry) rs is right = absurd is
 first_stands (Line source number cmd) rs is right = absurd is
 first_stands (Step worker serial branch item) rs is right = absurd is
 
@@ -365,12 +366,14 @@ booted_ready line j rs spent b usable = record {
 }
 
 no_calls : (first : Entry) (rs : Records) → IsFirst first → call_text (first ∷ []) rs ≡ []
-no_calls (Boot text config stored start zone) rs is = refl
+no_calls (Boot text config stored start zone carry) rs is = refl
+no_calls (Again number start stored carry) rs is = absurd is
 no_calls (Line source number cmd) rs is = absurd is
 no_calls (Step worker serial branch item) rs is = absurd is
 
 no_errors : (first : Entry) → IsFirst first → error_text (first ∷ []) ≡ []
-no_errors (Boot text config stored start zone) is = refl
+no_errors (Boot text config stored start zone carry) is = refl
+no_errors (Again number start stored carry) is = absurd is
 no_errors (Line source number cmd) is = absurd is
 no_errors (Step worker serial branch item) is = absurd is
 

@@ -9,7 +9,7 @@ use Rattle.ha_config.specs.declared.config.Automation.{Automation}
 use Rattle.ha_sight.specs.declared.item.Item.{Item}
 use Rattle.ha_config.specs.declared.command.Cmd.{Cmd}
 use Rattle.ha_journal.specs.declared.entry.Entry.{Entry}
-use Rattle.ha_journal.specs.declared.entry.Entry.TheVariants.{Boot, Line, Step}
+use Rattle.ha_journal.specs.declared.entry.Entry.TheVariants.{Boot, Line, Step, Again}
 use Rattle.ha_model.specs.declared.record.EndCause.{EndCause}
 use Rattle.ha_model.specs.declared.record.Record.{Record}
 use Rattle.ha_journal.specs.Entries.{step_of, is_restart}
@@ -203,7 +203,8 @@ abbrev pub stop_for : Entry → List ℕ → ℕ → Option EndCause
 stop_for x turned a = if list_any (λ b. nat_eq b a) turned then Some EndCause.SwitchedOff else if is_restart x then Some EndCause.Restarted else None
 
 restart-turns-none : (j : Journal) (x : Entry) (a : ℕ) → is_restart x ≡ true → stops (automations j) a x ≡ false
-restart-turns-none j (Boot text config stored start zone) a e = refl
+restart-turns-none j (Boot text config stored start zone carry) a e = refl
+restart-turns-none j (Again number start stored carry) a e = refl
 restart-turns-none j (Step worker serial branch item) a e = cc
 restart-turns-none j (Line source number (Cmd.Report entity text attributes)) a e = cc
 restart-turns-none j (Line source number (Cmd.Gone entity)) a e = cc

@@ -8,11 +8,11 @@ use Rattle.ha_config.specs.declared.config.Automation.{Automation}
 use Rattle.ha_sight.specs.declared.item.Item.{Item}
 use Rattle.ha_config.specs.declared.command.Cmd.{Cmd}
 use Rattle.ha_journal.specs.declared.entry.Entry.{Entry}
-use Rattle.ha_journal.specs.declared.entry.Entry.TheVariants.{Boot, Line, Step}
+use Rattle.ha_journal.specs.declared.entry.Entry.TheVariants.{Boot, Line, Step, Again}
 use Rattle.ha_model.specs.declared.record.EndCause.{EndCause}
 use Rattle.ha_model.specs.declared.record.Record.{Record}
 use Rattle.ha_sight.specs.Items.{is_call}
-use Rattle.ha_journal.specs.Entries.{IsBoot}
+use Rattle.ha_journal.specs.Entries.{BeginsSegment, IsBoot}
 use Rattle.ha_journal.specs.Journal.{Journal, automations, HasEntry, last_place, more}
 use Rattle.ha_journal.specs.Attempts.{Attempt, passing}
 use Rattle.ha_sight.specs.Scripts.{Branch}
@@ -172,8 +172,9 @@ module _ (j : Journal) (rs : Records) (turned : List ℕ) (known : Known j rs) w
             settled-ends j x turned known.some are s (s - 1) c steps.run rs counted (subst (λ c. EachOwn (more j (Step w s branch item)) s c rs) e own) known.old (counted-old (is_call item)) (counted-is (is_call item) refl)
             (counted-numbered (is_call item)) (counted-order (is_call item)) steps.found at steps.live
 
-  ends-settled : (x : Entry) → (IsBoot x → ⊥) → IsRightEntry rs j x → AreTurned j x turned → stops_done (length j) x turned (steps_done j rs x) ≡ settled (more j x) [] (own_ends (more j x) rs)
-  ends-settled (Boot text config stored start zone) not_boot right are = absurd (not_boot tt)
+  ends-settled : (x : Entry) → (BeginsSegment x → ⊥) → IsRightEntry rs j x → AreTurned j x turned → stops_done (length j) x turned (steps_done j rs x) ≡ settled (more j x) [] (own_ends (more j x) rs)
+  ends-settled (Boot text config stored start zone carry) not_boot right are = absurd (not_boot tt)
+  ends-settled (Again number start stored carry) not_boot right are = absurd (not_boot tt)
   ends-settled (Line source number cmd) not_boot right are = line-settled source number cmd are
   ends-settled (Step w s branch item) not_boot right are = step-settled w s branch item right are
 
@@ -193,14 +194,15 @@ own-length k [] = refl
 own-length k (r ∷ rs) = ap suc (own-length k rs)
 
 no-call : (j : Journal) (rs : Records) (x : Entry) → Right j rs → IsRightEntry rs j x → (s : ℕ) → length rs < s → is_call_of s x ≡ false
-no-call j rs (Boot text config stored start zone) right h s lt = refl
+no-call j rs (Boot text config stored start zone carry) right h s lt = refl
+no-call j rs (Again number start stored carry) right h s lt = refl
 no-call j rs (Line source number cmd) right h s lt = refl
 no-call j rs (Step w t branch item) right h s lt =
     let within : t - 1 < length rs = slice_get_within rs (t - 1) h.0 h.1 in
     (λ i. not-equal t s (omega (arith, lt, within)) i && is_call item)
 
 -- LAW: after the calls for one entry, in their order, the records are those of the journal with it
-pub by-calls : (j : Journal) (rs : Records) (x : Entry) (turned : List ℕ) → Right j rs → (IsBoot x → ⊥) → IsRightEntry rs j x → AreTurned j x turned
+pub by-calls : (j : Journal) (rs : Records) (x : Entry) (turned : List ℕ) → Right j rs → (BeginsSegment x → ⊥) → IsRightEntry rs j x → AreTurned j x turned
     → all_tried (more j x) (stops_done (length j) x turned (steps_done j rs x)) (passing (more j x)) ≡ records_of (more j x)
 by-calls j rs x turned right not_boot fair are =
     let k = more j x in
@@ -259,12 +261,14 @@ at-attempts k rs (x ∷ xs) h = at-attempts k (if lets_in_after (automations k) 
     by false = h
 
 first-right : (boot : Entry) → IsBoot boot → Right (boot ∷ []) (records_of (boot ∷ []))
-first-right (Boot text config stored start zone) is = record { journal = (is, tt); records_are = refl; entries = (tt, tt) }
+first-right (Boot text config stored start zone carry) is = record { journal = (is, tt); records_are = refl; entries = (tt, tt) }
+first-right (Again number start stored carry) is = absurd is
 first-right (Line source number cmd) is = absurd is
 first-right (Step worker serial branch item) is = absurd is
 
 first-calls : (boot : Entry) → IsBoot boot → (s : ℕ) → calls_of (boot ∷ []) s ≡ 0
-first-calls (Boot text config stored start zone) is s = refl
+first-calls (Boot text config stored start zone carry) is s = refl
+first-calls (Again number start stored carry) is s = absurd is
 first-calls (Line source number cmd) is s = absurd is
 first-calls (Step worker serial branch item) is s = absurd is
 

@@ -1,7 +1,7 @@
 //! Laws of the definitions alone. Each is a function that does nothing; its contract is the law.
 ghost use Rattle.std.specs.Prelude.{◌≡◌, ℕ, List, [], ◌∷◌, length};
 ghost use Rattle.ha_journal.specs.declared.entry.Entry.{Entry};
-ghost use Rattle.ha_journal.specs.Entries.{IsBoot};
+ghost use Rattle.ha_journal.specs.Entries.{BeginsSegment, IsBoot};
 ghost use Rattle.ha_journal.specs.Journal.{Journal, more};
 ghost use Rattle.ha_model.specs.Records.{Records, records_of};
 ghost use Rattle.ha_journal.specs.Attempts.{passing};
@@ -14,6 +14,6 @@ ghost use Rattle.run_modes.specs.Calls.{all_tried, steps_done, stops_done, AreTu
 /// the first entry there are no records.
 pub fn records_by_calls()
     ensures first { (boot : Entry) → IsBoot boot → all_tried (boot ∷ []) [] (passing (boot ∷ [])) ≡ records_of (boot ∷ []) }
-    ensures more { (j : Journal) (rs : Records) (x : Entry) (turned : List ℕ) → Right j rs → (IsBoot x → ⊥) → IsRightEntry rs j x → AreTurned j x turned
+    ensures more { (j : Journal) (rs : Records) (x : Entry) (turned : List ℕ) → Right j rs → (BeginsSegment x → ⊥) → IsRightEntry rs j x → AreTurned j x turned
         → all_tried (more j x) (stops_done (length j) x turned (steps_done j rs x)) (passing (more j x)) ≡ records_of (more j x) }
 {}

@@ -6,7 +6,7 @@ use Rattle.std.proofs.lemmas.List.{take-append-le, take_all}
 use Rattle.ha_value.specs.declared.value.EntityId.{EntityId}
 use Rattle.ha_config.specs.declared.command.Cmd.{Cmd}
 use Rattle.ha_journal.specs.declared.entry.Entry.{Entry}
-use Rattle.ha_journal.specs.declared.entry.Entry.TheVariants.{Boot, Line, Step}
+use Rattle.ha_journal.specs.declared.entry.Entry.TheVariants.{Boot, Line, Step, Again}
 use Rattle.ha_sight.specs.declared.state.StateObject.{StateObject}
 use Rattle.ha_config.specs.Words.{Text, Pairs, same_entity, last_below}
 use Rattle.ha_config.specs.Equal.{same_flag}
@@ -143,7 +143,8 @@ module _ (x : Entry) (n : Text) where
     where
       by : (o : Option ℕ) (y : Entry) → automation_named (automations (y ∷ [])) n ≡ o → option_map_or (turns [] y) o false ≡ false → option_map (of_automation (x ∷ [])) o ≡ None
       by None y q h = refl
-      by (Some a) (Boot text config stored start zone) q h = cc
+      by (Some a) (Boot text config stored start zone carry) q h = cc
+      by (Some a) (Again number start stored carry) q h = cc
       by (Some a) (Line source number cmd) q h = cc
       by (Some a) (Step worker serial branch item) q h = cc
 
@@ -162,7 +163,8 @@ keeps (y ∷ ys) x n h =
 -- an entry that sets no switch
 leaves : (j : Journal) (x : Entry) (n : Text) → turning x ≡ Turning.Leaves → opens_segment x ≡ false
     → option_map_or (turns j x) (automation_named (automations (more j x)) n) false ≡ false
-leaves [] (Boot text config stored start zone) n t o = cc
+leaves [] (Boot text config stored start zone carry) n t o = cc
+leaves [] (Again number start stored carry) n t o = refl
 leaves [] (Line source number cmd) n t o = refl
 leaves [] (Step worker serial branch item) n t o = refl
 leaves (y ∷ ys) x n t o = by (automation_named (automations (more (y ∷ ys) x)) n)

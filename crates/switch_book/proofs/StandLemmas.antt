@@ -4,6 +4,7 @@ use Rattle.std.specs.Prelude.{Some, None, nat_eq, unwrap_or, slice_get, option_m
 use Rattle.ha_config.specs.declared.config.Automation.{Automation}
 use Rattle.ha_config.specs.declared.config.Config.{Config}
 use Rattle.ha_config.specs.declared.command.Cmd.{Cmd}
+use Rattle.ha_journal.specs.declared.carry.Carry.{Carry}
 use Rattle.ha_journal.specs.declared.entry.Entry.TheVariants.{Boot, Line}
 use Rattle.ha_config.specs.Words.{Text}
 use Rattle.ha_config.specs.ValueFacts.{all_distinct, keys_of}
@@ -17,8 +18,8 @@ use Rattle.store_text.specs.Store.{Switches, AreStorable}
 use Rattle.switch_book.specs.Book.{flags, names_of, restored, StandsFor}
 use Rattle.switch_book.proofs.SwitchLaws.{boot-stands, more-stands, flags-of-journal, names-of-journal, get-set, named-one}
 
-pub restored-stands : (s : Switches) (config : Config) (stored : Option Switches) → s ≡ restored stored config.automations → (text : Text) (start : ℕ) (zone : Text) → StandsFor s (Boot text config stored start zone ∷ [])
-restored-stands s config stored e text start zone = e ∙ boot-stands text config stored start zone
+pub restored-stands : (s : Switches) (config : Config) (stored : Option Switches) → s ≡ restored stored config.automations → (text : Text) (start : ℕ) (zone : Text) (carry : Carry) → StandsFor s (Boot text config stored start zone carry ∷ [])
+restored-stands s config stored e text start zone carry = e ∙ boot-stands text config stored start zone carry
 
 pub restarted-stands : (s s' : Switches) (config : Config) → ((a : ℕ) → slice_get (flags s') a ≡ option_map (λ before. unwrap_or (initial_of config.automations a) before) (slice_get (flags s) a)) → keys_of s' ≡ keys_of s
     → (j : Journal) (source number : ℕ) → HasEntry j → automations j ≡ config.automations → StandsFor s j → StandsFor s' (more j (Line source number Cmd.Restart))

@@ -8,6 +8,7 @@ use Rattle.std.proofs.lemmas.Slice.Eq.{bytes_eq-Decides}
 use Rattle.ha_config.specs.declared.config.Automation.{Automation}
 use Rattle.ha_config.specs.declared.config.Config.{Config}
 use Rattle.ha_config.specs.declared.command.Cmd.{Cmd}
+use Rattle.ha_journal.specs.declared.carry.Carry.{Carry}
 use Rattle.ha_journal.specs.declared.entry.Entry.{Entry}
 use Rattle.ha_journal.specs.declared.entry.Entry.TheVariants.{Boot, Line}
 use Rattle.ha_config.specs.Words.{Text, same}
@@ -86,19 +87,19 @@ names-restored stored [] = refl
 names-restored stored (x ∷ xs) = ap (λ ts. x.name ∷ ts) (names-restored stored xs)
 
 -- LAW: the switches at the Boot
-pub boot-stands : (text : Text) (config : Config) (stored : Option Switches) (start : ℕ) (zone : Text) → StandsFor (restored stored config.automations) (Boot text config stored start zone ∷ [])
-boot-stands text config stored start zone =
-    stands-by-place (restored stored config.automations) (Boot text config stored start zone ∷ []) (names-restored stored config.automations)
+pub boot-stands : (text : Text) (config : Config) (stored : Option Switches) (start : ℕ) (zone : Text) (carry : Carry) → StandsFor (restored stored config.automations) (Boot text config stored start zone carry ∷ [])
+boot-stands text config stored start zone carry =
+    stands-by-place (restored stored config.automations) (Boot text config stored start zone carry ∷ []) (names-restored stored config.automations)
     (λ a. get-flags (restored stored config.automations) a
     ∙ ap (option_map (λ p. p.1)) (slice_get-map {A = Automation} {B = Text × Bool} (λ x. (x.name, opening stored x)) config.automations a) ∙ by a (slice_get config.automations a) refl)
   where
     by : (a : ℕ) (o : Option Automation) → slice_get config.automations a ≡ o → option_map {T = Text × Bool} {U = Bool} (λ p. p.1) (option_map {T = Automation} {U = Text × Bool} (λ x. (x.name, opening stored x)) (slice_get config.automations a))
-        ≡ option_map (λ x. is_on (Boot text config stored start zone ∷ []) a) (slice_get config.automations a)
-    by a None e = (λ i. option_map {T = Text × Bool} {U = Bool} (λ p. p.1) (option_map {T = Automation} {U = Text × Bool} (λ x. (x.name, opening stored x)) (e i))) ∙ (λ i. option_map (λ x. is_on (Boot text config stored start zone ∷ []) a) (sym e i))
+        ≡ option_map (λ x. is_on (Boot text config stored start zone carry ∷ []) a) (slice_get config.automations a)
+    by a None e = (λ i. option_map {T = Text × Bool} {U = Bool} (λ p. p.1) (option_map {T = Automation} {U = Text × Bool} (λ x. (x.name, opening stored x)) (e i))) ∙ (λ i. option_map (λ x. is_on (Boot text config stored start zone carry ∷ []) a) (sym e i))
     by a (Some y) e =
         (λ i. option_map {T = Text × Bool} {U = Bool} (λ p. p.1) (option_map {T = Automation} {U = Text × Bool} (λ x. (x.name, opening stored x)) (e i)))
         ∙ (λ i. Some (unwrap_or (option_map_or (λ x. x.initial) (sym e i) None) (unwrap_or (stored_switch (option_map_or (λ x. x.name) (sym e i) []) (unwrap_or stored [])) true)))
-        ∙ (λ i. option_map (λ x. is_on (Boot text config stored start zone ∷ []) a) (sym e i))
+        ∙ (λ i. option_map (λ x. is_on (Boot text config stored start zone carry ∷ []) a) (sym e i))
 
 -- LAW: the switches with one more entry, each from the one before
 pub more-stands : (s s' : Switches) (j : Journal) (x : Entry) → HasEntry j → StandsFor s j → keys_of s' ≡ keys_of s

@@ -3,6 +3,7 @@ ghost use Rattle.std.specs.Prelude.{◌≡◌, ◌<◌, ℕ, Bool, [], ◌∷◌
 ghost use Rattle.std.specs.Option.{option_copied};
 ghost use Rattle.ha_config.specs.declared.config.Automation.{Automation as Rule};
 ghost use Rattle.ha_config.specs.declared.command.Cmd.{Cmd};
+ghost use Rattle.ha_journal.specs.declared.carry.Carry.{Carry};
 ghost use Rattle.ha_journal.specs.declared.entry.Entry.TheVariants.{Boot, Line};
 ghost use Rattle.ha_config.specs.Words.{Text};
 ghost use Rattle.ha_config.specs.ValueFacts.{keys_of};
@@ -51,7 +52,7 @@ impl Switches {
     ) -> Result<Switches, AllocError>
         requires { IsSoundConfig config.now }
         ensures switches { IfOk result (λ s. s ≡ restored (option_copied stored.entry) config.now.automations) }
-        ensures stands { IfOk result (λ s. (text : Text) (start : ℕ) (zone : Text) → StandsFor s (Boot text config.now (option_copied stored.entry) start zone ∷ [])) }
+        ensures stands { IfOk result (λ s. (text : Text) (start : ℕ) (zone : Text) (carry : Carry) → StandsFor s (Boot text config.now (option_copied stored.entry) start zone carry ∷ [])) }
     {
         let mut switches = Vec::new(alloc);
         for automation in config.automations.as_slice() {

@@ -3,6 +3,7 @@ ghost use Rattle.std.specs.Prelude.{◌≡◌, ℕ, List, [], ◌∷◌, Bool, t
 ghost use Rattle.ha_config.specs.declared.config.Automation.{Automation};
 ghost use Rattle.ha_config.specs.declared.config.Config.{Config};
 ghost use Rattle.ha_config.specs.declared.command.Cmd.{Cmd};
+ghost use Rattle.ha_journal.specs.declared.carry.Carry.{Carry};
 ghost use Rattle.ha_journal.specs.declared.entry.Entry.{Entry};
 ghost use Rattle.ha_journal.specs.declared.entry.Entry.TheVariants.{Boot, Line};
 ghost use Rattle.ha_config.specs.Words.{Text};
@@ -21,7 +22,7 @@ ghost use Rattle.switch_book.specs.Book.{StandsFor, flags, names_of, restored, s
 /// command that is one switch set, that of the automation with the name; for a Switched item its
 /// targets set in turn.
 pub fn switches_of_one_more()
-    ensures boot { (text : Text) (config : Config) (stored : Option Switches) (start : ℕ) (zone : Text) → StandsFor (restored stored config.automations) (Boot text config stored start zone ∷ []) }
+    ensures boot { (text : Text) (config : Config) (stored : Option Switches) (start : ℕ) (zone : Text) (carry : Carry) → StandsFor (restored stored config.automations) (Boot text config stored start zone carry ∷ []) }
     ensures more { (s s' : Switches) (j : Journal) (x : Entry) → HasEntry j → StandsFor s j → keys_of s' ≡ keys_of s
         → ((a : ℕ) → slice_get (flags s') a ≡ option_map (λ before. on_after (automations j) a before x) (slice_get (flags s) a)) → StandsFor s' (more j x) }
     ensures named { (all : List Automation) (a b : ℕ) (x y : Automation) (source number : ℕ) (before on stop : Bool) → all_distinct (names_of all) ≡ true → slice_get all a ≡ Some x → slice_get all b ≡ Some y

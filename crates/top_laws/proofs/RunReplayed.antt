@@ -1,5 +1,5 @@
 -- The trace of a run is what a replay takes, and its calls are the run's.
-use Rattle.std.proofs.Common.{◌≡◌, ◌∙◌, ap, sym, subst, inl, inr, true, Bool, List, [], map, append-nil}
+use Rattle.std.proofs.Common.{◌≡◌, ◌∙◌, ap, refl, sym, subst, inl, inr, true, Bool, List, [], map, append-nil}
 use Rattle.std.proofs.lemmas.Str.{is_utf8-from_IsUtf8}
 use Rattle.std.specs.Prelude.{Option, Some, None, IfSome, IsSomeAnd}
 use Rattle.ha_config.specs.Words.{Text}
@@ -51,17 +51,20 @@ booted_run words b j rs boot lawful =
     subst P (sym boot.boots) (
       tt,
       (
-        record {
-          config_is = boot.config_is;
-          start = boot.runnable.in_time;
-          zone = boot.runnable.zoned;
-          ordered = stored-ordered boot.stored boot.stored_is_sound;
-          utf8 = record {
-            text = config-utf8 boot.text boot.config boot.config_is;
-            names = stored-utf8 boot.stored boot.stored_is_sound;
-            zone = is_utf8-from_IsUtf8 words.zone boot.runnable.zone_is_text;
-          };
-        },
+        (
+          record {
+            config_is = boot.config_is;
+            start = boot.runnable.in_time;
+            zone = boot.runnable.zoned;
+            ordered = stored-ordered boot.stored boot.stored_is_sound;
+            utf8 = record {
+              text = config-utf8 boot.text boot.config boot.config_is;
+              names = stored-utf8 boot.stored boot.stored_is_sound;
+              zone = is_utf8-from_IsUtf8 words.zone boot.runnable.zone_is_text;
+            };
+          },
+          refl,
+        ),
         subst (λ z. Lawful z rs) boot.boots lawful,
       ),
     )

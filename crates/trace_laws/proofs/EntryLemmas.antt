@@ -6,7 +6,7 @@ use Rattle.ha_config.specs.declared.config.Automation.{Automation}
 use Rattle.ha_config.specs.declared.command.Cmd.{Cmd}
 use Rattle.ha_sight.specs.declared.item.Item.{Item}
 use Rattle.ha_journal.specs.declared.entry.Entry.{Entry}
-use Rattle.ha_journal.specs.declared.entry.Entry.TheVariants.{Boot, Line, Step}
+use Rattle.ha_journal.specs.declared.entry.Entry.TheVariants.{Boot, Line, Step, Again}
 use Rattle.ha_config.specs.Words.{Text}
 use Rattle.ha_journal.specs.Journal.{HasEntry, Journal}
 use Rattle.ha_journal.specs.Commands.{IsFair}
@@ -35,7 +35,8 @@ third t = get_or t 2 0
 
 -- the end line is that of no entry
 pub no_end : (all : List Automation) (x : Entry) (n : ℕ) → trace_line all x ≡ end_line n → ⊥
-no_end all (Boot text config stored start zone) n e = (let same : 98 ≡ 101 = ap third e in omega (arith, same))
+no_end all (Boot text config stored start zone carry) n e = (let same : 98 ≡ 101 = ap third e in omega (arith, same))
+no_end all (Again number start stored carry) n e = (let same : 97 ≡ 101 = ap third e in omega (arith, same))
 no_end all (Line source number cmd) n e = (let same : 115 ≡ 101 = ap third e in omega (arith, same))
 no_end all (Step worker serial branch item) n e = (let same : 119 ≡ 101 = ap third e in omega (arith, same))
 
@@ -71,16 +72,20 @@ same_worker all k s b item k' s' b' item' known known' e =
 -- ---- entries
 
 pub known_tail : (x : Entry) (xs : Journal) → AllKnown (x ∷ xs) → AllKnown xs
-known_tail (Boot text config stored start zone) xs h = h
+known_tail (Boot text config stored start zone carry) xs h = h
+known_tail (Again number start stored carry) xs h = h
 known_tail (Line source number cmd) xs h = h
 known_tail (Step worker serial branch item) xs h = h.1
 
 module _ (d : Journal) (all : List Automation) (rs rs' : Records) (has : HasEntry d) (short : length d < 2 ^ 64) where
   -- LAW: entries behind the same ones that have the same line are the same
   pub same_entry : (x y : Entry) (xs ys : Journal) → Rest d (x ∷ xs) rs → Rest d (y ∷ ys) rs' → AllKnown (x ∷ xs) → AllKnown (y ∷ ys) → trace_line all x ≡ trace_line all y → x ≡ y
-  same_entry (Boot text config stored start zone) y xs ys r r' known known' e = absurd (r.no_boots.0 tt)
-  same_entry (Line k n cmd) (Boot text config stored start zone) xs ys r r' known known' e = absurd (r'.no_boots.0 tt)
-  same_entry (Step k s b item) (Boot text config stored start zone) xs ys r r' known known' e = absurd (r'.no_boots.0 tt)
+  same_entry (Boot text config stored start zone carry) y xs ys r r' known known' e = absurd (r.no_boots.0 tt)
+  same_entry (Again number start stored carry) y xs ys r r' known known' e = absurd (r.no_boots.0 tt)
+  same_entry (Line k n cmd) (Boot text config stored start zone carry) xs ys r r' known known' e = absurd (r'.no_boots.0 tt)
+  same_entry (Line k n cmd) (Again number start stored carry) xs ys r r' known known' e = absurd (r'.no_boots.0 tt)
+  same_entry (Step k s b item) (Boot text config stored start zone carry) xs ys r r' known known' e = absurd (r'.no_boots.0 tt)
+  same_entry (Step k s b item) (Again number start stored carry) xs ys r r' known known' e = absurd (r'.no_boots.0 tt)
   same_entry (Line k n cmd) (Step k' s' b' item') xs ys r r' known known' e = absurd (no_mix all k' s' b' item' k n cmd (sym e))
   same_entry (Step k s b item) (Line k' n' cmd') xs ys r r' known known' e = absurd (no_mix all k s b item k' n' cmd' e)
   same_entry (Line k n cmd) (Line k' n' cmd') xs ys r r' known known' e =

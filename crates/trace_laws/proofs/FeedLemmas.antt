@@ -17,7 +17,7 @@ use Rattle.ha_clock.specs.Print.{moment_text}
 use Rattle.ha_config.specs.declared.config.Automation.{Automation}
 use Rattle.ha_config.specs.declared.command.Cmd.{Cmd}
 use Rattle.ha_journal.specs.declared.entry.Entry.{Entry}
-use Rattle.ha_journal.specs.declared.entry.Entry.TheVariants.{Boot, Line, Step}
+use Rattle.ha_journal.specs.declared.entry.Entry.TheVariants.{Boot, Line, Step, Again}
 use Rattle.ha_sight.specs.declared.item.Item.{Item}
 use Rattle.ha_config.specs.Words.{Pairs, Text}
 use Rattle.ha_config.specs.Names.{name_of}
@@ -273,7 +273,7 @@ stored_line (Some ps) = map_line (map {A = Text × Bool} {B = Text × Text} (λ 
 
 -- LAW: the line of an entry has one LF, its end
 pub entry_feed : (all : List Automation) (x : Entry) → HasOneFeed (trace_line all x)
-entry_feed all (Boot text config stored start zone) =
+entry_feed all (Boot text config stored start zone carry) =
     let inner : List (Text × Text) = (codes "config", quoted text) ∷ (codes "stored", stored_text stored) ∷ (codes "start", quoted (moment_text start)) ∷ (codes "zone", quoted zone) ∷ [] in
     record {
       line = one_key (codes "boot") (map_text inner);
@@ -290,6 +290,8 @@ entry_feed all (Step worker serial branch item) =
       shown_is = refl;
       one_line = map_line shown (decimal_line worker, (decimal_line serial, (list_line (map decimal branch) (all_lines decimal branch decimal_line), (item_line all item, tt))));
     }
+entry_feed all (Again number start stored carry) =
+    record { line = one_key (codes "again") (decimal number); shown_is = refl; one_line = one_line_key (codes "again") (decimal number) (decimal_line number) }
 
 -- LAW: so has the end line
 pub end_feed : (n : ℕ) → HasOneFeed (end_line n)

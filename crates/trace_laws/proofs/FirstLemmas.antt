@@ -5,9 +5,10 @@ use Rattle.yaml_scan.specs.declared.fault.Fault.{Fault}
 use Rattle.ha_config.specs.declared.config.Automation.{Automation}
 use Rattle.ha_config.specs.declared.config.Config.{Config}
 use Rattle.ha_journal.specs.declared.entry.Entry.{Entry}
-use Rattle.ha_journal.specs.declared.entry.Entry.TheVariants.{Boot, Line, Step}
+use Rattle.ha_journal.specs.declared.entry.Entry.TheVariants.{Boot, Line, Step, Again}
 use Rattle.ha_config.specs.Words.{Text}
 use Rattle.ha_config.specs.CheckText.{as_line}
+use Rattle.ha_journal.specs.Entries.{first_carry}
 use Rattle.ha_journal.specs.EntryText.{trace_line}
 use Rattle.ha_config.proofs.ListLemmas.{some-same}
 use Rattle.flow_line.proofs.Whole.{document_read, same_value}
@@ -27,7 +28,7 @@ one_parts line b b' is u is' u' =
     some-same _ _ (sym (boot-parts b.text b.stored b.start b.zone is.start) ∙ ap parts_in same ∙ boot-parts b'.text b'.stored b'.start b'.zone is'.start)
 
 -- a configured first entry's line is that of its parts
-pub first_line : (line : Text) (b : BootLine) (config : Config) → IsConfigured b config → ((other : Config) → as_line line ≡ trace_line other.automations (Boot b.text other b.stored b.start b.zone)) → IsBootLine line b
+pub first_line : (line : Text) (b : BootLine) (config : Config) → IsConfigured b config → ((other : Config) → as_line line ≡ trace_line other.automations (Boot b.text other b.stored b.start b.zone first_carry)) → IsBootLine line b
 first_line line b config f is = record { line_is = is; start = f.start; zone = f.zone; ordered = f.ordered }
 
 ok_same : (config config' : Config) → ◌≡◌ {A = Result Config Fault} (Ok config) (Ok config') → config ≡ config'
@@ -37,12 +38,15 @@ ok_same config config' e = cc
 pub one_first : (all all' : List Automation) (x y : Entry) → IsFirst x → IsFirst y → trace_line all x ≡ trace_line all' y → x ≡ y
 one_first all all' (Line source number cmd) y f g e = absurd f
 one_first all all' (Step worker serial branch item) y f g e = absurd f
-one_first all all' (Boot text config stored start zone) (Line source number cmd) f g e = absurd g
-one_first all all' (Boot text config stored start zone) (Step worker serial branch item) f g e = absurd g
-one_first all all' (Boot text config stored start zone) (Boot text' config' stored' start' zone') f g e =
-    let feed = entry_feed all (Boot text config stored start zone) in
+one_first all all' (Again number start stored carry) y f g e = absurd f
+one_first all all' (Boot text config stored start zone carry) (Line source number cmd) f g e = absurd g
+one_first all all' (Boot text config stored start zone carry) (Step worker serial branch item) f g e = absurd g
+one_first all all' (Boot text config stored start zone carry) (Again number start' stored' carry') f g e = absurd g
+one_first all all' (Boot text config stored start zone carry) (Boot text' config' stored' start' zone' carry') f g e =
+    let feed = entry_feed all (Boot text config stored start zone carry) in
     let same = one_parts feed.line (boot_line text stored start zone) (boot_line text' stored' start' zone')
-    (first_line feed.line (boot_line text stored start zone) config f (λ other. feed.shown_is)) f.utf8
-    (first_line feed.line (boot_line text' stored' start' zone') config' g (λ other. feed.shown_is ∙ e)) g.utf8 in
-    let configs = ok_same config config' (sym f.config_is ∙ (λ i. config_of (same i).text) ∙ g.config_is) in
-    (λ i. Boot (same i).text (configs i) (same i).stored (same i).start (same i).zone)
+    (first_line feed.line (boot_line text stored start zone) config f.0 (λ other. feed.shown_is)) f.0.utf8
+    (first_line feed.line (boot_line text' stored' start' zone') config' g.0 (λ other. feed.shown_is ∙ e)) g.0.utf8 in
+    let configs = ok_same config config' (sym f.0.config_is ∙ (λ i. config_of (same i).text) ∙ g.0.config_is) in
+    let carries : carry ≡ carry' = f.1 ∙ sym g.1 in
+    (λ i. Boot (same i).text (configs i) (same i).stored (same i).start (same i).zone (carries i))

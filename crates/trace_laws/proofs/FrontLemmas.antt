@@ -4,10 +4,10 @@ use Rattle.std.proofs.lemmas.List.Folds.{list_all-append}
 use Rattle.std.specs.List.{list_all}
 use Rattle.std.specs.Prelude.{◌⊎◌, Some}
 use Rattle.ha_journal.specs.declared.entry.Entry.{Entry}
-use Rattle.ha_journal.specs.declared.entry.Entry.TheVariants.{Boot, Line, Step}
+use Rattle.ha_journal.specs.declared.entry.Entry.TheVariants.{Boot, Line, Step, Again}
 use Rattle.ha_config.specs.Words.{EachAfter, EachFrom, EachWith}
 use Rattle.ha_journal.specs.Journal.{HasEntry, IsJournal, Journal}
-use Rattle.ha_journal.specs.Entries.{IsBoot}
+use Rattle.ha_journal.specs.Entries.{BeginsSegment}
 use Rattle.ha_model.specs.Records.{Records, records_of}
 use Rattle.ha_model.specs.Lawful.{IsDue, IsRightEntry, IsTurn, Lawful, is_by_worker_0, is_rested, pick}
 use Rattle.ha_model.proofs.AppendLemmas.{each-snoc, ready-same, SameUpTo}
@@ -30,7 +30,7 @@ from-front P n (x ∷ xs) ys h = (h.0, from-front P (suc n) xs ys h.1)
 
 journal-front : (j ys : Journal) → HasEntry j → IsJournal (j ++ ys) → IsJournal j
 journal-front [] ys h is = absurd h
-journal-front (e ∷ es) ys h is = (is.0, from-front (λ n x. ¬ IsBoot x) 1 es ys is.1)
+journal-front (e ∷ es) ys h is = (is.0, from-front (λ n x. ¬ BeginsSegment x) 1 es ys is.1)
 
 -- ---- by the records of the front
 
@@ -39,7 +39,8 @@ module _ (n : ℕ) (rs rs' : Records) (same : SameUpTo n rs rs') where
   entry-back d y lt h = right-back (length d) rs rs' (same-less n (length d) (omega arith) rs rs' same) d y refl h
 
   turn-back : (d : Journal) (y : Entry) → length d < n → IsTurn rs' d y → IsTurn rs d y
-  turn-back d (Boot text config stored start zone) lt h = tt
+  turn-back d (Boot text config stored start zone carry) lt h = tt
+  turn-back d (Again number start stored carry) lt h = tt
   turn-back d (Line k number cmd) lt h = (h.0, rested-same n rs rs' same k d (omega arith) ∙ h.1, h.2, h.3)
   turn-back d (Step k serial branch item) lt h =
       let back = sym (ready-same n rs rs' same d (omega arith)) in
@@ -47,8 +48,10 @@ module _ (n : ℕ) (rs rs' : Records) (same : SameUpTo n rs rs') where
 
   due-back : (before xs ys : Journal) → length before + length xs ≤ n → EachWith (IsDue rs') before (xs ++ ys) → EachWith (IsDue rs) before xs
   due-back before [] ys le h = tt
-  due-back before (Boot text config stored start zone ∷ xs) ys le h =
-      (tt, due-back (before ++ (Boot text config stored start zone ∷ [])) xs ys (omega (arith, length-append before (Boot text config stored start zone ∷ []))) h.1)
+  due-back before (Boot text config stored start zone carry ∷ xs) ys le h =
+      (tt, due-back (before ++ (Boot text config stored start zone carry ∷ [])) xs ys (omega (arith, length-append before (Boot text config stored start zone carry ∷ []))) h.1)
+  due-back before (Again number start stored carry ∷ xs) ys le h =
+      (tt, due-back (before ++ (Again number start stored carry ∷ [])) xs ys (omega (arith, length-append before (Again number start stored carry ∷ []))) h.1)
   due-back before (Line k number cmd ∷ xs) ys le h =
       (tt, due-back (before ++ (Line k number cmd ∷ [])) xs ys (omega (arith, length-append before (Line k number cmd ∷ []))) h.1)
   due-back before (Step k serial branch item ∷ xs) ys le h =
@@ -76,14 +79,17 @@ front_lawful j ys rs h lawful =
 
 abbrev pub AllKnown : Journal → Type 0
 AllKnown [] = Unit {0}
-AllKnown (Boot text config stored start zone ∷ xs) = AllKnown xs
+AllKnown (Boot text config stored start zone carry ∷ xs) = AllKnown xs
+AllKnown (Again number start stored carry ∷ xs) = AllKnown xs
 AllKnown (Line source number cmd ∷ xs) = AllKnown xs
 AllKnown (Step worker serial branch item ∷ xs) = (worker < 16) × AllKnown xs
 
 known-from : (rs : Records) (before xs : Journal) → EachAfter (IsTurn rs) [] before → EachAfter (IsTurn rs) before xs → EachWith (IsDue rs) before xs → AllKnown xs
 known-from rs before [] old new due = tt
-known-from rs before (Boot text config stored start zone ∷ xs) old new due =
-    let x : Entry = Boot text config stored start zone in known-from rs (before ++ (x ∷ [])) xs (each-snoc (IsTurn rs) [] before x old new.0) new.1 due.1
+known-from rs before (Boot text config stored start zone carry ∷ xs) old new due =
+    let x : Entry = Boot text config stored start zone carry in known-from rs (before ++ (x ∷ [])) xs (each-snoc (IsTurn rs) [] before x old new.0) new.1 due.1
+known-from rs before (Again number start stored carry ∷ xs) old new due =
+    let x : Entry = Again number start stored carry in known-from rs (before ++ (x ∷ [])) xs (each-snoc (IsTurn rs) [] before x old new.0) new.1 due.1
 known-from rs before (Line source number cmd ∷ xs) old new due =
     let x : Entry = Line source number cmd in known-from rs (before ++ (x ∷ [])) xs (each-snoc (IsTurn rs) [] before x old new.0) new.1 due.1
 known-from rs before (Step worker serial branch item ∷ xs) old new due =

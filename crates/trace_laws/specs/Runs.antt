@@ -4,12 +4,13 @@ use Rattle.ha_clock.specs.Local.{last_moment}
 use Rattle.ha_clock.specs.Zone.{zone_of}
 use Rattle.ha_config.specs.declared.config.Config.{Config}
 use Rattle.ha_journal.specs.declared.entry.Entry.{Entry}
-use Rattle.ha_journal.specs.declared.entry.Entry.TheVariants.{Boot, Line, Step}
+use Rattle.ha_journal.specs.declared.entry.Entry.TheVariants.{Boot, Line, Step, Again}
 use Rattle.ha_config.specs.Words.{Text}
 use Rattle.ha_journal.specs.Journal.{HasEntry, Journal, automations, more}
 use Rattle.ha_model.specs.Records.{Records}
 use Rattle.ha_model.specs.Lawful.{Lawful, is_quiet}
 use Rattle.ha_config.specs.CheckText.{as_line}
+use Rattle.ha_journal.specs.Entries.{first_carry}
 use Rattle.ha_journal.specs.EntryText.{trace_line, trace_text}
 use Rattle.conf_auto.specs.Config.{config_of}
 use Rattle.ha_replay.specs.declared.boot.BootLine.{BootLine}
@@ -30,9 +31,10 @@ abbrev pub boot_line : Text → Option Switches → ℕ → Text → BootLine
 boot_line text stored start zone = record { text = text; stored = stored; start = start; zone = zone }
 
 abbrev pub IsFirst : Entry → Type 0
-IsFirst (Boot text config stored start zone) = IsConfigured (boot_line text stored start zone) config
+IsFirst (Boot text config stored start zone carry) = IsConfigured (boot_line text stored start zone) config × (carry ≡ first_carry)
 IsFirst (Line source number cmd) = ⊥
 IsFirst (Step worker serial branch item) = ⊥
+IsFirst (Again number start stored carry) = ⊥
 
 -- ---- runs
 

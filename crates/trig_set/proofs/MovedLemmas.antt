@@ -20,7 +20,7 @@ use Rattle.ha_config.specs.Words.{Text, Pairs, same, same_entity, first_pair, on
 use Rattle.std.specs.List.{list_all}
 use Rattle.ha_config.specs.Numbers.{in_bounds}
 use Rattle.ha_value.specs.declared.value.Num.{Num}
-use Rattle.ha_journal.specs.declared.entry.Entry.TheVariants.{Boot, Line, Step}
+use Rattle.ha_journal.specs.declared.entry.Entry.TheVariants.{Boot, Line, Step, Again}
 use Rattle.ha_journal.specs.Journal.{Journal, HasEntry, IsJournal, zone_of, now, more}
 use Rattle.ha_sight.specs.Sight.{Sight}
 use Rattle.ha_journal.specs.States.{states}
@@ -202,7 +202,8 @@ module _ (j : Journal) (x : Entry) (t : Trigger) (e : Option EntityId) (since : 
 
 -- where no segment opens there is an entry before
 pub has-past : (j : Journal) (x : Entry) → IsJournal (more j x) → opens_segment x ≡ false → HasEntry j
-has-past [] (Boot text config stored start zone) journal opens = cc
+has-past [] (Boot text config stored start zone carry) journal opens = cc
+has-past [] (Again number start stored carry) journal opens = absurd journal.0
 has-past [] (Line source number cmd) journal opens = absurd journal.0
 has-past [] (Step worker serial branch item) journal opens = absurd journal.0
 has-past (y ∷ ys) x journal opens = tt

@@ -4,9 +4,9 @@ use Rattle.std.specs.Prelude.{Option, Some, None, IsSome, MatchOption, slice_get
 use Rattle.std.proofs.lemmas.List.{take_all}
 use Rattle.ha_clock.specs.Zone as clock
 use Rattle.ha_journal.specs.declared.entry.Entry.{Entry}
-use Rattle.ha_journal.specs.declared.entry.Entry.TheVariants.{Boot, Line, Step}
+use Rattle.ha_journal.specs.declared.entry.Entry.TheVariants.{Boot, Line, Step, Again}
 use Rattle.ha_config.specs.Words.{Text, EachFrom}
-use Rattle.ha_journal.specs.Entries.{boot_of, IsBoot}
+use Rattle.ha_journal.specs.Entries.{boot_of, BeginsSegment}
 use Rattle.ha_journal.specs.Journal.{Journal, IsJournal, HasEntry, zone_of, now, more}
 use Rattle.ha_journal.specs.Moves.{sight}
 use Rattle.trig_set.specs.declared.owners.Attached.{Attached}
@@ -14,8 +14,8 @@ use Rattle.trig_set.specs.Next.{has_earlier}
 use Rattle.trig_set.specs.Order.{owner_of}
 use Rattle.trig_set.specs.Stands.{AllOwners}
 
--- the last entry of a journal that has others is no Boot
-each-last : (n : ℕ) (xs : List Entry) (x : Entry) → EachFrom (λ n x. ¬ IsBoot x) n (xs ++ (x ∷ [])) → IsBoot x → ⊥
+-- the last entry of a journal that has others is no Boot and no Again
+each-last : (n : ℕ) (xs : List Entry) (x : Entry) → EachFrom (λ n x. ¬ BeginsSegment x) n (xs ++ (x ∷ [])) → BeginsSegment x → ⊥
 each-last n [] x h = h.0
 each-last n (y ∷ ys) x h = each-last (suc n) ys x h.1
 
@@ -24,10 +24,12 @@ pub zone-next : (j : Journal) (x : Entry) (old new : Option Text) → IsJournal 
     → (HasEntry j → MatchOption old ⊥ (λ z. z ≡ zone_of j))
     → MatchOption (boot_of x) (new ≡ old) (λ b. IsSome (clock.zone_of b.zone) → new ≡ Some b.zone)
     → MatchOption new ⊥ (λ z. z ≡ zone_of (more j x))
-zone-next [] (Boot text config stored start zone) old new journal some was is = subst (λ o. MatchOption o ⊥ (λ z. z ≡ zone)) (sym (is some)) refl
+zone-next [] (Boot text config stored start zone carry) old new journal some was is = subst (λ o. MatchOption o ⊥ (λ z. z ≡ zone)) (sym (is some)) refl
 zone-next [] (Line source number cmd) old new journal some was is = absurd journal.0
+zone-next [] (Again number start stored carry) old new journal some was is = absurd journal.0
 zone-next [] (Step worker serial branch item) old new journal some was is = absurd journal.0
-zone-next (y ∷ ys) (Boot text config stored start zone) old new journal some was is = absurd (each-last 1 ys (Boot text config stored start zone) journal.1 tt)
+zone-next (y ∷ ys) (Boot text config stored start zone carry) old new journal some was is = absurd (each-last 1 ys (Boot text config stored start zone carry) journal.1 tt)
+zone-next (y ∷ ys) (Again number start stored carry) old new journal some was is = absurd (each-last 1 ys (Again number start stored carry) journal.1 tt)
 zone-next (y ∷ ys) (Line source number cmd) old new journal some was is = subst (λ o. MatchOption o ⊥ (λ z. z ≡ zone_of (y ∷ ys))) (sym is) (was tt)
 zone-next (y ∷ ys) (Step worker serial branch item) old new journal some was is = subst (λ o. MatchOption o ⊥ (λ z. z ≡ zone_of (y ∷ ys))) (sym is) (was tt)
 

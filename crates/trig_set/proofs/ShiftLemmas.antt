@@ -7,7 +7,7 @@ use Rattle.ha_value.specs.declared.value.EntityId.{EntityId}
 use Rattle.ha_config.specs.declared.config.Automation.{Automation}
 use Rattle.ha_config.specs.declared.command.Cmd.{Cmd}
 use Rattle.ha_journal.specs.declared.entry.Entry.{Entry}
-use Rattle.ha_journal.specs.declared.entry.Entry.TheVariants.{Boot, Line, Step}
+use Rattle.ha_journal.specs.declared.entry.Entry.TheVariants.{Boot, Line, Step, Again}
 use Rattle.ha_sight.specs.declared.state.StateObject.{StateObject}
 use Rattle.ha_sight.specs.Calls.{automation_at}
 use Rattle.ha_journal.specs.Entries.{report_in, gone_in, is_restart}
@@ -121,7 +121,8 @@ module _ (j : Journal) (e : EntityId) where
       (if sym s i || option_map_or (λ y. same_entity y e) (sym g i) false then None else face (reported j e)))
 
   next : (x : Entry) → face (reported (more j x) e) ≡ next_face x e (face (reported j e))
-  next (Boot text config stored start zone) = other (Boot text config stored start zone) refl refl refl
+  next (Boot text config stored start zone carry) = other (Boot text config stored start zone carry) refl refl refl
+  next (Again number start stored carry) = other (Again number start stored carry) refl refl refl
   next (Step worker serial branch item) = other (Step worker serial branch item) refl refl refl
   next (Line k n (Cmd.Report entity text attributes)) = ap face (reported-report j e k n entity text attributes) ∙ by (same_entity entity e)
     where

@@ -6,7 +6,7 @@ ghost use Rattle.ha_config.specs.Sound.{are_sound_triggers};
 use cond_eval::View;
 use ha_clock::{Moment, Zone};
 use ha_config::{Cmd, Config, Trigger};
-use ha_journal::{Entry, Firing};
+use ha_journal::{Carry, Entry, Firing};
 use ha_sight::StateObject;
 use ha_value::{EntityId, Many, Num, Plain, Value, Word};
 use state_table::StateTable;
@@ -142,6 +142,7 @@ fn line(alloc: Global, step: Step<'_>, now: u64) -> Result<Many<Entry>, AllocErr
 fn boot(alloc: Global, zone: &str, start: u64) -> Result<Many<Entry>, AllocError> {
     let (text, zone) = (Word::new(alloc), Word::from_str(alloc, zone)?);
     let automations = Many::make(alloc);
+    let carry = Carry::first(alloc)?;
     entries(
         alloc,
         Entry::Boot {
@@ -150,6 +151,7 @@ fn boot(alloc: Global, zone: &str, start: u64) -> Result<Many<Entry>, AllocError
             stored: None,
             start: moment(start),
             zone,
+            carry,
         },
     )
 }

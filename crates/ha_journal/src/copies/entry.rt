@@ -13,12 +13,14 @@ impl Plain for Entry {
                 stored,
                 start,
                 zone,
+                carry,
             } => Ok(Entry::Boot {
                 text: text.copy(alloc)?,
                 config: config.copy(alloc)?,
                 stored: stored.copy(alloc)?,
                 start: *start,
                 zone: zone.copy(alloc)?,
+                carry: carry.copy(alloc)?,
             }),
             Entry::Line {
                 source,
@@ -40,6 +42,17 @@ impl Plain for Entry {
                 branch: branch.copy(alloc)?,
                 item: item.copy(alloc)?,
             }),
+            Entry::Again {
+                number,
+                start,
+                stored,
+                carry,
+            } => Ok(Entry::Again {
+                number: *number,
+                start: *start,
+                stored: stored.copy(alloc)?,
+                carry: carry.copy(alloc)?,
+            }),
         }
     }
 
@@ -51,6 +64,7 @@ impl Plain for Entry {
                 stored,
                 start,
                 zone,
+                carry,
             } => match other {
                 Entry::Boot {
                     text: other_text,
@@ -58,12 +72,14 @@ impl Plain for Entry {
                     stored: other_stored,
                     start: other_start,
                     zone: other_zone,
+                    carry: other_carry,
                 } => {
                     text.same(other_text)
                         && config.same(other_config)
                         && stored.same(other_stored)
                         && *start == *other_start
                         && zone.same(other_zone)
+                        && carry.same(other_carry)
                 }
                 _ => false,
             },
@@ -95,6 +111,25 @@ impl Plain for Entry {
                         && *serial == *other_serial
                         && branch.same(other_branch)
                         && item.same(other_item)
+                }
+                _ => false,
+            },
+            Entry::Again {
+                number,
+                start,
+                stored,
+                carry,
+            } => match other {
+                Entry::Again {
+                    number: other_number,
+                    start: other_start,
+                    stored: other_stored,
+                    carry: other_carry,
+                } => {
+                    *number == *other_number
+                        && *start == *other_start
+                        && stored.same(other_stored)
+                        && carry.same(other_carry)
                 }
                 _ => false,
             },

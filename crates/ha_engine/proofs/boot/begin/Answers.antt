@@ -20,10 +20,10 @@ pub returns-clause-runs : goal.returns-clause-runs
 returns-clause-runs c =
     let h = c.requires in
     let k : Journal = c.args.journal.now in
-    let x : Entry = Boot h.text h.config h.stored c.args.start c.args.zone in
+    let x : Entry = Boot h.text h.config h.stored c.args.start c.args.zone h.carry in
     let old : c.make_room.new.runs.list ≡ [] = c.make_room.ensures.list ∙ c.make-runs.ensures in
     let size : length k ≡ 1 = ap length h.journal_is in
-    let table : IsTable k c.make_room.new.runs.list = subst (λ (l : Records). IsTable k l) (sym old) (subst (λ (i : Journal). IsTable i []) (sym h.journal_is) (boot-table h.text h.config h.stored c.args.start c.args.zone)) in
+    let table : IsTable k c.make_room.new.runs.list = subst (λ (l : Records). IsTable k l) (sym old) (subst (λ (i : Journal). IsTable i []) (sym h.journal_is) (boot-table h.text h.config h.stored c.args.start c.args.zone h.carry)) in
     let going : Going nobody k c.make_room.new.runs.list c.make_room.new.parts = subst (λ (l : Records). Going nobody k l c.make_room.new.parts) (sym old) (c.in_ok-make_room.ensures.going k [] c.in_ok-parts.ensures.going) in
     let told = c.admit_all.ensures.all k (passing k) c.in_ok-stack.ensures (omega (arith, size)) (omega (arith, size)) table going in
     let list : c.admit_all.new.runs.list ≡ records_of k
@@ -34,24 +34,24 @@ pub returns-clause-right : goal.returns-clause-right
 returns-clause-right c =
     let h = c.requires in
     let k : Journal = c.args.journal.now in
-    let x : Entry = Boot h.text h.config h.stored c.args.start c.args.zone in
+    let x : Entry = Boot h.text h.config h.stored c.args.start c.args.zone h.carry in
     let old : c.make_room.new.runs.list ≡ [] = c.make_room.ensures.list ∙ c.make-runs.ensures in
     let size : length k ≡ 1 = ap length h.journal_is in
-    let table : IsTable k c.make_room.new.runs.list = subst (λ (l : Records). IsTable k l) (sym old) (subst (λ (i : Journal). IsTable i []) (sym h.journal_is) (boot-table h.text h.config h.stored c.args.start c.args.zone)) in
+    let table : IsTable k c.make_room.new.runs.list = subst (λ (l : Records). IsTable k l) (sym old) (subst (λ (i : Journal). IsTable i []) (sym h.journal_is) (boot-table h.text h.config h.stored c.args.start c.args.zone h.carry)) in
     let going : Going nobody k c.make_room.new.runs.list c.make_room.new.parts = subst (λ (l : Records). Going nobody k l c.make_room.new.parts) (sym old) (c.in_ok-make_room.ensures.going k [] c.in_ok-parts.ensures.going) in
     let told = c.admit_all.ensures.all k (passing k) c.in_ok-stack.ensures (omega (arith, size)) (omega (arith, size)) table going in
     let list : c.admit_all.new.runs.list ≡ records_of k
     = told.0 ∙ (λ i. all_tried k (old i) (passing k)) ∙ subst (λ (i : Journal). all_tried i [] (passing i) ≡ records_of i) (sym h.journal_is) (by-first-calls x tt) in
-    subst (λ (l : Records). Right k l) (sym list) (subst (λ (i : Journal). Right i (records_of i)) (sym h.journal_is) (boot-right h.text h.config h.stored c.args.start c.args.zone))
+    subst (λ (l : Records). Right k l) (sym list) (subst (λ (i : Journal). Right i (records_of i)) (sym h.journal_is) (boot-right h.text h.config h.stored c.args.start c.args.zone h.carry))
 
 pub returns-clause-kept : goal.returns-clause-kept
 returns-clause-kept c =
     let h = c.requires in
     let k : Journal = c.args.journal.now in
-    let x : Entry = Boot h.text h.config h.stored c.args.start c.args.zone in
+    let x : Entry = Boot h.text h.config h.stored c.args.start c.args.zone h.carry in
     let old : c.make_room.new.runs.list ≡ [] = c.make_room.ensures.list ∙ c.make-runs.ensures in
     let size : length k ≡ 1 = ap length h.journal_is in
-    let table : IsTable k c.make_room.new.runs.list = subst (λ (l : Records). IsTable k l) (sym old) (subst (λ (i : Journal). IsTable i []) (sym h.journal_is) (boot-table h.text h.config h.stored c.args.start c.args.zone)) in
+    let table : IsTable k c.make_room.new.runs.list = subst (λ (l : Records). IsTable k l) (sym old) (subst (λ (i : Journal). IsTable i []) (sym h.journal_is) (boot-table h.text h.config h.stored c.args.start c.args.zone h.carry)) in
     let going : Going nobody k c.make_room.new.runs.list c.make_room.new.parts = subst (λ (l : Records). Going nobody k l c.make_room.new.parts) (sym old) (c.in_ok-make_room.ensures.going k [] c.in_ok-parts.ensures.going) in
     let told = c.admit_all.ensures.all k (passing k) c.in_ok-stack.ensures (omega (arith, size)) (omega (arith, size)) table going in
     let list : c.admit_all.new.runs.list ≡ records_of k
@@ -61,5 +61,5 @@ returns-clause-kept c =
     record {
       going = told.1;
       rested_is = subst (λ (l : List Bool). RestedKept k c.admit_all.new.runs.list l) (sym flags)
-          (subst (λ (i : Journal). RestedKept i c.admit_all.new.runs.list (trues 16)) (sym h.journal_is) (boot-rested h.text h.config h.stored c.args.start c.args.zone c.admit_all.new.runs.list));
+          (subst (λ (i : Journal). RestedKept i c.admit_all.new.runs.list (trues 16)) (sym h.journal_is) (boot-rested h.text h.config h.stored c.args.start c.args.zone h.carry c.admit_all.new.runs.list));
     }

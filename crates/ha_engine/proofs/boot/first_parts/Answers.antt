@@ -22,7 +22,7 @@ pub returns-clause-going : goal.returns-clause-going
 returns-clause-going c =
     let h = c.in_ok-states.ensures.begun in
     let opened = c.in_ok-states.ensures.opened in
-    let x : Entry = Boot h.text h.config h.stored c.args.start c.args.zone in
+    let x : Entry = Boot h.text h.config h.stored c.args.start c.args.zone h.carry in
     let k : Journal = x ∷ [] in
     let table = c.in_ok-states.states in
     let t = c.in_ok-states.triggers in
@@ -44,7 +44,7 @@ returns-clause-going c =
     } in
     let going : Going nobody k [] p = record {
       sees = record {
-        looks = boot-looks h.text h.config h.stored c.args.start c.args.zone h.zone_read h.in_time table opened.stand;
+        looks = boot-looks h.text h.config h.stored c.args.start c.args.zone h.carry h.zone_read h.in_time table opened.stand;
         switches_stand = subst (λ (i : Journal). switches.StandsFor c.args.switches i) h.journal_is h.switches_stand;
         changed_is = refl;
         sound = h.sound;

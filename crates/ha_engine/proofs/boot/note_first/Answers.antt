@@ -22,15 +22,15 @@ pub returns-clause-stands : goal.returns-clause-stands
 returns-clause-stands c =
     let h = c.requires.begun in
     let k : Journal = c.args.journal.now in
-    let x : Entry = Boot h.text h.config h.stored c.args.start c.args.zone.now in
+    let x : Entry = Boot h.text h.config h.stored c.args.start c.args.zone.now h.carry in
     let t = c.args.triggers.now in
     let last : c.last_entry.result.now ≡ x = c.last_entry.ensures [] x h.journal_is in
-    let looks = boot-looks h.text h.config h.stored c.args.start c.args.zone.now h.zone_read h.in_time c.args.states.now c.requires.opened.stand in
+    let looks = boot-looks h.text h.config h.stored c.args.start c.args.zone.now h.carry h.zone_read h.in_time c.args.states.now c.requires.opened.stand in
     let sees : seen c.make-view.result ≡ sight k (length k)
     = c.make-view.ensures ∙ parts_see c.args.states.now c.configuration.result.now c.args.zone.now c.args.start k (view-of k c.args.states.now c.configuration.result.now c.args.zone.now c.args.start
     (subst (λ (i : Journal). Looks i c.args.states.now c.args.zone.now c.args.start) (sym h.journal_is) looks) (subst AreSound (sym h.journal_is) h.sound) c.configuration.ensures) in
     let first : IsNext [] 0 x [] (seen c.make-view.result) (triggers.attached t)
-    = boot-next h.text h.config h.stored c.args.start c.args.zone.now h.sound h.zone_read h.in_time c.args.states.now t c.requires.opened (seen c.make-view.result)
+    = boot-next h.text h.config h.stored c.args.start c.args.zone.now h.carry h.sound h.zone_read h.in_time c.args.states.now t c.requires.opened (seen c.make-view.result)
     (subst (λ (i : Journal). seen c.make-view.result ≡ sight i (length i)) h.journal_is sees) in
     let next : IsNext [] 0 c.last_entry.result.now c.make.result (seen c.make-view.result) (triggers.attached t)
     = subst (λ (b : Listed). IsNext [] 0 c.last_entry.result.now b (seen c.make-view.result) (triggers.attached t)) (sym c.make.ensures)
@@ -42,15 +42,15 @@ pub returns-clause-fired : goal.returns-clause-fired
 returns-clause-fired c =
     let h = c.requires.begun in
     let k : Journal = c.args.journal.now in
-    let x : Entry = Boot h.text h.config h.stored c.args.start c.args.zone.now in
+    let x : Entry = Boot h.text h.config h.stored c.args.start c.args.zone.now h.carry in
     let t = c.args.triggers.now in
     let last : c.last_entry.result.now ≡ x = c.last_entry.ensures [] x h.journal_is in
-    let looks = boot-looks h.text h.config h.stored c.args.start c.args.zone.now h.zone_read h.in_time c.args.states.now c.requires.opened.stand in
+    let looks = boot-looks h.text h.config h.stored c.args.start c.args.zone.now h.carry h.zone_read h.in_time c.args.states.now c.requires.opened.stand in
     let sees : seen c.make-view.result ≡ sight k (length k)
     = c.make-view.ensures ∙ parts_see c.args.states.now c.configuration.result.now c.args.zone.now c.args.start k (view-of k c.args.states.now c.configuration.result.now c.args.zone.now c.args.start
     (subst (λ (i : Journal). Looks i c.args.states.now c.args.zone.now c.args.start) (sym h.journal_is) looks) (subst AreSound (sym h.journal_is) h.sound) c.configuration.ensures) in
     let first : IsNext [] 0 x [] (seen c.make-view.result) (triggers.attached t)
-    = boot-next h.text h.config h.stored c.args.start c.args.zone.now h.sound h.zone_read h.in_time c.args.states.now t c.requires.opened (seen c.make-view.result)
+    = boot-next h.text h.config h.stored c.args.start c.args.zone.now h.carry h.sound h.zone_read h.in_time c.args.states.now t c.requires.opened (seen c.make-view.result)
     (subst (λ (i : Journal). seen c.make-view.result ≡ sight i (length i)) h.journal_is sees) in
     let next : IsNext [] 0 c.last_entry.result.now c.make.result (seen c.make-view.result) (triggers.attached t)
     = subst (λ (b : Listed). IsNext [] 0 c.last_entry.result.now b (seen c.make-view.result) (triggers.attached t)) (sym c.make.ensures)

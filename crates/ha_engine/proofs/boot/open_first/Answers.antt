@@ -9,7 +9,7 @@ use Rattle.ha_engine.proofs.boot.open_first.Goals as goal
 pub open_all-requires : goal.open_all-requires
 open_all-requires c =
     let h = c.requires in
-    boot-opening h.text h.config h.stored c.args.start c.args.zone.now h.sound c.args.switches.now (subst (λ (i : Journal). StandsFor c.args.switches.now i) h.journal_is h.switches_stand)
+    boot-opening h.text h.config h.stored c.args.start c.args.zone.now h.carry h.sound c.args.switches.now (subst (λ (i : Journal). StandsFor c.args.switches.now i) h.journal_is h.switches_stand)
     c.make-states.result c.make-triggers.result (λ e. c.make-states.ensures e ∙ sym (states-empty e)) c.make-triggers.ensures.empty c.make-triggers.ensures.stands c.as_slice.result.now
     (c.as_slice.ensures ∙ c.configuration.ensures ∙ ap automations h.journal_is)
 
@@ -21,6 +21,7 @@ returns c =
         text = h.text;
         config = h.config;
         stored = h.stored;
+        carry = h.carry;
         journal_is = h.journal_is;
         sound = h.sound;
         zone_read = h.zone_read;
@@ -28,7 +29,7 @@ returns c =
         switches_stand = h.switches_stand;
       };
       opened = c.in_ok-open_all.ensures
-          (boot-opening h.text h.config h.stored c.args.start c.args.zone.now h.sound c.args.switches.now (subst (λ (i : Journal). StandsFor c.args.switches.now i) h.journal_is h.switches_stand)
+          (boot-opening h.text h.config h.stored c.args.start c.args.zone.now h.carry h.sound c.args.switches.now (subst (λ (i : Journal). StandsFor c.args.switches.now i) h.journal_is h.switches_stand)
           c.make-states.result c.make-triggers.result (λ e. c.make-states.ensures e ∙ sym (states-empty e)) c.make-triggers.ensures.empty c.make-triggers.ensures.stands c.as_slice.result.now
           (c.as_slice.ensures ∙ c.configuration.ensures ∙ ap automations h.journal_is));
     }
