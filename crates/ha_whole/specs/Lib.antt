@@ -1,0 +1,4 @@
+pub mod Lasts
+pub mod Named
+pub mod Segments
+pub mod Whole

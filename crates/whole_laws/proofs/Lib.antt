@@ -1,0 +1,17 @@
+pub mod CutLemmas
+pub mod OwnLemmas
+pub mod GrowthLemmas
+pub mod PrefixLemmas
+pub mod AnswerLemmas
+pub mod LiftLemmas
+pub mod TableShift
+pub mod EachLemmas
+pub mod ViewLemmas
+pub mod OneSegment
+pub mod SeenLemmas
+pub mod FrontLemmas
+pub mod OpeningLemmas
+pub mod ClosingLemmas
+pub mod OneSource
+pub mod NamedLemmas
+pub mod RestLemmas

@@ -1,0 +1,16 @@
+-- The segments of a journal, each read alone.
+use Rattle.std.specs.Prelude.{◌≡◌, List, [], ◌∷◌, None}
+use Rattle.ha_journal.specs.Entries.{again_in}
+use Rattle.ha_journal.specs.Journal.{Journal}
+use Rattle.ha_model.specs.Records.{records_of}
+use Rattle.ha_model.specs.Lawful.{Right}
+
+-- each is right with its own records
+abbrev pub EachRight : List Journal → Type 0
+EachRight [] = Unit {0}
+EachRight (s ∷ ss) = Right s (records_of s) × EachRight ss
+
+-- no Again stands in it
+abbrev pub HasNoAgain : Journal → Type 0
+HasNoAgain [] = Unit {0}
+HasNoAgain (x ∷ xs) = (again_in x ≡ None) × HasNoAgain xs

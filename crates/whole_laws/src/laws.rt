@@ -1,0 +1,144 @@
+//! Laws of whole journals, which are read segment by segment. Each is a function that does nothing; its contract is the law.
+ghost use Rattle.std.specs.Prelude.{◌≡◌, ◌<◌, ◌+◌, ℕ, List, [], ◌∷◌, ◌++◌, length, map, Bool, Option, true, false};
+ghost use Rattle.ha_config.specs.declared.command.Cmd.{Cmd};
+ghost use Rattle.ha_config.specs.declared.config.Config.{Config};
+ghost use Rattle.ha_config.specs.declared.config.Mode.{Mode};
+ghost use Rattle.ha_config.specs.declared.config.Trigger.{Trigger};
+ghost use Rattle.ha_model.specs.declared.record.EndCause.{EndCause};
+ghost use Rattle.ha_journal.specs.declared.entry.Entry.{Entry};
+ghost use Rattle.ha_journal.specs.declared.entry.Entry.TheVariants.{Boot, Line, Step};
+ghost use Rattle.ha_sight.specs.declared.item.Item.{Item};
+ghost use Rattle.ha_config.specs.Words.{Pairs, Text, EachAfter};
+ghost use Rattle.ha_config.specs.StoreText.{in_name_order as switches_in_order};
+ghost use Rattle.ha_whole.specs.Named.{in_name_order, named};
+ghost use Rattle.whole_laws.specs.Apart.{AreApart};
+ghost use Rattle.ha_journal.specs.Journal.{Journal, HasEntry, automations, IsJournal as IsJournalAlone, more};
+ghost use Rattle.ha_journal.specs.Entries.{IsBoot, first_carry};
+ghost use Rattle.ha_sight.specs.Scripts.{Branch};
+ghost use Rattle.ha_config.specs.Names.{name_of};
+ghost use Rattle.ha_journal.specs.Triggers.{firings};
+ghost use Rattle.ha_model.specs.Records.{Records, records_of as records_alone};
+ghost use Rattle.ha_model.specs.Lawful.{Right as RightAlone, is_quiet as is_quiet_alone, is_rested as is_rested_alone, ready as ready_alone};
+ghost use Rattle.ha_whole.specs.Segments.{alone, carried, carried_number, front, segment, segments};
+ghost use Rattle.ha_whole.specs.Whole.{AreEntries, IsBehind, IsBusy, IsFirst, IsTurn, Lawful, Right, Running, is_quiet, is_rested, opened, own, placed_all, put, ready, records_of};
+ghost use Rattle.run_modes.specs.Table.{attempted, called_on, ended_at, live_of, stopped};
+ghost use Rattle.ha_laws.specs.Makers.{OfOne, makers, cmds_of};
+ghost use Rattle.whole_laws.specs.Puts.{IsPut};
+ghost use Rattle.whole_laws.specs.Seen.{LiesIn};
+ghost use Rattle.whole_laws.specs.Goes.{AllEnded, GoesOn, SerialsTo, moved_all};
+ghost use Rattle.whole_laws.specs.Segments.{EachRight, HasNoAgain};
+
+/// The last segment of a journal is a journal itself, of the same automations, behind all other entries.
+pub fn the_last_segment_is_a_journal()
+    ensures journal { (j : Journal) → AreEntries j → IsJournalAlone (segment j) }
+    ensures front { (j : Journal) → AreEntries j → front j + length (segment j) ≡ length j }
+    ensures automations { (j : Journal) → AreEntries j → automations (segment j) ≡ automations j }
+{}
+
+/// The last segment alone tells who is ready, whether the journal is quiet and who is rested: its own records are those behind as many as
+/// it carries.
+pub fn the_last_segment_tells()
+    ensures own { (j : Journal) → AreEntries j → own j (records_of j) ≡ records_alone (segment j) }
+    ensures quiet { (j : Journal) (rs : Records) → Right j rs → is_quiet rs j ≡ is_quiet_alone (records_alone (segment j)) (segment j) }
+    ensures rested { (j : Journal) (rs : Records) (k : ℕ) → Right j rs → is_rested rs k j ≡ is_rested_alone (records_alone (segment j)) k (segment j) }
+    ensures ready { (j : Journal) (rs : Records) → Right j rs
+        → ready rs j ≡ map {A = ℕ × Branch} {B = ℕ × Branch} (λ p. (carried (segment j) + p.0, p.1)) (ready_alone (records_alone (segment j)) (segment j)) }
+{}
+
+/// A right journal is right with one put more where its last segment, read alone, is right with the entry.
+pub fn right_by_the_last_segment()
+    ensures { (j : Journal) (rs srs : Records) (x : Entry) → IsPut x → Right j rs → RightAlone (more (segment j) (alone (segment j) x)) srs → Right (put j x) (records_of (put j x)) }
+{}
+
+/// A lawful journal without closing steps, and right with one put more whose turn it is and whose worker is busy, is so with the new
+/// records.
+pub fn one_put_more_is_lawful()
+    ensures { (j : Journal) (rs rs' : Records) (x : Entry) → Running j rs → IsPut x → Right (put j x) rs' → IsTurn rs j x → IsBusy rs j x → Running (put j x) rs' }
+{}
+
+/// Who may step at a place, whether the journal is quiet there and who is rested is told by the entries before it: closed segments stay as
+/// they are.
+pub fn prefixes_tell()
+    ensures ready { (j : Journal) (ys : List Entry) → AreEntries j → EachAfter IsBehind j ys → ready (records_of j) j ≡ ready (records_of (j ++ ys)) j }
+    ensures quiet { (j : Journal) (ys : List Entry) → AreEntries j → EachAfter IsBehind j ys → is_quiet (records_of j) j ≡ is_quiet (records_of (j ++ ys)) j }
+    ensures rested { (j : Journal) (ys : List Entry) (k : ℕ) → AreEntries j → EachAfter IsBehind j ys → is_rested (records_of j) k j ≡ is_rested (records_of (j ++ ys)) k j }
+{}
+
+/// For a given first entry, given lines of each source and a given list of the makers of the entries, at most one journal with its
+/// records is lawful, over all its segments.
+pub fn one_answer()
+    ensures { (boot : Entry) (xs ys : Journal) (rs rs' : Records) → Lawful (boot ∷ xs) rs → Lawful (boot ∷ ys) rs'
+        → makers xs ≡ makers ys → ((q : ℕ) → cmds_of q xs ≡ cmds_of q ys) → (xs ≡ ys) × (rs ≡ rs') }
+{}
+
+/// A table of runs that goes on behind the records of closed segments, which have all ended, changes by each call as the segment's own
+/// table would.
+pub fn tables_go_on()
+    ensures live { (n base : ℕ) (num : ℕ → ℕ) (a : ℕ) (c rs : Records) → AllEnded c → live_of a (c ++ moved_all n base num rs) ≡ map {A = ℕ} {B = ℕ} (λ q. base + q) (live_of a rs) }
+    ensures stopped { (n base : ℕ) (num : ℕ → ℕ) (which : Option ℕ) (place : ℕ) (cause : EndCause) (c rs : Records) → AllEnded c
+        → stopped which (n + place) cause (c ++ moved_all n base num rs) ≡ c ++ moved_all n base num (stopped which place cause rs) }
+    ensures ended { (n base : ℕ) (num : ℕ → ℕ) (serial place : ℕ) (cause : EndCause) (c rs : Records) → SerialsTo base c → 0 < serial
+        → ended_at (base + serial) (n + place) cause (c ++ moved_all n base num rs) ≡ c ++ moved_all n base num (ended_at serial place cause rs) }
+    ensures called { (n base : ℕ) (num : ℕ → ℕ) (serial : ℕ) (c rs : Records) → SerialsTo base c → 0 < serial
+        → called_on (base + serial) (c ++ moved_all n base num rs) ≡ c ++ moved_all n base num (called_on serial rs) }
+    ensures attempted { (n base : ℕ) (num : ℕ → ℕ) (a : ℕ) (mode : Mode) (max place order : ℕ) (env : Pairs) (c rs : Records) → GoesOn base num c
+        → attempted a mode max (n + place) order env (c ++ moved_all n base num rs) ≡ c ++ moved_all n base num (attempted a mode max place order env rs) }
+    ensures placed { (n : ℕ) (s : Journal) (rs : Records) → placed_all n s rs ≡ moved_all n (carried s) (λ a. carried_number s (name_of (automations s) a)) rs }
+{}
+
+/// Each segment of a right journal is right with its own records, judged from its opening alone.
+pub fn each_segment_is_right()
+    ensures { (j : Journal) (rs : Records) → Right j rs → EachRight (segments j) }
+{}
+
+/// A journal without a Restart is its one segment, and its records are that segment's: it means what it means alone.
+pub fn one_segment_means_the_same()
+    ensures segment { (j : Journal) → AreEntries j → HasNoAgain j → segment j ≡ j }
+    ensures records { (j : Journal) → AreEntries j → HasNoAgain j → records_of j ≡ records_alone j }
+{}
+
+/// The last segment lies at the end of the flat list, behind as many entries as stand before it.
+pub fn the_last_segment_lies_at_the_end()
+    ensures { (boot : Entry) (es : Journal) → AreEntries (boot ∷ es) → LiesIn boot (boot ∷ es) }
+{}
+
+/// What a lawful journal begins with, up to any of its entries, is lawful with its own records; where it ends with a Restart, with the
+/// Again that belongs to it.
+pub fn fronts_are_lawful()
+    ensures { (j ys : Journal) (rs : Records) → HasEntry j → Lawful (j ++ ys) rs → Lawful (opened j) (records_of (opened j)) }
+{}
+
+/// At an opening the same triggers fire, with the same variables, whatever its Boot says else.
+pub fn openings_fire_alike()
+    ensures { (first again : Entry) → IsBoot first → IsBoot again → (ts : List Trigger) (since : ℕ) → firings (first ∷ []) ts since 0 ≡ firings (again ∷ []) ts since 0 }
+{}
+
+/// A lawful journal, and right with one more step of worker 0 whose turn it is, is lawful with the new records, be the step a closing one.
+pub fn closing_steps_are_lawful()
+    ensures { (j : Journal) (rs rs' : Records) (serial : ℕ) (branch : Branch) (item : Item) → Lawful j rs → Right (more j (Step 0 serial branch item)) rs'
+        → IsTurn rs j (Step 0 serial branch item) → Lawful (more j (Step 0 serial branch item)) rs' }
+{}
+
+/// With one source alone, at most one journal with that first entry and those lines is lawful and quiet, over all its segments.
+pub fn one_source()
+    ensures { (boot : Entry) (xs ys : Journal) (rs rs' : Records) → Lawful (boot ∷ xs) rs → Lawful (boot ∷ ys) rs' → OfOne xs → OfOne ys
+        → is_quiet rs (boot ∷ xs) ≡ true → is_quiet rs' (boot ∷ ys) ≡ true → ((q : ℕ) → cmds_of q xs ≡ cmds_of q ys) → (xs ≡ ys) × (rs ≡ rs') }
+{}
+
+/// Pairs whose names differ have the same value for each name where they are put in the order of the names: so the switches, numbers and
+/// moments that a segment takes over are found again.
+pub fn ordered_pairs_are_found()
+    ensures switches { (ps : List (Text × Bool)) (name : Text) → AreApart ps → named name (switches_in_order ps) ≡ named name ps }
+    ensures numbers { (ps : List (Text × ℕ)) (name : Text) → AreApart ps → named name (in_name_order ps) ≡ named name ps }
+{}
+
+/// The first segment takes nothing over.
+pub fn the_first_segment_takes_nothing_over()
+    ensures { (text : Text) (config : Config) (stored : Option (List (Text × Bool))) (start : ℕ) (zone : Text) → IsFirst (Boot text config stored start zone first_carry) }
+{}
+
+/// Where the journal is quiet each source is rested; behind a line that leaves it busy the line's source is not.
+pub fn sources_rest_where_it_is_quiet()
+    ensures rested { (j : Journal) (rs : Records) (k : ℕ) → AreEntries j → is_quiet rs j ≡ true → is_rested rs k j ≡ true }
+    ensures busy { (before : Journal) (rs : Records) (k number : ℕ) (cmd : Cmd) → is_quiet rs (more before (Line k number cmd)) ≡ false → is_rested rs k (more before (Line k number cmd)) ≡ false }
+{}
