@@ -10,35 +10,37 @@ use Rattle.ha_config.specs.Words.{same, first_pair, up_to}
 use Rattle.ha_config.specs.Equal.{same_flag}
 use Rattle.ha_config.specs.Numbers.{in_bounds}
 use Rattle.ha_journal.specs.Journal.{Journal}
+use Rattle.ha_sight.specs.Sight.{Sight}
 use Rattle.ha_sight.specs.Templates.{rendered, says}
 use Rattle.ha_sight.specs.Rules.{same_optional, starts}
 use Rattle.ha_journal.specs.Moves.{latest_number, after, moves}
 
+-- what a hold watches is the same, by what is seen after two places and the journals up to them: the state text, the attribute as written,
+-- whether the latest number is in the bounds, or whether the template is true
+abbrev pub watches : Sight → Sight → Journal → Journal → TriggerRule → Option EntityId → Bool
+watches one two first second (TriggerRule.State entities (Some name) from to) (Some e) =
+    same_optional
+    (option_and_then (λ s. first_pair name s.attributes) (one.states e))
+    (option_and_then (λ s. first_pair name s.attributes) (two.states e))
+watches one two first second (TriggerRule.State entities None from to) (Some e) =
+    option_map_or (λ s. option_map_or (λ o. same o.text s.text) (one.states e) false) (two.states e) (is_none (one.states e))
+watches one two first second (TriggerRule.State entities attribute from to) None = false
+watches one two first second (TriggerRule.Numeric entities attribute above below) (Some e) =
+    same_flag
+    (option_map_or (in_bounds above below) (latest_number e attribute first) false)
+    (option_map_or (in_bounds above below) (latest_number e attribute second) false)
+watches one two first second (TriggerRule.Numeric entities attribute above below) None = false
+watches one two first second (TriggerRule.Template t) (Some e) = false
+watches one two first second (TriggerRule.Template t) None = same_flag (says (rendered one t [])) (says (rendered two t []))
+watches one two first second (TriggerRule.Event kinds pairs) e = false
+watches one two first second (TriggerRule.Time seconds) e = false
+watches one two first second (TriggerRule.Pattern hours minutes seconds) e = false
+watches one two first second TriggerRule.Start e = false
+
 module _ (j : Journal) where
-  -- what a hold watches after place p is what it is after place i: the state text, the attribute as written, whether the latest number is
-  -- in the bounds, or whether the template is true
+  -- what a hold watches after place p is what it is after place i
   abbrev pub same_watched : TriggerRule → Option EntityId → ℕ → ℕ → Bool
-  same_watched (TriggerRule.State entities (Some name) from to) (Some e) i p =
-      same_optional
-      (option_and_then (λ s. first_pair name s.attributes) ((after j i).states e))
-      (option_and_then (λ s. first_pair name s.attributes) ((after j p).states e))
-  same_watched (TriggerRule.State entities None from to) (Some e) i p =
-      option_map_or
-      (λ s. option_map_or (λ o. same o.text s.text) ((after j i).states e) false)
-      ((after j p).states e)
-      (is_none ((after j i).states e))
-  same_watched (TriggerRule.State entities attribute from to) None i p = false
-  same_watched (TriggerRule.Numeric entities attribute above below) (Some e) i p =
-      same_flag
-      (option_map_or (in_bounds above below) (latest_number e attribute (take (suc i) j)) false)
-      (option_map_or (in_bounds above below) (latest_number e attribute (take (suc p) j)) false)
-  same_watched (TriggerRule.Numeric entities attribute above below) None i p = false
-  same_watched (TriggerRule.Template t) (Some e) i p = false
-  same_watched (TriggerRule.Template t) None i p = same_flag (says (rendered (after j i) t [])) (says (rendered (after j p) t []))
-  same_watched (TriggerRule.Event kinds pairs) e i p = false
-  same_watched (TriggerRule.Time seconds) e i p = false
-  same_watched (TriggerRule.Pattern hours minutes seconds) e i p = false
-  same_watched TriggerRule.Start e i p = false
+  same_watched rule e i p = watches (after j i) (after j p) (take (suc i) j) (take (suc p) j) rule e
 
   -- the places from i to p
   abbrev pub between : ℕ → ℕ → List ℕ

@@ -30,6 +30,27 @@ report_number e name x =
 abbrev pub latest_number : EntityId → Option Text → Journal → Option Num
 latest_number e name j = last_of (filter_map (report_number e name) (longest_end (λ x. not (opens_segment x)) j))
 
+-- the rule of a trigger moves at entry x, by what is seen before the entry and after it, and the journal before it; `held` says whether the
+-- trigger has a `for`
+abbrev pub looks : Sight → Sight → Journal → TriggerRule → Bool → Option EntityId → Entry → Bool
+looks b a past (TriggerRule.State entities attribute from to) held (Some e) x = state_moves attribute from to held (b.states e) (a.states e)
+looks b a past (TriggerRule.State entities attribute from to) held None x = false
+looks b a past (TriggerRule.Numeric entities attribute above below) held (Some e) x =
+    option_map_or (in_bounds above below) (report_number e attribute x) false
+    && not (option_map_or (in_bounds above below) (latest_number e attribute past) false)
+looks b a past (TriggerRule.Numeric entities attribute above below) held None x = false
+looks b a past (TriggerRule.Event kinds pairs) held (Some e) x = false
+looks b a past (TriggerRule.Event kinds pairs) held None x =
+    option_map_or (λ v. one_of v.0 kinds && list_all (pair_holds v.1) pairs) (event_in x) false
+looks b a past (TriggerRule.Time seconds) held (Some e) x = false
+looks b a past (TriggerRule.Time seconds) held None x = is_moment x && passed (TriggerRule.Time seconds) b.zone b.now a.now
+looks b a past (TriggerRule.Pattern hours minutes seconds) held (Some e) x = false
+looks b a past (TriggerRule.Pattern hours minutes seconds) held None x =
+    is_moment x && passed (TriggerRule.Pattern hours minutes seconds) b.zone b.now a.now
+looks b a past (TriggerRule.Template t) held (Some e) x = false
+looks b a past (TriggerRule.Template t) held None x = says (rendered a t []) && not (says (rendered b t []))
+looks b a past TriggerRule.Start held e x = false
+
 module _ (j : Journal) where
   abbrev pub before : ℕ → Sight
   before p = sight j p
@@ -37,27 +58,9 @@ module _ (j : Journal) where
   abbrev pub after : ℕ → Sight
   after p = sight j (suc p)
 
-  -- the rule of a trigger moves at place p, at which the entry is x; `held` says whether the trigger has a `for`
+  -- the rule moves at place p, at which the entry is x
   abbrev pub rule_moves : TriggerRule → Bool → Option EntityId → ℕ → Entry → Bool
-  rule_moves (TriggerRule.State entities attribute from to) held (Some e) p x =
-      state_moves attribute from to held ((before p).states e) ((after p).states e)
-  rule_moves (TriggerRule.State entities attribute from to) held None p x = false
-  rule_moves (TriggerRule.Numeric entities attribute above below) held (Some e) p x =
-      option_map_or (in_bounds above below) (report_number e attribute x) false
-      && not (option_map_or (in_bounds above below) (latest_number e attribute (take p j)) false)
-  rule_moves (TriggerRule.Numeric entities attribute above below) held None p x = false
-  rule_moves (TriggerRule.Event kinds pairs) held (Some e) p x = false
-  rule_moves (TriggerRule.Event kinds pairs) held None p x =
-      option_map_or (λ v. one_of v.0 kinds && list_all (pair_holds v.1) pairs) (event_in x) false
-  rule_moves (TriggerRule.Time seconds) held (Some e) p x = false
-  rule_moves (TriggerRule.Time seconds) held None p x =
-      is_moment x && passed (TriggerRule.Time seconds) (before p).zone (before p).now (after p).now
-  rule_moves (TriggerRule.Pattern hours minutes seconds) held (Some e) p x = false
-  rule_moves (TriggerRule.Pattern hours minutes seconds) held None p x =
-      is_moment x && passed (TriggerRule.Pattern hours minutes seconds) (before p).zone (before p).now (after p).now
-  rule_moves (TriggerRule.Template t) held (Some e) p x = false
-  rule_moves (TriggerRule.Template t) held None p x = says (rendered (after p) t []) && not (says (rendered (before p) t []))
-  rule_moves TriggerRule.Start held e p x = false
+  rule_moves rule held e p x = looks (before p) (after p) (take p j) rule held e x
 
   -- trigger t, without its `for`, holds at place p
   abbrev pub moves : Trigger → Option EntityId → ℕ → Bool

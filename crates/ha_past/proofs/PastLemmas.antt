@@ -1,23 +1,22 @@
 -- What is seen, moves and is watched at the places of a journal stays as it is with one more entry.
-use Rattle.std.proofs.Common.{◌≡◌, ℕ, suc, ◌+◌, ◌<◌, ◌≤◌, [], ◌∷◌, length, take, Bool, false, refl, sym, ◌∙◌, arith}
-use Rattle.std.specs.Prelude.{Option, Some, None, is_some, is_none, slice_get, nat_le, ◌&&◌, if◌then◌else◌}
+use Rattle.std.proofs.Common.{◌≡◌, ℕ, suc, ◌+◌, ◌<◌, ◌≤◌, [], ◌∷◌, length, Bool, false, refl, ◌∙◌, arith}
+use Rattle.std.specs.Prelude.{Option, is_some, is_none, slice_get, option_and_then, nat_le, ◌&&◌, if◌then◌else◌}
 use Rattle.std.specs.Option.{option_map_or}
 use Rattle.ha_value.specs.declared.value.EntityId.{EntityId}
 use Rattle.ha_config.specs.declared.config.Trigger.{Trigger}
 use Rattle.ha_config.specs.declared.config.TriggerRule.{TriggerRule}
 use Rattle.ha_journal.specs.declared.entry.Entry.{Entry}
-use Rattle.ha_journal.specs.Entries.{is_moment, opens_segment}
+use Rattle.ha_journal.specs.Entries.{event_in, is_moment, opens_segment}
 use Rattle.ha_journal.specs.Journal.{Journal, HasEntry, zone_of, now, more}
 use Rattle.ha_journal.specs.States.{states, switches_of}
-use Rattle.ha_journal.specs.Moves.{sight, moves, rule_moves}
-use Rattle.ha_sight.specs.Rules.{starts}
-use Rattle.ha_journal.specs.Holds.{same_watched}
+use Rattle.ha_journal.specs.Moves.{sight, moves, rule_moves, looks}
+use Rattle.ha_sight.specs.Rules.{starts, given}
+use Rattle.ha_journal.specs.Holds.{same_watched, watches}
 use Rattle.ha_journal.specs.Variables.{variables}
 use Rattle.ha_journal.proofs.SinceLaws.{take-more}
 use Rattle.ha_config.proofs.ListLemmas.{get-more}
 use Rattle.ha_journal.proofs.MoreLemmas.{length-more}
 use Rattle.ha_past.specs.Holds.{is_over}
-use Rattle.ha_past.specs.Looks.{looks, watches, given}
 
 pub zone-more : (j : Journal) (x : Entry) → HasEntry j → zone_of (more j x) ≡ zone_of j
 zone-more [] x h = absurd h
@@ -35,42 +34,10 @@ sight-more j x h n le = let t = take-more j x n le in let z = zone-more j x h in
 pub sight-whole : (j : Journal) (x : Entry) → sight (more j x) (suc (length j)) ≡ sight (more j x) (length (more j x))
 sight-whole j x = (let e : suc (length j) ≡ length (more j x) = omega (arith, length-more j x) in λ i. sight (more j x) (e i))
 
-pub moves-looks : (j : Journal) (rule : TriggerRule) (held : Bool) (e : Option EntityId) (p : ℕ) (x : Entry) → rule_moves j rule held e p x ≡ looks (sight j p) (sight j (suc p)) (take p j) rule held e x
-moves-looks j (TriggerRule.State entities attribute from to) held (Some e) p x = refl
-moves-looks j (TriggerRule.State entities attribute from to) held None p x = refl
-moves-looks j (TriggerRule.Numeric entities attribute above below) held (Some e) p x = refl
-moves-looks j (TriggerRule.Numeric entities attribute above below) held None p x = refl
-moves-looks j (TriggerRule.Event kinds pairs) held (Some e) p x = refl
-moves-looks j (TriggerRule.Event kinds pairs) held None p x = refl
-moves-looks j (TriggerRule.Time seconds) held (Some e) p x = refl
-moves-looks j (TriggerRule.Time seconds) held None p x = refl
-moves-looks j (TriggerRule.Pattern hours minutes seconds) held (Some e) p x = refl
-moves-looks j (TriggerRule.Pattern hours minutes seconds) held None p x = refl
-moves-looks j (TriggerRule.Template t) held (Some e) p x = refl
-moves-looks j (TriggerRule.Template t) held None p x = refl
-moves-looks j TriggerRule.Start held e p x = refl
-
-pub same-watches : (j : Journal) (rule : TriggerRule) (e : Option EntityId) (i p : ℕ)
-    → same_watched j rule e i p ≡ watches (sight j (suc i)) (sight j (suc p)) (take (suc i) j) (take (suc p) j) rule e
-same-watches j (TriggerRule.State entities (Some name) from to) (Some e) i p = refl
-same-watches j (TriggerRule.State entities None from to) (Some e) i p = refl
-same-watches j (TriggerRule.State entities (Some name) from to) None i p = refl
-same-watches j (TriggerRule.State entities None from to) None i p = refl
-same-watches j (TriggerRule.Numeric entities attribute above below) (Some e) i p = refl
-same-watches j (TriggerRule.Numeric entities attribute above below) None i p = refl
-same-watches j (TriggerRule.Event kinds pairs) e i p = refl
-same-watches j (TriggerRule.Time seconds) e i p = refl
-same-watches j (TriggerRule.Pattern hours minutes seconds) e i p = refl
-same-watches j (TriggerRule.Template t) (Some e) i p = refl
-same-watches j (TriggerRule.Template t) None i p = refl
-same-watches j TriggerRule.Start e i p = refl
-
 module _ (j : Journal) (x : Entry) (h : HasEntry j) where
   rule-more : (rule : TriggerRule) (held : Bool) (e : Option EntityId) (n : ℕ) (y : Entry) → n < length j → rule_moves (more j x) rule held e n y ≡ rule_moves j rule held e n y
   rule-more rule held e n y lt =
-      moves-looks (more j x) rule held e n y
-      ∙ (let b = sight-more j x h n (omega (arith, lt)) in let a = sight-more j x h (suc n) (omega (arith, lt)) in let past = take-more j x n (omega (arith, lt)) in λ i. looks (b i) (a i) (past i) rule held e y)
-      ∙ sym (moves-looks j rule held e n y)
+      (let b = sight-more j x h n (omega (arith, lt)) in let a = sight-more j x h (suc n) (omega (arith, lt)) in let past = take-more j x n (omega (arith, lt)) in λ i. looks (b i) (a i) (past i) rule held e y)
 
   -- LAW: an earlier place at which a trigger moves is one at which it moves
   pub moves-more : (t : Trigger) (e : Option EntityId) (n : ℕ) → n < length j → moves (more j x) t e n ≡ moves j t e n
@@ -80,13 +47,11 @@ module _ (j : Journal) (x : Entry) (h : HasEntry j) where
 
   pub watched-more : (rule : TriggerRule) (e : Option EntityId) (i p : ℕ) → i < length j → p < length j → same_watched (more j x) rule e i p ≡ same_watched j rule e i p
   watched-more rule e i p one two =
-      same-watches (more j x) rule e i p
-      ∙ (let a = sight-more j x h (suc i) (omega (arith, one)) in
+      (let a = sight-more j x h (suc i) (omega (arith, one)) in
       let b = sight-more j x h (suc p) (omega (arith, two)) in
       let first = take-more j x (suc i) (omega (arith, one)) in
       let second = take-more j x (suc p) (omega (arith, two)) in
       λ k. watches (a k) (b k) (first k) (second k) rule e)
-      ∙ sym (same-watches j rule e i p)
 
   pub over-more : (t : Trigger) (e : Option EntityId) (since d i q : ℕ) → i < length j → q < length j → is_over (more j x) t e since d i q ≡ is_over j t e since d i q
   over-more t e since d i q one two =
@@ -94,22 +59,6 @@ module _ (j : Journal) (x : Entry) (h : HasEntry j) where
 
 -- ---- variables
 
-variables-rule : (j : Journal) (t : Trigger) (rule : TriggerRule) (e : Option EntityId) (i : ℕ) → variables j (record t { rule = rule }) e i ≡ given (sight j i) (sight j (suc i)) (slice_get j i) (record t { rule = rule }) e
-variables-rule j t (TriggerRule.State entities attribute from to) (Some e) i = refl
-variables-rule j t (TriggerRule.State entities attribute from to) None i = refl
-variables-rule j t (TriggerRule.Numeric entities attribute above below) (Some e) i = refl
-variables-rule j t (TriggerRule.Numeric entities attribute above below) None i = refl
-variables-rule j t (TriggerRule.Event kinds pairs) e i = refl
-variables-rule j t (TriggerRule.Time seconds) e i = refl
-variables-rule j t (TriggerRule.Pattern hours minutes seconds) e i = refl
-variables-rule j t (TriggerRule.Template x) e i = refl
-variables-rule j t TriggerRule.Start e i = refl
-
-pub variables-given : (j : Journal) (t : Trigger) (e : Option EntityId) (i : ℕ) → variables j t e i ≡ given (sight j i) (sight j (suc i)) (slice_get j i) t e
-variables-given j t e i = variables-rule j t t.rule e i
-
 pub variables-more : (j : Journal) (x : Entry) → HasEntry j → (t : Trigger) (e : Option EntityId) (i : ℕ) → i < length j → variables (more j x) t e i ≡ variables j t e i
 variables-more j x h t e i lt =
-    variables-given (more j x) t e i
-    ∙ (let b = sight-more j x h i (omega (arith, lt)) in let a = sight-more j x h (suc i) (omega (arith, lt)) in let y = get-more j x i lt in λ k. given (b k) (a k) (y k) t e)
-    ∙ sym (variables-given j t e i)
+    (let b = sight-more j x h i (omega (arith, lt)) in let a = sight-more j x h (suc i) (omega (arith, lt)) in let y = get-more j x i lt in λ k. given (b k) (a k) (option_and_then event_in (y k)) t e)

@@ -131,15 +131,6 @@ module _ (j : Journal) (x : Entry) (h : HasEntry j) where
   fired-more t e since q lt u v same_made =
       first-alike (fires (more j x) t e since q) (fires j t e since q) u v 0 (suc q) (λ k le. fires-more t e since q k (omega (arith, le)) lt) (λ k le. same_made k (omega (arith, le)))
 
-  entities-alike : (rule : TriggerRule) → entities_of rule ≡ entities_of rule
-  entities-alike (TriggerRule.State entities attribute from to) = refl
-  entities-alike (TriggerRule.Numeric entities attribute above below) = refl
-  entities-alike (TriggerRule.Event kinds pairs) = refl
-  entities-alike (TriggerRule.Time seconds) = refl
-  entities-alike (TriggerRule.Pattern hours minutes seconds) = refl
-  entities-alike (TriggerRule.Template t) = refl
-  entities-alike TriggerRule.Start = refl
-
   abbrev made_by : Journal → ℕ → Trigger → Option EntityId → ℕ → Fired
   made_by k n t e i = record { trigger = n; entity = e; variables = variables k t e i }
 
@@ -152,8 +143,7 @@ module _ (j : Journal) (x : Entry) (h : HasEntry j) where
   firings-from : (since q n : ℕ) → q < length j → (ts : List Trigger) → flat_map (firings_by (more j x) since q) (enumerate_from n ts) ≡ flat_map (firings_by j since q) (enumerate_from n ts)
   firings-from since q n lt [] = refl
   firings-from since q n lt (t ∷ ts) =
-      (λ i. filter_map (firing_for (more j x) since q (n, t)) (entities-alike t.rule i) ++ flat_map (firings_by (more j x) since q) (enumerate_from (n + 1) ts))
-      ∙ (λ i. each-firing since q n lt t (entities_of t.rule) i ++ firings-from since q (n + 1) lt ts i)
+      (λ i. each-firing since q n lt t (entities_of t.rule) i ++ firings-from since q (n + 1) lt ts i)
 
   -- LAW: the firings at an earlier place are what they were
   pub firings-more : (ts : List Trigger) (since q : ℕ) → q < length j → firings (more j x) ts since q ≡ firings j ts since q

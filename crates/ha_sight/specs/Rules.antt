@@ -1,5 +1,5 @@
--- What triggers' rules ask of two sights, and the pairs of their variables.
-use Rattle.std.specs.Prelude.{ℕ, ◌/◌, ◌%◌, Bool, true, false, not, ◌&&◌, ◌||◌, nat_eq, [], Option, Some, None, option_map, option_and_then, if◌then◌else◌, List, ◌∷◌, map, codes, decimal}
+-- The kinds of triggers' rules, what they ask of two sights, and the variables that they give.
+use Rattle.std.specs.Prelude.{ℕ, ◌/◌, ◌%◌, Bool, true, false, not, ◌&&◌, ◌||◌, nat_eq, [], Option, Some, None, option_map, option_and_then, if◌then◌else◌, List, ◌∷◌, ◌++◌, map, codes, decimal}
 use Rattle.std.specs.List.{list_any}
 use Rattle.std.specs.Option.{option_map_or}
 use Rattle.ha_value.specs.declared.value.EntityId.{EntityId}
@@ -13,9 +13,56 @@ use Rattle.ha_config.specs.declared.config.TriggerRule.{TriggerRule}
 use Rattle.ha_sight.specs.declared.state.StateObject.{StateObject}
 use Rattle.ha_config.specs.Words.{Text, Pairs, same, same_entity, first_pair, one_of}
 use Rattle.ha_config.specs.Equal.{same_value, same_pairs, equal_value}
+use Rattle.ha_sight.specs.Sight.{Sight}
 use Rattle.ha_sight.specs.Conditions.{watched_text}
 use Rattle.ha_value.specs.declared.value.Value.TheVariants.{Pairs as Map}
 use Rattle.ha_value.specs.Ids.{entity_text}
+
+-- the kinds of rules
+pub data RuleKind : Type 0 where
+  OfStates : RuleKind
+  OfNumbers : RuleKind
+  OfEvents : RuleKind
+  OfTimes : RuleKind
+  OfTemplates : RuleKind
+  OfStart : RuleKind
+
+abbrev pub same_kind : RuleKind → RuleKind → Bool
+same_kind RuleKind.OfStates RuleKind.OfStates = true
+same_kind RuleKind.OfNumbers RuleKind.OfNumbers = true
+same_kind RuleKind.OfEvents RuleKind.OfEvents = true
+same_kind RuleKind.OfTimes RuleKind.OfTimes = true
+same_kind RuleKind.OfTemplates RuleKind.OfTemplates = true
+same_kind RuleKind.OfStart RuleKind.OfStart = true
+same_kind kind other = false
+
+abbrev pub kind_of : TriggerRule → RuleKind
+kind_of (TriggerRule.State entities attribute from to) = RuleKind.OfStates
+kind_of (TriggerRule.Numeric entities attribute above below) = RuleKind.OfNumbers
+kind_of (TriggerRule.Event kinds pairs) = RuleKind.OfEvents
+kind_of (TriggerRule.Time seconds) = RuleKind.OfTimes
+kind_of (TriggerRule.Pattern hours minutes seconds) = RuleKind.OfTimes
+kind_of (TriggerRule.Template t) = RuleKind.OfTemplates
+kind_of TriggerRule.Start = RuleKind.OfStart
+
+abbrev pub is_state : TriggerRule → Bool
+is_state rule = same_kind (kind_of rule) RuleKind.OfStates
+
+abbrev pub is_numeric : TriggerRule → Bool
+is_numeric rule = same_kind (kind_of rule) RuleKind.OfNumbers
+
+abbrev pub is_event : TriggerRule → Bool
+is_event rule = same_kind (kind_of rule) RuleKind.OfEvents
+
+-- a rule of times, by seconds or by a pattern
+abbrev pub has_times : TriggerRule → Bool
+has_times rule = same_kind (kind_of rule) RuleKind.OfTimes
+
+abbrev pub is_template : TriggerRule → Bool
+is_template rule = same_kind (kind_of rule) RuleKind.OfTemplates
+
+abbrev pub starts : TriggerRule → Bool
+starts rule = same_kind (kind_of rule) RuleKind.OfStart
 
 -- a side of a change against its text, which may be missing
 abbrev pub matches : Match → Option Text → Bool
@@ -71,15 +118,6 @@ second_fits TriggerRule.Start s = false
 abbrev pub passed : TriggerRule → Text → ℕ → ℕ → Bool
 passed rule zone from to = passes_second zone (second_fits rule) from to
 
-abbrev pub starts : TriggerRule → Bool
-starts (TriggerRule.State entities attribute from to) = false
-starts (TriggerRule.Numeric entities attribute above below) = false
-starts (TriggerRule.Event kinds pairs) = false
-starts (TriggerRule.Time seconds) = false
-starts (TriggerRule.Pattern hours minutes seconds) = false
-starts (TriggerRule.Template t) = false
-starts TriggerRule.Start = true
-
 -- the entities of a list, each at its first place
 abbrev pub without_entity : EntityId → List EntityId → List EntityId
 without_entity e [] = []
@@ -119,6 +157,35 @@ state_value e s = option_map_or (λ o. Map (state_pairs e o)) s Value.Null
 abbrev pub event_pairs : Text × Pairs → Pairs
 event_pairs v = (codes "event_type", Value.Text v.0) ∷ (codes "data", Map v.1) ∷ []
 
+abbrev pub event_value : Option (Text × Pairs) → Value
+event_value event = option_map_or (λ v. Map (event_pairs v)) event Value.Null
+
 abbrev pub head_pairs : Text → Trigger → Pairs
 head_pairs platform t =
     (codes "platform", Value.Text platform) ∷ (codes "id", Value.Text t.id) ∷ (codes "idx", Value.Text (decimal t.idx)) ∷ []
+
+-- the variables of a trigger with this rule, by what is seen before and after the entry at which it moved, and the event that the entry is
+abbrev pub given_by : Sight → Sight → Option (Text × Pairs) → Trigger → TriggerRule → Option EntityId → Pairs
+given_by b a event t (TriggerRule.State entities attribute from to) (Some e) =
+    head_pairs (codes "state") t
+    ++ ((codes "entity_id", Value.Text (entity_text e))
+    ∷ (codes "from_state", state_value e (b.states e))
+    ∷ (codes "to_state", state_value e (a.states e))
+    ∷ (codes "attribute", text_or_null attribute) ∷ [])
+given_by b a event t (TriggerRule.State entities attribute from to) None = head_pairs (codes "state") t
+given_by b a event t (TriggerRule.Numeric entities attribute above below) (Some e) =
+    head_pairs (codes "numeric_state") t
+    ++ ((codes "entity_id", Value.Text (entity_text e))
+    ∷ (codes "from_state", state_value e (b.states e))
+    ∷ (codes "to_state", state_value e (a.states e))
+    ∷ (codes "above", number_or_null above)
+    ∷ (codes "below", number_or_null below) ∷ [])
+given_by b a event t (TriggerRule.Numeric entities attribute above below) None = head_pairs (codes "numeric_state") t
+given_by b a event t (TriggerRule.Event kinds pairs) o = head_pairs (codes "event") t ++ ((codes "event", event_value event) ∷ [])
+given_by b a event t (TriggerRule.Time seconds) o = head_pairs (codes "time") t
+given_by b a event t (TriggerRule.Pattern hours minutes seconds) o = head_pairs (codes "time_pattern") t
+given_by b a event t (TriggerRule.Template x) o = head_pairs (codes "template") t
+given_by b a event t TriggerRule.Start o = head_pairs (codes "homeassistant") t
+
+abbrev pub given : Sight → Sight → Option (Text × Pairs) → Trigger → Option EntityId → Value
+given b a event t e = Map (given_by b a event t t.rule e)

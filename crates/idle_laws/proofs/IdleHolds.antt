@@ -17,9 +17,9 @@ use Rattle.ha_journal.specs.Journal.{Journal, HasEntry, now, zone_of, more}
 use Rattle.ha_sight.specs.Sight.{Sight}
 use Rattle.ha_journal.specs.States.{states, switches_of}
 use Rattle.ha_sight.specs.Templates.{rendered, says}
-use Rattle.ha_journal.specs.Moves.{sight, moves, after, report_number, latest_number}
+use Rattle.ha_journal.specs.Moves.{sight, moves, after, report_number, latest_number, looks}
 use Rattle.ha_sight.specs.Rules.{starts, pair_holds, passed}
-use Rattle.ha_journal.specs.Holds.{same_watched, between}
+use Rattle.ha_journal.specs.Holds.{same_watched, between, watches}
 use Rattle.ha_journal.proofs.HeldLaws.{latest-more}
 use Rattle.ha_journal.proofs.FiringLaws.{state-stays}
 use Rattle.ha_model.proofs.LastEntry.{or-none}
@@ -27,9 +27,8 @@ use Rattle.ha_journal.proofs.MoreLemmas.{automations-more, length-more, through-
 use Rattle.ha_journal.proofs.SinceLaws.{take-before}
 use Rattle.ha_config.proofs.ListLemmas.{get-last}
 use Rattle.ha_past.specs.Holds.{is_over, holds_to, pending}
-use Rattle.ha_past.specs.Looks.{looks, watches}
 use Rattle.ha_past.proofs.ListLemmas.{find-snoc, find-alike, up_to-snoc, map-snoc, all-append, any-append}
-use Rattle.ha_past.proofs.PastLemmas.{sight-more, moves-more, watched-more, over-more, same-watches}
+use Rattle.ha_past.proofs.PastLemmas.{sight-more, moves-more, watched-more, over-more}
 use Rattle.ha_past.proofs.HoldLaws.{at-between}
 use Rattle.ha_past.proofs.EntryLaws.{moves-at}
 use Rattle.ha_laws.specs.IdleLines.{IsIdle, NothingChanges}
@@ -151,11 +150,9 @@ module _ (j : Journal) (x : Entry) (h : HasEntry j) (s : IsQuiet x) (same : Noth
   watch-still : (rule : TriggerRule) (e : Option EntityId) (i : ℕ) → i < p → same_watched k rule e i p ≡ same_watched k rule e i (p - 1)
   watch-still rule e i lt =
       let before : p ≡ suc (p - 1) = omega (arith, lt) in
-      same-watches k rule e i p
-      ∙ (λ q. watches (sight k (suc i)) (sight-still q) (take (suc i) k) (take (suc p) k) rule e)
+      (λ q. watches (sight k (suc i)) (sight-still q) (take (suc i) k) (take (suc p) k) rule e)
       ∙ past-still (sight k (suc i)) (sight k p) (take (suc i) k) rule e
       ∙ (λ q. watches (sight k (suc i)) (sight k (before q)) (take (suc i) k) (take (before q) k) rule e)
-      ∙ sym (same-watches k rule e i (p - 1))
 
   module _ (t : Trigger) (e : Option EntityId) (since d : ℕ) where
     watched-still : (i : ℕ) → i < p → list_all (same_watched k t.rule e i) (between k i p) ≡ list_all (same_watched j t.rule e i) (between j i (p - 1))

@@ -3,8 +3,7 @@ use Rattle.std.proofs.Common.{◌≡◌, ◌∙◌, ap, sym, refl, arith, ℕ, z
 use Rattle.ha_clock.specs.Local.{second_of_day}
 use Rattle.ha_clock.specs.Passed.{holds_in, passes_second, passed_count}
 use Rattle.ha_config.specs.declared.config.TriggerRule.{TriggerRule}
-use Rattle.ha_sight.specs.Rules.{passed, second_fits}
-use Rattle.time_match.specs.Times.{has_times}
+use Rattle.ha_sight.specs.Rules.{passed, second_fits, has_times}
 
 -- the second that is looked at fits
 pub found : (test : ℕ → Bool) (zone : List ℕ) (n s : ℕ) → 0 < n → test (second_of_day zone (s * 1000)) ≡ true → holds_in zone test s n ≡ true

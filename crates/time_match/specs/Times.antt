@@ -1,20 +1,10 @@
 -- Rules of times, and what is asked of them where the clock is always as far ahead of UTC.
-use Rattle.std.specs.Prelude.{◌≡◌, ℕ, ◌+◌, ◌-◌, ◌%◌, ◌<◌, ◌≤◌, Bool, true, false, ◌||◌, codes}
+use Rattle.std.specs.Prelude.{◌≡◌, ℕ, ◌+◌, ◌-◌, ◌%◌, ◌<◌, ◌≤◌, Bool, true, ◌||◌, codes}
 use Rattle.std.specs.Str.{bytes_eq}
 use Rattle.ha_clock.specs.Zone.{is_offset}
 use Rattle.ha_config.specs.declared.config.TriggerRule.{TriggerRule}
 use Rattle.ha_config.specs.Words.{Text}
 use Rattle.ha_sight.specs.Rules.{second_fits}
-
--- the rule is one of times or a pattern
-abbrev pub has_times : TriggerRule → Bool
-has_times (TriggerRule.Time seconds) = true
-has_times (TriggerRule.Pattern hours minutes seconds) = true
-has_times (TriggerRule.State entities attribute from to) = false
-has_times (TriggerRule.Numeric entities attribute above below) = false
-has_times (TriggerRule.Event kinds pairs) = false
-has_times (TriggerRule.Template t) = false
-has_times TriggerRule.Start = false
 
 -- ---- by arithmetic on the second of the day
 

@@ -1,8 +1,7 @@
 //! The times of a rule.
 ghost use Rattle.std.specs.Prelude.{◌≡◌, ◌/◌, ◌%◌, ◌&&◌, nat_eq};
 ghost use Rattle.std.specs.List.{list_any};
-ghost use Rattle.ha_sight.specs.Rules.{fits_unit, second_fits};
-ghost use Rattle.time_match.specs.Times.{has_times};
+ghost use Rattle.ha_sight.specs.Rules.{fits_unit, second_fits, has_times};
 
 use ha_config::{TriggerRule, Unit};
 

@@ -1,18 +1,9 @@
 -- Numeric triggers: the number that a state gives, in the bounds of a rule.
-use Rattle.std.specs.Prelude.{Bool, true, false, Option, None, option_map, option_and_then}
+use Rattle.std.specs.Prelude.{Bool, Option, None, option_map, option_and_then}
 use Rattle.ha_config.specs.declared.config.TriggerRule.{TriggerRule}
 use Rattle.ha_sight.specs.declared.state.StateObject.{StateObject}
 use Rattle.ha_config.specs.Numbers.{in_bounds}
 use Rattle.ha_sight.specs.Conditions.{watched_number}
-
-abbrev pub is_numeric : TriggerRule → Bool
-is_numeric (TriggerRule.State entities attribute from to) = false
-is_numeric (TriggerRule.Numeric entities attribute above below) = true
-is_numeric (TriggerRule.Event kinds pairs) = false
-is_numeric (TriggerRule.Time seconds) = false
-is_numeric (TriggerRule.Pattern hours minutes seconds) = false
-is_numeric (TriggerRule.Template t) = false
-is_numeric TriggerRule.Start = false
 
 -- whether the number of a state is in the bounds, where there is a number
 abbrev pub rule_in : TriggerRule → Option StateObject → Option Bool

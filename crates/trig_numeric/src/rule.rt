@@ -2,7 +2,8 @@
 ghost use Rattle.std.specs.Prelude.{◌≡◌, true};
 ghost use Rattle.std.specs.Option.{option_copied};
 ghost use Rattle.ha_config.specs.Numbers as numbers;
-ghost use Rattle.trig_numeric.specs.Bounds.{is_numeric, rule_in};
+ghost use Rattle.trig_numeric.specs.Bounds.{rule_in};
+ghost use Rattle.ha_sight.specs.Rules.{is_numeric};
 
 use crate::numbers::number_in;
 use ha_config::TriggerRule;

@@ -18,16 +18,17 @@ use Rattle.ha_config.specs.Numbers.{in_bounds}
 use Rattle.ha_config.specs.Sound.{may_hold}
 use Rattle.ha_sight.specs.Sight.{Sight}
 use Rattle.ha_journal.specs.States.{states}
-use Rattle.ha_journal.specs.Moves.{latest_number, report_number, sight}
-use Rattle.ha_sight.specs.Rules.{pair_holds, passed}
+use Rattle.ha_journal.specs.Moves.{latest_number, report_number, sight, looks}
+use Rattle.ha_sight.specs.Rules.{pair_holds, passed, given, is_template}
 use Rattle.ha_config.specs.Words.{Text, Pairs, one_of, same_entity}
 use Rattle.ha_config.proofs.EqualLemmas.{same-refl}
 use Rattle.ha_journal.proofs.HeldLaws.{latest-more}
 use Rattle.ha_past.specs.Firings.{firings_of}
-use Rattle.ha_past.specs.Looks.{given, looks, moves_with, or_else, watches}
+use Rattle.ha_past.specs.Looks.{moves_with, or_else}
+use Rattle.ha_journal.specs.Holds.{watches}
 use Rattle.event_bus.specs.Subjects.{Subject, concerns}
 use Rattle.trig_set.specs.declared.spot.Spot.{Spot}
-use Rattle.trig_set.specs.Kept.{All, AreTimed, AreWell, Keeps, KeepsAt, Moved, MovedAt, Settles, SpotsStand, cleared, firing_in, holding, holds_well, is_template, is_true, ripened, ripened_if}
+use Rattle.trig_set.specs.Kept.{All, AreTimed, AreWell, Keeps, KeepsAt, Moved, MovedAt, Settles, SpotsStand, cleared, firing_in, holding, holds_well, is_true, ripened, ripened_if}
 use Rattle.trig_set.specs.Next.{reports}
 use Rattle.trig_set.proofs.KeptLemmas.{step-moved}
 use Rattle.trig_set.proofs.MovedLemmas.{moves-by, moves-not, unlisted-moves, unlisted-number, unlisted-stays}
@@ -68,12 +69,12 @@ module _ (j : Journal) (x : Entry) (t : Trigger) (since : ℕ) (h : HasEntry j) 
   behind = sight (more j x) (suc (length j))
 
   abbrev target : Option EntityId → Option Value
-  target e = if looks before behind j t.rule (is_some t.hold) e x then Some (given before behind (Some x) t e) else None
+  target e = if looks before behind j t.rule (is_some t.hold) e x then Some (given before behind (event_in x) t e) else None
 
   off : (rule : TriggerRule) (e : Option EntityId) → t.rule ≡ rule → looks before behind j rule (is_some t.hold) e x ≡ false → None ≡ target e
   off rule e is f =
-      (λ i. if sym f i then Some (given before behind (Some x) t e) else None)
-      ∙ (λ i. if looks before behind j (sym is i) (is_some t.hold) e x then Some (given before behind (Some x) t e) else None)
+      (λ i. if sym f i then Some (given before behind (event_in x) t e) else None)
+      ∙ (λ i. if looks before behind j (sym is i) (is_some t.hold) e x then Some (given before behind (event_in x) t e) else None)
 
   event-off : (kinds : List Text) (pairs : Pairs) (o : Option (Text × Pairs)) → MatchOption (option_map (λ v. v.0) o) (Unit {0}) (λ q. one_of q kinds ≡ false)
       → option_map_or (λ v. one_of v.0 kinds && list_all (pair_holds v.1) pairs) o false ≡ false

@@ -31,7 +31,6 @@ use Rattle.trig_set.specs.Stands.{AllOwners, AtOwner, OwnerStands, firings_at}
 use Rattle.trig_set.proofs.ListedLemmas.{IsListed, known-listed}
 use Rattle.trig_set.proofs.CalmLemmas.{CalmAt, IsCalm, calm-quiet, calm-stand, never}
 use Rattle.trig_set.proofs.MovedLemmas.{has-past}
-use Rattle.trig_set.proofs.NoteLemmas.{places-alike}
 
 pub get-map : {X Y : Type 0} (f : X → Y) (xs : List X) (n : ℕ) → slice_get (map f xs) n ≡ option_map f (slice_get xs n)
 get-map f [] n = refl
@@ -91,7 +90,7 @@ module _ (index : Index) (queue : List Timer) (j : Journal) (x : Entry) where
       by (Some s) at =
           spot-calm a.owner a.since a.triggers s apart
           (subst (λ o. MatchOption o (Unit {0}) (HasAt index a.owner a.triggers))
-          (ap (λ l. slice_get l m) (sym (stand.spots.places ∙ places-alike j [] a.triggers)) ∙ get-map place_of a.spots.items m ∙ ap (option_map place_of) at) (listed m))
+          (ap (λ l. slice_get l m) (sym stand.spots.places) ∙ get-map place_of a.spots.items m ∙ ap (option_map place_of) at) (listed m))
 
   -- its holds are over later
   all-later : (a : Attached) → HasDue queue a → IsApart index queue j x a.owner a.since → is_moment x ≡ true → (n d : ℕ) → due_of n a.timers ≡ Some d → now (more j x) < d

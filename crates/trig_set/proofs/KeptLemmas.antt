@@ -12,13 +12,13 @@ use Rattle.ha_journal.specs.Journal.{Journal, now, more}
 use Rattle.ha_config.specs.Sound.{may_hold}
 use Rattle.ha_sight.specs.Sight.{Sight}
 use Rattle.ha_journal.specs.Moves.{sight, moves}
-use Rattle.ha_sight.specs.Rules.{starts}
+use Rattle.ha_sight.specs.Rules.{starts, is_template}
 use Rattle.ha_journal.specs.Variables.{variables}
 use Rattle.ha_journal.specs.Holds.{fired_from}
 use Rattle.ha_journal.proofs.MoreLemmas.{through-last}
 use Rattle.trig_set.specs.declared.spot.Held.{Held}
 use Rattle.trig_set.specs.declared.spot.Spot.{Spot}
-use Rattle.trig_set.specs.Kept.{Keeps, Moved, Fired, Settles, holding, holds_well, is_template, is_true, ripened, ripened_by}
+use Rattle.trig_set.specs.Kept.{Keeps, Moved, Fired, Settles, holding, holds_well, is_true, ripened, ripened_by}
 use Rattle.ha_past.specs.Holds.{pending}
 use Rattle.ha_past.specs.Looks.{Holding, holding_of, standing, arrived, at_once, moves_with, moves_after, moves_here, stays_watched, ripe_value, unripe, is_ripe, or_else}
 use Rattle.ha_past.proofs.EntryLaws.{fired-any, standing-any, standing-fresh}

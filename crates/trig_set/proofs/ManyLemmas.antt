@@ -26,7 +26,6 @@ use Rattle.trig_set.proofs.CollectLemmas.{cons-append}
 use Rattle.trig_set.proofs.ConcernLemmas.{aside-apart, get-map, spot-calm}
 use Rattle.trig_set.proofs.LeftLemmas.{is-at-other, put-apart}
 use Rattle.trig_set.proofs.MovedLemmas.{has-past}
-use Rattle.trig_set.proofs.NoteLemmas.{places-alike}
 
 -- ---- lists that are gone through, some places skipped
 
@@ -241,4 +240,4 @@ module _ (scene : Scene) (j : Journal) (index : Index) (triggers : List Trigger)
           moved-at s k
           (spot-calm index [] j x n since triggers s (aside-apart scene index [] j n since shows aside)
           (subst (λ o. MatchOption o (Unit {0}) (HasAt index n triggers))
-          (ap (λ l. slice_get l n) (sym (stand.places ∙ places-alike j [] triggers)) ∙ get-map place_of spots n ∙ ap (option_map place_of) at) (listed n)))
+          (ap (λ l. slice_get l n) (sym stand.places) ∙ get-map place_of spots n ∙ ap (option_map place_of) at) (listed n)))

@@ -25,8 +25,8 @@ use Rattle.ha_journal.specs.Journal.{Journal, HasEntry, IsJournal, zone_of, now,
 use Rattle.ha_sight.specs.Sight.{Sight}
 use Rattle.ha_journal.specs.States.{states}
 use Rattle.ha_journal.specs.Entries.{opens_segment, Reported, report_in, event_in, is_moment}
-use Rattle.ha_journal.specs.Moves.{sight, report_number, latest_number, moves, rule_moves}
-use Rattle.ha_sight.specs.Rules.{matches, is_absent, same_optional, state_value, text_or_null, number_or_null, passed, pair_holds, state_moves, starts, head_pairs}
+use Rattle.ha_journal.specs.Moves.{sight, report_number, latest_number, moves, rule_moves, looks}
+use Rattle.ha_sight.specs.Rules.{matches, is_absent, same_optional, state_value, text_or_null, number_or_null, passed, pair_holds, state_moves, starts, is_state, head_pairs, given, given_by}
 use Rattle.ha_journal.specs.Variables.{variables}
 use Rattle.ha_config.proofs.EqualLemmas.{same-refl, same_value-refl}
 use Rattle.ha_journal.proofs.MoreLemmas.{through-last}
@@ -35,10 +35,11 @@ use Rattle.trig_state.specs.States as rule_of
 use Rattle.ha_config.specs.declared.config.Unit as unit
 use Rattle.ha_config.specs.declared.template.Template.{Template}
 use Rattle.trig_set.specs.Kept.{is_true}
-use Rattle.ha_past.specs.Looks.{looks, watches, given, given_by, moves_with}
+use Rattle.ha_past.specs.Looks.{moves_with}
+use Rattle.ha_journal.specs.Holds.{watches}
 use Rattle.trig_set.specs.Next.{reports}
 use Rattle.trig_set.specs.Scenes.{face}
-use Rattle.ha_past.proofs.PastLemmas.{sight-more, sight-whole, zone-more, variables-given, has-place}
+use Rattle.ha_past.proofs.PastLemmas.{sight-more, sight-whole, zone-more, has-place}
 use Rattle.ha_past.proofs.EntryLaws.{moves-at}
 
 module _ (j : Journal) (x : Entry) where
@@ -50,16 +51,16 @@ module _ (j : Journal) (x : Entry) where
 
   -- LAW: where no segment opens, a trigger that was attached before moves where its rule holds by what is seen before and after
   pub moves-by : (t : Trigger) (e : Option EntityId) (since : ℕ) → opens_segment x ≡ false → nat_lt since (length j) ≡ true
-      → moves_with j x t e since ≡ (if looks (sight j (length j)) (sight (more j x) (suc (length j))) j t.rule (is_some t.hold) e x then Some (given (sight j (length j)) (sight (more j x) (suc (length j))) (Some x) t e) else None)
+      → moves_with j x t e since ≡ (if looks (sight j (length j)) (sight (more j x) (suc (length j))) j t.rule (is_some t.hold) e x then Some (given (sight j (length j)) (sight (more j x) (suc (length j))) (event_in x) t e) else None)
   moves-by t e since opens lt =
       let some : 0 < length j = grind (arith, nat_tests, lt) in
       let h = has-place j 0 some in
       let here = sight-more j x h (length j) (omega arith) in
-      (λ i. if moves-at j x h t e i && (lt i || starts t.rule) then Some (variables-given (more j x) t e (length j) i) else None)
-      ∙ (λ i. if (if opens i then starts t.rule && is_none e else looks (sight j (length j)) (sight (more j x) (suc (length j))) j t.rule (is_some t.hold) e x) && true then Some (given (here i) (sight (more j x) (suc (length j))) (get-last j x i) t e) else None)
+      (λ i. if moves-at j x h t e i && (lt i || starts t.rule) then Some (variables (more j x) t e (length j)) else None)
+      ∙ (λ i. if (if opens i then starts t.rule && is_none e else looks (sight j (length j)) (sight (more j x) (suc (length j))) j t.rule (is_some t.hold) e x) && true then Some (given (here i) (sight (more j x) (suc (length j))) (option_and_then event_in (get-last j x i)) t e) else None)
       ∙ by (looks (sight j (length j)) (sight (more j x) (suc (length j))) j t.rule (is_some t.hold) e x)
     where
-      by : (b : Bool) → (if b && true then Some (given (sight j (length j)) (sight (more j x) (suc (length j))) (Some x) t e) else None) ≡ (if b then Some (given (sight j (length j)) (sight (more j x) (suc (length j))) (Some x) t e) else None)
+      by : (b : Bool) → (if b && true then Some (given (sight j (length j)) (sight (more j x) (suc (length j))) (event_in x) t e) else None) ≡ (if b then Some (given (sight j (length j)) (sight (more j x) (suc (length j))) (event_in x) t e) else None)
       by true = refl
       by false = refl
 
@@ -94,7 +95,7 @@ text-refl None = refl
 text-refl (Some s) = same-refl s.text
 
 -- a state rule watches the two states
-pub state-watches : (b a : Sight) (k n : Journal) (rule : TriggerRule) (e : EntityId) → rule_of.is_state rule ≡ true → watches b a k n rule (Some e) ≡ rule_of.rule_stays rule (b.states e) (a.states e)
+pub state-watches : (b a : Sight) (k n : Journal) (rule : TriggerRule) (e : EntityId) → is_state rule ≡ true → watches b a k n rule (Some e) ≡ rule_of.rule_stays rule (b.states e) (a.states e)
 state-watches b a k n (TriggerRule.State entities (Some name) from to) e h = refl
 state-watches b a k n (TriggerRule.State entities None from to) e h = refl
 state-watches b a k n (TriggerRule.Numeric entities attribute above below) e h = cc
@@ -104,7 +105,7 @@ state-watches b a k n (TriggerRule.Pattern hours minutes seconds) e h = cc
 state-watches b a k n (TriggerRule.Template t) e h = cc
 state-watches b a k n TriggerRule.Start e h = cc
 
-stays-refl : (rule : TriggerRule) (s : Option StateObject) → rule_of.is_state rule ≡ true → rule_of.rule_stays rule s s ≡ true
+stays-refl : (rule : TriggerRule) (s : Option StateObject) → is_state rule ≡ true → rule_of.rule_stays rule s s ≡ true
 stays-refl (TriggerRule.State entities (Some name) from to) s h = optional-refl (rule_of.attribute_in name s)
 stays-refl (TriggerRule.State entities None from to) s h = text-refl s
 stays-refl (TriggerRule.Numeric entities attribute above below) s h = cc
@@ -143,7 +144,7 @@ faced TriggerRule.Start a b = refl
 pub stays-face : (rule : TriggerRule) (a b c d : Option StateObject) → face a ≡ face c → face b ≡ face d → rule_of.rule_stays rule a b ≡ rule_of.rule_stays rule c d
 stays-face rule a b c d p q = faced rule a b ∙ (λ i. stays_by rule (p i) (q i)) ∙ sym (faced rule c d)
 
-module _ (j : Journal) (x : Entry) (rule : TriggerRule) (e : EntityId) (is : rule_of.is_state rule ≡ true) where
+module _ (j : Journal) (x : Entry) (rule : TriggerRule) (e : EntityId) (is : is_state rule ≡ true) where
   abbrev stays_seen : Bool
   stays_seen = watches (sight j (length j)) (sight (more j x) (suc (length j))) j (more j x) rule (Some e)
 
@@ -161,21 +162,12 @@ module _ (j : Journal) (x : Entry) (rule : TriggerRule) (e : EntityId) (is : rul
 -- ---- where a segment opens
 
 module _ (j : Journal) (x : Entry) (t : Trigger) (e : Option EntityId) (since : ℕ) (opens : opens_segment x ≡ true) where
-  start-alike : (a b : Journal) (rule : TriggerRule) → starts rule ≡ starts rule
-  start-alike a b (TriggerRule.State entities attribute from to) = refl
-  start-alike a b (TriggerRule.Numeric entities attribute above below) = refl
-  start-alike a b (TriggerRule.Event kinds pairs) = refl
-  start-alike a b (TriggerRule.Time seconds) = refl
-  start-alike a b (TriggerRule.Pattern hours minutes seconds) = refl
-  start-alike a b (TriggerRule.Template u) = refl
-  start-alike a b TriggerRule.Start = refl
-
   opened : moves (more j x) t e (length j) ≡ (starts t.rule && is_none e)
   opened =
-      (λ i. option_map_or (λ y. if opens_segment y then start-alike (more j x) [] t.rule i && is_none e else rule_moves (more j x) t.rule (is_some t.hold) e (length j) y) (get-last j x i) false)
+      (λ i. option_map_or (λ y. if opens_segment y then starts t.rule && is_none e else rule_moves (more j x) t.rule (is_some t.hold) e (length j) y) (get-last j x i) false)
       ∙ (λ i. if opens i then starts t.rule && is_none e else rule_moves (more j x) t.rule (is_some t.hold) e (length j) x)
 
-  bare-start : (rule : TriggerRule) → starts rule ≡ true → given_by (sight (more j x) (length j)) (sight (more j x) (suc (length j))) (Some x) t rule e ≡ head_pairs (codes "homeassistant") t
+  bare-start : (rule : TriggerRule) → starts rule ≡ true → given_by (sight (more j x) (length j)) (sight (more j x) (suc (length j))) (event_in x) t rule e ≡ head_pairs (codes "homeassistant") t
   bare-start (TriggerRule.State entities attribute from to) s = cc
   bare-start (TriggerRule.Numeric entities attribute above below) s = cc
   bare-start (TriggerRule.Event kinds pairs) s = cc
@@ -187,14 +179,14 @@ module _ (j : Journal) (x : Entry) (t : Trigger) (e : Option EntityId) (since : 
   -- LAW: only start triggers move, and they have no variables of their own
   pub moves-open : moves_with j x t e since ≡ (if starts t.rule && is_none e then Some (Map (head_pairs (codes "homeassistant") t)) else None)
   moves-open =
-      (λ i. if opened i && (nat_lt since (length j) || start-alike (more j x) [] t.rule i) then Some (variables-given (more j x) t e (length j) i) else None)
-      ∙ (λ i. if (starts t.rule && is_none e) && (nat_lt since (length j) || starts t.rule) then Some (given (sight (more j x) (length j)) (sight (more j x) (suc (length j))) (get-last j x i) t e) else None)
+      (λ i. if opened i && (nat_lt since (length j) || starts t.rule) then Some (variables (more j x) t e (length j)) else None)
+      ∙ (λ i. if (starts t.rule && is_none e) && (nat_lt since (length j) || starts t.rule) then Some (given (sight (more j x) (length j)) (sight (more j x) (suc (length j))) (option_and_then event_in (get-last j x i)) t e) else None)
       ∙ by (starts t.rule) refl
     where
-      by : (b : Bool) → starts t.rule ≡ b → (if (b && is_none e) && (nat_lt since (length j) || b) then Some (Map (given_by (sight (more j x) (length j)) (sight (more j x) (suc (length j))) (Some x) t t.rule e)) else None) ≡ (if b && is_none e then Some (Map (head_pairs (codes "homeassistant") t)) else None)
+      by : (b : Bool) → starts t.rule ≡ b → (if (b && is_none e) && (nat_lt since (length j) || b) then Some (Map (given_by (sight (more j x) (length j)) (sight (more j x) (suc (length j))) (event_in x) t t.rule e)) else None) ≡ (if b && is_none e then Some (Map (head_pairs (codes "homeassistant") t)) else None)
       by true s = also (is_none e) (nat_lt since (length j)) ∙ (λ i. if is_none e then Some (Map (bare-start t.rule s i)) else None)
         where
-          also : (a b : Bool) → (if a && (b || true) then Some (Map (given_by (sight (more j x) (length j)) (sight (more j x) (suc (length j))) (Some x) t t.rule e)) else None) ≡ (if a then Some (Map (given_by (sight (more j x) (length j)) (sight (more j x) (suc (length j))) (Some x) t t.rule e)) else None)
+          also : (a b : Bool) → (if a && (b || true) then Some (Map (given_by (sight (more j x) (length j)) (sight (more j x) (suc (length j))) (event_in x) t t.rule e)) else None) ≡ (if a then Some (Map (given_by (sight (more j x) (length j)) (sight (more j x) (suc (length j))) (event_in x) t t.rule e)) else None)
           also true true = refl
           also true false = refl
           also false b = refl
@@ -260,14 +252,14 @@ value-face e a c p = valued-face e a ∙ ap (value_of e) p ∙ sym (valued-face 
 module _ (j : Journal) (x : Entry) (t : Trigger) (e : EntityId) (entities : List EntityId) (attribute : Option Text) (from to : Match) (is : t.rule ≡ TriggerRule.State entities attribute from to) where
   -- what a state trigger gives, by its sights and by two states
   abbrev pub state_target : Option Value
-  state_target = if looks (sight j (length j)) (sight (more j x) (suc (length j))) j t.rule (is_some t.hold) (Some e) x then Some (given (sight j (length j)) (sight (more j x) (suc (length j))) (Some x) t (Some e)) else None
+  state_target = if looks (sight j (length j)) (sight (more j x) (suc (length j))) j t.rule (is_some t.hold) (Some e) x then Some (given (sight j (length j)) (sight (more j x) (suc (length j))) (event_in x) t (Some e)) else None
 
   abbrev pub state_made : Option StateObject → Option StateObject → Option Value
   state_made old new = if state_moves attribute from to (is_some t.hold) old new then Some (Map (head_pairs (codes "state") t ++ ((codes "entity_id", Value.Text (entity_text e)) ∷ (codes "from_state", state_value e old) ∷ (codes "to_state", state_value e new) ∷ (codes "attribute", text_or_null attribute) ∷ []))) else None
 
   target-is : state_target ≡ state_made (states j e) (states (more j x) e)
   target-is =
-      (λ i. if looks (sight j (length j)) (sight (more j x) (suc (length j))) j (is i) (is_some t.hold) (Some e) x then Some (Map (given_by (sight j (length j)) (sight (more j x) (suc (length j))) (Some x) t (is i) (Some e))) else None)
+      (λ i. if looks (sight j (length j)) (sight (more j x) (suc (length j))) j (is i) (is_some t.hold) (Some e) x then Some (Map (given_by (sight j (length j)) (sight (more j x) (suc (length j))) (event_in x) t (is i) (Some e))) else None)
       ∙ (λ i. state_made (seen_now j x i e) (seen_then j x i e))
 
   -- LAW: of an entity that is not listed a state trigger does not move
@@ -286,7 +278,7 @@ module _ (j : Journal) (x : Entry) (t : Trigger) (e : EntityId) (entities : List
 module _ (j : Journal) (x : Entry) (t : Trigger) (e : EntityId) (entities : List EntityId) (attribute : Option Text) (above below : Option Num) (is : t.rule ≡ TriggerRule.Numeric entities attribute above below) where
   -- what a numeric trigger gives, by its sights, and by two states
   abbrev pub number_target : Option Value
-  number_target = if looks (sight j (length j)) (sight (more j x) (suc (length j))) j t.rule (is_some t.hold) (Some e) x then Some (given (sight j (length j)) (sight (more j x) (suc (length j))) (Some x) t (Some e)) else None
+  number_target = if looks (sight j (length j)) (sight (more j x) (suc (length j))) j t.rule (is_some t.hold) (Some e) x then Some (given (sight j (length j)) (sight (more j x) (suc (length j))) (event_in x) t (Some e)) else None
 
   abbrev pub number_crosses : Bool
   number_crosses = option_map_or (in_bounds above below) (report_number e attribute x) false && not (option_map_or (in_bounds above below) (latest_number e attribute j) false)
@@ -296,7 +288,7 @@ module _ (j : Journal) (x : Entry) (t : Trigger) (e : EntityId) (entities : List
 
   number-is : number_target ≡ number_made number_crosses (states j e) (states (more j x) e)
   number-is =
-      (λ i. if looks (sight j (length j)) (sight (more j x) (suc (length j))) j (is i) (is_some t.hold) (Some e) x then Some (Map (given_by (sight j (length j)) (sight (more j x) (suc (length j))) (Some x) t (is i) (Some e))) else None)
+      (λ i. if looks (sight j (length j)) (sight (more j x) (suc (length j))) j (is i) (is_some t.hold) (Some e) x then Some (Map (given_by (sight j (length j)) (sight (more j x) (suc (length j))) (event_in x) t (is i) (Some e))) else None)
       ∙ (λ i. number_made number_crosses (seen_now j x i e) (seen_then j x i e))
 
   unreported : (o : Option Reported) → option_map_or (λ r. same_entity r.entity e) o false ≡ false → option_and_then (λ r. if same_entity r.entity e then number_watched attribute r.text r.attributes else None) o ≡ None
@@ -331,13 +323,13 @@ no-data (Some v) k = cc
 
 module _ (b a : Sight) (j : Journal) (x : Entry) (t : Trigger) (kinds : List Text) (pairs : Pairs) (is : t.rule ≡ TriggerRule.Event kinds pairs) where
   abbrev pub event_target : Option Value
-  event_target = if looks b a j t.rule (is_some t.hold) None x then Some (given b a (Some x) t None) else None
+  event_target = if looks b a j t.rule (is_some t.hold) None x then Some (given b a (event_in x) t None) else None
 
   abbrev event_made : Option (Text × Pairs) → Option Value
   event_made o = if option_map_or (λ v. one_of v.0 kinds && list_all (pair_holds v.1) pairs) o false then Some (Map (head_pairs (codes "event") t ++ ((codes "event", option_map_or (λ v. Map ((codes "event_type", Value.Text v.0) ∷ (codes "data", Map v.1) ∷ [])) o Value.Null) ∷ []))) else None
 
   event-is : event_target ≡ event_made (event_in x)
-  event-is = (λ i. if looks b a j (is i) (is_some t.hold) None x then Some (Map (given_by b a (Some x) t (is i) None)) else None)
+  event-is = (λ i. if looks b a j (is i) (is_some t.hold) None x then Some (Map (given_by b a (event_in x) t (is i) None)) else None)
 
   -- LAW: what is no event moves no event trigger
   pub kindless : None ≡ option_map {U = Text} (λ v. v.0) (event_in x) → None ≡ event_target
@@ -358,10 +350,10 @@ module _ (b a : Sight) (j : Journal) (x : Entry) (t : Trigger) (kinds : List Tex
 
 module _ (j : Journal) (x : Entry) (t : Trigger) where
   abbrev pub bare_target : Option Value
-  bare_target = if looks (sight j (length j)) (sight (more j x) (suc (length j))) j t.rule (is_some t.hold) None x then Some (given (sight j (length j)) (sight (more j x) (suc (length j))) (Some x) t None) else None
+  bare_target = if looks (sight j (length j)) (sight (more j x) (suc (length j))) j t.rule (is_some t.hold) None x then Some (given (sight j (length j)) (sight (more j x) (suc (length j))) (event_in x) t None) else None
 
-  target-by : (rule : TriggerRule) → t.rule ≡ rule → bare_target ≡ (if looks (sight j (length j)) (sight (more j x) (suc (length j))) j rule (is_some t.hold) None x then Some (Map (given_by (sight j (length j)) (sight (more j x) (suc (length j))) (Some x) t rule None)) else None)
-  target-by rule is = (λ i. if looks (sight j (length j)) (sight (more j x) (suc (length j))) j (is i) (is_some t.hold) None x then Some (Map (given_by (sight j (length j)) (sight (more j x) (suc (length j))) (Some x) t (is i) None)) else None)
+  target-by : (rule : TriggerRule) → t.rule ≡ rule → bare_target ≡ (if looks (sight j (length j)) (sight (more j x) (suc (length j))) j rule (is_some t.hold) None x then Some (Map (given_by (sight j (length j)) (sight (more j x) (suc (length j))) (event_in x) t rule None)) else None)
+  target-by rule is = (λ i. if looks (sight j (length j)) (sight (more j x) (suc (length j))) j (is i) (is_some t.hold) None x then Some (Map (given_by (sight j (length j)) (sight (more j x) (suc (length j))) (event_in x) t (is i) None)) else None)
 
   module _ (h : HasEntry j) (zone : Text) (from to : ℕ) (zone-is : zone ≡ zone_of (more j x)) (from-is : from ≡ now j) (to-is : to ≡ now (more j x)) where
     seen_zone : zone ≡ (sight j (length j)).zone

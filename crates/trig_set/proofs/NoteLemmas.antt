@@ -2,16 +2,11 @@
 use Rattle.std.proofs.Common.{◌≡◌, ℕ, zero, suc, ◌+◌, List, [], ◌∷◌, ◌++◌, length, map, Bool, true, false, refl, sym, ap, subst, ◌∙◌}
 use Rattle.std.specs.Prelude.{Option, Some, None, MatchOption, filter_map, slice_get, option_and_then, nat_le, if◌then◌else◌}
 use Rattle.timer_queue.specs.Timers.{Timer}
-use Rattle.ha_value.specs.declared.value.EntityId.{EntityId}
 use Rattle.ha_config.specs.declared.config.Trigger.{Trigger}
-use Rattle.ha_config.specs.declared.config.TriggerRule.{TriggerRule}
 use Rattle.ha_journal.specs.declared.entry.Entry.{Entry}
 use Rattle.ha_journal.specs.declared.firing.Firing.{Firing}
 use Rattle.ha_journal.specs.Entries.{is_moment}
 use Rattle.ha_journal.specs.Journal.{Journal, now, more}
-use Rattle.ha_sight.specs.Rules.{entities_of}
-use Rattle.std.specs.Prelude.{flat_map}
-use Rattle.std.specs.List.{enumerate_from}
 use Rattle.trig_set.specs.declared.spot.Held.{Held}
 use Rattle.trig_set.specs.declared.spot.Spot.{Spot}
 use Rattle.ha_past.specs.Firings.{firings_of}
@@ -51,25 +46,6 @@ ripened-place to s = by s.hold
     by : (o : Option Held) → place_of (ripened_by to s o) ≡ place_of s
     by None = refl
     by (Some h) = chosen h (nat_le h.due to)
-
-entities-alike : (j k : Journal) (rule : TriggerRule) → entities_of rule ≡ entities_of rule
-entities-alike j k (TriggerRule.State entities attribute from to) = refl
-entities-alike j k (TriggerRule.Numeric entities attribute above below) = refl
-entities-alike j k (TriggerRule.Event kinds pairs) = refl
-entities-alike j k (TriggerRule.Time seconds) = refl
-entities-alike j k (TriggerRule.Pattern hours minutes seconds) = refl
-entities-alike j k (TriggerRule.Template t) = refl
-entities-alike j k TriggerRule.Start = refl
-
-abbrev spread : Journal → ℕ × Trigger → List (ℕ × Option EntityId)
-spread j t = map {A = Option EntityId} {B = ℕ × Option EntityId} (λ e. (t.0, e)) (entities_of t.1.rule)
-
-spread-alike : (j k : Journal) (n : ℕ) (ts : List Trigger) → flat_map (spread j) (enumerate_from n ts) ≡ flat_map (spread k) (enumerate_from n ts)
-spread-alike j k n [] = refl
-spread-alike j k n (t ∷ ts) = (λ i. map {A = Option EntityId} {B = ℕ × Option EntityId} (λ e. (n, e)) (entities-alike j k t.rule i) ++ spread-alike j k (n + 1) ts i)
-
-pub places-alike : (j k : Journal) (triggers : List Trigger) → places_of j triggers ≡ places_of k triggers
-places-alike j k triggers = spread-alike j k 0 triggers
 
 module _ (j : Journal) (x : Entry) (triggers : List Trigger) (since : ℕ) (well : AreWell triggers) where
   -- what a spot is with its trigger
@@ -115,7 +91,7 @@ module _ (j : Journal) (x : Entry) (triggers : List Trigger) (since : ℕ) (well
       subst (λ l. SpotsStand (more j x) triggers since l timers) (sym cleared-is)
       (record {
         kept = all-map (FiredAt j x triggers since) (KeepsAt (more j x) triggers since) cleared (ripened_if x to mid) cleared-at (all-fired to mid is moved);
-        places = places-map cleared (λ s. refl) (ripened_if x to mid) ∙ places-if to mid ∙ places ∙ places-alike j (more j x) triggers;
+        places = places-map cleared (λ s. refl) (ripened_if x to mid) ∙ places-if to mid ∙ places;
         timed = timed-cleared timers (ripened_if x to mid) timed;
       })
 
@@ -124,4 +100,4 @@ module _ (j : Journal) (x : Entry) (triggers : List Trigger) (since : ℕ) (well
       → after ≡ before ++ filter_map (firing_in owner) (ripened_if x to mid)
       → after ≡ before ++ firings_of (more j x) (length j) (record { owner = owner; triggers = triggers; since = since })
   spots-give owner to mid before after is moved places e =
-      e ∙ (λ i. before ++ spots-fire j x (record { owner = owner; triggers = triggers; since = since }) well (ripened_if x to mid) (all-fired to mid is moved) (places-if to mid ∙ places ∙ places-alike j (more j x) triggers) i)
+      e ∙ (λ i. before ++ spots-fire j x (record { owner = owner; triggers = triggers; since = since }) well (ripened_if x to mid) (all-fired to mid is moved) (places-if to mid ∙ places) i)

@@ -15,7 +15,7 @@ use Rattle.ha_journal.specs.Journal.{Journal, now, more}
 use Rattle.ha_sight.specs.Sight.{Sight}
 use Rattle.ha_sight.specs.Templates.{rendered, says}
 use Rattle.ha_journal.specs.Moves.{sight}
-use Rattle.ha_sight.specs.Rules.{entities_of}
+use Rattle.ha_sight.specs.Rules.{entities_of, is_template}
 use Rattle.ha_config.specs.Sound.{may_hold, is_sound_rule}
 use Rattle.trig_set.specs.declared.spot.Held.{Held}
 use Rattle.trig_set.specs.declared.spot.Spot.{Spot}
@@ -25,16 +25,6 @@ use Rattle.ha_past.specs.Looks.{Holding, standing, arrived, at_once, ripe_value,
 abbrev pub is_true : Sight → TriggerRule → Bool
 is_true seen (TriggerRule.Template t) = says (rendered seen t [])
 is_true seen _ = false
-
--- only a template is asked at each entry
-abbrev pub is_template : TriggerRule → Bool
-is_template (TriggerRule.State entities attribute from to) = false
-is_template (TriggerRule.Numeric entities attribute above below) = false
-is_template (TriggerRule.Event kinds pairs) = false
-is_template (TriggerRule.Time seconds) = false
-is_template (TriggerRule.Pattern hours minutes seconds) = false
-is_template (TriggerRule.Template t) = true
-is_template TriggerRule.Start = false
 
 abbrev pub holding : Held → Holding
 holding h = record { due = h.due; value = h.value }

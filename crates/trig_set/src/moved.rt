@@ -5,11 +5,11 @@ ghost use Rattle.ha_journal.specs.Entries.{opens_segment};
 ghost use Rattle.ha_config.specs.Equal.{same_flag};
 ghost use Rattle.ha_config.specs.Numbers.{in_bounds as in_bounds_lem};
 ghost use Rattle.ha_journal.specs.Moves.{latest_number, report_number, sight};
-ghost use Rattle.trig_state.specs.States.{is_state};
+ghost use Rattle.ha_sight.specs.Rules.{is_state};
 ghost use Rattle.ha_journal.specs.Journal.{Journal, more};
 ghost use Rattle.ha_config.specs.Sound.{may_hold};
 ghost use Rattle.trig_set.specs.Kept.{is_true};
-ghost use Rattle.ha_past.specs.Looks.{watches};
+ghost use Rattle.ha_journal.specs.Holds.{watches};
 ghost use Rattle.trig_set.specs.Scenes.{Shows, shift_of as shift_of_lem};
 
 use crate::equal::equal_flag;

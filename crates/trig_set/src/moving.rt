@@ -4,18 +4,16 @@ ghost use Rattle.std.specs.Option.{option_copied, option_map_or};
 ghost use Rattle.ha_config.specs.Numbers.{in_bounds as in_bounds_lem};
 ghost use Rattle.ha_clock.specs.Local.{last_moment};
 ghost use Rattle.ha_value.specs.declared.value.Value.TheVariants.{Pairs as Map};
-ghost use Rattle.ha_journal.specs.Entries.{opens_segment, is_moment as is_moment_lem};
+ghost use Rattle.ha_journal.specs.Entries.{opens_segment, event_in, is_moment as is_moment_lem};
 ghost use Rattle.ha_config.specs.Words.{Text};
 ghost use Rattle.ha_journal.specs.Journal.{Journal, more};
-ghost use Rattle.ha_journal.specs.Moves.{sight, report_number, latest_number};
-ghost use Rattle.ha_sight.specs.Rules.{starts, head_pairs, state_value, text_or_null, number_or_null, passed};
+ghost use Rattle.ha_journal.specs.Moves.{sight, report_number, latest_number, looks};
+ghost use Rattle.ha_sight.specs.Rules.{starts, head_pairs, state_value, text_or_null, number_or_null, passed, is_numeric, is_event, is_state, given as given_lem};
 ghost use Rattle.ha_value.specs.Ids.{entity_text};
-ghost use Rattle.trig_numeric.specs.Bounds.{is_numeric};
 ghost use Rattle.ha_sight.specs.Sight.{Sight};
-ghost use Rattle.ha_past.specs.Looks.{is_event};
-ghost use Rattle.trig_state.specs.States.{is_state, rule_moves};
+ghost use Rattle.trig_state.specs.States.{rule_moves};
 ghost use Rattle.trig_set.specs.Kept.{is_true, holds_well};
-ghost use Rattle.ha_past.specs.Looks.{looks, given as given_lem, moves_with};
+ghost use Rattle.ha_past.specs.Looks.{moves_with};
 ghost use Rattle.trig_set.specs.Scenes.{Shows};
 
 use crate::attached::is_moment;
@@ -91,7 +89,7 @@ fn of_state(
     requires { is_state trigger.now.rule ≡ true }
     ensures { IfOk result (λ v. (j : Journal) (since : ℕ) → Shows scene.now j since → nat_lt since (length j) ≡ true
         → v ≡ (if looks (sight j (length j)) (sight (more j scene.now.entry.now) (suc (length j))) j trigger.now.rule (is_some trigger.now.hold) (Some entity.now) scene.now.entry.now
-        then Some (given_lem (sight j (length j)) (sight (more j scene.now.entry.now) (suc (length j))) (Some scene.now.entry.now) trigger.now (Some entity.now)) else None)) }
+        then Some (given_lem (sight j (length j)) (sight (more j scene.now.entry.now) (suc (length j))) (event_in scene.now.entry.now) trigger.now (Some entity.now)) else None)) }
 {
     let TriggerRule::State { attribute, .. } = &trigger.rule else {
         unreachable!()
@@ -144,7 +142,7 @@ fn of_number(
     requires { is_numeric trigger.now.rule ≡ true }
     ensures { IfOk result (λ v. (j : Journal) (since : ℕ) → Shows scene.now j since → nat_lt since (length j) ≡ true
         → v ≡ (if looks (sight j (length j)) (sight (more j scene.now.entry.now) (suc (length j))) j trigger.now.rule (is_some trigger.now.hold) (Some entity.now) scene.now.entry.now
-        then Some (given_lem (sight j (length j)) (sight (more j scene.now.entry.now) (suc (length j))) (Some scene.now.entry.now) trigger.now (Some entity.now)) else None)) }
+        then Some (given_lem (sight j (length j)) (sight (more j scene.now.entry.now) (suc (length j))) (event_in scene.now.entry.now) trigger.now (Some entity.now)) else None)) }
 {
     let TriggerRule::Numeric {
         attribute,
@@ -213,7 +211,7 @@ fn of_event(
 ) -> Result<Option<TriggerData>, AllocError>
     requires { is_event trigger.now.rule ≡ true }
     ensures { IfOk result (λ v. (b a : Sight) (j : Journal)
-        → v ≡ (if looks b a j trigger.now.rule (is_some trigger.now.hold) None entry.now then Some (given_lem b a (Some entry.now) trigger.now None) else None)) }
+        → v ≡ (if looks b a j trigger.now.rule (is_some trigger.now.hold) None entry.now then Some (given_lem b a (event_in entry.now) trigger.now None) else None)) }
 {
     let TriggerRule::Event { kinds, pairs } = &trigger.rule else {
         unreachable!()
@@ -259,7 +257,7 @@ fn ruled(
         → is ≡ is_true (sight (more j scene.now.entry.now) (length (more j scene.now.entry.now))) trigger.now.rule
         → was ≡ is_true (sight j (length j)) trigger.now.rule
         → v ≡ (if looks (sight j (length j)) (sight (more j scene.now.entry.now) (suc (length j))) j trigger.now.rule (is_some trigger.now.hold) (option_copied entity.entry) scene.now.entry.now
-        then Some (given_lem (sight j (length j)) (sight (more j scene.now.entry.now) (suc (length j))) (Some scene.now.entry.now) trigger.now (option_copied entity.entry)) else None)) }
+        then Some (given_lem (sight j (length j)) (sight (more j scene.now.entry.now) (suc (length j))) (event_in scene.now.entry.now) trigger.now (option_copied entity.entry)) else None)) }
 {
     match &trigger.rule {
         TriggerRule::State { .. } => match entity {

@@ -1,20 +1,11 @@
 -- State triggers, on an entity's old and new state.
-use Rattle.std.specs.Prelude.{Bool, true, false, Option, None, Some, is_none, option_and_then}
+use Rattle.std.specs.Prelude.{Bool, false, Option, None, Some, is_none, option_and_then}
 use Rattle.std.specs.Option.{option_map_or}
 use Rattle.ha_value.specs.declared.value.Value.{Value}
 use Rattle.ha_config.specs.declared.config.TriggerRule.{TriggerRule}
 use Rattle.ha_sight.specs.declared.state.StateObject.{StateObject}
 use Rattle.ha_config.specs.Words.{Text, same, first_pair}
 use Rattle.ha_sight.specs.Rules.{same_optional, state_moves}
-
-abbrev pub is_state : TriggerRule → Bool
-is_state (TriggerRule.State entities attribute from to) = true
-is_state (TriggerRule.Numeric entities attribute above below) = false
-is_state (TriggerRule.Event kinds pairs) = false
-is_state (TriggerRule.Time seconds) = false
-is_state (TriggerRule.Pattern hours minutes seconds) = false
-is_state (TriggerRule.Template t) = false
-is_state TriggerRule.Start = false
 
 -- the rule holds on the two states
 abbrev pub rule_moves : TriggerRule → Bool → Option StateObject → Option StateObject → Bool

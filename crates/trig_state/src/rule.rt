@@ -4,7 +4,8 @@ ghost use Rattle.std.specs.Option.{option_copied, option_map_or};
 ghost use Rattle.ha_config.specs.Equal.{same_pairs};
 ghost use Rattle.ha_sight.specs.Rules as triggers;
 ghost use Rattle.ha_config.specs.Words.{same};
-ghost use Rattle.trig_state.specs.States.{is_state, rule_moves, rule_stays, text_stays};
+ghost use Rattle.trig_state.specs.States.{rule_moves, rule_stays, text_stays};
+ghost use Rattle.ha_sight.specs.Rules.{is_state};
 
 use crate::sides::{are_absent, matches};
 use crate::texts::{attribute_in, same_optional, text_in};

@@ -7,7 +7,6 @@ use Rattle.ha_value.specs.declared.value.EntityId.{EntityId}
 use Rattle.ha_value.specs.declared.value.Num.{Num}
 use Rattle.ha_value.specs.declared.value.Value.{Value}
 use Rattle.ha_config.specs.declared.config.Trigger.{Trigger}
-use Rattle.ha_config.specs.declared.config.TriggerRule.{TriggerRule}
 use Rattle.ha_journal.specs.declared.entry.Entry.{Entry}
 use Rattle.ha_journal.specs.Entries.{is_moment}
 use Rattle.ha_config.specs.Words.{first_of_list, numbers_from, or_else}
@@ -107,15 +106,6 @@ module _ (j : Journal) (x : Entry) (h : HasEntry j) where
       (λ k le. fires-more t.1 e since q k (omega (arith, le)) lt)
       (λ k le. (let v = variables-more j x h t.1 e k (omega (arith, le, lt)) in λ i. record { trigger = t.0; entity = e; variables = v i }))
 
-  entities-alike : (rule : TriggerRule) → entities_of rule ≡ entities_of rule
-  entities-alike (TriggerRule.State entities attribute from to) = refl
-  entities-alike (TriggerRule.Numeric entities attribute above below) = refl
-  entities-alike (TriggerRule.Event kinds pairs) = refl
-  entities-alike (TriggerRule.Time seconds) = refl
-  entities-alike (TriggerRule.Pattern hours minutes seconds) = refl
-  entities-alike (TriggerRule.Template t) = refl
-  entities-alike TriggerRule.Start = refl
-
   each-fired : (p q : ℕ) → q < length j → (t : ℕ × Trigger) (es : List (Option EntityId)) → filter_map (firing_for (more j x) p q t) es ≡ filter_map (firing_for j p q t) es
   each-fired p q lt t [] = refl
   each-fired p q lt t (e ∷ es) = (λ i. cons_option (firing-more t e p q lt i) (each-fired p q lt t es i))
@@ -123,8 +113,7 @@ module _ (j : Journal) (x : Entry) (h : HasEntry j) where
   firings-more : (ts : List (ℕ × Trigger)) (p q : ℕ) → q < length j → flat_map (firings_by (more j x) p q) ts ≡ flat_map (firings_by j p q) ts
   firings-more [] p q lt = refl
   firings-more (t ∷ ts) p q lt =
-      (λ i. filter_map (firing_for (more j x) p q t) (entities-alike t.1.rule i) ++ flat_map (firings_by (more j x) p q) ts)
-      ∙ (λ i. each-fired p q lt t (entities_of t.1.rule) i ++ firings-more ts p q lt i)
+      (λ i. each-fired p q lt t (entities_of t.1.rule) i ++ firings-more ts p q lt i)
 
   all-fired-more : (ask : Ask) (p q : ℕ) → q < length j → all_fired (more j x) ask p q ≡ all_fired j ask p q
   all-fired-more ask p q lt = ap (map {A = Fired} {B = Value} (λ f. f.variables)) (firings-more (enumerate_from 0 ask.triggers) p q lt)

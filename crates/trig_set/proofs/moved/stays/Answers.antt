@@ -4,7 +4,7 @@ use Rattle.ha_config.specs.Equal.{same_flag}
 use Rattle.ha_journal.specs.Journal.{more}
 use Rattle.ha_journal.specs.Moves.{sight}
 use Rattle.trig_set.specs.Kept.{is_true}
-use Rattle.ha_past.specs.Looks.{watches}
+use Rattle.ha_journal.specs.Holds.{watches}
 use Rattle.ha_past.proofs.PastLemmas.{sight-whole}
 use Rattle.trig_set.proofs.moved.stays.Goals as goal
 

@@ -3,7 +3,6 @@ use Rattle.ha_config.specs.Sound.{is_short, is_sound_trigger}
 use Rattle.std.specs.List.{list_all}
 use Rattle.trig_set.specs.Blank.{are_blank}
 use Rattle.trig_set.specs.Kept.{AreTimed, place_of, places_of}
-use Rattle.trig_set.proofs.NoteLemmas.{places-alike}
 use Rattle.trig_set.proofs.BlankLemmas.{both, sound-well, blank-kept, blank-timed}
 use Rattle.timer_queue.specs.Timers.{IsLeast, due_of}
 use Rattle.trig_set.specs.Stands.{OwnerStands}
@@ -19,7 +18,7 @@ returns-clause-stands c j le =
       well = sound-well ts (both (is_short ts) (list_all is_sound_trigger ts) c.requires).1;
       spots = record {
         kept = blank-kept j ts c.args.since le spots.items blank;
-        places = c.in_ok-add_triggers.ensures.places ∙ (λ i. map place_of (c.new-spots.ensures.items i) ++ places_of [] (c.as_slice.ensures i)) ∙ places-alike [] j ts;
+        places = c.in_ok-add_triggers.ensures.places ∙ (λ i. map place_of (c.new-spots.ensures.items i) ++ places_of [] (c.as_slice.ensures i));
         timed = subst (λ l. AreTimed l spots.items) (sym c.make.ensures) (blank-timed spots.items blank);
       };
       listed = c.in_ok-listed.ensures;

@@ -2,7 +2,8 @@ use Rattle.std.proofs.Common.{◌∙◌, ap}
 use Rattle.ha_journal.specs.Moves.{sight}
 use Rattle.ha_journal.specs.Journal.{more}
 use Rattle.std.proofs.Common.{length, suc}
-use Rattle.ha_past.specs.Looks.{moves_with, watches}
+use Rattle.ha_past.specs.Looks.{moves_with}
+use Rattle.ha_journal.specs.Holds.{watches}
 use Rattle.trig_set.proofs.KeptLemmas.{step-moved}
 use Rattle.trig_set.proofs.spot.step.Goals as goal
 
