@@ -1,6 +1,4 @@
-pub mod FreeNames
 pub mod Lists
 pub mod Numbers
-pub mod SlugNames
-pub mod SoundConfigs
+pub mod ReadLemmas
 pub mod TreeSizes

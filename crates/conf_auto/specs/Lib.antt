@@ -1,4 +1,5 @@
 pub mod Automations
 pub mod Config
 pub mod Names
+pub mod Read
 pub mod Sizes

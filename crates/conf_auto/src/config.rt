@@ -1,8 +1,7 @@
 //! The configuration of a text.
 
-ghost use Rattle.std.specs.Prelude.{◌≡◌, ◌<◌, ◌^◌, ◌∷◌, [], ℕ, List, Result, None, Some, Ok, IfOk, IsTrue, length};
-ghost use Rattle.ha_config.specs.Sound.{IsSoundConfig};
-ghost use Rattle.conf_field.specs.Sizes.{has_distinct_keys};
+ghost use Rattle.std.specs.Prelude.{◌≡◌, ◌<◌, ◌^◌, ◌∷◌, [], ℕ, List, Result, None, Some, Ok, IfOk, length};
+ghost use Rattle.conf_field.specs.Sizes.{size};
 ghost use Rattle.ha_config.specs.declared.config.Automation.{Automation as One};
 ghost use Rattle.yaml_scan.specs.Answers.{Gives};
 ghost use Rattle.yaml_scan.specs.declared.fault.Fault.{Fault as Place};
@@ -10,6 +9,7 @@ ghost use Rattle.yaml_tree.specs.declared.node.Node.{Node as Root};
 ghost use Rattle.yaml_tree.specs.Tree.{tree};
 ghost use Rattle.conf_field.specs.Readings.{Read, made};
 ghost use Rattle.conf_auto.specs.Config as config;
+ghost use Rattle.conf_auto.specs.Read.{IsReadOf};
 
 use crate::automations::automation;
 use crate::names::joined;
@@ -132,11 +132,10 @@ fn config_with(all: Result<Many<Automation>, YamlFault>) -> Result<Config, YamlF
     }
 }
 
-/// The configuration of a tree, which is sound. A tree that is larger than any of a text of a configuration has no place in memory.
+/// The configuration of a tree. A tree that is larger than any of a text of a configuration has no place in memory.
 fn of_tree(alloc: Global, root: &Node) -> Result<Config, YamlFault>
-    requires { IsTrue (has_distinct_keys root.now) }
     ensures exact { Gives (config.of_root (Ok root.now)) result }
-    ensures sound { IfOk result IsSoundConfig }
+    ensures small { IfOk result (λ made. size root.now < 2_147_483_648) }
 {
     if is_small(root) {
         return config_with(of_root(alloc, root));
@@ -148,8 +147,8 @@ fn of_tree(alloc: Global, root: &Node) -> Result<Config, YamlFault>
 /// text's structure come before those of its keys, and its length, over 1,048,576 bytes, before every other.
 pub fn read_config(alloc: Global, text: &[u8]) -> Result<Config, YamlFault>
     ensures exact { Gives (config.config_of text.now) result }
-    // What the engine relies on: distinct names, numbers in range, distinct keys, short lists.
-    ensures sound { IfOk result IsSoundConfig }
+    // By this it is sound, as the engine asks: the law of `sound_laws`.
+    ensures read { IfOk result (IsReadOf text.now) }
 {
     if text.len() > MOST_BYTES {
         return bad(1, Code::Limit);

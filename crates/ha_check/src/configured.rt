@@ -13,6 +13,7 @@ use ha_config::Config;
 use ha_io::{Place, Source};
 use ha_status::{FileText, Status, Unready, read_config_file};
 use ha_value::Word;
+use sound_laws::laws::what_is_read_is_sound;
 use std::alloc::Global;
 use yaml_scan::YamlFault;
 
@@ -39,6 +40,7 @@ fn read_text(alloc: Global, text: &[u8]) -> Result<Parsed, YamlFault>
     ensures sound { IfOk result (λ made. IsSoundConfig made.config) }
     ensures refused { IfErr result (λ fault. IsRefusal (config_of text.now) fault) }
 {
+    what_is_read_is_sound();
     let config = match read_config(alloc, text) {
         Ok(config) => config,
         Err(fault) => return Err(fault),

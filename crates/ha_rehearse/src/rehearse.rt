@@ -22,6 +22,7 @@ use ha_model::{CoreFault, Record};
 use ha_status::{Status, told};
 use ha_value::Word;
 use rehearsal::{START, rehearse_config};
+use sound_laws::laws::what_is_read_is_sound;
 use std::alloc::Global;
 use yaml_scan::YamlFault;
 
@@ -32,6 +33,7 @@ fn read_text(alloc: Global, text: &[u8]) -> Result<Config, Status>
     ensures sound { IfOk result IsSoundConfig }
     ensures fault { IfErr result (λ status. status ≡ Status.Memory) }
 {
+    what_is_read_is_sound();
     match read_config(alloc, text) {
         Ok(config) => Ok(config),
         Err(YamlFault::Memory) => Err(Status::Memory),

@@ -16,6 +16,7 @@ use ha_clock::Moment;
 use ha_config::Config;
 use ha_replay::{BootLine, TraceFault, read_boot};
 use ha_value::{Many, Word};
+use sound_laws::laws::what_is_read_is_sound;
 use std::alloc::Global;
 use yaml_scan::YamlFault;
 
@@ -65,6 +66,7 @@ fn with_config(
 {
     are_stored_texts(&stored);
     let _ = zone.bytes();
+    what_is_read_is_sound();
     match read_config(alloc, text.bytes()) {
         Ok(config) => Ok(First {
             text,

@@ -7,6 +7,7 @@ use conf_auto::read_config;
 use flow_line::read_cmd;
 use ha_clock::{Moment, Zone};
 use ha_config::{Cmd, Config};
+use sound_laws::laws::what_is_read_is_sound;
 use state_table::StateTable;
 use std::alloc::{AllocError, Global};
 
@@ -38,6 +39,7 @@ pub fn home_of(alloc: Global, tests: &str, actions: &str) -> Result<Option<Home>
     ensures { IfOk result (λ made. IfSome made (λ home. IsSoundConfig home.config)) }
 {
     let text = text_of(alloc, tests, actions)?;
+    what_is_read_is_sound();
     match read_config(alloc, text.as_bytes()) {
         Ok(config) => Ok(Some(Home {
             config,

@@ -1,6 +1,6 @@
 -- The configuration that is read of a sound tree is sound.
-use Rattle.std.proofs.Common.{◌≡◌, ◌∙◌, ap, sym, subst, refl, ℕ, ◌+◌, ◌≤◌, ◌<◌, ◌^◌, Bool, true, false, cond, List, [], ◌∷◌, length, map, Option, Some, None, Result, Ok, Err, arith, length-append, inl, inr}
-use Rattle.std.specs.Prelude.{◌&&◌, nat_le, unwrap_or, option_map, option_and_then, slice_get, IfOk}
+use Rattle.std.proofs.Common.{◌≡◌, ◌∙◌, ap, sym, subst, refl, ℕ, ◌+◌, ◌≤◌, ◌<◌, ◌^◌, Bool, true, false, cond, List, [], ◌∷◌, length, map, Option, Some, None, Ok, Err, arith, length-append, inl, inr}
+use Rattle.std.specs.Prelude.{◌&&◌, nat_le, unwrap_or, option_map, option_and_then, slice_get}
 use Rattle.std.specs.List.{list_all}
 use Rattle.std.proofs.lemmas.Bool.{and_parts, le-leb}
 use Rattle.std.proofs.lemmas.Option.{slice_get_cases}
@@ -16,8 +16,6 @@ use Rattle.ha_config.specs.declared.config.Config.{Config}
 use Rattle.ha_config.specs.declared.config.Trigger.{Trigger}
 use Rattle.ha_config.specs.ValueFacts.{all_distinct}
 use Rattle.ha_config.specs.Sound.{IsSoundConfig, are_sound_actions, are_sound_conditions, are_sound_triggers, is_sound_action, is_sound_automation, sound_kind_step}
-use Rattle.yaml_scan.specs.Answers.{Gives}
-use Rattle.yaml_scan.specs.declared.fault.YamlFault.{YamlFault}
 use Rattle.yaml_scan.specs.declared.fault.Code.TheVariants as code
 use Rattle.yaml_tree.specs.declared.node.Node.{Node}
 use Rattle.yaml_tree.specs.declared.node.NodeKind.TheOpen.{NodeKind-F}
@@ -33,12 +31,14 @@ use Rattle.conf_laws.proofs.Down.{AreSoundPairs, IsSoundShape, most, sound_insid
 use Rattle.conf_laws.proofs.Parts.{Passes, Reads, either_way, field_sound, finish, known, made_of, of_get, of_need, of_optional, of_scalar, of_wanted, unknown, weaker, with}
 use Rattle.conf_laws.proofs.Triggers.{triggers_sound}
 use Rattle.conf_laws.proofs.Conditions.{conditions_sound}
+use Rattle.conf_laws.proofs.Distinct.{text_distinct}
 use Rattle.action_laws.proofs.SoundActions.{actions_sound}
 use Rattle.conf_auto.specs.Automations.{Settings, action_row, actions_in, asked_name, automation, automation_by, automation_map, build, condition_row, conditions_in, made_automation, mode, most_of, most_runs, or_empty, rows, script_of, trigger_row, triggers_in}
 use Rattle.conf_auto.specs.Names.{add, free_name, free_number, is_taken, joined, renamed, with_number}
+use Rattle.conf_auto.specs.Read.{IsReadOf}
 use Rattle.conf_auto.specs.Config.{at_most, automations, automations_by, automations_from, config_with, listed, made_list, made_root, of_node, of_root, root_by}
-use Rattle.conf_auto.proofs.SlugNames.{numbered_name, slug_name}
-use Rattle.conf_auto.proofs.FreeNames.{distinct_more, name_free, number_small}
+use Rattle.sound_laws.proofs.SlugNames.{numbered_name, slug_name}
+use Rattle.sound_laws.proofs.FreeNames.{distinct_more, name_free, number_small}
 
 -- ---- an automation's parts
 
@@ -233,10 +233,10 @@ config_sound all s =
     pair (nat_le (length all) 1_024 && all_distinct (map (λ (a : Automation). a.name) all)) (list_all is_sound_automation all)
     (pair (nat_le (length all) 1_024) (all_distinct (map (λ (a : Automation). a.name) all)) (le-leb (length all) 1_024 s.few) s.distinct) s.each
 
-pub of_tree : (root : Node) → IsSoundTree root → Holds IsSoundConfig (of_root (Ok root))
+of_tree : (root : Node) → IsSoundTree root → Holds IsSoundConfig (of_root (Ok root))
 of_tree root s = made_of SoundAll IsSoundConfig config_with (of_node root) config_sound (root_sound (line_of root) (shape_of root) (sound_inside root s))
 
--- what is given by a reading of which it holds is sound
-pub given_sound : (m : Read Config) (result : Result Config YamlFault) → Holds IsSoundConfig m → Gives m result → IfOk result IsSoundConfig
-given_sound m (Ok c) h g = subst (Holds IsSoundConfig) g h
-given_sound m (Err e) h g = tt
+-- LAW: what is read of a text is sound
+pub read_sound : (text : List ℕ) (config : Config) → IsReadOf text config → IsSoundConfig config
+read_sound text config r =
+    subst (Holds IsSoundConfig) r.config_is (of_tree r.root (record { distinct = text_distinct text r.root r.spelled; small = r.small }))
