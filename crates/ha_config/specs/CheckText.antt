@@ -10,7 +10,7 @@ use Rattle.ha_config.specs.Words.{Text}
 abbrev pub as_line : Text → Text
 as_line t = t ++ 10 ∷ []
 
--- ---- what `check` and `rehearse` write
+-- ---- what `check` writes
 
 abbrev pub mode_text : Mode → Text
 mode_text Mode.Single = codes "single"
@@ -26,6 +26,8 @@ check_line a = as_line (codes "automation." ++ a.name ++ codes " " ++ mode_text 
 -- a line for each automation, counted at the top level, and the count of automations
 abbrev pub check_text : Config → Text
 check_text c = concat (map check_line c.automations) ++ as_line (codes "ok " ++ decimal (length c.automations))
+
+-- ---- counts
 
 abbrev pub count_line : Text → ℕ → Text
 count_line what n = as_line (what ++ codes " " ++ decimal n)

@@ -1,4 +1,4 @@
--- Commands and items as they are printed in a trace, with all keys in their order.
+-- Commands as they are printed in a trace, with all keys in their order.
 use Rattle.std.specs.Prelude.{ℕ, true, [], ◌∷◌, ◌++◌, decimal, codes, if◌then◌else◌}
 use Rattle.ha_value.specs.declared.value.EntityId.{EntityId}
 use Rattle.ha_value.specs.Ids.{entity_text}

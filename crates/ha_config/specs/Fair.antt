@@ -8,6 +8,8 @@ use Rattle.ha_config.specs.declared.command.Cmd.{Cmd}
 use Rattle.ha_config.specs.Words.{Text, characters}
 use Rattle.ha_config.specs.ValueFacts.{AreFairPairs}
 
+-- ---- fair commands
+
 -- an entity that a line may report: in the form of an id, and no automation
 abbrev pub IsReportable : EntityId → Type 0
 IsReportable e = IsTrue (is_entity e) × (e.domain ≢ codes "automation")
@@ -49,6 +51,8 @@ put_among has (Cmd.Refused code) = Cmd.Refused code
 put_among has Cmd.Lost = Cmd.Lost
 put_among has Cmd.TooLong = Cmd.TooLong
 
+-- ---- the classes of commands that other definitions and laws speak of
+
 -- after this line its source has no other
 abbrev pub shuts_source : Cmd → Bool
 shuts_source Cmd.Lost = true
@@ -61,8 +65,6 @@ shuts_source (Cmd.Switch name on stop) = false
 shuts_source (Cmd.Trigger name skip) = false
 shuts_source Cmd.Restart = false
 shuts_source (Cmd.Refused code) = false
-
--- ---- the classes of entries that laws speak of
 
 -- a line that changes no switch and is no Restart
 abbrev pub IsPlain : Cmd → Type 0

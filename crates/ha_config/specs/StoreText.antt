@@ -3,8 +3,6 @@ use Rattle.std.specs.Prelude.{Bool, List, [], ◌∷◌, map, Option, Some, None
 use Rattle.ha_config.specs.Words.{Text, comes_before}
 use Rattle.ha_config.specs.ValueText.{map_text, flag_text}
 
--- ---- the store
-
 -- a pair among others, in the byte order of the names
 abbrev pub placed_by_name : Text × Bool → List (Text × Bool) → List (Text × Bool)
 placed_by_name p [] = p ∷ []
@@ -21,8 +19,7 @@ switches_text ps = map_text (map (λ p. (p.0, flag_text p.1)) ps)
 abbrev pub store_of : List (Text × Bool) → Text
 store_of ps = map_text ((codes "switches", switches_text (in_name_order ps)) ∷ (codes "version", codes "1") ∷ [])
 
--- ---- the trace
-
+-- the stored switches of a boot, as they are printed in a trace
 abbrev pub stored_text : Option (List (Text × Bool)) → Text
 stored_text None = codes "null"
 stored_text (Some ps) = switches_text ps

@@ -1,4 +1,4 @@
--- Facts on values: which are sound, and which texts they hold.
+-- Facts on values: which are sound, which texts they hold, and which pairs a fair command may have.
 use Rattle.std.specs.Prelude.{suc, ◌≤◌, IsTrue, Bool, true, not, ◌&&◌, List, [], ◌∷◌, map}
 use Rattle.std.specs.List.{list_any, list_all}
 use Rattle.std.specs.Str.{is_utf8}
@@ -9,7 +9,7 @@ use Rattle.ha_config.specs.Words.{Text, Pairs, same}
 use Rattle.ha_config.specs.Numbers.{is_in_range}
 use Rattle.ha_config.specs.ValueText.{pairs_depth}
 
--- ---- values
+-- ---- sound values
 
 -- no text stands in the list twice
 abbrev pub all_distinct : List Text → Bool
@@ -34,6 +34,8 @@ is_sound_value = fold-Value Bool sound_step
 abbrev pub are_sound_pairs : Pairs → Bool
 are_sound_pairs ps = all_distinct (keys_of ps) && list_all (λ p. is_sound_value p.1) ps
 
+-- ---- texts in values
+
 abbrev pub utf8_step : Value-F Bool → Bool
 utf8_step Value-F.Null = true
 utf8_step (Value-F.Flag b) = true
@@ -49,7 +51,7 @@ has_utf8_texts = fold-Value Bool utf8_step
 abbrev pub have_utf8_texts : Pairs → Bool
 have_utf8_texts ps = list_all (λ p. is_utf8 p.0 && has_utf8_texts p.1) ps
 
--- ---- fair commands
+-- ---- the pairs of a fair command
 
 -- the attributes or the data of a command: a map in the command's map, which is nested at most 32 deep in all
 abbrev pub AreFairPairs : Pairs → Type 0

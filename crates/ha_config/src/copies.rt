@@ -1,4 +1,4 @@
-//! Copies of all types, and whether two values are the same.
+//! Copies of this crate's types, and whether two values are the same.
 mod actions;
 mod command;
 mod conditions;

@@ -10,6 +10,8 @@ use Rattle.ha_journal.specs.Journal.{Journal, automations}
 use Rattle.ha_config.specs.Names.{automation_named}
 use Rattle.ha_config.specs.Fair.{IsNamedAmong, put_among, IsFairAmong}
 
+-- ---- fair commands
+
 abbrev pub has_automation : Journal → Text → Bool
 has_automation j name = is_some (automation_named (automations j) name)
 
@@ -20,6 +22,8 @@ IsOfAutomation j name = IsNamedAmong (has_automation j) name
 -- a command that a source may give behind these entries
 abbrev pub IsFair : Journal → Cmd → Type 0
 IsFair j cmd = IsFairAmong (has_automation j) cmd
+
+-- ---- what stands for a command that was read
 
 -- what stands behind these entries for a command
 abbrev pub put_as : Journal → Cmd → Cmd

@@ -1,5 +1,5 @@
--- What an entry is, and what its command or item does. The other definitions ask here, so that one file knows all kinds of entries,
--- commands and items; elsewhere a match on these types names every kind.
+-- What an entry is, and what its command or item does. The other definitions ask here, or `Fair` of commands and `Items` of items, so that
+-- few files know all kinds of entries, commands and items; elsewhere a match on these types names every kind.
 use Rattle.std.specs.Prelude.{ℕ, Bool, true, false, ◌||◌, List, [], replicate, Option, Some, None, is_some}
 use Rattle.ha_value.specs.declared.value.EntityId.{EntityId}
 use Rattle.ha_config.specs.declared.config.Config.{Config}

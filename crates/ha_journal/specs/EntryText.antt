@@ -62,8 +62,12 @@ error_text_of x = option_map_or (λ t. t) (error_line x) []
 abbrev pub error_text : Journal → Text
 error_text j = texts_after (λ before x. error_text_of x) [] j
 
+-- ---- the store
+
 abbrev pub store_text : Journal → Text
 store_text j = store_of (switches_of j)
+
+-- ---- the trace
 
 -- the trace line of an entry
 abbrev pub trace_line : List Automation → Entry → Text

@@ -1,3 +1,3 @@
-//! Copies of all types, and whether two values are the same.
+//! Copies of this crate's types, and whether two values are the same.
 mod carry;
 mod entry;

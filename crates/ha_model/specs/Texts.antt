@@ -1,4 +1,4 @@
--- The texts that are written of a journal: its calls, its errors, the store, the trace; and the lines of the other commands.
+-- The texts that are written of a journal with its records: its calls, and the counts of `rehearse`. `EntryText` has the others.
 use Rattle.std.specs.Prelude.{suc, false, [], ◌++◌, length, count_by, is_some, codes}
 use Rattle.std.specs.Option.{option_map_or}
 use Rattle.ha_journal.specs.declared.entry.Entry.{Entry}
@@ -11,6 +11,8 @@ use Rattle.ha_model.specs.Records.{Records, calls_of}
 use Rattle.ha_model.specs.Lawful.{record_of}
 use Rattle.ha_journal.specs.EntryText.{call_line, texts_after}
 use Rattle.ha_config.specs.CheckText.{count_line}
+
+-- ---- calls
 
 -- the line of a Step that calls; the calls of its run count from 1
 abbrev pub call_of_step : Records → Journal → Stepped → Called → Text
@@ -25,6 +27,8 @@ call_text_of records before x = option_map_or (λ s. option_map_or (call_of_step
 -- the call lines of a journal
 abbrev pub call_text : Journal → Records → Text
 call_text j records = texts_after (call_text_of records) [] j
+
+-- ---- what `rehearse` writes
 
 -- how many lines, entries, runs and calls a journal has
 abbrev pub rehearse_text : Journal → Records → Text

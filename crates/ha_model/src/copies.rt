@@ -1,2 +1,2 @@
-//! Copies of all types, and whether two values are the same.
+//! Copies of this crate's types, and whether two values are the same.
 mod record;

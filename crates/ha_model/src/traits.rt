@@ -1,4 +1,4 @@
-//! What the parts of the engine ask of each other: answers on one place, ends of waits, and the engine itself.
+//! What is asked of a core.
 ghost use Rattle.std.specs.Prelude.{◌≡◌, ◌↔◌, ◌<◌, ◌++◌, ◌∷◌, [], ℕ, List, Option, Some, Bool, true, false, length, count_by, IfOk, IfErr, OnOk, OnErr, Err};
 ghost use Rattle.std.specs.List.{list_any};
 ghost use Rattle.ha_journal.specs.declared.entry.Entry.{Entry};

@@ -1,10 +1,8 @@
--- What an item of a step is.
+-- What an item of a step is: a call, or the code of a failure.
 use Rattle.std.specs.Prelude.{ℕ, Bool, List, Option, Some, None, is_some}
 use Rattle.ha_value.specs.declared.value.EntityId.{EntityId}
 use Rattle.ha_sight.specs.declared.item.Item.{Item}
 use Rattle.ha_config.specs.Words.{Text, Pairs}
-
--- ---- calls, failures and refusals
 
 pub record Called : Type 0 where
   pub service : Text

@@ -4,7 +4,6 @@ use Rattle.ha_config.specs.Words.{Text}
 use Rattle.ha_value.specs.declared.value.EntityId.{EntityId}
 use Rattle.ha_sight.specs.declared.state.StateObject.{StateObject}
 
--- what one place sees
 pub record Sight : Type 0 where
   pub states : EntityId → Option StateObject
   pub now : ℕ

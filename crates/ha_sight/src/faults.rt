@@ -1,4 +1,4 @@
-//! Why a call of the engine's parts has no answer.
+//! Why a template has no answer.
 
 use thiserror::Error;
 

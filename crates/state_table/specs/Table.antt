@@ -1,4 +1,4 @@
--- What a table of states says, and which journals it stands for.
+-- What a table of states says, and how it changes.
 use Rattle.std.specs.Prelude.{◌≡◌, Option, None, if◌then◌else◌}
 use Rattle.std.specs.BTreeMap.{get_by_text}
 use Rattle.ha_value.specs.declared.value.EntityId.{EntityId}
