@@ -79,14 +79,16 @@ fn has_key(pairs: &[(Word, Value)], key: &Word) -> bool
 }
 
 impl FoundPairs {
+    /// No pairs, with room for two.
     #[inline(always)]
-    pub fn new(alloc: Global) -> FoundPairs
-        ensures { result ≡ [] }
+    pub fn with_room(alloc: Global) -> Result<FoundPairs, AllocError>
+        ensures { IfOk result (λ pairs. pairs ≡ []) }
     {
-        FoundPairs {
-            list: Many::make(alloc),
+        let list = Many::with_room(alloc, 2)?;
+        Ok(FoundPairs {
+            list,
             marks: BTreeSet::new(alloc),
-        }
+        })
     }
 
     /// Whether the key is one of those behind the first few.

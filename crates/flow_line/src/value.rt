@@ -144,17 +144,18 @@ impl<'a> FlowReader<'a> {
         Ok(Value::Number(self.number()?))
     }
 
-    /// Values with commas between them, behind the opening bracket.
+    /// Values with commas between them, behind the opening bracket. The list begins with room for one value, so that lists in one another
+    /// take no more than they hold.
     #[cycle(read)]
     #[tactic(auto, unfolding(crate::specs::Reading::items, reading::specs::Rows::closed_by))]
     fn items(&mut self, alloc: Global, depth: usize) -> Result<Many<Value>, Stopped>
         ensures { Gives (items (value depth) self.old) result self.new }
     {
-        let mut items = Many::make(alloc);
         self.skip_blanks();
         if self.eat(b']') {
-            return Ok(items);
+            return Ok(Many::make(alloc));
         }
+        let mut items = Many::with_room(alloc, 1)?;
         'items: loop {
             let item = self.value(alloc, depth)?;
             items.push(item)?;
@@ -173,11 +174,11 @@ impl<'a> FlowReader<'a> {
     fn pairs(&mut self, alloc: Global, depth: usize) -> Result<Many<(Word, Value)>, Stopped>
         ensures { Gives (pairs (value depth) self.old) result self.new }
     {
-        let mut pairs = FoundPairs::new(alloc);
         self.skip_blanks();
         if self.eat(b'}') {
-            return Ok(pairs.into_list());
+            return Ok(Many::make(alloc));
         }
+        let mut pairs = FoundPairs::with_room(alloc)?;
         'pairs: loop {
             let pair = self.pair(alloc, depth, &pairs)?;
             pairs = pairs.push(pair)?;

@@ -14,7 +14,7 @@ use Rattle.flow_line.proofs.value.FlowReader.+read.Goals as goal
 
 pub items-returns-in_err-item : goal.items-returns-in_err-item
 items-returns-in_err-item t c =
-    let p = err_from_is_err_and c.from_residual.result c.from_residual.ensures.1 in
+    let p = err_from_is_err_and c.from_residual-in_err-item.result c.from_residual-in_err-item.ensures.1 in
     rw (p.1, p.2) (item_fails Syntax 93 (λ _. value c.args.depth) c.items.items c.items.self (items (value c.args.depth) c.args.self.now) c.in_err-item.field-0.0 c.value.new.self c.items.invariant c.in_err-item.ensures)
 
 pub items-returns-then-eat-2 : goal.items-returns-then-eat-2
@@ -40,13 +40,13 @@ items-items-preserved t c =
 
 pub pairs-returns-in_err-pair : goal.pairs-returns-in_err-pair
 pairs-returns-in_err-pair t c =
-    let p = err_from_is_err_and c.from_residual.result c.from_residual.ensures.1 in
+    let p = err_from_is_err_and c.from_residual-in_err-pair.result c.from_residual-in_err-pair.ensures.1 in
     rw (p.1, p.2) (item_fails Syntax 125 (pair (value c.args.depth)) c.pairs.pairs c.pairs.self (pairs (value c.args.depth) c.args.self.now) c.in_err-pair.field-0.0 c.pair.new.self c.pairs.invariant c.in_err-pair.ensures)
 
 pub pairs-returns-then-eat-2 : goal.pairs-returns-then-eat-2
 pairs-returns-then-eat-2 t c =
     ends Syntax 125 (pair (value c.args.depth)) c.pairs.pairs c.pairs.self (pairs (value c.args.depth) c.args.self.now) c.in_ok-pair.pair c.pair.new.self c.pairs.invariant c.in_ok-pair.ensures
-    c.skip_blanks-in-pairs.new.self c.skip_blanks-in-pairs.ensures c.eat-in-pairs.result c.eat-in-pairs.ensures.found c.into_list-then-eat-2.result c.eat-in-pairs.new.self (c.into_list-then-eat-2.ensures ∙ c.in_ok-pairs.ensures) c.if-eat-2.true c.eat-in-pairs.ensures.rest
+    c.skip_blanks-in-pairs.new.self c.skip_blanks-in-pairs.ensures c.eat-in-pairs.result c.eat-in-pairs.ensures.found c.into_list.result c.eat-in-pairs.new.self (c.into_list.ensures ∙ c.in_ok-pairs-2.ensures) c.if-eat-2.true c.eat-in-pairs.ensures.rest
 
 pub pairs-returns-in_err-expect : goal.pairs-returns-in_err-expect
 pairs-returns-in_err-expect t c =
@@ -62,7 +62,7 @@ pairs-pairs-smaller t c =
 pub pairs-pairs-preserved : goal.pairs-pairs-preserved
 pairs-pairs-preserved t c =
     goes_on Syntax 125 (pair (value c.args.depth)) c.pairs.pairs c.pairs.self (pairs (value c.args.depth) c.args.self.now) c.in_ok-pair.pair c.pair.new.self c.pairs.invariant c.in_ok-pair.ensures
-    c.skip_blanks-in-pairs.new.self c.skip_blanks-in-pairs.ensures c.eat-in-pairs.result c.eat-in-pairs.ensures.found c.in_ok-pairs.pairs c.eat-in-pairs.new.self c.expect.new.self c.skip_blanks-in-pairs-2.new.self c.in_ok-pairs.ensures c.if-eat-2.false c.eat-in-pairs.ensures.rest c.in_ok-expect.ensures c.skip_blanks-in-pairs-2.ensures (pairs-pairs-smaller t c)
+    c.skip_blanks-in-pairs.new.self c.skip_blanks-in-pairs.ensures c.eat-in-pairs.result c.eat-in-pairs.ensures.found c.in_ok-pairs-2.pairs c.eat-in-pairs.new.self c.expect.new.self c.skip_blanks-in-pairs-2.new.self c.in_ok-pairs-2.ensures c.if-eat-2.false c.eat-in-pairs.ensures.rest c.in_ok-expect.ensures c.skip_blanks-in-pairs-2.ensures (pairs-pairs-smaller t c)
 
 pub value-returns-in-Some : goal.value-returns-in-Some
 value-returns-in-Some t c =
