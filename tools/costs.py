@@ -1,4 +1,4 @@
-"""What crates.txt says of the crates, and what a check of each takes by the table in docs/PROVING.md: for the tools beside this file."""
+"""What crates.txt says of the crates, and what a check of each takes by the table in docs/GATE.md: for the tools beside this file."""
 import os
 import re
 
@@ -47,7 +47,7 @@ def above(uses, name):
 
 def minutes(top=TOP):
     """The processor minutes of proof, tests and edits, by crate, of each that has a row."""
-    found, file = {}, f"{top}/docs/PROVING.md"
+    found, file = {}, f"{top}/docs/GATE.md"
     if not os.path.isfile(file):
         return found
     with open(file, encoding="utf-8") as it:
