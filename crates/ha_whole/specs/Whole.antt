@@ -215,9 +215,14 @@ most_entries = 4_194_304
 abbrev pub most_segments : ℕ
 most_segments = 1_024
 
+-- none of these has more entries than a segment may
+abbrev pub AreShort : List Journal → Type 0
+AreShort [] = Unit {0}
+AreShort (s ∷ ss) = (length s ≤ most_in_segment) × AreShort ss
+
 -- no segment and not the journal has more than it may
 pub record IsWithin (j : Journal) : Type 0 where
-  pub segment_room : length (segment j) ≤ most_in_segment
+  pub segment_room : AreShort (segments j)
   pub room : length j ≤ most_entries
   pub segments_room : length (segments j) ≤ most_segments
 
