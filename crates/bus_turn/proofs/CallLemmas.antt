@@ -13,7 +13,9 @@ use Rattle.ha_sight.specs.Items.{Called, call_in}
 use Rattle.ha_journal.specs.Entries.{Stepped}
 use Rattle.ha_journal.specs.Journal.{HasEntry, Journal, automations, more}
 use Rattle.ha_model.specs.Lawful.{IsRightEntry, Right, record_of}
-use Rattle.ha_model.specs.Records.{Records, calls_of, ended, with_begins}
+use Rattle.ha_model.specs.Records.{Records, calls_of}
+use Rattle.ha_model.proofs.FoldLaws.{records-passes}
+use Rattle.ha_model.proofs.Passes.{ended, with_begins}
 use Rattle.ha_config.specs.Names.{name_of}
 use Rattle.ha_journal.specs.EntryText.{call_line}
 use Rattle.ha_model.specs.Texts.{call_of_step, call_text_of}
@@ -53,7 +55,7 @@ module _ (before : Journal) (worker serial : ℕ) (branch : List ℕ) (item : It
       let known = each-last (IsRightEntry rs) [] before here right.entries in
       let same : known.0 ≡ r = some-same known.0 r (sym known.1 ∙ found) in
       let serial-is : r.serial ≡ serial = sym (ap (λ z. z.serial) same) ∙ known.2 in
-      let all = counted (more before here) [] (ended (more before here)) _ r (ap (λ xs. record_of xs serial) (sym right.records_are) ∙ found) in
+      let all = counted (more before here) [] (ended (more before here)) _ r (ap (λ xs. record_of xs serial) (sym (right.records_are ∙ records-passes (more before here))) ∙ found) in
       let here-is : (nat_eq serial serial && is_some (call_in item)) ≡ true = (λ i. same-number serial i && call i) in
       all ∙ ap (calls_of (more before here)) serial-is ∙ calls-more before here serial ∙ ap (λ b. calls_of before serial + cond b 1 0) here-is ∙ (omega arith)
 

@@ -13,7 +13,7 @@ use Rattle.ha_journal.specs.Waits.{next_spot}
 use Rattle.ha_config.specs.Words.{same}
 use Rattle.ha_config.proofs.ListLemmas.{append-nil}
 use Rattle.ha_config.proofs.EqualLemmas.{same-refl, same-sound}
-use Rattle.ha_model.proofs.StepLaws.{spots-more}
+use Rattle.ha_model.proofs.FoldLaws.{spots-more}
 use Rattle.script_step.specs.Gates.{gate_at}
 use Rattle.script_step.specs.declared.frames.Frames.{Frames}
 use Rattle.wait_set.specs.declared.asked.Asked as wait

@@ -12,7 +12,7 @@ use Rattle.ha_config.specs.Words.{or_else}
 use Rattle.ha_model.specs.Records.{spots}
 use Rattle.ha_sight.specs.Scripts.{Branch, Spot}
 use Rattle.ha_config.proofs.ListLemmas.{append-nil}
-use Rattle.ha_model.proofs.StepLaws.{spots-more}
+use Rattle.ha_model.proofs.FoldLaws.{spots-more}
 use Rattle.script_step.specs.Gates.{gate_at}
 use Rattle.script_step.specs.declared.frames.Frames.{Frames}
 use Rattle.wait_set.specs.declared.asked.Asked.{Asked}

@@ -12,7 +12,7 @@ use Rattle.ha_sight.specs.Branches.{branches_of}
 use Rattle.ha_model.specs.Records.{Records, actions_of, spots, spot_of}
 use Rattle.ha_model.specs.Lawful.{is_running, may_step}
 use Rattle.ha_journal.proofs.MoreLemmas.{automations-more, length-more}
-use Rattle.ha_model.proofs.StepLaws.{spots-more}
+use Rattle.ha_model.proofs.FoldLaws.{spots-more}
 use Rattle.ha_config.proofs.ListLemmas.{append-nil}
 use Rattle.script_step.specs.Gates.{Fronts, opens}
 use Rattle.script_step.specs.Gates.{open_branches}

@@ -13,7 +13,8 @@ use Rattle.ha_model.specs.Records.{Records, actions_of, spots, spot_of}
 use Rattle.ha_model.specs.Lawful.{Right, is_running, record_of}
 use Rattle.ha_config.proofs.ListLemmas.{append-nil, get-last}
 use Rattle.ha_journal.proofs.MoreLemmas.{has-entry, automations-more, length-more}
-use Rattle.ha_model.proofs.StepLaws.{spots-more, serial-at, Numbered}
+use Rattle.ha_model.proofs.StepLaws.{serial-at, Numbered}
+use Rattle.ha_model.proofs.FoldLaws.{spots-more}
 use Rattle.script_step.specs.Gates.{open_now}
 use Rattle.engine_parts.specs.Fronts.{fronts, Stands}
 use Rattle.engine_parts.proofs.FrontWords.{fronts-are}

@@ -17,7 +17,7 @@ use Rattle.ha_model.specs.Records.{actions_of, spots}
 use Rattle.ha_journal.proofs.MoreLemmas.{automations-more, length-more}
 use Rattle.ha_config.proofs.ListLemmas.{get-last}
 use Rattle.ha_journal.proofs.StateLemmas.{now-snoc}
-use Rattle.ha_model.proofs.StepLaws.{spots-more}
+use Rattle.ha_model.proofs.FoldLaws.{spots-more}
 use Rattle.script_step.specs.Gates.{Gate, Fronts}
 use Rattle.script_step.specs.Told.{IsAsk}
 use Rattle.engine_parts.specs.Fronts.{fronts, Stands}

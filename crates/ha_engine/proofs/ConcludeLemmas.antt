@@ -17,9 +17,9 @@ use Rattle.ha_model.specs.RecordSteps.{records_after}
 use Rattle.ha_model.specs.Lawful.{Right}
 use Rattle.ha_model.proofs.LawfulLaws.{right-more}
 use Rattle.ha_journal.proofs.MoreLemmas.{length-more}
-use Rattle.ha_model.proofs.RecordLaws.{records-more}
 use Rattle.ha_config.proofs.ListLemmas.{get-last}
 use Rattle.ha_model.proofs.StepLaws.{Numbered, numbered-of}
+use Rattle.ha_model.proofs.FoldLaws.{records-more}
 use Rattle.run_modes.specs.Calls.{AreTurned, all_tried, stops_done}
 use Rattle.run_modes.specs.Fits.{AreNumbered}
 use Rattle.run_laws.proofs.EntryLaws.{by-calls}

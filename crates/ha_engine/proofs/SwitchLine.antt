@@ -18,7 +18,7 @@ use Rattle.ha_journal.specs.Switches.{is_on}
 use Rattle.ha_config.specs.Words.{Text, same}
 use Rattle.ha_journal.proofs.MoreLemmas.{has-entry, automations-more, length-more}
 use Rattle.ha_model.proofs.LawfulLaws.{right-more}
-use Rattle.ha_model.proofs.RecordLaws.{records-more}
+use Rattle.ha_model.proofs.FoldLaws.{records-more}
 use Rattle.ha_journal.proofs.SwitchLemmas.{on-more}
 use Rattle.run_laws.proofs.EntryLaws.{by-calls}
 use Rattle.run_modes.specs.Calls.{AreTurned, all_tried}

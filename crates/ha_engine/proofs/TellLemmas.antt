@@ -15,14 +15,15 @@ use Rattle.ha_sight.specs.Items.{is_call}
 use Rattle.ha_journal.specs.Journal.{Journal, IsJournal, automations, more}
 use Rattle.ha_model.specs.Lawful.{Right, record_of}
 use Rattle.ha_model.specs.NextPlace.{next_end}
-use Rattle.ha_model.specs.Records.{Records, calls_of, ended, is_call_of, spots, with_begins}
+use Rattle.ha_model.specs.Records.{Records, calls_of, is_call_of, spots}
 use Rattle.ha_journal.specs.Attempts.{passing}
 use Rattle.ha_model.specs.RecordSteps.{records_after}
 use Rattle.ha_sight.specs.Scripts.{Branch}
 use Rattle.ha_model.proofs.LawfulLaws.{right-more}
 use Rattle.ha_journal.proofs.MoreLemmas.{length-more}
-use Rattle.ha_model.proofs.RecordLaws.{records-more}
 use Rattle.ha_model.proofs.StepLaws.{numbered-of, Numbered}
+use Rattle.ha_model.proofs.FoldLaws.{records-more, records-passes}
+use Rattle.ha_model.proofs.Passes.{ended, with_begins}
 use Rattle.ha_ready.specs.Agree.{step_at}
 use Rattle.ha_ready.specs.RestedFlags.{RestedKept}
 use Rattle.ha_ready.proofs.RunPast.{all-past, past-at}
@@ -137,7 +138,7 @@ module _ (k : Journal) (rs : Records) (p : Parts) (progress : Progress) (serial 
   -- LAW: its calls fit 64 bits
   pub few-calls : run.calls < 2 ^ 64 - 1
   few-calls =
-      (let few : run.calls ≤ length j = calls-at j [] (ended j) (serial - 1) run (ap (λ (l : Records). slice_get l (serial - 1)) (sym h.told.right.records_are) ∙ found) in omega (arith, few, h.told.room))
+      (let few : run.calls ≤ length j = calls-at j [] (ended j) (serial - 1) run (ap (λ (l : Records). slice_get l (serial - 1)) (sym (h.told.right.records_are ∙ records-passes j)) ∙ found) in omega (arith, few, h.told.room))
 
   pub run-counts : (r : Record) × (record_of rs serial ≡ Some r) × (r.serial ≡ serial) × (r.calls < 2 ^ 64 - 1)
   run-counts = (run, found, own, few-calls)

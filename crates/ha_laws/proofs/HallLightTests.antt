@@ -1,10 +1,12 @@
 -- The journal of a hall light that goes out after two minutes.
 use Rattle.ha_laws.proofs.AsciiTexts.{on-utf8, off-utf8}
-use Rattle.std.proofs.Common.{◌≡◌, [], ◌∷◌, true, refl, arith, inl}
+use Rattle.std.proofs.Common.{◌≡◌, [], ◌∷◌, true, refl, sym, ◌∙◌, arith, inl}
 use Rattle.std.specs.Prelude.{Some, None}
 use Rattle.ha_sight.specs.declared.item.Item.{Item}
 use Rattle.ha_sight.specs.Scripts.{Status, whole}
 use Rattle.ha_model.specs.Lawful.{is_quiet, Lawful, Right}
+use Rattle.ha_model.proofs.FoldLaws.{records-passes}
+use Rattle.ha_model.proofs.Passes.{by_passes}
 use Rattle.ha_sight.proofs.Rolls.{rolls}
 use Rattle.ha_value.specs.Ids.{read_entity}
 use Rattle.ha_laws.specs.WorkedHall.{hall_light, on_item, off_item, journal, env, spot, the_record, records}
@@ -17,11 +19,15 @@ too_early : (whole hall_light.actions env (spot 3 ∷ spot 4 ∷ spot 5 ∷ []))
 unfolding read_entity
 too_early = simp rolls
 
+by-passes : records ≡ by_passes journal
+unfolding read_entity
+by-passes = simp rolls
+
 it_is_right : Right journal records
 unfolding read_entity
 it_is_right = record {
   journal = (tt, (λ h. h, (λ h. h, (λ h. h, (λ h. h, (λ h. h, (λ h. h, (λ h. h, tt))))))));
-  records_are = simp rolls;
+  records_are = by-passes ∙ sym (records-passes journal);
   entries = (
     tt,
     (

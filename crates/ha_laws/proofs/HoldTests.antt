@@ -1,5 +1,5 @@
 -- Holds with a Gone between, and a queue that takes one run, computed.
-use Rattle.std.proofs.Common.{◌≡◌, [], ◌∷◌, refl}
+use Rattle.std.proofs.Common.{◌≡◌, [], ◌∷◌, refl, ◌∙◌}
 use Rattle.std.specs.Prelude.{Some, None}
 use Rattle.ha_value.specs.declared.value.Value.TheVariants.{outs-Number, outs-Text, outs-Flag}
 use Rattle.ha_value.specs.declared.value.Value.TheViews.{out-roll-Value}
@@ -9,6 +9,7 @@ use Rattle.ha_value.specs.Ids.{read_entity}
 use Rattle.ha_value.specs.Arithmetic.{to_whole}
 use Rattle.ha_model.specs.declared.record.EndCause.{EndCause}
 use Rattle.ha_model.specs.Records.{records_of}
+use Rattle.ha_model.proofs.FoldLaws.{records-passes}
 use Rattle.ha_sight.proofs.Rolls.{rolls}
 use Rattle.ha_laws.specs.WorkedHolds.{attempted, number_held, template_held, attribute_held, queue_of_one, queue_run}
 
@@ -36,4 +37,4 @@ attribute-fires = simp (rolls, out-roll-Value)
 
 pub one-at-a-time : records_of queue_of_one ≡ queue_run 1 2 (Some (5, EndCause.Done)) 1 ∷ queue_run 2 7 None 0 ∷ []
 unfolding read_entity
-one-at-a-time = simp rolls
+one-at-a-time = records-passes queue_of_one ∙ simp rolls

@@ -25,15 +25,16 @@ use Rattle.ha_sight.specs.Rules.{state_moves, pair_holds, passed, starts}
 use Rattle.ha_journal.specs.Moves.{latest_number, before, after, rule_moves, moves}
 use Rattle.ha_journal.specs.Holds.{same_watched, between, fires}
 use Rattle.ha_journal.specs.Attempts.{Attempt, attempts}
-use Rattle.ha_model.specs.Records.{Records, mode_of, script_end, ran, stops, stops_turned, own_cause, end_here, next_place, is_restart_mode, is_step_of, calls_of, with_ends, with_begins, begin_of, last_record, bare, ended, records_of}
+use Rattle.ha_model.specs.Records.{Records, mode_of, script_end, ran, stops, stops_turned, own_cause, next_place, is_restart_mode, is_step_of, calls_of, begin_of, last_record, records_of}
 use Rattle.ha_sight.specs.Items.{is_call}
-use Rattle.ha_model.specs.RecordSteps.{end_now, admit_now}
 use Rattle.ha_journal.proofs.StateLemmas.{now-snoc}
 use Rattle.ha_journal.proofs.SinceLaws.{take-before, on-left}
 use Rattle.ha_config.proofs.ListLemmas.{get-last}
 use Rattle.ha_model.proofs.RecordGrowth.{AllBelow, below-bare}
 use Rattle.ha_journal.proofs.MoreLemmas.{automations-more, length-more, through-last}
 use Rattle.ha_model.proofs.RecordLaws.{at_place, ended-more}
+use Rattle.ha_model.proofs.FoldLaws.{records-passes}
+use Rattle.ha_model.proofs.Passes.{end_here, with_ends, with_begins, bare, ended, end_now, admit_now}
 use Rattle.ha_journal.proofs.FiringLaws.{EachOf, EachTrigger, FiresNot, state-stays, states-left, attempts-none, passing-none}
 use Rattle.ha_model.proofs.LastEntry.{last-is, or-none, calls-more}
 use Rattle.ha_laws.specs.IdleLines.{IsIdle, NothingChanges}
@@ -226,10 +227,12 @@ module _ (j : Journal) (x : Entry) (h : HasEntry j) (s : IsStill x) where
 
   records-still : records_of k ≡ records_of j
   records-still =
-      (λ i. with_begins k [] (ended-more j x i))
+      records-passes k
+      ∙ (λ i. with_begins k [] (ended-more j x i))
       ∙ (λ i. with_begins k [] (admit_these (passing-none j x attempts-still i)))
       ∙ (λ i. with_begins k [] (ends-still (ended j) (below-with-ends j p (bare j) (below-bare j p p (omega arith) (omega arith))) i))
       ∙ begins-still [] (ended j)
+      ∙ sym (records-passes j)
 
 -- LAW: such a line changes nothing that is known
 pub idle-changes-nothing : (j : Journal) (source number : ℕ) (cmd : Cmd) → HasEntry j → IsIdle cmd → NothingChanges j (more j (Line source number cmd))

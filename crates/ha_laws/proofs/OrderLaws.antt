@@ -7,12 +7,14 @@ use Rattle.ha_config.specs.declared.config.Mode.{Mode}
 use Rattle.ha_model.specs.declared.record.EndCause.{EndCause}
 use Rattle.ha_model.specs.declared.record.Record.{Record}
 use Rattle.ha_journal.specs.Journal.{Journal, automations}
-use Rattle.ha_model.specs.Records.{Records, mode_of, next_place, with_ends, bare, with_begins, records_of, last_record}
+use Rattle.ha_model.specs.Records.{Records, mode_of, next_place, records_of, last_record}
 use Rattle.ha_model.specs.Lawful.{Right}
 use Rattle.ha_laws.specs.Told.{has_ended_by, is_unended}
 use Rattle.ha_config.proofs.EqualLemmas.{and_left}
 use Rattle.ha_model.proofs.RecordGrowth.{is-at-most}
 use Rattle.ha_model.proofs.StepLaws.{serial-at}
+use Rattle.ha_model.proofs.FoldLaws.{records-passes}
+use Rattle.ha_model.proofs.Passes.{with_ends, bare, with_begins}
 use Rattle.ha_laws.proofs.ToldSteps.{step-runs}
 use Rattle.ha_laws.proofs.ToldBegins.{SortedFrom, sorted-bare, Carried, past-later, get-middle, E, e, B, f, RunsAt, carry}
 use Rattle.ha_laws.specs.Order.{is_live, InOrderBehind, InOrder}
@@ -73,8 +75,9 @@ order-from j right m (r ∷ rs) back told sorted carried whole =
 
 in-order-of : (j : Journal) → Right j (records_of j) → InOrder (automations j) (records_of j)
 in-order-of j right =
-    order-from j right 0 (bare j) [] [] (sorted-bare j (length j) (omega arith)).sorted
-    (record { past = tt; unended = λ a p. refl; last = λ a. refl; queue = λ a p y m h. absurd (none y h) }) refl
+    subst (InOrder (automations j)) (sym (records-passes j))
+    (order-from j right 0 (bare j) [] [] (sorted-bare j (length j) (omega arith)).sorted
+    (record { past = tt; unended = λ a p. refl; last = λ a. refl; queue = λ a p y m h. absurd (none y h) }) (records-passes j))
   where
     none : (y : Record) → None ≡ Some y → ⊥
     none y e = cc

@@ -9,14 +9,16 @@ use Rattle.ha_model.specs.declared.record.EndCause.{EndCause}
 use Rattle.ha_model.specs.declared.record.Record.{Record}
 use Rattle.ha_journal.specs.Journal.{Journal, automations, last_place, more, HasEntry}
 use Rattle.ha_journal.specs.Attempts.{Attempt, passing}
-use Rattle.ha_model.specs.Records.{Records, mode_of, max_of, script_end, own_cause, replaced, is_restart_mode, is_step_of, stops, end_here, next_place, lets_in, live_count, new_record, last_record, begin_of, calls_of, with_begins, ended, ran}
+use Rattle.ha_model.specs.Records.{Records, mode_of, max_of, script_end, own_cause, is_restart_mode, is_step_of, stops, next_place, lets_in, live_count, new_record, last_record, begin_of, calls_of, ran}
 use Rattle.ha_config.specs.Words.{or_else}
 use Rattle.ha_journal.specs.Entries.{is_restart}
-use Rattle.ha_model.specs.RecordSteps.{end_now, admit_now, records_after}
+use Rattle.ha_model.specs.RecordSteps.{records_after}
 use Rattle.ha_laws.specs.SingleMode.{AllSingle, IsPlain, started, admit_started}
 use Rattle.ha_journal.specs.Commands.{IsFair}
 use Rattle.ha_model.specs.Lawful.{IsTurn, Right, Running}
-use Rattle.ha_model.proofs.RecordLaws.{at_place, ended-more, records-more}
+use Rattle.ha_model.proofs.RecordLaws.{at_place, ended-more}
+use Rattle.ha_model.proofs.FoldLaws.{records-more, records-passes}
+use Rattle.ha_model.proofs.Passes.{replaced, end_here, with_begins, ended, end_now, admit_now}
 use Rattle.ha_journal.proofs.MoreLemmas.{automations-more, has-entry}
 use Rattle.ha_model.proofs.LawfulLaws.{running-more}
 use Rattle.ha_model.proofs.LastEntry.{last-is, or-none, calls-more, no-calls}
@@ -146,11 +148,12 @@ plain-records j rs source number cmd right single plain =
     let k = more j x in
     let xs = passing k in
     let single' : AllSingle k = single-more j x (has-entry j right.journal) single in
-    let same : rs ≡ filled j (ended j) = right.records_are ∙ single-begins j single [] (ended j) in
+    let same : rs ≡ filled j (ended j) = right.records_are ∙ records-passes j ∙ single-begins j single [] (ended j) in
     let count : length rs ≡ length (ended j) = ap length same ∙ length-filled j (ended j) in
     let quiet : (s : ℕ) → length (ended j) < s → calls_of k s ≡ 0 = λ s lt. omega (arith, calls-more j x s, no-calls j rs right s (omega (arith, count, lt))) in
     (λ i. records_after j (right.records_are i) x)
     ∙ sym (records-more j x)
+    ∙ records-passes k
     ∙ single-begins k single' [] (ended k)
     ∙ (λ i. filled k (plain-ended j x single' (plain-line j source number cmd plain) i))
     ∙ filled-admit k (ended j) xs quiet

@@ -13,7 +13,7 @@ use Rattle.ha_model.specs.RecordSteps.{records_after}
 use Rattle.ha_model.specs.Lawful.{is_running, IsRightEntry, Right, IsTurn, IsBusy, Lawful, Running}
 use Rattle.ha_config.proofs.ListLemmas.{append-nil}
 use Rattle.ha_model.proofs.AppendLemmas.{SameUpTo}
-use Rattle.ha_model.proofs.RecordLaws.{records-more}
+use Rattle.ha_model.proofs.FoldLaws.{records-more}
 use Rattle.ha_journal.proofs.MoreLemmas.{has-entry}
 use Rattle.ha_model.proofs.LawfulLaws.{same-after, running-more, closing-more}
 use Rattle.ha_laws.proofs.OneAnswer.{back-same}

@@ -1,5 +1,5 @@
 -- Runs: a wait that ends between two steps, lists side by side, a run that turns itself off, and two attempts at one entry.
-use Rattle.std.proofs.Common.{◌≡◌, ℕ, List, [], ◌∷◌, Bool, true, false, refl, take, ◌+◌}
+use Rattle.std.proofs.Common.{◌≡◌, ℕ, List, [], ◌∷◌, Bool, true, false, refl, take, ◌+◌, ◌∙◌}
 use Rattle.std.specs.Prelude.{Option, Some, None, codes, pos}
 use Rattle.std.specs.Fmt.{digits}
 use Rattle.ha_value.specs.declared.value.Num.{Num}
@@ -41,6 +41,7 @@ use Rattle.ha_journal.specs.Variables.{variables}
 use Rattle.ha_sight.specs.Scripts.{Spot, Outcome, Status, whole, turns}
 use Rattle.ha_journal.specs.Waits.{next_spot}
 use Rattle.ha_model.specs.Records.{records_of}
+use Rattle.ha_model.proofs.FoldLaws.{records-passes}
 use Rattle.ha_laws.specs.WorkedHall.{text_template, show, act}
 use Rattle.ha_sight.proofs.Rolls.{rolls}
 
@@ -143,7 +144,7 @@ sides = boot (automation (codes "a") (on_go ∷ []) side_by_side Mode.Single Non
 
 sides_end : records_of sides ≡ record { serial = 1; automation = 0; number = 1; place = 1; order = 0; env = (codes "trigger", variables sides on_go None 1) ∷ []; begin = Some 1; end = Some (8, EndCause.Done); calls = 2 } ∷ []
 unfolding read_entity
-sides_end = simp rolls
+sides_end = records-passes sides ∙ simp rolls
 
 -- ---- a run that turns its own automation off ends at that step; after a restart the switch is as configured
 
@@ -153,7 +154,7 @@ self_off = boot (automation (codes "a") (on_go ∷ []) (bare_call (codes "automa
 
 off_by_itself : records_of self_off ≡ record { serial = 1; automation = 0; number = 1; place = 1; order = 0; env = (codes "trigger", variables self_off on_go None 1) ∷ []; begin = Some 1; end = Some (2, EndCause.SwitchedOff); calls = 0 } ∷ []
 unfolding read_entity
-off_by_itself = simp rolls
+off_by_itself = records-passes self_off ∙ simp rolls
 
 on_again : is_on self_off 0 ≡ true
 on_again = refl
@@ -172,4 +173,4 @@ two = boot (automation (codes "a") (lamp_trigger Match.Absent 0 ∷ lamp_trigger
 replaced_at_once : records_of two ≡
     record { serial = 1; automation = 0; number = 1; place = 1; order = 0; env = (codes "trigger", variables two (lamp_trigger Match.Absent 0) (Some lamp) 1) ∷ []; begin = Some 1; end = Some (1, EndCause.Replaced); calls = 0 }
     ∷ record { serial = 2; automation = 0; number = 2; place = 1; order = 1; env = (codes "trigger", variables two (lamp_trigger (Match.OneOf (codes "on" ∷ [])) 1) (Some lamp) 1) ∷ []; begin = Some 1; end = None; calls = 0 } ∷ []
-replaced_at_once = refl
+replaced_at_once = records-passes two

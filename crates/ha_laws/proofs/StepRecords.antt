@@ -8,23 +8,25 @@ use Rattle.ha_model.specs.declared.record.EndCause.{EndCause}
 use Rattle.ha_model.specs.declared.record.Record.{Record}
 use Rattle.ha_journal.specs.Journal.{Journal, automations, last_place, more, HasEntry}
 use Rattle.ha_sight.specs.Scripts.{Branch}
-use Rattle.ha_model.specs.Records.{Records, own_cause, own_end, replaced, script_end, ran, is_step_of, stops, next_place, calls_of, bare, ended}
+use Rattle.ha_model.specs.Records.{Records, own_cause, script_end, ran, is_step_of, stops, next_place, calls_of}
 use Rattle.ha_journal.specs.Attempts.{passing}
 use Rattle.ha_config.specs.Words.{or_else}
 use Rattle.ha_journal.specs.Entries.{is_restart}
 use Rattle.ha_sight.specs.Items.{is_call}
-use Rattle.ha_model.specs.RecordSteps.{end_now, admit_now, records_after}
+use Rattle.ha_model.specs.RecordSteps.{records_after}
 use Rattle.ha_laws.specs.SingleMode.{AllSingle, SwitchesNone, with_step, step_all}
 use Rattle.ha_model.specs.NextPlace.{next_item, next_end}
 use Rattle.ha_model.specs.Lawful.{Right, Running, record_of, ready, pick, is_rested}
 use Rattle.std.proofs.lemmas.Option.{slice_get_within}
-use Rattle.ha_model.proofs.RecordLaws.{at_place, ended-more, records-more}
+use Rattle.ha_model.proofs.RecordLaws.{at_place, ended-more}
 use Rattle.ha_journal.proofs.MoreLemmas.{length-more, has-entry}
 use Rattle.ha_model.proofs.RecordGrowth.{AllBelow, below-bare}
 use Rattle.ha_model.proofs.RunLaws.{below-ends, is-below}
 use Rattle.ha_config.proofs.ListLemmas.{none-some, some-same}
 use Rattle.ha_model.proofs.LawfulLaws.{running-more}
 use Rattle.ha_model.proofs.StepLaws.{ran-step, picked-right, Numbered, numbered-of, ready-found}
+use Rattle.ha_model.proofs.FoldLaws.{records-more, records-passes}
+use Rattle.ha_model.proofs.Passes.{own_end, replaced, bare, ended, end_now, admit_now}
 use Rattle.ha_model.proofs.LastEntry.{last-is, calls-more, or-none}
 use Rattle.ha_laws.proofs.PlainLine.{single-replaced, single-more, single-begins, filled}
 
@@ -91,11 +93,12 @@ step-records j rs w s branch item right single plain passes =
     let h = has-entry j right.journal in
     (λ i. records_after j (right.records_are i) x)
     ∙ sym (records-more j x)
+    ∙ records-passes k
     ∙ single-begins k (single-more j x h single) [] (ended k)
     ∙ (λ i. filled k (ended-more j x i))
     ∙ (λ i. filled k (admit_now k (end_now k (ended j)) (sym passes i)))
     ∙ all-steps j h single w s branch item plain (ended j) (below-ends j (length j) (bare j) (below-bare j (length j) (length j) (omega arith) (omega arith)))
-    ∙ (λ i. step_all j s branch item (sym (right.records_are ∙ single-begins j single [] (ended j)) i))
+    ∙ (λ i. step_all j s branch item (sym (right.records_are ∙ records-passes j ∙ single-begins j single [] (ended j)) i))
 
 equal-self : (a b : ℕ) → a ≡ b → nat_eq a b ≡ true
 equal-self a b e = search (rules, e)

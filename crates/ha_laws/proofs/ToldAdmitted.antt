@@ -10,11 +10,13 @@ use Rattle.ha_model.specs.declared.record.EndCause.{EndCause}
 use Rattle.ha_model.specs.declared.record.Record.{Record}
 use Rattle.ha_journal.specs.Journal.{Journal, automations, through, last_place}
 use Rattle.ha_journal.specs.Attempts.{Attempt, passing}
-use Rattle.ha_model.specs.Records.{Records, mode_of, max_of, lets_in, own_end, replaced, is_restart_mode, end_here, end_below, next_place, with_ends, live_count, lets_in_after, new_record, admitted, bare_below, bare, with_begins, records_of, last_record, begin_of, calls_of}
+use Rattle.ha_model.specs.Records.{Records, mode_of, max_of, lets_in, is_restart_mode, next_place, live_count, lets_in_after, new_record, records_of, last_record, begin_of, calls_of}
 use Rattle.ha_config.specs.Words.{or_else}
 use Rattle.ha_laws.specs.Told.{Tried, tried_at, passing_below, has_ended_by, is_unended, unended_count, is_admitted, IsRecordOf, HaveRecords}
 use Rattle.ha_model.proofs.RecordLaws.{at_place, last-through}
 use Rattle.ha_model.proofs.RecordGrowth.{EndBelow, below-ends, is-at-most, is-over}
+use Rattle.ha_model.proofs.FoldLaws.{records-passes}
+use Rattle.ha_model.proofs.Passes.{own_end, replaced, end_here, end_below, with_ends, admitted, bare_below, bare, with_begins, by_passes}
 use Rattle.ha_model.proofs.RunLaws.{automations-through}
 
 -- ---- ends, in an automation that is not of mode restart
@@ -270,5 +272,6 @@ have-records j (t ∷ ts) below before bs fs h g = by (let_in_at j bs t) (admitt
 -- LAW: exactly the admitted attempts have records
 pub records-admitted : (j : Journal) → HaveRecords (automations j) [] (passing_below j (length j)) (records_of j)
 records-admitted j =
-    have-records j (passing_below j (length j)) (below-passing j (length j) (length j) (omega arith)) [] [] (records_of j) tt
-    (subst (λ rs. AllAlike j (records_of j) rs) (bare-each j (length j)) (all-alike j [] (bare j)))
+    subst (HaveRecords (automations j) [] (passing_below j (length j))) (sym (records-passes j))
+    (have-records j (passing_below j (length j)) (below-passing j (length j) (length j) (omega arith)) [] [] (by_passes j) tt
+    (subst (λ rs. AllAlike j (by_passes j) rs) (bare-each j (length j)) (all-alike j [] (bare j))))

@@ -11,7 +11,7 @@ use Rattle.ha_model.specs.declared.record.EndCause.{EndCause}
 use Rattle.ha_model.specs.declared.record.Record.{Record}
 use Rattle.ha_journal.specs.Journal.{Journal, automations, through, last_place}
 use Rattle.ha_journal.specs.Attempts.{Attempt, passing}
-use Rattle.ha_model.specs.Records.{Records, mode_of, own_cause, own_end, replaced, is_restart_mode, ended_by_script, script_end, ran, last_is, is_step_of, end_here, end_below, next_place, with_ends, lets_in_after, new_record, admitted, bare_below, bare, ended, with_begins, records_of, last_record, begin_of, begin_behind, calls_of}
+use Rattle.ha_model.specs.Records.{Records, mode_of, own_cause, is_restart_mode, ended_by_script, script_end, ran, last_is, is_step_of, next_place, lets_in_after, new_record, records_of, last_record, begin_of, begin_behind, calls_of}
 use Rattle.ha_config.specs.Words.{or_else}
 use Rattle.ha_model.specs.Lawful.{Right}
 use Rattle.ha_laws.specs.Told.{has_ended_by, is_unended, outer_cause, cause_at, first_below, last_among, begins_behind, told_begin, AreTold, AreNear, ByTheRules}
@@ -21,6 +21,8 @@ use Rattle.ha_model.proofs.RecordGrowth.{AllBelow, is-at-most}
 use Rattle.ha_config.proofs.ListLemmas.{true-false, none-some, some-same}
 use Rattle.ha_model.proofs.RunLaws.{automations-through, is-below}
 use Rattle.ha_model.proofs.StepLaws.{serial-at}
+use Rattle.ha_model.proofs.FoldLaws.{records-passes}
+use Rattle.ha_model.proofs.Passes.{own_end, replaced, end_here, end_below, with_ends, admitted, bare_below, bare, ended, with_begins}
 use Rattle.ha_laws.proofs.ToldAdmitted.{ended-by, end-any-next, records-admitted}
 use Rattle.ha_laws.proofs.ToldSteps.{step-runs, begins-late}
 
@@ -435,8 +437,9 @@ told-from j right m (r ∷ rs) back told sorted carried whole =
 
 both-told : (j : Journal) → Right j (records_of j) → AreTold j [] (records_of j) × AreNear j [] (records_of j)
 both-told j right =
-    told-from j right 0 (bare j) [] [] (sorted-bare j (length j) (omega arith)).sorted
-    (record { past = tt; unended = λ a p. refl; last = λ a. refl; queue = λ a p y m h. absurd (none-some y h) }) refl
+    subst (λ l. AreTold j [] l × AreNear j [] l) (sym (records-passes j))
+    (told-from j right 0 (bare j) [] [] (sorted-bare j (length j) (omega arith)).sorted
+    (record { past = tt; unended = λ a p. refl; last = λ a. refl; queue = λ a p y m h. absurd (none-some y h) }) (records-passes j))
 
 -- LAW: on a right journal the records are those of the rules
 pub by-the-rules : (j : Journal) (rs : Records) → Right j rs → ByTheRules j rs

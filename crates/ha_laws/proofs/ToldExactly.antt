@@ -10,11 +10,13 @@ use Rattle.ha_model.specs.declared.record.Record.{Record}
 use Rattle.ha_config.specs.Words.{EachAfter, or_else}
 use Rattle.ha_journal.specs.Journal.{Journal, automations, through}
 use Rattle.ha_journal.specs.Attempts.{Attempt, passing}
-use Rattle.ha_model.specs.Records.{Records, mode_of, is_restart_mode, last_is, is_step_of, end_below, next_place, with_ends, bare, end_here, with_begins, records_of, last_record, begin_of, calls_of}
+use Rattle.ha_model.specs.Records.{Records, mode_of, is_restart_mode, last_is, is_step_of, next_place, records_of, last_record, begin_of, calls_of}
 use Rattle.ha_model.specs.Lawful.{IsRightEntry}
 use Rattle.ha_laws.specs.Told.{Tried, tried_at, passing_below, has_ended_by, is_unended, IsRecordOf, HaveRecords, last_among, begins_behind, told_begin, AreTold, ByTheRules}
 use Rattle.ha_config.proofs.EqualLemmas.{and_left}
 use Rattle.ha_model.proofs.RecordLaws.{last-through}
+use Rattle.ha_model.proofs.FoldLaws.{records-passes}
+use Rattle.ha_model.proofs.Passes.{end_below, with_ends, bare, end_here, with_begins}
 use Rattle.ha_config.proofs.ListLemmas.{true-false, none-some}
 use Rattle.ha_laws.proofs.ToldAdmitted.{AllAlike, admitted-alike, admit_each, new_of, bare-each, AllBelowPlace, below-passing, all-alike}
 use Rattle.ha_laws.proofs.ToldSteps.{step-runs}
@@ -270,3 +272,4 @@ exactly j rs rules entries =
     = admitted-only j ts (below-passing j (length j) (length j) (omega arith)) [] rs tt (ends-of-all j rs (with_begins j [] (with_ends j rs)) (all-alike j [] rs) (sym itself)) rules.admitted
     ∙ sym (bare-each j (length j)) in
     itself ∙ sym (begins-ended-only j [] (with_ends j rs)) ∙ (λ i. with_begins j [] (ends-stripped j rs i)) ∙ (λ i. with_begins j [] (with_ends j (attempts i)))
+    ∙ sym (records-passes j)

@@ -1,5 +1,5 @@
 -- What the records are, in the words of the rules: which attempts have one, where each begins, and how it ends. (`records_of` makes
--- the same list in passes that each look at what stands before a place alone; a law says that the two agree.)
+-- the same list entry by entry; a law says that the two agree.)
 use Rattle.std.specs.Prelude.{ℕ, zero, suc, ◌≡◌, ◌⊎◌, Bool, true, false, not, ◌&&◌, nat_eq, nat_lt, nat_le, List, []}
 use Rattle.std.specs.Prelude.{◌∷◌, ◌++◌, length, map, count_by, Option, Some, None, option_map, if◌then◌else◌}
 use Rattle.std.specs.List.{list_any}

@@ -7,9 +7,11 @@ use Rattle.ha_model.specs.declared.record.EndCause.{EndCause}
 use Rattle.ha_model.specs.declared.record.Record.{Record}
 use Rattle.ha_journal.specs.Journal.{Journal, automations}
 use Rattle.ha_sight.specs.Branches.{branches_of}
-use Rattle.ha_model.specs.Records.{Records, actions_of, with_begins, with_ends, bare, end_below, next_place, last_record, mode_of, begin_of, begin_behind}
+use Rattle.ha_model.specs.Records.{Records, actions_of, next_place, last_record, mode_of, begin_of, begin_behind}
 use Rattle.ha_model.specs.Lawful.{Right, is_running, may_step}
 use Rattle.ha_model.proofs.RecordGrowth.{AllBelow, EndBelow, below-bare, below-ends}
+use Rattle.ha_model.proofs.FoldLaws.{records-passes}
+use Rattle.ha_model.proofs.Passes.{with_begins, with_ends, bare, end_below}
 use Rattle.ha_ready.specs.ReadyPairs.{ready_branches}
 use Rattle.ha_ready.specs.RunPast.{BeginBefore, EndBefore, IsPast, AllPast}
 
@@ -68,7 +70,7 @@ begins-past j k before (r ∷ rs) h below =
 
 -- LAW: the records of a journal tell of its places alone
 pub all-past : (j : Journal) (rs : Records) → Right j rs → AllPast (length j) rs
-all-past j rs right = subst (AllPast (length j)) (sym right.records_are) (begins-past j j [] (bare j) tt (below-bare j (length j) (length j) (omega arith) (omega arith)))
+all-past j rs right = subst (AllPast (length j)) (sym (right.records_are ∙ records-passes j)) (begins-past j j [] (bare j) tt (below-bare j (length j) (length j) (omega arith) (omega arith)))
 
 pub past-at : (n : ℕ) (rs : Records) (i : ℕ) (r : Record) → AllPast n rs → slice_get rs i ≡ Some r → IsPast n r
 past-at n [] i r h e = absurd (let bad : ◌≡◌ {A = Option Record} None (Some r) = e in cc)

@@ -18,7 +18,7 @@ use Rattle.ha_model.specs.RecordSteps.{records_after}
 use Rattle.ha_model.specs.Lawful.{IsRightEntry, Right, IsTurn, IsDue, IsBusy, IsOpen, Lawful, is_by_worker_0, is_empty, is_line_of, is_rested, pick, ready, shuts}
 use Rattle.ha_config.proofs.ListLemmas.{append-nil, true-false}
 use Rattle.ha_model.proofs.AppendLemmas.{each-weaken, SameUpTo, ready-same}
-use Rattle.ha_model.proofs.RecordLaws.{records-more}
+use Rattle.ha_model.proofs.FoldLaws.{records-more}
 use Rattle.ha_config.proofs.EqualLemmas.{and_left, and_right}
 use Rattle.ha_model.proofs.LawfulLaws.{same-after, rested-same}
 use Rattle.ha_laws.specs.Makers.{makers, maker, cmds_of}

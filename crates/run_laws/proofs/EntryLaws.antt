@@ -1,6 +1,6 @@
 -- THE LAWS of the calls for one entry.
 use Rattle.std.proofs.Common.{◌≡◌, ℕ, zero, suc, ◌+◌, ◌-◌, ◌<◌, List, [], ◌∷◌, ◌++◌, length, map, Bool, true, false, cond, refl, sym, ap, subst, ◌∙◌, rules, arith, Option, length-append}
-use Rattle.std.specs.Prelude.{Some, None, nat_eq, nat_le, nat_lt, slice_get, option_map, option_and_then, ◌&&◌, if◌then◌else◌}
+use Rattle.std.specs.Prelude.{Some, None, nat_eq, nat_le, nat_lt, slice_get, option_map, option_and_then, ◌&&◌}
 use Rattle.std.specs.Option.{option_map_or}
 use Rattle.std.proofs.lemmas.Bool.{leb-true}
 use Rattle.std.proofs.lemmas.Option.{slice_get_within}
@@ -14,21 +14,20 @@ use Rattle.ha_model.specs.declared.record.Record.{Record}
 use Rattle.ha_sight.specs.Items.{is_call}
 use Rattle.ha_journal.specs.Entries.{BeginsSegment, IsBoot}
 use Rattle.ha_journal.specs.Journal.{Journal, automations, HasEntry, last_place, more}
-use Rattle.ha_journal.specs.Attempts.{Attempt, passing}
+use Rattle.ha_journal.specs.Attempts.{passing}
 use Rattle.ha_sight.specs.Scripts.{Branch}
-use Rattle.ha_model.specs.Records.{Records, last_record, lets_in_after, new_record, is_restart_mode, mode_of, begin_of, is_call_of, calls_of, own_cause, with_begins, records_of}
+use Rattle.ha_model.specs.Records.{Records, is_call_of, calls_of, own_cause, records_of}
 use Rattle.ha_config.specs.Words.{or_else}
 use Rattle.ha_model.specs.RecordSteps.{records_after}
-use Rattle.ha_model.specs.RunSteps.{own_ends, begin_at, begins_here, settled, attempt_all, joined, replace_all}
+use Rattle.ha_model.specs.RunSteps.{own_ends, settled, attempt_all}
 use Rattle.ha_model.specs.NextPlace.{next_end}
 use Rattle.ha_model.specs.Lawful.{record_of, IsRightEntry, Right, is_running}
 use Rattle.ha_journal.proofs.MoreLemmas.{length-more, has-entry}
 use Rattle.ha_model.proofs.RecordGrowth.{EndBelow}
-use Rattle.ha_model.proofs.RunLaws.{ended-runs}
 use Rattle.ha_model.proofs.LastEntry.{calls-more, no-calls}
 use Rattle.ha_model.proofs.StepLaws.{serial-at}
 use Rattle.ha_model.proofs.LawfulLaws.{right-more}
-use Rattle.ha_model.proofs.TableLaws.{table-more}
+use Rattle.ha_model.proofs.FoldLaws.{records-more, first-records}
 use Rattle.run_modes.specs.Table.{called_on}
 use Rattle.ha_laws.specs.Order.{InOrder}
 use Rattle.run_modes.specs.Fits.{AreNumbered}
@@ -210,7 +209,7 @@ by-calls j rs x turned right not_boot fair are =
     let after = right-more j rs x right not_boot fair in
     let place : last_place (more j x) ≡ length j = omega (arith, length-more j x) in
     let told : records_of (more j x) ≡ settled (more j x) [] (attempt_all (more j x) (own_ends (more j x) rs) (passing (more j x)))
-    = table-more j x before.some ∙ (λ i. settled (more j x) [] (attempt_all (more j x) (own_ends (more j x) (sym right.records_are i)) (passing (more j x)))) in
+    = records-more j x ∙ (λ i. settled (more j x) [] (attempt_all (more j x) (own_ends (more j x) (sym right.records_are i)) (passing (more j x)))) in
     let order : InOrder (automations (more j x)) (attempt_all (more j x) (own_ends (more j x) rs) (passing (more j x)))
     = settled-order (more j x) (λ a. false) [] (attempt_all (more j x) (own_ends (more j x) rs) (passing (more j x)))
     (subst (InOrder (automations (more j x))) (after.records_are ∙ told) (in-order (more j x) (records_after j rs x) after)) in
@@ -220,45 +219,6 @@ by-calls j rs x turned right not_boot fair are =
     ∙ sym told
 
 -- ---- the first entry
-
--- all records are of the last place
-abbrev AllAt : ℕ → Records → Type 0
-AllAt p [] = Unit {0}
-AllAt p (r ∷ rs) = (r.place ≡ p) × AllAt p rs
-
-begins-settled : (k : Journal) (back rs : Records) → AllAt (last_place k) rs → with_begins k back rs ≡ settled k back rs
-begins-settled k back [] h = refl
-begins-settled k back (r ∷ rs) h =
-    let here : nat_eq r.place (last_place k) ≡ true = equal r.place (last_place k) h.0 in
-    (λ i. record r {
-      begin = if sym here i then begin_of (mode_of (automations k) r.automation) (last_record r.automation back) r
-          else or_else r.begin (begins_here (last_place k) (mode_of (automations k) r.automation) (last_record r.automation back) r.end);
-      calls = calls_of k r.serial;
-    } ∷ with_begins k (r ∷ back) rs)
-    ∙ ap (λ t. record r { begin = begin_at (last_place k) (mode_of (automations k) r.automation) (last_record r.automation back) r; calls = calls_of k r.serial } ∷ t) (begins-settled k (r ∷ back) rs h.1)
-  where
-    equal : (a b : ℕ) → a ≡ b → nat_eq a b ≡ true
-    equal a b e = search (rules, e)
-
-at-replaced : (p a q : ℕ) (rs : Records) → AllAt p rs → AllAt p (replace_all a q rs)
-at-replaced p a q [] h = tt
-at-replaced p a q (r ∷ rs) h = (h.0, at-replaced p a q rs h.1)
-
-at-snoc : (p : ℕ) (rs : Records) (r : Record) → AllAt p rs → r.place ≡ p → AllAt p (rs ++ (r ∷ []))
-at-snoc p [] r h e = (e, tt)
-at-snoc p (y ∷ ys) r h e = (h.0, at-snoc p ys r h.1 e)
-
-at-attempts : (k : Journal) (rs : Records) (xs : List (ℕ × Attempt)) → AllAt (last_place k) rs → AllAt (last_place k) (attempt_all k rs xs)
-at-attempts k rs [] h = h
-at-attempts k rs (x ∷ xs) h = at-attempts k (if lets_in_after (automations k) rs x.1.automation then joined (mode_of (automations k) x.1.automation) x.1.automation (last_place k) rs (new_record k rs x) else rs) xs (by (lets_in_after (automations k) rs x.1.automation))
-  where
-    one : (b : Bool) → AllAt (last_place k) ((if b then replace_all x.1.automation (last_place k) rs else rs) ++ (new_record k rs x ∷ []))
-    one true = at-snoc (last_place k) (replace_all x.1.automation (last_place k) rs) (new_record k rs x) (at-replaced (last_place k) x.1.automation (last_place k) rs h) refl
-    one false = at-snoc (last_place k) rs (new_record k rs x) h refl
-
-    by : (b : Bool) → AllAt (last_place k) (if b then joined (mode_of (automations k) x.1.automation) x.1.automation (last_place k) rs (new_record k rs x) else rs)
-    by true = one (is_restart_mode (mode_of (automations k) x.1.automation))
-    by false = h
 
 first-right : (boot : Entry) → IsBoot boot → Right (boot ∷ []) (records_of (boot ∷ []))
 first-right (Boot text config stored start zone carry) is = record { journal = (is, tt); records_are = refl; entries = (tt, tt) }
@@ -277,7 +237,7 @@ pub by-first-calls : (boot : Entry) → IsBoot boot → all_tried (boot ∷ []) 
 by-first-calls boot is =
     let k = boot ∷ [] in
     let told : records_of (boot ∷ []) ≡ settled (boot ∷ []) [] (attempt_all (boot ∷ []) [] (passing (boot ∷ [])))
-    = (λ i. with_begins (boot ∷ []) [] (ended-runs [] boot i)) ∙ begins-settled (boot ∷ []) [] (attempt_all (boot ∷ []) [] (passing (boot ∷ []))) (at-attempts (boot ∷ []) [] (passing (boot ∷ [])) tt) in
+    = first-records boot in
     let order : InOrder (automations (boot ∷ [])) (attempt_all (boot ∷ []) [] (passing (boot ∷ [])))
     = settled-order (boot ∷ []) (λ a. false) [] (attempt_all (boot ∷ []) [] (passing (boot ∷ [])))
     (subst (InOrder (automations (boot ∷ []))) told (in-order (boot ∷ []) (records_of (boot ∷ [])) (first-right boot is))) in

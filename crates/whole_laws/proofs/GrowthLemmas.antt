@@ -15,7 +15,7 @@ use Rattle.ha_whole.specs.Whole.{own, placed_all, records_from, records_of, take
 use Rattle.ha_config.proofs.ListLemmas.{append-nil}
 use Rattle.ha_model.proofs.AppendLemmas.{SameUpTo}
 use Rattle.ha_journal.proofs.MoreLemmas.{has-entry}
-use Rattle.ha_model.proofs.RecordGrowth.{records-same}
+use Rattle.ha_model.proofs.FoldLaws.{records-same}
 use Rattle.whole_laws.proofs.CutLemmas.{IsCut, closed_records, closed-again, closed-on, entries-snoc, records-cut, segment-on, carried-on}
 use Rattle.whole_laws.proofs.OwnLemmas.{back-placed-all, same-back, same-behind, same-drop, same-later, same-placed}
 

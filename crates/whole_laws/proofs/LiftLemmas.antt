@@ -15,7 +15,7 @@ use Rattle.ha_whole.specs.Whole.{AreEntries, IsBehind, IsFirst, IsJournal, Right
 use Rattle.ha_config.proofs.ListLemmas.{none-some}
 use Rattle.ha_model.proofs.AppendLemmas.{each-snoc, SameUpTo}
 use Rattle.ha_model.proofs.LastEntry.{last-is}
-use Rattle.ha_model.proofs.RecordGrowth.{records-same}
+use Rattle.ha_model.proofs.FoldLaws.{records-same}
 use Rattle.ha_journal.proofs.MoreLemmas.{length-more, has-entry}
 use Rattle.ha_laws.proofs.RightMore.{each-last, right-back}
 use Rattle.whole_laws.specs.Puts.{IsPut}
