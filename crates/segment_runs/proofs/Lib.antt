@@ -1,0 +1,3 @@
+pub mod MovedLemmas
+pub mod SplitLemmas
+pub mod OverLemmas
