@@ -27,7 +27,7 @@ use engine_parts::slots::Slots;
 use ha_clock::{ClockFault, Moment, Zone};
 use ha_config::Config;
 use ha_journal::{Carry, Entry, Firing};
-use ha_value::{Many, Word};
+use ha_value::{Boxed, Many, Word};
 use run_modes::Runs;
 use state_table::StateTable;
 use std::alloc::{AllocError, Global};
@@ -56,7 +56,7 @@ fn first_journal(
     stored: Option<Many<(Word, bool)>>,
     start: Moment,
     zone: Word,
-    carry: Carry,
+    carry: Boxed<Carry>,
 ) -> Result<Vec<Entry>, AllocError>
     ensures { IfOk result (λ j. j.items ≡ Boot text config stored start zone carry ∷ []) }
 {

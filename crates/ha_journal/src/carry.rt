@@ -3,7 +3,7 @@ ghost use Rattle.std.specs.Prelude.{◌≡◌, IfOk, replicate};
 ghost use Rattle.ha_journal.specs.Entries.{first_carry};
 
 use ha_clock::Moment;
-use ha_value::{Many, Word};
+use ha_value::{Boxed, Many, Word};
 use std::alloc::{AllocError, Global};
 
 /// What a segment takes over from those before it. Names stand in byte order, each once.
@@ -34,16 +34,17 @@ fn no_lines(alloc: Global) -> Result<Many<u64>, AllocError>
 
 impl Carry {
     /// What the first segment takes over: nothing.
-    pub fn first(alloc: Global) -> Result<Carry, AllocError>
+    pub fn first(alloc: Global) -> Result<Boxed<Carry>, AllocError>
         ensures { IfOk result (λ made. made ≡ first_carry) }
     {
         let lines = no_lines(alloc)?;
-        Ok(Carry {
+        let carry = Carry {
             serials: 0,
             numbers: Many::make(alloc),
             lines,
             shut: Many::make(alloc),
             last: Many::make(alloc),
-        })
+        };
+        Boxed::new(alloc, carry)
     }
 }

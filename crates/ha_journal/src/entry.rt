@@ -4,7 +4,7 @@ use crate::carry::Carry;
 use ha_clock::Moment;
 use ha_config::{Cmd, Config};
 use ha_sight::{Branch, Item};
-use ha_value::{Many, Word};
+use ha_value::{Boxed, Many, Word};
 
 /// One entry of the journal.
 #[derive(Drop)]
@@ -16,7 +16,7 @@ pub enum Entry {
         stored: Option<Many<(Word, bool)>>,
         start: Moment,
         zone: Word,
-        carry: Carry,
+        carry: Boxed<Carry>,
     },
     /// A line of a source, numbered from 0.
     Line {
@@ -37,6 +37,6 @@ pub enum Entry {
         number: u32,
         start: Moment,
         stored: Many<(Word, bool)>,
-        carry: Carry,
+        carry: Boxed<Carry>,
     },
 }
