@@ -137,6 +137,10 @@ fn texts_lists_and_maps_are_asked(rt: HostRuntime) {
             &[
                 ("{{ 'on' in [3, 'on'] }}", "True"),
                 ("{{ 'room' in home }}", "True"),
+                (
+                    "{% set home = home.room %}{% set home = home ~ '!' %}{{ home }}",
+                    "hall!"
+                ),
                 ("{{ 'hall' in home }}", "False"),
                 ("{{ [3, 'on'][-2] }}", "3"),
                 ("{{ [3, 'on'][-1] }}", "on"),

@@ -151,3 +151,30 @@ fn tags_are_rendered(rt: HostRuntime) {
         )
     );
 }
+
+#[test]
+fn a_name_that_is_set_again_has_its_last_value(rt: HostRuntime) {
+    assert!(rt;
+        give(
+            rt.alloc(),
+            &[
+                (
+                    "{% set m = 1 %}{% set m = m + 1 %}{% set m = m * 5 %}{{ m }}",
+                    "10"
+                ),
+                (
+                    "{% set m = 1 %}{% set n = 5 %}{% set m = 2 %}{{ m }} {{ n }}",
+                    "2 5"
+                ),
+                (
+                    "{% set m = 1 %}{% if m == 1 %}{% set m = 2 %}{% endif %}{{ m }}",
+                    "2"
+                ),
+                (
+                    "{% set m = 1 %}{% if false %}{% set m = 2 %}{% else %}{% set m = m + 6 %}{% set n = m %}{% endif %}{{ m }} {{ n }}",
+                    "7 7"
+                ),
+            ]
+        )
+    );
+}

@@ -177,6 +177,10 @@ fn a_state_trigger_is_read(rt: HostRuntime) {
                 ("{{ trigger.to_state == trigger.from_state }}", "False"),
                 ("{% set t = trigger %}{{ t.to_state.state }}", "on"),
                 ("{% set trigger = 'own' %}{{ trigger }}", "own"),
+                (
+                    "{% set trigger = trigger.to_state.state %}{% set trigger = trigger ~ '!' %}{{ trigger }}",
+                    "on!"
+                ),
             ],
         )
     );

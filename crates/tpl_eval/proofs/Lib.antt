@@ -4,7 +4,10 @@ pub mod SizeLemmas
 pub mod ItemLemmas
 pub mod PartLemmas
 pub mod StepLemmas
+pub mod AlikeLemmas
+pub mod SetLemmas
 pub mod PieceLemmas
+pub mod PageLemmas
 pub mod ArmLemmas
 pub mod EqualLemmas
 pub mod OrderLemmas

@@ -19,11 +19,11 @@ one [] p len get = absurd (omega (arith, len))
 one (q ∷ []) p len get = ap (λ x. x ∷ []) (sym get)
 one (q ∷ r ∷ rs) p len get = absurd (omega (arith, len))
 
-bounded-is : (t : Text) → length t ≤ 65_536 → bounded t ≡ Some t
+pub bounded-is : (t : Text) → length t ≤ 65_536 → bounded t ≡ Some t
 bounded-is t h = (let f : nat_le (length t) 65_536 ≡ true = grind (arith, nat_tests, h) in λ i. if f i then Some t else None)
 
 module _ (sight : Sight) (env : Pairs) where
-  text-is : (p : Piece) (w : Text) → p ≡ Piece.Text w → piece_of sight p env ≡ Some (w, env)
+  pub text-is : (p : Piece) (w : Text) → p ≡ Piece.Text w → piece_of sight p env ≡ Some (w, env)
   text-is p w is =
       ap (λ y. piece_of sight y env) is ∙ piece-out sight (Piece.Text w) env
       ∙ ap (λ z. piece_step sight (map-Piece Piece Template (PieceMeaning sight) (TemplateMeaning sight) (piece_of sight) (pieces_of sight) z) env) (outs-Text w)

@@ -8,7 +8,7 @@ use Rattle.ha_config.specs.declared.template.Template.{Template}
 use Rattle.ha_config.specs.declared.template.Piece.{Piece}
 use Rattle.ha_config.specs.declared.template.Piece.TheFolds.{fold-Piece}
 use Rattle.ha_sight.specs.Sight.{Sight}
-use Rattle.ha_config.specs.Words.{Text, Pairs}
+use Rattle.ha_config.specs.Words.{Text, Pairs, last_pair}
 use Rattle.ha_sight.specs.Templates.{choose_arm, piece_step, pieces_of, template_step, PieceMeaning, TemplateMeaning}
 use Rattle.tpl_eval.specs.declared.page.Page.{Page}
 
@@ -31,16 +31,24 @@ Extends old new given (Ok x) = (option_map (λ t. old ++ t) given ≡ Some new) 
 Extends old new given (Err TplFault.Fault) = TooLong (option_map (λ t. old ++ t) given)
 Extends old new given (Err TplFault.Memory) = Unit {0}
 
--- the page grows by the text that is given, and has set what is left beyond the variables of the run
-abbrev pub Writes : {Y : Type 0} → Pairs → Page → Page → Option (Text × Pairs) → Result Y TplFault → Type 0
-Writes env old new given (Ok x) =
-    (behind old.text given ≡ Some (new.text, env ++ new.set)) × (length old.text ≤ 65_536 → length new.text ≤ 65_536)
-Writes env old new given (Err TplFault.Fault) = TooLong (option_map (λ r. r.0) (behind old.text given))
-Writes env old new given (Err TplFault.Memory) = Unit {0}
+-- two environments in which each name is seen alike
+abbrev pub Alike : Pairs → Pairs → Type 0
+Alike xs ys = (name : Text) → last_pair name xs ≡ last_pair name ys
 
--- a name is set, or memory ran out
+-- the page grows by the text that is given, and each name is seen as in what is left
+abbrev pub Grows : {Y : Type 0} → Pairs → Page → Page → Option (Text × Pairs) → Result Y TplFault → Type 0
+Grows env old new given (Ok x) =
+    (left : Pairs) × Alike left (env ++ new.set) × (behind old.text given ≡ Some (new.text, left)) × (length old.text ≤ 65_536 → length new.text ≤ 65_536)
+Grows env old new given (Err TplFault.Fault) = TooLong (option_map (λ r. r.0) (behind old.text given))
+Grows env old new given (Err TplFault.Memory) = Unit {0}
+
+-- the page grows by what is meant in any environment in which each name is seen as in the variables of the run and those that are set
+abbrev pub Writes : {Y : Type 0} → Pairs → Page → Page → (Pairs → Option (Text × Pairs)) → Result Y TplFault → Type 0
+Writes env old new meaning result = (whole : Pairs) → Alike whole (env ++ old.set) → Grows env old new (meaning whole) result
+
+-- a name is set, and each other one is seen as before; or memory ran out
 abbrev pub Sets : {Y : Type 0} → Page → Page → Text → Value → Result Y TplFault → Type 0
-Sets old new name value (Ok x) = (new.set ≡ old.set ++ ((name, value) ∷ [])) × (new.text ≡ old.text)
+Sets old new name value (Ok x) = Alike new.set (old.set ++ ((name, value) ∷ [])) × (new.text ≡ old.text)
 Sets old new name value (Err TplFault.Fault) = ⊥
 Sets old new name value (Err TplFault.Memory) = Unit {0}
 

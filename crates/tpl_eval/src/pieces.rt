@@ -1,22 +1,24 @@
 //! The pieces of a template, written one after the other.
-ghost use Rattle.std.specs.Prelude.{◌≡◌, ◌++◌, [], ◌∷◌, option_and_then, option_map, true};
+ghost use Rattle.std.specs.Prelude.{◌≡◌, ◌<◌, ◌++◌, [], ◌∷◌, length, option_and_then, option_map, position, true, IfSome};
+ghost use Rattle.ha_value.specs.declared.value.Value.{Value as Datum};
 ghost use Rattle.ha_value.specs.Truth.{truth};
 ghost use Rattle.ha_sight.specs.Sight.{Sight};
 ghost use Rattle.ha_sight.specs.Values.{printed as printed_lem};
 ghost use Rattle.ha_sight.specs.Templates.{pieces_of, value_of as value_lem};
+ghost use Rattle.ha_config.specs.Words.{Pairs, same};
 ghost use Rattle.ha_config.specs.declared.template.Piece.TheViews.{out-Piece};
 ghost use Rattle.tpl_fns.specs.Outcome.{Gives};
 ghost use Rattle.tpl_eval.specs.Kinds.{is_choice};
-ghost use Rattle.tpl_eval.specs.Pieces.{Chooses, piece_of, Sets, Writes};
+ghost use Rattle.tpl_eval.specs.Pieces.{Alike, Chooses, piece_of, Sets, Writes};
 ghost use Rattle.tpl_eval.specs.Seen.{Sees};
 
 use crate::held::truth_of;
 use crate::page::{Page, add_shown, append, kept_value};
 use crate::scope::Scope;
 use crate::value::value_of;
-use ha_config::{Expr, Piece, Template};
+use ha_config::{Expr, Piece, Template, same_text};
 use ha_sight::{Env, TplFault};
-use ha_value::{Plain, Value, Word};
+use ha_value::{Many, Plain, Value, Word};
 use state_table::StateTable;
 use std::alloc::Global;
 
@@ -29,7 +31,7 @@ pub fn write_template(
     env: &Env,
     page: &mut Page,
 ) -> Result<(), TplFault>
-    ensures { (sight : Sight) → Sees sight states.now → Writes env.now page.old page.new (pieces_of sight template.now (env.now ++ page.old.set)) result }
+    ensures { (sight : Sight) → Sees sight states.now → Writes env.now page.old page.new (pieces_of sight template.now) result }
 {
     let pieces = template.pieces.as_slice();
     for i in 0..pieces.len() {
@@ -49,7 +51,7 @@ fn write_piece(
     env: &Env,
     page: &mut Page,
 ) -> Result<(), TplFault>
-    ensures { (sight : Sight) → Sees sight states.now → Writes env.now page.old page.new (piece_of sight piece.now (env.now ++ page.old.set)) result }
+    ensures { (sight : Sight) → Sees sight states.now → Writes env.now page.old page.new (piece_of sight piece.now) result }
 {
     match piece {
         Piece::Text(text) => append(&mut page.text, text.as_str()),
@@ -69,7 +71,7 @@ fn write_choice(
     page: &mut Page,
 ) -> Result<(), TplFault>
     requires { is_choice (out-Piece piece.now) ≡ true }
-    ensures { (sight : Sight) → Sees sight states.now → Writes env.now page.old page.new (piece_of sight piece.now (env.now ++ page.old.set)) result }
+    ensures { (sight : Sight) → Sees sight states.now → Writes env.now page.old page.new (piece_of sight piece.now) result }
 {
     let Piece::Choice { arms, fallback } = piece else {
         unreachable!()
@@ -95,7 +97,7 @@ fn first_true<'a>(
     set: &'a [(Word, Value)],
     arms: &'a [(Expr, Template)],
 ) -> Result<usize, TplFault>
-    ensures { (sight : Sight) → Sees sight states.now → Chooses sight arms.now (env.now ++ set.now) result }
+    ensures { (sight : Sight) → Sees sight states.now → (whole : Pairs) → Alike whole (env.now ++ set.now) → Chooses sight arms.now whole result }
 {
     for i in 0..arms.len() {
         match holds(alloc, states, env, set, &arms[i].0) {
@@ -115,7 +117,7 @@ fn holds<'a>(
     set: &'a [(Word, Value)],
     expr: &'a Expr,
 ) -> Result<bool, TplFault>
-    ensures { (sight : Sight) → Sees sight states.now → Gives result (option_map truth (value_lem sight expr.now (env.now ++ set.now))) }
+    ensures { (sight : Sight) → Sees sight states.now → (whole : Pairs) → Alike whole (env.now ++ set.now) → Gives result (option_map truth (value_lem sight expr.now whole)) }
 {
     let scope = Scope {
         alloc,
@@ -135,7 +137,7 @@ fn show(
     page: &mut Page,
 ) -> Result<(), TplFault>
     ensures { (sight : Sight) → Sees sight states.now
-        → Writes env.now page.old page.new (option_and_then (λ v. option_map (λ t. (t, env.now ++ page.old.set)) (printed_lem v)) (value_lem sight expr.now (env.now ++ page.old.set))) result }
+        → Writes env.now page.old page.new (λ whole. option_and_then (λ v. option_map (λ t. (t, whole)) (printed_lem v)) (value_lem sight expr.now whole)) result }
 {
     let scope = Scope {
         alloc,
@@ -156,7 +158,7 @@ fn assign(
     page: &mut Page,
 ) -> Result<(), TplFault>
     ensures { (sight : Sight) → Sees sight states.now
-        → Writes env.now page.old page.new (option_map (λ v. ([], (env.now ++ page.old.set) ++ ((name.now, v) ∷ []))) (value_lem sight expr.now (env.now ++ page.old.set))) result }
+        → Writes env.now page.old page.new (λ whole. option_map (λ v. ([], whole ++ ((name.now, v) ∷ []))) (value_lem sight expr.now whole)) result }
 {
     let scope = Scope {
         alloc,
@@ -170,9 +172,28 @@ fn assign(
     }
 }
 
+/// The place at which a name was set.
+fn place_of(set: &[(Word, Value)], name: &Word) -> Option<usize>
+    ensures place { result ≡ position (λ p. same p.0 name.now) set.now }
+    ensures bound { IfSome result (λ at. at < length set.now) }
+{
+    set.iter().position(|pair| same_text(&pair.0, name))
+}
+
+/// Takes the pair of a name out, where there is one.
+fn take_out(set: &mut Many<(Word, Value)>, name: &Word)
+    ensures { (value : Datum) → Alike (set.new ++ ((name.now, value) ∷ [])) (set.old ++ ((name.now, value) ∷ [])) }
+{
+    if let Some(place) = place_of(set.as_slice(), name) {
+        set.remove(place);
+    }
+}
+
+/// Sets a name. What it had before goes at once, so a page has one value for each name.
 fn set_name(alloc: Global, name: &Word, value: Value, page: &mut Page) -> Result<(), TplFault>
     ensures { Sets page.old page.new name.now value result }
 {
+    take_out(&mut page.set, name);
     match name.copy(alloc) {
         Ok(name) => match page.set.push((name, value)) {
             Ok(()) => Ok(()),
