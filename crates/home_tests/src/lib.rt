@@ -4,6 +4,8 @@
 #[cfg(test)]
 mod day;
 #[cfg(test)]
+mod files;
+#[cfg(test)]
 mod lines;
 #[cfg(test)]
 mod moments;

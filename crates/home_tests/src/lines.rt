@@ -1,6 +1,7 @@
 //! Lines that are refused, and words.
 use crate::day::Fact::{Entries, Errors, NoWords, NotOpened, Output, Stored, Well};
-use crate::day::{PLAIN, words_end};
+use crate::day::words_end;
+use crate::files::PLAIN;
 use std::alloc::{AllocError, Global};
 use std::process::Abort;
 use std::sync::Wait;

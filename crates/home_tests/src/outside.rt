@@ -3,7 +3,8 @@ use crate::day::Fact::{
     ConfigNotRead, Entries, Errors, NotKept, NotOpened, NotRead, NotStored, NotWritten,
     NothingTaken, Output, Stored, Well,
 };
-use crate::day::{Fact, Outside, PLAIN, ends, evening, words_end};
+use crate::day::{Fact, ends, evening, words_end};
+use crate::files::{Outside, PLAIN};
 use crate::lines::{WORDS, refused_lines};
 use std::alloc::Global;
 use std::process::Abort;

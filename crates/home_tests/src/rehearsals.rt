@@ -1,6 +1,7 @@
 //! The command `rehearse`, over the engine.
 use crate::day::Fact::{Errors, Output, Well};
-use crate::day::{PLAIN, words_end};
+use crate::day::words_end;
+use crate::files::PLAIN;
 use std::alloc::Global;
 use std::process::Abort;
 use std::sync::Wait;

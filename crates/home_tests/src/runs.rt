@@ -1,6 +1,7 @@
 //! Modes, queues, replacement and stops.
 use crate::day::Fact::{Called, End, Entries, Errors, Output, Runs, Stored, Well};
-use crate::day::{PLAIN, calls, ends, evening};
+use crate::day::{calls, ends, evening};
+use crate::files::PLAIN;
 use ha_model::EndCause;
 use std::alloc::Global;
 use std::process::Abort;

@@ -1,6 +1,7 @@
 //! Scripts: waits, repeats, choices, parallel blocks and faults.
 use crate::day::Fact::{Called, Cause, Entries, Errors, Well};
-use crate::day::{PLAIN, calls, ends, evening, gives};
+use crate::day::{calls, ends, evening, gives};
+use crate::files::PLAIN;
 use ha_model::EndCause;
 
 pub const WAIT: &str =

@@ -1,6 +1,7 @@
 //! Several sources at once, and the trace.
 use crate::day::Fact::{Called, Entries, Errors, Handed, NotOpened, NotRead, Traced, Well};
-use crate::day::{Fact, Lines, PLAIN, holds, replays, run_sources, words_end};
+use crate::day::{Fact, Lines, holds, replays, run_sources, words_end};
+use crate::files::PLAIN;
 use crate::runs::{HALL, HALL_CALLS, HALL_LINES, QUEUE, QUEUE_CALLS, QUEUE_LINES};
 use crate::scripts::{WAIT, WAIT_CALLS, WAIT_LINES};
 use ha_io::{Gate, MeetGate, OpenGate};
