@@ -233,7 +233,8 @@ class House:
             words = words[1:]
         if words[0] not in self.code:
             return "kit", words[0], f"{'.'.join(words)}.{name}"
-        if words[2:3] == ["declared"]:
+        # what the kit makes of a type (`contracts`: how it is held, its codes) comes with the type
+        if words[2:3] in (["declared"], ["contracts"]):
             types = [it for it in [*words[3:], name] if it[:1].isupper() and not re.match(r"The[A-Z]", it)]
             stem = next((a for a, b in zip(words[3:], [*words[4:], name]) if b == types[0]), None) if types else None
             file = self.declared(words[0], types[0], stem) if types else None

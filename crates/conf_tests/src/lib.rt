@@ -15,6 +15,8 @@ mod editor;
 #[cfg(test)]
 mod pasted;
 #[cfg(test)]
+mod plans;
+#[cfg(test)]
 mod triggers;
 #[cfg(test)]
 mod words;

@@ -1,0 +1,52 @@
+-- Two automations are the same where they are equal, and only there.
+use Rattle.std.proofs.Common.{◌≡◌, ℕ, Bool, true, false, refl, sym, ap, subst, ◌∙◌, rules}
+use Rattle.std.specs.Prelude.{nat_eq, ◌&&◌, IsTrue, ◌↔◌}
+use Rattle.std.proofs.lemmas.Bool.{eqb-true}
+use base.Stored.{Gv, gnil, gnum, gcons}
+use Rattle.ha_config.specs.declared.config.Automation.{Automation}
+use Rattle.ha_config.specs.contracts.config.Automation.{the_row}
+use Rattle.conf_reload.specs.Equality.{same_code, same_automation}
+
+code-sound : (a b : Gv) → same_code a b ≡ true → a ≡ b
+code-sound gnil gnil h = refl
+code-sound gnil (gnum n) h = cc
+code-sound gnil (gcons c d) h = cc
+code-sound (gnum m) gnil h = cc
+code-sound (gnum m) (gnum n) h = ap gnum (eqb-true m n h)
+code-sound (gnum m) (gcons c d) h = cc
+code-sound (gcons a b) gnil h = cc
+code-sound (gcons a b) (gnum n) h = cc
+code-sound (gcons a b) (gcons c d) h = (let e = code-sound a c (left (same_code a c) (same_code b d) h) in let f = code-sound b d (right (same_code a c) (same_code b d) h) in λ i. gcons (e i) (f i))
+  where
+    left : (p q : Bool) → (p && q) ≡ true → p ≡ true
+    left true q h = refl
+    left false q h = cc
+
+    right : (p q : Bool) → (p && q) ≡ true → q ≡ true
+    right true q h = h
+    right false q h = cc
+
+number-refl : (n : ℕ) → nat_eq n n ≡ true
+number-refl n = search rules
+
+code-refl : (a : Gv) → same_code a a ≡ true
+code-refl gnil = refl
+code-refl (gnum n) = number-refl n
+code-refl (gcons a b) = (λ i. code-refl a i && same_code b b) ∙ code-refl b
+
+pub same-sound : (x y : Automation) → same_automation x y ≡ true → x ≡ y
+unfolding same_automation
+same-sound x y h = (the_row).coded.inj x y (code-sound ((the_row).coded.code x) ((the_row).coded.code y) h)
+
+pub same-refl : (x : Automation) → same_automation x x ≡ true
+unfolding same_automation
+same-refl x = code-refl ((the_row).coded.code x)
+
+-- LAW: a test of equality is the definition's
+pub decided : (b : Bool) (x y : Automation) → (IsTrue b ↔ (x ≡ y)) → b ≡ same_automation x y
+decided true x y h = sym (subst (λ z. same_automation x z ≡ true) (h.0 refl) (same-refl x))
+decided false x y h = by (same_automation x y) refl
+  where
+    by : (c : Bool) → same_automation x y ≡ c → false ≡ same_automation x y
+    by true e = absurd (let bad : ◌≡◌ {A = Bool} false true = h.1 (same-sound x y e) in cc)
+    by false e = sym e

@@ -1,0 +1,9 @@
+//! What a reload does to the numbers of automations: which are kept, which go, and which the new ones get.
+#![tactic(auto)]
+
+pub mod laws;
+mod numbers;
+mod outcome;
+
+pub use numbers::plan;
+pub use outcome::Plan;
