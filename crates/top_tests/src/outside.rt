@@ -1,11 +1,10 @@
 //! The forms of the outside, in memory and over the system.
 use ha_io::{
-    DirPlace, FileKeeper, FileSink, Gate, Keeper, MemFile, MemKeeper, MemPlace, MemSink, MemSource,
-    OpenGate, Place, Sink, Source, have_distinct_names,
+    DirPlace, FileKeeper, FileSink, Gate, IoFault, Keeper, MemFile, MemKeeper, MemPlace, MemSink,
+    MemSource, OpenGate, Place, Sink, Source, have_distinct_names,
 };
 use std::alloc::{AllocError, Global};
 use std::fs;
-use std::test::Fail;
 
 fn text(alloc: Global, text: &str) -> Result<String, AllocError> {
     String::from_str(alloc, text)
@@ -20,7 +19,7 @@ fn numbers(alloc: Global, numbers: &[u64]) -> Result<Vec<u64>, AllocError> {
 }
 
 /// How many bytes the source gave, or none where it failed.
-fn given(source: &mut MemSource, buf: &mut [u8]) -> Option<usize> {
+fn given<S: Source>(source: &mut S, buf: &mut [u8]) -> Option<usize> {
     match source.read(buf) {
         Ok(count) => Some(count),
         Err(_) => None,
@@ -36,7 +35,11 @@ fn is_filled(bytes: &[u8], wanted: Option<&[u8]>) -> bool {
 }
 
 /// Whether the reads into the buffer give so many bytes, or fail where none is wanted, and leave this in it.
-fn reads(source: &mut MemSource, buf: &mut [u8], rows: &[(Option<usize>, Option<&[u8]>)]) -> bool {
+fn reads<S: Source>(
+    source: &mut S,
+    buf: &mut [u8],
+    rows: &[(Option<usize>, Option<&[u8]>)],
+) -> bool {
     for row in rows {
         if given(source, buf) != row.0 || !is_filled(buf, row.1) {
             return false;
@@ -45,14 +48,18 @@ fn reads(source: &mut MemSource, buf: &mut [u8], rows: &[(Option<usize>, Option<
     true
 }
 
+/// How many bytes the sink took, or none where it failed.
+fn taken<S: Sink>(sink: &mut S, bytes: &[u8]) -> Option<usize> {
+    match sink.write(bytes) {
+        Ok(count) => Some(count),
+        Err(_) => None,
+    }
+}
+
 /// Whether the writes of these bytes take so many of them, or fail where none is wanted.
-fn writes(sink: &mut MemSink, rows: &[(&[u8], Option<usize>)]) -> bool {
+fn writes<S: Sink>(sink: &mut S, rows: &[(&[u8], Option<usize>)]) -> bool {
     for row in rows {
-        let taken = match sink.write(row.0) {
-            Ok(count) => Some(count),
-            Err(_) => None,
-        };
-        if taken != row.1 {
+        if taken(sink, row.0) != row.1 {
             return false;
         }
     }
@@ -109,7 +116,7 @@ fn is_text(found: &[u8], wanted: Option<&[u8]>) -> bool {
 }
 
 /// Whether this is what the keeper loads, where it loads at all.
-fn loads(alloc: Global, keeper: &mut MemKeeper, wanted: Option<&[u8]>) -> bool {
+fn loads<K: Keeper>(alloc: Global, keeper: &mut K, wanted: Option<&[u8]>) -> bool {
     match keeper.load(alloc) {
         Ok(Some(found)) => is_text(found.as_slice(), wanted),
         Ok(None) => wanted.is_none(),
@@ -156,16 +163,16 @@ fn home(alloc: Global) -> Result<Option<MemPlace>, AllocError> {
     Ok(Some(MemPlace::make(alloc, files, numbers(alloc, &[2])?)))
 }
 
-/// Whether the file of this name is opened, and the reads into two bytes give so many, or fail where none is wanted.
-fn reads_by_name(
+/// Whether the file of this name is opened, and the reads into the buffer give so many bytes, or fail where none is wanted.
+fn reads_by_name<P: Place>(
     alloc: Global,
-    place: &mut MemPlace,
+    place: &mut P,
     name: &str,
+    buf: &mut [u8],
     rows: &[(Option<usize>, Option<&[u8]>)],
 ) -> bool {
-    let mut buf = [0u8; 2];
     match place.reading(alloc, name) {
-        Ok(mut source) => reads(&mut source, &mut buf, rows),
+        Ok(mut source) => reads(&mut source, buf, rows),
         Err(_) => false,
     }
 }
@@ -175,8 +182,13 @@ fn is_read_once(alloc: Global) -> Result<bool, AllocError> {
         return Ok(false);
     };
     Ok(
-        reads_by_name(alloc, &mut place, "home", &[(None, None), (Some(2), None)])
-            && place.reading(alloc, "home").is_err()
+        reads_by_name(
+            alloc,
+            &mut place,
+            "home",
+            &mut [0u8; 2],
+            &[(None, None), (Some(2), None)],
+        ) && place.reading(alloc, "home").is_err()
             && place.reading(alloc, "other").is_err(),
     )
 }
@@ -222,65 +234,101 @@ fn a_place_writes_by_name(rt: HostRuntime) {
     assert!(rt; is_written_once(rt.alloc()).unwrap_or(false));
 }
 
-#[test]
-fn files_are_written_and_read(rt: HostRuntime) -> Result<(), Fail> {
-    let alloc = rt.alloc();
-    let mut place = DirPlace::make(rt, rt.stdin());
+/// Whether what a sink took comes from its file once it is flushed, and not before.
+fn is_handed_on<P: Place>(alloc: Global, place: &mut P) -> Result<bool, IoFault> {
     let mut sink = place.writing(alloc, "ha_io_written")?;
-    assert!(rt; sink.write(b"ab")? == 2);
-    assert!(rt; sink.write(b"c")? == 1);
+    let taken = writes(&mut sink, &[(b"ab", Some(2)), (b"c", Some(1))]);
     let mut source = place.reading(alloc, "./ha_io_written")?;
     let mut buf = [0u8; 4];
-    assert!(rt; source.read(&mut buf)? == 0);
-    assert!(rt; sink.flush().is_ok());
-    assert!(rt; source.read(&mut buf)? == 3);
-    assert!(rt; buf == *b"abc\0");
-    assert!(rt; source.read(&mut buf)? == 0);
-    fs::remove_file(&rt, "ha_io_written")?;
-    assert!(rt; place.reading(alloc, "ha_io_written").is_err());
-    assert!(rt; place.writing(alloc, "ha_io_no_folder/file").is_err());
-    Ok(())
+    Ok(
+        taken
+            && reads(&mut source, &mut buf, &[(Some(0), None)])
+            && sink.flush().is_ok()
+            && reads(
+                &mut source,
+                &mut buf,
+                &[(Some(3), Some(b"abc\0")), (Some(0), None)],
+            ),
+    )
 }
 
 #[test]
-fn a_sink_that_is_let_go_writes_what_it_keeps(rt: HostRuntime) -> Result<(), Fail> {
+fn files_are_written_and_read(rt: HostRuntime) {
     let alloc = rt.alloc();
     let mut place = DirPlace::make(rt, rt.stdin());
-    let mut sink = place.writing(alloc, "ha_io_let_go")?;
-    assert!(rt; sink.write(b"ab")? == 2);
-    drop(sink);
-    let mut source = place.reading(alloc, "./ha_io_let_go")?;
-    let mut buf = [0u8; 4];
-    assert!(rt; source.read(&mut buf)? == 2);
-    fs::remove_file(&rt, "ha_io_let_go")?;
-    Ok(())
-}
-
-#[test]
-fn the_standard_streams_are_open(rt: HostRuntime) -> Result<(), Fail> {
-    let mut place = DirPlace::make(rt, rt.stdin());
-    assert!(rt; place.reading(rt.alloc(), "stdin")?.read(&mut [])? == 0);
-    assert!(rt; FileSink::output(rt.stdout()).write(b"out\n")? == 4);
-    assert!(rt; FileSink::errors(rt.stderr()).write(b"err\n")? == 4);
-    OpenGate::make().before(0, 1);
-    Ok(())
-}
-
-#[test]
-fn a_store_file_is_replaced(rt: HostRuntime) -> Result<(), Fail> {
-    let alloc = rt.alloc();
-    let mut keeper = FileKeeper::make(alloc, rt, "ha_io_store")?;
-    assert!(rt; keeper.load(alloc)?.is_none());
-    keeper.save(b"a longer text")?;
-    keeper.save(b"text")?;
-    let found = keeper.load(alloc)?.ok_or("kept")?;
-    assert!(rt; found.as_slice() == b"text".as_slice());
-    assert!(rt; !fs::exists(&rt, "ha_io_store.new")?);
-    fs::remove_file(&rt, "ha_io_store")?;
     assert!(rt;
-        FileKeeper::make(alloc, rt, "ha_io_no_folder/store")?
-            .save(b"text")
-            .is_err()
+        is_handed_on(alloc, &mut place).unwrap_or(false)
+            && fs::remove_file(&rt, "ha_io_written").is_ok()
+            && place.reading(alloc, "ha_io_written").is_err()
+            && place.writing(alloc, "ha_io_no_folder/file").is_err()
     );
-    Ok(())
+}
+
+/// Whether a sink that is let go before it was flushed has written what it took.
+fn is_written_at_last<P: Place>(alloc: Global, place: &mut P) -> Result<bool, IoFault> {
+    let mut sink = place.writing(alloc, "ha_io_let_go")?;
+    let taken = writes(&mut sink, &[(b"ab", Some(2))]);
+    drop(sink);
+    Ok(
+        taken
+            && reads_by_name(
+                alloc,
+                place,
+                "./ha_io_let_go",
+                &mut [0u8; 4],
+                &[(Some(2), None)],
+            ),
+    )
+}
+
+#[test]
+fn a_sink_that_is_let_go_writes_what_it_keeps(rt: HostRuntime) {
+    let mut place = DirPlace::make(rt, rt.stdin());
+    assert!(rt;
+        is_written_at_last(rt.alloc(), &mut place).unwrap_or(false)
+            && fs::remove_file(&rt, "ha_io_let_go").is_ok()
+    );
+}
+
+#[test]
+fn the_standard_streams_are_open(rt: HostRuntime) {
+    let mut place = DirPlace::make(rt, rt.stdin());
+    OpenGate::make().before(0, 1);
+    assert!(rt;
+        reads_by_name(rt.alloc(), &mut place, "stdin", &mut [], &[(Some(0), None)])
+            && taken(&mut FileSink::output(rt.stdout()), b"out\n") == Some(4)
+            && taken(&mut FileSink::errors(rt.stderr()), b"err\n") == Some(4)
+    );
+}
+
+/// Whether the keeper was made, holds nothing at first, and then what was saved last.
+fn keeps_the_last<K: Keeper>(alloc: Global, keeper: Result<K, AllocError>) -> bool {
+    match keeper {
+        Ok(mut keeper) => {
+            loads(alloc, &mut keeper, None)
+                && keeper.save(b"a longer text").is_ok()
+                && keeper.save(b"text").is_ok()
+                && loads(alloc, &mut keeper, Some(b"text"))
+        }
+        Err(_) => false,
+    }
+}
+
+/// Whether the keeper was made, and refuses to save.
+fn refuses<K: Keeper>(keeper: Result<K, AllocError>) -> bool {
+    match keeper {
+        Ok(mut keeper) => keeper.save(b"text").is_err(),
+        Err(_) => false,
+    }
+}
+
+#[test]
+fn a_store_file_is_replaced(rt: HostRuntime) {
+    let alloc = rt.alloc();
+    assert!(rt;
+        keeps_the_last(alloc, FileKeeper::make(alloc, rt, "ha_io_store"))
+            && matches!(fs::exists(&rt, "ha_io_store.new"), Ok(false))
+            && fs::remove_file(&rt, "ha_io_store").is_ok()
+            && refuses(FileKeeper::make(alloc, rt, "ha_io_no_folder/store"))
+    );
 }
