@@ -1,38 +1,40 @@
 //! Functions that ask states, and operators on lists and maps.
+use crate::shown::{all_give, entity};
 use ha_clock::Moment;
 use ha_sight::Env;
-use ha_value::{EntityId, Many, Num, Plain, Value, Word};
+use ha_value::{Many, Num, Plain, Value, Word, push_text, push_value};
 use state_table::StateTable;
 use std::alloc::{AllocError, Global};
-use tpl_eval::{function, render};
-use tpl_parse::parse;
+use tpl_eval::function;
 
-fn text(alloc: Global, text: &str) -> Result<Value, AllocError> {
-    Ok(Value::Text(Word::from_str(alloc, text)?))
+/// Adds a text to a list.
+fn push(alloc: Global, items: &mut Many<Value>, text: &str) -> Result<(), AllocError> {
+    let word = Word::from_str(alloc, text)?;
+    items.push(Value::Text(word))?;
+    Ok(())
 }
 
 /// The list `[3, "on"]`.
-fn list(alloc: Global) -> Result<Value, AllocError> {
+fn list(alloc: Global) -> Result<Many<Value>, AllocError> {
     let mut items = Many::make(alloc);
     items.push(Value::Number(Num::Whole(3)))?;
-    items.push(text(alloc, "on")?)?;
-    Ok(Value::Items(items))
+    push(alloc, &mut items, "on")?;
+    Ok(items)
 }
 
-fn light(alloc: Global) -> Result<EntityId, AllocError> {
-    EntityId::of_parts(alloc, "light", "x")
+/// The level 7.
+fn level(alloc: Global) -> Result<Many<(Word, Value)>, AllocError> {
+    let mut pairs = Many::make(alloc);
+    push_value(alloc, &mut pairs, "level", Value::Number(Num::Whole(7)))?;
+    Ok(pairs)
 }
 
 /// A table in which `light.x` is on, at the level 7.
 fn lit(alloc: Global) -> Result<StateTable, AllocError> {
-    let mut table = StateTable::make(alloc);
-    let lamp = light(alloc)?;
+    let lamp = entity(alloc, "light.x")?;
     let on = Word::from_str(alloc, "on")?;
-    let mut attributes = Many::make(alloc);
-    attributes.push((
-        Word::from_str(alloc, "level")?,
-        Value::Number(Num::Whole(7)),
-    ))?;
+    let attributes = level(alloc)?;
+    let mut table = StateTable::make(alloc);
     table.report(
         alloc,
         &lamp,
@@ -46,8 +48,9 @@ fn lit(alloc: Global) -> Result<StateTable, AllocError> {
 /// An id and the list `[3, "on"]`.
 fn args(alloc: Global, id: &str) -> Result<Many<Value>, AllocError> {
     let mut all = Many::make(alloc);
-    all.push(text(alloc, id)?)?;
-    all.push(list(alloc)?)?;
+    push(alloc, &mut all, id)?;
+    let list = list(alloc)?;
+    all.push(Value::Items(list))?;
     Ok(all)
 }
 
@@ -86,47 +89,26 @@ fn states_are_asked(rt: HostRuntime) {
 }
 
 /// The map from `room` to `hall`.
-fn rooms(alloc: Global) -> Result<Value, AllocError> {
+fn rooms(alloc: Global) -> Result<Many<(Word, Value)>, AllocError> {
     let mut pairs = Many::make(alloc);
-    pairs.push((Word::from_str(alloc, "room")?, text(alloc, "hall")?))?;
-    Ok(Value::Pairs(pairs))
+    push_text(alloc, &mut pairs, "room", "hall")?;
+    Ok(pairs)
 }
 
 /// The name `home`, which stands for that map.
 fn home(alloc: Global) -> Result<Env, AllocError> {
+    let rooms = rooms(alloc)?;
     let mut pairs = Many::make(alloc);
-    pairs.push((Word::from_str(alloc, "home")?, rooms(alloc)?))?;
+    push_value(alloc, &mut pairs, "home", Value::Pairs(rooms))?;
     Ok(Env::of_pairs(pairs))
 }
 
-/// Whether a short text is a template that renders as this text over these states, where `home` is that map.
-fn gives(alloc: Global, states: &StateTable, env: &Env, text: &str, wanted: &str) -> bool {
-    if text.len() > 1000 {
-        return false;
-    }
-    match parse(alloc, text.as_bytes()) {
-        Ok(template) => match render(alloc, &template, states, env) {
-            Ok(Value::Text(rendered)) => rendered.as_str() == wanted,
-            _ => false,
-        },
-        Err(_) => false,
-    }
-}
-
-/// Whether each of them renders so, where `light.x` is on.
+/// Whether each text is a template that renders as the other text, where `home` is that map and `light.x` is on.
 fn give(alloc: Global, rows: &[(&str, &str)]) -> bool {
-    let Ok(env) = home(alloc) else {
-        return false;
-    };
-    let Ok(states) = lit(alloc) else {
-        return false;
-    };
-    for row in rows {
-        if !gives(alloc, &states, &env, row.0, row.1) {
-            return false;
-        }
+    match (home(alloc), lit(alloc)) {
+        (Ok(env), Ok(states)) => all_give(alloc, &states, &env, rows),
+        _ => false,
     }
-    true
 }
 
 #[test]

@@ -10,6 +10,8 @@ mod functions;
 #[cfg(test)]
 mod lists;
 #[cfg(test)]
+mod shown;
+#[cfg(test)]
 mod states;
 #[cfg(test)]
 mod texts;

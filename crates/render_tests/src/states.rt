@@ -1,7 +1,8 @@
 //! States and switches, changed one after the other.
+use crate::shown::entity;
 use ha_clock::Moment;
 use ha_sight::Change;
-use ha_value::{EntityId, Many, Num, Value, Word};
+use ha_value::{Many, Num, Value, Word, push_value};
 use state_table::StateTable;
 use std::alloc::{AllocError, Global};
 
@@ -27,18 +28,11 @@ enum Step<'a> {
     Named(&'a str, bool),
 }
 
-fn entity(alloc: Global, id: &str) -> Result<EntityId, AllocError> {
-    match EntityId::read(alloc, id.as_bytes()) {
-        Ok(entity) => Ok(entity),
-        Err(_) => Err(AllocError),
-    }
-}
-
 /// The attribute `u`, or none.
 fn attributes(alloc: Global, has: bool) -> Result<Many<(Word, Value)>, AllocError> {
     let mut pairs = Many::make(alloc);
     if has {
-        pairs.push((Word::from_str(alloc, "u")?, Value::Number(Num::Whole(1))))?;
+        push_value(alloc, &mut pairs, "u", Value::Number(Num::Whole(1)))?;
     }
     Ok(pairs)
 }

@@ -1,44 +1,19 @@
 //! Templates from their text to the rendered text.
-use ha_sight::{Env, TplFault};
-use ha_value::Value;
+use crate::shown::{all_give, faults};
+use ha_sight::Env;
 use state_table::StateTable;
 use std::alloc::Global;
-use tpl_eval::render;
-use tpl_parse::parse;
 
-/// What a short text is rendered as, where it is a template.
-fn rendered(alloc: Global, text: &str) -> Option<Result<Value, TplFault>> {
-    if text.len() > 1000 {
-        return None;
-    }
-    let states = StateTable::make(alloc);
-    match parse(alloc, text.as_bytes()) {
-        Ok(template) => Some(render(alloc, &template, &states, &Env::none(alloc))),
-        Err(_) => None,
-    }
-}
-
-/// Whether each text is a template that renders as the other text.
+/// Whether each text is a template that renders as the other text, where no entity has a state.
 fn give(alloc: Global, rows: &[(&str, &str)]) -> bool {
-    for row in rows {
-        if !gives(alloc, row.0, row.1) {
-            return false;
-        }
-    }
-    true
+    all_give(alloc, &StateTable::make(alloc), &Env::none(alloc), rows)
 }
 
-fn gives(alloc: Global, text: &str, wanted: &str) -> bool {
-    match rendered(alloc, text) {
-        Some(Ok(Value::Text(found))) => found.as_str() == wanted,
-        _ => false,
-    }
-}
-
-/// Whether each text is a template whose meaning is a fault.
+/// Whether each text is a template whose meaning is a fault there.
 fn fault(alloc: Global, texts: &[&str]) -> bool {
+    let states = StateTable::make(alloc);
     for text in texts {
-        if !matches!(rendered(alloc, text), Some(Err(TplFault::Fault))) {
+        if !faults(alloc, &states, &Env::none(alloc), text.as_bytes()) {
             return false;
         }
     }

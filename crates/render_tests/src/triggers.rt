@@ -1,130 +1,167 @@
 //! What templates read of the variable `trigger`, for each kind of trigger.
+use crate::shown::{all_give, entity};
 use ha_clock::Moment;
 use ha_config::{Trigger, TriggerRule};
 use ha_sight::{Env, StateObject, TriggerData};
-use ha_value::{EntityId, Many, Num, Value, Word};
+use ha_value::{EntityId, Many, Num, Value, Word, push_text, push_value};
 use state_table::StateTable;
 use std::alloc::{AllocError, Global};
-use tpl_eval::render;
-use tpl_parse::parse;
-
-/// Whether each text is a template that renders as the other text, with these variables.
-fn give(alloc: Global, data: Result<TriggerData, AllocError>, rows: &[(&str, &str)]) -> bool {
-    let env = match data {
-        Ok(data) => Env::of_trigger(alloc, data),
-        Err(_) => return false,
-    };
-    for row in rows {
-        if !gives(alloc, &env, row.0, row.1) {
-            return false;
-        }
-    }
-    true
-}
-
-fn gives(alloc: Global, env: &Env, text: &str, wanted: &str) -> bool {
-    if text.len() > 1000 {
-        return false;
-    }
-    let states = StateTable::make(alloc);
-    match parse(alloc, text.as_bytes()) {
-        Ok(template) => match render(alloc, &template, &states, env) {
-            Ok(Value::Text(found)) => found.as_str() == wanted,
-            _ => false,
-        },
-        Err(_) => false,
-    }
-}
 
 /// The third trigger, with an id of its own. What else it is stands in what it gives.
 fn trigger(alloc: Global) -> Result<Trigger, AllocError> {
+    let id = Word::from_str(alloc, "door")?;
     Ok(Trigger {
-        id: Word::from_str(alloc, "door")?,
+        id,
         idx: 2,
         rule: TriggerRule::Start,
         hold: None,
     })
 }
 
-/// An entity, and one without a name where the text is no id.
-fn entity(alloc: Global, id: &[u8]) -> Result<EntityId, AllocError> {
-    match EntityId::read(alloc, id) {
-        Ok(entity) => Ok(entity),
-        Err(_) => Err(AllocError),
-    }
+/// A name and a level.
+fn attributes(alloc: Global) -> Result<Many<(Word, Value)>, AllocError> {
+    let mut pairs = Many::make(alloc);
+    push_text(alloc, &mut pairs, "friendly_name", "Hall")?;
+    push_value(alloc, &mut pairs, "level", Value::Number(Num::Whole(7)))?;
+    Ok(pairs)
 }
 
 /// A state with a name and a level.
 fn state(alloc: Global, text: &str) -> Result<StateObject, AllocError> {
-    let mut attributes = Many::make(alloc);
-    let name = Value::Text(Word::from_str(alloc, "Hall")?);
-    attributes.push((Word::from_str(alloc, "friendly_name")?, name))?;
-    attributes.push((
-        Word::from_str(alloc, "level")?,
-        Value::Number(Num::Whole(7)),
-    ))?;
+    let text = Word::from_str(alloc, text)?;
+    let attributes = attributes(alloc)?;
     Ok(StateObject {
-        text: Word::from_str(alloc, text)?,
+        text,
         attributes,
         changed: Moment::at(1_714_593_600_000),
         updated: Moment::at(1_714_593_600_000),
     })
 }
 
-fn of_state(alloc: Global, attribute: Option<Word>) -> Result<TriggerData, AllocError> {
-    let trigger = trigger(alloc)?;
-    let entity = entity(alloc, b"sensor.hall")?;
-    let old = state(alloc, "off")?;
-    let new = state(alloc, "on")?;
-    TriggerData::of_state(alloc, &trigger, &attribute, &entity, Some(&old), Some(&new))
+/// What moved: an entity, and its states before and after.
+#[derive(Drop)]
+struct Moved {
+    entity: EntityId,
+    old: StateObject,
+    new: StateObject,
 }
 
-/// Of an entity that had no state before.
-fn of_first_state(alloc: Global) -> Result<TriggerData, AllocError> {
-    let trigger = trigger(alloc)?;
-    let entity = entity(alloc, b"sensor.hall")?;
-    let attribute = Some(Word::from_str(alloc, "level")?);
-    let new = state(alloc, "on")?;
-    TriggerData::of_state(alloc, &trigger, &attribute, &entity, None, Some(&new))
+fn move_of(alloc: Global, old: &str, new: &str) -> Result<Moved, AllocError> {
+    let entity = entity(alloc, "sensor.hall")?;
+    let old = state(alloc, old)?;
+    let new = state(alloc, new)?;
+    Ok(Moved { entity, old, new })
 }
 
-fn of_number(alloc: Global) -> Result<TriggerData, AllocError> {
-    let trigger = trigger(alloc)?;
-    let entity = entity(alloc, b"sensor.hall")?;
-    let old = state(alloc, "4")?;
-    let new = state(alloc, "8")?;
-    let above = Some(Num::Whole(5));
-    TriggerData::of_number(
+/// Of a state trigger that looks at this attribute, and of an entity that had a state before, or none.
+fn of_moved(
+    alloc: Global,
+    trigger: &Trigger,
+    attribute: &Option<Word>,
+    moved: &Moved,
+    had: bool,
+) -> Result<TriggerData, AllocError> {
+    let old = if had { Some(&moved.old) } else { None };
+    TriggerData::of_state(
         alloc,
-        &trigger,
-        above,
-        None,
-        &entity,
-        Some(&old),
-        Some(&new),
+        trigger,
+        attribute,
+        &moved.entity,
+        old,
+        Some(&moved.new),
     )
 }
 
-fn of_event(alloc: Global) -> Result<TriggerData, AllocError> {
-    let trigger = trigger(alloc)?;
-    let kind = Word::from_str(alloc, "button")?;
-    let mut fields = Many::make(alloc);
-    fields.push((Word::from_str(alloc, "n")?, Value::Number(Num::Whole(3))))?;
-    let side = Value::Text(Word::from_str(alloc, "left")?);
-    fields.push((Word::from_str(alloc, "side")?, side))?;
-    TriggerData::of_event(alloc, &trigger, &kind, &fields)
+fn of_state(alloc: Global, trigger: &Trigger) -> Result<TriggerData, AllocError> {
+    of_moved(alloc, trigger, &None, &move_of(alloc, "off", "on")?, true)
 }
 
-fn of_time(alloc: Global) -> Result<TriggerData, AllocError> {
-    let trigger = trigger(alloc)?;
-    TriggerData::bare(alloc, "time", &trigger)
+/// Of an entity that had no state before.
+fn of_first_state(alloc: Global, trigger: &Trigger) -> Result<TriggerData, AllocError> {
+    let attribute = Some(Word::from_str(alloc, "level")?);
+    of_moved(
+        alloc,
+        trigger,
+        &attribute,
+        &move_of(alloc, "off", "on")?,
+        false,
+    )
+}
+
+fn of_number(alloc: Global, trigger: &Trigger) -> Result<TriggerData, AllocError> {
+    let moved = move_of(alloc, "4", "8")?;
+    TriggerData::of_number(
+        alloc,
+        trigger,
+        Some(Num::Whole(5)),
+        None,
+        &moved.entity,
+        Some(&moved.old),
+        Some(&moved.new),
+    )
+}
+
+/// A number and a text.
+fn fields(alloc: Global) -> Result<Many<(Word, Value)>, AllocError> {
+    let mut fields = Many::make(alloc);
+    push_value(alloc, &mut fields, "n", Value::Number(Num::Whole(3)))?;
+    push_text(alloc, &mut fields, "side", "left")?;
+    Ok(fields)
+}
+
+fn of_event(alloc: Global, trigger: &Trigger) -> Result<TriggerData, AllocError> {
+    let kind = Word::from_str(alloc, "button")?;
+    TriggerData::of_event(alloc, trigger, &kind, &fields(alloc)?)
 }
 
 /// A map that was given as it is.
 fn given(alloc: Global) -> Result<TriggerData, AllocError> {
     let mut pairs = Many::make(alloc);
-    pairs.push((Word::from_str(alloc, "n")?, Value::Number(Num::Whole(3))))?;
+    push_value(alloc, &mut pairs, "n", Value::Number(Num::Whole(3)))?;
     TriggerData::whole(alloc, Value::Pairs(pairs))
+}
+
+/// What moved the trigger.
+#[derive(Clone, Copy)]
+enum Kind {
+    State,
+    FirstState,
+    Number,
+    Event,
+    Time,
+    Given,
+}
+
+fn data(alloc: Global, trigger: &Trigger, kind: Kind) -> Result<TriggerData, AllocError> {
+    match kind {
+        Kind::State => of_state(alloc, trigger),
+        Kind::FirstState => of_first_state(alloc, trigger),
+        Kind::Number => of_number(alloc, trigger),
+        Kind::Event => of_event(alloc, trigger),
+        Kind::Time => TriggerData::bare(alloc, "time", trigger),
+        Kind::Given => given(alloc),
+    }
+}
+
+/// Whether each text is a template that renders as the other text, with these variables.
+fn give_of(alloc: Global, data: Result<TriggerData, AllocError>, rows: &[(&str, &str)]) -> bool {
+    match data {
+        Ok(data) => all_give(
+            alloc,
+            &StateTable::make(alloc),
+            &Env::of_trigger(alloc, data),
+            rows,
+        ),
+        Err(_) => false,
+    }
+}
+
+/// The same, of a trigger that was moved so.
+fn give(alloc: Global, kind: Kind, rows: &[(&str, &str)]) -> bool {
+    match trigger(alloc) {
+        Ok(trigger) => give_of(alloc, data(alloc, &trigger, kind), rows),
+        Err(_) => false,
+    }
 }
 
 #[test]
@@ -133,7 +170,7 @@ fn a_state_trigger_is_read(rt: HostRuntime) {
     assert!(rt;
         give(
             alloc,
-            of_state(alloc, None),
+            Kind::State,
             &[
                 (
                     "{{ trigger.platform }} {{ trigger.id }} {{ trigger.idx }}",
@@ -192,7 +229,7 @@ fn a_first_state_comes_from_none(rt: HostRuntime) {
     assert!(rt;
         give(
             alloc,
-            of_first_state(alloc),
+            Kind::FirstState,
             &[
                 ("{{ trigger.from_state is none }}", "True"),
                 ("{{ trigger.from_state.state is none }}", "True"),
@@ -211,7 +248,7 @@ fn a_numeric_trigger_is_read(rt: HostRuntime) {
     assert!(rt;
         give(
             alloc,
-            of_number(alloc),
+            Kind::Number,
             &[
                 (
                     "{{ trigger.platform }} {{ trigger.id }} {{ trigger.idx }}",
@@ -244,7 +281,7 @@ fn an_event_trigger_is_read(rt: HostRuntime) {
     assert!(rt;
         give(
             alloc,
-            of_event(alloc),
+            Kind::Event,
             &[
                 (
                     "{{ trigger.platform }} {{ trigger.id }} {{ trigger.idx }}",
@@ -279,7 +316,7 @@ fn other_triggers_have_three_fields(rt: HostRuntime) {
     assert!(rt;
         give(
             alloc,
-            of_time(alloc),
+            Kind::Time,
             &[
                 (
                     "{{ trigger.platform }} {{ trigger.id }} {{ trigger.idx }}",
@@ -292,7 +329,7 @@ fn other_triggers_have_three_fields(rt: HostRuntime) {
             ],
         ) && give(
             alloc,
-            given(alloc),
+            Kind::Given,
             &[(
                 "{{ trigger.n + 1 }} {{ trigger.id is none }} {{ trigger|length }}",
                 "4 True 1"
