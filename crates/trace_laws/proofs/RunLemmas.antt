@@ -67,6 +67,7 @@ fronts text (x ∷ xs) (y ∷ ys) rs rs' ended ended' left left' b b' =
 -- ---- finished runs
 
 run_records : (j : Journal) (rs : Records) → IsRun j rs → rs ≡ records_of j
+unfolding records_of
 run_records [] rs run = run
 run_records (first ∷ behind) rs run = run.1.right.records_are
 
