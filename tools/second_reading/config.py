@@ -106,7 +106,7 @@ class TemplateRule:
 
 @dataclass(frozen=True)
 class StartRule:
-    """The boot or a restart."""
+    """The beginning of a segment."""
 
 
 Rule = Union[StateRule, NumericRule, EventRule, TimeRule, PatternRule, TemplateRule, StartRule]

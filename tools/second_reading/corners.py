@@ -5,7 +5,7 @@ from __future__ import annotations
 from typing import Any
 
 from .generate import Home
-from .rows import GO, call, event, go, moment, on, report
+from .rows import GO, SAME_STATE, call, event, go, moment, on, report
 
 START = "2024-05-01T20:00:00Z"
 LAST = "2999-12-31T23:59:5"
@@ -113,6 +113,14 @@ HOMES = {
     "starts": home([on({"trigger": "homeassistant", "event": "start"}, mode=mode, alias=mode,
                        actions=[call(n="{{ trigger.platform }}"), {"delay": 2}, call()]) for mode in ("single", "restart", "queued")],
                    ['{"restart":true}', moment("20:00:01"), '{"restart":true}', '{"restart":true}', moment("20:00:03")]),
+    "what a restart ends": home([
+        go([{"delay": 5}, call("notify.delayed")]),
+        on(SAME_STATE | {"for": 5}, alias="held"),
+        go([{"wait_for_trigger": {"trigger": "event", "event_type": "pong"}, "timeout": 5}, call("notify.waited")], alias="waits"),
+        go([{"delay": 1}, call("notify.queued")], alias="queue", mode="queued", max=3),
+        on({"trigger": "homeassistant", "event": "start"}, alias="again", conditions=["{{ is_state('automation.again', 'on') }}"])],
+        [report("light.x", "on"), event("go"), event("go"), '{"restart":true}', event("pong"), moment("20:00:06"),
+         '{"switch":"automation.again","to":"off"}', '{"restart":true}', report("light.x", "on"), event("go"), moment("20:00:20")]),
     "starts without lines": home([on({"trigger": "homeassistant", "event": "start"}, actions=[call(), {"event": "go"}]),
                                   {"alias": "b"} | GO | {"actions": [call("notify.b")]}], []),
     "many entities": home([

@@ -14,11 +14,14 @@ from .script import Script, Thread
 from .triggers import firings
 
 LIMIT = 1_048_576
+"""The entries of a segment."""
+MOST_ENTRIES = 4_194_304
+MOST_SEGMENTS = 1_024
 BY_HAND: Pairs = [("trigger", {"platform": None})]
 
 
 class Full(Exception):
-    """The journal has as many entries as it may have."""
+    """There is no room for what is due."""
 
 
 @dataclass
@@ -48,6 +51,8 @@ class Engine:
         self.config = config
         self.journal = Journal(config, start, read_zone(zone), stored)
         self.limit = limit
+        self.front = 0
+        self.segments = 1
         self.records: list[Record] = []
         self.calls: list[str] = []
         self.errors: list[str] = []
@@ -62,12 +67,21 @@ class Engine:
         name = target_automation(command)
         if name is not None and name not in self.journal.numbers:
             command = refused(9)
-        place = self.put(Entry(command=command))
+        place = self.put(Entry(command=command), "restart" in command)
         self.trace.append(f'{{"source":0,"number":{self.lines},"cmd":{print_command(command)}}}')
         if "refused" in command:
             self.errors.append(f"source 0 line {self.lines}: {command['refused']}")
         self.lines += 1
         self.attend(place)
+        if "restart" in command:
+            self.open_segment()
+
+    def open_segment(self) -> None:
+        """Puts what opens the next segment, right behind the restart that closed the last one."""
+        self.front = self.journal.append(Entry(again=self.segments))
+        self.trace.append(f'{{"again":{self.segments}}}')
+        self.segments += 1
+        self.attend(self.front)
 
     def ready(self) -> list[tuple[Record, tuple[int, ...]]]:
         """The pairs of a run and a branch that may step, by serial, then branch."""
@@ -100,14 +114,15 @@ class Engine:
             self.calls.append(f'{{"run":{name},"number":{record.number},"call":{record.calls},'
                               + print_value(item["call"])[1:])
 
-    def put(self, entry: Entry) -> int:
-        """Puts an entry, if there is room."""
-        self.check_room()
+    def put(self, entry: Entry, restarts: bool = False) -> int:
+        """Puts an entry, if there is room; behind a restart the next segment begins."""
+        self.check_room(restarts)
         return self.journal.append(entry)
 
-    def check_room(self) -> None:
-        """Whether one more entry has room."""
-        if len(self.journal.entries) >= self.limit:
+    def check_room(self, restarts: bool = False) -> None:
+        """Whether one more entry has room: in its segment, in the journal and, of a restart, for what opens the next segment."""
+        count = len(self.journal.entries)
+        if count - self.front >= self.limit or count + restarts >= MOST_ENTRIES or restarts and self.segments >= MOST_SEGMENTS:
             raise Full
 
     # Ends, begins and attempts
@@ -115,7 +130,7 @@ class Engine:
     def attend(self, place: int) -> None:
         """What an entry does to runs: ends, begins of queued runs, and attempts."""
         entry = self.journal.entries[place]
-        if entry.is_start():
+        if entry.restarts():
             self.end_all(None, place, "restarted")
         for name, _, stop in entry.switched():
             if stop:
@@ -173,11 +188,12 @@ class Engine:
     # The whole
 
     def run(self, commands: list[Command]) -> int:
-        """Puts all lines with the steps that they cause, and tells the status."""
+        """Puts all lines with the steps that they cause, and tells the status. A source is rested where a segment begins."""
         try:
             for command in commands:
                 self.put_line(command)
-                self.settle()
+                if not self.journal.entries[-1].opens():
+                    self.settle()
             self.settle()
         except Full:
             return 7

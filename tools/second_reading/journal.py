@@ -30,16 +30,21 @@ class StateObject:
 
 @dataclass(frozen=True)
 class Entry:
-    """The boot, a line with its command, or a step of a run with its item."""
+    """The boot, a line with its command, a step of a run with its item, or what opens the segment behind a restart."""
 
     command: Optional[Command] = None
     serial: int = 0
     branch: tuple[int, ...] = ()
     item: Optional[Item] = None
+    again: int = 0
 
-    def is_start(self) -> bool:
-        """Whether it is the boot or a restart."""
-        return self.item is None and (self.command is None or "restart" in self.command)
+    def opens(self) -> bool:
+        """Whether a segment begins with it."""
+        return self.item is None and self.command is None
+
+    def restarts(self) -> bool:
+        """Whether it is a restart, which ends its segment."""
+        return self.command is not None and "restart" in self.command
 
     def event(self) -> Optional[tuple[str, dict[str, Value]]]:
         """The type and data of the event that the entry is."""
@@ -87,7 +92,7 @@ class Journal:
         self.after = [self.started(start, on, 0)]
 
     def started(self, now: int, on: tuple[bool, ...], place: int) -> Sight:
-        """The sight after a boot or restart."""
+        """The sight after a restart, or after what opens a segment."""
         return Sight({f"automation.{one.name}": switch_object(on[at], now) for at, one in enumerate(self.config)},
                      now, on, tuple(place for _ in on))
 
@@ -101,7 +106,7 @@ class Journal:
     def changed(self, before: Sight, entry: Entry, place: int) -> Sight:
         """The sight after an entry."""
         command = entry.command or {}
-        if "restart" in command:
+        if entry.restarts() or entry.opens():
             on = tuple(old if one.initial is None else one.initial for one, old in zip(self.config, before.on))
             return self.started(before.now, on, place)
         if "moment" in command:
@@ -124,9 +129,9 @@ class Journal:
                      before.on[:at] + (on,) + before.on[at + 1:], since)
 
     def latest_number(self, entity: str, attribute: Optional[str], end: int) -> Optional[Num]:
-        """The latest number that a report of an entity gave, before place `end` and after the last restart."""
+        """The latest number that a report of an entity gave, in the segment and before place `end`."""
         for entry in reversed(self.entries[:end]):
-            if entry.is_start():
+            if entry.opens():
                 return None
             number = reported_number(entry, entity, attribute)
             if number is not None:

@@ -29,8 +29,10 @@ def template_true(journal: Journal, text: str, place: int, names: dict[str, Valu
 def moves(journal: Journal, trigger: Trigger, entity: Optional[str], place: int) -> bool:
     """Whether a trigger, without its `for`, holds at a place."""
     rule, entry = trigger.rule, journal.entries[place]
-    if entry.is_start():
+    if entry.opens():
         return isinstance(rule, StartRule)
+    if entry.restarts():
+        return False
     if isinstance(rule, StateRule):
         return state_moves(journal, rule, trigger.hold, str(entity), place)
     if isinstance(rule, NumericRule):

@@ -1,14 +1,15 @@
 # The lines of a trace, read one after the other: each has the form of docs/TRACE.md, but what stands in attributes and data is not looked
 # at.
 
-# What a line is: boot, line, step or end, or nothing. Its parts are then in `turn` (the source or worker), `number` (of the line or the
-# run), `branch`, `rest` (the command or item) and `act` (which one that is).
+# What a line is: boot, line, step, again or end, or nothing. Its parts are then in `turn` (the source or worker), `number` (of the line
+# or the run), `branch`, `rest` (the command or item) and `act` (which one that is).
 function scan(text, head, field) {
-    is = ""
+    is = act = ""
     if (text !~ /\}$/ || text ~ /[\001-\037]/) return 0
     if (match(text, /^\{"source":(0|[1-9][0-9]*),"number":(0|[1-9][0-9]*),"cmd":\{/)) is = "line"
     else if (match(text, /^\{"worker":(0|[1-9][0-9]*),"run":[1-9][0-9]*,"branch":\[((0|[1-9][0-9]*)(,(0|[1-9][0-9]*))*)?\],"item":\{/)) is = "step"
     else if (text ~ /^\{"boot":\{"config":"/) is = "boot"
+    else if (text ~ /^\{"again":[1-9][0-9]*\}$/) is = "again"
     else if (text ~ /^\{"end":[1-9][0-9]*\}$/) is = "end"
     if (is == "line" || is == "step") {
         head = substr(text, 1, RLENGTH - 1)
@@ -44,17 +45,23 @@ function item_of(text) {
     return text ~ /^\{"failed":"F[1-6]"\}$/ ? "failed" : ""
 }
 
-# The next line of the trace, if it may stand there: the first is a boot and no other, each source's lines are counted, and nothing stands
-# behind the end line. Else the trace is read no further, and `broken` is the line where it ends so.
+# The next line of the trace, if it may stand there: the first is a boot and no other, each source's lines are counted, behind a restart an
+# again line stands and nowhere else one, and nothing stands behind the end line. Else the trace is read no further, and `broken` is the
+# line where it ends so.
 function next_line() {
     if (ended || broken || (getline text <trace) <= 0) return 0
     here++
     if (!scan(text) || (is == "boot") != (here == 1) || is == "line" && (turn > 15 || number != lines_of[turn]++ + 0) ||
-        is == "end" && text != "{\"end\":" (here - 1) "}") {
+        (is == "again") != due || due && text != "{\"again\":" (++agains) "}" || is == "end" && text != "{\"end\":" (here - 1) "}") {
         broken = here
         return 0
     }
     ended = is == "end"
+    due = is == "line" && act == "restart"
+    if (is == "again") {
+        forget_lines()
+        opened_at = here
+    }
     if (is == "line") {
         if (turn in last_line) line_before[turn] = last_line[turn]
         else sources++
@@ -63,21 +70,27 @@ function next_line() {
     return 1
 }
 
-# From the front again.
-function rewind(k) {
-    close(trace)
+# At the begin of a segment each source may put a line, whatever its earlier lines are.
+function forget_lines(k) {
     for (k in last_line) {
         delete last_line[k]
         delete line_before[k]
-        delete lines_of[k]
     }
-    here = sources = ended = broken = 0
+    sources = 0
 }
 
-# From which line on a run that takes its first step now can have begun. A source's line stands only if no step was due at some time since
-# its line before; while there is one source, none was due when its last line came.
+# From the front again.
+function rewind(k) {
+    close(trace)
+    forget_lines()
+    for (k in lines_of) delete lines_of[k]
+    here = ended = broken = due = agains = opened_at = 0
+}
+
+# From which line on a run that takes its first step now can have begun, in this segment. A source's line stands only if no step was due at
+# some time since its line before there; while there is one source, none was due when its last line came.
 function earliest(k, from, line) {
-    from = 1
+    from = opened_at ? opened_at : 1
     for (k in line_before) {
         line = sources == 1 ? last_line[k] : line_before[k] + 1
         if (line > from) from = line

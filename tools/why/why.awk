@@ -60,7 +60,7 @@ function concern(run) {
 
 # Whether a line can ask for runs.
 function begins_runs() {
-    return is == "boot" || is == "line" && act != "refused" && act != "shut" || act ~ /^(fired|switched|triggered)$/ && is == "step"
+    return is == "boot" || is == "again" || is == "line" && act !~ /^(refused|shut|restart)$/ || act ~ /^(fired|switched|triggered)$/ && is == "step"
 }
 
 # The first line: the configuration, the switches, the time.
@@ -92,6 +92,9 @@ function take(i) {
     if (is == "boot") {
         entry_is = "start"
         said = opening
+    } else if (is == "again") {
+        entry_is = "start"
+        said = "all began anew, behind the restart of line " (here - 1)
     } else if (is == "line") take_command(act == "report" && !matters ? 0 : printed(rest))
     else if (is == "step") take_item(act == "call" && !matters && !is_about[number] ? 0 : printed(rest))
     else said = "all is done, after " counted(here - 1, "entry")
@@ -100,12 +103,12 @@ function take(i) {
         wanted_time = time
         wanted_asks = entry_is == "ask"
         wanted_skips = wanted_asks && skips
-        wanted_turn = is == "boot" || is == "end" ? "" : is == "line" ? "line " number " of source " turn : "the turn of source " turn
+        wanted_turn = is ~ /^(boot|again|end)$/ ? "" : is == "line" ? "line " number " of source " turn : "the turn of source " turn
     }
     if (here > wanted) look_behind()
     if (begins_runs()) ask_all()
     for (i = 1; i <= abouts; i++) follow(about[i])
-    if (is == "line") {
+    if (is == "line" || is == "again") {
         last_of_all = here
         last_said = said
     }
@@ -120,6 +123,7 @@ function look_behind() {
         moved_at[number] = here
     }
     if (was_quiet(wanted)) all_begun = 1
+    if (is == "again" && !all_begun && !cut_at) cut_at = here - 1
 }
 
 # Whether this line tells that no step was due at some time behind an earlier one.
@@ -196,7 +200,6 @@ function ask_for(n) {
 }
 
 function take_restart(a) {
-    entry_is = "start"
     starts++
     end_runs(0)
     for (a = 1; a <= automations; a++) if (initial[a] != -1) set_switch(a, initial[a])

@@ -204,8 +204,8 @@ function tell_moved(i, out) {
 
 function tell_none(a, how) {
     how = found[wanted, a]
-    if (how ~ /fires|may/ && !all_begun) {
-        print "automation." name[a] ": the trace stops before it tells whether a run of it began"
+    if (how ~ /fires|may/ && (!all_begun || cut_at)) {
+        print "automation." name[a] ": " (cut_at ? "line " cut_at " restarted all" : "the trace stops") " before it tells whether a run of it began"
         printf "%s", why[a]
         return
     }

@@ -6,6 +6,7 @@ use Rattle.std.proofs.lemmas.Map.Views.{exact_unsigned_eq}
 use Rattle.std.proofs.Math.Seq.{take-append_seam}
 use Rattle.ha_journal.specs.declared.entry.Entry.{Entry}
 use Rattle.ha_journal.specs.declared.entry.Entry.TheVariants.{Boot, Line, Step, Again}
+use Rattle.ha_journal.specs.Entries.{is_again}
 use Rattle.bus_pass.specs.Journal.{is_of, placed}
 use Rattle.bus_pass.specs.Reads.{Reads}
 use Rattle.bus_pass.specs.Rule.{given, notes, bare, Stands, grown, IsPutAs, Told, AllTold, IsList, AreAsRead}
@@ -101,11 +102,11 @@ none_told j (e ∷ es) k n r none = none_case (is_of k e) j k n r e es (none_tol
 
 -- ---- entries that one worker put
 
-is_one : (k w : ℕ) (e : Entry) → is_of w e ≡ true → k ≢ w → is_of k e ≡ false
+is_one : (k w : ℕ) (e : Entry) → (is_again e ≡ false → is_of w e ≡ true) → k ≢ w → is_of k e ≡ false
 is_one k w (Boot text config stored start zone carry) is n = refl
 is_one k w (Again number start stored carry) is n = refl
-is_one k w (Line source number cmd) is n = ne_eqb source k (λ e. n (sym e ∙ exact_unsigned_eq source w is))
-is_one k w (Step worker serial branch item) is n = ne_eqb worker k (λ e. n (sym e ∙ exact_unsigned_eq worker w is))
+is_one k w (Line source number cmd) is n = ne_eqb source k (λ e. n (sym e ∙ exact_unsigned_eq source w (is refl)))
+is_one k w (Step worker serial branch item) is n = ne_eqb worker k (λ e. n (sym e ∙ exact_unsigned_eq worker w (is refl)))
 
 -- another worker has none of them
 pub no_more : (k w n : ℕ) (r : Reads) (old es : List Entry) → AreAsRead w r old es → k ≢ w → placed k n es ≡ []

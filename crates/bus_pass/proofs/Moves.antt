@@ -1,6 +1,6 @@
 -- Each of the seven steps keeps the rule.
 use Rattle.std.proofs.Common.{◌≡◌, ◌≢◌, ℕ, ◌+◌, ◌==◌, ◌<◌, ◌≤◌, ◌⊎◌, Bool, true, false, true≢false, cond, List, [], ◌∷◌, ◌++◌, length, drop, set, Option, Some, None, sym, refl, ap, ◌∙◌, subst, inl, inr, ⊎_elim, arith, length-append, append-nil}
-use Rattle.std.specs.Prelude.{Contains, IsSome}
+use Rattle.std.specs.Prelude.{Contains, IsSomeAnd}
 use Rattle.std.proofs.lemmas.List.{length-set}
 use Rattle.std.proofs.lemmas.List.Elements.{Contains-append_left, Contains-append_right}
 use Rattle.std.proofs.Math.Seq.{drop-append_seam}
@@ -12,16 +12,21 @@ use Rattle.atomic_table.proofs.Lists.{at_set}
 use Rattle.ha_config.specs.declared.command.Cmd.{Cmd}
 use Rattle.ha_journal.specs.declared.entry.Entry.{Entry}
 use Rattle.ha_journal.specs.Journal.{Journal}
+use Rattle.ha_whole.specs.Whole.{IsFull}
 use Rattle.bus_turn.specs.declared.fault.BusFault.{BusFault}
 use Rattle.bus_pass.specs.Journal.{placed}
 use Rattle.bus_pass.specs.Reads.{Reading, due_in, reads}
-use Rattle.bus_pass.specs.Rule.{hand, notes, Stands, grown, AllTold, IsList, Fits, Lies, Kept, opening, took, gave, parent, child, both, spent, stood, Tells, size_of, MayGive, Dues, dues_after, due_of, is_full}
-use Rattle.bus_pass.proofs.HandLemmas.{every_set, at_end, below, some_none, some_same, cons_nil, rests, moves, moved, stayed, at_snoc_place, some_of, never, heard_either}
+use Rattle.bus_pass.specs.Rule.{hand, notes, Stands, grown, AllTold, IsList, Fits, Lies, Kept, opening, took, gave, parent, child, both, spent, stood, Tells, size_of, MayGive, Dues, dues_after, due_of, is_full, MayLackRoom}
+use Rattle.bus_pass.proofs.HandLemmas.{every_set, at_end, below, some_none, some_same, cons_nil, rests, moves, moved, stayed, at_snoc_place, some_and, never, heard_either}
 use Rattle.bus_pass.proofs.Lists.{placed_more, stands_left, stands_right, stands_either, stands_grown, grown_stands, kept_list, grown_list, no_more, none_told, read_told}
 use Rattle.bus_pass.specs.declared.hand.Given.{Given}
 use Rattle.bus_pass.specs.declared.hand.Stood.{Stood}
 use Rattle.bus_pass.specs.declared.hand.Origin.{Origin}
 use Rattle.bus_pass.specs.declared.hand.Hand.{Hand}
+
+-- why a journal takes no more
+abbrev Stuck : (Journal → Type 0) → Journal → Option (ℕ × Cmd) → Type 0
+Stuck R j owed = (IsFull j × R j) ⊎ IsSomeAnd owed (λ d. MayLackRoom j d.1)
 
 module _ {T : Type 0} (R : Journal → Type 0) (journal : T → Journal) (first : T → Option BusFault) (origin : T → Origin) where
   pub begins : Kept R journal first origin [] (opening ∷ [])
@@ -125,11 +130,11 @@ module _ {T : Type 0} (R : Journal → Type 0) (journal : T → Journal) (first 
             fresh = λ lead k le. ap (λ (n : Journal). placed k 0 n) j ∙ h.fresh k (omega (arith, le, (f.leads lead).1));
             fault = λ q e. a ∙ f.heard q e;
             same_origin = λ o e. some_same (sym b ∙ f.begun o e);
-            full = λ e all. ⊎_elim (λ r. inl (subst R (sym j) r)) (λ t.
-                let d = some_of h.owed t in
+            full = λ e all. ⊎_elim (λ r. inl (subst (λ (q : Journal). IsFull q × R q) (sym j) r)) (λ t.
+                let d = some_and (λ (y : ℕ × Cmd). MayLackRoom h.now y.1) h.owed t in
                 let lt : d.0.0 < v.made = omega (arith, h.owing d.0 d.1, (f.leads all.first).1) in
                 let s = all.each d.0.0 lt in
-                inr (d.0, lt, f.owes d.0 d.1 (f.stands d.0.0 s.0 s.1).1)) (h.full (sym a ∙ e));
+                inr (d.0, lt, f.owes d.0 d.1 (f.stands d.0.0 s.0 s.1).1, subst (λ (q : Journal). MayLackRoom q d.0.1) (sym j) d.2)) (h.full (sym a ∙ e));
           },
         ),
       )
@@ -141,7 +146,7 @@ module _ {T : Type 0} (R : Journal → Type 0) (journal : T → Journal) (first 
   -- what is owed after a give
   pub record Debt (v : Hand) (dues : Dues) (x : T) (owed : Option (ℕ × Cmd)) : Type 0 where
     pub owed' : Option (ℕ × Cmd)
-    pub full : first x ≡ Some BusFault.Full → R (journal x) ⊎ IsSome owed'
+    pub full : first x ≡ Some BusFault.Full → Stuck R (journal x) owed'
     pub owing : (d : ℕ × Cmd) → owed' ≡ Some d → (owed ≡ Some d) ⊎ (((l : List Given) × Stands v.stands d.0 l) × Contains dues d)
 
   module _ (read : T → Reading) where
@@ -152,14 +157,14 @@ module _ {T : Type 0} (R : Journal → Type 0) (journal : T → Journal) (first 
         → ((f : BusFault) → v.noted ≡ Some f → first x ≡ Some f)
         → ((o : Origin) → v.origin ≡ Some o → origin x ≡ o)
         → (dues : Dues) → ((d : ℕ × Cmd) → Contains v.dues d → Contains dues d)
-        → ((owed : Option (ℕ × Cmd)) → (v.noted ≡ Some BusFault.Full → R old ⊎ IsSome owed) → Debt v dues x owed)
+        → ((owed : Option (ℕ × Cmd)) → (v.noted ≡ Some BusFault.Full → Stuck R old owed) → Debt v dues x owed)
         → Pushes (Kept R journal first origin) n port v x (λ w. w ≡ hand v.first v.made (grown (length old) (reads (read x)) more v.stands) None (first x) dues (Some (origin x)))
     gives n port v x old more is j fair only fault same dues keep debt items views room h at =
         let w = hand v.first v.made (grown (length old) (reads (read x)) more v.stands) None (first x) dues (Some (origin x)) in
         let f = h.each port v at in
         let mine : h.holder ≡ some port = rests v old is f.idle in
         let now : h.now ≡ old = some_same (sym (f.holds mine).0 ∙ is) in
-        let d = debt h.owed (λ e. subst (λ (q : Journal). R q ⊎ IsSome h.owed) now (h.full (sym (f.holds mine).1 ∙ e))) in
+        let d = debt h.owed (λ e. subst (λ (q : Journal). Stuck R q h.owed) now (h.full (sym (f.holds mine).1 ∙ e))) in
         let none_there : items ≡ [] = empty items views h port mine in (
           w,
           record {
@@ -172,7 +177,7 @@ module _ {T : Type 0} (R : Journal → Type 0) (journal : T → Journal) (first 
             base = Some (origin x);
             lies = (x, ap (λ (l : List T). l ++ x ∷ []) none_there, j, refl, refl);
             owed = d.owed';
-            full = λ e. subst (λ (q : Journal). R q ⊎ IsSome d.owed') j (d.full e);
+            full = λ e. subst (λ (q : Journal). Stuck R q d.owed') j (d.full e);
             owing = λ k e. ⊎_elim (λ t. h.owing k t) (λ t. (f.stands k.0 t.0.0 t.0.1).0) (d.owing k e);
             fresh = λ k le. placed_more old more k
                 ∙ ap (λ (l : List (ℕ × Entry)). l ++ placed k (length old) more) (ap (λ (l : Journal). placed k 0 l) (sym now) ∙ h.fresh k le)
@@ -362,11 +367,11 @@ module _ {T : Type 0} (R : Journal → Type 0) (journal : T → Journal) (first 
       subst (λ (l : Dues). Contains l (worker, c)) (sym e) (Contains-append_left ((worker, c) ∷ []) v.dues (worker, c) (0, omega arith, refl))
 
   -- what is owed after a give that may be made
-  owed_then : (v : Hand) (x : T) (m : MayGive R v (journal x) (read x) (first x) (origin x)) (owed : Option (ℕ × Cmd)) → (v.noted ≡ Some BusFault.Full → R m.old ⊎ IsSome owed)
+  owed_then : (v : Hand) (x : T) (m : MayGive R v (journal x) (read x) (first x) (origin x)) (owed : Option (ℕ × Cmd)) → (v.noted ≡ Some BusFault.Full → Stuck R m.old owed)
       → Debt R journal first origin v (dues_after v (read x) (first x)) x owed
   owed_then v x m owed had = now (full_or (first x))
     where
-      still : (R (journal x) ⊎ IsSome owed) → Debt R journal first origin v (dues_after v (read x) (first x)) x owed
+      still : Stuck R (journal x) owed → Debt R journal first origin v (dues_after v (read x) (first x)) x owed
       still why = record { owed' = owed; full = λ _. why; owing = λ d e. inl e }
 
       -- where the bus was full before, nothing was put
@@ -375,12 +380,12 @@ module _ {T : Type 0} (R : Journal → Type 0) (journal : T → Journal) (first 
 
       before : is_full (first x) ≡ true → first x ≡ Some BusFault.Full → ((v.noted ≡ Some BusFault.Full) × (is_full v.noted ≡ true)) ⊎ ((v.noted ≡ Some BusFault.Full → ⊥) × (is_full v.noted ≡ false))
           → Debt R journal first origin v (dues_after v (read x) (first x)) x owed
-      before b sure (inl was) = still (⊎_elim (λ r. inl (subst R (same was.0) r)) (λ s. inr s) (had was.0))
+      before b sure (inl was) = still (subst (λ (q : Journal). Stuck R q owed) (same was.0) (had was.0))
       before b sure (inr free) = ⊎_elim (λ was. absurd (free.0 was)) (λ why. ⊎_elim (λ r. still (inl r)) (λ s.
-          let c = some_of (due_in (read x)) s in
+          let c = some_and (MayLackRoom (journal x)) (due_in (read x)) s in
           record {
             owed' = Some (m.worker, c.0);
-            full = λ _. inr refl;
+            full = λ _. inr c.2;
             owing = λ d e. inr (subst (λ (y : ℕ × Cmd). ((l : List Given) × Stands v.stands y.0 l) × Contains (dues_after v (read x) (first x)) y) (some_same e) (
               (m.list, subst (λ (ss : List Stood). Stands ss m.worker m.list) (sym m.stands) (inl (refl, refl))),
               due_noted v x m.worker m.list c.0 m.stands c.1 b free.1,

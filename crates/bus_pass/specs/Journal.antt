@@ -3,8 +3,7 @@ use Rattle.std.specs.Prelude.{ℕ, ◌+◌, ◌==◌, ◌≡◌, Bool, false, co
 use Rattle.ha_journal.specs.declared.entry.Entry.{Entry}
 use Rattle.ha_journal.specs.declared.entry.Entry.TheVariants.{Boot, Line, Step, Again}
 use Rattle.ha_journal.specs.Journal.{Journal}
-use Rattle.ha_model.specs.Lawful.{is_quiet}
-use Rattle.ha_model.specs.Records.{records_of}
+use Rattle.ha_whole.specs.Whole.{is_quiet, records_of}
 
 -- the entry is a line of source k, or a step of worker k
 abbrev pub is_of : ℕ → Entry → Bool

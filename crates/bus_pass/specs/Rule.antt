@@ -1,6 +1,6 @@
 -- The rule of the channel: what lies in it, and what each pass knows.
 use Rattle.std.specs.Prelude.{◌≡◌, ℕ, ◌+◌, ◌<◌, ◌≤◌, ◌⊎◌, Bool, true, false, cond, List, [], ◌∷◌, ◌++◌}
-use Rattle.std.specs.Prelude.{length, take, drop, map, Option, Some, None, IsSome, Contains}
+use Rattle.std.specs.Prelude.{length, take, drop, map, Option, Some, None, IsSomeAnd, Contains}
 use mathlib.Core.Option.{some}
 use mathlib.Core.Option as maybe
 use lib.ListN.{get_elem?}
@@ -8,7 +8,9 @@ use Rattle.ha_config.specs.declared.command.Cmd.{Cmd}
 use Rattle.ha_journal.specs.declared.entry.Entry.{Entry}
 use Rattle.ha_journal.specs.declared.entry.Entry.TheVariants.{Boot, Line, Step, Again}
 use Rattle.ha_journal.specs.Commands.{put_as}
+use Rattle.ha_journal.specs.Entries.{is_again, restarts}
 use Rattle.ha_journal.specs.Journal.{Journal}
+use Rattle.ha_whole.specs.Whole.{IsFull}
 use Rattle.bus_turn.specs.declared.fault.BusFault.{BusFault}
 use Rattle.bus_pass.specs.Journal.{is_of, placed}
 use Rattle.bus_pass.specs.Reads.{Reading, Reads, due_in, reads}
@@ -86,8 +88,12 @@ pub record Fits (lead made : ℕ) (seat : ℕ → ℕ) (now : Journal) (holder :
   pub stands : (k : ℕ) (l : List Given) → Stands v.stands k l → (k < made) × (seat k ≡ port) × IsList now k l
   pub sits : (k : ℕ) → k < made → seat k ≡ port → (l : List Given) × Stands v.stands k l
 
--- a message T holds a bus with this journal, this first fault and this origin; where it keeps `Full`, the journal can go on, or a command
--- was due
+-- a command that was due may have had no room: the journal is full, or the command is a Restart
+abbrev pub MayLackRoom : Journal → Cmd → Type 0
+MayLackRoom j c = IsFull j ⊎ (restarts c ≡ true)
+
+-- a message T holds a bus with this journal, this first fault and this origin; where it keeps `Full`, the journal is full and can go on, or
+-- a command was due that may have had no room
 module _ {T : Type 0} (GoesOn : Journal → Type 0) (journal : T → Journal) (first : T → Option BusFault) (origin : T → Origin) where
   -- the bus lies in the channel, or some pass holds it
   abbrev pub Lies : List T → List Hand → Journal → maybe.Option ℕ → Option BusFault → Option Origin → Type 0
@@ -104,7 +110,7 @@ module _ {T : Type 0} (GoesOn : Journal → Type 0) (journal : T → Journal) (f
     pub owed : Option (ℕ × Cmd)
     pub base : Option Origin
     pub lies : Lies items views now holder alarm base
-    pub full : alarm ≡ Some BusFault.Full → GoesOn now ⊎ IsSome owed
+    pub full : alarm ≡ Some BusFault.Full → (IsFull now × GoesOn now) ⊎ IsSomeAnd owed (λ d. MayLackRoom now d.1)
     pub owing : (d : ℕ × Cmd) → owed ≡ Some d → d.0 < made
     pub fresh : (k : ℕ) → made ≤ k → placed k 0 now ≡ []
     pub seated : (k : ℕ) → k < made → seat k < length views
@@ -174,12 +180,13 @@ pub record Tells (GoesOn : Journal → Type 0) (v : Hand) (j : Journal) (first :
   pub fresh : v.first ≡ true → (k : ℕ) → v.made ≤ k → placed k 0 j ≡ []
   pub fault : (f : BusFault) → v.noted ≡ Some f → first ≡ Some f
   pub same_origin : (o : Origin) → v.origin ≡ Some o → origin ≡ o
-  pub full : first ≡ Some BusFault.Full → StandsForAll v → GoesOn j ⊎ ((d : ℕ × Cmd) × (d.0 < v.made) × Contains v.dues d)
+  pub full : first ≡ Some BusFault.Full → StandsForAll v
+      → (IsFull j × GoesOn j) ⊎ ((d : ℕ × Cmd) × (d.0 < v.made) × Contains v.dues d × MayLackRoom j d.1)
 
--- entries of worker k, which stand behind those before, and each line of them as it was read
+-- entries of worker k, but for the Agains behind its Restarts, which stand behind those before, and each line of them as it was read
 abbrev pub AreAsRead : ℕ → Reads → Journal → List Entry → Type 0
 AreAsRead k read before [] = Unit {0}
-AreAsRead k read before (e ∷ es) = (is_of k e ≡ true) × IsPutAs before e (read e) × AreAsRead k read (before ++ e ∷ []) es
+AreAsRead k read before (e ∷ es) = (is_again e ≡ false → is_of k e ≡ true) × IsPutAs before e (read e) × AreAsRead k read (before ++ e ∷ []) es
 
 -- more entries of worker k, and each line as it was read
 pub record More (k : ℕ) (read : Reads) (old new : Journal) : Type 0 where
@@ -189,7 +196,7 @@ pub record More (k : ℕ) (read : Reads) (old new : Journal) : Type 0 where
 
 -- A pass with this view holds the bus, and may give it back with this journal, for the commands that were read, with this first fault and
 -- this origin: with entries of its worker more, put where it kept no fault, or with none; a fault that was noted is still kept, and the
--- origin is the same; where the bus is newly full, the journal can go on, or a command was not put.
+-- origin is the same; where the bus is newly full, the journal is full and can go on, or a command was not put that may have had no room.
 pub record MayGive (GoesOn : Journal → Type 0) (v : Hand) (j : Journal)
     (read : Reading) (first : Option BusFault) (origin : Origin) : Type 0 where
   pub worker : ℕ
@@ -200,4 +207,5 @@ pub record MayGive (GoesOn : Journal → Type 0) (v : Hand) (j : Journal)
   pub put : (j ≡ old) ⊎ ((v.noted ≡ None) × More worker (reads read) old j)
   pub fault : (f : BusFault) → v.noted ≡ Some f → first ≡ Some f
   pub same_origin : v.origin ≡ Some origin
-  pub full : first ≡ Some BusFault.Full → (v.noted ≡ Some BusFault.Full) ⊎ (GoesOn j ⊎ IsSome (due_in read))
+  pub full : first ≡ Some BusFault.Full
+      → (v.noted ≡ Some BusFault.Full) ⊎ ((IsFull j × GoesOn j) ⊎ IsSomeAnd (due_in read) (MayLackRoom j))

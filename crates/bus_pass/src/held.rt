@@ -3,13 +3,15 @@ ghost use Rattle.std.specs.Prelude.{◌≡◌, ◌<◌, true, false, Some, None,
 ghost use Rattle.std.specs.List.{list_any};
 ghost use Rattle.ha_journal.specs.declared.entry.Entry.{Entry};
 ghost use Rattle.ha_journal.specs.Commands.{IsFair, put_as};
-ghost use Rattle.ha_model.specs.Lawful.{is_line_of, is_quiet, is_rested, shuts};
+ghost use Rattle.ha_journal.specs.Entries.{restarts};
+ghost use Rattle.ha_model.specs.Lawful.{is_line_of, shuts};
+ghost use Rattle.ha_whole.specs.Whole.{is_quiet, is_rested};
 ghost use Rattle.bus_turn.specs.Buses.{IsBus, IsStep, Puts};
 
 use bus_turn::{Bus, BusFault};
 use ha_config::Cmd;
 use ha_io::{Keeper, Sink};
-use ha_model::Core;
+use ha_whole::Core;
 use std::alloc::{AllocFailed, Global};
 use std::marker::Model;
 
@@ -89,7 +91,7 @@ impl<C: Core + Drop, K: Sink, Q: Keeper> Held<C, K, Q> {
         requires next { number ≡ count_by (is_line_of source) self.old.journal }
         requires unshut { list_any (shuts source) self.old.journal ≡ false }
         requires fair { IsFair self.old.journal (put_as self.old.journal cmd) }
-        ensures { Puts (λ x. x ≡ Entry.Line source number (put_as self.old.journal cmd)) self.old self.new }
+        ensures { Puts (restarts cmd) (λ x. x ≡ Entry.Line source number (put_as self.old.journal cmd)) self.old self.new }
     {
         self.bus.as_mut().line(alloc, source, number, cmd, goes_on);
     }
@@ -99,7 +101,7 @@ impl<C: Core + Drop, K: Sink, Q: Keeper> Held<C, K, Q> {
     pub fn step(&mut self, alloc: Global, worker: u32, goes_on: bool)
         requires open { self.old.first ≡ None }
         requires busy { is_quiet self.old.records self.old.journal ≡ false }
-        ensures { Puts (IsStep worker self.old) self.old self.new }
+        ensures { Puts false (IsStep worker self.old) self.old self.new }
     {
         self.bus.as_mut().step(alloc, worker, goes_on);
     }

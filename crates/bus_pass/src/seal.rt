@@ -1,12 +1,12 @@
 //! The bus as it lies in the channel.
 ghost use Rattle.std.specs.Prelude.{◌≡◌};
-ghost use Rattle.ha_model.specs.Lawful.{Running};
+ghost use Rattle.ha_whole.specs.Whole.{Running};
 ghost use Rattle.bus_pass.specs.Origins.{IsStored};
 
 use crate::held::Held;
 use crate::read::Read;
 use ha_io::{Keeper, Sink};
-use ha_model::Core;
+use ha_whole::Core;
 use std::marker::Model;
 use std::snapshot::Snapshot;
 
@@ -24,7 +24,7 @@ impl<C: Core + Drop, K: Sink, Q: Keeper> Model for Sealed<C, K, Q> {
     ghost use Rattle.ha_model.specs.contracts.record.Record as run;
     ghost use Rattle.ha_journal.specs.contracts.entry.Entry as item;
     ghost use Rattle.bus_turn.specs.Shown.{BusView};
-    ghost use Rattle.ha_model.specs.Lawful.{Running};
+    ghost use Rattle.ha_whole.specs.Whole.{Running};
     ghost use Rattle.bus_pass.specs.Origins.{IsStored};
     ghost use Rattle.bus_pass.specs.Reads.{Reading};
 

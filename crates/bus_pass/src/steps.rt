@@ -3,7 +3,7 @@ use crate::hand::Hand;
 use crate::seal::Sealed;
 use crossbeam_channel::protocol::{Join, Lesson, Outcome, Protocol, Split};
 use ha_io::{Keeper, Sink};
-use ha_model::Core;
+use ha_whole::Core;
 
 /// The rule of the channel.
 pub struct Law;

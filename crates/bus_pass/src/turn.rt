@@ -2,7 +2,7 @@
 ghost use Rattle.std.specs.Prelude.{◌≡◌, ◌∷◌, [], true, false, None, Some, IfOk, IfErr};
 ghost use Rattle.crossbeam_channel.specs.Claims.{view};
 ghost use Rattle.ha_journal.specs.declared.entry.Entry.{Entry};
-ghost use Rattle.ha_model.specs.Lawful.{Running};
+ghost use Rattle.ha_whole.specs.Whole.{Running};
 ghost use Rattle.bus_pass.specs.Turns.{IsPassOf};
 ghost use Rattle.bus_pass.specs.Puts.{MayPut};
 ghost use Rattle.bus_pass.specs.Journal.{IsRestless};
@@ -17,7 +17,7 @@ use crate::steps::{Gives, Law, Parts, Takes};
 use bus_turn::Bus;
 use crossbeam_channel::{RuledReceiver, RuledSender, bounded_with};
 use ha_io::{Keeper, Sink};
-use ha_model::Core;
+use ha_whole::Core;
 use std::alloc::Global;
 use std::snapshot::Snapshot;
 use std::sync::{Mutex, MutexGuard, Wait};

@@ -1,8 +1,7 @@
 pub mod CallLemmas
 pub mod WriteLemmas
 pub mod SinkLemmas
-pub mod StoreLemmas
-pub mod NumberLemmas
+pub mod SinkThen
 pub mod LastLemmas
 pub mod GrowthLemmas
 pub mod BusLemmas

@@ -1,13 +1,14 @@
 -- What a bus always is, and what a put makes of it.
-use Rattle.std.specs.Prelude.{◌≡◌, ◌⊎◌, ◌<◌, ◌≤◌, ◌++◌, ℕ, List, [], true, false, length, Option, Some, None, IfSome, IsSomeAnd}
+use Rattle.std.specs.Prelude.{◌≡◌, ◌⊎◌, ◌<◌, ◌++◌, ℕ, List, [], Bool, true, false, Option, Some, None, IfSome, IsSomeAnd}
 use Rattle.ha_journal.specs.declared.entry.Entry.{Entry}
 use Rattle.ha_config.specs.Words.{Text}
-use Rattle.ha_journal.specs.Journal.{Journal, more}
+use Rattle.ha_journal.specs.Journal.{Journal}
 use Rattle.ha_journal.specs.declared.entry.Entry.TheVariants.{Step}
 use Rattle.ha_sight.specs.declared.item.Item.{Item}
-use Rattle.ha_model.specs.Lawful.{Right, pick, ready}
+use Rattle.ha_model.specs.Lawful.{pick}
 use Rattle.ha_model.specs.Texts.{call_text}
-use Rattle.ha_journal.specs.EntryText.{error_text, store_text, trace_text}
+use Rattle.ha_journal.specs.EntryText.{error_text, trace_text}
+use Rattle.ha_whole.specs.Whole.{CannotRestart, HasRoom, IsFull, IsWithin, LacksRoom, Right, put, ready, store_text}
 use Rattle.bus_turn.specs.declared.fault.BusFault.{BusFault}
 use Rattle.bus_turn.specs.States.{SinkState, KeeperState, Outside}
 use Rattle.bus_turn.specs.Writes.{Shows}
@@ -38,11 +39,11 @@ pub record IsBetween (done text whole : Text) : Type 0 where
 abbrev pub HasTakenFront : Text → Text → SinkState → Type 0
 HasTakenFront done whole s = IfSome s.took (λ t. IsBetween done t whole)
 
--- all is written but for a part of the last entry. At the boot alone the keeper may also hold what it held before
+-- all is written but for a part of the last put. At the boot alone the keeper may also hold what it held before
 pub record IsCut (b : BusView) : Type 0 where
   pub before : Journal
   pub last : Entry
-  pub is : b.journal ≡ more before last
+  pub is : b.journal ≡ put before last
   pub calls : HasTakenFront (call_text before b.records) (call_text b.journal b.records) b.out.calls
   pub errors : HasTakenFront (error_text before) (error_text b.journal) b.out.errors
   pub trace : IfSome b.out.trace (HasTakenFront (trace_text before false) (trace_text b.journal false))
@@ -70,14 +71,14 @@ HasCause fault o =
 -- how a bus stands by its first fault
 abbrev pub Stands : BusView → Option BusFault → Type 0
 Stands b None = (b.is_spent ≡ false) × IsWritten b
-Stands b (Some BusFault.Full) = IsWritten b × (length b.journal ≡ 1_048_576)
+Stands b (Some BusFault.Full) = IsWritten b × (IsFull b.journal ⊎ CannotRestart b.journal)
 Stands b (Some (BusFault.Write zero)) = IsCut b × HasCause (BusFault.Write zero) b.out
 Stands b (Some BusFault.Keep) = IsCut b × HasCause BusFault.Keep b.out
 Stands b (Some BusFault.Memory) = IsCut b
 
 pub record IsBus (b : BusView) : Type 0 where
   pub right : Right b.journal b.records
-  pub room : length b.journal ≤ 1_048_576
+  pub room : IsWithin b.journal
   pub stands : Stands b b.first
 
 -- nothing was put, for this reason
@@ -87,23 +88,24 @@ IsRefusal (Some BusFault.Memory) = Unit {0}
 IsRefusal _ = ⊥
 
 -- such an entry is put, and its texts are written as far as no fault comes
-pub record Adds (IsIt : Entry → Type 0) (old new : BusView) : Type 0 where
+pub record Adds (restarts : Bool) (IsIt : Entry → Type 0) (old new : BusView) : Type 0 where
   pub entry : Entry
   pub is_it : IsIt entry
-  pub room : length old.journal < 1_048_576
-  pub journal : new.journal ≡ more old.journal entry
+  pub room : HasRoom old.journal restarts
+  pub journal : new.journal ≡ put old.journal entry
   pub shown : Shows (texts_of new.records old.journal entry) old.out new.first new.out
 
--- nothing is put, and nothing written
-pub record Refuses (old new : BusView) : Type 0 where
+-- nothing is put, and nothing written; full is a journal that lacks room for it
+pub record Refuses (restarts : Bool) (old new : BusView) : Type 0 where
   pub refusal : IsRefusal new.first
+  pub full : new.first ≡ Some BusFault.Full → LacksRoom old.journal restarts
   pub journal : new.journal ≡ old.journal
   pub records : new.records ≡ old.records
   pub out : new.out ≡ old.out
 
--- what one put makes of a bus
-abbrev pub Puts : (Entry → Type 0) → BusView → BusView → Type 0
-Puts IsIt old new = Adds IsIt old new ⊎ Refuses old new
+-- what one put makes of a bus, of such an entry, be it a Restart or none
+abbrev pub Puts : Bool → (Entry → Type 0) → BusView → BusView → Type 0
+Puts restarts IsIt old new = Adds restarts IsIt old new ⊎ Refuses restarts old new
 
 -- the entry is a step of the worker: of the ready pairs the one at the place of its number
 pub record IsStep (worker : ℕ) (old : BusView) (x : Entry) : Type 0 where

@@ -1,14 +1,15 @@
 -- What a bus shows: the journal with its records, what lies outside, and the first fault.
-use Rattle.std.specs.Prelude.{Bool, Option, Some, None, if◌then◌else◌}
+use Rattle.std.specs.Prelude.{Bool, flat_map, Option, Some, None, if◌then◌else◌}
 use Rattle.ha_journal.specs.declared.entry.Entry.{Entry}
-use Rattle.ha_journal.specs.Journal.{Journal, automations, more}
+use Rattle.ha_config.specs.Words.{Text}
+use Rattle.ha_journal.specs.Journal.{Journal, automations}
 use Rattle.ha_model.specs.Records.{Records}
-use Rattle.ha_journal.specs.Sights.{changes_switch}
 use Rattle.ha_model.specs.Texts.{call_text_of}
-use Rattle.ha_journal.specs.EntryText.{error_text_of, store_text, trace_line}
+use Rattle.ha_journal.specs.EntryText.{error_text_of, trace_line}
+use Rattle.ha_whole.specs.Whole.{appended, changes_store, put, store_text}
 use Rattle.bus_turn.specs.declared.fault.BusFault.{BusFault}
 use Rattle.bus_turn.specs.States.{Outside}
-use Rattle.bus_turn.specs.Writes.{EntryTexts}
+use Rattle.bus_turn.specs.Writes.{EntryTexts, entry_texts}
 
 pub record BusView : Type 0 where
   pub journal : Journal
@@ -20,11 +21,12 @@ pub record BusView : Type 0 where
 abbrev pub bus_view : Journal → Records → Bool → Outside → Option BusFault → BusView
 bus_view journal records is_spent out first = record { journal = journal; records = records; is_spent = is_spent; out = out; first = first }
 
--- the texts that an entry gives after these; the store's text is saved where the entry is the first or changed a switch
+-- the store's text of this journal, where it is to be saved: its last put is the first, or changed what the store keeps
+abbrev pub saved_text : Journal → Option Text
+saved_text j = if changes_store j then Some (store_text j) else None
+
+-- the texts that one put gives after these: a line in the trace for each entry that it appends
 abbrev pub texts_of : Records → Journal → Entry → EntryTexts
-texts_of records before x = record {
-  calls = call_text_of records before x;
-  errors = error_text_of x;
-  trace = trace_line (automations (more before x)) x;
-  store = if changes_switch (more before x) then Some (store_text (more before x)) else None;
-}
+texts_of records before x =
+    entry_texts (call_text_of records before x) (error_text_of x)
+    (flat_map (trace_line (automations (put before x))) (appended before x)) (saved_text (put before x))

@@ -1,9 +1,9 @@
--- What is written of one entry, and what a fault leaves.
+-- What is written of one put, and what a fault leaves.
 use Rattle.std.specs.Prelude.{◌≡◌, ◌≤◌, ◌⊎◌, true, false, Option, None, Some, Result, Ok, Err}
 use Rattle.ha_io.specs.Counts.{Rose}
 use Rattle.ha_io.specs.Told.{Takes, told_as}
 use Rattle.ha_io.specs.Whole.{IsFrontTaken}
-use Rattle.ha_model.specs.declared.faults.CoreFault.{CoreFault}
+use Rattle.ha_whole.specs.declared.faults.CoreFault.{CoreFault}
 use Rattle.ha_config.specs.Words.{Text}
 use Rattle.bus_turn.specs.declared.fault.BusFault.{BusFault}
 use Rattle.bus_turn.specs.States.{SinkState, KeeperState, Outside}
@@ -94,14 +94,17 @@ Saves (Some text) before None after = Saved text before after
 Saves None before (Some fault) after = ⊥
 Saves (Some text) before (Some fault) after = MaySave text before after × KeeperCause fault before after
 
--- ---- all of one entry
+-- ---- all of one put
 
--- the texts that an entry gives: its call line, its error line and its line in the trace, and the store's text, where it is to be saved
+-- the texts that a put gives: its call line, its error line and its lines in the trace, and the store's text, where it is to be saved
 pub record EntryTexts : Type 0 where
   pub calls : Text
   pub errors : Text
   pub trace : Text
   pub store : Option Text
+
+abbrev pub entry_texts : Text → Text → Text → Option Text → EntryTexts
+entry_texts calls errors trace store = record { calls = calls; errors = errors; trace = trace; store = store }
 
 -- all is written, in this order: call, error, trace, store; after a fault nothing further is
 abbrev pub Shows : EntryTexts → Outside → Option BusFault → Outside → Type 0

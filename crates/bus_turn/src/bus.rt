@@ -3,7 +3,9 @@ ghost use Rattle.std.specs.Prelude.{◌≡◌, ◌∷◌, ◌<◌, [], ◌⊎◌
 ghost use Rattle.std.specs.List.{list_any};
 ghost use Rattle.ha_journal.specs.declared.entry.Entry.{Entry};
 ghost use Rattle.ha_journal.specs.Commands.{IsFair, put_as};
-ghost use Rattle.ha_model.specs.Lawful.{is_line_of, is_quiet, is_rested, shuts};
+ghost use Rattle.ha_journal.specs.Entries.{restarts};
+ghost use Rattle.ha_model.specs.Lawful.{is_line_of, shuts};
+ghost use Rattle.ha_whole.specs.Whole.{is_quiet, is_rested};
 ghost use Rattle.ha_texts.specs.Lines.{AreDated};
 ghost use Rattle.bus_turn.specs.States.{keeper_of, outside_of, sink_of};
 ghost use Rattle.bus_turn.specs.Shown.{texts_of};
@@ -13,11 +15,11 @@ ghost use Rattle.bus_turn.specs.Ends.{Ends, HasEnded};
 
 use crate::end::{Ended, write_end};
 use crate::fault::BusFault;
-use crate::write::write_put;
+use crate::show::write_put;
 use ha_config::Cmd;
 use ha_io::{Keeper, Sink};
-use ha_model::Core;
 use ha_value::Word;
+use ha_whole::Core;
 use std::alloc::Global;
 use std::marker::Model;
 
@@ -196,9 +198,9 @@ impl<C: Core, K: Sink, Q: Keeper> Bus<C, K, Q> {
         self.core.quiet()
     }
 
-    /// Puts a line of a source and writes what it gives: its lines in order, call, error and trace, and then the store's text, where a
-    /// switch changed. The first fault is kept, and nothing further is written. Where it `goes_on`, the trace's sink may keep its line: the
-    /// caller then puts more before it waits for anything.
+    /// Puts a line of a source and writes what it gives: its lines in order, call, error and trace, behind a restart's line in the trace
+    /// that of the entry that opens the next segment, and then the store's text, where it changed. The first fault is kept, and nothing
+    /// further is written. Where it `goes_on`, the trace's sink may keep its line: the caller then puts more before it waits for anything.
     #[inline(always)]
     pub fn line(&mut self, alloc: Global, source: u32, number: u64, cmd: Cmd, goes_on: bool)
         requires open { self.old.first ≡ None }
@@ -207,7 +209,7 @@ impl<C: Core, K: Sink, Q: Keeper> Bus<C, K, Q> {
         requires next { number ≡ count_by (is_line_of source) self.old.journal }
         requires unshut { list_any (shuts source) self.old.journal ≡ false }
         requires fair { IsFair self.old.journal (put_as self.old.journal cmd) }
-        ensures { Puts (λ x. x ≡ Entry.Line source number (put_as self.old.journal cmd)) self.old self.new }
+        ensures { Puts (restarts cmd) (λ x. x ≡ Entry.Line source number (put_as self.old.journal cmd)) self.old self.new }
     {
         let put = self.core.put_line(source, number, cmd);
         self.first = write_put(
@@ -227,7 +229,7 @@ impl<C: Core, K: Sink, Q: Keeper> Bus<C, K, Q> {
     pub fn step(&mut self, alloc: Global, worker: u32, goes_on: bool)
         requires open { self.old.first ≡ None }
         requires busy { is_quiet self.old.records self.old.journal ≡ false }
-        ensures { Puts (IsStep worker self.old) self.old self.new }
+        ensures { Puts false (IsStep worker self.old) self.old self.new }
     {
         let put = self.core.put_step(worker);
         self.first = write_put(

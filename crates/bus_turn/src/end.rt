@@ -7,7 +7,7 @@ ghost use Rattle.bus_turn.specs.Writes.{WritesIn, fault_of};
 use crate::fault::BusFault;
 use crate::write::write_kept;
 use ha_io::{Keeper, Sink};
-use ha_model::Core;
+use ha_whole::Core;
 use std::alloc::{AllocError, Global};
 
 /// The parts of a bus that has ended, and the fault that its end met.

@@ -10,7 +10,7 @@ pub enum BusFault {
     /// The keeper failed.
     #[error("the keeper failed")]
     Keep,
-    /// The journal has as many entries as it may have.
+    /// The last segment or the journal has as many entries as it may have, or there is no room for a restart.
     #[error("journal full")]
     Full,
     /// Memory ran out.

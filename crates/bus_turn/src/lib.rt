@@ -1,9 +1,10 @@
-//! The bus: a core with its sinks and its keeper. What is put to the core is written entry by entry.
+//! The bus: a core with its sinks and its keeper. What is put to the core is written put by put.
 #![tactic(auto)]
 
 mod bus;
 mod end;
 mod fault;
+mod show;
 mod write;
 
 pub use bus::Bus;

@@ -1,31 +1,28 @@
-//! What is written of one entry.
-ghost use Rattle.std.specs.Prelude.{◌≡◌, IfErr, IfSome, OnOk, is_some, option_map, true, false, None, Some, if◌then◌else◌};
+//! The lines of one entry: its call, its error, and its line in the trace.
+ghost use Rattle.std.specs.Prelude.{◌≡◌, IfSome, OnOk, is_some, option_map, false};
 ghost use Rattle.std.specs.Option.{option_copied};
-ghost use Rattle.ha_journal.specs.declared.entry.Entry.{Entry};
 ghost use Rattle.ha_sight.specs.Items.{call_in};
 ghost use Rattle.ha_journal.specs.Entries.{step_of};
 ghost use Rattle.ha_journal.specs.Journal.{Journal, more};
-ghost use Rattle.ha_journal.specs.Sights.{changes_switch};
 ghost use Rattle.ha_model.specs.Lawful.{record_of as record_of_lem};
 ghost use Rattle.ha_config.specs.Names.{name_of};
-ghost use Rattle.ha_journal.specs.EntryText.{call_line as call_line_lem, error_line, error_text_of, store_text, trace_line as trace_line_lem};
+ghost use Rattle.ha_journal.specs.EntryText.{call_line as call_line_lem, error_line, error_text_of, trace_line as trace_line_lem};
 ghost use Rattle.ha_model.specs.Texts.{call_text_of};
 ghost use Rattle.ha_config.specs.Words.{Text};
-ghost use Rattle.bus_turn.specs.States.{keeper_of, outside_of, sink_of};
-ghost use Rattle.bus_turn.specs.Shown.{texts_of};
+ghost use Rattle.bus_turn.specs.States.{sink_of};
 ghost use Rattle.ha_texts.specs.Lines.{AreDated};
-ghost use Rattle.bus_turn.specs.Dated.{IsLastDated};
 ghost use Rattle.bus_turn.specs.Lines.{called_line, text_in};
-ghost use Rattle.bus_turn.specs.Writes.{Hands, Saves, Shows, Writes, WritesIn, fault_of, refusal};
+ghost use Rattle.bus_turn.specs.Writes.{Hands, Writes, WritesIn, fault_of};
 
 use crate::fault::BusFault;
 use ha_config::{Automation, Cmd, Config};
-use ha_io::{IoFault, Keeper, Sink, Unwritten, write_whole};
+use ha_io::{Sink, Unwritten, write_whole};
 use ha_journal::Entry;
-use ha_model::{Core, CoreFault, Record};
+use ha_model::Record;
 use ha_sight::Item;
 use ha_texts::{call_line, err_line, trace_line};
 use ha_value::Word;
+use ha_whole::Core;
 use std::alloc::{AllocError, Global};
 
 /// Writes a text to its end.
@@ -245,7 +242,7 @@ pub fn write_error<K: Sink>(
 
 /// Writes the line of an entry to the trace, where there is one. Unless more entries are at hand, it then stands outside, with all lines
 /// before it.
-fn write_trace<K: Sink>(
+pub(crate) fn write_trace<K: Sink>(
     alloc: Global,
     shown: &mut Word,
     entry: &Entry,
@@ -261,124 +258,5 @@ fn write_trace<K: Sink>(
     match trace {
         Some(sink) => write_traced(alloc, shown, entry, config, sink, goes_on),
         None => Ok(()),
-    }
-}
-
-/// Saves a text.
-fn save_text<Q: Keeper>(text: &[u8], keep: &mut Q) -> Result<(), BusFault>
-    ensures { let q = keeper_of Q.kept Q.faults in Saves (Some text.now) (q keep.old) (fault_of result) (q keep.new) }
-{
-    match keep.save(text) {
-        Ok(()) => Ok(()),
-        Err(IoFault::Failed) => Err(BusFault::Keep),
-        Err(IoFault::Memory) => Err(BusFault::Memory),
-    }
-}
-
-/// Saves the switches of the core.
-#[inline(never)]
-fn save_switches<C: Core, Q: Keeper>(alloc: Global, core: &C, keep: &mut Q) -> Result<(), BusFault>
-    requires { C.is_spent core.now ≡ false }
-    ensures { let q = keeper_of Q.kept Q.faults in
-        Saves (Some (store_text (C.entries core.now))) (q keep.old) (fault_of result) (q keep.new) }
-{
-    match core.store_text(alloc) {
-        Ok(text) => save_text(text.bytes(), keep),
-        Err(_) => Err(BusFault::Memory),
-    }
-}
-
-/// Saves the switches, where the last entry is the boot or changed one.
-fn save<C: Core, Q: Keeper>(alloc: Global, core: &C, keep: &mut Q) -> Result<(), BusFault>
-    requires { C.is_spent core.now ≡ false }
-    ensures { let q = keeper_of Q.kept Q.faults in
-        let text = if changes_switch (C.entries core.now) then Some (store_text (C.entries core.now)) else None in
-        Saves text (q keep.old) (fault_of result) (q keep.new) }
-{
-    if !core.last_changed_switch() {
-        return Ok(());
-    }
-    save_switches(alloc, core, keep)
-}
-
-/// Writes what the last entry gives, and saves the switches where it changed one: first the call, then the error, the trace and the
-/// store. After a fault nothing further is written. Unless more entries are at hand, the trace's sink hands on what it keeps.
-fn show<C: Core, K: Sink, Q: Keeper>(
-    alloc: Global,
-    shown: &mut Word,
-    core: &C,
-    entry: &Entry,
-    calls: &mut K,
-    errors: &mut K,
-    trace: &mut Option<K>,
-    keep: &mut Q,
-    goes_on: bool,
-) -> Result<(), BusFault>
-    requires usable { C.is_spent core.now ≡ false }
-    requires dated { AreDated entry.now }
-    ensures { let s = sink_of K.written K.faults K.zeros K.name in
-        let q = keeper_of Q.kept Q.faults in
-        (before : Journal)
-        → C.entries core.now ≡ more before entry.now
-        → Shows (texts_of (C.runs core.now) before entry.now)
-        (outside_of s q calls.old errors.old trace.old keep.old)
-        (fault_of result)
-        (outside_of s q calls.new errors.new trace.new keep.new) }
-{
-    match write_call(alloc, shown, core, entry, calls) {
-        Ok(()) => {}
-        Err(fault) => return Err(fault),
-    }
-    match write_error(alloc, shown, entry, errors) {
-        Ok(()) => {}
-        Err(fault) => return Err(fault),
-    }
-    match write_trace(alloc, shown, entry, core.config(), trace, goes_on) {
-        Ok(()) => {}
-        Err(fault) => return Err(fault),
-    }
-    save(alloc, core, keep)
-}
-
-/// What becomes of the outside after a put, and the fault that is to be kept: after a put that was refused nothing is written.
-pub(crate) fn write_put<C: Core, K: Sink, Q: Keeper>(
-    alloc: Global,
-    shown: &mut Word,
-    put: Result<(), CoreFault>,
-    core: &C,
-    calls: &mut K,
-    errors: &mut K,
-    trace: &mut Option<K>,
-    keep: &mut Q,
-    goes_on: bool,
-) -> Option<BusFault>
-    requires usable { OnOk put (C.is_spent core.now ≡ false) }
-    requires dated { OnOk put (IsLastDated (C.entries core.now)) }
-    ensures ok { let s = sink_of K.written K.faults K.zeros K.name in
-        let q = keeper_of Q.kept Q.faults in
-        OnOk put ((before : Journal) (x : Entry)
-        → C.entries core.now ≡ more before x
-        → Shows (texts_of (C.runs core.now) before x)
-        (outside_of s q calls.old errors.old trace.old keep.old)
-        result
-        (outside_of s q calls.new errors.new trace.new keep.new)) }
-    ensures err { let s = sink_of K.written K.faults K.zeros K.name in
-        let q = keeper_of Q.kept Q.faults in
-        IfErr put (λ fault. (result ≡ Some (refusal fault))
-        × (outside_of s q calls.new errors.new trace.new keep.new ≡ outside_of s q calls.old errors.old trace.old keep.old)) }
-{
-    match put {
-        Ok(()) => {}
-        Err(CoreFault::Full) => return Some(BusFault::Full),
-        Err(CoreFault::Memory) => return Some(BusFault::Memory),
-    }
-    let Some(entry) = core.journal().last() else {
-        return None;
-    };
-    match show(
-        alloc, shown, core, entry, calls, errors, trace, keep, goes_on,
-    ) {
-        Ok(()) => None,
-        Err(fault) => Some(fault),
     }
 }

@@ -30,12 +30,6 @@ use Rattle.engine_entry.proofs.QueuedLemmas.{Queued, begun-found}
 eq-of : (a b : ℕ) → nat_eq a b ≡ true → a ≡ b
 eq-of a b e = search (rules, e)
 
-is-so : (a b : ℕ) → a ≡ b → nat_eq a b ≡ true
-is-so a b e = search (rules, e)
-
-is-not : (a b : ℕ) → (a ≡ b → ⊥) → nat_eq a b ≡ false
-is-not a b e = search (rules, e)
-
 -- ---- a call is counted
 
 -- LAW: nobody ends

@@ -14,5 +14,4 @@ pub mod TurnedParts
 pub mod QueuedLemmas
 pub mod EndLemmas
 pub mod OpenLemmas
-pub mod EmptyLemmas
 pub mod LastLemmas

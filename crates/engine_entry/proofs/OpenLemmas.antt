@@ -39,12 +39,6 @@ is-most a b h = search (rules, h)
 not-most : (a b : ℕ) → b < a → nat_le a b ≡ false
 not-most a b h = search (rules, h)
 
-most-of : (a b : ℕ) → nat_le a b ≡ true → a ≤ b
-most-of a b h = search (rules, h)
-
-less-of : (a b : ℕ) → nat_le a b ≡ false → b < a
-less-of a b h = search (rules, h)
-
 -- ---- the owners
 
 below-gives : (k : Journal) (n : ℕ) → Gives (owner_below k n)

@@ -41,17 +41,6 @@ named-placed o p (x ∷ xs) h = by (nat_lt o.owner x.owner) (named-placed o p xs
     by true e = (λ i. if h i then Some o else (if nat_eq x.owner p then Some x else owner_named p xs))
     by false e = (λ i. if nat_eq x.owner p then Some x else e i)
 
--- LAW: and it is named itself
-pub named-own : (o : Owner) (os : List Owner) → owner_named o.owner os ≡ None → owner_named o.owner (placed o os) ≡ Some o
-named-own o [] h = (λ i. if eq-self o.owner i then Some o else None)
-named-own o (x ∷ xs) h = by (nat_lt o.owner x.owner) (nat_eq x.owner o.owner) refl h (named-own o xs)
-  where
-    by : (b c : Bool) → nat_eq x.owner o.owner ≡ c → (if c then Some x else owner_named o.owner xs) ≡ None → (owner_named o.owner xs ≡ None → owner_named o.owner (placed o xs) ≡ Some o)
-        → owner_named o.owner (if b then o ∷ x ∷ xs else x ∷ placed o xs) ≡ Some o
-    by true c e g rec = (λ i. if eq-self o.owner i then Some o else (if nat_eq x.owner o.owner then Some x else owner_named o.owner xs))
-    by false true e g rec = absurd (let bad : ◌≡◌ {A = Option Owner} (Some x) None = g in cc)
-    by false false e g rec = (λ i. if e i then Some x else owner_named o.owner (placed o xs)) ∙ rec g
-
 -- LAW: they ascend, and are below what they are below
 pub ascend-placed : (o : Owner) (n : ℕ) (os : List Owner) → n ≤ o.owner → owner_named o.owner os ≡ None → AreAscending n os → AreAscending n (placed o os)
 ascend-placed o n [] le none h = (le, tt)
@@ -98,16 +87,6 @@ automations-placed o n (x ∷ xs) h low = by (nat_lt o.owner x.owner) refl (is_a
         (λ i. if f i then x ∷ rest i else filter is_automation (placed o xs))
         ∙ sym (λ i. if e i then o ∷ x ∷ filter is_automation xs else x ∷ placed o (filter is_automation xs))
     by false e false f rest = absurd (omega (arith, most-of o.owner x.owner e, most-of x.owner 1024 f, low))
-
--- LAW: one more that is no automation
-pub automations-other : (o : Owner) (os : List Owner) → 1024 ≤ o.owner → filter is_automation (placed o os) ≡ filter is_automation os
-automations-other o [] high = (λ i. if not-less o.owner 1024 high i then o ∷ [] else [])
-automations-other o (x ∷ xs) high = by (nat_lt o.owner x.owner) (automations-other o xs high)
-  where
-    by : (b : Bool) → filter is_automation (placed o xs) ≡ filter is_automation xs
-        → filter is_automation (if b then o ∷ x ∷ xs else x ∷ placed o xs) ≡ (if is_automation x then x ∷ filter is_automation xs else filter is_automation xs)
-    by true rest = (λ i. if not-less o.owner 1024 high i then o ∷ (if is_automation x then x ∷ filter is_automation xs else filter is_automation xs) else (if is_automation x then x ∷ filter is_automation xs else filter is_automation xs))
-    by false rest = (λ i. if is_automation x then x ∷ rest i else rest i)
 
 -- ---- one less
 

@@ -47,10 +47,6 @@ module _ (P Q : ℕ → Bool) (a : ℕ) (v : Bool) (same : (b : ℕ) → nat_eq 
   any-same low zero lt = refl
   any-same low (suc n) lt = (λ i. same low (apart-of low a (λ e. omega (arith, e, lt))) i || any-same (low + 1) n (omega (arith, lt)) i)
 
-  or-none : (b : Bool) → b ≡ (b || false)
-  or-none true = refl
-  or-none false = refl
-
   pub any-more : (low n : ℕ) → low ≤ a → a < low + n → list_any Q (numbers_from low n) ≡ (if v then true else list_any P (numbers_from low n))
   any-more low zero le lt = absurd (omega (arith, le, lt))
   any-more low (suc n) le lt = by (nat_eq low a) refl (any-more (low + 1) n)

@@ -77,11 +77,6 @@ set-drop on n zero ts h = h
 set-drop on n (suc i) [] h = tt
 set-drop on n (suc i) (t ∷ ts) h = set-drop on n i ts h.2
 
-pub get-within : {X : Type 0} (xs : List X) (i : ℕ) → i < length xs → (x : X) × (slice_get xs i ≡ Some x)
-get-within [] i lt = absurd (omega (arith, lt))
-get-within (x ∷ xs) zero lt = (x, refl)
-get-within (x ∷ xs) (suc i) lt = get-within xs i (omega (arith, lt))
-
 -- ---- the waits' owners
 
 owned-placed : (n : ℕ) (o : Owner) (os : List Owner) (asks : List Asked) → o.owner < 1024 → AreOwned n os asks → AreOwned n (placed o os) asks

@@ -1,4 +1,4 @@
--- The automations of a Boot or a Restart, which are all set anew, one after the other.
+-- The automations at the opening of a segment, which are all set anew, one after the other.
 use Rattle.std.specs.Prelude.{◌≡◌, ℕ, Bool, true, nat_le, List, [], length, flat_map, Some, slice_get, if◌then◌else◌}
 use Rattle.std.specs.List.{enumerate_from}
 use Rattle.ha_config.specs.declared.config.Automation.{Automation}

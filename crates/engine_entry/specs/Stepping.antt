@@ -17,7 +17,7 @@ use Rattle.ha_sight.specs.Scripts.{Branch}
 use Rattle.ha_journal.specs.Waits.{next_spot}
 use Rattle.ha_model.specs.NextPlace.{next_end}
 use Rattle.ha_model.specs.Records.{Records, actions_of, spots}
-use Rattle.ha_model.specs.Lawful.{Right, IsRightEntry, is_quiet, pick, ready, record_of}
+use Rattle.ha_model.specs.Lawful.{Right, IsRightEntry, is_quiet, record_of}
 use Rattle.ha_config.specs.Sound.{are_sound_triggers}
 use Rattle.ha_ready.specs.Picked.{IsPicked}
 use Rattle.ha_ready.specs.RestedFlags.{RestedKept}
@@ -49,12 +49,6 @@ pub record Stepping (j : Journal) (rs : Records) (p : Parts) : Type 0 where
   pub room : length j < 1048576
   pub kept : Kept j rs p
   pub busy : is_quiet rs j ≡ false
-
--- the journal has the step that the worker picks
-abbrev pub IsStepped : ℕ → Records → Journal → Journal → Type 0
-IsStepped worker rs j k =
-    (serial : ℕ) × (branch : Branch) × (item : Item)
-    × (pick worker (ready rs j) ≡ Some (serial, branch)) × (k ≡ more j (Step worker serial branch item))
 
 -- the run in a slot, whose script is one of the journal's, may step in a branch, at a moment, where the branch's wait ended so
 pub record MaySlot (j : Journal) (s : ℕ) (b : Branch) (at : ℕ) (wait : Option WaitEnd) (os : List (Option Frames)) : Type 0 where

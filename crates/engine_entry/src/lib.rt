@@ -1,7 +1,6 @@
 //! What an entry itself changes in the parts of an engine: states, switches and triggers; the step of a run, its wait and its delay.
 #![tactic(auto)]
 
-pub mod empty;
 pub mod enter;
 pub mod open;
 pub mod step_enter;

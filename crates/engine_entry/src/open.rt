@@ -1,4 +1,4 @@
-//! The automations of a Boot or a Restart, which are all set anew: their states and triggers.
+//! The automations at the opening of a segment, which are all set anew: their states and triggers.
 ghost use Rattle.std.specs.Prelude.{◌≡◌, ◌+◌, ◌≤◌, ℕ, IsNone, IsTrue, OnOk, Some, true, length, slice_get, if◌then◌else◌};
 ghost use Rattle.ha_config.specs.declared.config.Automation.{Automation as Rule};
 ghost use Rattle.ha_journal.specs.Journal.{Journal, automations};

@@ -11,21 +11,21 @@ ghost use Rattle.engine_entry.specs.Lasts.{AreLasts, AreSeen, kept_with};
 ghost use Rattle.engine_entry.specs.Stepping.{IsTaken, StepEntered, StepHere, SwitchedHere};
 
 use crate::turn::enter_switches;
-use engine_parts::last::{configuration, last_entry};
 use engine_parts::parts::Parts;
 use ha_journal::Entry;
 use ha_sight::Item;
 use ha_value::Many;
+use segment_view::Segment;
 use std::alloc::{AllocError, Global};
 use std::collections::BTreeSet;
 use trig_set::Before;
 
 /// The item of the last entry, which is a step.
-fn last_item<'a>(journal: &'a [Entry], parts: &Parts) -> &'a Item
+fn last_item<'a>(journal: &'a Segment<'_>, parts: &Parts) -> &'a Item
     requires { StepHere journal.now parts.now }
     ensures { (j : Journal) (worker serial : ℕ) (branch : List ℕ) (item : Made) → journal.entry.now ≡ more j (Step worker serial branch item) → result.now ≡ item }
 {
-    match last_entry(journal) {
+    match journal.last_entry() {
         Entry::Step { item, .. } => item,
         _ => unreachable!(),
     }
@@ -102,21 +102,25 @@ fn last_targets(
 fn enter_targets(
     parts: &mut Parts,
     alloc: Global,
-    journal: &[Entry],
+    journal: &Segment<'_>,
     targets: &Many<(u32, bool, bool)>,
 ) -> Result<Before, AllocError>
     requires { SwitchedHere journal.now parts.old targets.now }
     ensures entered { IfOk result (λ before. (wait : Option Waited) → IsTaken wait parts.old.waits → StepEntered journal.now parts.new before wait) }
     ensures rest { OnOk result (parts.new ≡ record parts.old { states = parts.new.states; switches = parts.new.switches; triggers = parts.new.triggers; changed = parts.new.changed }) }
 {
-    let count = configuration(journal).automations.len();
+    let count = journal.configuration().automations.len();
     let last = last_targets(alloc, targets.as_slice(), count)?;
     let before = enter_switches(parts, alloc, journal, last.as_slice())?;
     Ok(before)
 }
 
 /// All of it.
-pub fn enter_step(parts: &mut Parts, alloc: Global, journal: &[Entry]) -> Result<Before, AllocError>
+pub fn enter_step(
+    parts: &mut Parts,
+    alloc: Global,
+    journal: &Segment<'_>,
+) -> Result<Before, AllocError>
     requires { StepHere journal.now parts.old }
     ensures entered { IfOk result (λ before. (wait : Option Waited) → IsTaken wait parts.old.waits → StepEntered journal.now parts.new before wait) }
     ensures rest { OnOk result (parts.new ≡ record parts.old { states = parts.new.states; switches = parts.new.switches; triggers = parts.new.triggers; changed = parts.new.changed }) }

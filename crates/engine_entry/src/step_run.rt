@@ -10,12 +10,11 @@ ghost use Rattle.engine_parts.specs.Slots.{value_in};
 ghost use Rattle.engine_entry.specs.Stepping.{IsRunStep, MaySlot, SlotStep};
 
 use cond_eval::View;
-use engine_parts::last::{configuration, script};
 use engine_parts::slots::Slots;
 use ha_clock::{Moment, Zone};
-use ha_journal::Entry;
 use ha_sight::{Branch, WaitEnd};
 use script_step::{Frames, Held, Taken};
+use segment_view::Behind;
 use state_table::StateTable;
 use std::alloc::{AllocError, Global};
 
@@ -23,7 +22,7 @@ use std::alloc::{AllocError, Global};
 fn step_frames<'a>(
     run: &mut Frames,
     alloc: Global,
-    journal: &'a [Entry],
+    journal: &'a Behind<'_>,
     states: &'a StateTable,
     zone: &'a Zone,
     at: Moment,
@@ -37,8 +36,8 @@ fn step_frames<'a>(
     requires may { may run.old branch.now at wait ≡ true }
     ensures { IfOk result (λ out. IsRunStep (sight journal.entry.now (length journal.entry.now)) branch.now wait run.old run.new (out_of out)) }
 {
-    let view = View::make(states, configuration(journal), zone, at);
-    let actions = script(journal, run.automation());
+    let view = View::make(states, journal.configuration(), zone, at);
+    let actions = journal.script(run.automation());
     let out = run.step(alloc, actions, branch, wait, &view)?;
     Ok(out)
 }
@@ -64,7 +63,7 @@ fn put_frames(frames: &mut Slots<Frames>, serial: u64, run: Box<Frames>)
 pub fn step_slot(
     frames: &mut Slots<Frames>,
     alloc: Global,
-    journal: &[Entry],
+    journal: &Behind<'_>,
     states: &StateTable,
     zone: &Zone,
     at: Moment,

@@ -19,10 +19,11 @@ use engine_parts::attend::note_entry;
 use engine_parts::parts::Parts;
 use engine_parts::wake::wake_step;
 use ha_clock::Moment;
-use ha_journal::{Entry, Firing};
+use ha_journal::Firing;
 use ha_sight::WaitAsk;
 use ha_value::Many;
 use script_step::Held;
+use segment_view::Segment;
 use std::alloc::{AllocError, Global};
 use trig_set::Before;
 
@@ -30,7 +31,7 @@ use trig_set::Before;
 fn take_over(
     parts: &mut Parts,
     alloc: Global,
-    journal: &[Entry],
+    journal: &Segment<'_>,
     before: &Before,
     wait: Option<Held<WaitAsk>>,
     due: Option<Moment>,
@@ -41,15 +42,14 @@ fn take_over(
     ensures delays { OnOk result (parts.new.delays ≡ timer_added due (last_place journal.now) parts.old.delays) }
     ensures rest { OnOk result (parts.new ≡ record parts.old { triggers = parts.new.triggers; waits = parts.new.waits; delays = parts.new.delays }) }
 {
-    let place = journal.len() as u64 - 1;
+    let place = journal.place();
     take_wait(&mut parts.triggers, &mut parts.waits, alloc, place, wait)?;
     take_delay(&mut parts.delays, place, due)?;
     Ok(())
 }
 
 /// The runs that a step wakes are listed anew, its own with them.
-fn wake_after(parts: &mut Parts, alloc: Global, journal: &[Entry]) -> Result<(), AllocError>
-    requires { 0 < length journal.now }
+fn wake_after(parts: &mut Parts, alloc: Global, journal: &Segment<'_>) -> Result<(), AllocError>
     ensures going { OnOk result ((rs : Records) (w0 w1 : WaitTable) (delays0 : List Timer) (progress : Far) (wait : Option WaitAsk) (due : Option ℕ)
         → StepRuns journal.now rs progress wait due w0 delays0 parts.old.frames.items parts.old.ready.pairs.items → w1.asks ≡ asks_with (last_place journal.now) wait w0.asks
         → parts.old.delays ≡ timer_added due (last_place journal.now) delays0 → KeysBelow (last_place journal.now) delays0 → Noted journal.now w1 parts.old → Going nobody journal.now rs parts.new) }
@@ -64,7 +64,7 @@ fn wake_after(parts: &mut Parts, alloc: Global, journal: &[Entry]) -> Result<(),
         alloc,
         parts.at,
         &parts.waits,
-        journal.len() as u64 - 1,
+        journal.place(),
     )?;
     Ok(())
 }
@@ -73,7 +73,7 @@ fn wake_after(parts: &mut Parts, alloc: Global, journal: &[Entry]) -> Result<(),
 pub fn attend_step(
     parts: &mut Parts,
     alloc: Global,
-    journal: &[Entry],
+    journal: &Segment<'_>,
     before: Before,
     wait: Option<Held<WaitAsk>>,
     due: Option<Moment>,

@@ -12,13 +12,12 @@ ghost use Rattle.engine_parts.specs.Owners.{AreBelow};
 ghost use Rattle.engine_parts.specs.Stages.{Entered};
 ghost use Rattle.engine_entry.specs.Turned.{entity_named, is_target, less};
 
-use engine_parts::last::configuration;
 use engine_parts::parts::Parts;
 use engine_parts::see::copied;
 use ha_clock::Moment;
 use ha_config::Automation;
-use ha_journal::Entry;
 use ha_value::{EntityId, Word};
+use segment_view::Segment;
 use state_table::StateTable;
 use std::alloc::{AllocError, Global};
 use trig_set::{Before, TrigSet};
@@ -132,7 +131,7 @@ fn turn_all(
 pub fn enter_switches(
     parts: &mut Parts,
     alloc: Global,
-    journal: &[Entry],
+    journal: &Segment<'_>,
     targets: &[(u32, bool, bool)],
 ) -> Result<Before, AllocError>
     requires { Turning journal.now targets.now parts.old }
@@ -140,16 +139,9 @@ pub fn enter_switches(
     ensures rest { OnOk result (parts.new ≡ record parts.old { states = parts.new.states; switches = parts.new.switches; triggers = parts.new.triggers; changed = parts.new.changed }) }
     ensures below { OnOk result ((n : ℕ) → 1024 ≤ n → AreBelow n (attached parts.old.triggers) → AreBelow n (attached parts.new.triggers)) }
 {
-    let rules = configuration(journal).automations.as_slice();
+    let rules = journal.configuration().automations.as_slice();
     let mut before = Before::make(alloc);
     parts.changed = false;
-    turn_all(
-        parts,
-        alloc,
-        rules,
-        targets,
-        journal.len() as u64 - 1,
-        &mut before,
-    )?;
+    turn_all(parts, alloc, rules, targets, journal.place(), &mut before)?;
     Ok(before)
 }

@@ -79,9 +79,6 @@ eq-of a b e = search (rules, e)
 is-at-most : (a b : ℕ) → a ≤ b → nat_le a b ≡ true
 is-at-most a b le = search rules
 
-is-over : (a b : ℕ) → b < a → nat_le a b ≡ false
-is-over a b lt = search rules
-
 or-true : (b : Bool) → (b || true) ≡ true
 or-true true = refl
 or-true false = refl

@@ -15,9 +15,6 @@ use Rattle.engine_parts.specs.Kept.{AreOwned}
 use Rattle.engine_parts.specs.Owners.{AreAscending}
 use Rattle.engine_parts.proofs.AttemptLemmas.{filter-append, kept-by}
 
-equal-self : (a b : ℕ) → a ≡ b → nat_eq a b ≡ true
-equal-self a b e = search (rules, e)
-
 eq-of : (a b : ℕ) → nat_eq a b ≡ true → a ≡ b
 eq-of a b e = search (rules, e)
 

@@ -1,5 +1,5 @@
 -- The pairs of one run are put in at their place.
-use Rattle.std.proofs.Common.{◌≡◌, ℕ, zero, suc, ◌+◌, ◌<◌, ◌≤◌, List, [], ◌∷◌, ◌++◌, length, take, drop, Bool, true, false, refl, sym, ap, ◌∙◌, rules, arith}
+use Rattle.std.proofs.Common.{◌≡◌, ℕ, zero, suc, ◌+◌, ◌<◌, ◌≤◌, List, [], ◌∷◌, ◌++◌, take, drop, Bool, true, false, refl, sym, ap, ◌∙◌, rules, arith}
 use Rattle.std.specs.Prelude.{nat_eq, nat_lt, if◌then◌else◌}
 use Rattle.ha_sight.specs.Scripts.{Branch}
 use Rattle.ha_ready.specs.ReadyPairs.{changed_at, pairs_of, pairs_from}
@@ -81,37 +81,3 @@ put-at s n (suc m) bs by lt le = one (nat_eq (suc n) s) refl (λ lt' le'. put-at
         ∙ ap (λ l. pairs_of (suc n) (by (suc n)) ++ l) (rec (omega (arith, lt, ne-of (suc n) s e)) (omega (arith, le)))
 
 -- ---- one pair more at a place
-
-pub take-front : {X : Type 0} (n : ℕ) (xs ys : List X) → n ≤ length xs → take n (take n xs ++ ys) ≡ take n xs
-take-front zero xs ys le = front-none (take zero xs ++ ys) xs
-  where
-    front-none : {X : Type 0} (zs xs : List X) → take zero zs ≡ take zero xs
-    front-none [] [] = refl
-    front-none [] (x ∷ xs) = refl
-    front-none (z ∷ zs) [] = refl
-    front-none (z ∷ zs) (x ∷ xs) = refl
-take-front (suc n) [] ys le = absurd (omega (arith, le))
-take-front (suc n) (x ∷ xs) ys le = ap (λ l. x ∷ l) (take-front n xs ys (omega (arith, le)))
-
-pub drop-front : {X : Type 0} (n : ℕ) (xs ys : List X) → n ≤ length xs → drop n (take n xs ++ ys) ≡ ys
-drop-front zero [] ys le = none ys
-  where
-    none : {X : Type 0} (zs : List X) → drop zero zs ≡ zs
-    none [] = refl
-    none (z ∷ zs) = refl
-drop-front zero (x ∷ xs) ys le = none ys
-  where
-    none : {X : Type 0} (zs : List X) → drop zero zs ≡ zs
-    none [] = refl
-    none (z ∷ zs) = refl
-drop-front (suc n) [] ys le = absurd (omega (arith, le))
-drop-front (suc n) (x ∷ xs) ys le = drop-front n xs ys (omega (arith, le))
-
-pub front-fits : {X : Type 0} (n : ℕ) (xs ys : List X) → n ≤ length xs → n ≤ length (take n xs ++ ys)
-front-fits zero xs ys le = omega arith
-front-fits (suc n) [] ys le = absurd (omega (arith, le))
-front-fits (suc n) (x ∷ xs) ys le = omega (arith, front-fits n xs ys (omega (arith, le)))
-
--- LAW: a pair that is put in at the place stands in front of those that were
-pub put-next : {X : Type 0} (n : ℕ) (xs ms : List X) (x : X) → n ≤ length xs → take n (take n xs ++ ms) ++ (x ∷ drop n (take n xs ++ ms)) ≡ take n xs ++ (x ∷ ms)
-put-next n xs ms x le = (λ i. take-front n xs ms le i ++ (x ∷ drop-front n xs ms le i))

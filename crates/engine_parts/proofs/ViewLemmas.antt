@@ -1,5 +1,5 @@
 -- The view of the parts that stand for a journal.
-use Rattle.std.proofs.Common.{◌≡◌, ℕ, ◌≤◌, length, map, Bool, true, false, refl, rules}
+use Rattle.std.proofs.Common.{◌≡◌, ℕ, length, map, Bool, true, false, refl, rules}
 use Rattle.std.specs.Prelude.{IsTrue, nat_le, ◌&&◌}
 use Rattle.std.specs.List.{list_all}
 use Rattle.ha_config.specs.declared.config.Automation.{Automation}
@@ -23,12 +23,6 @@ both false b h = absurd (let bad : ◌≡◌ {A = Bool} false true = h in cc)
 sound-parts : (j : Journal) → AreSound j
     → ((nat_le (length (automations j)) 1_024 && all_distinct (map (λ (a : Automation). a.name) (automations j))) ≡ true) × (list_all is_sound_automation (automations j) ≡ true)
 sound-parts j h = both (nat_le (length (automations j)) 1_024 && all_distinct (map (λ (a : Automation). a.name) (automations j))) (list_all is_sound_automation (automations j)) (true-of ((nat_le (length (automations j)) 1_024 && all_distinct (map (λ (a : Automation). a.name) (automations j))) && list_all is_sound_automation (automations j)) h)
-
-pub few-automations : (j : Journal) → AreSound j → length (automations j) ≤ 1_024
-few-automations j h = at-most (length (automations j)) (both (nat_le (length (automations j)) 1_024) (all_distinct (map (λ (a : Automation). a.name) (automations j))) (sound-parts j h).0).0
-  where
-    at-most : (n : ℕ) → nat_le n 1_024 ≡ true → n ≤ 1_024
-    at-most n e = search (rules, e)
 
 pub view-of : (k : Journal) (table : StateTable) (config : Config) (zone : Text) (at : ℕ) → Looks k table zone at → AreSound k → config.automations ≡ automations k → IsViewOf table config zone at k
 view-of k table config zone at looks sound is = record {

@@ -4,7 +4,6 @@ pub mod Lower
 pub mod Slots
 pub mod OneMore
 pub mod Touched
-pub mod Places
 pub mod Owners
 pub mod Stepped
 pub mod Changes

@@ -1,5 +1,5 @@
--- A list of slots, and those at its front that are known to be empty.
-use Rattle.std.specs.Prelude.{◌≡◌, ℕ, zero, suc, List, [], ◌∷◌, map, Option, None, option_map, refl}
+-- A list of slots.
+use Rattle.std.specs.Prelude.{ℕ, List, map, Option, option_map, refl}
 use Rattle.std.specs.Coded.{Coded, code_by, coded×, coded_ℕ, coded_list, coded_option}
 use Rattle.std.specs.Global.{Box}
 
@@ -18,9 +18,3 @@ value_in = option_map (λ b. b.value)
 
 abbrev pub values_in : {T : Type 0} → List (Option (Box T)) → List (Option T)
 values_in = map value_in
-
--- the first n slots are empty
-abbrev pub AreEmpty : {T : Type 0} → ℕ → List (Option T) → Type 0
-AreEmpty zero os = Unit {0}
-AreEmpty (suc n) [] = ⊥
-AreEmpty (suc n) (o ∷ os) = (o ≡ None) × AreEmpty n os

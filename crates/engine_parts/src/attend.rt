@@ -11,14 +11,14 @@ ghost use Rattle.engine_parts.specs.Stages.{Entered, Noted, RunsBefore, Told, Un
 ghost use Rattle.engine_parts.specs.Waiting.{EndsGrow};
 ghost use Rattle.engine_parts.specs.Without.{without_owners};
 
-use crate::last::{configuration, last_entry};
 use crate::note::note;
 use crate::parts::Parts;
 use crate::wake::wake;
 use cond_eval::View;
 use ha_clock::{Moment, Zone};
-use ha_journal::{Entry, Firing};
+use ha_journal::Firing;
 use ha_value::Many;
+use segment_view::Segment;
 use state_table::StateTable;
 use std::alloc::{AllocError, Global};
 use trig_set::{Before, TrigSet};
@@ -29,7 +29,7 @@ fn note_last<'a>(
     triggers: &mut TrigSet,
     waits: &mut Waits,
     alloc: Global,
-    journal: &'a [Entry],
+    journal: &'a Segment<'_>,
     before: Before,
     states: &'a StateTable,
     zone: &'a Zone,
@@ -42,13 +42,13 @@ fn note_last<'a>(
     ensures told { OnOk result (Told journal.entry.now waits.old triggers.new waits.new) }
     ensures fired { IfOk result (λ fired. fired ≡ firings journal.entry.now (length journal.entry.now - 1) (attached triggers.old)) }
 {
-    let view = View::make(states, configuration(journal), zone, at);
+    let view = View::make(states, journal.configuration(), zone, at);
     let fired = note(
         triggers,
         waits,
         alloc,
-        journal.len() as u64 - 1,
-        last_entry(journal),
+        journal.place(),
+        journal.last_entry(),
         before,
         &view,
     )?;
@@ -59,7 +59,7 @@ fn note_last<'a>(
 pub fn note_entry(
     parts: &mut Parts,
     alloc: Global,
-    journal: &[Entry],
+    journal: &Segment<'_>,
     before: Before,
 ) -> Result<Many<Firing>, AllocError>
     requires { Entered journal.now parts.old before }
@@ -82,7 +82,7 @@ pub fn note_entry(
 }
 
 /// The runs that a line wakes are listed anew, and the triggers of the waits that ended are detached.
-pub fn wake_line(parts: &mut Parts, alloc: Global, journal: &[Entry]) -> Result<(), AllocError>
+pub fn wake_line(parts: &mut Parts, alloc: Global, journal: &Segment<'_>) -> Result<(), AllocError>
     ensures attached { OnOk result (attached parts.new.triggers ≡ without_owners parts.old.waits.fresh (attached parts.old.triggers)) }
     ensures waits { parts.new.waits ≡ parts.old.waits }
     ensures going { OnOk result ((rs : Records) (w : WaitTable) → Noted journal.now w parts.old
@@ -106,7 +106,7 @@ pub fn wake_line(parts: &mut Parts, alloc: Global, journal: &[Entry]) -> Result<
 pub fn attend(
     parts: &mut Parts,
     alloc: Global,
-    journal: &[Entry],
+    journal: &Segment<'_>,
     before: Before,
 ) -> Result<Many<Firing>, AllocError>
     requires { Entered journal.now parts.old before }

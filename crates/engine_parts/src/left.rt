@@ -10,13 +10,12 @@ ghost use Rattle.engine_parts.specs.Waiting.{EndsGrow};
 ghost use Rattle.engine_parts.specs.Without.{without_owners};
 
 use crate::attend::wake_line;
-use crate::last::configuration;
 use crate::note::note_waits;
 use crate::parts::Parts;
 use cond_eval::View;
 use ha_clock::{Moment, Zone};
-use ha_journal::Entry;
 use ha_value::{EntityId, Many, Value, Word};
+use segment_view::Segment;
 use state_table::StateTable;
 use std::alloc::{AllocError, Global};
 use trig_set::TrigSet;
@@ -27,7 +26,7 @@ fn note_report<'a>(
     triggers: &mut TrigSet,
     waits: &mut Waits,
     alloc: Global,
-    journal: &'a [Entry],
+    journal: &'a Segment<'_>,
     entity: &EntityId,
     text: &Word,
     attributes: &Many<(Word, Value)>,
@@ -43,9 +42,9 @@ fn note_report<'a>(
     ensures fired { firings journal.entry.now (length journal.entry.now - 1) (attached triggers.old) ≡ [] }
 {
     triggers.note_left(alloc, entity, text, attributes, at)?;
-    let view = View::make(states, configuration(journal), zone, at);
+    let view = View::make(states, journal.configuration(), zone, at);
     let fired = Many::make(alloc);
-    note_waits(waits, alloc, journal.len() as u64 - 1, &fired, &view)?;
+    note_waits(waits, alloc, journal.place(), &fired, &view)?;
     Ok(())
 }
 
@@ -53,7 +52,7 @@ fn note_report<'a>(
 fn note_left(
     parts: &mut Parts,
     alloc: Global,
-    journal: &[Entry],
+    journal: &Segment<'_>,
     entity: &EntityId,
     text: &Word,
     attributes: &Many<(Word, Value)>,
@@ -83,7 +82,7 @@ fn note_left(
 pub fn attend_left(
     parts: &mut Parts,
     alloc: Global,
-    journal: &[Entry],
+    journal: &Segment<'_>,
     entity: &EntityId,
     text: &Word,
     attributes: &Many<(Word, Value)>,

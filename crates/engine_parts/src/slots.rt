@@ -6,25 +6,21 @@ ghost use Rattle.engine_parts.specs.Slots.{value_in, values_in};
 use std::alloc::{AllocError, Global};
 use std::marker::Model;
 
-/// An empty slot takes two words (16 bytes), as a full one does beside its box. Those at the front that are known to be empty are
-/// counted, so that clearing all slots again and again goes along each of them once.
+/// An empty slot takes two words (16 bytes), as a full one does beside its box.
 #[derive(Drop)]
 pub struct Slots<T> {
     list: Vec<Option<Box<T>>>,
-    empty: usize,
 }
 
 impl<T> Model for Slots<T> {
     ghost use Rattle.std.specs.Prelude.{◌-◌, vec_len, vec_capacity};
-    ghost use Rattle.engine_parts.specs.Slots.{SlotTable, table_code, values_in, AreEmpty};
+    ghost use Rattle.engine_parts.specs.Slots.{SlotTable, table_code, values_in};
 
     ghost Value = { SlotTable T };
 
     ghost coded = { table_code T.code };
 
     ghost view = { λ s. record { items = values_in s.list.items; spare = vec_capacity s.list - vec_len s.list } };
-
-    ghost invariant = { λ s. AreEmpty s.empty s.list.items };
 }
 
 impl<T: Drop> Slots<T> {
@@ -34,7 +30,6 @@ impl<T: Drop> Slots<T> {
     {
         Slots {
             list: Vec::new(alloc),
-            empty: 0,
         }
     }
 
@@ -66,7 +61,6 @@ impl<T: Drop> Slots<T> {
         ensures spare { self.new.spare ≡ self.old.spare }
     {
         put_at(&mut self.list, at, Some(value));
-        self.empty = least(self.empty, at);
     }
 
     /// The slot at that place is emptied, if there is one.
@@ -96,18 +90,6 @@ impl<T: Drop> Slots<T> {
     {
         self.list.push_reserved(Some(value));
     }
-
-    /// All slots are emptied.
-    pub fn clear(&mut self)
-        ensures items { self.new.items ≡ replicate (length self.old.items) None }
-        ensures spare { self.new.spare ≡ self.old.spare }
-    {
-        let most = self.list.len();
-        'slots: for at in self.empty..most {
-            put_at(&mut self.list, at, None);
-        }
-        self.empty = most;
-    }
 }
 
 /// What stands at a place of the list is taken out.
@@ -129,12 +111,4 @@ fn put_at<T: Drop>(list: &mut Vec<Option<Box<T>>>, at: usize, value: Option<Box<
     ensures capacity { vec_capacity list.new ≡ vec_capacity list.old }
 {
     list[at] = value;
-}
-
-/// The lesser of two.
-fn least(a: usize, b: usize) -> usize
-    ensures first { result ≤ a }
-    ensures second { result ≤ b }
-{
-    if a < b { a } else { b }
 }

@@ -3,7 +3,6 @@ ghost use Rattle.std.specs.Prelude.{◌≡◌, ◌<◌, ◌≤◌, All, IsNone, 
 ghost use Rattle.std.specs.Option.{option_copied};
 ghost use Rattle.ha_journal.specs.Journal.{Journal};
 ghost use Rattle.ha_model.specs.Records.{Records};
-ghost use Rattle.engine_parts.specs.Places.{IsStepper};
 ghost use Rattle.engine_parts.specs.Runs.{Waking};
 ghost use Rattle.ha_ready.specs.ReadyPairs.{branches_at, pairs_from};
 ghost use Rattle.ha_ready.specs.Agree.{AgreesBut, step_at, touched};
@@ -17,27 +16,16 @@ ghost use Rattle.engine_parts.specs.Pending.{AreOthers, AreWaits};
 ghost use Rattle.engine_parts.specs.Without.{without_owners};
 ghost use Rattle.engine_parts.specs.Kept.{KeysBelow, Owned};
 
-use crate::last::script;
 use crate::ready::{Ready, set_run};
 use crate::slots::Slots;
 use ha_clock::Moment;
-use ha_journal::Entry;
 use ha_value::Many;
 use script_step::Frames;
+use segment_view::Segment;
 use std::alloc::{AllocError, Global};
 use timer_queue::TimerQueue;
 use trig_set::TrigSet;
 use wait_set::Waits;
-
-/// The run whose step stands at a place.
-fn stepper(journal: &[Entry], place: u64) -> Option<u64>
-    ensures { IsStepper journal.now place result }
-{
-    match journal.get(place as usize) {
-        Some(Entry::Step { serial, .. }) => Some(*serial),
-        _ => None,
-    }
-}
 
 /// The frames of the run with this serial, if it has not ended.
 fn run_at(frames: &Slots<Frames>, serial: u64) -> Option<&Frames>
@@ -50,7 +38,7 @@ fn run_at(frames: &Slots<Frames>, serial: u64) -> Option<&Frames>
 fn refresh(
     ready: &mut Ready,
     frames: &Slots<Frames>,
-    journal: &[Entry],
+    journal: &Segment<'_>,
     alloc: Global,
     now: Moment,
     waits: &Waits,
@@ -60,7 +48,7 @@ fn refresh(
         → AgreesBut (touched journal.now (p ∷ left)) rs journal.now ready.old.pairs.items → AgreesBut (touched journal.now left) rs journal.now ready.new.pairs.items) }
 {
     match run_at(frames, serial) {
-        Some(run) => match run.list_ready(alloc, script(journal, run.automation()), now, waits) {
+        Some(run) => match run.list_ready(alloc, journal.script(run.automation()), now, waits) {
             Ok(branches) => set_run(ready, serial, branches),
             Err(error) => Err(error),
         },
@@ -72,7 +60,7 @@ fn refresh(
 fn wake_one(
     ready: &mut Ready,
     frames: &Slots<Frames>,
-    journal: &[Entry],
+    journal: &Segment<'_>,
     alloc: Global,
     now: Moment,
     waits: &Waits,
@@ -81,7 +69,7 @@ fn wake_one(
     ensures { OnOk result ((rs : Records) (left : List ℕ) → Waking rs journal.now waits.now frames.now.items now
         → AgreesBut (touched journal.now (place ∷ left)) rs journal.now ready.old.pairs.items → AgreesBut (touched journal.now left) rs journal.now ready.new.pairs.items) }
 {
-    match stepper(journal, place) {
+    match journal.stepper(place) {
         Some(serial) => refresh(ready, frames, journal, alloc, now, waits, serial),
         None => Ok(()),
     }
@@ -103,7 +91,7 @@ fn wake_delays(
     delays: &mut TimerQueue,
     ready: &mut Ready,
     frames: &Slots<Frames>,
-    journal: &[Entry],
+    journal: &Segment<'_>,
     alloc: Global,
     now: Moment,
     waits: &Waits,
@@ -144,7 +132,7 @@ fn detach_all(triggers: &mut TrigSet, owners: &[u64])
 fn wake_waits(
     ready: &mut Ready,
     frames: &Slots<Frames>,
-    journal: &[Entry],
+    journal: &Segment<'_>,
     alloc: Global,
     now: Moment,
     waits: &Waits,
@@ -174,7 +162,7 @@ pub fn wake(
     triggers: &mut TrigSet,
     ready: &mut Ready,
     frames: &Slots<Frames>,
-    journal: &[Entry],
+    journal: &Segment<'_>,
     alloc: Global,
     now: Moment,
     waits: &Waits,
@@ -201,7 +189,7 @@ pub fn wake_step(
     triggers: &mut TrigSet,
     ready: &mut Ready,
     frames: &Slots<Frames>,
-    journal: &[Entry],
+    journal: &Segment<'_>,
     alloc: Global,
     now: Moment,
     waits: &Waits,

@@ -8,8 +8,8 @@ ghost use Rattle.ha_journal.specs.Entries.{first_carry};
 
 use ha_clock::Moment;
 use ha_config::Config;
-use ha_model::Core;
 use ha_value::{Many, Word};
+use ha_whole::Core;
 use std::alloc::{AllocError, Global};
 
 /// A core that can be booted. A run is proved over each such core; the engine is the one that the program hands in. It may move between

@@ -1,5 +1,5 @@
 -- A worker's step, from what is kept before it.
-use Rattle.std.proofs.Common.{◌≡◌, ℕ, ◌<◌, List, [], ◌∷◌, length, Bool, true, false, refl, sym, ap, subst, ◌∙◌, rules, arith}
+use Rattle.std.proofs.Common.{◌≡◌, ℕ, suc, ◌+◌, ◌-◌, ◌<◌, ◌≤◌, List, [], ◌∷◌, length, length-append, Bool, true, false, refl, sym, ap, subst, ◌∙◌, rules, arith}
 use Rattle.std.specs.Prelude.{Option, Some, None, IsTrue, ◌&&◌, is_none, option_map}
 use Rattle.std.specs.List.{list_any}
 use Rattle.engine_parts.specs.Slots.{SlotTable}
@@ -14,6 +14,9 @@ use Rattle.ha_sight.specs.Scripts.{Ask, Branch}
 use Rattle.ha_config.specs.Sound.{are_sound_actions, are_sound_triggers}
 use Rattle.ha_journal.specs.Moves.{sight}
 use Rattle.ha_ready.specs.Picked.{IsPicked}
+use Rattle.std.proofs.lemmas.Option.{slice_get_within}
+use Rattle.segment_runs.specs.Goes.{moved_all}
+use Rattle.segment_runs.specs.Segment.{Closed, all_of, runs_of}
 use Rattle.script_step.specs.declared.frames.Frames.{Frames}
 use Rattle.script_step.specs.Frames.{ask_of, asked_by, may}
 use Rattle.wait_set.specs.Asked.{is_of}
@@ -47,6 +50,17 @@ module _ (j : Journal) (rs : Records) (p : Parts) (h : Stepping j rs p) where
     -- LAW: the definition picks it
     pub picks : pick worker (ready rs j) ≡ Some (s, b)
     picks = ap (pick worker) (sym same-pairs) ∙ found
+
+    -- LAW: it is one of the runs, also behind those of closed segments
+    pub within-all : (c : Closed) (base : ℕ) → length c.records ≡ base → base + s ≤ length (all_of c rs)
+    within-all c base e =
+        (let pair : IsPicked rs j s b = the_pair j rs worker s b h.right picks in
+        let within : s - 1 < length rs = slice_get_within rs (s - 1) pair.run pair.found in
+        omega (arith, e, within, length-append c.records (moved_all c.entries (length c.records) (runs_of c.records) rs), long rs))
+      where
+        long : (xs : Records) → length (moved_all c.entries (length c.records) (runs_of c.records) xs) ≡ length xs
+        long [] = refl
+        long (x ∷ xs) = ap suc (long xs)
 
     told-ends : TellsEnds p.waits j
     told-ends = stands-tells p.waits j h.kept.going.waits_stand

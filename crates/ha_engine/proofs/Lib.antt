@@ -15,3 +15,15 @@ pub mod BeginLemmas
 pub mod RestartLine
 pub mod TellLemmas
 pub mod AdvanceLemmas
+pub mod OpeningLemmas
+pub mod WholeLemmas
+pub mod NotedLemmas
+pub mod RestedLemmas
+pub mod LastsLemmas
+pub mod ChangeLemmas
+pub mod ReopenLemmas
+pub mod NextLemmas
+pub mod LieLemmas
+pub mod FollowedLemmas
+pub mod RestartingLemmas
+pub mod BootLemmas

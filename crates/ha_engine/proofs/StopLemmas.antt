@@ -8,6 +8,7 @@ use Rattle.ha_journal.specs.Journal.{Journal}
 use Rattle.ha_model.specs.Records.{Records}
 use Rattle.run_modes.specs.Fits.{AreNumbered}
 use Rattle.run_modes.specs.Table.{end_one, is_live, is_stopped, live_of, stopped}
+use Rattle.segment_runs.specs.Goes.{AllEnded}
 use Rattle.ha_ready.specs.RunPast.{AllPast, BeginBefore, IsPast}
 use Rattle.engine_parts.specs.declared.parts.Parts.{Parts}
 use Rattle.ha_engine.specs.Admits.{are_in}
@@ -95,3 +96,12 @@ going-ended gone k rs rs' p table num ends going = record {
   keys_early = going.keys_early;
   runs_kept = gone-ended gone k p.delays p.waits rs rs' p.frames.items p.ready.pairs.items table.past num ends going.runs_kept;
 }
+
+-- LAW: where all are stopped, all have ended
+pub all-stopped : (place : ℕ) (cause : EndCause) (rs : Records) → AllEnded (stopped None place cause rs)
+all-stopped place cause [] = tt
+all-stopped place cause (r ∷ rs) = (one (is_none r.end) refl, all-stopped place cause rs)
+  where
+    one : (b : Bool) → is_none r.end ≡ b → is_none (one_stopped b place cause r).end ≡ false
+    one true e = refl
+    one false e = e

@@ -5,6 +5,7 @@ use Rattle.ha_clock.specs.Local.{last_moment}
 use Rattle.ha_config.specs.declared.config.Config.{Config}
 use Rattle.ha_journal.specs.declared.carry.Carry.{Carry}
 use Rattle.ha_journal.specs.declared.entry.Entry.TheVariants.{Boot}
+use Rattle.ha_journal.specs.Entries.{IsBoot}
 use Rattle.ha_journal.specs.Journal.{Journal}
 use Rattle.ha_config.specs.Sound.{IsSoundConfig}
 use Rattle.ha_config.specs.Words.{Text}
@@ -13,6 +14,12 @@ use Rattle.state_table.specs.declared.table.StateTable.{StateTable}
 use Rattle.switch_book.specs.Book as switches
 use Rattle.trig_set.specs.declared.set.TrigSet.{TrigSet}
 use Rattle.engine_entry.specs.Opened.{AllOpened}
+
+-- the journal is one Boot's
+abbrev pub IsBegun : Journal → Type 0
+IsBegun [] = ⊥
+IsBegun (e ∷ []) = IsBoot e
+IsBegun (e ∷ x ∷ es) = ⊥
 
 -- the journal is the boot's, and these are its switches, its zone and its start
 pub record Begun (k : Journal) (s : Switches) (zone : Text) (at : ℕ) : Type 0 where

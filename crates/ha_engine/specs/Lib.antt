@@ -1,4 +1,9 @@
 pub mod Admits
+pub mod Begun
 pub mod Core
 pub mod Engines
-pub mod Begun
+pub mod Lies
+pub mod Noted
+pub mod Put
+pub mod Restarts
+pub mod Told

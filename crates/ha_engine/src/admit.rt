@@ -1,5 +1,5 @@
 //! The attempts of an entry that pass, in order: each that its mode admits has a run.
-ghost use Rattle.std.specs.Prelude.{◌≡◌, ◌<◌, ◌≤◌, ◌∷◌, [], ◌++◌, ℕ, suc, List, Some, length, vec_len};
+ghost use Rattle.std.specs.Prelude.{◌≡◌, ◌<◌, ◌≤◌, ◌^◌, ◌∷◌, [], ◌++◌, ℕ, suc, List, Some, length, vec_len};
 ghost use Rattle.ha_journal.specs.Attempts.{Attempt as Tried};
 ghost use Rattle.ha_journal.specs.Journal.{last_place, Journal};
 ghost use Rattle.run_modes.specs.Calls.{all_tried, tried};
@@ -15,8 +15,9 @@ use engine_parts::parts::Parts;
 use ha_config::Mode;
 use ha_sight::Env;
 use ha_value::Many;
-use run_modes::{Admission, Runs};
+use run_modes::Admission;
 use script_step::Frames;
+use segment_runs::SegmentRuns;
 use std::alloc::Global;
 
 /// An attempt that passes, with the frames that its run begins with.
@@ -34,12 +35,12 @@ pub struct Prepared {
 }
 
 /// All live runs of an automation go.
-pub(crate) fn forget_live(runs: &Runs, parts: &mut Parts, automation: u32)
+pub(crate) fn forget_live(runs: &SegmentRuns, parts: &mut Parts, automation: u32)
     ensures going { (k : Journal) → AreNumbered 0 runs.now.list → Going nobody k runs.now.list parts.old → Going (are_in (live_of automation runs.now.list)) k runs.now.list parts.new }
     ensures rested { parts.new.rested ≡ parts.old.rested }
     ensures room { (n : ℕ) → HasRoom n parts.old → HasRoom n parts.new }
 {
-    let most = runs.list().len();
+    let most = runs.len();
     'runs: for at in 0..most {
         match runs.live(automation, at) {
             Some(serial) => forget(parts, serial),
@@ -49,7 +50,7 @@ pub(crate) fn forget_live(runs: &Runs, parts: &mut Parts, automation: u32)
 }
 
 /// Those that a new run replaces go.
-fn clear_way(runs: &Runs, parts: &mut Parts, mode: Mode, automation: u32)
+fn clear_way(runs: &SegmentRuns, parts: &mut Parts, mode: Mode, automation: u32)
     ensures going { (k : Journal) → AreNumbered 0 runs.now.list → Going nobody k runs.now.list parts.old → Going (gone_by mode automation runs.now.list) k runs.now.list parts.new }
     ensures rested { parts.new.rested ≡ parts.old.rested }
     ensures room { (n : ℕ) → HasRoom n parts.old → HasRoom n parts.new }
@@ -95,12 +96,20 @@ fn take_in(parts: &mut Parts, alloc: Global, told: Admission, frames: Box<Frames
 }
 
 /// One attempt. There is room for its run.
-fn admit_one(runs: &mut Runs, parts: &mut Parts, alloc: Global, place: u64, prepared: Prepared)
+fn admit_one(
+    runs: &mut SegmentRuns,
+    parts: &mut Parts,
+    alloc: Global,
+    place: u64,
+    prepared: Prepared,
+)
+    requires place { place < 2 ^ 56 }
     requires runs { 0 < runs.old.spare }
     requires parts { HasRoom 1 parts.old }
     ensures list { (k : Journal) (x : ℕ × Tried) → IsPrepared k x prepared → place ≡ last_place k → runs.new.list ≡ tried k runs.old.list x }
     ensures going { (k : Journal) (x : ℕ × Tried) → IsPrepared k x prepared → place ≡ last_place k → 0 < length k → IsTable k runs.old.list → Going nobody k runs.old.list parts.old
         → IsTable k runs.new.list × Going nobody k runs.new.list parts.new }
+    ensures closed { runs.new.closed ≡ runs.old.closed }
     ensures spare { runs.old.spare ≤ suc runs.new.spare }
     ensures room { (n : ℕ) → HasRoom (suc n) parts.old → HasRoom n parts.new }
     ensures rested { parts.new.rested ≡ parts.old.rested }
@@ -123,16 +132,18 @@ fn admit_one(runs: &mut Runs, parts: &mut Parts, alloc: Global, place: u64, prep
 
 /// All of them, from the end of the list on: the first attempt stands last.
 pub(crate) fn admit_all(
-    runs: &mut Runs,
+    runs: &mut SegmentRuns,
     parts: &mut Parts,
     alloc: Global,
     place: u64,
     stack: Vec<Prepared>,
 )
+    requires place { place < 2 ^ 56 }
     requires runs { vec_len stack ≤ runs.old.spare }
     requires parts { HasRoom (vec_len stack) parts.old }
     ensures all { (k : Journal) (xs : List (ℕ × Tried)) → ArePrepared k xs (from_end stack.items) → place ≡ last_place k → 0 < length k → IsTable k runs.old.list → Going nobody k runs.old.list parts.old
         → (runs.new.list ≡ all_tried k runs.old.list xs) × Going nobody k runs.new.list parts.new }
+    ensures closed { runs.new.closed ≡ runs.old.closed }
     ensures rested { parts.new.rested ≡ parts.old.rested }
 {
     let mut stack = stack;

@@ -1,26 +1,30 @@
-//! The engine after its first entry, the boot.
-ghost use Rattle.std.specs.Prelude.{◌≡◌, ◌≤◌, ◌∷◌, [], false, true, IfOk, IsSome, OnOk, length};
+//! What an opening begins, and the engine after its first entry, the boot.
+ghost use Rattle.std.specs.Prelude.{◌≡◌, ◌≤◌, ◌∷◌, [], None, false, true, IfOk, IsSome, OnOk, replicate, vec_len};
 ghost use Rattle.ha_clock.specs.Local.{last_moment};
 ghost use Rattle.ha_clock.specs.Zone.{zone_of};
 ghost use Rattle.ha_journal.specs.declared.entry.Entry.TheVariants.{Boot};
-ghost use Rattle.ha_journal.specs.Attempts.{fired as fired_lem};
+ghost use Rattle.ha_journal.specs.Attempts.{fired as fired_lem, passing};
 ghost use Rattle.ha_journal.specs.Entries.{first_carry};
-ghost use Rattle.ha_journal.specs.Journal.{last_place};
+ghost use Rattle.ha_journal.specs.Journal.{Journal, last_place};
 ghost use Rattle.ha_model.specs.Records.{records_of};
 ghost use Rattle.ha_model.specs.Lawful.{Right};
 ghost use Rattle.ha_config.specs.Sound.{IsSoundConfig};
 ghost use Rattle.trig_set.specs.Stands.{StandsFor, attached};
-ghost use Rattle.ha_engine.specs.Begun.{Begun, BegunWith, trues};
+ghost use Rattle.ha_whole.specs.Whole.{Right as RightWhole, records_of as records_whole};
+ghost use Rattle.ha_engine.specs.Admits.{ArePrepared, from_end};
+ghost use Rattle.ha_engine.specs.Begun.{Begun, BegunWith, IsBegun, trues};
 ghost use Rattle.engine_parts.specs.Kept.{Going, Kept, nobody};
 ghost use Rattle.engine_parts.specs.Owners.{attempts_by};
+ghost use Rattle.engine_parts.specs.Records.{HasRoom};
 
-use crate::admit::admit_all;
+use crate::admit::{Prepared, admit_all};
+use crate::bounds::Bounds;
 use crate::conclude::make_room;
 use crate::engine::Engine;
-use crate::prepare::prepare;
+use crate::lasts::note_lasts;
+use crate::prepare::prepare_opening;
 use cond_eval::View;
 use engine_entry::open::open_all;
-use engine_parts::last::{configuration, last_entry};
 use engine_parts::parts::Parts;
 use engine_parts::ready::Ready;
 use engine_parts::slots::Slots;
@@ -28,12 +32,13 @@ use ha_clock::{ClockFault, Moment, Zone};
 use ha_config::Config;
 use ha_journal::{Carry, Entry, Firing};
 use ha_value::{Boxed, Many, Word};
-use run_modes::Runs;
+use segment_runs::SegmentRuns;
+use segment_view::Behind;
 use state_table::StateTable;
 use std::alloc::{AllocError, Global};
 use switch_book::Switches;
 use timer_queue::TimerQueue;
-use trig_set::{Before, TrigSet};
+use trig_set::TrigSet;
 use wait_set::Waits;
 
 /// The zone of a text that can be read.
@@ -75,7 +80,7 @@ fn first_journal(
 /// All automations are set.
 fn open_first(
     alloc: Global,
-    journal: &[Entry],
+    journal: &Behind<'_>,
     switches: &Switches,
     zone: &Zone,
     start: Moment,
@@ -90,18 +95,18 @@ fn open_first(
         &mut triggers,
         alloc,
         switches,
-        configuration(journal).automations.as_slice(),
+        journal.configuration().automations.as_slice(),
         0,
         start,
     )?;
     Ok((states, triggers))
 }
 
-/// The triggers are told of the boot.
+/// The triggers are told of the opening.
 fn note_first<'a>(
     triggers: &mut TrigSet,
     alloc: Global,
-    journal: &'a [Entry],
+    journal: &'a Behind<'_>,
     switches: &'a Switches,
     states: &'a StateTable,
     zone: &'a Zone,
@@ -112,8 +117,8 @@ fn note_first<'a>(
     ensures stands { OnOk result (StandsFor triggers.new journal.entry.now) }
     ensures fired { IfOk result (λ fired. attempts_by fired ≡ fired_lem journal.entry.now (last_place journal.entry.now)) }
 {
-    let view = View::make(states, configuration(journal), zone, start);
-    let fired = triggers.note(alloc, 0, last_entry(journal), Before::make(alloc), &view)?;
+    let view = View::make(states, journal.configuration(), zone, start);
+    let fired = triggers.open_segment(alloc, zone, &view)?;
     Ok(fired)
 }
 
@@ -128,10 +133,10 @@ fn all_rested(alloc: Global) -> Result<Vec<bool>, AllocError>
     Ok(flags)
 }
 
-/// The parts, and what fires at the boot.
+/// The parts, and what fires at the opening.
 fn first_parts(
     alloc: Global,
-    journal: &[Entry],
+    journal: &Behind<'_>,
     switches: Switches,
     zone: Zone,
     start: Moment,
@@ -170,25 +175,89 @@ fn first_parts(
     Ok((parts, fired))
 }
 
-/// The runs and the parts behind the boot.
-fn begin(
+/// The parts behind an opening, and the attempts that it makes.
+pub(crate) fn begin_parts(
     alloc: Global,
-    journal: &[Entry],
+    journal: &Behind<'_>,
     switches: Switches,
     zone: Zone,
     start: Moment,
-) -> Result<(Runs, Parts), AllocError>
+) -> Result<(Parts, Vec<Prepared>), AllocError>
+    requires { Begun journal.now switches zone start }
+    ensures going { IfOk result (λ x. Going nobody journal.now [] x.0) }
+    ensures rested { IfOk result (λ x. x.0.rested.items ≡ trues 16) }
+    ensures prepared { IfOk result (λ x. ArePrepared journal.now (passing journal.now) (from_end x.1.items)) }
+{
+    let (parts, fired) = first_parts(alloc, journal, switches, zone, start)?;
+    let stack = prepare_opening(alloc, journal, &parts, fired)?;
+    Ok((parts, stack))
+}
+
+/// The attempts of an opening are made, for which there is room: behind it no run is there yet.
+pub(crate) fn admit_first(
+    alloc: Global,
+    runs: &mut SegmentRuns,
+    parts: &mut Parts,
+    stack: Vec<Prepared>,
+)
+    requires none { runs.old.list ≡ [] }
+    requires spare { vec_len stack ≤ runs.old.spare }
+    requires room { HasRoom (vec_len stack) parts.old }
+    ensures begun { (k : Journal) → IsBegun k → Going nobody k [] parts.old → parts.old.rested.items ≡ trues 16 → ArePrepared k (passing k) (from_end stack.items)
+        → (runs.new.list ≡ records_of k) × Right k runs.new.list × Kept k runs.new.list parts.new }
+    ensures closed { runs.new.closed ≡ runs.old.closed }
+{
+    admit_all(runs, parts, alloc, 0, stack);
+}
+
+/// The runs and the parts behind the boot.
+fn begin(
+    alloc: Global,
+    journal: &Behind<'_>,
+    switches: Switches,
+    zone: Zone,
+    start: Moment,
+) -> Result<(SegmentRuns, Parts), AllocError>
     requires { Begun journal.now switches zone start }
     ensures runs { IfOk result (λ x. x.0.list ≡ records_of journal.now) }
     ensures right { IfOk result (λ x. Right journal.now x.0.list) }
     ensures kept { IfOk result (λ x. Kept journal.now x.0.list x.1) }
+    ensures closed { IfOk result (λ x. x.0.closed ≡ record { records = []; entries = 0 }) }
 {
-    let (mut parts, fired) = first_parts(alloc, journal, switches, zone, start)?;
-    let mut runs = Runs::make(alloc);
-    let stack = prepare(alloc, journal, &parts, fired)?;
+    let (mut parts, stack) = begin_parts(alloc, journal, switches, zone, start)?;
+    let mut runs = SegmentRuns::make(alloc);
     make_room(&mut runs, &mut parts, stack.len())?;
-    admit_all(&mut runs, &mut parts, alloc, 0, stack);
+    admit_first(alloc, &mut runs, &mut parts, stack);
     Ok((runs, parts))
+}
+
+/// The same, of the list of all entries, which is the boot alone.
+fn begin_first<'a>(
+    alloc: Global,
+    journal: &'a [Entry],
+    switches: Switches,
+    zone: Zone,
+    start: Moment,
+) -> Result<(SegmentRuns, Parts), AllocError>
+    requires { Begun journal.now switches zone start }
+    ensures runs { IfOk result (λ x. x.0.list ≡ records_of journal.entry.now) }
+    ensures right { IfOk result (λ x. Right journal.entry.now x.0.list) }
+    ensures kept { IfOk result (λ x. Kept journal.entry.now x.0.list x.1) }
+    ensures closed { IfOk result (λ x. x.0.closed ≡ record { records = []; entries = 0 }) }
+{
+    let segment = Behind::make(journal, 0, 0);
+    begin(alloc, &segment, switches, zone, start)
+}
+
+/// No automation has triggered yet.
+fn no_lasts(alloc: Global, count: usize) -> Result<Vec<Option<Moment>>, AllocError>
+    ensures { IfOk result (λ v. v.items ≡ replicate count None) }
+{
+    let mut lasts = Vec::new(alloc);
+    'rules: for _at in 0..count {
+        lasts.push(None)?;
+    }
+    Ok(lasts)
 }
 
 impl Engine {
@@ -206,20 +275,26 @@ impl Engine {
         requires zone { IsSome (zone_of zone) }
         requires start { start ≤ last_moment }
         ensures entries { IfOk result (λ e. e.entries ≡ Boot text config stored start zone first_carry ∷ []) }
-        ensures runs { IfOk result (λ e. e.runs ≡ records_of (Boot text config stored start zone first_carry ∷ [])) }
-        ensures right { IfOk result (λ e. Right e.entries e.runs) }
+        ensures runs { IfOk result (λ e. e.runs ≡ records_whole (Boot text config stored start zone first_carry ∷ [])) }
+        ensures right { IfOk result (λ e. RightWhole e.entries e.runs) }
         ensures spent { IfOk result (λ e. e.is_spent ≡ false) }
     {
         let read = read_zone(alloc, &zone)?;
         let switches = Switches::restore(alloc, &config, stored.as_ref())?;
         let carry = Carry::first(alloc)?;
+        let count = config.automations.len();
         let journal = first_journal(alloc, text, config, stored, start, zone, carry)?;
-        let (runs, parts) = begin(alloc, journal.as_slice(), switches, read, start)?;
+        let mut lasts = no_lasts(alloc, count)?;
+        let (runs, parts) = begin_first(alloc, journal.as_slice(), switches, read, start)?;
+        note_lasts(&mut lasts, &runs, 0, start);
         Ok(Engine {
             alloc,
             journal,
             runs,
             parts,
+            lasts,
+            bounds: Bounds::first(),
+            reset: true,
             spent: false,
         })
     }

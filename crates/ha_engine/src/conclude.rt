@@ -20,12 +20,18 @@ use engine_parts::parts::Parts;
 use engine_parts::rested::note_flags;
 use ha_journal::{Entry, Firing};
 use ha_value::Many;
-use run_modes::Runs;
+use segment_runs::SegmentRuns;
+use segment_view::Segment;
 use std::alloc::{AllocError, Global};
 
 /// Room for so many runs more, each with its frames and a pair.
-pub(crate) fn make_room(runs: &mut Runs, parts: &mut Parts, more: usize) -> Result<(), AllocError>
+pub(crate) fn make_room(
+    runs: &mut SegmentRuns,
+    parts: &mut Parts,
+    more: usize,
+) -> Result<(), AllocError>
     ensures list { runs.new.list ≡ runs.old.list }
+    ensures closed { runs.new.closed ≡ runs.old.closed }
     ensures going { OnOk result ((k : Journal) (rs : Records) → Going nobody k rs parts.old → Going nobody k rs parts.new) }
     ensures rested { OnOk result (parts.new.rested ≡ parts.old.rested) }
     ensures spare { OnOk result (more ≤ runs.new.spare) }
@@ -38,17 +44,17 @@ pub(crate) fn make_room(runs: &mut Runs, parts: &mut Parts, more: usize) -> Resu
 }
 
 /// The source whose line the last entry is.
-fn last_source(journal: &[Entry]) -> Option<u32>
+fn last_source(journal: &Segment<'_>) -> Option<u32>
     ensures { (j : Journal) (x : Item) → journal.now ≡ longer j x → result ≡ source_of x }
 {
-    match journal.last() {
-        Some(Entry::Line { source, .. }) => Some(*source),
+    match journal.last_entry() {
+        Entry::Line { source, .. } => Some(*source),
         _ => None,
     }
 }
 
 /// The flags go on to say who is rested, once the records of the entry were told.
-fn note_source(parts: &mut Parts, journal: &[Entry])
+fn note_source(parts: &mut Parts, journal: &Segment<'_>)
     requires { vec_len parts.old.rested ≤ 16 }
     ensures { (j : Journal) (x : Item) (rs : Records) → journal.now ≡ longer j x → Right j rs → IsKnown (source_of x) → RestedKept j rs parts.old.rested.items → Right journal.now (records_after j rs x)
         → Going nobody journal.now (records_after j rs x) parts.old → Kept journal.now (records_after j rs x) parts.new }
@@ -59,7 +65,7 @@ fn note_source(parts: &mut Parts, journal: &[Entry])
 }
 
 /// The end of the work on a line that stops nobody and asks for no run: its records are those before it, and the flags alone are left.
-pub(crate) fn conclude_left(journal: &[Entry], parts: &mut Parts)
+pub(crate) fn conclude_left(journal: &Segment<'_>, parts: &mut Parts)
     requires { vec_len parts.old.rested ≤ 16 }
     ensures { (rs : Records) → LineTold journal.now rs parts.old → passing journal.now ≡ []
         → Right journal.now rs × Kept journal.now rs parts.new }
@@ -70,8 +76,8 @@ pub(crate) fn conclude_left(journal: &[Entry], parts: &mut Parts)
 /// The end of the work on an entry, whose own calls and stops were made: its attempts, and the flags. There is room for them.
 pub(crate) fn settle(
     alloc: Global,
-    journal: &[Entry],
-    runs: &mut Runs,
+    journal: &Segment<'_>,
+    runs: &mut SegmentRuns,
     parts: &mut Parts,
     stack: Vec<Prepared>,
 )
@@ -79,17 +85,18 @@ pub(crate) fn settle(
     requires prepared { ArePrepared journal.now (passing journal.now) (from_end stack.items) }
     requires spare { vec_len stack ≤ runs.old.spare }
     requires room { HasRoom (vec_len stack) parts.old }
-    ensures { Right journal.now runs.new.list × Kept journal.now runs.new.list parts.new }
+    ensures kept { Right journal.now runs.new.list × Kept journal.now runs.new.list parts.new }
+    ensures closed { runs.new.closed ≡ runs.old.closed }
 {
-    admit_all(runs, parts, alloc, journal.len() as u64 - 1, stack);
+    admit_all(runs, parts, alloc, journal.place(), stack);
     note_source(parts, journal);
 }
 
 /// The end of the work on a line that stops nobody. After an error the records are as before, and the parts may only be dropped.
 pub(crate) fn conclude(
     alloc: Global,
-    journal: &[Entry],
-    runs: &mut Runs,
+    journal: &Segment<'_>,
+    runs: &mut SegmentRuns,
     parts: &mut Parts,
     fired: Many<Firing>,
 ) -> Result<(), AllocError>
@@ -97,8 +104,9 @@ pub(crate) fn conclude(
     requires fired { attempts_by fired ≡ fired_lem journal.now (last_place journal.now) }
     ensures ok { OnOk result (Right journal.now runs.new.list × Kept journal.now runs.new.list parts.new) }
     ensures err { OnErr result (runs.new.list ≡ runs.old.list) }
+    ensures closed { runs.new.closed ≡ runs.old.closed }
 {
-    let stack = prepare(alloc, journal, parts, fired)?;
+    let stack = prepare(alloc, &*journal, parts, fired)?;
     if stack.is_empty() {
         conclude_left(journal, parts);
         return Ok(());

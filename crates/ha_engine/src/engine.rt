@@ -1,28 +1,39 @@
 //! The engine: the journal with its records, and the parts that stand for it.
-ghost use Rattle.std.specs.Prelude.{◌≡◌, ◌↔◌, ◌<◌, ◌-◌, ◌++◌, ◌∷◌, [], ℕ, List, Some, IfOk, IfErr, OnOk, OnErr, Err, true, false, length, take, count_by, is_some, vec_len, vec_capacity};
+ghost use Rattle.std.specs.Prelude.{◌≡◌, ◌↔◌, ◌+◌, ◌<◌, ◌≤◌, ◌-◌, ◌++◌, ◌∷◌, [], ℕ, List, Some, IfOk, IfErr, OnOk, OnErr, Err, true, false, length, is_some, vec_len, vec_capacity};
 ghost use Rattle.std.specs.List.{list_any};
 ghost use Rattle.ha_config.specs.declared.command.Cmd.{Cmd as Said};
-ghost use Rattle.ha_config.specs.declared.command.Cmd.TheVariants.{Refused};
+ghost use Rattle.ha_config.specs.declared.command.Cmd.TheVariants.{Refused, Restart};
+ghost use Rattle.ha_journal.specs.declared.entry.Entry.{Entry as Put};
 ghost use Rattle.ha_journal.specs.declared.entry.Entry.TheVariants.{Line};
+ghost use Rattle.ha_journal.specs.Entries.{restarts as restarts_lem};
 ghost use Rattle.ha_journal.specs.Journal.{more, Journal, automations};
 ghost use Rattle.ha_journal.specs.Commands.{has_automation, put_as as put_as_lem, IsFair};
 ghost use Rattle.ha_sight.specs.declared.item.Item as item_lem;
 ghost use Rattle.ha_config.specs.Words.{same};
 ghost use Rattle.ha_config.specs.Names.{automation_named};
 ghost use Rattle.ha_journal.specs.declared.entry.Entry.{Entry as Item};
-ghost use Rattle.ha_model.specs.Lawful.{Right, is_line_of, shuts, is_quiet, is_rested, pick, ready};
-ghost use Rattle.ha_journal.specs.Sights.{switch_of, changes_switch};
-ghost use Rattle.ha_journal.specs.EntryText.{store_text};
+ghost use Rattle.ha_model.specs.Lawful.{Right as RightAlone, pick};
+ghost use Rattle.ha_whole.specs.Segments.{segment};
+ghost use Rattle.ha_whole.specs.Whole.{CannotRestart, HasRoom, IsFull, LacksRoom, Right, changes_store, is_quiet, is_rested, put, ready, store_text, switch_of};
+ghost use Rattle.engine_parts.specs.Kept.{Kept};
+ghost use Rattle.ha_engine.specs.Lies.{Lies};
+ghost use Rattle.ha_engine.specs.Put.{Adds};
 
 use crate::advance::advance;
+use crate::bounds::Bounds;
 use crate::follow::follow_line;
+use crate::lasts::note_lasts;
+use crate::restart::{config_in, follow_restart};
 use engine_parts::last::drop_last;
 use engine_parts::parts::Parts;
+use ha_clock::Moment;
 use ha_config::{Automation, Cmd, Config, same_text};
 use ha_journal::Entry;
-use ha_model::{CoreFault, Record};
+use ha_model::Record;
 use ha_value::{Many, Value, Word};
-use run_modes::Runs;
+use ha_whole::CoreFault;
+use segment_runs::SegmentRuns;
+use segment_view::Segment;
 use std::alloc::{AllocError, Global};
 use std::marker::Model;
 
@@ -30,9 +41,16 @@ use std::marker::Model;
 #[derive(Drop)]
 pub struct Engine {
     pub(crate) alloc: Global,
+    /// All entries.
     pub(crate) journal: Vec<Entry>,
-    pub(crate) runs: Runs,
+    pub(crate) runs: SegmentRuns,
+    /// What stands for the last segment alone.
     pub(crate) parts: Parts,
+    /// By automation, when it last triggered.
+    pub(crate) lasts: Vec<Option<Moment>>,
+    pub(crate) bounds: Bounds,
+    /// Whether the opening of the last segment changed what is stored.
+    pub(crate) reset: bool,
     pub(crate) spent: bool,
 }
 
@@ -53,14 +71,13 @@ impl Model for Engine {
     ghost invariant = { IsKept };
 }
 
-/// How many entries a journal has at most.
-const MOST: usize = 1_048_576;
-
 /// Appends a line; there is room for it.
 #[inline(always)]
 fn push_line(journal: &mut Vec<Entry>, source: u32, number: u64, cmd: Cmd)
     requires { vec_len journal.old < vec_capacity journal.old }
-    ensures { journal.new.items ≡ more journal.old.items (Line source number cmd) }
+    ensures items { journal.new.items ≡ more journal.old.items (Line source number cmd) }
+    ensures len { vec_len journal.new ≡ vec_len journal.old + 1 }
+    ensures capacity { vec_capacity journal.old ≤ vec_capacity journal.new }
 {
     journal.push_reserved(Entry::Line {
         source,
@@ -158,8 +175,159 @@ fn settle_last(alloc: Global, journal: &mut [Entry])
     }
 }
 
+/// Whether a command restarts.
+fn restarts(cmd: &Cmd) -> bool
+    ensures { result ≡ restarts_lem cmd.now }
+{
+    matches!(cmd, Cmd::Restart)
+}
+
+/// What follows from the line that was pushed last to the list of all entries. After an error the records are as before, and the parts may
+/// only be dropped.
+fn follow_pushed<'a>(
+    alloc: Global,
+    journal: &'a [Entry],
+    bounds: Bounds,
+    runs: &mut SegmentRuns,
+    parts: &mut Parts,
+) -> Result<(), AllocError>
+    requires { Adds journal.now bounds runs.old.list parts.old }
+    ensures ok { OnOk result ((j : Journal) (x : Put) → Lies j bounds → journal.entry.now ≡ more j x → RightAlone (more (segment j) x) runs.new.list × Kept (more (segment j) x) runs.new.list parts.new) }
+    ensures err { OnErr result (runs.new.list ≡ runs.old.list) }
+    ensures closed { runs.new.closed ≡ runs.old.closed }
+{
+    let segment = Segment::of_list(journal, bounds.front, bounds.base);
+    follow_line(alloc, &segment, runs, parts)
+}
+
 impl Engine {
-    /// Puts a line of a source.
+    /// Whether one more entry has room, if it is no restart.
+    #[inline(always)]
+    fn has_room(&self) -> bool
+        ensures room { result ≡ true → HasRoom self.now.entries false }
+        ensures full { result ≡ false → IsFull self.now.entries }
+    {
+        self.journal.len() < self.bounds.limit
+    }
+
+    /// Whether a restart has room with the entry behind it, where one entry has.
+    fn lets_restart(&self) -> bool
+        requires { HasRoom self.now.entries false }
+        ensures room { result ≡ true → HasRoom self.now.entries true }
+        ensures full { result ≡ false → CannotRestart self.now.entries }
+    {
+        self.bounds.lets_restart(self.journal.len())
+    }
+
+    /// Puts a line that is no restart, for which there is room.
+    #[inline(always)]
+    fn append_plain(&mut self, source: u32, number: u64, cmd: Cmd) -> Result<(), AllocError>
+        requires usable { self.old.is_spent ≡ false }
+        requires known { source < 16 }
+        requires fair { IsFair self.old.entries (put_as_lem self.old.entries cmd) }
+        requires plain { restarts_lem cmd ≡ false }
+        requires room { HasRoom self.old.entries false }
+        ensures put { OnOk result (self.new.entries ≡ put self.old.entries (Item.Line source number (put_as_lem self.old.entries cmd))) }
+        ensures right { OnOk result (Right self.new.entries self.new.runs) }
+        ensures stays { OnErr result ((self.new.entries ≡ self.old.entries) × (self.new.runs ≡ self.old.runs)) }
+        ensures fresh { OnOk result (self.new.is_spent ≡ false) }
+        ensures spent { OnErr result (self.new.is_spent ≡ true) }
+    {
+        if self.journal.reserve(1).is_err() {
+            let_go(cmd);
+            self.spent = true;
+            return Err(AllocError);
+        }
+        push_line(&mut self.journal, source, number, cmd);
+        settle_last(self.alloc, self.journal.as_mut_slice());
+        let before = self.runs.len();
+        match follow_pushed(
+            self.alloc,
+            self.journal.as_slice(),
+            self.bounds,
+            &mut self.runs,
+            &mut self.parts,
+        ) {
+            Ok(()) => {
+                note_lasts(&mut self.lasts, &self.runs, before, self.parts.at);
+                Ok(())
+            }
+            Err(error) => {
+                drop_last(&mut self.journal);
+                self.spent = true;
+                Err(error)
+            }
+        }
+    }
+
+    /// Puts a restart with the entry behind it, for which there is room.
+    #[inline(never)]
+    fn append_restart(&mut self, source: u32, number: u64) -> Result<(), AllocError>
+        requires usable { self.old.is_spent ≡ false }
+        requires known { source < 16 }
+        requires room { HasRoom self.old.entries true }
+        ensures put { OnOk result (self.new.entries ≡ put self.old.entries (Item.Line source number Restart)) }
+        ensures right { OnOk result (Right self.new.entries self.new.runs) }
+        ensures stays { OnErr result ((self.new.entries ≡ self.old.entries) × (self.new.runs ≡ self.old.runs)) }
+        ensures fresh { OnOk result (self.new.is_spent ≡ false) }
+        ensures spent { OnErr result (self.new.is_spent ≡ true) }
+    {
+        if self.journal.reserve(2).is_err() {
+            self.spent = true;
+            return Err(AllocError);
+        }
+        push_line(&mut self.journal, source, number, Cmd::Restart);
+        match follow_restart(
+            self.alloc,
+            &mut self.journal,
+            &mut self.bounds,
+            &mut self.runs,
+            &mut self.parts,
+            &mut self.lasts,
+        ) {
+            Ok(reset) => {
+                self.reset = reset;
+                Ok(())
+            }
+            Err(error) => {
+                drop_last(&mut self.journal);
+                self.spent = true;
+                Err(error)
+            }
+        }
+    }
+
+    /// Puts a line of a source, for which there is room if it is no restart.
+    #[inline(always)]
+    fn append_by_kind(&mut self, source: u32, number: u64, cmd: Cmd) -> Result<(), CoreFault>
+        requires usable { self.old.is_spent ≡ false }
+        requires known { source < 16 }
+        requires fair { IsFair self.old.entries (put_as_lem self.old.entries cmd) }
+        requires room { HasRoom self.old.entries false }
+        ensures put { OnOk result (self.new.entries ≡ put self.old.entries (Item.Line source number (put_as_lem self.old.entries cmd))) }
+        ensures right { OnOk result (Right self.new.entries self.new.runs) }
+        ensures room { OnOk result (HasRoom self.old.entries (restarts_lem cmd)) }
+        ensures full { IfErr result (λ e. e ≡ CoreFault.Full → LacksRoom self.old.entries (restarts_lem cmd)) }
+        ensures stays { OnErr result ((self.new.entries ≡ self.old.entries) × (self.new.runs ≡ self.old.runs)) }
+        ensures spent { (self.new.is_spent ≡ true) ↔ (result ≡ Err CoreFault.Memory) }
+    {
+        if !restarts(&cmd) {
+            return match self.append_plain(source, number, cmd) {
+                Ok(()) => Ok(()),
+                Err(_) => Err(CoreFault::Memory),
+            };
+        }
+        let_go(cmd);
+        if !self.lets_restart() {
+            return Err(CoreFault::Full);
+        }
+        match self.append_restart(source, number) {
+            Ok(()) => Ok(()),
+            Err(_) => Err(CoreFault::Memory),
+        }
+    }
+
+    /// Puts a line of a source, and behind a restart the entry that opens the next segment.
     #[inline(always)]
     pub(crate) fn append_line(
         &mut self,
@@ -169,41 +337,19 @@ impl Engine {
     ) -> Result<(), CoreFault>
         requires usable { self.old.is_spent ≡ false }
         requires known { source < 16 }
-        requires rested { is_rested self.old.runs source self.old.entries ≡ true }
-        requires next { number ≡ count_by (is_line_of source) self.old.entries }
-        requires unshut { list_any (shuts source) self.old.entries ≡ false }
         requires fair { IsFair self.old.entries (put_as_lem self.old.entries cmd) }
-        ensures put { OnOk result (self.new.entries ≡ self.old.entries ++ Item.Line source number (put_as_lem self.old.entries cmd) ∷ []) }
+        ensures put { OnOk result (self.new.entries ≡ put self.old.entries (Item.Line source number (put_as_lem self.old.entries cmd))) }
         ensures right { OnOk result (Right self.new.entries self.new.runs) }
-        ensures room { OnOk result (length self.old.entries < 1048576) }
-        ensures full { IfErr result (λ e. e ≡ CoreFault.Full → length self.old.entries ≡ 1048576) }
+        ensures room { OnOk result (HasRoom self.old.entries (restarts_lem cmd)) }
+        ensures full { IfErr result (λ e. e ≡ CoreFault.Full → LacksRoom self.old.entries (restarts_lem cmd)) }
         ensures stays { OnErr result ((self.new.entries ≡ self.old.entries) × (self.new.runs ≡ self.old.runs)) }
         ensures spent { (self.new.is_spent ≡ true) ↔ (result ≡ Err CoreFault.Memory) }
     {
-        if MOST <= self.journal.len() {
+        if !self.has_room() {
             let_go(cmd);
             return Err(CoreFault::Full);
         }
-        if self.journal.reserve(1).is_err() {
-            let_go(cmd);
-            self.spent = true;
-            return Err(CoreFault::Memory);
-        }
-        push_line(&mut self.journal, source, number, cmd);
-        settle_last(self.alloc, self.journal.as_mut_slice());
-        match follow_line(
-            self.alloc,
-            self.journal.as_slice(),
-            &mut self.runs,
-            &mut self.parts,
-        ) {
-            Ok(()) => Ok(()),
-            Err(_) => {
-                drop_last(&mut self.journal);
-                self.spent = true;
-                Err(CoreFault::Memory)
-            }
-        }
+        self.append_by_kind(source, number, cmd)
     }
 
     /// Puts one step of a worker: of the ready pairs that at the place of the worker's number, modulo how many there are.
@@ -212,29 +358,51 @@ impl Engine {
         requires busy { is_quiet self.old.runs self.old.entries ≡ false }
         ensures put { OnOk result ((serial : ℕ) × (branch : List ℕ) × (item : item_lem.Item) × (pick worker (ready self.old.runs self.old.entries) ≡ Some (serial, branch)) × (self.new.entries ≡ self.old.entries ++ Item.Step worker serial branch item ∷ [])) }
         ensures right { OnOk result (Right self.new.entries self.new.runs) }
-        ensures room { OnOk result (length self.old.entries < 1048576) }
-        ensures full { IfErr result (λ e. e ≡ CoreFault.Full → length self.old.entries ≡ 1048576) }
+        ensures room { OnOk result (HasRoom self.old.entries false) }
+        ensures full { IfErr result (λ e. e ≡ CoreFault.Full → LacksRoom self.old.entries false) }
         ensures stays { OnErr result ((self.new.entries ≡ self.old.entries) × (self.new.runs ≡ self.old.runs)) }
         ensures spent { (self.new.is_spent ≡ true) ↔ (result ≡ Err CoreFault.Memory) }
     {
-        if MOST <= self.journal.len() {
+        if !self.has_room() {
             return Err(CoreFault::Full);
         }
+        match self.append_one(worker) {
+            Ok(()) => Ok(()),
+            Err(_) => Err(CoreFault::Memory),
+        }
+    }
+
+    /// The same, where there is room.
+    fn append_one(&mut self, worker: u32) -> Result<(), AllocError>
+        requires usable { self.old.is_spent ≡ false }
+        requires busy { is_quiet self.old.runs self.old.entries ≡ false }
+        requires room { HasRoom self.old.entries false }
+        ensures put { OnOk result ((serial : ℕ) × (branch : List ℕ) × (item : item_lem.Item) × (pick worker (ready self.old.runs self.old.entries) ≡ Some (serial, branch)) × (self.new.entries ≡ self.old.entries ++ Item.Step worker serial branch item ∷ [])) }
+        ensures right { OnOk result (Right self.new.entries self.new.runs) }
+        ensures stays { OnErr result ((self.new.entries ≡ self.old.entries) × (self.new.runs ≡ self.old.runs)) }
+        ensures fresh { OnOk result (self.new.is_spent ≡ false) }
+        ensures spent { OnErr result (self.new.is_spent ≡ true) }
+    {
         if self.journal.reserve(1).is_err() {
             self.spent = true;
-            return Err(CoreFault::Memory);
+            return Err(AllocError);
         }
+        let before = self.runs.len();
         match advance(
             self.alloc,
             &mut self.journal,
+            self.bounds,
             &mut self.runs,
             &mut self.parts,
             worker,
         ) {
-            Ok(()) => Ok(()),
-            Err(_) => {
+            Ok(()) => {
+                note_lasts(&mut self.lasts, &self.runs, before, self.parts.at);
+                Ok(())
+            }
+            Err(error) => {
                 self.spent = true;
-                Err(CoreFault::Memory)
+                Err(error)
             }
         }
     }
@@ -270,10 +438,7 @@ impl Engine {
     pub(crate) fn configuration(&self) -> &Config
         ensures { result.now.automations ≡ automations self.now.entries }
     {
-        match self.journal.first() {
-            Some(Entry::Boot { config, .. }) => config,
-            _ => unreachable!(),
-        }
+        config_in(self.journal.as_slice())
     }
 
     /// The records of its runs.
@@ -281,7 +446,7 @@ impl Engine {
         ensures value { result.now ≡ self.now.runs }
         ensures right { Right self.now.entries self.now.runs }
     {
-        self.runs.list()
+        self.runs.all()
     }
 
     /// Whether memory ran out in a put.
@@ -307,12 +472,17 @@ impl Engine {
         self.parts.switches.store_text(alloc)
     }
 
-    /// Whether the last entry is the boot or changed a switch.
+    /// Whether the last put, or the boot, changed what is stored.
     pub(crate) fn has_changed(&self) -> bool
         requires { self.now.is_spent ≡ false }
-        ensures { result ≡ changes_switch self.now.entries }
+        ensures { result ≡ changes_store self.now.entries }
     {
-        self.parts.changed
+        let opening = self.journal.len() == self.bounds.front + 1;
+        if opening {
+            self.reset
+        } else {
+            self.parts.changed
+        }
     }
 
     /// The journal and the records.
@@ -321,13 +491,14 @@ impl Engine {
         ensures records { result.1 ≡ self.runs }
     {
         let Engine {
-            alloc: _,
             journal,
             runs,
             parts,
-            spent: _,
+            lasts,
+            ..
         } = self;
         drop(parts);
-        (Many::from_vec(journal), runs.into_list())
+        drop(lasts);
+        (Many::from_vec(journal), runs.into_all())
     }
 }

@@ -1,27 +1,27 @@
 //! What follows from an entry that was pushed: the parts and the records go on to stand for the journal with it.
-ghost use Rattle.std.specs.Prelude.{◌≡◌, ℕ, IfOk, OnOk, OnErr};
+ghost use Rattle.std.specs.Prelude.{◌≡◌, ℕ, IfOk, OnOk, OnErr, false};
 ghost use Rattle.ha_config.specs.declared.command.Cmd.{Cmd as Said};
 ghost use Rattle.ha_journal.specs.declared.entry.Entry.TheVariants.{Line};
+ghost use Rattle.ha_journal.specs.Entries.{is_restart};
 ghost use Rattle.ha_journal.specs.Journal.{more, Journal};
 ghost use Rattle.ha_config.specs.Fair.{IsPlain};
-ghost use Rattle.ha_model.specs.Records.{Records};
+ghost use Rattle.ha_model.specs.Records.{Records, last_is};
 ghost use Rattle.ha_model.specs.Lawful.{Right};
 ghost use Rattle.trig_set.specs.Left.{Leaves};
 ghost use Rattle.engine_parts.specs.Kept.{Kept};
 ghost use Rattle.engine_parts.specs.Stages.{Entered, IsLine, Pushed, PushedAs, RunsBefore};
 
 use crate::conclude::{conclude, conclude_left};
-use crate::restart::follow_restart;
 use crate::switch::follow_switch;
 use engine_entry::enter::{enter_gone, enter_left, enter_moment, enter_other, enter_report};
 use engine_parts::attend::attend;
-use engine_parts::last::last_entry;
 use engine_parts::left::attend_left;
 use engine_parts::parts::Parts;
 use ha_config::Cmd;
 use ha_journal::Entry;
 use ha_value::{EntityId, Many, Value, Word};
-use run_modes::Runs;
+use segment_runs::SegmentRuns;
+use segment_view::Segment;
 use std::alloc::{AllocError, Global};
 use trig_set::Before;
 
@@ -59,8 +59,8 @@ fn enter_plain(parts: &mut Parts, alloc: Global, cmd: &Cmd) -> Result<Before, Al
 /// A line that changes no switch. Whom the entity of a report concerns is looked for at the place `near` first.
 fn follow_plain(
     alloc: Global,
-    journal: &[Entry],
-    runs: &mut Runs,
+    journal: &Segment<'_>,
+    runs: &mut SegmentRuns,
     parts: &mut Parts,
     cmd: &Cmd,
     near: usize,
@@ -69,6 +69,7 @@ fn follow_plain(
     requires plain { IsPlain cmd.now }
     ensures ok { OnOk result (Right journal.now runs.new.list × Kept journal.now runs.new.list parts.new) }
     ensures err { OnErr result (runs.new.list ≡ runs.old.list) }
+    ensures closed { runs.new.closed ≡ runs.old.closed }
 {
     let mut before = enter_plain(parts, alloc, cmd)?;
     before.look_at(near);
@@ -79,8 +80,8 @@ fn follow_plain(
 /// A report of an entity that concerns nobody: it asks for no run, so the records stay.
 fn follow_left(
     alloc: Global,
-    journal: &[Entry],
-    runs: &mut Runs,
+    journal: &Segment<'_>,
+    runs: &mut SegmentRuns,
     parts: &mut Parts,
     entity: &EntityId,
     text: &Word,
@@ -90,6 +91,7 @@ fn follow_left(
     requires left { Leaves parts.old.triggers entity.now }
     ensures ok { OnOk result (Right journal.now runs.new.list × Kept journal.now runs.new.list parts.new) }
     ensures err { OnErr result (runs.new.list ≡ runs.old.list) }
+    ensures closed { runs.new.closed ≡ runs.old.closed }
 {
     enter_left(parts, alloc, entity, text, attributes)?;
     attend_left(parts, alloc, journal, entity, text, attributes)?;
@@ -100,8 +102,8 @@ fn follow_left(
 /// A report of an entity that may concern somebody; `near` says where its owners are listed.
 fn follow_seen(
     alloc: Global,
-    journal: &[Entry],
-    runs: &mut Runs,
+    journal: &Segment<'_>,
+    runs: &mut SegmentRuns,
     parts: &mut Parts,
     entity: &EntityId,
     text: &Word,
@@ -111,6 +113,7 @@ fn follow_seen(
     requires { PushedAs (Said.Report entity.now text.now attributes.now) journal.now runs.old.list parts.old }
     ensures ok { OnOk result (Right journal.now runs.new.list × Kept journal.now runs.new.list parts.new) }
     ensures err { OnErr result (runs.new.list ≡ runs.old.list) }
+    ensures closed { runs.new.closed ≡ runs.old.closed }
 {
     let mut before = enter_report(parts, alloc, entity, text, attributes)?;
     before.look_at(near);
@@ -121,8 +124,8 @@ fn follow_seen(
 /// A report.
 fn follow_report(
     alloc: Global,
-    journal: &[Entry],
-    runs: &mut Runs,
+    journal: &Segment<'_>,
+    runs: &mut SegmentRuns,
     parts: &mut Parts,
     entity: &EntityId,
     text: &Word,
@@ -131,6 +134,7 @@ fn follow_report(
     requires { PushedAs (Said.Report entity.now text.now attributes.now) journal.now runs.old.list parts.old }
     ensures ok { OnOk result (Right journal.now runs.new.list × Kept journal.now runs.new.list parts.new) }
     ensures err { OnErr result (runs.new.list ≡ runs.old.list) }
+    ensures closed { runs.new.closed ≡ runs.old.closed }
 {
     match parts.triggers.asked(entity) {
         None => follow_left(alloc, journal, runs, parts, entity, text, attributes),
@@ -139,33 +143,35 @@ fn follow_report(
 }
 
 /// The command of the last entry, which is a line.
-fn last_command(journal: &[Entry]) -> &Cmd
+fn last_command<'a>(journal: &'a Segment<'_>) -> &'a Cmd
     requires { IsLine journal.now }
-    ensures { (j : Journal) (source number : ℕ) (cmd : Said) → journal.now ≡ more j (Line source number cmd) → result.now ≡ cmd }
+    ensures { (j : Journal) (source number : ℕ) (cmd : Said) → journal.entry.now ≡ more j (Line source number cmd) → result.now ≡ cmd }
 {
-    match last_entry(journal) {
+    match journal.last_entry() {
         Entry::Line { cmd, .. } => cmd,
         _ => unreachable!(),
     }
 }
 
-/// A line was pushed. After an error the records are as before, and the parts may only be dropped.
+/// A line was pushed, which is no restart. After an error the records are as before, and the parts may only be dropped.
 pub fn follow_line(
     alloc: Global,
-    journal: &[Entry],
-    runs: &mut Runs,
+    journal: &Segment<'_>,
+    runs: &mut SegmentRuns,
     parts: &mut Parts,
 ) -> Result<(), AllocError>
-    requires { Pushed journal.now runs.old.list parts.old }
+    requires pushed { Pushed journal.now runs.old.list parts.old }
+    requires stays { last_is is_restart journal.now ≡ false }
     ensures ok { OnOk result (Right journal.now runs.new.list × Kept journal.now runs.new.list parts.new) }
     ensures err { OnErr result (runs.new.list ≡ runs.old.list) }
+    ensures closed { runs.new.closed ≡ runs.old.closed }
 {
     let cmd = last_command(journal);
     match cmd {
         Cmd::Switch { name, on, stop } => {
             follow_switch(alloc, journal, runs, parts, name, *on, *stop)
         }
-        Cmd::Restart => follow_restart(alloc, journal, runs, parts),
+        Cmd::Restart => unreachable!(),
         Cmd::Report {
             entity,
             text,

@@ -16,21 +16,22 @@ ghost use Rattle.engine_parts.specs.Fronts.{Stands, fronts};
 ghost use Rattle.ha_engine.specs.Admits.{ArePrepared, IsReady, IsPut, ArePassing, asked_for, from_end, has_action};
 ghost use Rattle.engine_parts.specs.Kept.{Sees};
 ghost use Rattle.engine_parts.specs.Owners.{attempts_by, is_attempt};
+ghost use Rattle.ha_engine.specs.Begun.{IsBegun};
 ghost use Rattle.ha_engine.specs.declared.admit.Prepared.{Prepared as Made};
 
 use crate::admit::Prepared;
 use cond_eval::View;
 use engine_parts::attempts::hold_all;
-use engine_parts::last::{configuration, last_entry};
 use engine_parts::parts::Parts;
 use ha_config::{Action, Automation, Cmd, Config, Mode, same_text};
 use ha_journal::{Entry, Firing};
 use ha_sight::{Answers, Env, Item, TriggerData};
 use ha_value::{Many, Value, Word};
 use script_step::Frames;
+use segment_view::{Behind, Segment};
 use std::alloc::{AllocError, Global};
 
-/// Whether an attempt passes: its conditions are skipped, or it has an automation and they all hold.
+/// Whether an attempt passes: it has an automation, and its conditions are skipped, or all hold.
 fn passes<A: Answers>(
     alloc: Global,
     rule: Option<&Automation>,
@@ -38,13 +39,15 @@ fn passes<A: Answers>(
     env: &Env,
     skip: bool,
 ) -> Result<bool, AllocError>
-    ensures { IfOk result (λ b. b ≡ (skip || option_map_or (λ a. hold_all (A.sight answers.now) a.tests env.now) (option_copied rule.entry) false)) }
+    ensures { IfOk result (λ b. b ≡ option_map_or (λ a. skip || hold_all (A.sight answers.now) a.tests env.now) (option_copied rule.entry) false) }
 {
-    if skip {
-        return Ok(true);
-    }
     match rule {
-        Some(rule) => hold_all(alloc, &rule.tests, env, answers),
+        Some(rule) => {
+            if skip {
+                return Ok(true);
+            }
+            hold_all(alloc, &rule.tests, env, answers)
+        }
         None => Ok(false),
     }
 }
@@ -347,7 +350,7 @@ fn prepare_asked<A: Answers>(
 /// The attempts of the last entry that pass, the first of them last. `fired` has what fired at it.
 pub(crate) fn prepare<'a>(
     alloc: Global,
-    journal: &'a [Entry],
+    journal: &'a Segment<'_>,
     parts: &'a Parts,
     fired: Many<Firing>,
 ) -> Result<Vec<Prepared>, AllocError>
@@ -356,7 +359,24 @@ pub(crate) fn prepare<'a>(
     requires fired { attempts_by fired ≡ fired_lem journal.now (last_place journal.now) }
     ensures { IfOk result (λ stack. ArePrepared journal.entry.now (passing journal.entry.now) (from_end stack.items)) }
 {
-    let config = configuration(journal);
+    let config = journal.configuration();
     let view = View::make(&parts.states, config, &parts.zone, parts.at);
-    prepare_asked(alloc, config, &view, last_entry(journal), fired)
+    prepare_asked(alloc, config, &view, journal.last_entry(), fired)
+}
+
+/// Those of an opening.
+pub(crate) fn prepare_opening<'a>(
+    alloc: Global,
+    journal: &'a Behind<'_>,
+    parts: &'a Parts,
+    fired: Many<Firing>,
+) -> Result<Vec<Prepared>, AllocError>
+    requires begun { IsBegun journal.now }
+    requires sees { Sees journal.now parts.now }
+    requires fired { attempts_by fired ≡ fired_lem journal.now (last_place journal.now) }
+    ensures { IfOk result (λ stack. ArePrepared journal.entry.now (passing journal.entry.now) (from_end stack.items)) }
+{
+    let config = journal.configuration();
+    let view = View::make(&parts.states, config, &parts.zone, parts.at);
+    prepare_fired(alloc, config, &view, fired)
 }

@@ -1,5 +1,5 @@
 //! The end of the work on a step: its records, the runs that it stops, its attempts, and the flags of the sources.
-ghost use Rattle.std.specs.Prelude.{◌≡◌, ◌<◌, ◌≤◌, ◌∷◌, [], ℕ, suc, OnOk, OnErr, length};
+ghost use Rattle.std.specs.Prelude.{◌≡◌, ◌<◌, ◌≤◌, ◌^◌, ◌∷◌, [], ℕ, suc, OnOk, OnErr, length};
 ghost use Rattle.ha_journal.specs.Attempts.{fired as fired_lem};
 ghost use Rattle.ha_journal.specs.Journal.{Journal, last_place};
 ghost use Rattle.ha_model.specs.Lawful.{Right};
@@ -14,18 +14,20 @@ use crate::prepare::prepare;
 use crate::step_end::{cause_of, count_call, end_if};
 use crate::stop::stop_if;
 use crate::switch::ends_runs;
-use engine_parts::last::last_entry;
 use engine_parts::parts::Parts;
 use ha_journal::{Entry, Firing};
 use ha_sight::{Item, Progress};
 use ha_value::Many;
-use run_modes::Runs;
+use segment_runs::SegmentRuns;
+use segment_view::Segment;
 use std::alloc::{AllocError, Global};
 
 /// The runs of one automation end, where it is turned off with stop.
-fn stop_target(runs: &mut Runs, parts: &mut Parts, target: &(u32, bool, bool), place: u64)
+fn stop_target(runs: &mut SegmentRuns, parts: &mut Parts, target: &(u32, bool, bool), place: u64)
+    requires { place < 2 ^ 56 }
     ensures list { runs.new.list ≡ stops_each place (target.now ∷ []) runs.old.list }
     ensures kept { (k : Journal) → place < length k → IsTable k runs.old.list → Going nobody k runs.old.list parts.old → IsTable k runs.new.list × Going nobody k runs.new.list parts.new }
+    ensures closed { runs.new.closed ≡ runs.old.closed }
     ensures spare { runs.old.spare ≤ runs.new.spare }
     ensures room { (n : ℕ) → HasRoom n parts.old → HasRoom n parts.new }
     ensures rested { parts.new.rested ≡ parts.old.rested }
@@ -35,9 +37,16 @@ fn stop_target(runs: &mut Runs, parts: &mut Parts, target: &(u32, bool, bool), p
 }
 
 /// The runs of those that are turned off with stop end, one automation after the other.
-fn stop_targets(runs: &mut Runs, parts: &mut Parts, targets: &[(u32, bool, bool)], place: u64)
+fn stop_targets(
+    runs: &mut SegmentRuns,
+    parts: &mut Parts,
+    targets: &[(u32, bool, bool)],
+    place: u64,
+)
+    requires { place < 2 ^ 56 }
     ensures list { runs.new.list ≡ stops_each place targets.now runs.old.list }
     ensures kept { (k : Journal) → place < length k → IsTable k runs.old.list → Going nobody k runs.old.list parts.old → IsTable k runs.new.list × Going nobody k runs.new.list parts.new }
+    ensures closed { runs.new.closed ≡ runs.old.closed }
     ensures spare { runs.old.spare ≤ runs.new.spare }
     ensures room { (n : ℕ) → HasRoom n parts.old → HasRoom n parts.new }
     ensures rested { parts.new.rested ≡ parts.old.rested }
@@ -48,9 +57,11 @@ fn stop_targets(runs: &mut Runs, parts: &mut Parts, targets: &[(u32, bool, bool)
 }
 
 /// The same of an item, where it switches automations.
-fn stop_switched(runs: &mut Runs, parts: &mut Parts, item: &Item, place: u64)
+fn stop_switched(runs: &mut SegmentRuns, parts: &mut Parts, item: &Item, place: u64)
+    requires { place < 2 ^ 56 }
     ensures list { runs.new.list ≡ stops_by place item.now runs.old.list }
     ensures kept { (k : Journal) → place < length k → IsTable k runs.old.list → Going nobody k runs.old.list parts.old → IsTable k runs.new.list × Going nobody k runs.new.list parts.new }
+    ensures closed { runs.new.closed ≡ runs.old.closed }
     ensures spare { runs.old.spare ≤ runs.new.spare }
     ensures room { (n : ℕ) → HasRoom n parts.old → HasRoom n parts.new }
     ensures rested { parts.new.rested ≡ parts.old.rested }
@@ -67,10 +78,10 @@ fn stop_switched(runs: &mut Runs, parts: &mut Parts, item: &Item, place: u64)
 
 /// The calls of a step on the records: its call, its end and its stops.
 fn tell_step(
-    runs: &mut Runs,
+    runs: &mut SegmentRuns,
     parts: &mut Parts,
     alloc: Global,
-    journal: &[Entry],
+    journal: &Segment<'_>,
     serial: u64,
     item: &Item,
     progress: Progress,
@@ -78,29 +89,31 @@ fn tell_step(
     requires told { StepTelling journal.now runs.old.list parts.old progress serial item.now }
     requires room { HasRoom 1 parts.old }
     ensures stopped { Stopped journal.now runs.new.list parts.new }
+    ensures closed { runs.new.closed ≡ runs.old.closed }
     ensures spare { runs.old.spare ≤ runs.new.spare }
     ensures room { (n : ℕ) → HasRoom (suc n) parts.old → HasRoom n parts.new }
 {
     count_call(runs, serial, item);
     end_if(runs, parts, alloc, journal, serial, cause_of(progress));
-    stop_switched(runs, parts, item, journal.len() as u64 - 1);
+    stop_switched(runs, parts, item, journal.place());
 }
 
 /// The same for the step that the last entry is.
 fn tell_records(
-    runs: &mut Runs,
+    runs: &mut SegmentRuns,
     parts: &mut Parts,
     alloc: Global,
-    journal: &[Entry],
+    journal: &Segment<'_>,
     progress: Progress,
 )
     requires told { StepTold journal.now runs.old.list parts.old progress }
     requires room { HasRoom 1 parts.old }
     ensures stopped { Stopped journal.now runs.new.list parts.new }
+    ensures closed { runs.new.closed ≡ runs.old.closed }
     ensures spare { runs.old.spare ≤ runs.new.spare }
     ensures room { (n : ℕ) → HasRoom (suc n) parts.old → HasRoom n parts.new }
 {
-    match last_entry(journal) {
+    match journal.last_entry() {
         Entry::Step { serial, item, .. } => {
             tell_step(runs, parts, alloc, journal, *serial, item, progress)
         }
@@ -111,8 +124,8 @@ fn tell_records(
 /// The end of the work on a step. After an error the records are as before, and the parts may only be dropped.
 pub(crate) fn conclude_step(
     alloc: Global,
-    journal: &[Entry],
-    runs: &mut Runs,
+    journal: &Segment<'_>,
+    runs: &mut SegmentRuns,
     parts: &mut Parts,
     progress: Progress,
     fired: Many<Firing>,
@@ -121,8 +134,9 @@ pub(crate) fn conclude_step(
     requires fired { attempts_by fired ≡ fired_lem journal.now (last_place journal.now) }
     ensures ok { OnOk result (Right journal.now runs.new.list × Kept journal.now runs.new.list parts.new) }
     ensures err { OnErr result (runs.new.list ≡ runs.old.list) }
+    ensures closed { runs.new.closed ≡ runs.old.closed }
 {
-    let stack = prepare(alloc, journal, parts, fired)?;
+    let stack = prepare(alloc, &*journal, parts, fired)?;
     make_room(runs, parts, stack.len() + 1)?;
     tell_records(runs, parts, alloc, journal, progress);
     settle(alloc, journal, runs, parts, stack);

@@ -15,14 +15,14 @@ ghost use Rattle.engine_parts.specs.Records.{HasRoom, IsTable, first_branches};
 ghost use Rattle.engine_entry.specs.Stepping.{StepEnds, cause_of as cause_lem};
 
 use engine_parts::forget::forget;
-use engine_parts::last::configuration;
 use engine_parts::parts::Parts;
 use engine_parts::ready::{Ready, lower};
-use ha_journal::Entry;
+use ha_config::Action;
 use ha_model::EndCause;
 use ha_sight::{Item, Progress};
 use ha_value::Many;
-use run_modes::Runs;
+use segment_runs::SegmentRuns;
+use segment_view::Segment;
 use std::alloc::Global;
 
 /// How a run ends whose script is so far.
@@ -38,9 +38,10 @@ pub(crate) fn cause_of(progress: Progress) -> Option<EndCause>
 }
 
 /// The call of a step is counted, if it made one.
-pub(crate) fn count_call(runs: &mut Runs, serial: u64, item: &Item)
+pub(crate) fn count_call(runs: &mut SegmentRuns, serial: u64, item: &Item)
     requires { (r : Run) × (record_of runs.old.list serial ≡ Some r) × (r.serial ≡ serial) × (r.calls < 2 ^ 64 - 1) }
     ensures list { runs.new.list ≡ call_counted (is_call item.now) serial runs.old.list }
+    ensures closed { runs.new.closed ≡ runs.old.closed }
     ensures spare { runs.new.spare ≡ runs.old.spare }
 {
     match item {
@@ -53,19 +54,19 @@ pub(crate) fn count_call(runs: &mut Runs, serial: u64, item: &Item)
     }
 }
 
-/// Whether the script of a run has an action.
-fn acts(journal: &[Entry], runs: &Runs, serial: u64) -> bool
-    requires { IsJournal journal.now }
+/// Whether a script has an action.
+fn has_some(actions: &[Action]) -> bool
+    ensures { result ≡ has_action actions.now }
+{
+    actions.len() > 0
+}
+
+/// Whether the script of a run has one.
+fn acts(journal: &Segment<'_>, runs: &SegmentRuns, serial: u64) -> bool
     ensures { (r : Run) → record_of runs.now.list serial ≡ Some r → result ≡ has_action (actions_of (automations journal.now) r.automation) }
 {
-    match runs.list().get(serial.saturating_sub(1) as usize) {
-        Some(record) => match configuration(journal)
-            .automations
-            .get(record.automation as usize)
-        {
-            Some(automation) => automation.actions.len() > 0,
-            None => false,
-        },
+    match runs.automation(serial) {
+        Some(automation) => has_some(journal.script(automation)),
         None => false,
     }
 }
@@ -96,9 +97,14 @@ fn put_first(ready: &mut Ready, alloc: Global, serial: u64)
 }
 
 /// A queued run begins.
-fn begin_run(runs: &Runs, parts: &mut Parts, alloc: Global, journal: &[Entry], serial: u64)
-    requires journal { IsJournal journal.now }
-    requires room { HasRoom 1 parts.old }
+fn begin_run(
+    runs: &SegmentRuns,
+    parts: &mut Parts,
+    alloc: Global,
+    journal: &Segment<'_>,
+    serial: u64,
+)
+    requires { HasRoom 1 parts.old }
     ensures pairs { (m : ℕ) (by : ℕ → List Path) (r : Run) → parts.old.ready.pairs.items ≡ pairs_from 0 m by → by serial ≡ [] → 0 < serial → serial ≤ m → record_of runs.now.list serial ≡ Some r
         → parts.new.ready.pairs.items ≡ pairs_from 0 m (changed_at serial (first_branches (actions_of (automations journal.now) r.automation)) by) }
     ensures rest { parts.new ≡ record parts.old { ready = parts.new.ready } }
@@ -111,10 +117,10 @@ fn begin_run(runs: &Runs, parts: &mut Parts, alloc: Global, journal: &[Entry], s
 
 /// The run ends at the last entry, and the one that was queued behind it begins.
 fn end_run(
-    runs: &mut Runs,
+    runs: &mut SegmentRuns,
     parts: &mut Parts,
     alloc: Global,
-    journal: &[Entry],
+    journal: &Segment<'_>,
     serial: u64,
     cause: EndCause,
 )
@@ -123,13 +129,14 @@ fn end_run(
     requires run { (r : Run) × (record_of runs.old.list serial ≡ Some r) × (r.serial ≡ serial) × HasBegun r.begin × (r.end ≡ None) }
     requires room { HasRoom 1 parts.old }
     ensures list { runs.new.list ≡ ended_at serial (last_place journal.now) cause runs.old.list }
+    ensures closed { runs.new.closed ≡ runs.old.closed }
     ensures kept { StepEnds journal.now runs.old.list serial → Going nobody journal.now runs.old.list parts.old → Going nobody journal.now runs.new.list parts.new }
     ensures spare { runs.old.spare ≤ runs.new.spare }
     ensures room { (n : ℕ) → HasRoom (suc n) parts.old → HasRoom n parts.new }
     ensures rested { parts.new.rested ≡ parts.old.rested }
 {
     forget(parts, serial);
-    match runs.ended(serial, journal.len() as u64 - 1, cause) {
+    match runs.ended(serial, journal.place(), cause) {
         Some(next) => begin_run(runs, parts, alloc, journal, next),
         None => {}
     }
@@ -137,10 +144,10 @@ fn end_run(
 
 /// The same where its script has come to an end.
 pub(crate) fn end_if(
-    runs: &mut Runs,
+    runs: &mut SegmentRuns,
     parts: &mut Parts,
     alloc: Global,
-    journal: &[Entry],
+    journal: &Segment<'_>,
     serial: u64,
     cause: Option<EndCause>,
 )
@@ -149,6 +156,7 @@ pub(crate) fn end_if(
     requires run { (r : Run) × (record_of runs.old.list serial ≡ Some r) × (r.serial ≡ serial) × HasBegun r.begin × (r.end ≡ None) }
     requires room { HasRoom 1 parts.old }
     ensures list { runs.new.list ≡ own_ended (last_place journal.now) serial cause runs.old.list }
+    ensures closed { runs.new.closed ≡ runs.old.closed }
     ensures kept { StepEnds journal.now runs.old.list serial → Going nobody journal.now runs.old.list parts.old → IsTable journal.now runs.new.list × Going nobody journal.now runs.new.list parts.new }
     ensures spare { runs.old.spare ≤ runs.new.spare }
     ensures room { (n : ℕ) → HasRoom (suc n) parts.old → HasRoom n parts.new }

@@ -9,17 +9,17 @@ use engine_entry::step_enter::enter_step;
 use engine_entry::step_wake::attend_step;
 use engine_parts::parts::Parts;
 use ha_clock::Moment;
-use ha_journal::Entry;
 use ha_sight::{Progress, WaitAsk};
-use run_modes::Runs;
 use script_step::Held;
+use segment_runs::SegmentRuns;
+use segment_view::Segment;
 use std::alloc::{AllocError, Global};
 
 /// A step was pushed. After an error the records are as before, and the parts may only be dropped.
 pub(crate) fn follow_step(
     alloc: Global,
-    journal: &[Entry],
-    runs: &mut Runs,
+    journal: &Segment<'_>,
+    runs: &mut SegmentRuns,
     parts: &mut Parts,
     progress: Progress,
     wait: Option<Held<WaitAsk>>,
@@ -28,6 +28,7 @@ pub(crate) fn follow_step(
     requires pushed { StepPushed journal.now runs.old.list parts.old progress wait due }
     ensures ok { OnOk result (Right journal.now runs.new.list × Kept journal.now runs.new.list parts.new) }
     ensures err { OnErr result (runs.new.list ≡ runs.old.list) }
+    ensures closed { runs.new.closed ≡ runs.old.closed }
 {
     let before = enter_step(parts, alloc, journal)?;
     let fired = attend_step(parts, alloc, journal, before, wait, due)?;

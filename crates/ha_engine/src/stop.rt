@@ -1,5 +1,5 @@
 //! The live runs of an automation that is turned off with stop: they go, and end.
-ghost use Rattle.std.specs.Prelude.{◌≡◌, ◌<◌, ◌≤◌, ℕ, Some, length, if◌then◌else◌};
+ghost use Rattle.std.specs.Prelude.{◌≡◌, ◌<◌, ◌≤◌, ◌^◌, ℕ, Some, length, if◌then◌else◌};
 ghost use Rattle.ha_model.specs.declared.record.EndCause.{EndCause as Cause};
 ghost use Rattle.ha_journal.specs.Journal.{Journal};
 ghost use Rattle.run_modes.specs.Table.{stopped};
@@ -9,12 +9,14 @@ ghost use Rattle.engine_parts.specs.Records.{HasRoom, IsTable};
 use crate::admit::forget_live;
 use engine_parts::parts::Parts;
 use ha_model::EndCause;
-use run_modes::Runs;
+use segment_runs::SegmentRuns;
 
 /// All live runs of an automation go, and end at an entry.
-pub(crate) fn stop_runs(runs: &mut Runs, parts: &mut Parts, automation: u32, place: u64)
+pub(crate) fn stop_runs(runs: &mut SegmentRuns, parts: &mut Parts, automation: u32, place: u64)
+    requires { place < 2 ^ 56 }
     ensures list { runs.new.list ≡ stopped (Some automation) place Cause.SwitchedOff runs.old.list }
     ensures kept { (k : Journal) → place < length k → IsTable k runs.old.list → Going nobody k runs.old.list parts.old → IsTable k runs.new.list × Going nobody k runs.new.list parts.new }
+    ensures closed { runs.new.closed ≡ runs.old.closed }
     ensures spare { runs.old.spare ≤ runs.new.spare }
     ensures room { (n : ℕ) → HasRoom n parts.old → HasRoom n parts.new }
     ensures rested { parts.new.rested ≡ parts.old.rested }
@@ -24,9 +26,17 @@ pub(crate) fn stop_runs(runs: &mut Runs, parts: &mut Parts, automation: u32, pla
 }
 
 /// The same where they are to be stopped.
-pub(crate) fn stop_if(stops: bool, runs: &mut Runs, parts: &mut Parts, automation: u32, place: u64)
+pub(crate) fn stop_if(
+    stops: bool,
+    runs: &mut SegmentRuns,
+    parts: &mut Parts,
+    automation: u32,
+    place: u64,
+)
+    requires { place < 2 ^ 56 }
     ensures list { runs.new.list ≡ (if stops then stopped (Some automation) place Cause.SwitchedOff runs.old.list else runs.old.list) }
     ensures kept { (k : Journal) → place < length k → IsTable k runs.old.list → Going nobody k runs.old.list parts.old → IsTable k runs.new.list × Going nobody k runs.new.list parts.new }
+    ensures closed { runs.new.closed ≡ runs.old.closed }
     ensures spare { runs.old.spare ≤ runs.new.spare }
     ensures room { (n : ℕ) → HasRoom n parts.old → HasRoom n parts.new }
     ensures rested { parts.new.rested ≡ parts.old.rested }

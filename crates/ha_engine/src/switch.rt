@@ -13,21 +13,20 @@ use crate::prepare::{named, prepare};
 use crate::stop::stop_if;
 use engine_entry::turn::enter_switches;
 use engine_parts::attend::attend;
-use engine_parts::last::configuration;
 use engine_parts::parts::Parts;
-use ha_journal::Entry;
 use ha_value::Word;
-use run_modes::Runs;
+use segment_runs::SegmentRuns;
+use segment_view::Segment;
 use std::alloc::{AllocError, Global};
 
 /// The number of the automation that a line names.
-fn number_of(journal: &[Entry], name: &Word) -> u32
+fn number_of(journal: &Segment<'_>, name: &Word) -> u32
     requires journal { IsJournal journal.now }
     requires sound { AreSound journal.now }
     requires named { IsTrue (has_automation journal.now name.now) }
     ensures { automation_named (automations journal.now) name.now ≡ Some result }
 {
-    match named(configuration(journal).automations.as_slice(), name) {
+    match named(journal.configuration().automations.as_slice(), name) {
         Some(automation) => automation,
         None => unreachable!(),
     }
@@ -43,8 +42,8 @@ pub(crate) fn ends_runs(on: bool, stop: bool) -> bool
 /// A line that turns the automation of this name on or off. After an error the records are as before, and the parts may only be dropped.
 pub(crate) fn follow_switch(
     alloc: Global,
-    journal: &[Entry],
-    runs: &mut Runs,
+    journal: &Segment<'_>,
+    runs: &mut SegmentRuns,
     parts: &mut Parts,
     name: &Word,
     on: bool,
@@ -53,14 +52,15 @@ pub(crate) fn follow_switch(
     requires { PushedAs (cmd.Cmd.Switch name.now on stop) journal.now runs.old.list parts.old }
     ensures ok { OnOk result (Right journal.now runs.new.list × Kept journal.now runs.new.list parts.new) }
     ensures err { OnErr result (runs.new.list ≡ runs.old.list) }
+    ensures closed { runs.new.closed ≡ runs.old.closed }
 {
     let automation = number_of(journal, name);
     let before = enter_switches(parts, alloc, journal, &[(automation, on, stop)])?;
     let fired = attend(parts, alloc, journal, before)?;
-    let stack = prepare(alloc, journal, parts, fired)?;
+    let stack = prepare(alloc, &*journal, parts, fired)?;
     make_room(runs, parts, stack.len())?;
     let stops = ends_runs(on, stop);
-    stop_if(stops, runs, parts, automation, journal.len() as u64 - 1);
+    stop_if(stops, runs, parts, automation, journal.place());
     settle(alloc, journal, runs, parts, stack);
     Ok(())
 }

@@ -258,6 +258,6 @@ passing-none j x none = passing-last j x ∙ (λ i. filter (λ y. passes (more j
 -- LAW: an attempt of an automation without conditions passes
 pub passes-untested : (j : Journal) (p : ℕ) (x : Attempt) (a : Automation) → slice_get (automations j) x.automation ≡ Some a → a.tests ≡ [] → passes j p x ≡ true
 passes-untested j p x a at untested =
-    (λ i. x.skip || option_map_or (λ b. hold_all (sight j (suc p)) b.tests x.env) (at i) false)
+    (λ i. option_map_or (λ b. x.skip || hold_all (sight j (suc p)) b.tests x.env) (at i) false)
     ∙ (λ i. x.skip || hold_all (sight j (suc p)) (untested i) x.env)
     ∙ or-true x.skip

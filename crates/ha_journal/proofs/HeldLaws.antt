@@ -11,7 +11,7 @@ use Rattle.ha_config.specs.declared.config.Trigger.{Trigger}
 use Rattle.ha_config.specs.declared.config.TriggerRule.{TriggerRule}
 use Rattle.ha_journal.specs.declared.entry.Entry.{Entry}
 use Rattle.ha_config.specs.Words.{Text, same, first_pair, longest_end, last_of, or_else}
-use Rattle.ha_journal.specs.Entries.{opens_segment, is_moment}
+use Rattle.ha_journal.specs.Entries.{is_boot, opens_segment, is_moment}
 use Rattle.ha_config.specs.Equal.{same_flag}
 use Rattle.ha_config.specs.Numbers.{in_bounds}
 use Rattle.ha_journal.specs.Journal.{Journal, more}
@@ -19,7 +19,7 @@ use Rattle.ha_sight.specs.Templates.{rendered, says}
 use Rattle.ha_sight.specs.Rules.{same_optional, starts}
 use Rattle.ha_journal.specs.Moves.{report_number, latest_number, after, before, rule_moves, moves}
 use Rattle.ha_journal.specs.Holds.{same_watched, between, fires}
-use Rattle.ha_config.proofs.EqualLemmas.{and_left}
+use Rattle.ha_config.proofs.EqualLemmas.{and_left, and_right}
 use Rattle.ha_config.proofs.ListLemmas.{none-some, some-same, true-false}
 use Rattle.ha_journal.proofs.StateLemmas.{longest_end-ends, longest_end-keeps, last_of-snoc}
 
@@ -106,12 +106,12 @@ module _ (j : Journal) where
   pub moved-still : (t : Trigger) (e : Option EntityId) (i q : ℕ) → moves j t e i ≡ true → same_watched j t.rule e i q ≡ still_watched t.rule e i q
   moved-still t e i q h = by (slice_get j i) refl h
     where
-      entry : (x : Entry) → slice_get j i ≡ Some x → (b : Bool) → opens_segment x ≡ b → (if b then starts t.rule && is_none e else rule_moves j t.rule (is_some t.hold) e i x) ≡ true
+      entry : (x : Entry) → slice_get j i ≡ Some x → (b : Bool) → opens_segment x ≡ b → (if b then is_boot x && starts t.rule && is_none e else rule_moves j t.rule (is_some t.hold) e i x) ≡ true
           → same_watched j t.rule e i q ≡ still_watched t.rule e i q
-      entry x at true opens h = no-start t.rule e i q (and_left (starts t.rule) (is_none e) h)
+      entry x at true opens h = no-start t.rule e i q (and_right (is_boot x) (starts t.rule) (and_left (is_boot x && starts t.rule) (is_none e) h))
       entry x at false opens h = still-of t.rule (is_some t.hold) e i q x at opens h
 
-      by : (o : Option Entry) → slice_get j i ≡ o → option_map_or (λ x. if opens_segment x then starts t.rule && is_none e else rule_moves j t.rule (is_some t.hold) e i x) o false ≡ true
+      by : (o : Option Entry) → slice_get j i ≡ o → option_map_or (λ x. if opens_segment x then is_boot x && starts t.rule && is_none e else rule_moves j t.rule (is_some t.hold) e i x) o false ≡ true
           → same_watched j t.rule e i q ≡ still_watched t.rule e i q
       by None at h = absurd (true-false (sym h))
       by (Some x) at h = entry x at (opens_segment x) refl h

@@ -49,9 +49,9 @@ module _ (j : Journal) (p : ℕ) where
   abbrev pub attempts : List Attempt
   attempts = option_map_or attempts_of (slice_get j p) []
 
-  -- the automation's conditions all hold after the entry, or are skipped
+  -- there is such an automation, and its conditions all hold after the entry or are skipped
   abbrev pub passes : Attempt → Bool
-  passes x = x.skip || option_map_or (λ a. hold_all (sight j (suc p)) a.tests x.env) (unit_of (automations j) x.automation) false
+  passes x = option_map_or (λ a. x.skip || hold_all (sight j (suc p)) a.tests x.env) (unit_of (automations j) x.automation) false
 
 -- the attempts of the last entry that pass, each with its order there
 abbrev pub passing : Journal → List (ℕ × Attempt)

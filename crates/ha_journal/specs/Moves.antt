@@ -7,7 +7,7 @@ use Rattle.ha_value.specs.declared.value.Num.{Num}
 use Rattle.ha_config.specs.declared.config.Trigger.{Trigger}
 use Rattle.ha_config.specs.declared.config.TriggerRule.{TriggerRule}
 use Rattle.ha_journal.specs.declared.entry.Entry.{Entry}
-use Rattle.ha_journal.specs.Entries.{report_in, event_in, is_moment, opens_segment}
+use Rattle.ha_journal.specs.Entries.{report_in, event_in, is_boot, is_moment, opens_segment}
 use Rattle.ha_config.specs.Words.{Text, same_entity, longest_end, last_of, one_of}
 use Rattle.ha_config.specs.Numbers.{in_bounds}
 use Rattle.ha_journal.specs.Journal.{Journal, zone_of, now}
@@ -62,9 +62,9 @@ module _ (j : Journal) where
   abbrev pub rule_moves : TriggerRule → Bool → Option EntityId → ℕ → Entry → Bool
   rule_moves rule held e p x = looks (before p) (after p) (take p j) rule held e x
 
-  -- trigger t, without its `for`, holds at place p
+  -- trigger t, without its `for`, moves at place p: at a Boot start triggers alone, at a Restart none, elsewhere those whose rule moves
   abbrev pub moves : Trigger → Option EntityId → ℕ → Bool
   moves t e p = option_map_or at (slice_get j p) false
     where
       at : Entry → Bool
-      at x = if opens_segment x then starts t.rule && is_none e else rule_moves t.rule (is_some t.hold) e p x
+      at x = if opens_segment x then is_boot x && starts t.rule && is_none e else rule_moves t.rule (is_some t.hold) e p x

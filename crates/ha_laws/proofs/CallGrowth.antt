@@ -42,7 +42,7 @@ line_for before s call a n = call_line (name_of (automations before) a) n (suc (
 text_for : Journal → Stepped → Called → Option Record → Text
 text_for before s call o = option_map_or (λ r. call_line (name_of (automations before) r.automation) r.number (suc (calls_of before s.serial)) call) o []
 
-step-same : (before : Journal) (s : Stepped) (call : Called) (rs rs' : Records) (r : Record) → SameNumbers rs rs' → slice_get rs (s.serial - 1) ≡ Some r
+pub step-same : (before : Journal) (s : Stepped) (call : Called) (rs rs' : Records) (r : Record) → SameNumbers rs rs' → slice_get rs (s.serial - 1) ≡ Some r
     → call_of_step rs before s call ≡ call_of_step rs' before s call
 unfolding line_for text_for
 step-same before s call rs rs' r same e =

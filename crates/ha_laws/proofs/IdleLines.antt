@@ -15,7 +15,7 @@ use Rattle.ha_journal.specs.declared.entry.Entry.TheVariants.{Line}
 use Rattle.ha_model.specs.declared.record.Record.{Record}
 use Rattle.ha_config.specs.Words.{Text, same_entity, one_of, up_to, or_else}
 use Rattle.ha_config.specs.Numbers.{in_bounds}
-use Rattle.ha_journal.specs.Entries.{Reported, Asked, asked_in, Turning, turning, report_in, gone_in, event_in, is_moment, is_restart, opens_segment, step_of}
+use Rattle.ha_journal.specs.Entries.{Reported, Asked, asked_in, Turning, turning, report_in, gone_in, event_in, is_boot, is_moment, is_restart, opens_segment, step_of}
 use Rattle.ha_journal.specs.Journal.{Journal, HasEntry, automations, brings, zone_of, now, last_place, more}
 use Rattle.ha_journal.specs.Switches.{is_on}
 use Rattle.ha_journal.specs.States.{states, switches_of}
@@ -144,8 +144,8 @@ module _ (j : Journal) (x : Entry) (h : HasEntry j) (s : IsStill x) where
 
   moves-still : (t : Trigger) (e : Option EntityId) → moves k t e p ≡ false
   moves-still t e =
-      (λ i. option_map_or (λ y. if opens_segment y then starts t.rule && is_none e else rule_moves k t.rule (is_some t.hold) e p y) (get-last j x i) false)
-      ∙ (λ i. if s.opens i then starts t.rule && is_none e else rule_moves k t.rule (is_some t.hold) e p x)
+      (λ i. option_map_or (λ y. if opens_segment y then is_boot y && starts t.rule && is_none e else rule_moves k t.rule (is_some t.hold) e p y) (get-last j x i) false)
+      ∙ (λ i. if s.opens i then is_boot x && starts t.rule && is_none e else rule_moves k t.rule (is_some t.hold) e p x)
       ∙ rule-still t.rule (is_some t.hold) e
 
   abbrev with_hold : Trigger → Option ℕ → Trigger

@@ -25,7 +25,7 @@ put-by-boot boot d (Cmd.Refused code) = refl
 put-by-boot boot d Cmd.Lost = refl
 put-by-boot boot d Cmd.TooLong = refl
 
-abbrev put_behind : Entry → List Cmd → List Cmd
+abbrev pub put_behind : Entry → List Cmd → List Cmd
 put_behind boot cs = map {A = Cmd} {B = Cmd} (put_as (boot ∷ [])) cs
 
 abbrev StandFor : List Placed → List Cmd → Type 0
@@ -50,7 +50,7 @@ lines-from boot q d (Line source number cmd ∷ xs) cs h =
     by false cs rest h = rest cs h
 
 -- the commands of a source are what is put behind the Boot for those that were read
-commands-put : (boot : Entry) → IsBoot boot → (q : ℕ) (xs : Journal) (cs : List Cmd) → ArePutFrom q (boot ∷ xs) cs → cmds_of q xs ≡ put_behind boot cs
+pub commands-put : (boot : Entry) → IsBoot boot → (q : ℕ) (xs : Journal) (cs : List Cmd) → ArePutFrom q (boot ∷ xs) cs → cmds_of q xs ≡ put_behind boot cs
 commands-put (Boot text config stored start zone carry) h q xs cs put = lines-from (Boot text config stored start zone carry) q [] xs cs put
 commands-put (Again number start stored carry) h q xs cs put = absurd h
 commands-put (Line source number cmd) h q xs cs put = absurd h

@@ -9,7 +9,7 @@ use Rattle.ha_journal.specs.EntryText.{texts_after, error_text_of, error_text, t
 use Rattle.ha_model.specs.Texts.{call_text_of, call_text}
 use Rattle.ha_journal.proofs.MoreLemmas.{automations-more}
 
-append-none : {X : Type 0} (xs : List X) → xs ++ [] ≡ xs
+pub append-none : {X : Type 0} (xs : List X) → xs ++ [] ≡ xs
 append-none [] = refl
 append-none (x ∷ xs) = ap (λ l. x ∷ l) (append-none xs)
 

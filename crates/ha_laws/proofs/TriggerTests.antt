@@ -193,7 +193,7 @@ switched_off = refl
 by_call : attempts events 4 ≡ record { automation = 1; env = by_hand; skip = true } ∷ record { automation = 0; env = by_hand; skip = true } ∷ []
 by_call = refl
 
-at_restart : attempted events 5 ≡ 0 ∷ []
+at_restart : attempted events 5 ≡ []
 at_restart = refl
 
 -- ---- switches and states of automations

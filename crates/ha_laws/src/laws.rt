@@ -2,33 +2,31 @@
 //!
 //! `more j x` is the journal `j` with one more entry. The functions that keep a value for a
 //! journal, entry by entry, rest on the laws about it.
-ghost use Rattle.std.specs.Prelude.{◌≡◌, ℕ, List, [], ◌∷◌, ◌++◌, ◌||◌, Bool, true, false, None, Some, length, max, codes, if◌then◌else◌};
+ghost use Rattle.std.specs.Prelude.{◌≡◌, ◌<◌, ℕ, List, [], ◌∷◌, ◌++◌, ◌||◌, true, false, None, Some, MatchOption, length, max, codes, slice_get, if◌then◌else◌};
 ghost use Rattle.ha_value.specs.Ids.{entity_text};
 ghost use Rattle.ha_value.specs.declared.value.EntityId.{EntityId};
 ghost use Rattle.ha_config.specs.declared.command.Cmd as cmd;
 ghost use Rattle.ha_config.specs.declared.command.Cmd.{Cmd};
 ghost use Rattle.ha_journal.specs.declared.entry.Entry.{Entry};
-ghost use Rattle.ha_journal.specs.declared.entry.Entry.TheVariants.{Line, Step};
+ghost use Rattle.ha_journal.specs.declared.entry.Entry.TheVariants.{Line};
 ghost use Rattle.ha_sight.specs.declared.item.Item.{Item};
 ghost use Rattle.ha_model.specs.declared.record.Record.{Record};
 ghost use Rattle.ha_config.specs.Words.{Text, Pairs, EachAfter, same_entity};
-ghost use Rattle.ha_journal.specs.Entries.{report_in, gone_in, is_restart, BeginsSegment};
+ghost use Rattle.ha_journal.specs.Entries.{report_in, gone_in, is_restart};
 ghost use Rattle.ha_journal.specs.Journal.{Journal, HasEntry, automations, brings, now as now_lem, more};
 ghost use Rattle.ha_journal.specs.Switches.{is_on, on_after};
 ghost use Rattle.ha_journal.specs.States.{reported};
 ghost use Rattle.ha_sight.specs.StateStep.{next_object};
-ghost use Rattle.ha_sight.specs.Scripts.{Branch, Status, whole};
+ghost use Rattle.ha_sight.specs.Scripts.{Status, whole};
 ghost use Rattle.ha_model.specs.Records.{Records, actions_of, records_of, ran_on, spots};
 ghost use Rattle.ha_journal.specs.Attempts.{passing};
 ghost use Rattle.ha_model.specs.RecordSteps.{records_after};
 ghost use Rattle.ha_model.specs.RunSteps.{runs_after};
 ghost use Rattle.ha_sight.specs.Branches.{branches_of};
-ghost use Rattle.ha_laws.specs.Makers.{makers, cmds_of, OfOne};
 ghost use Rattle.ha_laws.specs.Told.{ByTheRules, AreNear};
-ghost use Rattle.ha_journal.specs.Commands.{ArePutFrom, lines_of, placed_line};
 ghost use Rattle.ha_config.specs.CheckText.{as_line};
-ghost use Rattle.ha_model.specs.Texts.{call_text, call_text_of};
-ghost use Rattle.ha_journal.specs.EntryText.{error_text, error_text_of, store_text, trace_text, trace_line};
+ghost use Rattle.ha_model.specs.Texts.{call_text};
+ghost use Rattle.ha_journal.specs.EntryText.{store_text};
 ghost use Rattle.ha_laws.specs.WorkedHall as hall;
 ghost use Rattle.ha_laws.specs.WorkedModes as modes;
 ghost use Rattle.ha_laws.specs.WorkedScripts as scripts;
@@ -40,29 +38,7 @@ ghost use Rattle.ha_laws.specs.OneCall.{IsCallable, call_made, one_call};
 ghost use Rattle.ha_laws.specs.OneRun.{AllEnded, IsBegun, SameNumbers};
 ghost use Rattle.ha_config.specs.declared.config.Mode.{Mode};
 ghost use Rattle.ha_model.specs.declared.record.EndCause.{EndCause};
-ghost use Rattle.ha_model.specs.Lawful.{Right, Lawful, Running, IsRightEntry, IsTurn, IsBusy, ready, is_quiet, is_rested, is_line_of, may_step};
-
-/// For a given first entry, given lines of each source and a given list of the makers of the
-/// entries, at most one journal with its records is lawful; and so it is where the lines are put
-/// from given commands that were read.
-pub fn one_answer()
-    ensures put { (boot : Entry) (xs ys : Journal) (rs rs' : Records) → Lawful (boot ∷ xs) rs → Lawful (boot ∷ ys) rs'
-        → makers xs ≡ makers ys → ((q : ℕ) → cmds_of q xs ≡ cmds_of q ys) → (xs ≡ ys) × (rs ≡ rs') }
-    ensures read { (boot : Entry) (xs ys : Journal) (rs rs' : Records) → Lawful (boot ∷ xs) rs → Lawful (boot ∷ ys) rs'
-        → makers xs ≡ makers ys → (read : ℕ → List Cmd) → ((q : ℕ) → ArePutFrom q (boot ∷ xs) (read q)) → ((q : ℕ) → ArePutFrom q (boot ∷ ys) (read q))
-        → (xs ≡ ys) × (rs ≡ rs') }
-{}
-
-/// With one source alone, at most one journal with that first entry and those lines is lawful and
-/// quiet; and so it is with lines that are put from given commands.
-pub fn one_source()
-    ensures put { (boot : Entry) (xs ys : Journal) (rs rs' : Records) → Lawful (boot ∷ xs) rs → Lawful (boot ∷ ys) rs'
-        → OfOne xs → OfOne ys → is_quiet rs (boot ∷ xs) ≡ true → is_quiet rs' (boot ∷ ys) ≡ true
-        → ((q : ℕ) → cmds_of q xs ≡ cmds_of q ys) → (xs ≡ ys) × (rs ≡ rs') }
-    ensures read { (boot : Entry) (xs ys : Journal) (rs rs' : Records) → Lawful (boot ∷ xs) rs → Lawful (boot ∷ ys) rs'
-        → OfOne xs → OfOne ys → is_quiet rs (boot ∷ xs) ≡ true → is_quiet rs' (boot ∷ ys) ≡ true
-        → (read : ℕ → List Cmd) → ((q : ℕ) → ArePutFrom q (boot ∷ xs) (read q)) → ((q : ℕ) → ArePutFrom q (boot ∷ ys) (read q)) → (xs ≡ ys) × (rs ≡ rs') }
-{}
+ghost use Rattle.ha_model.specs.Lawful.{Right, Lawful, IsRightEntry, ready, is_quiet, is_rested, is_line_of, may_step};
 
 /// Now after one more entry.
 pub fn now_of_one_more()
@@ -108,28 +84,6 @@ pub fn rested_of_one_more()
         → is_rested rs k (more j x) ≡ ((if is_line_of k x then false else is_rested rs k j) || is_quiet rs (more j x)) }
 {}
 
-/// A right journal stays right with one more right entry; a lawful one without closing steps
-/// stays so with a line whose turn it is and with a step of a worker that is not rested; and a
-/// lawful one stays lawful with a step of worker 0.
-pub fn one_more_is_lawful()
-    ensures right { (j : Journal) (rs : Records) (x : Entry) → Right j rs → (BeginsSegment x → ⊥) → IsRightEntry rs j x
-        → Right (more j x) (records_after j rs x) }
-    ensures running { (j : Journal) (rs : Records) (x : Entry) → Running j rs → (BeginsSegment x → ⊥) → IsRightEntry rs j x → IsTurn rs j x
-        → IsBusy rs j x → Running (more j x) (records_after j rs x) }
-    ensures closing { (j : Journal) (rs : Records) (serial : ℕ) (branch : Branch) (item : Item) → Lawful j rs
-        → IsRightEntry rs j (Step 0 serial branch item) → IsTurn rs j (Step 0 serial branch item)
-        → Lawful (more j (Step 0 serial branch item)) (records_after j rs (Step 0 serial branch item)) }
-{}
-
-/// Where a journal is right with one more entry, whose turn it is and whose worker is busy, it is
-/// lawful with the new records, if it was lawful without closing steps; and the same of a step of
-/// worker 0, be it a closing one.
-pub fn right_and_due_is_lawful()
-    ensures running { (j : Journal) (rs rs' : Records) (x : Entry) → Running j rs → Right (more j x) rs' → IsTurn rs j x → IsBusy rs j x → Running (more j x) rs' }
-    ensures closing { (j : Journal) (rs rs' : Records) (serial : ℕ) (branch : Branch) (item : Item) → Lawful j rs → Right (more j (Step 0 serial branch item)) rs'
-        → IsTurn rs j (Step 0 serial branch item) → Lawful (more j (Step 0 serial branch item)) rs' }
-{}
-
 /// The records are exactly those of the rules: the attempts that are admitted by the number of
 /// earlier records of their automation that have not ended have one, and each begins and ends as
 /// the rules say. On a right journal they are so, and no other list is, whose steps are right.
@@ -139,6 +93,11 @@ pub fn records_by_the_rules()
     ensures rules { (j : Journal) (rs : Records) → Right j rs → ByTheRules j rs }
     ensures only { (j : Journal) (rs : Records) → ByTheRules j rs → EachAfter (IsRightEntry rs) [] j → rs ≡ records_of j }
     ensures near { (j : Journal) (rs : Records) → Right j rs → AreNear j [] rs }
+{}
+
+/// Each record is of an automation of the journal: an attempt of none does not pass.
+pub fn each_record_has_an_automation()
+    ensures { (j : Journal) (n : ℕ) → MatchOption (slice_get (records_of j) n) (Unit {0}) (λ r. r.automation < length (automations j)) }
 {}
 
 /// A line that was refused, or that says that its source failed or gave too much, changes no
@@ -151,15 +110,6 @@ pub fn idle_lines_change_nothing()
 /// one none has ended.
 pub fn queued_runs_end_in_order()
     ensures { (j : Journal) (rs : Records) → Right j rs → InOrder (automations j) rs }
-{}
-
-/// The calls, the errors and the trace of a journal with one more entry, and the lines of a
-/// source.
-pub fn texts_of_one_more()
-    ensures calls { (j : Journal) (x : Entry) (rs : Records) → call_text (more j x) rs ≡ call_text j rs ++ call_text_of rs j x }
-    ensures errors { (j : Journal) (x : Entry) → error_text (more j x) ≡ error_text j ++ error_text_of x }
-    ensures trace { (j : Journal) (x : Entry) → HasEntry j → trace_text (more j x) false ≡ trace_text j false ++ trace_line (automations j) x }
-    ensures lines { (k : ℕ) (j : Journal) (x : Entry) → lines_of k (more j x) ≡ lines_of k j ++ placed_line k j x }
 {}
 
 /// Where all runs have ended, the journal is quiet; where the last one alone is live and has made no step, its own branch

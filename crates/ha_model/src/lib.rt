@@ -2,11 +2,8 @@
 #![tactic(auto)]
 
 mod copies;
-mod faults;
 mod record;
-mod traits;
 
-pub use faults::CoreFault;
 pub use ha_clock::{Moment, Span};
 pub use ha_config::{
     Action, ActionKind, Automation, Cmd, Condition, Config, Expr, Form, Match, Mode, Op, Piece,
@@ -22,4 +19,3 @@ pub use ha_value::{
     Boxed, EntityId, Many, Num, Plain, Value, Word, copy_pairs, push_text, push_value,
 };
 pub use record::{EndCause, Record};
-pub use traits::Core;

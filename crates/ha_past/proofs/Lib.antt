@@ -3,3 +3,4 @@ pub mod PastLemmas
 pub mod FiringLemmas
 pub mod HoldLaws
 pub mod EntryLaws
+pub mod RestartLemmas

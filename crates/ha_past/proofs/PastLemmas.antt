@@ -6,7 +6,7 @@ use Rattle.ha_value.specs.declared.value.EntityId.{EntityId}
 use Rattle.ha_config.specs.declared.config.Trigger.{Trigger}
 use Rattle.ha_config.specs.declared.config.TriggerRule.{TriggerRule}
 use Rattle.ha_journal.specs.declared.entry.Entry.{Entry}
-use Rattle.ha_journal.specs.Entries.{event_in, is_moment, opens_segment}
+use Rattle.ha_journal.specs.Entries.{event_in, is_boot, is_moment, opens_segment}
 use Rattle.ha_journal.specs.Journal.{Journal, HasEntry, zone_of, now, more}
 use Rattle.ha_journal.specs.States.{states, switches_of}
 use Rattle.ha_journal.specs.Moves.{sight, moves, rule_moves, looks}
@@ -42,8 +42,8 @@ module _ (j : Journal) (x : Entry) (h : HasEntry j) where
   -- LAW: an earlier place at which a trigger moves is one at which it moves
   pub moves-more : (t : Trigger) (e : Option EntityId) (n : ℕ) → n < length j → moves (more j x) t e n ≡ moves j t e n
   moves-more t e n lt =
-      (λ i. option_map_or (λ y. if opens_segment y then starts t.rule && is_none e else rule_moves (more j x) t.rule (is_some t.hold) e n y) (get-more j x n lt i) false)
-      ∙ (λ i. option_map_or (λ y. if opens_segment y then starts t.rule && is_none e else rule-more t.rule (is_some t.hold) e n y lt i) (slice_get j n) false)
+      (λ i. option_map_or (λ y. if opens_segment y then is_boot y && starts t.rule && is_none e else rule_moves (more j x) t.rule (is_some t.hold) e n y) (get-more j x n lt i) false)
+      ∙ (λ i. option_map_or (λ y. if opens_segment y then is_boot y && starts t.rule && is_none e else rule-more t.rule (is_some t.hold) e n y lt i) (slice_get j n) false)
 
   pub watched-more : (rule : TriggerRule) (e : Option EntityId) (i p : ℕ) → i < length j → p < length j → same_watched (more j x) rule e i p ≡ same_watched j rule e i p
   watched-more rule e i p one two =

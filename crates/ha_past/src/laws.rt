@@ -1,11 +1,14 @@
 //! Laws of the definitions alone. Each is a function that does nothing; its contract is the law. `more j x` is the journal `j` with one
 //! more entry.
-ghost use Rattle.std.specs.Prelude.{◌≡◌, ◌<◌, ◌≤◌, ◌-◌, ℕ, suc, Bool, true, Option, None, length, is_some, option_map, flat_map, if◌then◌else◌};
+ghost use Rattle.std.specs.Prelude.{◌≡◌, ◌<◌, ◌≤◌, ◌-◌, ℕ, suc, [], Bool, true, Option, None, length, is_some, option_map, flat_map, if◌then◌else◌};
 ghost use Rattle.std.specs.List.{enumerate_from};
 ghost use Rattle.ha_value.specs.declared.value.EntityId.{EntityId};
+ghost use Rattle.ha_config.specs.declared.command.Cmd.{Cmd};
 ghost use Rattle.ha_config.specs.declared.config.Trigger.{Trigger};
 ghost use Rattle.ha_config.specs.declared.config.TriggerRule.{TriggerRule};
 ghost use Rattle.ha_journal.specs.declared.entry.Entry.{Entry};
+ghost use Rattle.ha_journal.specs.declared.entry.Entry.TheVariants.{Line};
+ghost use Rattle.ha_journal.specs.Attempts.{attempts, passing};
 ghost use Rattle.ha_journal.specs.Entries.{opens_segment};
 ghost use Rattle.ha_journal.specs.Journal.{Journal, HasEntry, now, more};
 ghost use Rattle.ha_config.specs.Sound.{may_hold};
@@ -53,4 +56,11 @@ pub fn holds_go_on()
 /// The firings of an owner, trigger by trigger and entity by entity.
 pub fn owners_fire_by_triggers()
     ensures { (j : Journal) (p : ℕ) (o : Owner) → firings_of j p o ≡ flat_map (firings_by j p o) (enumerate_from 0 o.triggers) }
+{}
+
+/// At a Restart no trigger fires, whatever its automations ask for, so nothing is attempted there.
+pub fn a_restart_attempts_nothing()
+    ensures fires { (j : Journal) (source number : ℕ) (t : Trigger) (e : Option EntityId) (since : ℕ) → fired_from (more j (Line source number Cmd.Restart)) t e since (length j) ≡ None }
+    ensures attempts { (j : Journal) (source number : ℕ) → attempts (more j (Line source number Cmd.Restart)) (length j) ≡ [] }
+    ensures passing { (j : Journal) (source number : ℕ) → passing (more j (Line source number Cmd.Restart)) ≡ [] }
 {}

@@ -2,10 +2,10 @@
 use Rattle.std.proofs.Common.{◌≡◌, ◌∙◌, ℕ, ap, refl, sym, subst, ◌∷◌, []}
 use Rattle.std.specs.Prelude.{Ok, true}
 use Rattle.ha_config.specs.declared.config.Config.{Config}
-use Rattle.ha_model.specs.declared.faults.CoreFault.{CoreFault}
+use Rattle.ha_whole.specs.declared.faults.CoreFault.{CoreFault}
 use Rattle.ha_journal.specs.declared.entry.Entry.{Entry}
 use Rattle.ha_journal.specs.Journal.{Journal}
-use Rattle.ha_model.specs.Lawful.{Right, is_rested}
+use Rattle.ha_whole.specs.Whole.{Right, is_rested}
 use Rattle.ha_model.specs.Records.{Records}
 use Rattle.rehearsal.specs.Generated.{config_text}
 use Rattle.conf_auto.specs.Config.{config_of}

@@ -1,4 +1,4 @@
--- One entry more: a boot alone, a step, a line.
+-- One put more: a boot alone, a step, a line.
 use Rattle.std.proofs.Common.{◌≡◌, ◌+◌, ◌<◌, ◌∙◌, ℕ, Bool, true, false, cond, List, [], ◌∷◌, ◌++◌, length, Option, Some, None, count_by, ap, arith, refl, sym, subst, rules}
 use Rattle.std.specs.Prelude.{◌||◌, ◌&&◌, if◌then◌else◌}
 use Rattle.std.specs.List.{AllZip, list_any}
@@ -12,55 +12,62 @@ use Rattle.ha_sight.specs.declared.item.Item.{Item}
 use Rattle.ha_journal.specs.Commands.{ArePutFrom, Placed, has_automation, lines_of, put_as}
 use Rattle.ha_config.specs.Fair.{shuts_source}
 use Rattle.ha_journal.specs.Journal.{Journal, more}
-use Rattle.ha_model.specs.Lawful.{Right, Running, is_line_of, is_rested, pick, shuts}
+use Rattle.ha_model.specs.Lawful.{is_line_of, pick, shuts}
+use Rattle.ha_whole.specs.Whole.{Right, Running, again_of, is_rested, put}
 use Rattle.ha_model.specs.Records.{Records}
 use Rattle.ha_sight.specs.Scripts.{Branch}
 use Rattle.ha_laws.specs.Makers.{IsOfOne, OfOne}
 use Rattle.ha_laws.proofs.TextLemmas.{lines-more}
+use Rattle.whole_laws.proofs.PutLemmas.{any-put, by-way, count-put}
+use Rattle.whole_laws.proofs.TextLemmas.{lines-put}
 
 -- ---- a boot alone
 
 pub boot_runs : (rs : Records) (x : Entry) → Right (x ∷ []) rs → Running (x ∷ []) rs
 boot_runs rs (Boot text config stored start zone carry) right = record { lawful = record { right = right; turns = (tt, tt); closed = (tt, tt) }; is_open = (tt, tt) }
-boot_runs rs (Again number start stored carry) right = absurd right.journal.0
-boot_runs rs (Line source number cmd) right = absurd right.journal.0
-boot_runs rs (Step worker serial branch item) right = absurd right.journal.0
+boot_runs rs (Again number start stored carry) right = absurd right.journal.entries.0
+boot_runs rs (Line source number cmd) right = absurd right.journal.entries.0
+boot_runs rs (Step worker serial branch item) right = absurd right.journal.entries.0
 
 pub boot_alone : (rs : Records) (x : Entry) → Right (x ∷ []) rs → OfOne (x ∷ [])
 boot_alone rs (Boot text config stored start zone carry) right = (tt, tt)
-boot_alone rs (Again number start stored carry) right = absurd right.journal.0
-boot_alone rs (Line source number cmd) right = absurd right.journal.0
-boot_alone rs (Step worker serial branch item) right = absurd right.journal.0
+boot_alone rs (Again number start stored carry) right = absurd right.journal.entries.0
+boot_alone rs (Line source number cmd) right = absurd right.journal.entries.0
+boot_alone rs (Step worker serial branch item) right = absurd right.journal.entries.0
 
 pub boot_puts : (rs : Records) (x : Entry) → Right (x ∷ []) rs → ArePutFrom 0 (x ∷ []) []
 boot_puts rs (Boot text config stored start zone carry) right = tt
-boot_puts rs (Again number start stored carry) right = absurd right.journal.0
-boot_puts rs (Line source number cmd) right = absurd right.journal.0
-boot_puts rs (Step worker serial branch item) right = absurd right.journal.0
+boot_puts rs (Again number start stored carry) right = absurd right.journal.entries.0
+boot_puts rs (Line source number cmd) right = absurd right.journal.entries.0
+boot_puts rs (Step worker serial branch item) right = absurd right.journal.entries.0
 
 pub boot_number : (rs : Records) (x : Entry) → Right (x ∷ []) rs → count_by (is_line_of 0) (x ∷ []) ≡ 0
 boot_number rs (Boot text config stored start zone carry) right = refl
-boot_number rs (Again number start stored carry) right = absurd right.journal.0
-boot_number rs (Line source number cmd) right = absurd right.journal.0
-boot_number rs (Step worker serial branch item) right = absurd right.journal.0
+boot_number rs (Again number start stored carry) right = absurd right.journal.entries.0
+boot_number rs (Line source number cmd) right = absurd right.journal.entries.0
+boot_number rs (Step worker serial branch item) right = absurd right.journal.entries.0
 
 pub boot_open : (rs : Records) (x : Entry) → Right (x ∷ []) rs → list_any (shuts 0) (x ∷ []) ≡ false
 boot_open rs (Boot text config stored start zone carry) right = refl
-boot_open rs (Again number start stored carry) right = absurd right.journal.0
-boot_open rs (Line source number cmd) right = absurd right.journal.0
-boot_open rs (Step worker serial branch item) right = absurd right.journal.0
+boot_open rs (Again number start stored carry) right = absurd right.journal.entries.0
+boot_open rs (Line source number cmd) right = absurd right.journal.entries.0
+boot_open rs (Step worker serial branch item) right = absurd right.journal.entries.0
 
 pub boot_rested : (rs : Records) (x : Entry) → Right (x ∷ []) rs → is_rested rs 0 (x ∷ []) ≡ true
 boot_rested rs (Boot text config stored start zone carry) right = refl
-boot_rested rs (Again number start stored carry) right = absurd right.journal.0
-boot_rested rs (Line source number cmd) right = absurd right.journal.0
-boot_rested rs (Step worker serial branch item) right = absurd right.journal.0
+boot_rested rs (Again number start stored carry) right = absurd right.journal.entries.0
+boot_rested rs (Line source number cmd) right = absurd right.journal.entries.0
+boot_rested rs (Step worker serial branch item) right = absurd right.journal.entries.0
 
 -- ---- one entry more
 
 pub one_more : (j : Journal) (x : Entry) → OfOne j → IsOfOne x → OfOne (more j x)
 one_more [] x alone own = (own, tt)
 one_more (y ∷ j) x alone own = (alone.0, one_more j x alone.1 own)
+
+pub one_put : (j : Journal) (x : Entry) → OfOne j → IsOfOne x → OfOne (put j x)
+one_put j x alone own =
+    by-way OfOne j x (λ e. one_more j x alone own) (λ e. one_more (more j x) (again_of (more j x)) (one_more j x alone own) tt)
 
 zip-append : {A B : Type 0} (R : A → B → Type 0) (xs ys : List A) (cs ds : List B) → AllZip R xs cs → AllZip R ys ds → AllZip R (xs ++ ys) (cs ++ ds)
 zip-append R [] ys [] ds p q = q
@@ -73,14 +80,14 @@ step_puts j worker serial branch item cmds p =
     let P : List Placed → Type 0 = λ z. AllZip (λ (l : Placed) (c : Cmd). l.cmd ≡ put_as l.before c) z cmds in
     subst P (sym (lines-more 0 j (Step worker serial branch item) ∙ append-nil (lines_of 0 j))) p
 
-pub line_puts : (j : Journal) (number : ℕ) (c : Cmd) (cmds : List Cmd) → ArePutFrom 0 j cmds → ArePutFrom 0 (more j (Line 0 number (put_as j c))) (cmds ++ (c ∷ []))
+pub line_puts : (j : Journal) (number : ℕ) (c : Cmd) (cmds : List Cmd) → ArePutFrom 0 j cmds → ArePutFrom 0 (put j (Line 0 number (put_as j c))) (cmds ++ (c ∷ []))
 line_puts j number c cmds p =
     let P : List Placed → Type 0 = λ z. AllZip (λ (l : Placed) (c' : Cmd). l.cmd ≡ put_as l.before c') z (cmds ++ (c ∷ [])) in
-    subst P (sym (lines-more 0 j (Line 0 number (put_as j c))))
+    subst P (sym (lines-put 0 j (Line 0 number (put_as j c))))
     (zip-append (λ (l : Placed) (c' : Cmd). l.cmd ≡ put_as l.before c') (lines_of 0 j) (record { before = j; cmd = put_as j c } ∷ []) cmds (c ∷ []) p (refl, tt))
 
-pub line_number : (j : Journal) (number : ℕ) (c : Cmd) → count_by (is_line_of 0) (more j (Line 0 number c)) ≡ count_by (is_line_of 0) j + 1
-line_number j number c = sum_by-append (λ x. cond (is_line_of 0 x) 1 0) j (Line 0 number c ∷ [])
+pub line_number : (j : Journal) (number : ℕ) (c : Cmd) → count_by (is_line_of 0) (put j (Line 0 number c)) ≡ count_by (is_line_of 0) j + 1
+line_number j number c = count-put (is_line_of 0) (λ d. refl) j (Line 0 number c)
 
 pub step_number : (j : Journal) (worker serial : ℕ) (branch : Branch) (item : Item) → count_by (is_line_of 0) (more j (Step worker serial branch item)) ≡ count_by (is_line_of 0) j
 step_number j worker serial branch item =
@@ -118,10 +125,10 @@ put_shuts j (Cmd.Refused code) = refl
 put_shuts j Cmd.Lost = refl
 put_shuts j Cmd.TooLong = refl
 
-pub line_shuts : (j : Journal) (number : ℕ) (c : Cmd) → list_any (shuts 0) (more j (Line 0 number (put_as j c))) ≡ (list_any (shuts 0) j || shuts_source c)
+pub line_shuts : (j : Journal) (number : ℕ) (c : Cmd) → list_any (shuts 0) (put j (Line 0 number (put_as j c))) ≡ (list_any (shuts 0) j || shuts_source c)
 line_shuts j number c =
-    list_any-append (shuts 0) j (Line 0 number (put_as j c) ∷ [])
-    ∙ ap (λ z. list_any (shuts 0) j || z) (or-false (shuts_source (put_as j c) && true) ∙ and-true (shuts_source (put_as j c)) ∙ put_shuts j c)
+    any-put (shuts 0) (λ d. refl) j (Line 0 number (put_as j c))
+    ∙ ap (λ z. list_any (shuts 0) j || z) (and-true (shuts_source (put_as j c)) ∙ put_shuts j c)
 
 -- what is picked stands among the pairs
 pub picked_some : (k : ℕ) (pairs : List (ℕ × Branch)) (x : ℕ × Branch) → pick k pairs ≡ Some x → 0 < length pairs

@@ -9,10 +9,10 @@ use Rattle.ha_journal.specs.declared.entry.Entry.{Entry}
 use Rattle.ha_journal.specs.declared.entry.Entry.TheVariants.{Boot, Line, Step, Again}
 use Rattle.ha_journal.specs.Commands.{ArePutFrom, Placed, placed_from, put_as}
 use Rattle.ha_journal.specs.Journal.{Journal}
-use Rattle.ha_model.specs.Lawful.{Lawful, is_quiet}
+use Rattle.ha_whole.specs.Whole.{Lawful, is_quiet}
 use Rattle.ha_model.specs.Records.{Records}
 use Rattle.ha_laws.specs.Makers.{OfOne}
-use Rattle.ha_laws.proofs.ReadLines.{one-source-read}
+use Rattle.whole_laws.proofs.ReadLemmas.{one-source-read}
 use Rattle.conf_auto.specs.Config.{config_of}
 use Rattle.rehearsal.specs.Generated.{config_text}
 use Rattle.ha_rehearse.specs.Puts.{Closing, cmds}

@@ -1,14 +1,16 @@
 -- What stands while the lines of a rehearsal are put.
-use Rattle.std.specs.Prelude.{ℕ, zero, suc, ◌≡◌, ◌≤◌, ◌<◌, ◌⊎◌, false, List, [], ◌∷◌, ◌++◌, length, count_by}
+use Rattle.std.specs.Prelude.{ℕ, zero, suc, ◌≡◌, ◌≤◌, ◌<◌, ◌⊎◌, false, List, [], ◌∷◌, ◌++◌, count_by}
 use Rattle.std.specs.List.{list_any}
-use Rattle.ha_model.specs.declared.faults.CoreFault.{CoreFault}
+use Rattle.ha_whole.specs.declared.faults.CoreFault.{CoreFault}
 use Rattle.ha_config.specs.declared.command.Cmd.{Cmd}
 use Rattle.ha_journal.specs.declared.entry.Entry.{Entry}
 use Rattle.ha_journal.specs.Commands.{ArePutFrom}
+use Rattle.ha_journal.specs.Entries.{restarts}
 use Rattle.ha_journal.specs.Journal.{Journal}
-use Rattle.ha_model.specs.Lawful.{Lawful, Running, is_line_of, is_quiet, shuts}
+use Rattle.ha_model.specs.Lawful.{is_line_of, shuts}
 use Rattle.ha_model.specs.Records.{Records}
 use Rattle.ha_laws.specs.Makers.{OfOne}
+use Rattle.ha_whole.specs.Whole.{IsFull, LacksRoom, Lawful, Running, is_quiet}
 use Rattle.flow_line.specs.Command.{cmd_of}
 use Rattle.rehearsal.specs.Generated.{line_at}
 
@@ -17,7 +19,7 @@ abbrev pub cmds : ℕ → List Cmd
 cmds zero = []
 cmds (suc n) = cmds n ++ cmd_of (line_at n) ∷ []
 
--- The journal begins with this entry. All others are of source 0 and its worker, and its lines are put from the first n commands.
+-- The journal begins with this entry. All others are of source 0 and its worker, or Agains, and its lines are put from the first n commands.
 pub record Put (boot : Entry) (n : ℕ) (j : Journal) : Type 0 where
   pub later : List Entry
   pub begins : j ≡ boot ∷ later
@@ -36,14 +38,13 @@ pub record Closing (boot : Entry) (n : ℕ) (j : Journal) (records : Records) : 
   pub lawful : Lawful j records
   pub put : Put boot n j
 
--- the journal is full, and a step is due, or one of the lines
-pub record IsFull (n most : ℕ) (j : Journal) (records : Records) : Type 0 where
-  pub full : length j ≡ 1_048_576
-  pub due : (is_quiet records j ≡ false) ⊎ (n < most)
+-- a step is due, or the next of so many lines, and there is no room for it
+abbrev pub HasNoRoom : ℕ → ℕ → Journal → Records → Type 0
+HasNoRoom n most j records = ((is_quiet records j ≡ false) × IsFull j) ⊎ ((n < most) × LacksRoom j (restarts (cmd_of (line_at n))))
 
 -- after a fault, some of so many lines stand
 pub record Failed (boot : Entry) (most : ℕ) (fault : CoreFault) (j : Journal) (records : Records) : Type 0 where
   pub n : ℕ
   pub within : n ≤ most
   pub closing : Closing boot n j records
-  pub due : fault ≡ CoreFault.Full → IsFull n most j records
+  pub due : fault ≡ CoreFault.Full → HasNoRoom n most j records

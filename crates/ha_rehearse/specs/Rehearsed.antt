@@ -5,7 +5,7 @@ use Rattle.ha_journal.specs.declared.entry.Entry.{Entry}
 use Rattle.ha_journal.specs.declared.entry.Entry.TheVariants.{Boot}
 use Rattle.ha_journal.specs.Entries.{first_carry}
 use Rattle.ha_journal.specs.Journal.{Journal}
-use Rattle.ha_model.specs.Lawful.{is_quiet}
+use Rattle.ha_whole.specs.Whole.{is_quiet}
 use Rattle.ha_model.specs.Records.{Records}
 use Rattle.ha_model.specs.Texts.{rehearse_text}
 use Rattle.rehearsal.specs.Generated.{config_text, start}
@@ -13,7 +13,7 @@ use Rattle.conf_auto.specs.Config.{config_of}
 use Rattle.ha_status.specs.declared.status.Status.{Status}
 use Rattle.ha_status.specs.StatusLine.{Text}
 use Rattle.ha_status.specs.Written.{IsWritten}
-use Rattle.ha_rehearse.specs.Puts.{Closing, IsFull}
+use Rattle.ha_rehearse.specs.Puts.{Closing, HasNoRoom}
 
 -- the boot of the generated configuration, at its start, in UTC, without stored switches
 abbrev pub boot_of : Config → Entry
@@ -31,14 +31,14 @@ pub record Rehearsed (n : ℕ) (j : Journal) (records : Records) : Type 0 where
   pub rehearses : Rehearses n j records
   pub quiet : is_quiet records j ≡ true
 
--- the journal is full, and another entry is due
+-- another entry is due, for which there is no room
 pub record RehearsedFull (most : ℕ) : Type 0 where
   pub journal : Journal
   pub records : Records
   pub n : ℕ
   pub within : n ≤ most
   pub rehearses : Rehearses n journal records
-  pub full : IsFull n most journal records
+  pub full : HasNoRoom n most journal records
 
 -- the answers of `rehearse`
 abbrev pub IsRehearseStatus : ℕ → Status → Type 0

@@ -4,13 +4,13 @@ ghost use Rattle.flow_line.specs.Command.{cmd_of};
 ghost use Rattle.ha_journal.specs.Commands.{IsFair, put_as};
 ghost use Rattle.ha_journal.specs.Journal.{Journal};
 ghost use Rattle.ha_journal.specs.declared.entry.Entry.{Entry};
-ghost use Rattle.ha_model.specs.Lawful.{Lawful, Running, is_quiet, is_rested};
+ghost use Rattle.ha_whole.specs.Whole.{Lawful, Running, is_quiet, is_rested};
 ghost use Rattle.rehearsal.specs.Generated.{line_at, line_text};
 ghost use Rattle.ha_rehearse.specs.Puts.{Closing, Failed, On};
 
 use flow_line::read_cmd;
 use ha_config::Cmd;
-use ha_model::{Core, CoreFault};
+use ha_whole::{Core, CoreFault};
 use rehearsal::{next_x, rehearse_line};
 use std::alloc::Global;
 

@@ -10,7 +10,8 @@ use Rattle.ha_config.specs.Words.{EachAfter}
 use Rattle.ha_config.specs.Fair.{shuts_source}
 use Rattle.ha_journal.specs.Journal.{Journal}
 use Rattle.ha_model.specs.Records.{Records}
-use Rattle.ha_model.specs.Lawful.{IsTurn, is_line_of, shuts}
+use Rattle.ha_model.specs.Lawful.{is_line_of, shuts}
+use Rattle.ha_whole.specs.Whole.{IsTurn}
 use Rattle.ha_config.proofs.ListLemmas.{append-nil, none-some, some-same}
 use Rattle.ha_replay.specs.Steps.{line_by}
 
@@ -101,7 +102,7 @@ each-at P before [] a d lt h = absurd (nothing-less a lt)
 each-at P before (x ∷ xs) zero d lt h = subst (λ l. P l x) (sym (append-nil before)) h.0
 each-at P before (x ∷ xs) (suc a) d lt h = subst (λ l. P l (get_or xs a d)) (append_assoc before (x ∷ []) (take a xs)) (each-at P (before ++ (x ∷ [])) xs a d (omega (arith, lt)) h.1)
 
-parts-at : {X : Type 0} (xs : List X) (a : ℕ) (d : X) → a < length xs → take a xs ++ (get_or xs a d ∷ drop (suc a) xs) ≡ xs
+pub parts-at : {X : Type 0} (xs : List X) (a : ℕ) (d : X) → a < length xs → take a xs ++ (get_or xs a d ∷ drop (suc a) xs) ≡ xs
 parts-at [] a d lt = absurd (nothing-less a lt)
   where
     nothing-less : (a : ℕ) → a < 0 → ⊥
@@ -131,6 +132,10 @@ none-before k j a b d lt e none rest =
       count = ap (count_by (is_line_of k)) split ∙ count-other (is_line_of k) (get_or j a d) (drop (suc a) j) own.is_none ∙ (λ i. count_by (is_line_of k) (drop (sym e i) j)) ∙ rest.count;
       opens = ap (list_any (shuts k)) split ∙ (λ i. own.opens i || list_any (shuts k) (drop (suc a) j)) ∙ (λ i. list_any (shuts k) (drop (sym e i) j)) ∙ rest.opens;
     }
+
+-- where none stands from the first place on, the source has no line
+pub none-at-all : (k : ℕ) (j : Journal) (a : ℕ) → a ≡ 0 → NoneFrom k a j → (0 ≡ count_by (is_line_of k) j) × (list_any (shuts k) j ≡ false)
+none-at-all k j a e h = (sym h.count ∙ (λ i. count_by (is_line_of k) (drop (e i) j)), (λ i. list_any (shuts k) (drop (sym e i) j)) ∙ h.opens)
 
 -- LAW: the last line of the source tells what the whole journal says of it
 pub said-at : (rs : Records) (k n : ℕ) (shut : Bool) (j : Journal) (a b : ℕ) (d : Entry) → a < length j → b ≡ suc a → EachAfter (IsTurn rs) [] j → line_by k (get_or j a d) ≡ Some (n, shut) → NoneFrom k b j

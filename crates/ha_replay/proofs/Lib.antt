@@ -1,7 +1,9 @@
 pub mod TextLemmas
 pub mod CmdLemmas
+pub mod SeamLemmas
 pub mod NextLemmas
 pub mod AnswerLemmas
 pub mod LastLemmas
+pub mod RoomLemmas
 pub mod OrderLemmas
 pub mod BootLemmas

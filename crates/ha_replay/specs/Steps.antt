@@ -2,7 +2,7 @@
 use Rattle.std.specs.Prelude.{ℕ, ◌≡◌, ◌<◌, ◌^◌, ◌⊎◌, Bool, true, false, nat_eq, count_by, ◌∷◌}
 use Rattle.std.specs.Prelude.{◌++◌, Option, None, Some, codes, decimal, if◌then◌else◌}
 use Rattle.std.specs.List.{list_any}
-use Rattle.ha_model.specs.declared.faults.CoreFault.{CoreFault}
+use Rattle.ha_whole.specs.declared.faults.CoreFault.{CoreFault}
 use Rattle.ha_config.specs.declared.command.Cmd.{Cmd}
 use Rattle.ha_journal.specs.declared.entry.Entry.{Entry}
 use Rattle.ha_journal.specs.declared.entry.Entry.TheVariants.{Boot, Line, Step, Again}
@@ -10,7 +10,8 @@ use Rattle.ha_config.specs.Words.{Text}
 use Rattle.ha_config.specs.Fair.{shuts_source}
 use Rattle.ha_journal.specs.Journal.{Journal}
 use Rattle.ha_journal.specs.Commands.{has_automation}
-use Rattle.ha_model.specs.Lawful.{is_line_of, is_quiet, is_rested, shuts}
+use Rattle.ha_model.specs.Lawful.{is_line_of, shuts}
+use Rattle.ha_whole.specs.Whole.{is_quiet, is_rested}
 use Rattle.flow_printed.specs.declared.line.PrintedLine.{PrintedLine}
 use Rattle.flow_printed.specs.Printed.{IsPrintOfLine}
 use Rattle.ha_replay.specs.declared.fault.TraceFault.{TraceFault}

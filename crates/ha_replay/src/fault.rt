@@ -7,7 +7,8 @@ pub enum TraceFault {
     /// It is not the line that may stand here.
     #[error("trace line refused")]
     Refused,
-    /// The journal has 1,048,576 entries, and it is not the end line.
+    /// The last segment or the journal is full, and it is neither the end line nor that of the Again that is due; or it is the line of the
+    /// next Restart, which has no room with its Again.
     #[error("journal full")]
     Full,
     /// Memory ran out.

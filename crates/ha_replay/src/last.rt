@@ -2,14 +2,15 @@
 ghost use Rattle.std.specs.Prelude.{◌≡◌, ◌<◌, ◌^◌, None, IfSome, count_by, false, length, true};
 ghost use Rattle.std.specs.List.{list_any};
 ghost use Rattle.ha_model.specs.Records.{Records};
-ghost use Rattle.ha_model.specs.Lawful.{Lawful, is_line_of, shuts};
+ghost use Rattle.ha_model.specs.Lawful.{is_line_of, shuts};
+ghost use Rattle.ha_whole.specs.Whole.{Lawful};
 ghost use Rattle.ha_config.specs.Words.{same};
 ghost use Rattle.ha_replay.specs.Steps.{is_named as is_named_lem, line_by as line_by_lem};
 
 use ha_config::{Automation, Cmd, same_text};
 use ha_journal::Entry;
-use ha_model::Core;
 use ha_value::Word;
+use ha_whole::Core;
 
 /// The number of the next line of a source, by its last one; none where that one shuts the source.
 pub(crate) fn next_number(journal: &[Entry], source: u32) -> Option<u64>

@@ -2,30 +2,30 @@
 //!
 //! A line of a source gives the command that is put. Of a step the line names the worker alone: the core makes the step, and the line is
 //! compared with the one that is printed of it.
-ghost use Rattle.std.specs.Prelude.{◌≡◌, ◌≢◌, ◌<◌, ◌^◌, ◌-◌, ◌++◌, ◌||◌, ◌↔◌, ℕ, codes, false, true, length, slice_get, IfOk, IfSome, OnErr, OnOk, IsTrue};
+ghost use Rattle.std.specs.Prelude.{◌≡◌, ◌<◌, ◌^◌, ◌-◌, ◌++◌, ◌||◌, ◌↔◌, ℕ, codes, false, true, length, slice_get, IfOk, IfSome, OnErr, OnOk, IsTrue};
 ghost use Rattle.ha_config.specs.Words.{Text};
+ghost use Rattle.ha_journal.specs.Entries.{restarts as restarts_lem};
 ghost use Rattle.ha_journal.specs.Journal.{Journal, automations, more};
 ghost use Rattle.ha_config.specs.CheckText.{as_line};
 ghost use Rattle.ha_journal.specs.EntryText.{trace_line as trace_line_lem};
 ghost use Rattle.ha_texts.specs.Lines.{AreDated};
 ghost use Rattle.flow_printed.specs.Printed.{IsFairButForName, IsPrintOfLine};
-ghost use Rattle.ha_replay.specs.Traces.{Answers, IsEnd, IsFrontOf, Stands, most_entries, reached};
+ghost use Rattle.ha_whole.specs.Whole.{AreEntries, ends_segment, is_rested};
+ghost use Rattle.ha_replay.specs.Traces.{Answers, IsEnd, IsFrontOf, IsUnfit, Stands, reached};
 ghost use Rattle.ha_replay.specs.Steps.{IsAllowed, IsNextLine, IsOf, IsOnlyPrint, fault_of};
-ghost use Rattle.ha_model.specs.Lawful.{is_rested};
 
 use crate::fault::TraceFault;
 use crate::last::{is_named, next_number};
+use crate::room::is_full;
 use crate::same::is_same;
 use crate::worker::worker_of;
 use flow_printed::{PrintedLine, read_line};
+use ha_config::Cmd;
 use ha_journal::Entry;
-use ha_model::{Core, CoreFault};
 use ha_texts::trace_line;
 use ha_value::Word;
+use ha_whole::{Core, CoreFault};
 use std::alloc::{AllocError, Global};
-
-/// The entries that a journal may have.
-const MOST_ENTRIES: usize = 1_048_576;
 
 /// What stands before the count in an end line.
 const END: &[u8] = b"{\"end\":";
@@ -40,6 +40,7 @@ fn may_end(line: &[u8]) -> bool
 /// Whether the line is the end line of the journal, which is quiet. One is printed only where the line begins as one.
 fn is_end<C: Core>(alloc: Global, core: &C, line: &[u8]) -> Result<bool, AllocError>
     requires usable { C.is_spent core.now ≡ false }
+    requires opened { ends_segment (C.entries core.now) ≡ false }
     ensures { IfOk result (λ found. IsTrue found ↔ IsEnd (C.entries core.now) (C.runs core.now) line.now) }
 {
     if !may_end(line) {
@@ -63,13 +64,25 @@ fn unput(fault: CoreFault) -> TraceFault
     }
 }
 
+/// What a line comes to that may not stand next: Full where the last segment or the journal is full.
+fn unfit<C: Core>(core: &C) -> TraceFault
+    requires entries { AreEntries (C.entries core.now) }
+    ensures fault { IsUnfit (C.entries core.now) result }
+    ensures size { length (C.entries core.now) < 2 ^ 64 }
+{
+    if is_full(core.journal()) {
+        TraceFault::Full
+    } else {
+        TraceFault::Refused
+    }
+}
+
 /// Whether a source's line stands next: no step closes so far, the source is rested and open, the number is its next one, and the
 /// automation that the command names, if it names one, is there.
 fn is_due<C: Core>(core: &C, line: &PrintedLine, closing: bool) -> bool
     requires usable { C.is_spent core.now ≡ false }
-    requires stands { Stands (reached (C.entries core.now) (C.runs core.now) closing) }
-    requires size { length (C.entries core.now) < 2 ^ 64 }
-    ensures { IsTrue result ↔ IsNextLine (reached (C.entries core.now) (C.runs core.now) closing) line.now }
+    requires stands { Stands (reached (C.entries core.now) (C.runs core.now) closing false) }
+    ensures { IsTrue result ↔ IsNextLine (reached (C.entries core.now) (C.runs core.now) closing false) line.now }
 {
     if closing || line.source >= 16 || !core.rested(line.source) {
         return false;
@@ -80,29 +93,43 @@ fn is_due<C: Core>(core: &C, line: &PrintedLine, closing: bool) -> bool
     }
 }
 
-/// Puts the command of a source's line, where it stands next.
-fn put_source<C: Core>(core: &mut C, line: PrintedLine, closing: bool) -> Result<bool, TraceFault>
+fn is_restart(cmd: &Cmd) -> bool
+    ensures { result ≡ restarts_lem cmd.now }
+{
+    matches!(cmd, Cmd::Restart)
+}
+
+/// Puts the command of a source's line, where it stands next. Behind a Restart the line of its Again is due.
+fn put_source<C: Core>(
+    core: &mut C,
+    line: PrintedLine,
+    closing: bool,
+    again: &mut bool,
+) -> Result<bool, TraceFault>
     requires usable { C.is_spent core.old ≡ false }
-    requires stands { Stands (reached (C.entries core.old) (C.runs core.old) closing) }
-    requires size { length (C.entries core.old) < 2 ^ 64 }
+    requires stands { Stands (reached (C.entries core.old) (C.runs core.old) closing false) }
+    requires told { again.old ≡ false }
     requires fair { IsFairButForName line.cmd }
-    requires room { length (C.entries core.old) ≢ most_entries }
-    ensures answer { let before = reached (C.entries core.old) (C.runs core.old) closing in
-        let after = reached (C.entries core.new) (C.runs core.new) closing in
+    ensures answer { let before = reached (C.entries core.old) (C.runs core.old) closing false in
+        let after = reached (C.entries core.new) (C.runs core.new) closing again.new in
         (text : Text) → IsPrintOfLine text line → IsOnlyPrint text line → (IsEnd (C.entries core.old) (C.runs core.old) text → ⊥) → Answers text before after result }
     ensures usable { OnOk result (C.is_spent core.new ≡ false) }
     ensures stays { OnErr result (IsFrontOf (C.entries core.old) (C.entries core.new)) }
 {
     if !is_due(core, &line, closing) {
-        return Err(TraceFault::Refused);
+        return Err(unfit(core));
     }
     let PrintedLine {
         source,
         number,
         cmd,
     } = line;
+    let restarts = is_restart(&cmd);
     match core.put_line(source, number, cmd) {
-        Ok(()) => Ok(false),
+        Ok(()) => {
+            *again = restarts;
+            Ok(false)
+        }
         Err(fault) => Err(unput(fault)),
     }
 }
@@ -110,7 +137,7 @@ fn put_source<C: Core>(core: &mut C, line: PrintedLine, closing: bool) -> Result
 /// Whether the worker may step: one that is rested makes closing steps alone, and those are of worker 0.
 fn may_step<C: Core>(core: &C, worker: u32, closing: bool) -> bool
     requires usable { C.is_spent core.now ≡ false }
-    ensures { IsTrue result ↔ IsAllowed (reached (C.entries core.now) (C.runs core.now) closing) worker }
+    ensures { IsTrue result ↔ IsAllowed (reached (C.entries core.now) (C.runs core.now) closing false) worker }
 {
     if core.quiet() {
         return false;
@@ -154,17 +181,16 @@ fn put_worker<C: Core>(
     closing: &mut bool,
 ) -> Result<bool, TraceFault>
     requires usable { C.is_spent core.old ≡ false }
-    requires stands { Stands (reached (C.entries core.old) (C.runs core.old) closing.old) }
-    requires room { length (C.entries core.old) ≢ most_entries }
+    requires stands { Stands (reached (C.entries core.old) (C.runs core.old) closing.old false) }
     requires unended { IsEnd (C.entries core.old) (C.runs core.old) line.now → ⊥ }
     requires begins { (rest : Text) × (line.now ≡ codes "{\"worker\":" ++ rest) }
     requires whose { (k : ℕ) → k < 16 → IsOf line.now k → k ≡ worker }
-    ensures answer { Answers line.now (reached (C.entries core.old) (C.runs core.old) closing.old) (reached (C.entries core.new) (C.runs core.new) closing.new) result }
+    ensures answer { Answers line.now (reached (C.entries core.old) (C.runs core.old) closing.old false) (reached (C.entries core.new) (C.runs core.new) closing.new false) result }
     ensures usable { OnOk result (C.is_spent core.new ≡ false) }
     ensures stays { OnErr result (IsFrontOf (C.entries core.old) (C.entries core.new)) }
 {
     if !may_step(core, worker, *closing) {
-        return Err(TraceFault::Refused);
+        return Err(unfit(core));
     }
     let closed = closes(core, worker, *closing);
     match core.put_step(worker) {
@@ -181,38 +207,64 @@ fn put_worker<C: Core>(
     }
 }
 
-/// Takes a line, without its LF, as the next lawful entry, and gives false, or as the lawful end of the journal, and gives true. Refused
-/// and Full come exactly where it is neither, Full where the journal has 1,048,576 entries. After any fault the core may only be let go:
-/// it may have the step that the line was compared with. `closing` tells whether the journal has a closing step. `shown` is written over:
-/// what is compared with the line is printed in it.
+/// Takes a line as that of the Again which was put with the Restart before it.
+fn take_again<C: Core>(
+    alloc: Global,
+    shown: &mut Word,
+    core: &C,
+    line: &[u8],
+    closing: bool,
+    again: &mut bool,
+) -> Result<bool, TraceFault>
+    requires stands { Stands (reached (C.entries core.now) (C.runs core.now) closing again.old) }
+    requires due { again.old ≡ true }
+    ensures { Answers line.now (reached (C.entries core.now) (C.runs core.now) closing again.old) (reached (C.entries core.now) (C.runs core.now) closing again.new) result }
+{
+    match is_last(alloc, shown, core, line) {
+        Ok(true) => {
+            *again = false;
+            Ok(false)
+        }
+        Ok(false) => Err(unfit(core)),
+        Err(_) => Err(TraceFault::Memory),
+    }
+}
+
+/// Takes a line, without its LF, as the next lawful entry, and gives false, or as the lawful end of the journal, and gives true. Full comes
+/// exactly where there is no room for it: the last segment or the journal is full, and it is neither the end nor the Again that is due; or
+/// it is the next lawful Restart, which has no room. Refused comes exactly where there is room, and it is neither. After any fault the core
+/// may only be let go: it may have the step that the line was compared with. `closing` tells whether the journal has a closing step,
+/// `again` whether its last entry is an Again whose line is still due. `shown` is written over: what is compared with the line is printed
+/// in it.
 pub fn replay_line<C: Core>(
     alloc: Global,
     shown: &mut Word,
     core: &mut C,
     line: &[u8],
     closing: &mut bool,
+    again: &mut bool,
 ) -> Result<bool, TraceFault>
     requires usable { C.is_spent core.old ≡ false }
-    requires stands { Stands (reached (C.entries core.old) (C.runs core.old) closing.old) }
+    requires stands { Stands (reached (C.entries core.old) (C.runs core.old) closing.old again.old) }
     requires short { length line.now < 2 ^ 32 }
-    ensures answer { Answers line.now (reached (C.entries core.old) (C.runs core.old) closing.old) (reached (C.entries core.new) (C.runs core.new) closing.new) result }
+    ensures answer { Answers line.now (reached (C.entries core.old) (C.runs core.old) closing.old again.old) (reached (C.entries core.new) (C.runs core.new) closing.new again.new) result }
     ensures usable { OnOk result (C.is_spent core.new ≡ false) }
     ensures stays { OnErr result (IsFrontOf (C.entries core.old) (C.entries core.new)) }
 {
+    if *again {
+        return take_again(alloc, shown, core, line, *closing, again);
+    }
     match is_end(alloc, core, line) {
         Ok(true) => return Ok(true),
         Ok(false) => {}
         Err(_) => return Err(TraceFault::Memory),
     }
-    if core.journal().len() == MOST_ENTRIES {
-        return Err(TraceFault::Full);
-    }
     if let Some(worker) = worker_of(line) {
         return put_worker(alloc, shown, core, worker, line, closing);
     }
     match read_line(alloc, line, shown) {
-        Ok(Some(read)) => put_source(core, read, *closing),
-        Ok(None) => Err(TraceFault::Refused),
+        Ok(Some(read)) => put_source(core, read, *closing, again),
+        Ok(None) => Err(unfit(core)),
         Err(_) => Err(TraceFault::Memory),
     }
 }

@@ -11,12 +11,14 @@ use Rattle.ha_io.proofs.ToldLemmas.{Gives-nothing}
 use Rattle.ha_journal.specs.declared.entry.Entry.{Entry}
 use Rattle.ha_journal.specs.declared.entry.Entry.TheVariants.{Boot, Line, Step, Again}
 use Rattle.ha_journal.specs.Commands.{ArePutFrom}
-use Rattle.ha_journal.specs.Journal.{Journal, more}
-use Rattle.ha_model.specs.Lawful.{Lawful, Right, is_by_worker_0, is_quiet}
+use Rattle.ha_journal.specs.Entries.{restarts}
+use Rattle.ha_journal.specs.Journal.{Journal}
+use Rattle.ha_model.specs.Lawful.{is_by_worker_0}
+use Rattle.ha_whole.specs.Whole.{AreEntries, CannotRestart, IsFull, Lawful, Right, changes_store, is_quiet, put, store_text}
 use Rattle.ha_model.specs.Records.{Records}
-use Rattle.ha_journal.specs.Sights.{changes_switch}
 use Rattle.ha_model.specs.Texts.{call_text}
-use Rattle.ha_journal.specs.EntryText.{error_text, store_text, trace_text}
+use Rattle.ha_journal.specs.EntryText.{error_text, trace_text}
+use Rattle.ha_config.specs.declared.command.Cmd.{Cmd}
 use Rattle.ha_config.specs.Words.{Text}
 use Rattle.flow_line.specs.Command.{cmd_of}
 use Rattle.ha_status.specs.declared.status.Status.{Status}
@@ -28,6 +30,8 @@ use Rattle.bus_turn.specs.Shown.{BusView, texts_of}
 use Rattle.bus_turn.specs.States.{KeeperState, Outside, SinkState}
 use Rattle.bus_turn.specs.Writes.{Saves, Shows}
 use Rattle.bus_turn.proofs.GrowthLemmas.{full-cause, shows-grow, shows-rise}
+use Rattle.bus_turn.proofs.LastLemmas.{boot-put}
+use Rattle.whole_laws.proofs.PutLemmas.{first-put}
 use Rattle.bus_pass.specs.declared.hand.Origin.{Origin}
 use Rattle.bus_pass.specs.Origins.{IsStored}
 use Rattle.ha_worker.specs.declared.end.WorkerEnd.{WorkerEnd}
@@ -38,8 +42,8 @@ use Rattle.ha_worker.proofs.CourseLemmas.{whole_empty}
 use Rattle.ha_run.specs.Core.{BeginsWith, CoreRan, IsEndCut, IsEndWritten, IsPartWritten, OutCause, SameOutside, view_of, writings}
 use Rattle.ha_run.specs.Finish.{Finishes, IsStop, MayClose, StopsOrEnds, ended_status}
 use Rattle.ha_run.specs.Opened.{AreNew}
-use Rattle.ha_run.specs.Served.{AreServed, Each, Feed, IsFirst, IsOf, OwesLine}
-use Rattle.ha_run.specs.Stands.{Ran, RanSome, RanThrough, Scene, StandsAt}
+use Rattle.ha_run.specs.Served.{AreServed, Each, Feed, IsFirst, IsOf, OwesLine, OwesRestart}
+use Rattle.ha_run.specs.Stands.{Ran, RanThrough, Scene, StandsAt}
 use Rattle.ha_run.specs.Team.{AreWorked, StoodStill, Teamed, WentRound, status_of, told_by}
 use Rattle.ha_run.proofs.ServedLemmas.{all_served, all_through, new_length, told_cases, worked_later}
 use Rattle.ha_run.proofs.WrittenLemmas.{ended_same, grown_out, round_same, same_then, seen_cut, seen_whole}
@@ -55,21 +59,21 @@ begins_later boot j j' later e h = (h.0 ++ later, e ∙ ap (λ (z : Journal). z 
 
 boot_puts : (rs : Records) (x : Entry) (k : ℕ) → Right (x ∷ []) rs → ArePutFrom k (x ∷ []) []
 boot_puts rs (Boot text config stored start zone carry) k right = tt
-boot_puts rs (Again number start stored carry) k right = absurd right.journal.0
-boot_puts rs (Line source number cmd) k right = absurd right.journal.0
-boot_puts rs (Step worker serial branch item) k right = absurd right.journal.0
+boot_puts rs (Again number start stored carry) k right = absurd right.journal.entries.0
+boot_puts rs (Line source number cmd) k right = absurd right.journal.entries.0
+boot_puts rs (Step worker serial branch item) k right = absurd right.journal.entries.0
 
 boot_lawful : (rs : Records) (x : Entry) → Right (x ∷ []) rs → Lawful (x ∷ []) rs
 boot_lawful rs (Boot text config stored start zone carry) right = record { right = right; turns = (tt, tt); closed = (tt, tt) }
-boot_lawful rs (Again number start stored carry) right = absurd right.journal.0
-boot_lawful rs (Line source number cmd) right = absurd right.journal.0
-boot_lawful rs (Step worker serial branch item) right = absurd right.journal.0
+boot_lawful rs (Again number start stored carry) right = absurd right.journal.entries.0
+boot_lawful rs (Line source number cmd) right = absurd right.journal.entries.0
+boot_lawful rs (Step worker serial branch item) right = absurd right.journal.entries.0
 
 boot_named : (rs : Records) (x : Entry) (n : ℕ) → Right (x ∷ []) rs → Each (IsOf n) (x ∷ [])
 boot_named rs (Boot text config stored start zone carry) n right = (tt, tt)
-boot_named rs (Again number start stored carry) n right = absurd right.journal.0
-boot_named rs (Line source number cmd) n right = absurd right.journal.0
-boot_named rs (Step worker serial branch item) n right = absurd right.journal.0
+boot_named rs (Again number start stored carry) n right = absurd right.journal.entries.0
+boot_named rs (Line source number cmd) n right = absurd right.journal.entries.0
+boot_named rs (Step worker serial branch item) n right = absurd right.journal.entries.0
 
 -- ---- the closing steps
 
@@ -132,21 +136,32 @@ saved true text k k' fault w = by w.0.kept
     by (inr h) = inr (told_text k.kept k' text h)
 
 -- the keeper after a boot that was not written whole
-boot_store : (rs : Records) (boot : Entry) (fault : BusFault) (old new : Outside) → Shows (texts_of rs [] boot) old (Some fault) new
+boot_store : (rs : Records) (boot : Entry) (fault : BusFault) (old new : Outside) → put [] boot ≡ boot ∷ [] → Shows (texts_of rs [] boot) old (Some fault) new
     → (new.keep.kept ≡ old.keep.kept) ⊎ HoldsStore (boot ∷ []) new.keep
-boot_store rs boot fault old new (inl w) = inl (ap (λ (k : KeeperState). k.kept) w.3)
-boot_store rs boot fault old new (inr (inl w)) = inl (ap (λ (k : KeeperState). k.kept) w.3)
-boot_store rs boot fault old new (inr (inr (inl w))) = inl (ap (λ (k : KeeperState). k.kept) w.3)
-boot_store rs boot fault old new (inr (inr (inr w))) = saved (changes_switch (more [] boot)) (store_text (boot ∷ [])) old.keep new.keep fault w.3
+boot_store rs boot fault old new is (inl w) = inl (ap (λ (k : KeeperState). k.kept) w.3)
+boot_store rs boot fault old new is (inr (inl w)) = inl (ap (λ (k : KeeperState). k.kept) w.3)
+boot_store rs boot fault old new is (inr (inr (inl w))) = inl (ap (λ (k : KeeperState). k.kept) w.3)
+boot_store rs boot fault old new is (inr (inr (inr w))) =
+    let P : Journal → Type 0 = λ z. (new.keep.kept ≡ old.keep.kept) ⊎ HoldsStore z new.keep in
+    subst P is (saved (changes_store (put [] boot)) (store_text (put [] boot)) old.keep new.keep fault w.3)
+
+-- a Restart that is not put is a line that is not put
+owes_line : (feeds : List Feed) → OwesRestart feeds → OwesLine feeds
+owes_line [] h = h
+owes_line (feed ∷ feeds) (inl h) = inl (some feed.unput h)
+  where
+    some : (cmds : List Cmd) → IsSomeAnd (slice_get cmds 0) (λ c. restarts c ≡ true) → 0 < length cmds
+    some [] h = absurd h
+    some (c ∷ cs) h = omega arith
+owes_line (feed ∷ feeds) (inr h) = inr (owes_line feeds h)
 
 -- what a cut has that is not written, at the boot alone
 abbrev pub Store : Outside → BusView → Type 0
 Store old b = (c : IsCut b) → c.before ≡ [] → (b.out.keep.kept ≡ old.keep.kept) ⊎ HoldsStore b.journal b.out.keep
 
-stored_store : (old : Outside) (b : BusView) → IsStored b → Store old b
-stored_store old b stored = λ c h.
-    let one : b.journal ≡ c.last ∷ [] = c.is ∙ ap (λ (z : Journal). more z c.last) h in
-    inr (stored (ap length one))
+stored_store : (old : Outside) (b : BusView) → AreEntries b.journal → IsStored b → Store old b
+stored_store old b entries stored = λ c h.
+    inr (stored (first-put b.journal c.last (c.is ∙ ap (λ (z : Journal). put z c.last) h) entries))
 
 -- ---- what stands, by the fault that the bus keeps
 
@@ -161,12 +176,20 @@ module _ (B : List Entry → Type 0) (files : Option Files) (names : List Text) 
   abbrev Stood : Status → Type 0
   Stood = StandsAt B (scene files names b after b.out) (writings old (view_of b.journal b.records b.out))
 
-  stopped : (fault : BusFault) → Stands b (Some fault) → Store old b → Ran B (scene files names b after b.out) feeds
-      → (fault ≡ BusFault.Full → (is_quiet b.records b.journal ≡ false) ⊎ OwesLine feeds) → Stood (status_of fault)
+  abbrev Owes : Type 0
+  Owes = (IsFull b.journal × ((is_quiet b.records b.journal ≡ false) ⊎ OwesLine feeds)) ⊎ OwesRestart feeds
+
+  -- what was due had no room
+  had_no_room : Owes → IsFull b.journal ⊎ CannotRestart b.journal → (IsFull b.journal × ((is_quiet b.records b.journal ≡ false) ⊎ OwesLine feeds)) ⊎ (CannotRestart b.journal × OwesRestart feeds)
+  had_no_room (inl due) lacks = inl due
+  had_no_room (inr restart) (inl full) = inl (full, inr (owes_line feeds restart))
+  had_no_room (inr restart) (inr cannot) = inr (cannot, restart)
+
+  stopped : (fault : BusFault) → Stands b (Some fault) → Store old b → Ran B (scene files names b after b.out) feeds → (fault ≡ BusFault.Full → Owes) → Stood (status_of fault)
   stopped (BusFault.Write z) h store ran due = inl (part_written old b store h.0, record { feeds = feeds; ran = ran })
   stopped BusFault.Keep h store ran due = inr (part_written old b store h.0, record { feeds = feeds; ran = ran })
   stopped BusFault.Memory h store ran due = inr (inl (part_written old b store h, record { feeds = feeds; ran = ran }))
-  stopped BusFault.Full h store ran due = (seen_whole b h.0, record { feeds = feeds; ran = ran; full = h.1; due = due refl })
+  stopped BusFault.Full h store ran due = (seen_whole b h.0, record { feeds = feeds; ran = ran; full = had_no_room (due refl) h.1 })
 
 stop_cause : (b : BusView) (fault : BusFault) → Stands b (Some fault) → OutCause (status_of fault) b.out
 stop_cause b (BusFault.Write z) h = h.1
@@ -294,7 +317,7 @@ module _ (boot : Entry) (old : Outside) (base : BusView) (at_boot : base.journal
   -- a bus that keeps a fault is left as it is
   stop_ran : (last : BusView) (after : List SourceState) (feeds : List Feed) (fault : BusFault) (status : Status) → IsBus last → last.first ≡ Some fault → status ≡ status_of fault → Store old last
       → SameOutside old last.out → ((files : Option Files) (names : List Text) → AreNew files names before → Ran (BeginsWith boot) (scene files names last after last.out) feeds)
-      → (last.first ≡ Some BusFault.Full → (is_quiet last.records last.journal ≡ false) ⊎ OwesLine feeds) → CoreRan boot old before status last.journal last.records after last.out
+      → (last.first ≡ Some BusFault.Full → (IsFull last.journal × ((is_quiet last.records last.journal ≡ false) ⊎ OwesLine feeds)) ⊎ OwesRestart feeds) → CoreRan boot old before status last.journal last.records after last.out
   stop_ran last after feeds fault status bus is status_is store same each due =
       let stands = subst (Stands last) is bus.stands in
       let P : Status → Type 0 = λ s. CoreRan boot old before s last.journal last.records after last.out in
@@ -324,9 +347,9 @@ module _ (boot : Entry) (old : Outside) (base : BusView) (at_boot : base.journal
       → (last : BusView) → MayClose b last → StopsOrEnds (told_by 0 ends) status j rs out last → CoreRan boot old before status j rs after out
   round_ran b after ends status j rs out some r last (inl c) (inl s) =
       stop_told (told_by 0 ends) status last after j rs out s
-      (stop_ran last after r.feeds s.fault status s.bus s.is s.status_is (stored_store old last (closed_stored boot b last (begun b after ends r) c.closed r.stored))
+      (stop_ran last after r.feeds s.fault status s.bus s.is s.status_is (stored_store old last s.bus.right.journal.entries (closed_stored boot b last (begun b after ends r) c.closed r.stored))
       (same_then old b.out last.out (round_out b after ends r) (grown_out b.out last.out c.closed.grows))
-      (λ files names new. ran_closed b after ends r files names new last s.bus some c.closed) (λ full. inl (c.owes full)))
+      (λ files names new. ran_closed b after ends r files names new last s.bus some c.closed) (λ full. let o = c.owes full in inl (o.0, inl o.1)))
   round_ran b after ends status j rs out some r last (inl c) (inr e) =
       told_with status last after j rs out e.journal_is e.records_are
       (let P : Status → Type 0 = λ s. CoreRan boot old before s last.journal last.records after out in
@@ -344,7 +367,7 @@ module _ (boot : Entry) (old : Outside) (base : BusView) (at_boot : base.journal
       let P : BusView → Type 0 = λ z. IsStop (told_by 0 ends) status j rs out z in
       let t = subst P n.same s in
       stop_told (told_by 0 ends) status b after j rs out t
-      (stop_ran b after r.feeds t.fault status t.bus t.is t.status_is (stored_store old b r.stored) (round_out b after ends r) (λ files names new. ran b after ends r files names new t.bus) r.due)
+      (stop_ran b after r.feeds t.fault status t.bus t.is t.status_is (stored_store old b t.bus.right.journal.entries r.stored) (round_out b after ends r) (λ files names new. ran b after ends r files names new t.bus) r.due)
   round_ran b after ends status j rs out some r last (inr n) (inr e) = absurd (n.fault (ap (λ (z : BusView). z.first) (sym n.same) ∙ e.free))
 
   -- it did not go round
@@ -365,7 +388,7 @@ module _ (boot : Entry) (old : Outside) (base : BusView) (at_boot : base.journal
             subst P (sym same_out) (subst Q (sym one) h)
 
         by : (base.first ≡ Some fault) ⊎ ((base.first ≡ None) × (fault ≡ BusFault.Memory)) → (b.out.keep.kept ≡ old.keep.kept) ⊎ HoldsStore b.journal b.out.keep
-        by (inl h) = there (boot_store base.records boot fault old base.out (subst (λ z. Shows (texts_of base.records [] boot) old z base.out) h shown))
+        by (inl h) = there (boot_store base.records boot fault old base.out (boot-put boot base.records (subst (λ (z : Journal). Right z base.records) at_boot base_bus.right)).0 (subst (λ z. Shows (texts_of base.records [] boot) old z base.out) h shown))
         by (inr h) =
             let held : HoldsStore base.journal base.out.keep = (subst (Stands base) h.0 base_bus.stands).1.keep in
             there (inr (subst (λ z. HoldsStore z base.out.keep) at_boot held))

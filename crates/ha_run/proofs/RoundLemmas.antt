@@ -2,7 +2,7 @@
 use Rattle.std.proofs.Common.{◌≡◌, ◌∙◌, ◌≤◌, inl, true, List, [], length, map, Option, None, Some, ap, arith, refl, sym, subst}
 use Rattle.std.specs.Prelude.{All}
 use Rattle.ha_journal.specs.declared.entry.Entry.{Entry}
-use Rattle.ha_model.specs.Lawful.{Running}
+use Rattle.ha_whole.specs.Whole.{Running}
 use Rattle.ha_model.specs.Records.{Records}
 use Rattle.ha_status.specs.declared.status.Status.{Status}
 use Rattle.bus_turn.specs.Shown.{BusView, texts_of}

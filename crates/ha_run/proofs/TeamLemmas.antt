@@ -2,12 +2,13 @@
 use Rattle.std.proofs.Common.{◌≡◌, ◌⊎◌, inl, inr, ◌∙◌, ◌<◌, ◌≤◌, ◌+◌, ◌==◌, ℕ, zero, suc, Bool, true, false, cond, List, [], ◌∷◌, ◌++◌, length, map, Option, Some, None, ap, arith, refl, sym, subst}
 use Rattle.std.proofs.lemmas.Bool.{eq-eqb}
 use Rattle.std.proofs.lemmas.List.Elements.{Contains-append_cases}
-use Rattle.std.specs.Prelude.{Contains, IsSome, is_some}
+use Rattle.std.specs.Prelude.{Contains, IsSome, IsSomeAnd, is_some, slice_get}
 use Rattle.ha_config.specs.declared.command.Cmd.{Cmd}
 use Rattle.ha_journal.specs.declared.entry.Entry.{Entry}
 use Rattle.ha_journal.specs.declared.entry.Entry.TheVariants.{Boot, Line, Step, Again}
+use Rattle.ha_journal.specs.Entries.{restarts}
 use Rattle.ha_journal.specs.Journal.{Journal}
-use Rattle.ha_model.specs.Lawful.{Running, is_quiet}
+use Rattle.ha_whole.specs.Whole.{IsFull, Running, is_quiet}
 use Rattle.ha_model.specs.Records.{Records}
 use Rattle.bus_turn.specs.declared.fault.BusFault.{BusFault}
 use Rattle.bus_turn.specs.Shown.{BusView}
@@ -17,13 +18,13 @@ use Rattle.bus_pass.specs.declared.hand.Origin.{Origin}
 use Rattle.bus_pass.specs.declared.hand.Stood.{Stood}
 use Rattle.bus_pass.specs.Journal.{IsRestless, is_of, placed}
 use Rattle.bus_pass.specs.Origins.{IsStored, origin_of}
-use Rattle.bus_pass.specs.Rule.{IsList, Stands, StandsForAll, Tells, both, heard_by}
+use Rattle.bus_pass.specs.Rule.{IsList, MayLackRoom, Stands, StandsForAll, Tells, both, heard_by}
 use Rattle.ha_worker.specs.declared.end.WorkerEnd.{WorkerEnd}
 use Rattle.ha_worker.specs.Courses.{Course, SourceState}
 use Rattle.ha_worker.specs.Views.{StandsFor, list_of}
 use Rattle.ha_worker.specs.Worked.{EndsAs}
 use Rattle.ha_worker.proofs.ListLemmas.{list_puts}
-use Rattle.ha_run.specs.Served.{Each, Feed, IsOf, OneOf, OwesLine}
+use Rattle.ha_run.specs.Served.{Each, Feed, IsOf, OneOf, OwesLine, OwesRestart}
 use Rattle.ha_run.specs.Team.{AreDone, AreWorked, IsLead, IsOver, Seat, WentRound, joined}
 
 -- ---- what stays of the first pass
@@ -161,13 +162,23 @@ joined_due (s ∷ seats) v d h = by (joined_due seats (both v s.hand) d h)
     by (inl c) = here (Contains-append_cases v.dues s.hand.dues d c)
     by (inr c) = inr (inr c)
 
-owes : (before : List SourceState) (seats : List Seat) (k : ℕ) (d : ℕ × Cmd) → (h : AreDone k before seats) → OneOf (λ (s : Seat). Contains s.hand.dues d) seats → OwesLine (feeds_of k before seats h)
-owes [] [] k d h c = c
-owes [] (t ∷ seats) k d h c = absurd h
-owes (s ∷ before) [] k d h c = absurd h
-owes (s ∷ before) (t ∷ seats) k d h (inl c) =
-    let u = (h.0.worked.due d c).1 in inl (omega (arith, ap length u.1))
-owes (s ∷ before) (t ∷ seats) k d h (inr c) = inr (owes before seats (suc k) d h.1 c)
+-- the command that a pass noted is the first of a source that is not put
+module _ (d : ℕ × Cmd) (P : Feed → Type 0) (first : (course : Course) (unput rest : List Cmd) → unput ≡ d.1 ∷ rest → P (record { course = course; unput = unput })) where
+  owes : (before : List SourceState) (seats : List Seat) (k : ℕ) → (h : AreDone k before seats) → OneOf (λ (s : Seat). Contains s.hand.dues d) seats → OneOf P (feeds_of k before seats h)
+  owes [] [] k h c = c
+  owes [] (t ∷ seats) k h c = absurd h
+  owes (s ∷ before) [] k h c = absurd h
+  owes (s ∷ before) (t ∷ seats) k h (inl c) =
+      let u = (h.0.worked.due d c).1 in inl (first h.0.worked.course h.0.worked.unput u.0 u.1)
+  owes (s ∷ before) (t ∷ seats) k h (inr c) = inr (owes before seats (suc k) h.1 c)
+
+owes_line : (d : ℕ × Cmd) (before : List SourceState) (seats : List Seat) (h : AreDone 0 before seats) → OneOf (λ (s : Seat). Contains s.hand.dues d) seats → OwesLine (feeds_of 0 before seats h)
+owes_line d before seats h c = owes d (λ (feed : Feed). 0 < length feed.unput) (λ course unput rest e. omega (arith, ap length e)) before seats 0 h c
+
+owes_restart : (d : ℕ × Cmd) (before : List SourceState) (seats : List Seat) (h : AreDone 0 before seats) → restarts d.1 ≡ true → OneOf (λ (s : Seat). Contains s.hand.dues d) seats → OwesRestart (feeds_of 0 before seats h)
+owes_restart d before seats h restart c =
+    owes d (λ (feed : Feed). IsSomeAnd (slice_get feed.unput 0) (λ c. restarts c ≡ true))
+    (λ course unput rest e. subst (λ (z : List Cmd). IsSomeAnd (slice_get z 0) (λ c. restarts c ≡ true)) (sym e) restart) before seats 0 h c
 
 none_due : (v : Hand) (d : ℕ × Cmd) → v.dues ≡ [] → Contains v.dues d → ⊥
 none_due v d e c = omega (arith, ap length e, c.1)
@@ -211,13 +222,20 @@ named_of n (x ∷ xs) at h = (
 
 module _ (base b : BusView) (before : List SourceState) (seats : List Seat) (v : Hand) (lead : IsLead (length before) (origin_of base) v) (d : AreDone 0 before seats)
     (tells : Tells IsRestless (joined v seats) b.journal b.first (origin_of b)) (running : Running b.journal b.records) (stored : IsStored b) where
-  due_then : IsRestless b.journal ⊎ ((c : ℕ × Cmd) × (c.0 < (joined v seats).made) × Contains (joined v seats).dues c) → (is_quiet b.records b.journal ≡ false) ⊎ OwesLine (feeds_of 0 before seats d)
-  due_then (inl h) = inl (let P : Records → Type 0 = λ z. is_quiet z b.journal ≡ false in subst P (sym running.lawful.right.records_are) h)
+  abbrev Owes : Type 0
+  Owes = (IsFull b.journal × ((is_quiet b.records b.journal ≡ false) ⊎ OwesLine (feeds_of 0 before seats d))) ⊎ OwesRestart (feeds_of 0 before seats d)
+
+  due_then : (IsFull b.journal × IsRestless b.journal) ⊎ ((c : ℕ × Cmd) × (c.0 < (joined v seats).made) × Contains (joined v seats).dues c × MayLackRoom b.journal c.1) → Owes
+  due_then (inl h) = inl (h.0, inl (let P : Records → Type 0 = λ z. is_quiet z b.journal ≡ false in subst P (sym running.lawful.right.records_are) h.1))
   due_then (inr h) = by (joined_due seats v h.0 h.2)
     where
-      by : Contains v.dues h.0 ⊎ OneOf (λ (s : Seat). Contains s.hand.dues h.0) seats → (is_quiet b.records b.journal ≡ false) ⊎ OwesLine (feeds_of 0 before seats d)
+      lacks : OneOf (λ (s : Seat). Contains s.hand.dues h.0) seats → MayLackRoom b.journal h.0.1 → Owes
+      lacks c (inl full) = inl (full, inr (owes_line h.0 before seats d c))
+      lacks c (inr restart) = inr (owes_restart h.0 before seats d restart c)
+
+      by : Contains v.dues h.0 ⊎ OneOf (λ (s : Seat). Contains s.hand.dues h.0) seats → Owes
       by (inl c) = absurd (none_due v h.0 lead.undue c)
-      by (inr c) = inr (owes before seats 0 h.0 d c)
+      by (inr c) = lacks c h.3
 
   pub went_round : WentRound base b before (map (λ (s : Seat). s.source) seats) (map (λ (s : Seat). s.end) seats)
   went_round = record {

@@ -1,5 +1,5 @@
 -- What stands where the status line is written, or memory ran out last.
-use Rattle.std.proofs.Common.{◌⊎◌, inl, inr, sym, subst, List, Some, None}
+use Rattle.std.proofs.Common.{inl, inr, sym, subst, List, Some, None}
 use Rattle.ha_journal.specs.declared.entry.Entry.{Entry}
 use Rattle.ha_status.specs.declared.status.Status.{Status}
 use Rattle.ha_run.specs.Served.{AreOpened, Feed}
@@ -21,7 +21,7 @@ module _ (B B' : List Entry → Type 0) (s : Scene) (begins : B s.journal → B'
   some_in r = record { feeds = r.feeds; ran = ran_in r.feeds r.ran }
 
   full_in : RanFull B s → RanFull B' s
-  full_in r = record { feeds = r.feeds; ran = ran_in r.feeds r.ran; full = r.full; due = r.due }
+  full_in r = record { feeds = r.feeds; ran = ran_in r.feeds r.ran; full = r.full }
 
   short_in : IsCutShort B s w → IsCutShort B' s w'
   short_in (inl h) = inl (part h.0, some_in h.1)

@@ -1,7 +1,7 @@
 -- How a run ends, once the bus has gone round. (Stages of the code, no part of what it promises.)
 use Rattle.std.specs.Prelude.{◌≡◌, ◌⊎◌, true, false, List, Option, None, Some}
 use Rattle.ha_journal.specs.declared.entry.Entry.{Entry}
-use Rattle.ha_model.specs.Lawful.{is_quiet}
+use Rattle.ha_whole.specs.Whole.{IsFull, is_quiet}
 use Rattle.ha_model.specs.Records.{Records}
 use Rattle.ha_status.specs.declared.status.Status.{Status}
 use Rattle.bus_turn.specs.declared.fault.BusFault.{BusFault}
@@ -47,7 +47,7 @@ module _ (told status : Status) (journal : List Entry) (records : Records) (out 
 pub record DidClose (old new : BusView) : Type 0 where
   pub free : old.first ≡ None
   pub closed : Closed old new
-  pub owes : new.first ≡ Some BusFault.Full → is_quiet new.records new.journal ≡ false
+  pub owes : new.first ≡ Some BusFault.Full → IsFull new.journal × (is_quiet new.records new.journal ≡ false)
   pub quiet : new.first ≡ None → is_quiet new.records new.journal ≡ true
 
 pub record DidNot (old new : BusView) : Type 0 where

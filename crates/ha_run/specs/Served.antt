@@ -1,9 +1,10 @@
 -- What becomes of the sources of a run, and of their lines.
-use Rattle.std.specs.Prelude.{ℕ, zero, suc, ◌≡◌, ◌≢◌, ◌<◌, ◌≤◌, ◌⊎◌, List, [], ◌∷◌, ◌++◌, length, Option, Some, IfSome, IsSomeAnd}
+use Rattle.std.specs.Prelude.{ℕ, zero, suc, ◌≡◌, ◌≢◌, ◌<◌, ◌≤◌, ◌⊎◌, true, List, [], ◌∷◌, ◌++◌, length, Option, Some, IfSome, IsSomeAnd, slice_get}
 use Rattle.ha_config.specs.declared.command.Cmd.{Cmd}
 use Rattle.ha_journal.specs.declared.entry.Entry.{Entry}
 use Rattle.ha_journal.specs.declared.entry.Entry.TheVariants.{Boot, Line, Step, Again}
 use Rattle.ha_journal.specs.Commands.{ArePutFrom}
+use Rattle.ha_journal.specs.Entries.{restarts}
 use Rattle.ha_config.specs.Words.{Text}
 use Rattle.ha_status.specs.Files.{Files}
 use Rattle.ha_worker.specs.Courses.{Course, SourceState, cmds_by, most_bytes}
@@ -51,7 +52,7 @@ AreServed files journal k (name ∷ names) (source ∷ sources) (feed ∷ feeds)
     IsServed files journal k name source feed × AreServed files journal (suc k) names sources feeds
 AreServed files journal k names sources feeds = ⊥
 
--- each entry is of one of the first n sources, or of its worker
+-- each entry is of one of the first n sources, or of its worker; a Boot and an Again are of none
 abbrev pub IsOf : ℕ → Entry → Type 0
 IsOf n (Boot text config stored start zone carry) = Unit {0}
 IsOf n (Again number start stored carry) = Unit {0}
@@ -77,6 +78,10 @@ IsFirst course (suc k) (feed ∷ feeds) = IsEnded feed × IsFirst course k feeds
 -- a command of one of them is not put
 abbrev pub OwesLine : List Feed → Type 0
 OwesLine feeds = OneOf (λ (feed : Feed). 0 < length feed.unput) feeds
+
+-- the first command of one of them that is not put is a Restart
+abbrev pub OwesRestart : List Feed → Type 0
+OwesRestart feeds = OneOf (λ (feed : Feed). IsSomeAnd (slice_get feed.unput 0) (λ c. restarts c ≡ true)) feeds
 
 -- the sources that were opened are those of the first names, in order
 abbrev pub AreOpened : List Text → List SourceState → Type 0

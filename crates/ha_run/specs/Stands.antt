@@ -1,13 +1,13 @@
 -- What stands at each status of a run.
-use Rattle.std.specs.Prelude.{◌≡◌, ◌≤◌, ◌⊎◌, true, false, List, [], length, Option, Some, None}
+use Rattle.std.specs.Prelude.{◌≡◌, ◌⊎◌, true, false, List, [], length, Option, Some, None}
 use Rattle.ha_journal.specs.declared.entry.Entry.{Entry}
-use Rattle.ha_model.specs.Lawful.{Lawful, is_quiet}
+use Rattle.ha_whole.specs.Whole.{CannotRestart, IsFull, IsWithin, Lawful, is_quiet}
 use Rattle.ha_model.specs.Records.{Records}
 use Rattle.ha_config.specs.Words.{Text}
 use Rattle.ha_status.specs.declared.status.Status.{Status}
 use Rattle.ha_status.specs.Files.{Files}
 use Rattle.ha_worker.specs.Courses.{Course, SourceState}
-use Rattle.ha_run.specs.Served.{AreOpened, AreServed, Each, Feed, IsEnded, IsFirst, IsOf, IsThrough, OwesLine}
+use Rattle.ha_run.specs.Served.{AreOpened, AreServed, Each, Feed, IsEnded, IsFirst, IsOf, IsThrough, OwesLine, OwesRestart}
 
 -- what a run leaves of its journal and its sources; the names are those of its words, and the files those of its place, where they are told
 pub record Scene : Type 0 where
@@ -19,12 +19,12 @@ pub record Scene : Type 0 where
 
 -- the journal begins as it must
 module _ (Begins : List Entry → Type 0) where
-  -- The journal is lawful with its records and within its bound, and each entry is of a source that was named. The lines of each source
+  -- The journal is lawful with its records and within its bounds, and each entry is of a source that was named. The lines of each source
   -- are put from the commands of the bytes that were read of it.
   pub record Ran (s : Scene) (feeds : List Feed) : Type 0 where
     pub begins : Begins s.journal
     pub lawful : Lawful s.journal s.records
-    pub room : length s.journal ≤ 1_048_576
+    pub room : IsWithin s.journal
     pub named : Each (IsOf (length s.names)) s.journal
     pub served : AreServed s.files s.journal 0 s.names s.sources feeds
 
@@ -34,12 +34,12 @@ module _ (Begins : List Entry → Type 0) where
     pub through : Each IsThrough feeds
     pub quiet : is_quiet s.records s.journal ≡ true
 
-  -- the journal is full, and another entry was due: a line, that a source was lost or is too long, or a step
+  -- an entry was due that had no room: the last segment or the journal is full, and a step or a line was due, or that a source was lost or
+  -- is too long; or a Restart was due for which, with its Again, there is no room
   pub record RanFull (s : Scene) : Type 0 where
     pub feeds : List Feed
     pub ran : Ran s feeds
-    pub full : length s.journal ≡ 1_048_576
-    pub due : (is_quiet s.records s.journal ≡ false) ⊎ OwesLine feeds
+    pub full : (IsFull s.journal × ((is_quiet s.records s.journal ≡ false) ⊎ OwesLine feeds)) ⊎ (CannotRestart s.journal × OwesRestart feeds)
 
   -- the run was cut: all is as far as it came
   pub record RanSome (s : Scene) : Type 0 where

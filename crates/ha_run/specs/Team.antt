@@ -4,7 +4,7 @@ use Rattle.crossbeam_channel.specs.Claims.{view}
 use Rattle.ha_config.specs.declared.command.Cmd.{Cmd}
 use Rattle.ha_journal.specs.Commands.{ArePutFrom}
 use Rattle.ha_journal.specs.Journal.{Journal}
-use Rattle.ha_model.specs.Lawful.{Running, is_quiet}
+use Rattle.ha_whole.specs.Whole.{IsFull, Running, is_quiet}
 use Rattle.ha_config.specs.Words.{Text}
 use Rattle.ha_status.specs.declared.status.Status.{Status}
 use Rattle.bus_turn.specs.declared.fault.BusFault.{BusFault}
@@ -18,7 +18,7 @@ use Rattle.ha_worker.specs.declared.worker.Worker.{Worker}
 use Rattle.ha_worker.specs.Courses.{Course, HasGiven, SourceState, cmds_by}
 use Rattle.ha_worker.specs.Views.{IsFresh}
 use Rattle.ha_worker.specs.Worked.{Worked}
-use Rattle.ha_run.specs.Served.{Each, Feed, IsOf, OwesLine}
+use Rattle.ha_run.specs.Served.{Each, Feed, IsOf, OwesLine, OwesRestart}
 
 -- ---- the status
 
@@ -147,7 +147,8 @@ pub record WentRound (base b : BusView) (before after : List SourceState) (ends 
   pub running : Running b.journal b.records
   pub same : origin_of b ≡ origin_of base
   pub stored : IsStored b
-  pub due : b.first ≡ Some BusFault.Full → (is_quiet b.records b.journal ≡ false) ⊎ OwesLine feeds
+  pub due : b.first ≡ Some BusFault.Full
+      → (IsFull b.journal × ((is_quiet b.records b.journal ≡ false) ⊎ OwesLine feeds)) ⊎ OwesRestart feeds
 
 -- or it did not, since it had stopped before, or memory ran out
 pub record StoodStill (base b : BusView) (before after : List SourceState) : Type 0 where

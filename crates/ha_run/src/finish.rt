@@ -1,6 +1,6 @@
 //! The end of a run, when the workers have ended.
 ghost use Rattle.std.specs.Prelude.{◌≡◌, None, option_map, true};
-ghost use Rattle.ha_model.specs.Lawful.{Lawful, is_quiet};
+ghost use Rattle.ha_whole.specs.Whole.{Lawful, is_quiet};
 ghost use Rattle.bus_turn.specs.States.{keeper_of, outside_of, sink_of};
 ghost use Rattle.ha_run.specs.Core.{IsHandedOn};
 ghost use Rattle.ha_run.specs.Finish.{Finishes, MayClose, StopsOrEnds, ended_status};
@@ -9,9 +9,10 @@ use crate::status::status_of;
 use bus_turn::{Bus, BusFault, Ended};
 use ha_io::{Keeper, Sink};
 use ha_journal::Entry;
-use ha_model::{Core, Record};
+use ha_model::Record;
 use ha_status::Status;
 use ha_value::Many;
+use ha_whole::Core;
 use ha_worker::close;
 use std::alloc::Global;
 

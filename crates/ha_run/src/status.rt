@@ -4,8 +4,8 @@ ghost use Rattle.ha_run.specs.Team.{status_of, told_by};
 
 use bus_turn::BusFault;
 use ha_io::{Keeper, Sink, Source};
-use ha_model::Core;
 use ha_status::Status;
+use ha_whole::Core;
 use ha_worker::{Worker, WorkerEnd};
 
 /// The status by a first fault of the bus.

@@ -9,8 +9,8 @@ ghost use Rattle.ha_run.specs.Team.{AreDone, AreReady, IsAble, IsLater, IsLead, 
 
 use bus_pass::{Pass, Turn};
 use ha_io::{Gate, Keeper, Sink, Source};
-use ha_model::Core;
 use ha_value::Many;
+use ha_whole::Core;
 use ha_worker::Worker;
 use std::alloc::Global;
 use std::sync::Wait;

@@ -21,7 +21,7 @@ use Rattle.ha_rehearse.specs.Rehearsed.{IsCounted, IsRehearseStatus}
 use Rattle.ha_io.proofs.AskedLemmas.{asked_none}
 use Rattle.ha_io.proofs.ToldLemmas.{Takes-nothing}
 use Rattle.replay_file.specs.Replays.{IsUnread}
-use Rattle.replay_file.proofs.TakeLemmas.{whole_taken}
+use Rattle.replay_file.proofs.StopLemmas.{whole_taken}
 use Rattle.ha_top.specs.Views.{After, Before}
 use Rattle.ha_top.specs.Written.{AreTheSame, LineBehind, NoneWritten, written}
 use Rattle.ha_top.specs.Answered.{Answered, IsBooted, IsStore, IsStoreFault, IsTaken, IsTraceOf, RunOpenCause, StopsAt, StoreCause, WriteFailed, WriteTookNone, opens, scene}

@@ -92,6 +92,10 @@ opened j = if ends_segment j then more j (again_of j) else j
 abbrev pub put : Journal → Entry → Journal
 put j x = opened (more j x)
 
+-- what one put appends
+abbrev pub appended : Journal → Entry → List Entry
+appended j x = if is_restart x then x ∷ again_of (more j x) ∷ [] else x ∷ []
+
 -- ---- which lists are journals
 
 -- what the first Boot carries: nothing but when automations of the configuration last triggered

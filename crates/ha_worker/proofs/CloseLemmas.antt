@@ -1,5 +1,5 @@
 -- What the closing steps make of a bus, and that they add no line.
-use Rattle.std.proofs.Common.{◌≡◌, ◌∙◌, ◌+◌, inl, inr, ℕ, Bool, true, false, List, [], ◌∷◌, ◌++◌, length, Some, None, ap, arith, refl, sym, subst, append_assoc, append-nil, length-append}
+use Rattle.std.proofs.Common.{◌≡◌, ◌∙◌, ◌-◌, ◌<◌, inl, inr, ℕ, Bool, true, false, List, [], ◌∷◌, ◌++◌, length, Some, None, ap, arith, refl, sym, subst, append_assoc, append-nil, length-append}
 use Rattle.std.specs.Prelude.{◌&&◌, ◌==◌}
 use Rattle.std.specs.List.{AllZip, list_all}
 use Rattle.std.proofs.lemmas.List.Folds.{list_all-append}
@@ -8,16 +8,18 @@ use Rattle.ha_journal.specs.declared.entry.Entry.{Entry}
 use Rattle.ha_journal.specs.declared.entry.Entry.TheVariants.{Boot, Line, Step, Again}
 use Rattle.ha_journal.specs.Commands.{ArePutFrom, Placed, placed_from, placed_line, put_as}
 use Rattle.ha_journal.specs.Journal.{Journal, more}
-use Rattle.ha_model.specs.Lawful.{Lawful, Right, is_by_worker_0, is_quiet, ready}
+use Rattle.ha_model.specs.Lawful.{is_by_worker_0}
+use Rattle.ha_whole.specs.Whole.{IsFull, Lawful, Right, is_quiet, put, ready}
 use Rattle.ha_model.specs.Records.{Records}
-use Rattle.ha_laws.proofs.RightMore.{right-closes}
+use Rattle.whole_laws.proofs.ClosingLemmas.{put-step, right-closes}
 use Rattle.bus_turn.specs.declared.fault.BusFault.{BusFault}
 use Rattle.bus_turn.specs.Buses.{IsRefusal, IsStep, Puts}
 use Rattle.bus_turn.specs.Shown.{BusView}
 use Rattle.bus_turn.proofs.GrowthLemmas.{grows-then, out-grows}
 use Rattle.bus_turn.proofs.PutLemmas.{puts-full, puts-grow}
 use Rattle.ha_worker.specs.Closing.{Closed}
-use Rattle.ha_worker.proofs.TurnLemmas.{picked_some}
+use Rattle.whole_laws.proofs.PutLemmas.{longer-put}
+use Rattle.ha_worker.proofs.TurnLemmas.{picked_some, step_full}
 
 pub no_closing : (a : BusView) → Lawful a.journal a.records → Closed a a
 no_closing a lawful = record { later = []; behind = sym (append-nil a.journal); steps = refl; lawful = lawful; grows = out-grows a.out; untouched = λ e. refl }
@@ -31,18 +33,18 @@ no_end : {Y : Type 0} (xs : List Entry) (x : Entry) → xs ++ (x ∷ []) ≡ [] 
 no_end xs x e = absurd (omega (arith, ap length e, length-append xs (x ∷ [])))
 
 -- one step more
-pub closed_more : (a b c : BusView) → Closed a b → Right c.journal c.records → Puts (IsStep 0 b) b c → Closed a c
+pub closed_more : (a b c : BusView) → Closed a b → Right c.journal c.records → Puts false (IsStep 0 b) b c → Closed a c
 closed_more a b c p right (inl q) =
     let s = q.is_it in
     let y : Entry = Step 0 s.serial s.branch s.item in
-    let e : c.journal ≡ more b.journal y = q.journal ∙ ap (more b.journal) s.is in
+    let e : c.journal ≡ more b.journal y = q.journal ∙ ap (put b.journal) s.is ∙ put-step b.journal 0 s.serial s.branch s.item in
     record {
       later = p.later ++ (y ∷ []);
       behind = e ∙ ap (λ (z : Journal). more z y) p.behind ∙ append_assoc a.journal p.later (y ∷ []);
       steps = list_all-append is_by_worker_0 p.later (y ∷ []) ∙ and-both (list_all is_by_worker_0 p.later) true p.steps refl;
       lawful = subst (λ z. Lawful z c.records) (sym e)
           (right-closes b.journal b.records c.records s.serial s.branch s.item p.lawful (subst (λ z. Right z c.records) e right) (picked_some 0 (ready b.records b.journal) (s.serial, s.branch) s.picked, s.picked));
-      grows = grows-then a.out b.out c.out p.grows (puts-grow (IsStep 0 b) b c (inl q));
+      grows = grows-then a.out b.out c.out p.grows (puts-grow false (IsStep 0 b) b c (inl q));
       untouched = λ none. no_end p.later y none;
     }
 closed_more a b c p right (inr q) = record {
@@ -50,20 +52,20 @@ closed_more a b c p right (inr q) = record {
   behind = q.journal ∙ p.behind;
   steps = p.steps;
   lawful = subst (λ z. Lawful z c.records) (sym q.journal) (subst (λ z. Lawful b.journal z) (sym q.records) p.lawful);
-  grows = grows-then a.out b.out c.out p.grows (puts-grow (IsStep 0 b) b c (inr q));
+  grows = grows-then a.out b.out c.out p.grows (puts-grow false (IsStep 0 b) b c (inr q));
   untouched = λ none. q.out ∙ p.untouched none;
 }
 
 -- where a step was refused for a full journal, it is still due
-pub still_due : (a b : BusView) → is_quiet a.records a.journal ≡ false → Puts (IsStep 0 a) a b → b.first ≡ Some BusFault.Full → is_quiet b.records b.journal ≡ false
-still_due a b busy put full =
-    let r = puts-full (IsStep 0 a) a b put full in
-    ap (is_quiet b.records) r.journal ∙ ap (λ (z : Records). is_quiet z a.journal) r.records ∙ busy
+pub still_due : (a b : BusView) → is_quiet a.records a.journal ≡ false → Puts false (IsStep 0 a) a b → b.first ≡ Some BusFault.Full → IsFull b.journal × (is_quiet b.records b.journal ≡ false)
+still_due a b busy puts full =
+    let r = puts-full false (IsStep 0 a) a b puts full in
+    (subst IsFull (sym r.journal) (step_full a.journal (r.full full)), ap (is_quiet b.records) r.journal ∙ ap (λ (z : Records). is_quiet z a.journal) r.records ∙ busy)
 
--- a bus that has not stopped has one entry more
-pub less_room : (Is : Entry → Type 0) (a b : BusView) → Puts Is a b → b.first ≡ None → length b.journal ≡ length a.journal + 1
-less_room Is a b (inl p) free = ap length p.journal ∙ length-append a.journal (p.entry ∷ [])
-less_room Is a b (inr p) free = absurd (subst IsRefusal free p.refusal)
+-- behind a step a bus that has not stopped has less room
+pub less_room : (k : ℕ) (a b : BusView) → Puts false (IsStep k a) a b → b.first ≡ None → 4_194_304 - length b.journal < 4_194_304 - length a.journal
+less_room k a b (inl p) free = omega (arith, p.room.room, ap length p.journal, longer-put a.journal p.entry)
+less_room k a b (inr p) free = absurd (subst IsRefusal free p.refusal)
 
 -- ---- no line comes behind
 

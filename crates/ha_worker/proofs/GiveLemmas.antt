@@ -1,19 +1,20 @@
 -- What a pass knows after a take and after a give, and what it may give.
 use Rattle.std.proofs.Common.{◌≡◌, ◌∙◌, ◌==◌, ◌⊎◌, inl, inr, ⊎_elim, ℕ, Bool, true, false, cond, List, [], ◌∷◌, ◌++◌, length, drop, Option, Some, None, ap, refl, sym, subst, append-nil}
-use Rattle.std.specs.Prelude.{IsSome}
+use Rattle.std.specs.Prelude.{IsSomeAnd}
 use Rattle.std.specs.List.{list_any}
 use Rattle.std.proofs.lemmas.Bool.Decides.{eqb_tells}
 use Rattle.std.proofs.Math.Seq.{drop-append_seam}
 use Rattle.ha_config.specs.declared.command.Cmd.{Cmd}
 use Rattle.ha_journal.specs.declared.entry.Entry.{Entry}
 use Rattle.ha_journal.specs.Journal.{Journal}
-use Rattle.ha_model.specs.Lawful.{Running, shuts}
+use Rattle.ha_model.specs.Lawful.{shuts}
+use Rattle.ha_whole.specs.Whole.{IsFull, Running}
 use Rattle.bus_turn.specs.declared.fault.BusFault.{BusFault}
 use Rattle.bus_turn.specs.Shown.{BusView}
 use Rattle.bus_pass.specs.Journal.{IsRestless}
 use Rattle.bus_pass.specs.Origins.{IsStored, origin_of}
 use Rattle.bus_pass.specs.Reads.{Reading, due_in, reading, reads}
-use Rattle.bus_pass.specs.Rule.{MayGive, More, Stands, Tells, dues_after, due_of, gave, grown, is_full, notes, size_of, stood, took}
+use Rattle.bus_pass.specs.Rule.{MayGive, MayLackRoom, More, Stands, Tells, dues_after, due_of, gave, grown, is_full, notes, size_of, stood, took}
 use Rattle.bus_pass.specs.declared.hand.Given.{Given}
 use Rattle.bus_pass.specs.declared.hand.Hand.{Hand}
 use Rattle.bus_pass.specs.declared.hand.Stood.{Stood}
@@ -57,7 +58,7 @@ module _ (k : ℕ) (v : Hand) (a b : BusView) (r : Reading) (holds : Holds k a v
   still = holds.origin ∙ ap Some (sym origin)
 
   -- no entry more
-  pub may_same : b.journal ≡ a.journal → ((f : BusFault) → a.first ≡ Some f → b.first ≡ Some f) → (b.first ≡ Some BusFault.Full → (a.first ≡ Some BusFault.Full) ⊎ (IsRestless b.journal ⊎ IsSome (due_in r)))
+  pub may_same : b.journal ≡ a.journal → ((f : BusFault) → a.first ≡ Some f → b.first ≡ Some f) → (b.first ≡ Some BusFault.Full → (a.first ≡ Some BusFault.Full) ⊎ ((IsFull b.journal × IsRestless b.journal) ⊎ IsSomeAnd (due_in r) (MayLackRoom b.journal)))
       → MayGive IsRestless v b.journal r b.first (origin_of b)
   may_same same fault full = record {
     worker = k;
@@ -72,7 +73,7 @@ module _ (k : ℕ) (v : Hand) (a b : BusView) (r : Reading) (holds : Holds k a v
   }
 
   -- entries of the worker more
-  pub may_more : a.first ≡ None → More k (reads r) a.journal b.journal → (b.first ≡ Some BusFault.Full → IsRestless b.journal ⊎ IsSome (due_in r)) → MayGive IsRestless v b.journal r b.first (origin_of b)
+  pub may_more : a.first ≡ None → More k (reads r) a.journal b.journal → (b.first ≡ Some BusFault.Full → (IsFull b.journal × IsRestless b.journal) ⊎ IsSomeAnd (due_in r) (MayLackRoom b.journal)) → MayGive IsRestless v b.journal r b.first (origin_of b)
   may_more free more full = record {
     worker = k;
     list = list_of v;

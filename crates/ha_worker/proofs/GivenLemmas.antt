@@ -1,19 +1,20 @@
 -- What a pass knows when it gave a bus back with what its worker put.
 use Rattle.std.proofs.Common.{◌≡◌, ◌∙◌, ◌+◌, inl, inr, ⊎_elim, ℕ, Bool, true, false, cond, List, [], ◌∷◌, ◌++◌, length, Option, Some, None, slice_get, ap, arith, refl, sym, subst, append-nil, append_assoc, length-append}
 use Rattle.std.proofs.lemmas.Bool.{le-leb}
-use Rattle.std.specs.Prelude.{◌-◌, if◌then◌else◌, IsSome}
+use Rattle.std.specs.Prelude.{◌-◌, if◌then◌else◌, IsSomeAnd}
 use Rattle.std.specs.List.{list_any}
 use Rattle.ha_config.specs.declared.command.Cmd.{Cmd}
 use Rattle.ha_journal.specs.declared.entry.Entry.{Entry}
 use Rattle.ha_journal.specs.declared.entry.Entry.TheVariants.{Boot, Line, Step, Again}
 use Rattle.ha_journal.specs.Journal.{Journal}
+use Rattle.ha_config.proofs.ListLemmas.{true-false}
 use Rattle.ha_model.specs.Lawful.{shuts}
 use Rattle.bus_turn.specs.declared.fault.BusFault.{BusFault}
 use Rattle.bus_turn.specs.Shown.{BusView}
 use Rattle.bus_pass.specs.Journal.{IsRestless, is_of}
 use Rattle.bus_pass.specs.Origins.{origin_of}
 use Rattle.bus_pass.specs.Reads.{Reading, cmd_at, due_in, read_for, reading, reads}
-use Rattle.bus_pass.specs.Rule.{AreAsRead, MayGive, dues_after, gave, given, notes}
+use Rattle.bus_pass.specs.Rule.{AreAsRead, MayGive, MayLackRoom, dues_after, gave, given, notes}
 use Rattle.bus_pass.specs.declared.hand.Given.{Given}
 use Rattle.bus_pass.specs.declared.hand.Hand.{Hand}
 use Rattle.bus_pass.proofs.Lists.{grown_list, read_told}
@@ -53,7 +54,9 @@ line_read false source number cmd c r n place gs read h is same e = absurd (let 
 are_read : (k from : ℕ) (all pre post : List Cmd) (n place : ℕ) (cmds : List Cmd) (before es : Journal) → all ≡ pre ++ (cmds ++ post) → n ≡ from + length pre → ArePut k n cmds before es → AreRead k from all n place cmds before es
 are_read k from all pre post n place cmds before [] parts at p = (tt, ap (numbered n) (sym p))
 are_read k from all pre post n place cmds before (Boot text config stored start zone carry ∷ es) parts at p = absurd p
-are_read k from all pre post n place cmds before (Again number start stored carry ∷ es) parts at p = absurd p
+are_read k from all pre post n place cmds before (Again number start stored carry ∷ es) parts at p =
+    let rest = are_read k from all pre post n (place + 1) cmds (before ++ Again number start stored carry ∷ []) es parts at p in
+    ((λ e. absurd (true-false e), tt, rest.0), rest.1)
 are_read k from all pre post n place cmds before (Line source number cmd ∷ es) parts at p =
     let t = p.2 in
     let c : Cmd = t.0 in
@@ -61,13 +64,13 @@ are_read k from all pre post n place cmds before (Line source number cmd ∷ es)
     let whole : all ≡ pre ++ (c ∷ (t.1 ++ post)) = parts ∙ ap (λ (z : List Cmd). pre ++ (z ++ post)) t.2 in
     let read : cmd_at from all number ≡ Some c = ap (λ (z : List Cmd). cmd_at from z number) whole ∙ behind_some from pre (c ∷ (t.1 ++ post)) number (p.1 ∙ at) in
     let rest = are_read k from all (pre ++ (c ∷ [])) post (n + 1) (place + 1) t.1 (before ++ Line source number cmd ∷ []) es (whole ∙ sym (append_assoc pre (c ∷ []) (t.1 ++ post))) (omega (arith, at, length-append pre (c ∷ []))) t.4 in (
-      (mine, (c, read, t.3), rest.0),
+      (λ _. mine, (c, read, t.3), rest.0),
       line_read (is_of k (Line source number cmd)) source number cmd c (cmd_at from all number) n place (notes k (place + 1) (read_for from all) es) (numbered (n + 1) t.1) rest.1 mine p.1 read ∙ ap (numbered n) (sym t.2),
     )
 are_read k from all pre post n place cmds before (Step worker serial branch item ∷ es) parts at p =
     let mine : is_of k (Step worker serial branch item) ≡ true = ap (λ (z : ℕ). is_of k (Step z serial branch item)) p.0 ∙ eqb_self k in
     let rest = are_read k from all pre post n (place + 1) cmds (before ++ Step worker serial branch item ∷ []) es parts at p.1 in (
-      (mine, tt, rest.0),
+      (λ _. mine, tt, rest.0),
       step_read (is_of k (Step worker serial branch item)) worker serial branch item place (notes k (place + 1) (read_for from all) es) (numbered n cmds) rest.1 mine,
     )
 
@@ -103,7 +106,7 @@ module _ (k n m : ℕ) (all left : List Cmd) (u v : Hand) (a b : BusView) (takes
 
   pub given_may : MayGive IsRestless v b.journal r b.first (origin_of b)
   given_may = may_more k v a b r holds some.came.origin free (record { entries = more; longer = some.came.behind; as_read = read_all.0 })
-      (λ full. ⊎_elim (λ x. inl x) (λ x. inr (subst IsSome (sym due_is) x)) (some.full full))
+      (λ full. ⊎_elim (λ x. inl x) (λ x. inr (subst (λ o. IsSomeAnd o (MayLackRoom b.journal)) (sym due_is) x)) (some.full full))
 
   module _ (w : Hand) (is : w ≡ gave v b.journal r b.first (origin_of b)) where
     abbrev pub added : List Given

@@ -1,20 +1,22 @@
 -- What a put makes of a bus.
-use Rattle.std.proofs.Common.{◌≡◌, ◌∙◌, ◌<◌, inl, inr, ℕ, Bool, true, false, List, [], ◌∷◌, length, Option, Some, None, ap, arith, refl, sym, subst, rules, length-append}
+use Rattle.std.proofs.Common.{◌≡◌, ◌∙◌, ◌<◌, inl, inr, ℕ, Bool, true, false, List, [], ◌∷◌, ◌++◌, length, Option, Some, None, ap, arith, refl, sym, subst, rules}
 use Rattle.std.specs.Prelude.{◌||◌, ◌&&◌, IsSome, if◌then◌else◌, slice_get}
 use Rattle.std.specs.List.{list_any}
 use Rattle.std.proofs.lemmas.Bool.{false≢true}
-use Rattle.std.proofs.lemmas.List.Folds.{list_any-append}
 use Rattle.ha_config.specs.declared.command.Cmd.{Cmd}
 use Rattle.ha_journal.specs.declared.entry.Entry.{Entry}
 use Rattle.ha_journal.specs.declared.entry.Entry.TheVariants.{Line, Step}
 use Rattle.ha_journal.specs.Commands.{has_automation, put_as}
 use Rattle.ha_config.specs.Fair.{shuts_source}
-use Rattle.ha_journal.specs.Journal.{HasEntry, Journal, more}
-use Rattle.ha_model.specs.Lawful.{Right, Running, is_quiet, is_rested, pick, shuts}
+use Rattle.ha_journal.specs.Entries.{restarts}
+use Rattle.ha_journal.specs.Journal.{HasEntry, Journal}
+use Rattle.ha_model.specs.Lawful.{pick, shuts}
+use Rattle.ha_whole.specs.Whole.{IsFull, LacksRoom, Right, Running, appended, is_quiet, is_rested, put}
 use Rattle.ha_model.specs.Records.{Records}
 use Rattle.ha_sight.specs.Scripts.{Branch}
-use Rattle.ha_journal.proofs.MoreLemmas.{has-entry}
-use Rattle.ha_laws.proofs.OneStep.{quiet-rested}
+use Rattle.whole_laws.proofs.LiftLemmas.{entries-have}
+use Rattle.whole_laws.proofs.PutLemmas.{any-put, longer-put, put-appends}
+use Rattle.whole_laws.proofs.RestLemmas.{quiet-rested}
 use Rattle.bus_turn.specs.declared.fault.BusFault.{BusFault}
 use Rattle.bus_turn.specs.Buses.{Adds, HoldsStore, IsRefusal, IsStep, Puts}
 use Rattle.bus_turn.specs.States.{KeeperState}
@@ -32,15 +34,18 @@ use Rattle.ha_worker.proofs.GiveLemmas.{eqb_self, may_same, nothing}
 
 -- a source that is not rested has runs that can go on
 pub unrested_busy : (k : ℕ) (rs : Records) (j : Journal) → Right j rs → is_rested rs k j ≡ false → is_quiet rs j ≡ false
-unrested_busy k rs j right busy = by (is_quiet rs j) (quiet-rested rs k j (has-entry j right.journal))
+unrested_busy k rs j right busy = by (is_quiet rs j) (quiet-rested j rs k right.journal.entries)
   where
     by : (b : Bool) → (b ≡ true → is_rested rs k j ≡ true) → b ≡ false
     by true h = absurd (false≢true (sym busy ∙ h refl))
     by false h = refl
 
-front_same : (j : Journal) (x : Entry) → HasEntry j → slice_get (more j x) 0 ≡ slice_get j 0
-front_same [] x h = absurd h
-front_same (e ∷ es) x h = refl
+front_same : (j : Journal) (x : Entry) → HasEntry j → slice_get (put j x) 0 ≡ slice_get j 0
+front_same j x h = (λ i. slice_get (put-appends j x i) 0) ∙ front j (appended j x) h
+  where
+    front : (d : Journal) (ys : List Entry) → HasEntry d → slice_get (d ++ ys) 0 ≡ slice_get d 0
+    front [] ys h = absurd h
+    front (e ∷ es) ys h = refl
 
 filled : (j : Journal) → HasEntry j → 0 < length j
 filled [] h = absurd h
@@ -54,22 +59,22 @@ refused None h = absurd h
 refused (Some f) h = refl
 
 -- where Full is kept nothing was put, so an entry was not added
-pub added_full : (Is : Entry → Type 0) (a b : BusView) → Adds Is a b → b.first ≡ Some BusFault.Full → ⊥
-added_full Is a b p full =
-    let r = puts-full Is a b (inl p) full in
-    omega (arith, ap length (sym r.journal ∙ p.journal), length-append a.journal (p.entry ∷ []))
+pub added_full : (r : Bool) (Is : Entry → Type 0) (a b : BusView) → Adds r Is a b → b.first ≡ Some BusFault.Full → ⊥
+added_full r Is a b p full =
+    let same = puts-full r Is a b (inl p) full in
+    omega (arith, ap length (sym same.journal ∙ p.journal), longer-put a.journal p.entry)
 
-module _ (Is : Entry → Type 0) (a b : BusView) (right : Right a.journal a.records) where
+module _ (r : Bool) (Is : Entry → Type 0) (a b : BusView) (right : Right a.journal a.records) where
   has : HasEntry a.journal
-  has = has-entry a.journal right.journal
+  has = entries-have a.journal right.journal.entries
 
-  pub put_origin : Puts Is a b → origin_of b ≡ origin_of a
-  put_origin (inl p) = origin_stays a b (ap (λ (j : Journal). slice_get j 0) p.journal ∙ front_same a.journal p.entry has) (puts-grow Is a b (inl p))
-  put_origin (inr p) = origin_stays a b (ap (λ (j : Journal). slice_get j 0) p.journal) (puts-grow Is a b (inr p))
+  pub put_origin : Puts r Is a b → origin_of b ≡ origin_of a
+  put_origin (inl p) = origin_stays a b (ap (λ (j : Journal). slice_get j 0) p.journal ∙ front_same a.journal p.entry has) (puts-grow r Is a b (inl p))
+  put_origin (inr p) = origin_stays a b (ap (λ (j : Journal). slice_get j 0) p.journal) (puts-grow r Is a b (inr p))
 
-  pub put_stored : IsStored a → Puts Is a b → IsStored b
+  pub put_stored : IsStored a → Puts r Is a b → IsStored b
   put_stored stored (inl p) =
-      λ one. absurd (omega (arith, one, filled a.journal has, ap length p.journal, length-append a.journal (p.entry ∷ [])))
+      λ one. absurd (omega (arith, one, filled a.journal has, ap length p.journal, longer-put a.journal p.entry))
   put_stored stored (inr p) =
       λ one. subst (λ (j : Journal). HoldsStore j b.out.keep) (sym p.journal)
       (subst (λ (o : KeeperState). HoldsStore a.journal o) (sym (ap (λ o. o.keep) p.out)) (stored (sym (ap length p.journal) ∙ one)))
@@ -84,7 +89,7 @@ picked_some k (p ∷ ps) x h = search rules
 
 -- ---- a line
 
-pub or-and-true : (x y : Bool) → (x || ((y && true) || false)) ≡ (x || y)
+or-and-true : (x y : Bool) → (x || (y && true)) ≡ (x || y)
 or-and-true true y = refl
 or-and-true false true = refl
 or-and-true false false = refl
@@ -114,30 +119,36 @@ abbrev pub IsLineOf : ℕ → ℕ → Cmd → BusView → Entry → Type 0
 IsLineOf n k c a x = x ≡ Line k n (put_as a.journal c)
 
 -- its source is shut behind it only where the command does so
-pub line_leaves : (n k : ℕ) (c : Cmd) (a b : BusView) → Adds (IsLineOf n k c a) a b → list_any (shuts k) a.journal ≡ false → shuts_source c ≡ false → list_any (shuts k) b.journal ≡ false
+pub line_leaves : (n k : ℕ) (c : Cmd) (a b : BusView) → Adds (restarts c) (IsLineOf n k c a) a b → list_any (shuts k) a.journal ≡ false → shuts_source c ≡ false → list_any (shuts k) b.journal ≡ false
 line_leaves n k c a b p unshut leaves =
-    ap (list_any (shuts k)) (p.journal ∙ ap (more a.journal) p.is_it) ∙ list_any-append (shuts k) a.journal (Line k n (put_as a.journal c) ∷ [])
-    ∙ ap (λ (z : Bool). list_any (shuts k) a.journal || ((shuts_source (put_as a.journal c) && z) || false)) (eqb_self k)
+    ap (list_any (shuts k)) (p.journal ∙ ap (put a.journal) p.is_it) ∙ any-put (shuts k) (λ d. refl) a.journal (Line k n (put_as a.journal c))
+    ∙ ap (λ (z : Bool). list_any (shuts k) a.journal || (shuts_source (put_as a.journal c) && z)) (eqb_self k)
     ∙ or-and-true (list_any (shuts k) a.journal) (shuts_source (put_as a.journal c))
     ∙ ap (λ (z : Bool). z || shuts_source (put_as a.journal c)) unshut ∙ put_shuts a.journal c ∙ leaves
 
 -- no step shuts a source
-pub step_leaves : (k w : ℕ) (a b : BusView) → Puts (IsStep w a) a b → list_any (shuts k) b.journal ≡ list_any (shuts k) a.journal
+pub step_leaves : (k w : ℕ) (a b : BusView) → Puts false (IsStep w a) a b → list_any (shuts k) b.journal ≡ list_any (shuts k) a.journal
 step_leaves k w a b (inl p) =
-    ap (list_any (shuts k)) (p.journal ∙ ap (more a.journal) p.is_it.is) ∙ list_any-append (shuts k) a.journal (Step w p.is_it.serial p.is_it.branch p.is_it.item ∷ []) ∙ or-false (list_any (shuts k) a.journal)
+    ap (list_any (shuts k)) (p.journal ∙ ap (put a.journal) p.is_it.is) ∙ any-put (shuts k) (λ d. refl) a.journal (Step w p.is_it.serial p.is_it.branch p.is_it.item) ∙ or-false (list_any (shuts k) a.journal)
   where
     or-false : (x : Bool) → (x || false) ≡ x
     or-false true = refl
     or-false false = refl
 step_leaves k w a b (inr p) = ap (list_any (shuts k)) p.journal
 
+-- a step lacks room in a full journal alone
+pub step_full : (j : Journal) → LacksRoom j false → IsFull j
+step_full j (inl full) = full
+step_full j (inr (never, lacks)) = absurd (false≢true never)
+
 -- at a full journal the step is still due
-pub step_due : (k : ℕ) (a b : BusView) → Right a.journal a.records → Right b.journal b.records → is_rested a.records k a.journal ≡ false → Puts (IsStep k a) a b → b.first ≡ Some BusFault.Full → IsRestless b.journal
-step_due k a b old right busy put full =
-    let r = puts-full (IsStep k a) a b put full in
-    let rs : b.records ≡ a.records = r.records in
-    subst (λ (z : Records). is_quiet z b.journal ≡ false) right.records_are
-    (ap (is_quiet b.records) r.journal ∙ ap (λ (z : Records). is_quiet z a.journal) r.records ∙ unrested_busy k a.records a.journal old busy)
+pub step_due : (k : ℕ) (a b : BusView) → Right a.journal a.records → Right b.journal b.records → is_rested a.records k a.journal ≡ false → Puts false (IsStep k a) a b → b.first ≡ Some BusFault.Full → IsFull b.journal × IsRestless b.journal
+step_due k a b old right busy puts full =
+    let r = puts-full false (IsStep k a) a b puts full in (
+      subst IsFull (sym r.journal) (step_full a.journal (r.full full)),
+      subst (λ (z : Records). is_quiet z b.journal ≡ false) right.records_are
+          (ap (is_quiet b.records) r.journal ∙ ap (λ (z : Records). is_quiet z a.journal) r.records ∙ unrested_busy k a.records a.journal old busy),
+    )
 
 -- ---- want of memory
 

@@ -2,7 +2,8 @@
 use Rattle.std.specs.Prelude.{◌≡◌, true, List, [], ◌++◌}
 use Rattle.std.specs.List.{list_all}
 use Rattle.ha_journal.specs.declared.entry.Entry.{Entry}
-use Rattle.ha_model.specs.Lawful.{Lawful, is_by_worker_0}
+use Rattle.ha_model.specs.Lawful.{is_by_worker_0}
+use Rattle.ha_whole.specs.Whole.{Lawful}
 use Rattle.bus_turn.specs.Growth.{OutGrows}
 use Rattle.bus_turn.specs.Shown.{BusView}
 

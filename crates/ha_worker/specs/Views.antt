@@ -4,7 +4,8 @@ use Rattle.std.specs.List.{list_any}
 use Rattle.std.specs.Option.{option_map_or}
 use Rattle.ha_config.specs.declared.command.Cmd.{Cmd}
 use Rattle.ha_journal.specs.Entries.{line_of}
-use Rattle.ha_model.specs.Lawful.{Running, shuts}
+use Rattle.ha_model.specs.Lawful.{shuts}
+use Rattle.ha_whole.specs.Whole.{Running}
 use Rattle.bus_turn.specs.Shown.{BusView}
 use Rattle.bus_pass.specs.Origins.{IsStored, origin_of}
 use Rattle.bus_pass.specs.Rule.{IsList, stood}

@@ -5,7 +5,8 @@ ghost use Rattle.std.specs.VecDeque.{deque_len};
 ghost use Rattle.ha_journal.specs.Commands.{IsFair, put_as};
 ghost use Rattle.ha_config.specs.Fair.{shuts_source};
 ghost use Rattle.ha_journal.specs.Journal.{Journal};
-ghost use Rattle.ha_model.specs.Lawful.{is_rested, shuts};
+ghost use Rattle.ha_model.specs.Lawful.{shuts};
+ghost use Rattle.ha_whole.specs.Whole.{IsFull, is_rested};
 ghost use Rattle.bus_turn.specs.declared.fault.BusFault.{BusFault};
 ghost use Rattle.bus_pass.specs.Journal.{IsRestless};
 ghost use Rattle.ha_worker.specs.Came.{Came, CameUntil, IsAt};
@@ -14,7 +15,7 @@ ghost use Rattle.ha_worker.specs.Read.{AreOpen};
 use bus_pass::Held;
 use ha_config::Cmd;
 use ha_io::{Keeper, Sink};
-use ha_model::Core;
+use ha_whole::Core;
 use std::alloc::Global;
 use std::collections::VecDeque;
 
@@ -31,7 +32,7 @@ fn put_steps<C: Core + Drop, K: Sink, Q: Keeper>(
     ensures shut { (k : ℕ) → list_any (shuts k) bus.new.journal ≡ list_any (shuts k) bus.old.journal }
     ensures rested { result ≡ true → is_rested bus.new.records id bus.new.journal ≡ true }
     ensures fault { result ≡ is_none bus.new.first }
-    ensures full { bus.new.first ≡ Some BusFault.Full → IsRestless bus.new.journal }
+    ensures full { bus.new.first ≡ Some BusFault.Full → IsFull bus.new.journal × IsRestless bus.new.journal }
 {
     'steps: while !bus.rested(id) {
         let _ = bus.first();

@@ -7,7 +7,7 @@ ghost use Rattle.ha_worker.specs.Views.{Holds, IsOne};
 
 use bus_pass::{Held, Pass, Read, Turn};
 use ha_io::{Keeper, Sink};
-use ha_model::Core;
+use ha_whole::Core;
 use std::sync::Wait;
 
 /// Takes the bus where it keeps no first fault. Else it goes back as it is, and nothing comes.

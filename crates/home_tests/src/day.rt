@@ -23,6 +23,9 @@ pub struct Day<'a> {
     pub lines: &'a [&'a str],
 }
 
+/// The line of a restart.
+pub const RESTART: &str = "{\"restart\":true}";
+
 /// A day that starts at eight in the evening, in UTC.
 pub fn evening<'a>(home: &'a str, lines: &'a [&'a str]) -> Day<'a> {
     Day {

@@ -14,6 +14,8 @@ mod outside;
 #[cfg(test)]
 mod rehearsals;
 #[cfg(test)]
+mod restarts;
+#[cfg(test)]
 mod runs;
 #[cfg(test)]
 mod scripts;

@@ -1,6 +1,6 @@
 //! Several sources at once, and the trace.
 use crate::day::Fact::{Called, Entries, Errors, Handed, NotOpened, NotRead, Traced, Well};
-use crate::day::{Fact, Lines, holds, replays, run_sources, words_end};
+use crate::day::{Fact, Lines, RESTART, holds, replays, run_sources, words_end};
 use crate::files::PLAIN;
 use crate::runs::{HALL, HALL_CALLS, HALL_LINES, QUEUE, QUEUE_CALLS, QUEUE_LINES};
 use crate::scripts::{WAIT, WAIT_CALLS, WAIT_LINES};
@@ -231,7 +231,7 @@ fn is_replayed<R: Abort + Threads + Wait + Sync + Alloc<A = Global>>(
 }
 
 /// Whether it is so with each of them.
-fn are_replayed<R: Abort + Threads + Wait + Sync + Alloc<A = Global>>(
+pub fn are_replayed<R: Abort + Threads + Wait + Sync + Alloc<A = Global>>(
     rt: &R,
     rows: &[(&str, &[&str], &[&str])],
 ) -> bool {
@@ -277,24 +277,45 @@ fn sixteen<'a>(alloc: Global, lines: &'a [&'a str]) -> Result<Vec<Lines<'a>>, Al
     Ok(sources)
 }
 
-/// Whether the sixteen, with three lines each, end well, after so many entries.
-fn all_come<R: Abort + Threads + Wait + Sync + Alloc<A = Global>>(rt: &R, entries: usize) -> bool {
-    match sixteen(rt.alloc(), &["r light.x on", "m 20:00:01", "e go"]) {
-        Ok(sources) => sources_end(
-            rt,
-            BUSY,
-            &[],
-            sources.as_slice(),
-            &OpenGate::make(),
-            &[Well, Entries(entries), Fact::Lines(3)],
-        ),
-        Err(_) => false,
-    }
+/// Whether the sixteen, with these three lines each, end well, after so many entries, and the trace is that of a lawful journal, which gives
+/// the same.
+fn come<R: Abort + Threads + Wait + Sync + Alloc<A = Global>>(
+    rt: &R,
+    lines: &[&str],
+    entries: usize,
+) -> Result<bool, AllocError> {
+    let sources = sixteen(rt.alloc(), lines)?;
+    let words = ["--trace", "t"];
+    let outcome = run_sources(rt, BUSY, &words, sources.as_slice(), &OpenGate::make())?;
+    let facts = [Well, Entries(entries), Fact::Lines(3)];
+    Ok(holds(rt.alloc(), &outcome, &facts) && replays(rt, &outcome)?)
 }
 
+/// Whether it is so with each of them.
+fn all_come<R: Abort + Threads + Wait + Sync + Alloc<A = Global>>(
+    rt: &R,
+    rows: &[(&[&str], usize)],
+) -> bool {
+    for row in rows {
+        if !come(rt, row.0, row.1).unwrap_or(false) {
+            return false;
+        }
+    }
+    true
+}
+
+/// Also where each restarts the home.
 #[test]
 fn sixteen_sources_have_each_their_lines_in_order(rt: HostRuntime) {
-    assert!(rt; all_come(&rt, 65));
+    assert!(rt;
+        all_come(
+            &rt,
+            &[
+                (&["r light.x on", "m 20:00:01", "e go"], 65),
+                (&["r light.x on", RESTART, "e go"], 81),
+            ]
+        )
+    );
 }
 
 /// 10,000 lines: reports, and an event and a moment in each twenty.

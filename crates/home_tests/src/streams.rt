@@ -230,6 +230,55 @@ fn a_line_more_than_the_journal_takes(rt: HostRuntime) {
     assert!(rt; all_end(&rt, "[]", &[(events(1_048_576), (7, "", full, 1_048_576))]));
 }
 
+/// A restart, and so many events behind it.
+fn restarted(count: usize) -> Long {
+    let mut long = events(count);
+    long.text = "{\"restart\":true}\n";
+    long
+}
+
+/// The line of the restart and the boot stand in a segment of their own.
+#[test]
+fn a_segment_that_is_full_and_a_line_more(rt: HostRuntime) {
+    let full = "hearth: journal full\n";
+    assert!(rt;
+        all_end(
+            &rt,
+            "[]",
+            &[
+                (restarted(1_048_575), (0, "", "", 1_048_578)),
+                (restarted(1_048_576), (7, "", full, 1_048_578)),
+            ]
+        )
+    );
+}
+
+/// So many restarts, each on a line of its own.
+fn restarts(count: usize) -> Long {
+    Long {
+        text: "",
+        piece: "{\"restart\":true}\n",
+        pieces: 4_096,
+        behind: count.saturating_mul(17),
+        most: 1,
+    }
+}
+
+#[test]
+fn a_journal_of_all_its_segments_and_a_restart_more(rt: HostRuntime) {
+    let full = "hearth: journal full\n";
+    assert!(rt;
+        all_end(
+            &rt,
+            "[]",
+            &[
+                (restarts(1_023), (0, "", "", 2_047)),
+                (restarts(1_024), (7, "", full, 2_047)),
+            ]
+        )
+    );
+}
+
 const BOOT: &str =
     "{\"boot\":{\"config\":\"[]\\n\",\"stored\":null,\"start\":\"2024-05-01T20:00:00.000Z\",\"zone\":\"UTC\"}}\n";
 

@@ -12,7 +12,7 @@ use Rattle.ha_journal.specs.declared.entry.Entry.TheVariants.{Line}
 use Rattle.ha_config.specs.Words.{Text, numbers_from, up_to, one_of, or_else}
 use Rattle.ha_config.specs.Numbers.{in_bounds}
 use Rattle.ha_config.specs.Equal.{same_flag}
-use Rattle.ha_journal.specs.Entries.{event_in, is_moment, opens_segment}
+use Rattle.ha_journal.specs.Entries.{event_in, is_boot, is_moment, opens_segment}
 use Rattle.ha_journal.specs.Journal.{Journal, HasEntry, now, zone_of, more}
 use Rattle.ha_sight.specs.Sight.{Sight}
 use Rattle.ha_journal.specs.States.{states, switches_of}
@@ -121,7 +121,7 @@ module _ (j : Journal) (x : Entry) (h : HasEntry j) (s : IsQuiet x) (same : Noth
   moves-here : (t : Trigger) (e : Option EntityId) → moves k t e p ≡ false
   moves-here t e =
       moves-at j x h t e
-      ∙ (λ i. if s.opens i then starts t.rule && is_none e else looks (sight j p) ((sight-still ∙ sight-more j x h p (omega arith)) i) j t.rule (is_some t.hold) e x)
+      ∙ (λ i. if s.opens i then is_boot x && starts t.rule && is_none e else looks (sight j p) ((sight-still ∙ sight-more j x h p (omega arith)) i) j t.rule (is_some t.hold) e x)
       ∙ looks-still (sight j p) j x s t.rule (is_some t.hold) e
 
   latest-still : (e : EntityId) (name : Option Text) → latest_number e name (take (suc p) k) ≡ latest_number e name (take p k)

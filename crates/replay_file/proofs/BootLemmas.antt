@@ -13,7 +13,7 @@ use Rattle.ha_journal.specs.declared.entry.Entry.{Entry}
 use Rattle.ha_journal.specs.declared.entry.Entry.TheVariants.{Boot, Line, Step, Again}
 use Rattle.ha_config.specs.Words.{Text}
 use Rattle.ha_journal.specs.Journal.{Journal}
-use Rattle.ha_model.specs.Lawful.{Right}
+use Rattle.ha_whole.specs.Whole.{Right}
 use Rattle.ha_model.specs.Records.{Records}
 use Rattle.conf_auto.specs.Config.{config_of}
 use Rattle.ha_replay.specs.declared.boot.BootLine.{BootLine}

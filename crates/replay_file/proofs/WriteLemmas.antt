@@ -1,7 +1,7 @@
 -- What is written of the last entry.
-use Rattle.std.proofs.Common.{◌≡◌, ◌∙◌, ap, sym, subst, refl, ℕ, ◌-◌, ◌≤◌, inl, inr, length, arith}
+use Rattle.std.proofs.Common.{◌≡◌, ◌∙◌, ap, sym, subst, refl, ℕ, ◌-◌, ◌≤◌, inl, inr, length, true, false, arith}
 use Rattle.std.proofs.Math.Seq.{take-length}
-use Rattle.std.specs.Prelude.{Option, Some, None, slice_get}
+use Rattle.std.specs.Prelude.{◌⊎◌, Option, Some, None, slice_get}
 use Rattle.ha_io.specs.Told.{Takes}
 use Rattle.ha_io.proofs.ToldLemmas.{Takes-nothing}
 use Rattle.ha_journal.specs.declared.entry.Entry.{Entry}
@@ -13,13 +13,15 @@ use Rattle.ha_journal.specs.EntryText.{error_text_of}
 use Rattle.ha_config.proofs.ListLemmas.{none-some, some-same}
 use Rattle.bus_turn.specs.declared.fault.BusFault.{BusFault}
 use Rattle.bus_turn.specs.States.{SinkState}
-use Rattle.bus_turn.specs.Writes.{Took, TookFront, Writes}
+use Rattle.bus_turn.specs.Writes.{SinkCause, Took, TookFront, Writes}
 use Rattle.bus_turn.proofs.LastLemmas.{last-is}
 use Rattle.ha_status.specs.declared.status.Status.{Status}
 use Rattle.ha_status.specs.Causes.{NeverFall, OneRose, WriteCause}
 use Rattle.ha_io.proofs.CountLemmas.{Rose-within}
 use Rattle.ha_status.proofs.CauseLemmas.{wider_write}
-use Rattle.replay_file.specs.Steps.{WritesBoth}
+use Rattle.ha_replay.specs.Traces.{Reached, Takes as TakesEntry, told}
+use Rattle.replay_file.specs.Steps.{IfWrite, WritesBoth}
+use Rattle.replay_file.proofs.ToldLemmas.{last_gives}
 
 -- ---- one sink
 
@@ -67,6 +69,58 @@ module _ (k seen before : Journal) (x entry : Entry) (rs : Records) (is : k ≡ 
       by : (f : Option BusFault) → Took (call_text_of rs before x) o o' → Writes (error_text_of x) e f e' → WritesBoth (call_text_of rs before x) (error_text_of x) o e f o' e'
       by None c d = (c, d)
       by (Some fault) c d = (all_taken (call_text_of rs before x) o o' c, d.0, inr d.1)
+
+-- ---- both texts of a line that was taken
+
+-- no count of the sinks falls, and their names stay
+pub record BothStay (o e o' e' : SinkState) : Type 0 where
+  pub out_counts : NeverFall o.faults o'.faults o.zeros o'.zeros
+  pub err_counts : NeverFall e.faults e'.faults e.zeros e'.zeros
+  pub out_name : o'.name ≡ o.name
+  pub err_name : e'.name ≡ e.name
+
+both_stay : (calls errors : Text) (o e o' e' : SinkState) (f : Option BusFault) → WritesBoth calls errors o e f o' e' → BothStay o e o' e'
+both_stay calls errors o e o' e' None w = record {
+  out_counts = record { faults_stay = w.0.faults_stay; zeros_stay = w.0.zeros_stay };
+  err_counts = record { faults_stay = w.1.faults_stay; zeros_stay = w.1.zeros_stay };
+  out_name = w.0.same_name;
+  err_name = w.1.same_name;
+}
+both_stay calls errors o e o' e' (Some fault) w = record {
+  out_counts = record { faults_stay = w.0.faults_stay; zeros_stay = w.0.zeros_stay };
+  err_counts = record { faults_stay = w.1.faults_stay; zeros_stay = w.1.zeros_stay };
+  out_name = w.0.same_name;
+  err_name = w.1.same_name;
+}
+
+module _ (line : Text) (r r' : Reached) (t : TakesEntry line r r') (o e o' e' : SinkState) (f : Option BusFault)
+    (w : (before : Journal) (x : Entry) → r'.journal ≡ more before x → WritesBoth (call_text_of r'.records before x) (error_text_of x) o e f o' e') where
+  -- what is written of the last entry is that of the entry whose line it is
+  pub written : WritesBoth (call_text_of r'.records (told r) t.entry) (error_text_of t.entry) o e f o' e'
+  written =
+      let gives = last_gives r' (told r) t.entry t.stands t.journal in
+      subst (λ z. WritesBoth (call_text_of r'.records (told r) t.entry) z o e f o' e') gives.errors
+      (subst (λ z. WritesBoth z (error_text_of gives.entry) o e f o' e') gives.calls (w gives.before gives.entry gives.is))
+
+  pub stay : BothStay o e o' e'
+  stay = both_stay (call_text_of r'.records (told r) t.entry) (error_text_of t.entry) o e o' e' f written
+
+-- why a text was not written
+pub cause_of : (o e o' e' : SinkState) (fault : BusFault) (s : Status) → IfWrite s fault → SinkCause fault o o' ⊎ SinkCause fault e e'
+    → WriteCause (OneRose o.faults o'.faults e.faults e'.faults) (OneRose o.zeros o'.zeros e.zeros e'.zeros) s
+cause_of o e o' e' fault (Status.WriteFault false) is cause = subst (λ (z : BusFault). SinkCause z o o' ⊎ SinkCause z e e') is cause
+cause_of o e o' e' fault (Status.WriteFault true) is cause = subst (λ (z : BusFault). SinkCause z o o' ⊎ SinkCause z e e') is cause
+cause_of o e o' e' fault Status.Ok is cause = tt
+cause_of o e o' e' fault Status.Usage is cause = tt
+cause_of o e o' e' fault (Status.ConfigRefused line code) is cause = tt
+cause_of o e o' e' fault (Status.OpenFault name) is cause = tt
+cause_of o e o' e' fault (Status.ReadFault source) is cause = tt
+cause_of o e o' e' fault Status.KeepFault is cause = tt
+cause_of o e o' e' fault Status.JournalFull is cause = tt
+cause_of o e o' e' fault (Status.SourceTooLong source) is cause = tt
+cause_of o e o' e' fault (Status.StoreRefused code) is cause = tt
+cause_of o e o' e' fault (Status.TraceRefused line) is cause = tt
+cause_of o e o' e' fault Status.Memory is cause = tt
 
 -- ---- longer times
 

@@ -4,7 +4,7 @@ use Rattle.ha_journal.specs.declared.entry.Entry.{Entry}
 use Rattle.ha_config.specs.Words.{Text}
 use Rattle.ha_journal.specs.Journal.{Journal, automations}
 use Rattle.ha_model.specs.Records.{Records}
-use Rattle.ha_model.specs.Lawful.{Right}
+use Rattle.ha_whole.specs.Whole.{Right}
 use Rattle.ha_config.specs.CheckText.{as_line}
 use Rattle.ha_journal.specs.EntryText.{trace_line}
 use Rattle.ha_replay.specs.declared.fault.TraceFault.{TraceFault}

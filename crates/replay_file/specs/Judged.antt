@@ -1,5 +1,5 @@
 -- What is found in the bytes of a trace, and how far its calls and errors are written.
-use Rattle.std.specs.Prelude.{ℕ, suc, ◌≡◌, ◌≢◌, ◌⊎◌, Bool, true, false, [], Option, Some, length}
+use Rattle.std.specs.Prelude.{ℕ, suc, ◌≡◌, ◌⊎◌, Bool, true, false, [], Option, Some}
 use Rattle.ha_config.specs.Words.{Text}
 use Rattle.ha_journal.specs.Journal.{Journal}
 use Rattle.ha_model.specs.Records.{Records}
@@ -8,12 +8,11 @@ use Rattle.ha_journal.specs.EntryText.{error_text}
 use Rattle.ha_io.specs.Told.{Takes}
 use Rattle.ha_status.specs.declared.status.Status.{Status}
 use Rattle.ha_status.specs.Written.{TookBut, TookLine}
-use Rattle.ha_replay.specs.Traces.{most_entries}
 use Rattle.replay_file.specs.declared.front.FrontEnd.{FrontEnd}
 use Rattle.replay_file.specs.Fronts.{IsFrontOf}
 use Rattle.trace_laws.specs.Lines.{is_one_line}
 use Rattle.trace_laws.specs.Runs.{Begins, line_count}
-use Rattle.trace_laws.specs.Tells.{IsFarthest, IsNoTrace}
+use Rattle.trace_laws.specs.Tells.{HasNoRoom, IsFarthest, IsNoTrace}
 
 -- ---- the status
 
@@ -34,16 +33,16 @@ OfFile text end P = (bytes : Text) → IsFrontOf text end bytes → P bytes
 pub record IsRefused (text : Text) (end : FrontEnd) (j : Journal) (rs : Records) (ended : Bool) (left : Text) (line : ℕ) : Type 0 where
   pub line_is : line ≡ suc (line_count j ended)
   pub judged : IsJudged end left
-  pub room : ended ≡ false → length j ≢ most_entries
+  pub room : ended ≡ false → HasNoRoom j left → ⊥
   pub farthest : OfFile text end (λ bytes. IsFarthest bytes (line_count j ended))
   pub no_trace : OfFile text end IsNoTrace
 
--- The journal of the run is full, and the file begins with the trace of no run that has more lines.
+-- There is no room for what stands next, and the file begins with the trace of no run that has more lines.
 pub record IsFull (text : Text) (end : FrontEnd) (j : Journal) (ended : Bool) (left : Text) : Type 0 where
   pub unended : ended ≡ false
-  pub full : length j ≡ most_entries
+  pub full : HasNoRoom j left
   pub judged : IsJudged end left
-  pub farthest : OfFile text end (λ bytes. IsFarthest bytes most_entries)
+  pub farthest : OfFile text end (λ bytes. IsFarthest bytes (line_count j ended))
   pub no_trace : OfFile text end IsNoTrace
 
 -- The status where the bytes begin with the trace of this run, and this is left. A failed read and too many bytes come only where no whole

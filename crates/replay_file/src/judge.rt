@@ -8,7 +8,7 @@ ghost use Rattle.ha_journal.specs.EntryText.{error_text_of};
 ghost use Rattle.bus_turn.specs.States.{sink_of};
 ghost use Rattle.bus_turn.specs.Writes.{fault_of};
 ghost use Rattle.ha_status.specs.Causes.{NeverFall, OneRose, WriteCause};
-ghost use Rattle.ha_replay.specs.Traces.{reached};
+ghost use Rattle.ha_replay.specs.Traces.{reached, told};
 ghost use Rattle.replay_file.specs.declared.front.FrontEnd.{FrontEnd as End};
 ghost use Rattle.replay_file.specs.Fronts.{most_bytes};
 ghost use Rattle.trace_laws.specs.Lines.{is_one_line};
@@ -21,14 +21,11 @@ use crate::front::FrontEnd;
 use bus_turn::{BusFault, write_call, write_error};
 use ha_boot::Boots;
 use ha_io::Sink;
-use ha_model::Core;
-use ha_replay::{TraceFault, replay_line};
+use ha_replay::{TraceFault, is_full, replay_line};
 use ha_status::Status;
 use ha_value::Word;
+use ha_whole::Core;
 use std::alloc::Global;
-
-/// The entries that a journal may have.
-const MOST_ENTRIES: usize = 1_048_576;
 
 /// How far a trace was judged.
 #[derive(Drop)]
@@ -36,6 +33,8 @@ struct Replay<E: Boots> {
     core: E,
     /// Whether a closing step was taken.
     closing: bool,
+    /// Whether the last entry is an Again whose line is still due.
+    again: bool,
     /// Whether the end line was taken.
     ended: bool,
     /// How many lines were taken.
@@ -69,7 +68,7 @@ fn unwritten(fault: BusFault) -> Status
     }
 }
 
-/// Writes the call line and the error line of the last entry.
+/// Writes the call line and the error line of the last entry. Behind a Restart that is its Again: neither has one.
 fn write_last<C: Core, K: Sink>(
     alloc: Global,
     shown: &mut Word,
@@ -98,25 +97,26 @@ fn take_line<C: Core, K: Sink>(
     core: &mut C,
     line: &[u8],
     closing: &mut bool,
+    again: &mut bool,
     lines: u32,
     out: &mut K,
     err: &mut K,
 ) -> Result<bool, Status>
-    requires ready { IsReady (reached (C.entries core.old) (C.runs core.old) closing.old) (C.is_spent core.old) false lines }
+    requires ready { IsReady (reached (C.entries core.old) (C.runs core.old) closing.old again.old) (C.is_spent core.old) false lines }
     requires short { length line.now < 2 ^ 32 }
-    ensures goes_on { (text behind : Text) (o e : Option Text) → IsAt text (C.entries core.old) (C.runs core.old) false (line.now ++ (10 ∷ behind)) o (K.written out.old) e (K.written err.old)
-        → IfOk result (λ ended. IsAt text (C.entries core.new) (C.runs core.new) ended behind o (K.written out.new) e (K.written err.new)) }
+    ensures goes_on { (text behind : Text) (o e : Option Text) → IsAt text (told (reached (C.entries core.old) (C.runs core.old) closing.old again.old)) (C.runs core.old) false (line.now ++ (10 ∷ behind)) o (K.written out.old) e (K.written err.old)
+        → IfOk result (λ ended. IsAt text (told (reached (C.entries core.new) (C.runs core.new) closing.new again.new)) (C.runs core.new) ended behind o (K.written out.new) e (K.written err.new)) }
     ensures stops { (text behind : Text) (end : End) (o e : Option Text) → is_one_line line.now ≡ true
-        → IsAt text (C.entries core.old) (C.runs core.old) false (line.now ++ (10 ∷ behind)) o (K.written out.old) e (K.written err.old)
+        → IsAt text (told (reached (C.entries core.old) (C.runs core.old) closing.old again.old)) (C.runs core.old) false (line.now ++ (10 ∷ behind)) o (K.written out.old) e (K.written err.old)
         → IfErr result (λ status. Judged text end status (λ t. IsTaken status t o (K.written out.new)) (λ t. IsTaken status t e (K.written err.new))) }
-    ensures ready { IfOk result (λ ended. IsReady (reached (C.entries core.new) (C.runs core.new) closing.new) (C.is_spent core.new) ended (lines + 1)) }
+    ensures ready { IfOk result (λ ended. IsReady (reached (C.entries core.new) (C.runs core.new) closing.new again.new) (C.is_spent core.new) ended (lines + 1)) }
     ensures cause { IfErr result (λ status. WriteCause (OneRose (K.faults out.old) (K.faults out.new) (K.faults err.old) (K.faults err.new)) (OneRose (K.zeros out.old) (K.zeros out.new) (K.zeros err.old) (K.zeros err.new)) status) }
     ensures out_counts { NeverFall (K.faults out.old) (K.faults out.new) (K.zeros out.old) (K.zeros out.new) }
     ensures err_counts { NeverFall (K.faults err.old) (K.faults err.new) (K.zeros err.old) (K.zeros err.new) }
     ensures out_name { K.name out.new ≡ K.name out.old }
     ensures err_name { K.name err.new ≡ K.name err.old }
 {
-    match replay_line(alloc, shown, core, line, closing) {
+    match replay_line(alloc, shown, core, line, closing, again) {
         Ok(true) => Ok(true),
         Ok(false) => match write_last(alloc, shown, core, out, err) {
             Ok(()) => Ok(false),
@@ -135,14 +135,14 @@ impl<E: Boots> Replay<E> {
         out: &mut K,
         err: &mut K,
     ) -> Result<(), Status>
-        requires ready { IsReady (reached (E.entries self.old.core) (E.runs self.old.core) self.old.closing) (E.is_spent self.old.core) self.old.ended self.old.lines }
+        requires ready { IsReady (reached (E.entries self.old.core) (E.runs self.old.core) self.old.closing self.old.again) (E.is_spent self.old.core) self.old.ended self.old.lines }
         requires short { length line.now < 2 ^ 32 }
-        ensures goes_on { (text behind : Text) (o e : Option Text) → IsAt text (E.entries self.old.core) (E.runs self.old.core) self.old.ended (line.now ++ (10 ∷ behind)) o (K.written out.old) e (K.written err.old)
-            → OnOk result (IsAt text (E.entries self.new.core) (E.runs self.new.core) self.new.ended behind o (K.written out.new) e (K.written err.new)) }
+        ensures goes_on { (text behind : Text) (o e : Option Text) → IsAt text (told (reached (E.entries self.old.core) (E.runs self.old.core) self.old.closing self.old.again)) (E.runs self.old.core) self.old.ended (line.now ++ (10 ∷ behind)) o (K.written out.old) e (K.written err.old)
+            → OnOk result (IsAt text (told (reached (E.entries self.new.core) (E.runs self.new.core) self.new.closing self.new.again)) (E.runs self.new.core) self.new.ended behind o (K.written out.new) e (K.written err.new)) }
         ensures stops { (text behind : Text) (end : End) (o e : Option Text) → is_one_line line.now ≡ true
-            → IsAt text (E.entries self.old.core) (E.runs self.old.core) self.old.ended (line.now ++ (10 ∷ behind)) o (K.written out.old) e (K.written err.old)
+            → IsAt text (told (reached (E.entries self.old.core) (E.runs self.old.core) self.old.closing self.old.again)) (E.runs self.old.core) self.old.ended (line.now ++ (10 ∷ behind)) o (K.written out.old) e (K.written err.old)
             → IfErr result (λ status. Judged text end status (λ t. IsTaken status t o (K.written out.new)) (λ t. IsTaken status t e (K.written err.new))) }
-        ensures ready { OnOk result (IsReady (reached (E.entries self.new.core) (E.runs self.new.core) self.new.closing) (E.is_spent self.new.core) self.new.ended self.new.lines) }
+        ensures ready { OnOk result (IsReady (reached (E.entries self.new.core) (E.runs self.new.core) self.new.closing self.new.again) (E.is_spent self.new.core) self.new.ended self.new.lines) }
         ensures cause { IfErr result (λ status. WriteCause (OneRose (K.faults out.old) (K.faults out.new) (K.faults err.old) (K.faults err.new)) (OneRose (K.zeros out.old) (K.zeros out.new) (K.zeros err.old) (K.zeros err.new)) status) }
         ensures out_counts { NeverFall (K.faults out.old) (K.faults out.new) (K.zeros out.old) (K.zeros out.new) }
         ensures err_counts { NeverFall (K.faults err.old) (K.faults err.new) (K.zeros err.old) (K.zeros err.new) }
@@ -158,6 +158,7 @@ impl<E: Boots> Replay<E> {
             &mut self.core,
             line,
             &mut self.closing,
+            &mut self.again,
             self.lines,
             out,
             err,
@@ -173,9 +174,9 @@ impl<E: Boots> Replay<E> {
 
     /// The status at the end of what was read, of which this is left behind the last LF.
     fn end(&self, left: &[u8], end: FrontEnd) -> Status
-        requires ready { IsReady (reached (E.entries self.now.core) (E.runs self.now.core) self.now.closing) (E.is_spent self.now.core) self.now.ended self.now.lines }
+        requires ready { IsReady (reached (E.entries self.now.core) (E.runs self.now.core) self.now.closing self.now.again) (E.is_spent self.now.core) self.now.ended self.now.lines }
         requires no_line { is_one_line left.now ≡ true }
-        ensures judged { (text : Text) (o o' e e' : Option Text) → IsAt text (E.entries self.now.core) (E.runs self.now.core) self.now.ended left.now o o' e e'
+        ensures judged { (text : Text) (o o' e e' : Option Text) → IsAt text (told (reached (E.entries self.now.core) (E.runs self.now.core) self.now.closing self.now.again)) (E.runs self.now.core) self.now.ended left.now o o' e e'
             → Judged text end result (λ t. IsTaken result t o o') (λ t. IsTaken result t e e') }
         ensures cause { WriteCause ⊥ ⊥ result }
     {
@@ -189,7 +190,7 @@ impl<E: Boots> Replay<E> {
                     }
                     return status_of(TraceFault::Refused, self.lines);
                 }
-                if self.core.journal().len() == MOST_ENTRIES {
+                if is_full(self.core.journal()) {
                     return Status::JournalFull;
                 }
                 status_of(TraceFault::Refused, self.lines)
@@ -206,9 +207,9 @@ impl<E: Boots> Replay<E> {
         out: &mut K,
         err: &mut K,
     ) -> Status
-        requires ready { IsReady (reached (E.entries self.old.core) (E.runs self.old.core) self.old.closing) (E.is_spent self.old.core) self.old.ended self.old.lines }
+        requires ready { IsReady (reached (E.entries self.old.core) (E.runs self.old.core) self.old.closing self.old.again) (E.is_spent self.old.core) self.old.ended self.old.lines }
         requires short { length lines.now ≤ most_bytes }
-        ensures judged { (text : Text) (o e : Option Text) → IsAt text (E.entries self.old.core) (E.runs self.old.core) self.old.ended lines.now o (K.written out.old) e (K.written err.old)
+        ensures judged { (text : Text) (o e : Option Text) → IsAt text (told (reached (E.entries self.old.core) (E.runs self.old.core) self.old.closing self.old.again)) (E.runs self.old.core) self.old.ended lines.now o (K.written out.old) e (K.written err.old)
             → Judged text end result (λ t. IsTaken result t o (K.written out.new)) (λ t. IsTaken result t e (K.written err.new)) }
         ensures cause { WriteCause (OneRose (K.faults out.old) (K.faults out.new) (K.faults err.old) (K.faults err.new)) (OneRose (K.zeros out.old) (K.zeros out.new) (K.zeros err.old) (K.zeros err.new)) result }
         ensures out_counts { NeverFall (K.faults out.old) (K.faults out.new) (K.zeros out.old) (K.zeros out.new) }
@@ -258,6 +259,7 @@ pub(crate) fn judge<E: Boots, K: Sink>(
     let mut replay = Replay {
         core,
         closing: false,
+        again: false,
         ended: false,
         lines: 1,
         shown: Word::new(alloc),

@@ -1,18 +1,15 @@
 //! Conditions, on the states and at the moment of a place.
-use crate::home::{home_of, tell, utc, view_of};
+use crate::home::{Home, home_of, tell, utc, view_of};
 use cond_eval::{View, test};
-use ha_config::Condition;
+use ha_config::{Automation, Condition};
 use ha_sight::{Env, TriggerData};
-use ha_value::{Many, Value, Word};
+use ha_value::{Many, Value, push_text};
 use std::alloc::{AllocError, Global};
 
 /// The variables of a run whose trigger has the id 7.
 fn seventh(alloc: Global) -> Result<Env, AllocError> {
     let mut trigger = Many::make(alloc);
-    trigger.push((
-        Word::from_str(alloc, "id")?,
-        Value::Text(Word::from_str(alloc, "7")?),
-    ))?;
+    push_text(alloc, &mut trigger, "id", "7")?;
     let data = TriggerData::whole(alloc, Value::Pairs(trigger))?;
     Ok(Env::of_trigger(alloc, data))
 }
@@ -32,27 +29,49 @@ fn all_hold(
     Ok(true)
 }
 
+/// Whether the conditions of the rule hold.
+fn rule_holds(alloc: Global, rule: &Automation, view: &View<'_>) -> Result<bool, AllocError> {
+    let env = seventh(alloc)?;
+    all_hold(alloc, rule.tests.as_slice(), view, &env)
+}
+
+/// Whether those of the home's first automation hold; none where there is none.
+fn first_holds(alloc: Global, home: &Home) -> Result<Option<bool>, AllocError> {
+    let zone = utc(alloc)?;
+    match (view_of(home, &zone), home.config.automations.get(0)) {
+        (Some(view), Some(rule)) => match rule_holds(alloc, rule, &view) {
+            Ok(holds) => Ok(Some(holds)),
+            Err(fault) => Err(fault),
+        },
+        _ => Ok(None),
+    }
+}
+
+/// Whether each of these lines may come.
+fn all_told(alloc: Global, home: &mut Home, lines: &[&str]) -> Result<bool, AllocError> {
+    for line in lines {
+        if !tell(alloc, home, line)? {
+            return Ok(false);
+        }
+    }
+    Ok(true)
+}
+
+/// Whether the conditions of the home's first automation hold behind these lines; none where a line is refused.
+fn tested_in(alloc: Global, home: &mut Home, lines: &[&str]) -> Result<Option<bool>, AllocError> {
+    if all_told(alloc, home, lines)? {
+        first_holds(alloc, home)
+    } else {
+        Ok(None)
+    }
+}
+
 /// Whether the conditions of an automation hold behind these lines; none where they are refused, or a line is.
 fn tested(alloc: Global, conditions: &str, lines: &[&str]) -> Result<Option<bool>, AllocError> {
     let Some(mut home) = home_of(alloc, conditions, "[]")? else {
         return Ok(None);
     };
-    for line in lines {
-        if !tell(alloc, &mut home, line)? {
-            return Ok(None);
-        }
-    }
-    let zone = utc(alloc)?;
-    let Some(view) = view_of(&home, &zone) else {
-        return Ok(None);
-    };
-    match home.config.automations.get(0) {
-        Some(rule) => {
-            let env = seventh(alloc)?;
-            Ok(Some(all_hold(alloc, rule.tests.as_slice(), &view, &env)?))
-        }
-        None => Ok(None),
-    }
+    tested_in(alloc, &mut home, lines)
 }
 
 /// Whether they hold.

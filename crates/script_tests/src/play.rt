@@ -326,32 +326,6 @@ fn all_come(
     Ok(!may_step(alloc, home, run)?)
 }
 
-/// Whether a script, in flow on one line, goes as it is said, and is then so far that no step may be taken.
-pub fn goes(alloc: Global, actions: &str, said: &[&str], progress: Progress) -> bool {
-    match went(alloc, actions, said, progress) {
-        Ok(is) => is,
-        Err(_) => false,
-    }
-}
-
-/// The same, or that there is no memory for it.
-fn went(
-    alloc: Global,
-    actions: &str,
-    said: &[&str],
-    progress: Progress,
-) -> Result<bool, AllocError> {
-    let Some(mut home) = home_of(alloc, "[]", actions)? else {
-        return Ok(false);
-    };
-    let Some(script) = begin(alloc, &home.config)? else {
-        return Ok(false);
-    };
-    let mut run = run_of(alloc, script);
-    let come = all_come(alloc, &mut home, &mut run, said)?;
-    Ok(come && run.progress == progress)
-}
-
 /// Takes so many steps, in each of which nothing is done; whether they can be taken.
 fn idle(alloc: Global, home: &Home, run: &mut Run, many: u32) -> Result<bool, AllocError> {
     for _ in 0..many {
@@ -362,43 +336,69 @@ fn idle(alloc: Global, home: &Home, run: &mut Run, many: u32) -> Result<bool, Al
     Ok(true)
 }
 
-/// Takes so many steps in which nothing is done, and then what is said; whether it can.
-fn idle_and_come(
+/// What a script is to do: nothing in so many steps, and then what is said, after which no step may be taken, and it is so far.
+#[derive(Clone, Copy)]
+struct Wanted<'a> {
+    idle: u32,
+    said: &'a [&'a str],
+    progress: Progress,
+}
+
+/// Whether the run does it.
+fn does(
     alloc: Global,
     home: &mut Home,
     run: &mut Run,
-    many: u32,
-    said: &[&str],
+    wanted: &Wanted<'_>,
 ) -> Result<bool, AllocError> {
-    if !idle(alloc, home, run, many)? {
+    if !idle(alloc, home, run, wanted.idle)? {
         return Ok(false);
     }
-    all_come(alloc, home, run, said)
+    Ok(all_come(alloc, home, run, wanted.said)? && run.progress == wanted.progress)
+}
+
+/// Whether the run of the script does it.
+fn played(
+    alloc: Global,
+    home: &mut Home,
+    script: Script,
+    wanted: &Wanted<'_>,
+) -> Result<bool, AllocError> {
+    does(alloc, home, &mut run_of(alloc, script), wanted)
+}
+
+/// Whether the script of the home's first automation does it. No function has both the home and the run where memory may be wanting: each
+/// such place is dear to prove.
+fn played_in(alloc: Global, home: &mut Home, wanted: &Wanted<'_>) -> Result<bool, AllocError>
+    requires { IsSoundConfig home.old.config }
+{
+    match begin(alloc, &home.config)? {
+        Some(script) => played(alloc, home, script, wanted),
+        None => Ok(false),
+    }
+}
+
+fn went(alloc: Global, actions: &str, wanted: &Wanted<'_>) -> Result<bool, AllocError> {
+    let Some(mut home) = home_of(alloc, "[]", actions)? else {
+        return Ok(false);
+    };
+    played_in(alloc, &mut home, wanted)
+}
+
+/// Whether a script, in flow on one line, goes as it is said, and is then so far that no step may be taken.
+pub fn goes(alloc: Global, actions: &str, said: &[&str], progress: Progress) -> bool {
+    idles(alloc, actions, 0, said, progress)
 }
 
 /// Whether a script does nothing in so many steps, and then goes as it is said.
 pub fn idles(alloc: Global, actions: &str, many: u32, said: &[&str], progress: Progress) -> bool {
-    match idled(alloc, actions, many, said, progress) {
+    let wanted = Wanted {
+        idle: many,
+        said,
+        progress,
+    };
+    match went(alloc, actions, &wanted) {
         Ok(is) => is,
         Err(_) => false,
     }
-}
-
-/// The same, or that there is no memory for it.
-fn idled(
-    alloc: Global,
-    actions: &str,
-    many: u32,
-    said: &[&str],
-    progress: Progress,
-) -> Result<bool, AllocError> {
-    let Some(mut home) = home_of(alloc, "[]", actions)? else {
-        return Ok(false);
-    };
-    let Some(script) = begin(alloc, &home.config)? else {
-        return Ok(false);
-    };
-    let mut run = run_of(alloc, script);
-    let come = idle_and_come(alloc, &mut home, &mut run, many, said)?;
-    Ok(come && run.progress == progress)
 }

@@ -1,3 +1,4 @@
+pub mod TableShift
 pub mod MovedLemmas
 pub mod SplitLemmas
 pub mod OverLemmas

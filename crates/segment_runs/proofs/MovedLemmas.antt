@@ -9,8 +9,8 @@ use Rattle.run_modes.specs.declared.admission.Admission.{Admission}
 use Rattle.run_modes.specs.Fits.{AreNumbered}
 use Rattle.run_modes.specs.Lanes.{first_of}
 use Rattle.run_modes.specs.Table.{admission, begun_by, is_live, live_of, told, waiting_first}
-use Rattle.whole_laws.specs.Goes.{AllEnded, SerialsTo, moved, moved_all}
-use Rattle.whole_laws.proofs.TableShift.{count-behind, live-behind}
+use Rattle.segment_runs.specs.Goes.{AllEnded, SerialsTo, moved, moved_all}
+use Rattle.segment_runs.proofs.TableShift.{count-behind, live-behind}
 use Rattle.segment_runs.specs.Segment.{taken_back}
 use Rattle.segment_runs.specs.Told.{lowered, raised}
 

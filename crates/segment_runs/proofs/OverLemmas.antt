@@ -11,7 +11,7 @@ use Rattle.ha_model.specs.Lawful.{record_of}
 use Rattle.ha_model.specs.Records.{Records}
 use Rattle.run_modes.specs.declared.admission.Admission.{Admission}
 use Rattle.run_modes.specs.Table.{HasBegun, admission, attempted, begun_by, called_on, ended_at, live_of, stopped}
-use Rattle.whole_laws.specs.Goes.{AllEnded, moved, moved_all}
+use Rattle.segment_runs.specs.Goes.{AllEnded, moved, moved_all}
 use Rattle.segment_runs.specs.Segment.{Closed, Splits, StandsOver, all_of, closed_in, own_in, runs_of, taken_back}
 use Rattle.segment_runs.specs.Told.{answered, lowered}
 use Rattle.segment_runs.proofs.SplitLemmas.{Stands, admission-own, attempted-splits, begun-own, called-splits, ended-splits, length-all, length-taken, live-own, record-behind, serial-within, stands, stopped-splits}

@@ -14,8 +14,8 @@ use Rattle.run_modes.proofs.ChangeLaws.{attempted-numbered, stopped-numbered}
 use Rattle.run_modes.proofs.EndLemmas.{ended-numbered}
 use Rattle.run_modes.proofs.StopLemmas.{called-numbered}
 use Rattle.run_modes.proofs.TableLemmas.{read-within, serial-at}
-use Rattle.whole_laws.specs.Goes.{GoesOn, SerialsTo, moved, moved_all}
-use Rattle.whole_laws.proofs.TableShift.{attempted-behind, called-behind, ended-behind, live-behind, stopped-behind}
+use Rattle.segment_runs.specs.Goes.{GoesOn, SerialsTo, moved, moved_all}
+use Rattle.segment_runs.proofs.TableShift.{attempted-behind, called-behind, ended-behind, live-behind, stopped-behind}
 use Rattle.segment_runs.specs.Segment.{Closed, Splits, StandsOver, all_of, closed_in, own_in, runs_of, taken_back}
 use Rattle.segment_runs.specs.Told.{lowered}
 use Rattle.segment_runs.proofs.MovedLemmas.{admission-behind, back-all, back-serial, begun-behind, length-moved, own-numbered}

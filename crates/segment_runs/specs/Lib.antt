@@ -1,2 +1,3 @@
+pub mod Goes
 pub mod Segment
 pub mod Told

@@ -3,7 +3,7 @@ use Rattle.std.specs.Prelude.{◌≡◌, ℕ, ◌-◌, ◌<◌, ◌≤◌, ◌^�
 use Rattle.ha_model.specs.declared.record.Record.{Record}
 use Rattle.ha_model.specs.Records.{Records}
 use Rattle.run_modes.specs.Fits.{AreNumbered}
-use Rattle.whole_laws.specs.Goes.{AllEnded, moved_all}
+use Rattle.segment_runs.specs.Goes.{AllEnded, moved_all}
 
 -- what closed segments left: their records, and how many entries they have
 pub record Closed : Type 0 where

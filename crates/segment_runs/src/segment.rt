@@ -4,8 +4,8 @@ ghost use Rattle.std.specs.Option.{option_copied};
 ghost use Rattle.ha_model.specs.declared.record.Record.{Record as Run};
 ghost use Rattle.ha_model.specs.Lawful.{record_of};
 ghost use Rattle.run_modes.specs.Table.{admission, attempted, begun_by, called_on, ended_at, live_of, stopped, HasBegun};
-ghost use Rattle.whole_laws.specs.Goes.{AllEnded};
-ghost use Rattle.segment_runs.specs.Segment.{all_of};
+ghost use Rattle.segment_runs.specs.Goes.{AllEnded};
+ghost use Rattle.segment_runs.specs.Segment.{all_of, runs_of};
 ghost use Rattle.segment_runs.specs.Told.{answered, lowered};
 
 use ha_config::Mode;
@@ -156,9 +156,15 @@ impl SegmentRuns {
         count_of(self.all.list()) - self.base as usize
     }
 
+    /// How many runs of the automation all segments have had.
+    pub fn made(&self, automation: u32) -> u64
+        ensures { result ≡ runs_of (all_of self.now.closed self.now.list) automation }
+    {
+        self.all.made(automation)
+    }
+
     /// The automation of the run with this serial.
     pub fn automation(&self, serial: u64) -> Option<u32>
-        requires { 0 < serial }
         ensures { result ≡ option_map (λ (r : Run). r.automation) (record_of self.now.list serial) }
     {
         automation_at(self.all.list(), self.base, serial)
@@ -198,12 +204,11 @@ fn all_serial(records: &[Record], base: u64, serial: u64) -> u64
 
 /// The automation of the run with this serial, behind so many others.
 fn automation_at(records: &[Record], base: u64, serial: u64) -> Option<u32>
-    requires within { base ≤ length records.now }
-    requires some { 0 < serial }
+    requires { base ≤ length records.now }
     ensures { result ≡ option_map (λ (r : Run). r.automation) (slice_get (drop base records.now) (serial - 1)) }
 {
     let own = &records[base as usize..];
-    automation_of(own.get(serial as usize - 1))
+    automation_of(own.get(serial.saturating_sub(1) as usize))
 }
 
 /// The automation of a record, if there is one.

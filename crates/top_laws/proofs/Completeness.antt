@@ -3,7 +3,9 @@ use Rattle.std.proofs.Common.{◌≡◌, ℕ, zero, suc, ◌<◌, ◌≤◌, ◌
 use Rattle.std.specs.Prelude.{Option, Some, None, Result, Ok, Err, slice_get, IsOk, IsErrAnd, IfSome, IsSomeAnd}
 use Rattle.ha_io.specs.Counts.{Rose}
 use Rattle.ha_journal.specs.declared.entry.Entry.{Entry}
+use Rattle.ha_journal.specs.Journal.{Journal}
 use Rattle.ha_config.specs.Words.{Text}
+use Rattle.ha_whole.specs.Whole.{CannotRestart, HasRoom, IsFull}
 use Rattle.store_text.specs.Store.{Switches, switches_in}
 use Rattle.conf_auto.specs.Config.{config_of}
 use Rattle.ha_status.specs.declared.status.Status.{Status}
@@ -21,6 +23,13 @@ use Rattle.ha_top.specs.Written.{written}
 use Rattle.ha_top.specs.Answered.{Answered, AreStored, IsBooted, IsStore, IsTaken, RunOpenCause, StoreCause, WriteFailed, WriteTookNone, scene}
 use Rattle.ha_top.specs.Program.{Checked}
 use Rattle.top_laws.specs.Unhindered.{IsNewWell, IsRead, IsWithin, IsUnhinderedCheck, IsUnhinderedRun}
+
+-- where a Restart has room, nothing lacks it
+room-left : {X Y : Type 0} (j : Journal) → HasRoom j true → (IsFull j × X) ⊎ (CannotRestart j × Y) → ⊥
+room-left j room (inl (inl full, due)) = omega (arith, full, room.segment_room)
+room-left j room (inl (inr full, due)) = omega (arith, full, room.room)
+room-left j room (inr (inl full, due)) = omega (arith, full, (room.restart refl).0)
+room-left j room (inr (inr full, due)) = omega (arith, full, (room.restart refl).1)
 
 -- ---- texts
 
@@ -129,7 +138,7 @@ run-ends-well words b a x u =
     by (Status.WriteFault false) stands refused store unopened unread unwritten unkept = no_write (Status.WriteFault false) unwritten
     by (Status.WriteFault true) stands refused store unopened unread unwritten unkept = no_zero (Status.WriteFault true) unwritten
     by Status.KeepFault stands refused store unopened unread unwritten unkept = absurd (u.kept unkept)
-    by Status.JournalFull stands refused store unopened unread unwritten unkept = absurd (let full = stands.1.full in let room = u.room in omega (arith, full, room))
+    by Status.JournalFull stands refused store unopened unread unwritten unkept = absurd (room-left a.journal u.room stands.1.full)
     by (Status.SourceTooLong k) stands refused store unopened unread unwritten unkept =
         absurd (exceeds b.place.files u.like_check.taken u.within stands.1.0 stands.1.1.ran.served k stands.1.2)
     by (Status.StoreRefused code) stands refused store unopened unread unwritten unkept = absurd (not-store-refused b.keep.kept code u.stored store)

@@ -1,10 +1,10 @@
 -- The trace of a run is what a replay takes, and its calls are the run's.
 use Rattle.std.proofs.Common.{◌≡◌, ◌∙◌, ap, refl, sym, subst, inl, inr, true, Bool, List, [], map, append-nil}
 use Rattle.std.proofs.lemmas.Str.{is_utf8-from_IsUtf8}
-use Rattle.std.specs.Prelude.{Option, Some, None, IfSome, IsSomeAnd}
+use Rattle.std.specs.Prelude.{Option, Some, None, IfSome, IsSomeAnd, if◌then◌else◌}
 use Rattle.ha_config.specs.Words.{Text}
-use Rattle.ha_journal.specs.Journal.{HasEntry, Journal}
-use Rattle.ha_model.specs.Lawful.{Lawful}
+use Rattle.ha_journal.specs.Journal.{HasEntry, Journal, more}
+use Rattle.ha_whole.specs.Whole.{IsWithin, Lawful, again_of, opened}
 use Rattle.ha_model.specs.Records.{Records}
 use Rattle.ha_model.specs.Texts.{call_text}
 use Rattle.ha_journal.specs.EntryText.{error_text, trace_text}
@@ -44,6 +44,10 @@ took_is (Some s) whole text all told = by s.took told all
     by None told all = absurd cc
     by (Some t) told all = sym (some_same t text told) ∙ all
 
+-- a lawful journal ends with no Restart
+opened_own : (j : Journal) (rs : Records) → Lawful j rs → opened j ≡ j
+opened_own j rs lawful = (λ i. if lawful.right.journal.opened i then more j (again_of j) else j)
+
 -- what is booted may stand first in a trace
 booted_run : (words : RunWords) (b : Before) (j : Journal) (rs : Records) → IsBooted words b j → Lawful j rs → HasEntry j × IsRun j rs
 booted_run words b j rs boot lawful =
@@ -65,7 +69,7 @@ booted_run words b j rs boot lawful =
           },
           refl,
         ),
-        subst (λ z. Lawful z rs) boot.boots lawful,
+        subst (λ z. Lawful (opened z) rs) boot.boots (subst (λ z. Lawful z rs) (sym (opened_own j rs lawful)) lawful),
       ),
     )
 
@@ -93,8 +97,8 @@ run-traced words b a text x t =
     let run = booted_run words b a.journal a.records through.ran.begins through.ran.lawful in
     record {
       run = run.1;
-      room = through.ran.room;
-      ends = λ _. (run.0, through.quiet);
+      room = subst IsWithin (sym (opened_own a.journal a.records through.ran.lawful)) through.ran.room;
+      ends = λ _. (run.0, through.ran.lawful.right.journal.opened, through.quiet);
       text_is = took_is a.trace (trace_text a.journal true) text end.0.texts.trace t.told ∙ sym (append-nil (trace_text a.journal true));
     }
 

@@ -1,9 +1,10 @@
 -- What hinders a command: none of this.
-use Rattle.std.specs.Prelude.{ℕ, ◌≡◌, ◌≤◌, ◌<◌, length, Option, IfSome, IsSomeAnd}
+use Rattle.std.specs.Prelude.{ℕ, ◌≡◌, ◌≤◌, true, length, Option, IfSome, IsSomeAnd}
 use Rattle.ha_io.specs.Counts.{Rose}
 use Rattle.ha_config.specs.Words.{Text}
 use Rattle.ha_journal.specs.Journal.{Journal}
 use Rattle.ha_model.specs.Records.{Records}
+use Rattle.ha_whole.specs.Whole.{HasRoom}
 use Rattle.ha_words.specs.declared.plan.RunWords.{RunWords}
 use Rattle.bus_turn.specs.States.{SinkState}
 use Rattle.ha_worker.specs.Courses.{SourceState, most_bytes}
@@ -40,7 +41,7 @@ pub record IsUnhinderedCheck (name : Text) (b : Before) (a : After) : Type 0 whe
   pub read : Each IsRead a.sources
 
 -- Likewise, and the keeper holds nothing or a store's text; neither it nor the errors nor the trace failed; each source keeps within its
--- bound; and there was room in the journal.
+-- bound; and there was room for one put more, a Restart too.
 pub record IsUnhinderedRun (words : RunWords) (b : Before) (a : After) : Type 0 where
   pub like_check : IsUnhinderedCheck words.config b a
   pub stored : IsSomeAnd b.keep.kept IsStore
@@ -48,7 +49,7 @@ pub record IsUnhinderedRun (words : RunWords) (b : Before) (a : After) : Type 0 
   pub err_well : IsWell b.err a.err
   pub trace_well : IfSome a.trace IsNewWell
   pub within : IfSome b.place.files (λ f. Each (λ name. IsWithin (f name)) words.sources)
-  pub room : length a.journal < 1_048_576
+  pub room : HasRoom a.journal true
 
 -- the trace of a finished run, within the bound on a trace's bytes
 pub record IsWholeTrace (text : Text) : Type 0 where

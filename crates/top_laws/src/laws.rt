@@ -18,9 +18,9 @@ ghost use Rattle.top_laws.specs.Unhindered.{IsUnhinderedCheck, IsUnhinderedRehea
 
 /// Where nothing hinders a command, it ends well, but for want of memory: a run whose configuration
 /// is taken, whose store is none or a store's text, whose place, sinks, keeper and sources did not
-/// fail, whose sources keep within their bound and whose journal is not full; a check of a file that
-/// is a configuration, a replay of a file that is the trace of a finished run, and a rehearsal whose
-/// journal has room, where nothing failed.
+/// fail, whose sources keep within their bound and whose journal has room for one put more, a restart
+/// too; a check of a file that is a configuration, a replay of a file that is the trace of a finished
+/// run, and a rehearsal whose journal has room, where nothing failed.
 pub fn what_nothing_hinders_ends_well()
     ensures run { (words : RunWords) (b : Before) (a : After) → Answered words b a → IsUnhinderedRun words b a
         → (a.status ≡ Status.Ok) ⊎ (a.status ≡ Status.Memory) }

@@ -1,79 +1,60 @@
--- What a lawful journal begins with is lawful, and its workers are of the 16.
-use Rattle.std.proofs.Common.{◌≡◌, ◌∙◌, sym, subst, refl, ℕ, suc, ◌+◌, ◌<◌, ◌≤◌, inl, inr, List, [], ◌∷◌, ◌++◌, length, true, false, arith, length-append}
-use Rattle.std.proofs.lemmas.List.Folds.{list_all-append}
+-- A journal opened where it ends with a Restart, and the workers of a lawful one, who are of the 16.
+use Rattle.std.proofs.Common.{◌≡◌, ◌∙◌, sym, subst, refl, ◌<◌, inl, inr, [], ◌∷◌, ◌++◌, Bool, true, false, arith, append-nil, append_assoc}
 use Rattle.std.specs.List.{list_all}
-use Rattle.std.specs.Prelude.{◌⊎◌, Some}
+use Rattle.std.specs.Prelude.{◌⊎◌, if◌then◌else◌}
 use Rattle.ha_journal.specs.declared.entry.Entry.{Entry}
 use Rattle.ha_journal.specs.declared.entry.Entry.TheVariants.{Boot, Line, Step, Again}
-use Rattle.ha_config.specs.Words.{EachAfter, EachFrom, EachWith}
-use Rattle.ha_journal.specs.Journal.{HasEntry, IsJournal, Journal}
-use Rattle.ha_journal.specs.Entries.{BeginsSegment}
-use Rattle.ha_model.specs.Records.{Records, records_of}
-use Rattle.ha_model.specs.Lawful.{IsDue, IsRightEntry, IsTurn, Lawful, is_by_worker_0, is_rested, pick}
-use Rattle.ha_model.proofs.AppendLemmas.{each-snoc, ready-same, SameUpTo}
-use Rattle.ha_config.proofs.EqualLemmas.{and_left}
-use Rattle.ha_model.proofs.LawfulLaws.{rested-same}
-use Rattle.ha_laws.proofs.PrefixLaws.{records-prefix, same-less}
-use Rattle.ha_laws.proofs.RightMore.{right-back}
+use Rattle.ha_config.specs.Words.{EachAfter, EachWith}
+use Rattle.ha_journal.specs.Journal.{HasEntry, Journal, more}
+use Rattle.ha_model.specs.Records.{Records}
+use Rattle.ha_model.specs.Lawful.{is_by_worker_0}
+use Rattle.ha_model.proofs.AppendLemmas.{each-snoc}
+use Rattle.ha_whole.specs.Whole.{AreEntries, IsBehind, IsDue, IsTurn, Lawful, again_of, ends_segment, is_rested, opened, put}
 use Rattle.ha_replay.proofs.NextLemmas.{not-rested-known}
+use Rattle.ha_replay.proofs.SeamLemmas.{again-behind, each-behind}
+use Rattle.whole_laws.proofs.LiftLemmas.{ends-more}
+use Rattle.whole_laws.proofs.PutLemmas.{put-restart}
 
--- a fact of each place, and one that follows at each place of a front
-each-front : {X : Type 0} (P Q : List X → X → Type 0) (n : ℕ) → ((d : List X) (y : X) → length d < n → P d y → Q d y)
-    → (before xs ys : List X) → length before + length xs ≤ n → EachAfter P before (xs ++ ys) → EachAfter Q before xs
-each-front P Q n f before [] ys le h = tt
-each-front P Q n f before (x ∷ xs) ys le h =
-    (f before x (omega arith) h.0, each-front P Q n f (before ++ (x ∷ [])) xs ys (omega (arith, length-append before (x ∷ []))) h.1)
+-- ---- a front, opened
 
-from-front : {X : Type 0} (P : ℕ → X → Type 0) (n : ℕ) (xs ys : List X) → EachFrom P n (xs ++ ys) → EachFrom P n xs
-from-front P n [] ys h = tt
-from-front P n (x ∷ xs) ys h = (h.0, from-front P (suc n) xs ys h.1)
+-- what is put behind it where it ends with a Restart
+abbrev pub added : Journal → Journal
+added j = if ends_segment j then again_of j ∷ [] else []
 
-journal-front : (j ys : Journal) → HasEntry j → IsJournal (j ++ ys) → IsJournal j
-journal-front [] ys h is = absurd h
-journal-front (e ∷ es) ys h is = (is.0, from-front (λ n x. ¬ BeginsSegment x) 1 es ys is.1)
+pub opened_is : (j : Journal) → opened j ≡ j ++ added j
+opened_is j = by (ends_segment j)
+  where
+    by : (b : Bool) → (if b then more j (again_of j) else j) ≡ j ++ (if b then again_of j ∷ [] else [])
+    by true = refl
+    by false = sym (append-nil j)
 
--- ---- by the records of the front
+pub opened_on : (j : Journal) → ends_segment j ≡ false → opened j ≡ j
+opened_on j e = (λ i. if e i then more j (again_of j) else j)
 
-module _ (n : ℕ) (rs rs' : Records) (same : SameUpTo n rs rs') where
-  entry-back : (d : Journal) (y : Entry) → length d < n → IsRightEntry rs' d y → IsRightEntry rs d y
-  entry-back d y lt h = right-back (length d) rs rs' (same-less n (length d) (omega arith) rs rs' same) d y refl h
+-- what a longer one is behind a front
+pub opened_behind : (j xs : Journal) → opened (j ++ xs) ≡ j ++ (xs ++ added (j ++ xs))
+opened_behind j xs = opened_is (j ++ xs) ∙ append_assoc j xs (added (j ++ xs))
 
-  turn-back : (d : Journal) (y : Entry) → length d < n → IsTurn rs' d y → IsTurn rs d y
-  turn-back d (Boot text config stored start zone carry) lt h = tt
-  turn-back d (Again number start stored carry) lt h = tt
-  turn-back d (Line k number cmd) lt h = (h.0, rested-same n rs rs' same k d (omega arith) ∙ h.1, h.2, h.3)
-  turn-back d (Step k serial branch item) lt h =
-      let back = sym (ready-same n rs rs' same d (omega arith)) in
-      (subst (λ l. 0 < length l) back h.0, subst (λ l. pick k l ≡ Some (serial, branch)) back h.1)
+put_from : (e : Entry) (es : Journal) (x : Entry) (b : Bool) → ends_segment (more (e ∷ es) x) ≡ b → (xs : Journal) → AreEntries (opened (more (e ∷ es) x ++ xs))
+    → (rest : Journal) × (opened (more (e ∷ es) x ++ xs) ≡ put (e ∷ es) x ++ rest)
+put_from e es x false is xs all =
+    let k : Journal = more (e ∷ es) x in
+    let rest : Journal = xs ++ added (k ++ xs) in
+    (rest, opened_behind k xs ∙ (λ i. sym (opened_on k is) i ++ rest))
+put_from e es x true is [] all = (let k : Journal = more (e ∷ es) x in ([], (λ i. opened (append-nil k i)) ∙ sym (append-nil (put (e ∷ es) x))))
+put_from e es x true is (y ∷ ys) all =
+    let j : Journal = e ∷ es in
+    let k : Journal = more j x in
+    let rest : Journal = ys ++ added (k ++ (y ∷ ys)) in
+    let stands = each-behind IsBehind (e ∷ []) (es ++ (x ∷ [])) (y ∷ rest) (subst AreEntries (opened_behind k (y ∷ ys)) all).1 in
+    let again : y ≡ again_of k = again-behind k y is stands.0 in
+    let whole : put j x ≡ more k (again_of k) = put-restart j x (sym (ends-more j x) ∙ is) in
+    (rest, opened_behind k (y ∷ ys) ∙ sym (append_assoc k (y ∷ []) rest) ∙ (λ i. more k (again i) ++ rest) ∙ (λ i. sym whole i ++ rest))
 
-  due-back : (before xs ys : Journal) → length before + length xs ≤ n → EachWith (IsDue rs') before (xs ++ ys) → EachWith (IsDue rs) before xs
-  due-back before [] ys le h = tt
-  due-back before (Boot text config stored start zone carry ∷ xs) ys le h =
-      (tt, due-back (before ++ (Boot text config stored start zone carry ∷ [])) xs ys (omega (arith, length-append before (Boot text config stored start zone carry ∷ []))) h.1)
-  due-back before (Again number start stored carry ∷ xs) ys le h =
-      (tt, due-back (before ++ (Again number start stored carry ∷ [])) xs ys (omega (arith, length-append before (Again number start stored carry ∷ []))) h.1)
-  due-back before (Line k number cmd ∷ xs) ys le h =
-      (tt, due-back (before ++ (Line k number cmd ∷ [])) xs ys (omega (arith, length-append before (Line k number cmd ∷ []))) h.1)
-  due-back before (Step k serial branch item ∷ xs) ys le h =
-      (by h.0, due-back (before ++ (Step k serial branch item ∷ [])) xs ys (omega (arith, length-append before (Step k serial branch item ∷ []))) h.1)
-    where
-      by : (is_rested rs' k before ≡ false) ⊎ ((k ≡ 0) × (list_all is_by_worker_0 (xs ++ ys) ≡ true)) → (is_rested rs k before ≡ false) ⊎ ((k ≡ 0) × (list_all is_by_worker_0 xs ≡ true))
-      by (inl busy) = inl (rested-same n rs rs' same k before (omega arith) ∙ busy)
-      by (inr closes) = inr (closes.0, and_left (list_all is_by_worker_0 xs) (list_all is_by_worker_0 ys) (sym (list_all-append is_by_worker_0 xs ys) ∙ closes.1))
-
--- LAW: what a lawful journal begins with is lawful, with its own records
-pub front_lawful : (j ys : Journal) (rs : Records) → HasEntry j → Lawful (j ++ ys) rs → Lawful j (records_of j)
-front_lawful j ys rs h lawful =
-    let same : SameUpTo (length j) (records_of j) rs = subst (SameUpTo (length j) (records_of j)) (sym lawful.right.records_are) (records-prefix j ys h) in
-    record {
-      right = record {
-        journal = journal-front j ys h lawful.right.journal;
-        records_are = refl;
-        entries = each-front (IsRightEntry rs) (IsRightEntry (records_of j)) (length j) (entry-back (length j) (records_of j) rs same) [] j ys (omega arith) lawful.right.entries;
-      };
-      turns = each-front (IsTurn rs) (IsTurn (records_of j)) (length j) (turn-back (length j) (records_of j) rs same) [] j ys (omega arith) lawful.turns;
-      closed = due-back (length j) (records_of j) rs same [] j ys (omega arith) lawful.closed;
-    }
+-- what stands next stands there with its put
+pub put_front : (j : Journal) (x : Entry) (xs : Journal) → HasEntry j → AreEntries (opened (more j x ++ xs)) → (rest : Journal) × (opened (more j x ++ xs) ≡ put j x ++ rest)
+put_front [] x xs has all = absurd has
+put_front (e ∷ es) x xs has all = put_from e es x (ends_segment (more (e ∷ es) x)) refl xs all
 
 -- ---- workers
 

@@ -4,4 +4,5 @@ pub mod FirstLemmas
 pub mod FrontLemmas
 pub mod EntryLemmas
 pub mod WalkLemmas
+pub mod RoomLemmas
 pub mod RunLemmas

@@ -1,24 +1,32 @@
 -- What a text begins with tells the run.
-use Rattle.std.proofs.Common.{◌≡◌, ◌≢◌, ◌∙◌, ap, sym, subst, refl, ℕ, suc, ◌+◌, ◌≤◌, inl, inr, List, [], ◌∷◌, ◌++◌, length, Bool, true, false, arith, append_assoc, append-nil, length-append}
-use Rattle.std.specs.Prelude.{◌⊎◌, if◌then◌else◌}
+use Rattle.std.proofs.Common.{◌≡◌, ◌≢◌, ◌∙◌, ap, sym, subst, refl, ℕ, suc, ◌+◌, ◌<◌, ◌≤◌, ◌^◌, inl, inr, List, [], ◌∷◌, ◌++◌, length, Bool, true, false, arith, append_assoc, append-nil, length-append}
+use Rattle.std.specs.Prelude.{◌⊎◌, None, if◌then◌else◌}
 use Rattle.ha_config.specs.declared.config.Automation.{Automation}
 use Rattle.ha_journal.specs.declared.entry.Entry.{Entry}
+use Rattle.ha_journal.specs.declared.entry.Entry.TheVariants.{Boot, Line, Step, Again}
 use Rattle.ha_config.specs.Words.{Text}
 use Rattle.ha_journal.specs.Journal.{HasEntry, Journal, automations, more}
-use Rattle.ha_model.specs.Lawful.{Lawful, is_quiet}
-use Rattle.ha_model.specs.Records.{Records, records_of}
+use Rattle.ha_journal.specs.Entries.{again_in, is_restart}
+use Rattle.ha_model.specs.Records.{Records}
+use Rattle.ha_whole.specs.Whole.{CannotRestart, HasRoom, IsBehind, IsFull, IsWithin, LacksRoom, Lawful, ends_segment, is_quiet, opened, put, records_of}
+use Rattle.ha_config.specs.CheckText.{as_line}
 use Rattle.ha_journal.specs.EntryText.{end_line, trace_line}
 use Rattle.ha_config.proofs.ListLemmas.{true-false}
-use Rattle.ha_laws.proofs.OneAnswer.{Rest, whole-rest}
-use Rattle.ha_replay.specs.Traces.{IsEnd, most_entries}
+use Rattle.whole_laws.proofs.AnswerLemmas.{Rest, whole-rest}
+use Rattle.whole_laws.proofs.CutLemmas.{cut-first}
+use Rattle.whole_laws.proofs.FrontLemmas.{front-lawful}
+use Rattle.ha_replay.specs.Traces.{IsEnd}
+use Rattle.ha_replay.proofs.AnswerLemmas.{automations-more}
+use Rattle.ha_replay.proofs.SeamLemmas.{behind-of}
 use Rattle.trace_laws.specs.Lines.{Cuts}
-use Rattle.trace_laws.specs.Runs.{Begins, IsFirst, IsRun, MayFollow, line_count}
-use Rattle.trace_laws.specs.Tells.{GoesNoFurther, HasNoEnd, IsFarthest, IsNoTrace, IsTraceOf}
-use Rattle.trace_laws.proofs.CutLemmas.{line_front, one_front}
+use Rattle.trace_laws.specs.Runs.{Begins, GoesOn, IsFirst, IsRun, MayFollow, line_count}
+use Rattle.trace_laws.specs.Tells.{GoesNoFurther, HasNoAgain, HasNoEnd, HasNoRoom, IsFarthest, IsNoTrace, IsTraceOf, RestartsNext}
+use Rattle.trace_laws.proofs.CutLemmas.{line_front, one_cut, one_front}
 use Rattle.trace_laws.proofs.FeedLemmas.{end_feed, entry_feed}
 use Rattle.trace_laws.proofs.FirstLemmas.{one_first}
-use Rattle.trace_laws.proofs.EntryLemmas.{known_tail}
-use Rattle.trace_laws.proofs.FrontLemmas.{AllKnown, all_known, front_lawful}
+use Rattle.trace_laws.proofs.EntryLemmas.{known_tail, same_restart}
+use Rattle.trace_laws.proofs.FrontLemmas.{AllKnown, added, all_known, opened_behind, opened_is, opened_on, put_front}
+use Rattle.trace_laws.proofs.RoomLemmas.{had_room, room_or_none, within_front}
 use Rattle.trace_laws.proofs.WalkLemmas.{IsFront, either_way, told, told_is, walk}
 
 -- ---- two runs with whose traces one text begins
@@ -30,14 +38,12 @@ IsFrontRun j ended left j' ended' left' = IsFront (automations j') 0 j ended lef
 text_told : (text : Text) (j : Journal) (rs : Records) (ended : Bool) (left : Text) → Begins text j rs ended left → text ≡ told (automations j) 0 j ended left
 text_told text j rs ended left b = b.text_is ∙ told_is (automations j) [] j ended left
 
-first_of : (x : Entry) (xs : Journal) (rs : Records) → IsRun (x ∷ xs) rs → IsFirst x
-first_of x xs rs run = run.0
+-- a run's journal, with the Again that is put behind a Restart at its end
+lawful_run : (x : Entry) (xs : Journal) (rs : Records) → IsRun (x ∷ xs) rs → Lawful (x ∷ (xs ++ added (x ∷ xs))) rs
+lawful_run x xs rs run = subst (λ l. Lawful l rs) (opened_is (x ∷ xs)) run.1
 
-lawful_run : (x : Entry) (xs : Journal) (rs : Records) → IsRun (x ∷ xs) rs → Lawful (x ∷ xs) rs
-lawful_run x xs rs run = run.1
-
-known_behind : (x : Entry) (xs : Journal) (rs : Records) → IsRun (x ∷ xs) rs → AllKnown xs
-known_behind x xs rs run = known_tail x xs (all_known (x ∷ xs) rs run.1)
+known_behind : (x : Entry) (xs : Journal) (rs : Records) → IsRun (x ∷ xs) rs → AllKnown (xs ++ added (x ∷ xs))
+known_behind x xs rs run = known_tail x (xs ++ added (x ∷ xs)) (all_known (x ∷ (xs ++ added (x ∷ xs))) rs (lawful_run x xs rs run))
 
 -- LAW: of two runs with whose traces a text begins, one is a front of the other
 pub fronts : (text : Text) (j j' : Journal) (rs rs' : Records) (ended ended' : Bool) (left left' : Text) → Begins text j rs ended left → Begins text j' rs' ended' left'
@@ -54,9 +60,15 @@ fronts text (x ∷ xs) (y ∷ ys) rs rs' ended ended' left left' b b' =
     let same : x ≡ y = one_first all all' x y b.run.0 b'.run.0 cut.0 in
     let alls : all ≡ all' = (λ i. automations (same i ∷ xs)) in
     let behind : told all 1 xs ended left ≡ told all 1 ys ended' left' = cut.1 ∙ (λ i. told (sym alls i) 1 ys ended' left') in
-    let rest : Rest (x ∷ []) ys rs' = subst (λ z. Rest (z ∷ []) ys rs') (sym same) (whole-rest y ys rs' b'.run.1) in
-    let low = b.room in
-    let way = walk xs ended ys ended' all (x ∷ []) 1 rs rs' left left' tt (omega (arith, low)) (whole-rest x xs rs b.run.1) rest (known_behind x xs rs b.run) (known_behind y ys rs' b'.run) behind in
+    let ts : Journal = added (x ∷ xs) in
+    let us : Journal = added (y ∷ ys) in
+    let lawful = lawful_run x xs rs b.run in
+    let lawful' = lawful_run y ys rs' b'.run in
+    let rest : Rest (x ∷ []) (ys ++ us) rs' = subst (λ z. Rest (z ∷ []) (ys ++ us) rs') (sym same) (whole-rest y (ys ++ us) rs' lawful') in
+    let low = b.room.room in
+    let count = ap length (opened_is (x ∷ xs)) in
+    let way = walk xs ended ys ended' all (x ∷ []) 1 rs rs' left left' ts us tt (cut-first x lawful.right.journal.entries.0) (omega (arith, low, count, length-append (x ∷ xs) ts)) (whole-rest x (xs ++ ts) rs lawful) rest
+    (known_behind x xs rs b.run) (known_behind y ys rs' b'.run) behind in
     by alls (either_way all 0 x y xs ys ended ended' left left' same way)
   where
     by : {all all' : List Automation} → all ≡ all' → IsFront all 0 (x ∷ xs) ended left (y ∷ ys) ended' left' ⊎ IsFront all 0 (y ∷ ys) ended' left' (x ∷ xs) ended left
@@ -66,13 +78,10 @@ fronts text (x ∷ xs) (y ∷ ys) rs rs' ended ended' left left' b b' =
 
 -- ---- finished runs
 
-run_records : (j : Journal) (rs : Records) → IsRun j rs → rs ≡ records_of j
-unfolding records_of
-run_records [] rs run = run
-run_records (first ∷ behind) rs run = run.1.right.records_are
-
 same_records : (j j' : Journal) (rs rs' : Records) → j ≡ j' → IsRun j rs → IsRun j' rs' → rs ≡ rs'
-same_records j j' rs rs' e run run' = run_records j rs run ∙ (λ i. records_of (e i)) ∙ sym (run_records j' rs' run')
+same_records [] j' rs rs' e run run' = (let none : IsRun [] rs' = subst (λ l. IsRun l rs') (sym e) run' in run ∙ sym none)
+same_records (x ∷ xs) j' rs rs' e run run' =
+    (let moved : IsRun (x ∷ xs) rs' = subst (λ l. IsRun l rs') (sym e) run' in run.1.right.records_are ∙ sym moved.1.right.records_are)
 
 -- LAW: a text is the trace of one finished run at most
 pub one_run : (text : Text) (j j' : Journal) (rs rs' : Records) → IsTraceOf text j rs → IsTraceOf text j' rs' → (j ≡ j') × (rs ≡ rs')
@@ -111,9 +120,11 @@ cut_entry all x left behind e = (let feed = entry_feed all x in record { text_is
 cut_end : (n : ℕ) (left behind : Text) → left ≡ end_line n ++ behind → Cuts left (end_feed n).line behind
 cut_end n left behind e = (let feed = end_feed n in record { text_is = e ∙ sym (line_front feed.line (end_line n) behind feed.shown_is); one_line = feed.one_line })
 
-pub run_front : (j behind : Journal) (rs : Records) → HasEntry j → IsRun (j ++ behind) rs → IsRun j (records_of j)
+pub run_front : (j behind : Journal) (rs : Records) → HasEntry j → IsRun (j ++ behind) rs → IsRun j (records_of (opened j))
 run_front [] behind rs has run = absurd has
-run_front (x ∷ xs) behind rs has run = (run.0, front_lawful (x ∷ xs) behind rs tt run.1)
+run_front (x ∷ xs) behind rs has run =
+    let j : Journal = x ∷ xs in
+    (run.0, front-lawful j (behind ++ added (j ++ behind)) rs tt (subst (λ l. Lawful l rs) (opened_behind j behind) run.1))
 
 has_more : (j : Journal) (x : Entry) → HasEntry (more j x)
 has_more [] x = tt
@@ -123,23 +134,23 @@ automations_front : (j behind : Journal) → HasEntry j → automations (j ++ be
 automations_front [] behind has = absurd has
 automations_front (first ∷ xs) behind has = refl
 
+long_front : (j : Journal) (x : Entry) (xs j' : Journal) → j' ≡ j ++ (x ∷ xs) → j' ≡ more j x ++ xs
+long_front j x xs j' e = e ∙ sym (append_assoc j (x ∷ []) xs)
+
 -- an entry with which a longer run goes on may follow
-entry_follows : (j j' : Journal) (rs rs' : Records) (x : Entry) (xs : Journal) → j' ≡ j ++ (x ∷ xs) → IsRun j' rs' → MayFollow j rs (entry_feed (automations j') x).line
-entry_follows j j' rs rs' x xs e run =
-    let long : j' ≡ more j x ++ xs = e ∙ sym (append_assoc j (x ∷ []) xs) in
+entry_follows : (j j' : Journal) (rs' : Records) (x : Entry) (xs : Journal) → j' ≡ j ++ (x ∷ xs) → IsRun j' rs' → GoesOn j (entry_feed (automations j') x).line x (records_of (opened (more j x)))
+entry_follows j j' rs' x xs e run =
+    let long : j' ≡ more j x ++ xs = long_front j x xs j' e in
     let moved : IsRun (more j x ++ xs) rs' = subst (λ z. IsRun z rs') long run in
-    inr (
-      x,
-      records_of (more j x),
-      record {
-        run = run_front (more j x) xs rs' (has_more j x) moved;
-        line_is = (entry_feed (automations j') x).shown_is ∙ (λ i. trace_line (automations (long i)) x) ∙ (λ i. trace_line (automations_front (more j x) xs (has_more j x) i) x);
-      },
-    )
+    record {
+      run = run_front (more j x) xs rs' (has_more j x) moved;
+      line_is = (entry_feed (automations j') x).shown_is ∙ (λ i. trace_line (automations (long i)) x) ∙ (λ i. trace_line (automations_front (more j x) xs (has_more j x) i) x);
+    }
 
 -- the end of a run that ended may follow
-end_is : (j j' : Journal) (rs rs' : Records) → j' ≡ j → IsRun j rs → IsRun j' rs' → is_quiet rs' j' ≡ true → IsEnd j rs (end_feed (length j)).line
-end_is j j' rs rs' e run run' quiet = record {
+end_is : (j j' : Journal) (rs rs' : Records) → j' ≡ j → IsRun j rs → IsRun j' rs' → ends_segment j' ≡ false → is_quiet rs' j' ≡ true → IsEnd j rs (end_feed (length j)).line
+end_is j j' rs rs' e run run' open_end quiet = record {
+  opened = (λ i. ends_segment (sym e i)) ∙ open_end;
   quiet = (λ i. is_quiet (sym (same_records j' j rs' rs e run' run) i) (sym e i)) ∙ quiet;
   line_is = (end_feed (length j)).shown_is;
 }
@@ -194,6 +205,81 @@ compared j ended left j' ended' left' (inl (inr f)) =
 compared j ended left j' ended' left' (inr (inl f)) = inl (both_ended (length j') (length j) ended ended' f.1 f.0 (sym (ap length f.2)))
 compared j ended left j' ended' left' (inr (inr f)) = inl (let n = ap length f.1.1 in one_open (length j') (length j) ended ended' f.0 (omega (arith, n, length-append j' f.1.0)))
 
+-- ---- where there is no room
+
+pub none_full : IsFull [] → ⊥
+none_full (inl e) = (let n : 0 ≡ 1_048_576 = e in omega (arith, n))
+none_full (inr e) = (let n : 0 ≡ 4_194_304 = e in omega (arith, n))
+
+pub first_plain : (x : Entry) → IsFirst x → is_restart x ≡ true → ⊥
+first_plain (Boot text config stored start zone carry) h e = true-false (sym e)
+first_plain (Line source number cmd) h e = h
+first_plain (Step worker serial branch item) h e = h
+first_plain (Again number start stored carry) h e = h
+
+plain_behind : (j : Journal) (x : Entry) → IsBehind j x → ends_segment j ≡ false → again_in x ≡ None
+plain_behind j (Boot text config stored start zone carry) h e = absurd h
+plain_behind j (Line source number cmd) h e = refl
+plain_behind j (Step worker serial branch item) h e = refl
+plain_behind j (Again number start stored carry) h e = absurd (true-false (sym h.0 ∙ e))
+
+lawful_next : (j : Journal) (x : Entry) (rs : Records) → HasEntry j → IsRun (more j x) rs → Lawful (put j x) rs
+lawful_next [] x rs has run = absurd has
+lawful_next (first ∷ behind) x rs has run = run.1
+
+lawful_opened : (j xs : Journal) (rs : Records) → HasEntry j → IsRun (j ++ xs) rs → Lawful (opened (j ++ xs)) rs
+lawful_opened [] xs rs has run = absurd has
+lawful_opened (first ∷ behind) xs rs has run = run.1
+
+next_line : (j : Journal) (line : Text) (x : Entry) (rs : Records) → HasEntry j → GoesOn j line x rs → as_line line ≡ trace_line (automations j) x
+next_line j line x rs has g = g.line_is ∙ (λ i. trace_line (automations-more j x has i) x)
+
+-- a journal without room for what stands next has no longer run
+module _ (j : Journal) (left : Text) (has : HasEntry j) (open_end : ends_segment j ≡ false) (short : length j < 2 ^ 64)
+    (x : Entry) (xs : Journal) (j' : Journal) (rs' : Records) (behind : Text) (e : j' ≡ j ++ (x ∷ xs)) (left_is : left ≡ trace_line (automations j') x ++ behind) (run : IsRun j' rs') where
+  goes : GoesOn j (entry_feed (automations j') x).line x (records_of (opened (more j x)))
+  goes = entry_follows j j' rs' x xs e run
+
+  stands : Lawful (put j x) (records_of (opened (more j x)))
+  stands = lawful_next j x (records_of (opened (more j x))) has goes.run
+
+  lacks_it : IsFull (opened j) ⊎ (CannotRestart (opened j) × RestartsNext j left) → LacksRoom j (is_restart x)
+  lacks_it (inl full) = inl (subst IsFull (opened_on j open_end) full)
+  lacks_it (inr cannot) =
+      let n = cannot.1 in
+      let cuts = cut_entry (automations j') x left behind left_is in
+      let same = (one_cut n.line n.behind (entry_feed (automations j') x).line behind n.cuts.one_line cuts.one_line (sym n.cuts.text_is ∙ cuts.text_is)).0 in
+      inr (
+        same_restart j n.line n.entry x n.records (records_of (opened (more j x))) has short (lawful_next j n.entry n.records has n.goes_on.run) stands
+            (next_line j n.line n.entry n.records has n.goes_on) (ap as_line same ∙ next_line j (entry_feed (automations j') x).line x (records_of (opened (more j x))) has goes) n.restarts,
+        subst CannotRestart (opened_on j open_end) cannot.0,
+      )
+
+  had_it : IsWithin (opened j') → HasRoom j (is_restart x)
+  had_it within =
+      let long : j' ≡ more j x ++ xs = long_front j x xs j' e in
+      let moved : IsRun (more j x ++ xs) rs' = subst (λ z. IsRun z rs') long run in
+      let lawful = lawful_opened (more j x) xs rs' (has_more j x) moved in
+      let front = put_front j x xs has lawful.right.journal.entries in
+      let none = plain_behind j x (behind-of j x has stands.right.journal.entries) open_end in
+      had_room j x none (within_front (put j x) front.0 (subst IsWithin ((λ i. opened (long i)) ∙ front.1) within))
+
+no_entry : (j : Journal) (left : Text) → HasNoRoom j left → HasNoAgain j left → (j' : Journal) (rs' : Records) (x : Entry) (xs : Journal) (behind : Text) → j' ≡ j ++ (x ∷ xs) → left ≡ trace_line (automations j') x ++ behind
+    → IsRun j' rs' → IsWithin (opened j') → ⊥
+no_entry [] left (inl full) no_again j' rs' x xs behind e left_is run within = none_full full
+no_entry [] left (inr cannot) no_again j' rs' x xs behind e left_is run within = first_plain cannot.1.entry cannot.1.goes_on.run.0 cannot.1.restarts
+no_entry (first ∷ es) left lacks no_again j' rs' x xs behind e left_is run within = by (ends_segment (first ∷ es)) refl
+  where
+    by : (b : Bool) → ends_segment (first ∷ es) ≡ b → ⊥
+    by true ends = no_again (entry_feed (automations j') x).line behind x (records_of (opened (more (first ∷ es) x))) (cut_entry (automations j') x left behind left_is) ends (entry_follows (first ∷ es) j' rs' x xs e run)
+    by false open_end =
+        let count = ap length e ∙ length-append (first ∷ es) (x ∷ xs) in
+        let whole = ap length (opened_is j') ∙ length-append j' (added j') in
+        let low = within.room in
+        let short : length (first ∷ es) < 2 ^ 64 = omega (arith, count, whole, low) in
+        room_or_none (first ∷ es) (is_restart x) (had_it (first ∷ es) left tt open_end short x xs j' rs' behind e left_is run within)
+        (lacks_it (first ∷ es) left tt open_end short x xs j' rs' behind e left_is run lacks)
+
 module _ (text : Text) (j : Journal) (rs : Records) (ended : Bool) (left : Text) (b : Begins text j rs ended left) where
   no_longer : ((j' : Journal) (rs' : Records) (ended' : Bool) (left' : Text) → Begins text j' rs' ended' left' → IsLonger j ended left j' ended' left' → ⊥) → IsFarthest text (line_count j ended)
   no_longer none j' rs' ended' left' b' = by (compared j ended left j' ended' left' (fronts text j j' rs rs' ended ended' left left' b b'))
@@ -213,19 +299,21 @@ module _ (text : Text) (j : Journal) (rs : Records) (ended : Bool) (left : Text)
       by : (j' : Journal) (rs' : Records) (ended' : Bool) (left' : Text) → Begins text j' rs' ended' left' → IsLonger j ended left j' ended' left' → ⊥
       by j' rs' ended' left' b' (inl e) =
           let line : Text = (entry_feed (automations j') e.entry).line in
-          open_stops line e.behind e.unended (stops line e.behind (cut_entry (automations j') e.entry left e.behind e.left_is)) (entry_follows j j' rs rs' e.entry e.more_behind e.journal b'.run)
+          open_stops line e.behind e.unended (stops line e.behind (cut_entry (automations j') e.entry left e.behind e.left_is)) (inr (e.entry, records_of (opened (more j e.entry)), entry_follows j j' rs' e.entry e.more_behind e.journal b'.run))
       by j' rs' ended' left' b' (inr e) =
           let line : Text = (end_feed (length j)).line in
           let ends = b'.ends e.ends in
-          open_stops line left' e.unended (stops line left' (cut_end (length j) left left' e.left_is)) (inl (subst HasEntry e.journal ends.0, end_is j j' rs rs' e.journal b.run b'.run ends.1))
+          open_stops line left' e.unended (stops line left' (cut_end (length j) left left' e.left_is)) (inl (subst HasEntry e.journal ends.0, end_is j j' rs rs' e.journal b.run b'.run ends.1 ends.2))
 
-  -- LAW: so it is where the journal is full and the end line is not left
-  pub full_further : length j ≡ most_entries → HasNoEnd j rs left → IsFarthest text (line_count j ended)
-  full_further full no_end_line = no_longer by
+  -- LAW: so it is where there is no room for what stands next, and neither the end line nor that of an Again is left
+  pub full_further : HasNoRoom j left → HasNoEnd j rs left → HasNoAgain j left → IsFarthest text (line_count j ended)
+  full_further lacks no_end_line no_again_line = no_longer by
     where
       by : (j' : Journal) (rs' : Records) (ended' : Bool) (left' : Text) → Begins text j' rs' ended' left' → IsLonger j ended left j' ended' left' → ⊥
-      by j' rs' ended' left' b' (inl e) = (let n = ap length e.journal in let low = b'.room in omega (arith, n, low, full, length-append j (e.entry ∷ e.more_behind)))
-      by j' rs' ended' left' b' (inr e) = no_end_line (end_feed (length j)).line left' (cut_end (length j) left left' e.left_is) (end_is j j' rs rs' e.journal b.run b'.run (b'.ends e.ends).1)
+      by j' rs' ended' left' b' (inl e) = no_entry j left lacks no_again_line j' rs' e.entry e.more_behind e.behind e.journal e.left_is b'.run b'.room
+      by j' rs' ended' left' b' (inr e) =
+          (let ends = b'.ends e.ends in
+          no_end_line (end_feed (length j)).line left' (cut_end (length j) left left' e.left_is) (end_is j j' rs rs' e.journal b.run b'.run ends.1 ends.2))
 
   -- LAW: a text that begins with the trace of no longer run, and is not that of this one, is the trace of no finished run
   pub no_trace : (ended ≡ true → left ≢ []) → IsFarthest text (line_count j ended) → IsNoTrace text

@@ -8,8 +8,9 @@ use Rattle.ha_journal.specs.Journal.{HasEntry, Journal, more}
 use Rattle.ha_model.specs.Records.{Records}
 use Rattle.ha_journal.specs.EntryText.{end_line, texts_after, trace_line}
 use Rattle.ha_config.proofs.ListLemmas.{append-nil}
-use Rattle.ha_laws.proofs.OneAnswer.{Rest, rest-tail}
 use Rattle.ha_laws.proofs.PrefixLaws.{has-more}
+use Rattle.whole_laws.proofs.AnswerLemmas.{Rest, rest-tail}
+use Rattle.whole_laws.proofs.CutLemmas.{IsCut, cut-behind}
 use Rattle.trace_laws.proofs.CutLemmas.{one_front}
 use Rattle.trace_laws.proofs.EntryLemmas.{known_tail, no_end, same_entry}
 use Rattle.trace_laws.proofs.FeedLemmas.{end_feed, entry_feed}
@@ -65,23 +66,24 @@ begins_so all n ys ended' left left' e =
     let count : n ≡ n + 0 = omega arith in
     inr (refl, (ys, refl, e ∙ (λ i. told all (count i) ys ended' left')))
 
--- LAW: entries that go on behind the same ones with the same bytes are the same, as far as both go
-pub walk : (xs : Journal) (ended : Bool) (ys : Journal) (ended' : Bool) (all : List Automation) (d : Journal) (n : ℕ) (rs rs' : Records) (left left' : Text) → HasEntry d → length d + length xs < 2 ^ 64
-    → Rest d xs rs → Rest d ys rs' → AllKnown xs → AllKnown ys → told all n xs ended left ≡ told all n ys ended' left'
+-- LAW: entries that go on behind the same ones with the same bytes are the same, as far as both go. Behind each an Again may stand whose
+-- line is not there.
+pub walk : (xs : Journal) (ended : Bool) (ys : Journal) (ended' : Bool) (all : List Automation) (d : Journal) (n : ℕ) (rs rs' : Records) (left left' : Text) (ts us : Journal) → HasEntry d → IsCut d → length d + length xs < 2 ^ 64
+    → Rest d (xs ++ ts) rs → Rest d (ys ++ us) rs' → AllKnown (xs ++ ts) → AllKnown (ys ++ us) → told all n xs ended left ≡ told all n ys ended' left'
     → IsFront all n xs ended left ys ended' left' ⊎ IsFront all n ys ended' left' xs ended left
-walk [] false ys ended' all d n rs rs' left left' has short r r' known known' e = inl (begins_so all n ys ended' left left' e)
-walk [] true [] false all d n rs rs' left left' has short r r' known known' e = inr (begins_so all n [] true left' left (sym e))
-walk [] true [] true all d n rs rs' left left' has short r r' known known' e =
+walk [] false ys ended' all d n rs rs' left left' ts us has c short r r' known known' e = inl (begins_so all n ys ended' left left' e)
+walk [] true [] false all d n rs rs' left left' ts us has c short r r' known known' e = inr (begins_so all n [] true left' left (sym e))
+walk [] true [] true all d n rs rs' left left' ts us has c short r r' known known' e =
     inl (inl (refl, refl, refl, (one_front (end_line n) left (end_line n) left' (end_feed n) (end_feed n) e).1))
-walk [] true (y ∷ ys) ended' all d n rs rs' left left' has short r r' known known' e =
+walk [] true (y ∷ ys) ended' all d n rs rs' left left' ts us has c short r r' known known' e =
     absurd (no_end all y n (sym (one_front (end_line n) left (trace_line all y) (told all (suc n) ys ended' left') (end_feed n) (entry_feed all y) e).0))
-walk (x ∷ xs) ended [] false all d n rs rs' left left' has short r r' known known' e = inr (begins_so all n (x ∷ xs) ended left' left (sym e))
-walk (x ∷ xs) ended [] true all d n rs rs' left left' has short r r' known known' e =
+walk (x ∷ xs) ended [] false all d n rs rs' left left' ts us has c short r r' known known' e = inr (begins_so all n (x ∷ xs) ended left' left (sym e))
+walk (x ∷ xs) ended [] true all d n rs rs' left left' ts us has c short r r' known known' e =
     absurd (no_end all x n (one_front (trace_line all x) (told all (suc n) xs ended left) (end_line n) left' (entry_feed all x) (end_feed n) e).0)
-walk (x ∷ xs) ended (y ∷ ys) ended' all d n rs rs' left left' has short r r' known known' e =
+walk (x ∷ xs) ended (y ∷ ys) ended' all d n rs rs' left left' ts us has c short r r' known known' e =
     let cut = one_front (trace_line all x) (told all (suc n) xs ended left) (trace_line all y) (told all (suc n) ys ended' left') (entry_feed all x) (entry_feed all y) e in
-    let same = same_entry d all rs rs' has (omega (arith, short)) x y xs ys r r' known known' cut.0 in
-    let moved : Rest d (x ∷ ys) rs' = subst (λ z. Rest d (z ∷ ys) rs') (sym same) r' in
+    let same = same_entry d all rs rs' has c (omega (arith, short)) x y (xs ++ ts) (ys ++ us) r r' known known' cut.0 in
+    let moved : Rest d (x ∷ (ys ++ us)) rs' = subst (λ z. Rest d (z ∷ (ys ++ us)) rs') (sym same) r' in
     either_way all n x y xs ys ended ended' left left' same
-    (walk xs ended ys ended' all (more d x) (suc n) rs rs' left left' (has-more d x has) (omega (arith, short, length-append d (x ∷ []))) (rest-tail d x xs rs r) (rest-tail d x ys rs' moved)
-    (known_tail x xs known) (known_tail y ys known') cut.1)
+    (walk xs ended ys ended' all (more d x) (suc n) rs rs' left left' ts us (has-more d x has) (cut-behind d x c has r.behind.0) (omega (arith, short, length-append d (x ∷ [])))
+    (rest-tail d x (xs ++ ts) rs r) (rest-tail d x (ys ++ us) rs' moved) (known_tail x (xs ++ ts) known) (known_tail y (ys ++ us) known') cut.1)

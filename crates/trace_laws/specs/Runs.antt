@@ -1,5 +1,5 @@
 -- Runs so far, and what their traces begin with.
-use Rattle.std.specs.Prelude.{ℕ, ◌≡◌, ◌≤◌, ◌+◌, ◌⊎◌, Bool, true, [], ◌∷◌, ◌++◌, length, Option, Ok, IsSome, if◌then◌else◌}
+use Rattle.std.specs.Prelude.{ℕ, ◌≡◌, ◌≤◌, ◌+◌, ◌⊎◌, Bool, true, false, [], ◌∷◌, ◌++◌, length, Option, Ok, IsSome, if◌then◌else◌}
 use Rattle.ha_clock.specs.Local.{last_moment}
 use Rattle.ha_clock.specs.Zone.{zone_of}
 use Rattle.ha_config.specs.declared.config.Config.{Config}
@@ -8,14 +8,14 @@ use Rattle.ha_journal.specs.declared.entry.Entry.TheVariants.{Boot, Line, Step, 
 use Rattle.ha_config.specs.Words.{Text}
 use Rattle.ha_journal.specs.Journal.{HasEntry, Journal, automations, more}
 use Rattle.ha_model.specs.Records.{Records}
-use Rattle.ha_model.specs.Lawful.{Lawful, is_quiet}
+use Rattle.ha_whole.specs.Whole.{IsWithin, Lawful, ends_segment, is_quiet, opened}
 use Rattle.ha_config.specs.CheckText.{as_line}
 use Rattle.ha_journal.specs.Entries.{first_carry}
 use Rattle.ha_journal.specs.EntryText.{trace_line, trace_text}
 use Rattle.conf_auto.specs.Config.{config_of}
 use Rattle.ha_replay.specs.declared.boot.BootLine.{BootLine}
 use Rattle.ha_replay.specs.Boots.{HasUtf8, Switches, are_stored}
-use Rattle.ha_replay.specs.Traces.{IsEnd, most_entries}
+use Rattle.ha_replay.specs.Traces.{IsEnd}
 
 -- ---- the first entry
 
@@ -38,16 +38,17 @@ IsFirst (Again number start stored carry) = ⊥
 
 -- ---- runs
 
--- a run so far: nothing yet, or a lawful journal with such a first entry
+-- a run so far: nothing yet, or a journal with such a first entry that is lawful, opened where it ends with a Restart
 abbrev pub IsRun : Journal → Records → Type 0
 IsRun [] rs = rs ≡ []
-IsRun (first ∷ behind) rs = IsFirst first × Lawful (first ∷ behind) rs
+IsRun (first ∷ behind) rs = IsFirst first × Lawful (opened (first ∷ behind)) rs
 
--- the text begins with the trace of a run so far, with its end line where the run has ended, which is quiet then; the rest is left
+-- The text begins with the trace of a run so far, with its end line where the run has ended, which is quiet then and ends with no Restart;
+-- the rest is left.
 pub record Begins (text : Text) (j : Journal) (rs : Records) (ended : Bool) (left : Text) : Type 0 where
   pub run : IsRun j rs
-  pub room : length j ≤ most_entries
-  pub ends : ended ≡ true → HasEntry j × (is_quiet rs j ≡ true)
+  pub room : IsWithin (opened j)
+  pub ends : ended ≡ true → HasEntry j × (ends_segment j ≡ false) × (is_quiet rs j ≡ true)
   pub text_is : text ≡ trace_text j ended ++ left
 
 -- how many lines that trace has

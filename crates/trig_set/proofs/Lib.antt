@@ -26,3 +26,4 @@ pub mod ShiftLemmas
 pub mod OrderLemmas
 pub mod QueueLemmas
 pub mod BeginLemmas
+pub mod OpeningLemmas

@@ -24,7 +24,7 @@ use Rattle.ha_journal.specs.declared.entry.Entry.TheVariants.{Boot, Line, Step, 
 use Rattle.ha_journal.specs.Journal.{Journal, HasEntry, IsJournal, zone_of, now, more}
 use Rattle.ha_sight.specs.Sight.{Sight}
 use Rattle.ha_journal.specs.States.{states}
-use Rattle.ha_journal.specs.Entries.{opens_segment, Reported, report_in, event_in, is_moment}
+use Rattle.ha_journal.specs.Entries.{is_boot, is_restart, opens_segment, Reported, report_in, event_in, is_moment}
 use Rattle.ha_journal.specs.Moves.{sight, report_number, latest_number, moves, rule_moves, looks}
 use Rattle.ha_sight.specs.Rules.{matches, is_absent, same_optional, state_value, text_or_null, number_or_null, passed, pair_holds, state_moves, starts, is_state, head_pairs, given, given_by}
 use Rattle.ha_journal.specs.Variables.{variables}
@@ -57,7 +57,7 @@ module _ (j : Journal) (x : Entry) where
       let h = has-place j 0 some in
       let here = sight-more j x h (length j) (omega arith) in
       (λ i. if moves-at j x h t e i && (lt i || starts t.rule) then Some (variables (more j x) t e (length j)) else None)
-      ∙ (λ i. if (if opens i then starts t.rule && is_none e else looks (sight j (length j)) (sight (more j x) (suc (length j))) j t.rule (is_some t.hold) e x) && true then Some (given (here i) (sight (more j x) (suc (length j))) (option_and_then event_in (get-last j x i)) t e) else None)
+      ∙ (λ i. if (if opens i then is_boot x && starts t.rule && is_none e else looks (sight j (length j)) (sight (more j x) (suc (length j))) j t.rule (is_some t.hold) e x) && true then Some (given (here i) (sight (more j x) (suc (length j))) (option_and_then event_in (get-last j x i)) t e) else None)
       ∙ by (looks (sight j (length j)) (sight (more j x) (suc (length j))) j t.rule (is_some t.hold) e x)
     where
       by : (b : Bool) → (if b && true then Some (given (sight j (length j)) (sight (more j x) (suc (length j))) (event_in x) t e) else None) ≡ (if b then Some (given (sight j (length j)) (sight (more j x) (suc (length j))) (event_in x) t e) else None)
@@ -68,7 +68,7 @@ module _ (j : Journal) (x : Entry) where
   pub moves-not : (t : Trigger) (e : Option EntityId) (since : ℕ) → HasEntry j → opens_segment x ≡ false → nat_lt since (length j) ≡ false → moves_with j x t e since ≡ None
   moves-not t e since h opens lt =
       (λ i. if moves-at j x h t e i && (lt i || starts t.rule) then Some (variables (more j x) t e (length j)) else None)
-      ∙ (λ i. if (if opens i then starts t.rule && is_none e else looks (sight j (length j)) (sight (more j x) (suc (length j))) j t.rule (is_some t.hold) e x) && starts t.rule then Some (variables (more j x) t e (length j)) else None)
+      ∙ (λ i. if (if opens i then is_boot x && starts t.rule && is_none e else looks (sight j (length j)) (sight (more j x) (suc (length j))) j t.rule (is_some t.hold) e x) && starts t.rule then Some (variables (more j x) t e (length j)) else None)
       ∙ (λ i. if none t.rule i then Some (variables (more j x) t e (length j)) else None)
     where
       and-false : (b : Bool) → (b && false) ≡ false
@@ -161,11 +161,11 @@ module _ (j : Journal) (x : Entry) (rule : TriggerRule) (e : EntityId) (is : is_
 
 -- ---- where a segment opens
 
-module _ (j : Journal) (x : Entry) (t : Trigger) (e : Option EntityId) (since : ℕ) (opens : opens_segment x ≡ true) where
-  opened : moves (more j x) t e (length j) ≡ (starts t.rule && is_none e)
-  opened =
-      (λ i. option_map_or (λ y. if opens_segment y then starts t.rule && is_none e else rule_moves (more j x) t.rule (is_some t.hold) e (length j) y) (get-last j x i) false)
-      ∙ (λ i. if opens i then starts t.rule && is_none e else rule_moves (more j x) t.rule (is_some t.hold) e (length j) x)
+module _ (j : Journal) (x : Entry) (t : Trigger) (e : Option EntityId) (since : ℕ) where
+  opened : opens_segment x ≡ true → moves (more j x) t e (length j) ≡ (is_boot x && starts t.rule && is_none e)
+  opened opens =
+      (λ i. option_map_or (λ y. if opens_segment y then is_boot y && starts t.rule && is_none e else rule_moves (more j x) t.rule (is_some t.hold) e (length j) y) (get-last j x i) false)
+      ∙ (λ i. if opens i then is_boot x && starts t.rule && is_none e else rule_moves (more j x) t.rule (is_some t.hold) e (length j) x)
 
   bare-start : (rule : TriggerRule) → starts rule ≡ true → given_by (sight (more j x) (length j)) (sight (more j x) (suc (length j))) (event_in x) t rule e ≡ head_pairs (codes "homeassistant") t
   bare-start (TriggerRule.State entities attribute from to) s = cc
@@ -176,10 +176,10 @@ module _ (j : Journal) (x : Entry) (t : Trigger) (e : Option EntityId) (since : 
   bare-start (TriggerRule.Template u) s = cc
   bare-start TriggerRule.Start s = refl
 
-  -- LAW: only start triggers move, and they have no variables of their own
-  pub moves-open : moves_with j x t e since ≡ (if starts t.rule && is_none e then Some (Map (head_pairs (codes "homeassistant") t)) else None)
-  moves-open =
-      (λ i. if opened i && (nat_lt since (length j) || starts t.rule) then Some (variables (more j x) t e (length j)) else None)
+  -- LAW: at a Boot only start triggers move, and they have no variables of their own
+  pub moves-boot : is_boot x ≡ true → moves_with j x t e since ≡ (if starts t.rule && is_none e then Some (Map (head_pairs (codes "homeassistant") t)) else None)
+  moves-boot boot =
+      (λ i. if (opened (λ k. boot k || is_restart x) ∙ (λ k. boot k && starts t.rule && is_none e)) i && (nat_lt since (length j) || starts t.rule) then Some (variables (more j x) t e (length j)) else None)
       ∙ (λ i. if (starts t.rule && is_none e) && (nat_lt since (length j) || starts t.rule) then Some (given (sight (more j x) (length j)) (sight (more j x) (suc (length j))) (option_and_then event_in (get-last j x i)) t e) else None)
       ∙ by (starts t.rule) refl
     where
@@ -191,6 +191,11 @@ module _ (j : Journal) (x : Entry) (t : Trigger) (e : Option EntityId) (since : 
           also true false = refl
           also false b = refl
       by false s = refl
+
+  -- LAW: at a Restart none moves
+  pub moves-restart : opens_segment x ≡ true → is_boot x ≡ false → moves_with j x t e since ≡ None
+  moves-restart opens boot =
+      (λ i. if (opened opens ∙ (λ k. boot k && starts t.rule && is_none e)) i && (nat_lt since (length j) || starts t.rule) then Some (variables (more j x) t e (length j)) else None)
 
 -- where no segment opens there is an entry before
 pub has-past : (j : Journal) (x : Entry) → IsJournal (more j x) → opens_segment x ≡ false → HasEntry j

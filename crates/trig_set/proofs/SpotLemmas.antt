@@ -1,6 +1,7 @@
 -- Lists of spots of which one is set.
 use Rattle.std.proofs.Common.{◌≡◌, ℕ, zero, suc, ◌<◌, List, [], ◌∷◌, length, get_or, map, Bool, true, false, refl, sym, ap, ◌∙◌, arith}
 use Rattle.std.specs.Prelude.{Some, nat_eq, slice_get, slice_set, option_and_then, if◌then◌else◌}
+use Rattle.std.proofs.lemmas.Bool.{eqb-true}
 use Rattle.std.proofs.lemmas.Bool.Decides.{nat_tests}
 use Rattle.timer_queue.specs.Timers.{Timer, due_of, distinct_keys}
 use Rattle.trig_set.specs.declared.spot.Spot.{Spot}
@@ -41,3 +42,14 @@ timed-set old new spots place v w lt here dues distinct timed = record { distinc
         by : (b : Bool) → (if b then due_in v else option_and_then due_in (slice_get spots n)) ≡ option_and_then due_in (if b then Some v else slice_get spots n)
         by true = refl
         by false = refl
+
+-- LAW: and where the timer of the one that is set is the same
+pub timed-same : (timers : List Timer) (spots : List Spot) (place : ℕ) (v w : Spot) → place < length spots → slice_get spots place ≡ Some w → due_in v ≡ due_in w → AreTimed timers spots → AreTimed timers (slice_set spots place v)
+timed-same timers spots place v w lt here same timed = record { distinct = timed.distinct; dues = at }
+  where
+    at : (n : ℕ) → due_of n timers ≡ option_and_then due_in (slice_get (slice_set spots place v) n)
+    at n = timed.dues n ∙ by (nat_eq place n) refl ∙ ap (option_and_then due_in) (sym (get-set spots place n v lt))
+      where
+        by : (b : Bool) → nat_eq place n ≡ b → option_and_then due_in (slice_get spots n) ≡ option_and_then due_in (if b then Some v else slice_get spots n)
+        by true e = ap (λ m. option_and_then due_in (slice_get spots m)) (sym (eqb-true place n e)) ∙ ap (option_and_then due_in) here ∙ sym same
+        by false e = refl

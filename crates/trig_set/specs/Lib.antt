@@ -14,3 +14,4 @@ pub mod Queued
 pub mod Concerned
 pub mod Places
 pub mod Left
+pub mod Opening

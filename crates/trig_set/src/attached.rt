@@ -23,7 +23,11 @@ use timer_queue::TimerQueue;
 use trig_template::template_true;
 
 /// Whether the template of a rule is true; other rules have none.
-fn now_true<A: Answers>(alloc: Global, rule: &TriggerRule, answers: &A) -> Result<bool, AllocError>
+pub fn now_true<A: Answers>(
+    alloc: Global,
+    rule: &TriggerRule,
+    answers: &A,
+) -> Result<bool, AllocError>
     ensures { IfOk result (λ b. b ≡ is_true (A.sight answers.now) rule.now) }
 {
     match rule {
@@ -203,7 +207,7 @@ pub fn collect_one(
 }
 
 /// What the spots fire with is taken out of them, in their order.
-fn collect(
+pub fn collect(
     alloc: Global,
     owner: u64,
     spots: &mut [Spot],

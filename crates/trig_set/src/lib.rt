@@ -16,6 +16,7 @@ mod moved;
 mod moving;
 mod noted;
 mod numbers;
+mod opening;
 mod ordered;
 mod owners;
 mod places;

@@ -1,7 +1,7 @@
 //! Whether what a trigger watches stays.
 ghost use Rattle.std.specs.Prelude.{◌≡◌, ℕ, length, nat_lt, suc, true, false, Some};
 ghost use Rattle.std.specs.Option.{option_copied, option_map_or};
-ghost use Rattle.ha_journal.specs.Entries.{opens_segment};
+ghost use Rattle.ha_journal.specs.Entries.{is_boot, opens_segment};
 ghost use Rattle.ha_config.specs.Equal.{same_flag};
 ghost use Rattle.ha_config.specs.Numbers.{in_bounds as in_bounds_lem};
 ghost use Rattle.ha_journal.specs.Moves.{latest_number, report_number, sight};
@@ -97,6 +97,13 @@ fn numeric_stays_in(
     let was = is_within(above, below, latest);
     let is = is_within(above, below, next);
     equal_flag(was, is)
+}
+
+/// Whether the entry is a Boot.
+pub fn boots(entry: &Entry) -> bool
+    ensures { result ≡ is_boot entry.now }
+{
+    matches!(entry, Entry::Boot { .. })
 }
 
 /// Whether the entry is a Boot or a Restart.

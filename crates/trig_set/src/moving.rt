@@ -18,7 +18,7 @@ ghost use Rattle.trig_set.specs.Scenes.{Shows};
 
 use crate::attached::is_moment;
 use crate::event::{data_in, is_named, kind_in};
-use crate::moved::{is_within, opens, reported_number, shift_of};
+use crate::moved::{boots, is_within, opens, reported_number, shift_of};
 use crate::scene::{Scene, Shift};
 use ha_config::{Trigger, TriggerRule};
 use ha_journal::Entry;
@@ -28,8 +28,8 @@ use std::alloc::{AllocError, Global};
 use time_match::passed;
 use trig_state::state_moves;
 
-/// Where a segment opens, start triggers move, and no others.
-fn started(
+/// At a Boot start triggers move, and no others.
+pub fn started(
     alloc: Global,
     trigger: &Trigger,
     entity: Option<&EntityId>,
@@ -288,8 +288,8 @@ fn ruled(
     }
 }
 
-/// The variables with which the entry moves a trigger, after its since or as a start trigger; none where it does not. `is` and `was` say
-/// whether the trigger's template is true after the entry and was before.
+/// The variables with which the entry moves a trigger, after its since or as a start trigger; none where it does not, and so at a Restart.
+/// `is` and `was` say whether the trigger's template is true after the entry and was before.
 pub fn given(
     alloc: Global,
     scene: &Scene<'_>,
@@ -305,8 +305,11 @@ pub fn given(
         → (nat_lt since (length j) ≡ true → was ≡ is_true (sight j (length j)) trigger.now.rule)
         → v ≡ moves_with j scene.now.entry.now trigger.now (option_copied entity.entry) since) }
 {
-    if opens(scene.entry) {
+    if boots(scene.entry) {
         return started(alloc, trigger, entity);
+    }
+    if opens(scene.entry) {
+        return Ok(None);
     }
     if scene.place <= since {
         return Ok(None);

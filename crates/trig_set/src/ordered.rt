@@ -1,6 +1,8 @@
 //! The owners, in the order of their numbers.
-ghost use Rattle.std.specs.Prelude.{◌≡◌, ◌≤◌, ◌++◌, ℕ, [], IsNone, List, OnErr, OnOk, length, map, true};
+ghost use Rattle.std.specs.Prelude.{◌≡◌, ◌≤◌, ◌++◌, ℕ, [], ◌∷◌, IsNone, List, OnErr, OnOk, length, map, true};
 ghost use Rattle.ha_clock.specs.Local.{last_moment};
+ghost use Rattle.ha_journal.specs.declared.entry.Entry.{Entry};
+ghost use Rattle.ha_journal.specs.Entries.{IsBoot};
 ghost use Rattle.ha_journal.specs.Journal.{Journal, more};
 ghost use Rattle.ha_journal.specs.Moves.{sight};
 ghost use Rattle.ha_past.specs.Firings.{firings, owner_named, placed, without_owner};
@@ -13,6 +15,7 @@ ghost use Rattle.trig_set.specs.Stands.{AllOwners, OwnerStands};
 
 use crate::concerned::place_of;
 use crate::noted::note_owners;
+use crate::opening::open_owners;
 use crate::owners::{Attached, unlist_owner};
 use crate::scene::Scene;
 use event_bus::Index;
@@ -106,6 +109,21 @@ impl Owners {
         ensures owners { map owner_of self.new ≡ map owner_of self.old }
     {
         note_owners(alloc, scene, answers, index, &mut self.list, queue, fired)
+    }
+
+    /// What an opening makes of all owners; what fires is appended.
+    pub fn open_all<A: Answers>(
+        &mut self,
+        alloc: Global,
+        answers: &A,
+        fired: &mut Many<Firing>,
+    ) -> Result<(), AllocError>
+        ensures stands { OnOk result ((x : Entry) → IsBoot x → A.sight answers.now ≡ sight (x ∷ []) 1 → AllOwners self.old (OwnerStands []) → AllOwners self.new (OwnerStands (x ∷ []))) }
+        ensures fired { OnOk result ((x : Entry) → IsBoot x → A.sight answers.now ≡ sight (x ∷ []) 1 → AllOwners self.old (OwnerStands []) → fired.new ≡ fired.old ++ firings (x ∷ []) 0 (map owner_of self.old)) }
+        ensures queued { OnOk result ((queue : List Timer) → AllOwners self.old (HasDue queue) → AllOwners self.new (HasDue queue)) }
+        ensures owners { map owner_of self.new ≡ map owner_of self.old }
+    {
+        open_owners(alloc, answers, &mut self.list, fired)
     }
 
     /// Takes all owners out.

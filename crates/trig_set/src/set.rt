@@ -4,6 +4,7 @@ ghost use Rattle.ha_clock.specs.Local.{last_moment};
 ghost use Rattle.ha_clock.specs.Zone.{zone_of};
 ghost use Rattle.ha_journal.specs.Entries.{boot_of};
 ghost use Rattle.ha_config.specs.declared.command.Cmd.TheVariants.{Report};
+ghost use Rattle.ha_journal.specs.declared.entry.Entry.{Entry as Item};
 ghost use Rattle.ha_journal.specs.declared.entry.Entry.TheVariants.{Line};
 ghost use Rattle.ha_sight.specs.declared.state.StateObject.{StateObject as State};
 ghost use Rattle.ha_journal.specs.Journal.{Journal, now as now_of, more};
@@ -13,6 +14,7 @@ ghost use Rattle.ha_past.specs.Firings.{Owner, owner_named, placed, without_owne
 ghost use Rattle.trig_set.specs.Known.{IsFree};
 ghost use Rattle.trig_set.specs.Left.{Leaves};
 ghost use Rattle.trig_set.specs.Next.{IsNext};
+ghost use Rattle.trig_set.specs.Opening.{Opens};
 ghost use Rattle.trig_set.specs.Stands.{attached, StandsFor};
 
 use crate::before::Before;
@@ -126,6 +128,39 @@ impl TrigSet {
             };
         }
         Ok(())
+    }
+
+    /// The zone that an opening has is taken.
+    fn set_zone(&mut self, alloc: Global, zone: &Zone) -> Result<(), AllocError>
+        ensures rest { self.new ≡ record self.old { zone = self.new.zone } }
+        ensures zone { OnOk result (self.new.zone ≡ Some zone.now) }
+    {
+        match Zone::read(alloc, zone.text()) {
+            Ok(read) => self.zone = Some(read),
+            Err(ClockFault::Text) => unreachable!(),
+            Err(ClockFault::Memory) => return Err(AllocError),
+        }
+        Ok(())
+    }
+
+    /// Opens a journal in this zone: what fires there, in the order of the owners' numbers, and there of triggers. `answers` holds what is
+    /// seen after the opening. What fires is the same, and the set stands alike, whatever the Boot says else. After an error the set may
+    /// only be dropped.
+    pub fn open_segment<A: Answers>(
+        &mut self,
+        alloc: Global,
+        zone: &Zone,
+        answers: &A,
+    ) -> Result<Many<Firing>, AllocError>
+        ensures kept { OnOk result (attached self.new ≡ attached self.old) }
+        ensures fired { IfOk result (λ fired. (x : Item) → StandsFor self.old [] → Opens x zone.now (A.sight answers.now) → fired ≡ firings (x ∷ []) 0 (attached self.old)) }
+        ensures stands { OnOk result ((x : Item) → StandsFor self.old [] → Opens x zone.now (A.sight answers.now) → StandsFor self.new (x ∷ [])) }
+    {
+        self.set_zone(alloc, zone)?;
+        let mut fired = Many::make(alloc);
+        self.owners.open_all(alloc, answers, &mut fired)?;
+        self.now = answers.now();
+        Ok(fired)
     }
 
     /// None where the entity concerns nobody: no trigger is on it, and no trigger asks a template at each entry. Else a place for

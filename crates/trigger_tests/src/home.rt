@@ -6,9 +6,9 @@ ghost use Rattle.ha_config.specs.Sound.{are_sound_triggers};
 use cond_eval::View;
 use ha_clock::{Moment, Zone};
 use ha_config::{Cmd, Config, Trigger};
-use ha_journal::{Carry, Entry, Firing};
+use ha_journal::{Entry, Firing};
 use ha_sight::StateObject;
-use ha_value::{EntityId, Many, Num, Plain, Value, Word};
+use ha_value::{EntityId, Many, Num, Plain, Value, Word, push_value};
 use state_table::StateTable;
 use std::alloc::{AllocError, Global};
 use trig_set::{Before, TrigSet};
@@ -64,10 +64,7 @@ pub fn entity(alloc: Global, id: &str) -> Result<EntityId, AllocError> {
 /// One pair of a name and a whole number.
 fn pair(alloc: Global, name: &str, number: i64) -> Result<Many<(Word, Value)>, AllocError> {
     let mut pairs = Many::make(alloc);
-    pairs.push((
-        Word::from_str(alloc, name)?,
-        Value::Number(Num::Whole(number)),
-    ))?;
+    push_value(alloc, &mut pairs, name, Value::Number(Num::Whole(number)))?;
     Ok(pairs)
 }
 
@@ -136,24 +133,6 @@ fn line(alloc: Global, step: Step<'_>, now: u64) -> Result<Many<Entry>, AllocErr
         ),
         Err(fault) => Err(fault),
     }
-}
-
-/// The boot of a home without automations.
-fn boot(alloc: Global, zone: &str, start: u64) -> Result<Many<Entry>, AllocError> {
-    let (text, zone) = (Word::new(alloc), Word::from_str(alloc, zone)?);
-    let automations = Many::make(alloc);
-    let carry = Carry::first(alloc)?;
-    entries(
-        alloc,
-        Entry::Boot {
-            text,
-            config: Config { automations },
-            stored: None,
-            start: moment(start),
-            zone,
-            carry,
-        },
-    )
 }
 
 /// The entity whose state a step may change.
@@ -264,14 +243,13 @@ impl Home {
         Ok(())
     }
 
-    /// Whether these triggers fire at the boot, in this order.
-    fn starts(
-        &mut self,
-        alloc: Global,
-        entries: &Many<Entry>,
-        wanted: &[u32],
-    ) -> Result<bool, AllocError> {
-        let fired = self.note(alloc, entries, Before::make(alloc))?;
+    /// Whether these triggers fire at the opening of the journal, in this order.
+    fn starts(&mut self, alloc: Global, wanted: &[u32]) -> Result<bool, AllocError> {
+        let automations = Many::make(alloc);
+        let config = Config { automations };
+        let view = View::make(&self.states, &config, &self.zone, moment(self.start));
+        let fired = self.set.open_segment(alloc, &self.zone, &view)?;
+        self.place = 1;
         Ok(are(fired.as_slice(), wanted))
     }
 
@@ -329,8 +307,7 @@ pub fn goes(
     requires { IsTrue (are_sound_triggers triggers.now) }
 {
     let mut home = home_with(alloc, zone, start, triggers)?;
-    let entries = boot(alloc, zone, start)?;
-    if !home.starts(alloc, &entries, at_boot)? {
+    if !home.starts(alloc, at_boot)? {
         return Ok(false);
     }
     home.goes_on(alloc, rows)
@@ -348,8 +325,7 @@ pub fn goes_until_detached(
     requires { IsTrue (are_sound_triggers triggers.now) }
 {
     let mut home = home_with(alloc, "UTC", EIGHT, triggers)?;
-    let entries = boot(alloc, "UTC", EIGHT)?;
-    if !home.starts(alloc, &entries, &[])? || !home.goes_on(alloc, rows)? {
+    if !home.starts(alloc, &[])? || !home.goes_on(alloc, rows)? {
         return Ok(false);
     }
     if all {

@@ -5,7 +5,7 @@ ghost use Rattle.ha_config.specs.Sound.{are_sound_triggers, is_sound_rule, is_so
 use crate::home::Step::{Clock, Event, Gone, Has, Restart, Says};
 use crate::home::{Expected, goes_at_eight, goes_until_detached, row};
 use crate::templates::over_twenty as template_over_twenty;
-use crate::triggers::{event, five_seconds, over_twenty, state, text};
+use crate::triggers::{add, event, five_seconds, over_twenty, plain, state, text};
 use ha_config::{Trigger, TriggerRule};
 use ha_value::{Many, Word};
 use std::alloc::{AllocError, Global};
@@ -26,49 +26,36 @@ fn just_past_eight(alloc: Global) -> Result<TriggerRule, AllocError>
     Ok(TriggerRule::Time(seconds))
 }
 
-/// A trigger without `for`, at its place in a list.
-fn plain(alloc: Global, idx: u32, rule: TriggerRule) -> Result<Trigger, AllocError>
-    requires { IsTrue (is_sound_rule rule) }
-    ensures { IfOk result (λ t. IsTrue (is_sound_trigger t)) }
-{
-    Ok(Trigger {
-        id: Word::from_str(alloc, "0")?,
-        idx,
-        rule,
-        hold: None,
-    })
-}
-
 /// The first of a list, with a `for` of five seconds.
-fn first(alloc: Global, rule: TriggerRule) -> Result<Trigger, AllocError>
+fn first(alloc: Global, rule: TriggerRule) -> Trigger
     requires sound { IsTrue (is_sound_rule rule) }
     requires may { IsTrue (may_hold rule) }
-    ensures { IfOk result (λ t. IsTrue (is_sound_trigger t)) }
+    ensures { IsTrue (is_sound_trigger result) }
 {
     let hold = five_seconds();
-    Ok(Trigger {
-        id: Word::from_str(alloc, "0")?,
+    Trigger {
+        id: Word::short(alloc, "0"),
         idx: 0,
         rule,
         hold,
-    })
+    }
 }
 
 /// One of the lights is on for five seconds (0), an event (1), a template on a number (2), a time (3), and the number itself (4).
 fn mixed(alloc: Global) -> Result<Many<Trigger>, AllocError>
     ensures { IfOk result (λ ts. IsTrue (are_sound_triggers ts)) }
 {
-    let lights = first(alloc, state(alloc, &LIGHTS, None, text(alloc, "on")?)?)?;
-    let tick = plain(alloc, 1, event(alloc, "tick")?)?;
-    let template = plain(alloc, 2, template_over_twenty(alloc, "sensor.t")?)?;
-    let time = plain(alloc, 3, just_past_eight(alloc)?)?;
-    let number = plain(alloc, 4, over_twenty(alloc, "sensor.t")?)?;
     let mut triggers = Many::make(alloc);
-    triggers.push(lights)?;
-    triggers.push(tick)?;
-    triggers.push(template)?;
-    triggers.push(time)?;
-    triggers.push(number)?;
+    let lights = state(alloc, &LIGHTS, None, text(alloc, "on")?)?;
+    add(&mut triggers, first(alloc, lights))?;
+    let tick = event(alloc, "tick")?;
+    add(&mut triggers, plain(alloc, "0", 1, tick))?;
+    let template = template_over_twenty(alloc, "sensor.t")?;
+    add(&mut triggers, plain(alloc, "0", 2, template))?;
+    let time = just_past_eight(alloc)?;
+    add(&mut triggers, plain(alloc, "0", 3, time))?;
+    let number = over_twenty(alloc, "sensor.t")?;
+    add(&mut triggers, plain(alloc, "0", 4, number))?;
     Ok(triggers)
 }
 

@@ -1,11 +1,12 @@
 //! Triggers without `for`.
-ghost use Rattle.std.specs.Prelude.{IsTrue};
-ghost use Rattle.ha_config.specs.Sound.{is_sound_match};
+ghost use Rattle.std.specs.Prelude.{IfOk, IsTrue};
+ghost use Rattle.ha_config.specs.Sound.{are_sound_triggers, is_sound_match};
 
 use crate::home::Step::{Clock, Event, Gone, Has, Restart, Says};
 use crate::home::{EIGHT, goes, goes_at_eight, row};
-use crate::triggers::{event, event_two, one, over_twenty, state, text, two};
-use ha_config::{Match, TriggerRule};
+use crate::triggers::{add, event, event_two, one, over_twenty, plain, state, text};
+use ha_config::{Match, Trigger, TriggerRule};
+use ha_value::Many;
 use std::alloc::{AllocError, Global};
 
 /// Whether it fires where the lamp turns on, and then this where an attribute comes to it.
@@ -47,10 +48,20 @@ fn a_report_equal_to_the_state_fires_nothing(rt: HostRuntime) {
     assert!(rt; reads_again(rt.alloc()).unwrap_or(false));
 }
 
-fn both_fire(alloc: Global) -> Result<bool, AllocError> {
+/// A change of any kind, and one to `on`.
+fn bare_and_on(alloc: Global) -> Result<Many<Trigger>, AllocError>
+    ensures { IfOk result (λ ts. IsTrue (are_sound_triggers ts)) }
+{
+    let mut triggers = Many::make(alloc);
     let bare = state(alloc, &["light.x"], None, Match::Absent)?;
+    add(&mut triggers, plain(alloc, "0", 0, bare))?;
     let on = state(alloc, &["light.x"], None, text(alloc, "on")?)?;
-    let triggers = two(alloc, bare, on)?;
+    add(&mut triggers, plain(alloc, "1", 1, on))?;
+    Ok(triggers)
+}
+
+fn both_fire(alloc: Global) -> Result<bool, AllocError> {
+    let triggers = bare_and_on(alloc)?;
     let rows = [
         row(Says("light.x", "on"), &[0, 1]),
         row(Says("light.x", "off"), &[0]),
@@ -119,10 +130,20 @@ fn an_entity_that_is_named_twice_fires_once(rt: HostRuntime) {
     assert!(rt; is_named_twice(rt.alloc()).unwrap_or(false));
 }
 
-fn comes_with_its_data(alloc: Global) -> Result<bool, AllocError> {
+/// An event with any data, and one whose number is 2.
+fn any_and_two(alloc: Global) -> Result<Many<Trigger>, AllocError>
+    ensures { IfOk result (λ ts. IsTrue (are_sound_triggers ts)) }
+{
+    let mut triggers = Many::make(alloc);
     let any = event(alloc, "go")?;
-    let two_alone = event_two(alloc, "go")?;
-    let triggers = two(alloc, any, two_alone)?;
+    add(&mut triggers, plain(alloc, "0", 0, any))?;
+    let two = event_two(alloc, "go")?;
+    add(&mut triggers, plain(alloc, "1", 1, two))?;
+    Ok(triggers)
+}
+
+fn comes_with_its_data(alloc: Global) -> Result<bool, AllocError> {
+    let triggers = any_and_two(alloc)?;
     let rows = [
         row(Event("go", 1), &[0]),
         row(Event("stop", 2), &[]),
@@ -138,7 +159,11 @@ fn an_event_fires_by_its_type_and_its_data(rt: HostRuntime) {
 
 fn starts(alloc: Global) -> Result<bool, AllocError> {
     let triggers = one(alloc, TriggerRule::Start)?;
-    let rows = [row(Says("light.x", "on"), &[]), row(Clock(1_000), &[])];
+    let rows = [
+        row(Says("light.x", "on"), &[]),
+        row(Restart("light.x"), &[]),
+        row(Clock(1_000), &[]),
+    ];
     goes(alloc, "UTC", EIGHT, &triggers, &[0], &rows)
 }
 

@@ -1,11 +1,11 @@
 //! Triggers by the parts that a test names.
-ghost use Rattle.std.specs.Prelude.{◌&&◌, IfOk, IsTrue, nat_lt};
-ghost use Rattle.ha_config.specs.Sound.{are_sound_triggers, if_there, is_short, is_sound_match, is_sound_rule, may_hold};
+ghost use Rattle.std.specs.Prelude.{◌≡◌, ◌≤◌, ◌&&◌, ◌++◌, ◌∷◌, [], IfOk, IsTrue, OnOk, length, nat_lt};
+ghost use Rattle.ha_config.specs.Sound.{are_sound_triggers, if_there, is_short, is_sound_match, is_sound_rule, is_sound_trigger, may_hold};
 
 use crate::home::entity;
 use ha_clock::Span;
 use ha_config::{Match, Trigger, TriggerRule};
-use ha_value::{EntityId, Many, Num, Value, Word};
+use ha_value::{EntityId, Many, Num, Value, Word, push_value};
 use std::alloc::{AllocError, Global};
 
 /// A trigger, with its `for`.
@@ -19,13 +19,38 @@ fn trigger(
     ensures { IfOk result (λ ts. IsTrue (are_sound_triggers ts)) }
 {
     let mut triggers = Many::make(alloc);
-    triggers.push(Trigger {
-        id: Word::from_str(alloc, "0")?,
-        idx: 0,
-        rule,
-        hold,
-    })?;
+    add(
+        &mut triggers,
+        Trigger {
+            id: Word::short(alloc, "0"),
+            idx: 0,
+            rule,
+            hold,
+        },
+    )?;
     Ok(triggers)
+}
+
+/// Adds a trigger to a list. No other function has one where memory may be wanting: each such place is dear to prove.
+pub fn add(triggers: &mut Many<Trigger>, trigger: Trigger) -> Result<(), AllocError>
+    ensures { OnOk result (triggers.new ≡ triggers.old ++ trigger ∷ []) }
+{
+    triggers.push(trigger)?;
+    Ok(())
+}
+
+/// A trigger without `for`, at its place in a list.
+pub fn plain(alloc: Global, id: &str, idx: u32, rule: TriggerRule) -> Trigger
+    requires short { length id.now ≤ 22 }
+    requires sound { IsTrue (is_sound_rule rule) }
+    ensures { IsTrue (is_sound_trigger result) }
+{
+    Trigger {
+        id: Word::short(alloc, id),
+        idx,
+        rule,
+        hold: None,
+    }
 }
 
 /// A trigger without `for`.
@@ -50,32 +75,6 @@ pub fn five_seconds() -> Option<Span>
     ensures { IsTrue (if_there (λ d. nat_lt 0 d) result) }
 {
     Span::of(5_000)
-}
-
-/// Two triggers.
-pub fn two(
-    alloc: Global,
-    first: TriggerRule,
-    second: TriggerRule,
-) -> Result<Many<Trigger>, AllocError>
-    requires first { IsTrue (is_sound_rule first) }
-    requires second { IsTrue (is_sound_rule second) }
-    ensures { IfOk result (λ ts. IsTrue (are_sound_triggers ts)) }
-{
-    let mut triggers = Many::make(alloc);
-    triggers.push(Trigger {
-        id: Word::from_str(alloc, "0")?,
-        idx: 0,
-        rule: first,
-        hold: None,
-    })?;
-    triggers.push(Trigger {
-        id: Word::from_str(alloc, "1")?,
-        idx: 1,
-        rule: second,
-        hold: None,
-    })?;
-    Ok(triggers)
 }
 
 /// The entities of at most 32 ids.
@@ -157,6 +156,6 @@ pub fn event_two(alloc: Global, kind: &str) -> Result<TriggerRule, AllocError>
     let mut kinds = Many::make(alloc);
     kinds.push(Word::from_str(alloc, kind)?)?;
     let mut pairs = Many::make(alloc);
-    pairs.push((Word::from_str(alloc, "n")?, Value::Number(Num::Whole(2))))?;
+    push_value(alloc, &mut pairs, "n", Value::Number(Num::Whole(2)))?;
     Ok(TriggerRule::Event { kinds, pairs })
 }

@@ -43,7 +43,7 @@ due-first rs (Line source number cmd) es h = absurd h
 due-first rs (Step worker serial branch item) es h = absurd h
 due-first rs (Again number start stored carry) es h = absurd h
 
-put-step : (j : Journal) (k serial : ℕ) (branch : Branch) (item : Item) → put j (Step k serial branch item) ≡ more j (Step k serial branch item)
+pub put-step : (j : Journal) (k serial : ℕ) (branch : Branch) (item : Item) → put j (Step k serial branch item) ≡ more j (Step k serial branch item)
 put-step j k serial branch item =
     let x : Entry = Step k serial branch item in
     (λ i. if ends-more j x i then more (more j x) (again_of (more j x)) else more j x)

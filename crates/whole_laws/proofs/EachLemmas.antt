@@ -21,12 +21,12 @@ use Rattle.ha_laws.proofs.PrefixLaws.{has-more}
 use Rattle.whole_laws.proofs.PrefixLemmas.{records-prefix}
 use Rattle.ha_laws.proofs.RightMore.{right-back}
 
-abbrev RightAlone : Journal → Type 0
+abbrev pub RightAlone : Journal → Type 0
 RightAlone s = one.Right s (all.records_of s)
 
-record Segs (d : Journal) : Type 0 where
-  closed : EachRight (cut d).closed
-  last : RightAlone (segment d)
+pub record Segs (d : Journal) : Type 0 where
+  pub closed : EachRight (cut d).closed
+  pub last : RightAlone (segment d)
 
 each-snoc-right : (ss : List Journal) (s : Journal) → EachRight ss → RightAlone s → EachRight (ss ++ (s ∷ []))
 each-snoc-right [] s h r = (r, tt)
@@ -38,13 +38,19 @@ boot-right (Line source number cmd) h = absurd h
 boot-right (Step worker serial branch item) h = absurd h
 boot-right (Again number start stored carry) h = absurd h
 
+-- an entry that is right by records that are the same up to here is right by those of the last segment alone
+pub right-alone : (d : Journal) (rs : Records) (x : Entry) → IsCut d → SameUpTo (length d) (records_of d) rs → IsRightEntry rs d x → one.IsRightEntry (all.records_of (segment d)) (segment d) (alone (segment d) x)
+right-alone d rs x c same h =
+    let s = segment d in
+    let seen : SameUpTo (length s) (all.records_of s) (own d rs) = subst (λ l. SameUpTo (length s) l (own d rs)) (own-is d c) (own-same d (records_of d) rs c same) in
+    right-back (length s) (all.records_of s) (own d rs) seen s (alone s x) refl h
+
 -- with an entry that opens no segment, right by records that are the same up to here
 segs-on : (d : Journal) (rs : Records) (x : Entry) → IsCut d → again_in x ≡ None → (IsBoot x → ⊥) → SameUpTo (length d) (records_of d) rs → IsRightEntry rs d x → Segs d → Segs (more d x)
 segs-on d rs x c e not_boot same h g =
     let s = segment d in
     let y = alone s x in
-    let seen : SameUpTo (length s) (all.records_of s) (own d rs) = subst (λ l. SameUpTo (length s) l (own d rs)) (own-is d c) (own-same d (records_of d) rs c same) in
-    let right : one.IsRightEntry (all.records_of s) s y = right-back (length s) (all.records_of s) (own d rs) seen s y refl h in
+    let right = right-alone d rs x c same h in
     let next = one_laws.right-more s (all.records_of s) y g.last (alone-goes-on (carried s) x e not_boot) right in
     let on : segment (more d x) ≡ more s y = segment-on d x e in
     record {
@@ -61,7 +67,7 @@ segs-again d x a c e g =
       last = subst RightAlone (sym on) (boot-right o.boot o.is_boot);
     }
 
-segs-behind : (d : Journal) (rs : Records) (x : Entry) → IsCut d → IsBehind d x → SameUpTo (length d) (records_of d) rs → IsRightEntry rs d x → Segs d → Segs (more d x)
+pub segs-behind : (d : Journal) (rs : Records) (x : Entry) → IsCut d → IsBehind d x → SameUpTo (length d) (records_of d) rs → IsRightEntry rs d x → Segs d → Segs (more d x)
 segs-behind d rs (Boot text config stored start zone carry) c b same h g = absurd b
 segs-behind d rs (Line source number cmd) c b same h g = segs-on d rs (Line source number cmd) c refl (λ h. h) same h g
 segs-behind d rs (Step worker serial branch item) c b same h g = segs-on d rs (Step worker serial branch item) c refl (λ h. h) same h g
@@ -75,7 +81,7 @@ segs-from d (x ∷ xs) rs c has e b h g =
     subst Segs (append_assoc d (x ∷ []) xs)
     (segs-from (more d x) xs rs (cut-behind d x c has b.0) (has-more d x has) (e ∙ (λ i. records_of (sym (append_assoc d (x ∷ []) xs) i))) b.1 h.1 (segs-behind d rs x c b.0 same h.0 g))
 
-first-segs : (e : Entry) → IsFirst e → Segs (e ∷ [])
+pub first-segs : (e : Entry) → IsFirst e → Segs (e ∷ [])
 first-segs (Boot text config stored start zone carry) h = record { closed = tt; last = boot-right (Boot text config stored start zone carry) tt }
 first-segs (Line source number cmd) h = absurd h
 first-segs (Step worker serial branch item) h = absurd h

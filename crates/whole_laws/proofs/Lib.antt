@@ -4,9 +4,7 @@ pub mod GrowthLemmas
 pub mod PrefixLemmas
 pub mod AnswerLemmas
 pub mod LiftLemmas
-pub mod TableShift
 pub mod EachLemmas
-pub mod ViewLemmas
 pub mod OneSegment
 pub mod SeenLemmas
 pub mod FrontLemmas
@@ -15,3 +13,10 @@ pub mod ClosingLemmas
 pub mod OneSource
 pub mod NamedLemmas
 pub mod RestLemmas
+pub mod PutLemmas
+pub mod NumberLemmas
+pub mod CallLemmas
+pub mod TextLemmas
+pub mod ReadLemmas
+pub mod StoreLemmas
+pub mod OneLawful

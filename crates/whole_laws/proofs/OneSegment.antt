@@ -18,21 +18,21 @@ use Rattle.whole_laws.specs.Segments.{HasNoAgain}
 use Rattle.whole_laws.proofs.CutLemmas.{closed-on, records-cut, segment-on, carried-on}
 use Rattle.ha_laws.proofs.PrefixLaws.{has-more}
 
-less-zero : (a : ℕ) → a - 0 ≡ a
+pub less-zero : (a : ℕ) → a - 0 ≡ a
 less-zero a = omega arith
 
-plus-zero : (a : ℕ) → 0 + a ≡ a
+pub plus-zero : (a : ℕ) → 0 + a ≡ a
 plus-zero a = omega arith
 
-counted-zero : (x : Entry) → counted_from 0 x ≡ x
+pub counted-zero : (x : Entry) → counted_from 0 x ≡ x
 counted-zero (Boot text config stored start zone carry) = refl
 counted-zero (Line source number cmd) = refl
 counted-zero (Step worker serial branch item) = (λ i. Step worker (less-zero serial i) branch item)
 counted-zero (Again number start stored carry) = refl
 
-record IsOne (j : Journal) : Type 0 where
-  is : segment j ≡ j
-  closed : (cut j).closed ≡ []
+pub record IsOne (j : Journal) : Type 0 where
+  pub is : segment j ≡ j
+  pub closed : (cut j).closed ≡ []
 
 one-from : (before xs : Journal) → HasEntry before → IsOne before → carried before ≡ 0 → HasNoAgain xs → IsOne (before ++ xs)
 one-from before [] h o c none = subst IsOne (sym (append-nil before)) o
@@ -42,11 +42,11 @@ one-from before (x ∷ xs) h o c none =
     subst IsOne (append_assoc before (x ∷ []) xs)
     (one-from (more before x) xs (has-more before x h) (record { is = on; closed = closed-on before x none.0 ∙ o.closed }) (carried-on before x h ∙ c) none.1)
 
-record CarriesNone (j : Journal) : Type 0 where
-  serials : carried j ≡ 0
-  numbers : (name : Text) → carried_number j name ≡ 0
+pub record CarriesNone (j : Journal) : Type 0 where
+  pub serials : carried j ≡ 0
+  pub numbers : (name : Text) → carried_number j name ≡ 0
 
-first-carries : (e : Entry) (es : Journal) → IsFirst e → CarriesNone (e ∷ es)
+pub first-carries : (e : Entry) (es : Journal) → IsFirst e → CarriesNone (e ∷ es)
 first-carries (Boot text config stored start zone carry) es h = record { serials = h.serials; numbers = λ name. (λ i. unwrap_or (named name (h.numbers i)) 0) }
 first-carries (Line source number cmd) es h = absurd h
 first-carries (Step worker serial branch item) es h = absurd h
@@ -73,6 +73,13 @@ placed-all-zero : (s : Journal) → CarriesNone s → (rs : Records) → placed_
 placed-all-zero s c [] = refl
 placed-all-zero s c (r ∷ rs) = (λ i. placed-zero s c r i ∷ placed-all-zero s c rs i)
 
+-- the first entry alone is a segment
+pub first-one : (e : Entry) → IsFirst e → IsOne (e ∷ [])
+first-one (Boot text config stored start zone carry) h = record { is = refl; closed = refl }
+first-one (Line source number cmd) h = absurd h
+first-one (Step worker serial branch item) h = absurd h
+first-one (Again number start stored carry) h = absurd h
+
 pub record MeansAlone (j : Journal) : Type 0 where
   pub segment_is : segment j ≡ j
   pub records_are : records_of j ≡ all.records_of j
@@ -82,7 +89,7 @@ pub one-segment : (j : Journal) → AreEntries j → HasNoAgain j → MeansAlone
 one-segment [] h none = absurd h
 one-segment (e ∷ es) h none =
     let c = first-carries e es h.0 in
-    let o : IsOne (e ∷ es) = one-from (e ∷ []) es tt (first e h.0) (first-zero e h.0) none.1 in
+    let o : IsOne (e ∷ es) = one-from (e ∷ []) es tt (first-one e h.0) (first-zero e h.0) none.1 in
     let nothing : front (e ∷ es) ≡ 0 = (λ i. entries_in (o.closed i)) in
     record {
       segment_is = o.is;
@@ -92,11 +99,5 @@ one-segment (e ∷ es) h none =
           ∙ placed-all-zero (e ∷ es) c (all.records_of (e ∷ es));
     }
   where
-    first : (e : Entry) → IsFirst e → IsOne (e ∷ [])
-    first (Boot text config stored start zone carry) h = record { is = refl; closed = refl }
-    first (Line source number cmd) h = absurd h
-    first (Step worker serial branch item) h = absurd h
-    first (Again number start stored carry) h = absurd h
-
     first-zero : (e : Entry) → IsFirst e → carried (e ∷ []) ≡ 0
     first-zero e h = (first-carries e [] h).serials

@@ -16,11 +16,11 @@ use Rattle.ha_journal.specs.Variables.{variables}
 
 -- whether a trigger fires at an opening
 abbrev opens_for : Trigger → Option ℕ → Option EntityId → Bool
-opens_for t None e = (true && (starts t.rule && is_none e)) && (false || starts t.rule)
+opens_for t None e = (true && ((true && starts t.rule) && is_none e)) && (false || starts t.rule)
 opens_for t (Some d) e = false
 
 boot-fires : (b : Entry) → IsBoot b → (t : Trigger) (h : Option ℕ) (e : Option EntityId) (s : ℕ) → fires (b ∷ []) (record t { hold = h }) e s 0 0 ≡ opens_for t h e
-boot-fires (Boot text config stored start zone carry) h t None e s = (let no_lt : nat_lt s 0 ≡ false = search rules in λ i. (true && (starts t.rule && is_none e)) && (no_lt i || starts t.rule))
+boot-fires (Boot text config stored start zone carry) h t None e s = (let no_lt : nat_lt s 0 ≡ false = search rules in λ i. (true && ((true && starts t.rule) && is_none e)) && (no_lt i || starts t.rule))
 boot-fires (Boot text config stored start zone carry) h t (Some d) e s = none (nat_lt s 0) _ _ _ _ _ (search rules)
   where
     none : (a b c d f g : Bool) → a ≡ false → (((((a && b) && c) && d) && f) && g) ≡ false

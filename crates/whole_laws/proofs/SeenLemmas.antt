@@ -1,17 +1,18 @@
 -- The last segment of a journal lies at the end of the flat list: what opened it, and the entries behind that.
-use Rattle.std.proofs.Common.{◌≡◌, ◌+◌, ◌-◌, [], ◌∷◌, ◌++◌, refl, sym, subst, ◌∙◌, Option, append_assoc}
+use Rattle.std.proofs.Common.{◌≡◌, ℕ, suc, ◌+◌, ◌-◌, ◌<◌, [], ◌∷◌, ◌++◌, length, drop, refl, sym, subst, ap, ◌∙◌, Option, arith, append_assoc, length-append}
+use Rattle.std.proofs.Math.Seq.{drop-append_seam}
 use Rattle.std.specs.Prelude.{Some, None, map}
 use Rattle.std.specs.Option.{option_map_or}
 use Rattle.std.proofs.lemmas.List.{map-append}
 use Rattle.ha_journal.specs.declared.entry.Entry.{Entry}
 use Rattle.ha_journal.specs.declared.entry.Entry.TheVariants.{Boot, Line, Step, Again}
 use Rattle.ha_config.specs.Words.{EachAfter}
-use Rattle.ha_journal.specs.Entries.{Opening, Reopening, boot_of, again_in}
+use Rattle.ha_journal.specs.Entries.{Opening, Reopening, IsBoot, boot_of, again_in}
 use Rattle.ha_journal.specs.Journal.{Journal, HasEntry, more}
-use Rattle.ha_whole.specs.Segments.{alone, boot_again, carried, counted_from, cut, entries_in, reopened, segment}
+use Rattle.ha_whole.specs.Segments.{alone, boot_again, carried, counted_from, cut, entries_in, front, reopened, segment}
 use Rattle.ha_whole.specs.Whole.{AreEntries, IsBehind, IsFirst}
 use Rattle.ha_config.proofs.ListLemmas.{append-nil}
-use Rattle.whole_laws.specs.Views.{opened_as, seen_behind}
+use Rattle.segment_view.specs.Views.{HasBoot, opened_as, seen_at, seen_behind, seen_from}
 use Rattle.whole_laws.specs.Seen.{LiesIn, SameOpening}
 use Rattle.ha_journal.proofs.MoreLemmas.{has-entry}
 use Rattle.whole_laws.proofs.CutLemmas.{IsCut, closed-again, closed-on, cut-behind, cut-first, entries-snoc, segment-again, segment-on, carried-on}
@@ -107,3 +108,35 @@ lies-first (Again number start stored carry) h = absurd h
 -- LAW: the last segment lies at the end of the flat list, behind as many entries as stand before it
 pub lies-in : (boot : Entry) (es : Journal) → AreEntries (boot ∷ es) → LiesIn boot (boot ∷ es)
 lies-in boot es h = lies-from boot (boot ∷ []) es (cut-first boot h.0) tt h.1 (lies-first boot h.0)
+
+-- ---- as `segment_view` sees it
+
+boots : (x : Entry) → IsFirst x → IsBoot x
+boots (Boot text config stored start zone carry) h = tt
+boots (Line source number cmd) h = absurd h
+boots (Step worker serial branch item) h = absurd h
+boots (Again number start stored carry) h = absurd h
+
+-- LAW: a whole journal begins with a Boot
+pub has-boot : (j : Journal) → AreEntries j → HasBoot j
+has-boot [] h = absurd h
+has-boot (boot ∷ es) h = boots boot h.0
+
+below : (n m k s : ℕ) → k ≡ n → m ≡ k + suc s → n < m
+below n m k s a b = omega (arith, a, b)
+
+-- LAW: fewer entries stand before the last segment than there are
+pub front-below : (j : Journal) → AreEntries j → front j < length j
+front-below [] h = absurd h
+front-below (boot ∷ es) h =
+    let l = lies-in boot es h in
+    below (front (boot ∷ es)) (length (boot ∷ es)) (length l.before) (length l.settled) l.front_is (ap length l.is ∙ length-append l.before (l.opening ∷ l.settled))
+
+-- LAW: the last segment is what is seen behind them
+pub seen-there : (j : Journal) → AreEntries j → segment j ≡ seen_at j (front j) (carried (segment j))
+seen-there [] h = absurd h
+seen-there (boot ∷ es) h =
+    let l = lies-in boot es h in
+    let j : Journal = boot ∷ es in
+    let rest : drop (front j) j ≡ l.opening ∷ l.settled = (λ i. drop (sym l.front_is i) (l.is i)) ∙ drop-append_seam l.before (l.opening ∷ l.settled) in
+    l.seen ∙ (λ i. seen_from boot (sym rest i) (carried (segment j)))

@@ -4,7 +4,7 @@ use Rattle.ha_journal.specs.declared.entry.Entry.{Entry}
 use Rattle.ha_journal.specs.Entries.{Opening, boot_of}
 use Rattle.ha_journal.specs.Journal.{Journal}
 use Rattle.ha_whole.specs.Segments.{carried, front, segment}
-use Rattle.whole_laws.specs.Views.{opened_as, seen_behind}
+use Rattle.segment_view.specs.Views.{opened_as, seen_behind}
 
 -- the segment's own Boot has the text, the configuration and the zone of the journal's
 pub record SameOpening (boot first : Entry) : Type 0 where

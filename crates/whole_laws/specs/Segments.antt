@@ -1,6 +1,6 @@
 -- The segments of a journal, each read alone.
-use Rattle.std.specs.Prelude.{◌≡◌, List, [], ◌∷◌, None}
-use Rattle.ha_journal.specs.Entries.{again_in}
+use Rattle.std.specs.Prelude.{◌≡◌, false, List, [], ◌∷◌, None}
+use Rattle.ha_journal.specs.Entries.{again_in, is_restart}
 use Rattle.ha_journal.specs.Journal.{Journal}
 use Rattle.ha_model.specs.Records.{records_of}
 use Rattle.ha_model.specs.Lawful.{Right}
@@ -14,3 +14,8 @@ EachRight (s ∷ ss) = Right s (records_of s) × EachRight ss
 abbrev pub HasNoAgain : Journal → Type 0
 HasNoAgain [] = Unit {0}
 HasNoAgain (x ∷ xs) = (again_in x ≡ None) × HasNoAgain xs
+
+-- nor a Restart
+abbrev pub HasNoRestart : Journal → Type 0
+HasNoRestart [] = Unit {0}
+HasNoRestart (x ∷ xs) = (is_restart x ≡ false) × HasNoRestart xs

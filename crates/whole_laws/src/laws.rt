@@ -1,32 +1,37 @@
 //! Laws of whole journals, which are read segment by segment. Each is a function that does nothing; its contract is the law.
-ghost use Rattle.std.specs.Prelude.{◌≡◌, ◌<◌, ◌+◌, ℕ, List, [], ◌∷◌, ◌++◌, length, map, Bool, Option, true, false};
+ghost use Rattle.std.specs.Prelude.{◌≡◌, ◌<◌, ◌+◌, ℕ, suc, List, [], ◌∷◌, ◌++◌, length, map, flat_map, Bool, Option, Some, is_some, true, false};
 ghost use Rattle.ha_config.specs.declared.command.Cmd.{Cmd};
 ghost use Rattle.ha_config.specs.declared.config.Config.{Config};
-ghost use Rattle.ha_config.specs.declared.config.Mode.{Mode};
 ghost use Rattle.ha_config.specs.declared.config.Trigger.{Trigger};
-ghost use Rattle.ha_model.specs.declared.record.EndCause.{EndCause};
 ghost use Rattle.ha_journal.specs.declared.entry.Entry.{Entry};
 ghost use Rattle.ha_journal.specs.declared.entry.Entry.TheVariants.{Boot, Line, Step};
 ghost use Rattle.ha_sight.specs.declared.item.Item.{Item};
-ghost use Rattle.ha_config.specs.Words.{Pairs, Text, EachAfter};
+ghost use Rattle.ha_config.specs.Words.{Text, EachAfter};
 ghost use Rattle.ha_config.specs.StoreText.{in_name_order as switches_in_order};
 ghost use Rattle.ha_whole.specs.Named.{in_name_order, named};
 ghost use Rattle.whole_laws.specs.Apart.{AreApart};
 ghost use Rattle.ha_journal.specs.Journal.{Journal, HasEntry, automations, IsJournal as IsJournalAlone, more};
-ghost use Rattle.ha_journal.specs.Entries.{IsBoot, first_carry};
+ghost use Rattle.ha_journal.specs.Entries.{IsBoot, first_carry, is_again, is_restart};
+ghost use Rattle.ha_journal.specs.Commands.{ArePutFrom, lines_of, placed_line};
+ghost use Rattle.ha_journal.specs.EntryText.{error_text, error_text_of, trace_line, trace_text};
+ghost use Rattle.ha_model.specs.declared.record.Record.{Record};
+ghost use Rattle.ha_model.specs.Texts.{call_text, call_text_of};
+ghost use Rattle.ha_sight.specs.Items.{call_in};
+ghost use Rattle.ha_laws.specs.OneRun.{SameNumbers};
 ghost use Rattle.ha_sight.specs.Scripts.{Branch};
 ghost use Rattle.ha_config.specs.Names.{name_of};
 ghost use Rattle.ha_journal.specs.Triggers.{firings};
-ghost use Rattle.ha_model.specs.Records.{Records, records_of as records_alone};
-ghost use Rattle.ha_model.specs.Lawful.{Right as RightAlone, is_quiet as is_quiet_alone, is_rested as is_rested_alone, ready as ready_alone};
+ghost use Rattle.ha_model.specs.Records.{Records, calls_of, records_of as records_alone};
+ghost use Rattle.ha_model.specs.Lawful.{Lawful as LawfulAlone, Right as RightAlone, record_of, is_quiet as is_quiet_alone, is_rested as is_rested_alone, ready as ready_alone};
 ghost use Rattle.ha_whole.specs.Segments.{alone, carried, carried_number, front, segment, segments};
-ghost use Rattle.ha_whole.specs.Whole.{AreEntries, IsBehind, IsBusy, IsFirst, IsTurn, Lawful, Right, Running, is_quiet, is_rested, opened, own, placed_all, put, ready, records_of};
-ghost use Rattle.run_modes.specs.Table.{attempted, called_on, ended_at, live_of, stopped};
+ghost use Rattle.ha_whole.specs.Whole.{AreEntries, HasRoom, IsBehind, IsBusy, IsFirst, IsTurn, IsWithin, Lawful, Right, Running, appended, before_put, changes_store, is_quiet, is_rested, opened, own, placed_all, put, ready, records_of, store_text};
+ghost use Rattle.segment_view.specs.Views.{HasBoot, seen_at};
 ghost use Rattle.ha_laws.specs.Makers.{OfOne, makers, cmds_of};
 ghost use Rattle.whole_laws.specs.Puts.{IsPut};
 ghost use Rattle.whole_laws.specs.Seen.{LiesIn};
-ghost use Rattle.whole_laws.specs.Goes.{AllEnded, GoesOn, SerialsTo, moved_all};
-ghost use Rattle.whole_laws.specs.Segments.{EachRight, HasNoAgain};
+ghost use Rattle.segment_runs.specs.Goes.{moved_all};
+ghost use Rattle.whole_laws.specs.Segments.{EachRight, HasNoAgain, HasNoRestart};
+ghost use Rattle.ha_laws.specs.WorkedHall as hall;
 
 /// The last segment of a journal is a journal itself, of the same automations, behind all other entries.
 pub fn the_last_segment_is_a_journal()
@@ -65,25 +70,18 @@ pub fn prefixes_tell()
 {}
 
 /// For a given first entry, given lines of each source and a given list of the makers of the entries, at most one journal with its
-/// records is lawful, over all its segments.
+/// records is lawful, over all its segments; and so it is where the lines are put from given commands that were read.
 pub fn one_answer()
-    ensures { (boot : Entry) (xs ys : Journal) (rs rs' : Records) → Lawful (boot ∷ xs) rs → Lawful (boot ∷ ys) rs'
+    ensures put { (boot : Entry) (xs ys : Journal) (rs rs' : Records) → Lawful (boot ∷ xs) rs → Lawful (boot ∷ ys) rs'
         → makers xs ≡ makers ys → ((q : ℕ) → cmds_of q xs ≡ cmds_of q ys) → (xs ≡ ys) × (rs ≡ rs') }
+    ensures read { (boot : Entry) (xs ys : Journal) (rs rs' : Records) → Lawful (boot ∷ xs) rs → Lawful (boot ∷ ys) rs'
+        → makers xs ≡ makers ys → (read : ℕ → List Cmd) → ((q : ℕ) → ArePutFrom q (boot ∷ xs) (read q)) → ((q : ℕ) → ArePutFrom q (boot ∷ ys) (read q))
+        → (xs ≡ ys) × (rs ≡ rs') }
 {}
 
-/// A table of runs that goes on behind the records of closed segments, which have all ended, changes by each call as the segment's own
-/// table would.
-pub fn tables_go_on()
-    ensures live { (n base : ℕ) (num : ℕ → ℕ) (a : ℕ) (c rs : Records) → AllEnded c → live_of a (c ++ moved_all n base num rs) ≡ map {A = ℕ} {B = ℕ} (λ q. base + q) (live_of a rs) }
-    ensures stopped { (n base : ℕ) (num : ℕ → ℕ) (which : Option ℕ) (place : ℕ) (cause : EndCause) (c rs : Records) → AllEnded c
-        → stopped which (n + place) cause (c ++ moved_all n base num rs) ≡ c ++ moved_all n base num (stopped which place cause rs) }
-    ensures ended { (n base : ℕ) (num : ℕ → ℕ) (serial place : ℕ) (cause : EndCause) (c rs : Records) → SerialsTo base c → 0 < serial
-        → ended_at (base + serial) (n + place) cause (c ++ moved_all n base num rs) ≡ c ++ moved_all n base num (ended_at serial place cause rs) }
-    ensures called { (n base : ℕ) (num : ℕ → ℕ) (serial : ℕ) (c rs : Records) → SerialsTo base c → 0 < serial
-        → called_on (base + serial) (c ++ moved_all n base num rs) ≡ c ++ moved_all n base num (called_on serial rs) }
-    ensures attempted { (n base : ℕ) (num : ℕ → ℕ) (a : ℕ) (mode : Mode) (max place order : ℕ) (env : Pairs) (c rs : Records) → GoesOn base num c
-        → attempted a mode max (n + place) order env (c ++ moved_all n base num rs) ≡ c ++ moved_all n base num (attempted a mode max place order env rs) }
-    ensures placed { (n : ℕ) (s : Journal) (rs : Records) → placed_all n s rs ≡ moved_all n (carried s) (λ a. carried_number s (name_of (automations s) a)) rs }
+/// The records of a segment stand among those of the whole journal as a table that goes on behind closed segments has them.
+pub fn placed_records_are_moved()
+    ensures { (n : ℕ) (s : Journal) (rs : Records) → placed_all n s rs ≡ moved_all n (carried s) (λ a. carried_number s (name_of (automations s) a)) rs }
 {}
 
 /// Each segment of a right journal is right with its own records, judged from its opening alone.
@@ -97,9 +95,23 @@ pub fn one_segment_means_the_same()
     ensures records { (j : Journal) → AreEntries j → HasNoAgain j → records_of j ≡ records_alone j }
 {}
 
+/// What is lawful as one segment, and has no Restart, is lawful as a whole journal: so the worked journal of the hall light is.
+pub fn one_segment_is_lawful()
+    ensures whole { (boot : Entry) (es : Journal) (rs : Records) → IsFirst boot → HasNoRestart es → LawfulAlone (boot ∷ es) rs → Lawful (boot ∷ es) rs }
+    ensures hall_light { Lawful hall.journal hall.records }
+{}
+
 /// The last segment lies at the end of the flat list, behind as many entries as stand before it.
 pub fn the_last_segment_lies_at_the_end()
     ensures { (boot : Entry) (es : Journal) → AreEntries (boot ∷ es) → LiesIn boot (boot ∷ es) }
+{}
+
+/// The last segment is what is seen of the flat list behind as many entries as stand before it, where as many runs were before as it
+/// carries.
+pub fn the_last_segment_is_seen()
+    ensures boot { (j : Journal) → AreEntries j → HasBoot j }
+    ensures front { (j : Journal) → AreEntries j → front j < length j }
+    ensures seen { (j : Journal) → AreEntries j → segment j ≡ seen_at j (front j) (carried (segment j)) }
 {}
 
 /// What a lawful journal begins with, up to any of its entries, is lawful with its own records; where it ends with a Restart, with the
@@ -119,10 +131,14 @@ pub fn closing_steps_are_lawful()
         → IsTurn rs j (Step 0 serial branch item) → Lawful (more j (Step 0 serial branch item)) rs' }
 {}
 
-/// With one source alone, at most one journal with that first entry and those lines is lawful and quiet, over all its segments.
+/// With one source alone, at most one journal with that first entry and those lines is lawful and quiet, over all its segments; and so it
+/// is with lines that are put from given commands.
 pub fn one_source()
-    ensures { (boot : Entry) (xs ys : Journal) (rs rs' : Records) → Lawful (boot ∷ xs) rs → Lawful (boot ∷ ys) rs' → OfOne xs → OfOne ys
+    ensures put { (boot : Entry) (xs ys : Journal) (rs rs' : Records) → Lawful (boot ∷ xs) rs → Lawful (boot ∷ ys) rs' → OfOne xs → OfOne ys
         → is_quiet rs (boot ∷ xs) ≡ true → is_quiet rs' (boot ∷ ys) ≡ true → ((q : ℕ) → cmds_of q xs ≡ cmds_of q ys) → (xs ≡ ys) × (rs ≡ rs') }
+    ensures read { (boot : Entry) (xs ys : Journal) (rs rs' : Records) → Lawful (boot ∷ xs) rs → Lawful (boot ∷ ys) rs' → OfOne xs → OfOne ys
+        → is_quiet rs (boot ∷ xs) ≡ true → is_quiet rs' (boot ∷ ys) ≡ true → (read : ℕ → List Cmd)
+        → ((q : ℕ) → ArePutFrom q (boot ∷ xs) (read q)) → ((q : ℕ) → ArePutFrom q (boot ∷ ys) (read q)) → (xs ≡ ys) × (rs ≡ rs') }
 {}
 
 /// Pairs whose names differ have the same value for each name where they are put in the order of the names: so the switches, numbers and
@@ -141,4 +157,40 @@ pub fn the_first_segment_takes_nothing_over()
 pub fn sources_rest_where_it_is_quiet()
     ensures rested { (j : Journal) (rs : Records) (k : ℕ) → AreEntries j → is_quiet rs j ≡ true → is_rested rs k j ≡ true }
     ensures busy { (before : Journal) (rs : Records) (k number : ℕ) (cmd : Cmd) → is_quiet rs (more before (Line k number cmd)) ≡ false → is_rested rs k (more before (Line k number cmd)) ≡ false }
+{}
+
+/// One put appends its entry, and behind a Restart the Again that opens the next segment; with room for it no bound is passed.
+pub fn a_put_appends()
+    ensures entries { (j : Journal) (x : Entry) → put j x ≡ j ++ appended j x }
+    ensures before { (j : Journal) (x : Entry) → is_again x ≡ false → before_put (put j x) ≡ j }
+    ensures within { (j : Journal) (x : Entry) → IsPut x → IsWithin j → HasRoom j (is_restart x) → IsWithin (put j x) }
+{}
+
+/// The calls, the errors and the trace of a journal with one put more, and the lines of a source: the trace has a line for the Again too,
+/// which gives nothing else.
+pub fn texts_of_one_put()
+    ensures calls { (j : Journal) (x : Entry) (rs : Records) → call_text (put j x) rs ≡ call_text j rs ++ call_text_of rs j x }
+    ensures errors { (j : Journal) (x : Entry) → error_text (put j x) ≡ error_text j ++ error_text_of x }
+    ensures trace { (j : Journal) (x : Entry) → trace_text (put j x) false ≡ trace_text j false ++ flat_map (trace_line (automations (put j x))) (appended j x) }
+    ensures lines { (k : ℕ) (j : Journal) (x : Entry) → lines_of k (put j x) ≡ lines_of k j ++ placed_line k j x }
+{}
+
+/// The records of a right journal with one put more have the automations and numbers that they had, and so its calls' text is the same by
+/// them: it tells of a run only its automation and its number.
+pub fn calls_of_grown_records()
+    ensures numbers { (j : Journal) (x : Entry) (rs rs' : Records) → IsPut x → Right j rs → Right (put j x) rs' → SameNumbers rs rs' }
+    ensures calls { (j : Journal) (rs rs' : Records) → Right j rs → SameNumbers rs rs' → call_text j rs ≡ call_text j rs' }
+{}
+
+/// The calls of a run of the last segment are those that the segment alone has; so behind a step that calls the record of its run, among
+/// those of all segments, has counted the calls of its serial.
+pub fn calls_are_counted()
+    ensures own { (j : Journal) (rs : Records) → Right j rs → (q : ℕ) → 0 < q → calls_of j (carried (segment j) + q) ≡ calls_of (segment j) q }
+    ensures step { (before : Journal) (k serial : ℕ) (branch : Branch) (item : Item) (rs : Records) → Right (more before (Step k serial branch item)) rs
+        → (r : Record) → record_of rs serial ≡ Some r → is_some (call_in item) ≡ true → r.calls ≡ suc (calls_of before serial) }
+{}
+
+/// Where the last put changed nothing that the store keeps, the store's text stays.
+pub fn the_store_stays()
+    ensures { (j : Journal) (x : Entry) → AreEntries j → IsPut x → changes_store (put j x) ≡ false → store_text (put j x) ≡ store_text j }
 {}

@@ -15,7 +15,7 @@ pub returns : goal.returns
 returns c =
     let j = c.args.journal.now in
     let sees : seen c.make-view.result ≡ sight j (length j)
-    = c.make-view.ensures ∙ parts_see c.args.states.now c.configuration.result.now c.args.zone.now c.args.at j (view-of j c.args.states.now c.configuration.result.now c.args.zone.now c.args.at c.requires.looks c.requires.sound c.configuration.ensures) in
+    = c.make-view.ensures ∙ parts_see c.args.states.now c.configuration.result.now c.args.zone.now c.args.at j (view-of j c.args.states.now c.configuration.result.now c.args.zone.now c.args.at c.requires.looks c.requires.sound c.configuration.ensures.automations) in
     let made : IsRunStep (seen c.make-view.result) c.args.branch.now c.args.wait c.args.run.now c.step.new.self (out_of c.in_ok-out.out)
     = record {
       steps = c.in_ok-out.ensures.step;

@@ -8,9 +8,6 @@ use Rattle.engine_entry.specs.Stepping.{StepRuns}
 use Rattle.engine_parts.proofs.AttemptLemmas.{attempts-fired}
 use Rattle.engine_entry.proofs.step_wake.attend_step.Goals as goal
 
-pub wake_after-requires : goal.wake_after-requires
-wake_after-requires c = omega (arith, c.requires.here)
-
 pub returns-clause-fired : goal.returns-clause-fired
 returns-clause-fired c =
     let k = c.args.journal.now in

@@ -11,7 +11,7 @@ pub take_wait-requires : goal.take_wait-requires
 take_wait-requires c =
     let h = c.requires in
     let n = length h.entered.untold.j in
-    let at : n ≡ length c.args.journal.now - 1 = omega (arith, h.here) in
+    let at : n ≡ c.place-place.result = omega (arith, h.here, c.place-place.ensures.place) in
     record {
       room = subst (λ m. m < 1048576) at h.room;
       below = subst (λ m. AreBelow (1024 + m) (attached c.args.parts.now.triggers)) at h.below;
@@ -22,18 +22,18 @@ take_wait-requires c =
 pub take_delay-requires : goal.take_delay-requires
 take_delay-requires c =
     let h = c.requires in
-    let at : length h.entered.untold.j ≡ length c.args.journal.now - 1 = omega (arith, h.here) in
+    let at : length h.entered.untold.j ≡ c.place-place.result = omega (arith, h.here, c.place-place.ensures.place) in
     subst (λ m. KeysBelow m c.args.parts.now.delays) at h.keys_early
 
 pub returns-clause-entered : goal.returns-clause-entered
 returns-clause-entered c =
     let h = c.requires in
     let k = c.args.journal.now in
-    let at : length h.entered.untold.j ≡ length c.args.journal.now - 1 = omega (arith, h.here) in
+    let at : length h.entered.untold.j ≡ c.place-place.result = omega (arith, h.here, c.place-place.ensures.place) in
     let sees = h.entered.sees in
     record {
       sees = record { looks = sees.looks; switches_stand = sees.switches_stand; changed_is = sees.changed_is; sound = sees.sound };
       untold = c.in_ok-take_wait.ensures.untold k c.args.before.now h.entered.untold at;
       keys_early = subst (KeysBelow (length k)) (sym c.in_ok-take_delay.ensures)
-          (keys-added (length k) (length c.args.journal.now - 1) c.args.due c.args.parts.now.delays (omega (arith, h.here)) h.entered.keys_early);
+          (keys-added (length k) c.place-place.result c.args.due c.args.parts.now.delays (omega (arith, h.here, c.place-place.ensures.place)) h.entered.keys_early);
     }

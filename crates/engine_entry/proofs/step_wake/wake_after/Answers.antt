@@ -14,7 +14,7 @@ returns-clause-going c rs w0 w1 delays0 progress wait due h asks queue keys note
     let p = c.args.parts.now in
     let size : length k ≡ suc (length h.j) = ap length h.journal_is ∙ length-more h.j (Step h.worker h.serial h.branch h.out.item) in
     let last : last_place k ≡ length h.j = omega (arith, size) in
-    step-woken-as rs w0 w1 delays0 p c.wake_step.new.delays c.wake_step.new.triggers c.wake_step.new.ready progress wait due (last_place k) k h (sym last)
+    step-woken-as rs w0 w1 delays0 p c.wake_step.new.delays c.wake_step.new.triggers c.wake_step.new.ready progress wait due c.place.result k h (sym (c.place.ensures.place ∙ last))
     (asks ∙ ap (λ n. asks_with n wait w0.asks) last) (queue ∙ ap (λ n. timer_added due n delays0) last) (subst (λ n. KeysBelow n delays0) last keys) noted (
       c.in_ok-wake_step.ensures.stands,
       c.in_ok-wake_step.ensures.owned,

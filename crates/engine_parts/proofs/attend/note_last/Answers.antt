@@ -22,9 +22,13 @@ returns-clause-told c =
     let w = c.args.waits.now in
     let same : c.last_entry.result.now ≡ h.x = c.last_entry.ensures h.j h.x h.journal_is in
     let sees = c.make-view.ensures ∙ parts_see c.args.states.now c.configuration.result.now c.args.zone.now c.args.at k (view-of k c.args.states.now c.configuration.result.now c.args.zone.now c.args.at c.requires.looks c.requires.sound c.configuration.ensures) in
-    let next = subst (λ (y : Entry). IsNext h.j (length k - 1) y c.args.before (seen c.make-view.result) (triggers.attached t)) (sym same)
-    (untold-next k t w c.args.before h c.args.states.now c.args.zone.now c.args.at (seen c.make-view.result) c.requires.looks sees) in
-    let told = subst (λ (y : Entry). waits.AreFired (more h.j y) (length k - 1) (firings (more h.j y) (length k - 1) (triggers.attached t)) w.asks) (sym same) (untold-told k t w c.args.before h) in
+    let p = c.place.result in
+    let at : length k - 1 ≡ p = sym c.place.ensures.place in
+    let next = subst (λ n. IsNext h.j n c.last_entry.result.now c.args.before (seen c.make-view.result) (triggers.attached t)) at
+    (subst (λ (y : Entry). IsNext h.j (length k - 1) y c.args.before (seen c.make-view.result) (triggers.attached t)) (sym same)
+    (untold-next k t w c.args.before h c.args.states.now c.args.zone.now c.args.at (seen c.make-view.result) c.requires.looks sees)) in
+    let told = subst (λ n. waits.AreFired (more h.j c.last_entry.result.now) n (firings (more h.j c.last_entry.result.now) n (triggers.attached t)) w.asks) at
+    (subst (λ (y : Entry). waits.AreFired (more h.j y) (length k - 1) (firings (more h.j y) (length k - 1) (triggers.attached t)) w.asks) (sym same) (untold-told k t w c.args.before h)) in
     told-by k t w c.args.before h c.note.new.triggers c.note.new.waits c.in_ok-fired.ensures.attached
     (subst (λ (y : Entry). triggers.StandsFor c.note.new.triggers (more h.j y)) same (c.in_ok-fired.ensures.triggers h.j h.triggers_stand next))
     (subst (λ (y : Entry). waits.StandsFor c.note.new.waits.asks (more h.j y)) same (c.in_ok-fired.ensures.waits h.j h.some h.triggers_stand h.waits_stand next told))
@@ -38,8 +42,12 @@ returns-clause-fired c =
     let w = c.args.waits.now in
     let same : c.last_entry.result.now ≡ h.x = c.last_entry.ensures h.j h.x h.journal_is in
     let sees = c.make-view.ensures ∙ parts_see c.args.states.now c.configuration.result.now c.args.zone.now c.args.at k (view-of k c.args.states.now c.configuration.result.now c.args.zone.now c.args.at c.requires.looks c.requires.sound c.configuration.ensures) in
-    let next = subst (λ (y : Entry). IsNext h.j (length k - 1) y c.args.before (seen c.make-view.result) (triggers.attached t)) (sym same)
-    (untold-next k t w c.args.before h c.args.states.now c.args.zone.now c.args.at (seen c.make-view.result) c.requires.looks sees) in
+    let p = c.place.result in
+    let at : length k - 1 ≡ p = sym c.place.ensures.place in
+    let next = subst (λ n. IsNext h.j n c.last_entry.result.now c.args.before (seen c.make-view.result) (triggers.attached t)) at
+    (subst (λ (y : Entry). IsNext h.j (length k - 1) y c.args.before (seen c.make-view.result) (triggers.attached t)) (sym same)
+    (untold-next k t w c.args.before h c.args.states.now c.args.zone.now c.args.at (seen c.make-view.result) c.requires.looks sees)) in
     c.in_ok-fired.ensures.fired h.j h.triggers_stand next
+    ∙ ap (λ n. firings (more h.j c.last_entry.result.now) n (triggers.attached t)) c.place.ensures.place
     ∙ ap (λ (y : Entry). firings (more h.j y) (length k - 1) (triggers.attached t)) same
     ∙ ap (λ (i : Journal). firings i (length k - 1) (triggers.attached t)) (sym h.journal_is)

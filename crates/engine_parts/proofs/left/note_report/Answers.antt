@@ -32,7 +32,9 @@ returns-clause-told c =
     (subst (λ (y : Entry). triggers.StandsFor c.note_left.new.self (more j y)) (sym h.x_is)
     (c.in_ok-note_left.ensures.stands j h.source h.number (length k - 1) h.old (sight k (length k)) h.untold.triggers_stand next (left-now k t w e text attributes h c.args.states.now c.args.zone.now c.args.at c.requires.looks)))
     (subst (λ (y : Entry). waits.StandsFor c.note_waits.new.waits.asks (more j y)) (sym h.x_is)
-    (c.in_ok-note_waits.ensures.stands j (report k t w e text attributes h) h.untold.waits_stand (left-waits k t w e text attributes h none (seen c.make-view.result) c.make-fired.result sees c.make-fired.ensures)))
+    (c.in_ok-note_waits.ensures.stands j (report k t w e text attributes h) h.untold.waits_stand
+    (subst (λ n. waits.IsNext j n (report k t w e text attributes h) (seen c.make-view.result) c.make-fired.result w.asks) (sym c.place.ensures.place)
+    (left-waits k t w e text attributes h none (seen c.make-view.result) c.make-fired.result sees c.make-fired.ensures))))
     c.in_ok-note_waits.ensures.asks c.in_ok-note_waits.ensures.grow c.in_ok-note_waits.ensures.owned c.in_ok-note_waits.ensures.told c.in_ok-note_waits.ensures.apart c.in_ok-note_waits.ensures.others
     c.in_ok-note_waits.ensures.held
 

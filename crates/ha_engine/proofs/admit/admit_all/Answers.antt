@@ -16,6 +16,7 @@ attempts-preserved c =
     record {
       spare = omega (arith, one, c.attempts.invariant.spare, c.admit_one.ensures.spare);
       room = c.admit_one.ensures.room (vec_len c.pop.new.self) (subst (λ n. HasRoom n c.attempts.parts) (sym one) c.attempts.invariant.room);
+      closed = c.admit_one.ensures.closed ∙ c.attempts.invariant.closed;
       rested = c.admit_one.ensures.rested ∙ c.attempts.invariant.rested;
       kept = λ k xs prepared at some table going.
           (let now = c.attempts.invariant.kept k xs prepared at some table going in

@@ -12,6 +12,7 @@ abbrev pub invariant-attempts : goal.invariant-attempts
 invariant-attempts l = record {
   spare : vec_len l.stack ≤ l.runs.spare;
   room : HasRoom (vec_len l.stack) l.parts;
+  closed : l.runs.closed ≡ l.initial.runs.closed;
   rested : l.parts.rested ≡ l.initial.parts.rested;
   kept : (k : Journal) (xs : List (ℕ × Attempt)) → ArePrepared k xs (from_end l.initial.stack.items) → l.place ≡ last_place k → 0 < length k → IsTable k l.initial.runs.list → Going nobody k l.initial.runs.list l.initial.parts
       → (ys : List (ℕ × Attempt)) × ArePrepared k ys (from_end l.stack.items) × (all_tried k l.runs.list ys ≡ all_tried k l.initial.runs.list xs) × IsTable k l.runs.list × Going nobody k l.runs.list l.parts;

@@ -1,4 +1,4 @@
-use Rattle.std.proofs.Common.{ℕ, List, take, length, sym, ap, ◌∙◌, arith}
+use Rattle.std.proofs.Common.{ℕ, List, take, sym, ◌∙◌, arith}
 use Rattle.run_modes.specs.Table.{live_of}
 use Rattle.ha_engine.specs.Admits.{are_in}
 use Rattle.ha_engine.proofs.LiveLemmas.{going-next, going-whole, going-all, live-fewer, live-range}
@@ -26,4 +26,4 @@ returns-clause-going c k numbered going =
     let rs = c.args.runs.now.list in
     let live : List ℕ = live_of c.args.automation rs in
     let fewer = live-fewer c.args.automation rs in
-    going-all k rs c.runs.parts live c.runs.at (omega (arith, fewer, c.runs-test.false, ap length c.list-most.ensures)) (c.runs.invariant.going k numbered going)
+    going-all k rs c.runs.parts live c.runs.at (omega (arith, fewer, c.runs-test.false, c.len-most.ensures)) (c.runs.invariant.going k numbered going)

@@ -1,45 +1,77 @@
-use Rattle.std.proofs.Common.{length, sym, subst, ◌∙◌}
-use Rattle.ha_journal.specs.Journal.{Journal}
-use Rattle.ha_model.specs.Lawful.{Right}
+use Rattle.std.proofs.Common.{◌+◌, ◌≤◌, length, sym, subst, ◌∙◌}
+use Rattle.std.proofs.lemmas.List.{take_at}
+use Rattle.ha_journal.specs.declared.entry.Entry.TheVariants.{Step}
+use Rattle.ha_journal.specs.Journal.{Journal, more}
 use Rattle.ha_journal.specs.Moves.{sight}
+use Rattle.ha_model.specs.Records.{Records}
+use Rattle.ha_whole.specs.Segments.{segment}
 use Rattle.script_step.specs.Taken.{out_of}
-use Rattle.engine_parts.specs.Kept.{Kept}
+use Rattle.engine_parts.specs.declared.parts.Parts.{Parts}
+use Rattle.engine_parts.specs.Kept.{AreSound, Looks}
 use Rattle.engine_entry.specs.Stepping.{MaySlot, SlotStep, StepPushed}
-use Rattle.ha_engine.proofs.AdvanceLemmas.{may-slot, pairs-there, picks, pushed}
+use Rattle.ha_engine.specs.Lies.{Lies}
+use Rattle.ha_engine.proofs.AdvanceLemmas.{may-slot, pairs-there, picks, pushed, within-all}
 use Rattle.ha_engine.proofs.advance.advance.Goals as goal
 
 pub picked-requires : goal.picked-requires
-picked-requires c = pairs-there c.args.journal.now.items c.args.runs.now.list c.args.parts.now c.requires.stepping
+picked-requires c = pairs-there (segment c.args.journal.now.items) c.args.runs.now.list c.args.parts.now c.requires.stepping
 
-pub step_slot-requires-clause-slot : goal.step_slot-requires-clause-slot
-step_slot-requires-clause-slot c =
-    subst (λ (i : Journal). MaySlot i c.in_ok-serial.serial c.in_ok-serial.branch c.args.parts.now.at c.in_ok-wait.wait c.args.parts.now.frames.items) (sym c.as_slice.ensures.value)
-    (may-slot c.args.journal.now.items c.args.runs.now.list c.args.parts.now c.requires.stepping c.args.worker c.in_ok-serial.serial c.in_ok-serial.branch c.in_ok-serial.ensures c.in_ok-wait.wait c.in_ok-wait.ensures)
+pub make_step-requires-clause-lies : goal.make_step-requires-clause-lies
+make_step-requires-clause-lies c = subst (λ (i : Journal). Lies i c.args.bounds) (sym c.as_slice.ensures.value) c.requires.lies
 
-pub follow_step-requires : goal.follow_step-requires
-follow_step-requires c =
+pub make_step-requires-clause-looks : goal.make_step-requires-clause-looks
+make_step-requires-clause-looks c =
+    let p = c.args.parts.now in
+    subst (λ (i : Journal). Looks (segment i) p.states p.zone p.at) (sym c.as_slice.ensures.value) c.requires.stepping.kept.going.sees.looks
+
+pub make_step-requires-clause-sound : goal.make_step-requires-clause-sound
+make_step-requires-clause-sound c = subst (λ (i : Journal). AreSound (segment i)) (sym c.as_slice.ensures.value) c.requires.stepping.kept.going.sees.sound
+
+pub make_step-requires-clause-slot : goal.make_step-requires-clause-slot
+make_step-requires-clause-slot c =
+    subst (λ (i : Journal). MaySlot (segment i) c.in_ok-serial.serial c.in_ok-serial.branch c.args.parts.now.at c.in_ok-wait.wait c.args.parts.now.frames.items) (sym c.as_slice.ensures.value)
+    (may-slot (segment c.args.journal.now.items) c.args.runs.now.list c.args.parts.now c.requires.stepping c.args.worker c.in_ok-serial.serial c.in_ok-serial.branch c.in_ok-serial.ensures c.in_ok-wait.wait c.in_ok-wait.ensures)
+
+pub whole_serial-whole-requires : goal.whole_serial-whole-requires
+whole_serial-whole-requires c =
+    subst (λ (l : Records). c.args.bounds.base + c.in_ok-serial.serial ≤ length l) (sym c.all.ensures)
+    (within-all (segment c.args.journal.now.items) c.args.runs.now.list c.args.parts.now c.requires.stepping c.args.worker c.in_ok-serial.serial c.in_ok-serial.branch c.in_ok-serial.ensures c.args.runs.now.closed c.args.bounds.base c.requires.counted)
+
+pub follow_made-requires : goal.follow_made-requires
+follow_made-requires c =
     let j : Journal = c.args.journal.now.items in
     let rs = c.args.runs.now.list in
-    let p = c.args.parts.now in
+    let p : Parts = c.args.parts.now in
     let s = c.in_ok-serial.serial in
     let b = c.in_ok-serial.branch in
+    let q : Parts = c.make_step.new.parts in
     let out = out_of c.in_ok-out.out in
-    let step : SlotStep (sight j (length j)) s b c.in_ok-wait.wait p.frames.items c.step_slot.new.frames.items out c.in_ok-out.due
-    = subst (λ (i : Journal). SlotStep (sight i (length i)) s b c.in_ok-wait.wait p.frames.items c.step_slot.new.frames.items out c.in_ok-out.due) c.as_slice.ensures.value c.in_ok-out.ensures in
+    let step : SlotStep (sight (segment j) (length (segment j))) s b c.in_ok-wait.wait p.frames.items q.frames.items out c.in_ok-out.due
+    = subst (λ (i : Journal). SlotStep (sight (segment i) (length (segment i))) s b c.in_ok-wait.wait p.frames.items q.frames.items out c.in_ok-out.due) c.as_slice.ensures.value c.in_ok-out.ensures.step in
+    let made : StepPushed (more (segment j) (Step c.args.worker s b out.item)) rs (record p { frames = q.frames }) out.progress out.wait c.in_ok-out.due
+    = pushed (segment j) rs p c.requires.stepping c.args.worker s b c.in_ok-serial.ensures c.in_ok-wait.wait c.in_ok-wait.ensures q.frames out c.in_ok-out.due step in
     record {
-      pushed = subst (λ (k : Journal). StepPushed k rs (record p { frames = c.step_slot.new.frames }) out.progress out.wait c.in_ok-out.due) (sym (c.as_slice-2.ensures.value ∙ c.push_step.ensures))
-          (pushed j rs p c.requires.stepping c.args.worker s b c.in_ok-serial.ensures c.in_ok-wait.wait c.in_ok-wait.ensures c.step_slot.new.frames out c.in_ok-out.due step);
+      j = j;
+      x = Step c.args.worker s b out.item;
+      journal_is = c.as_slice-2.ensures.value ∙ c.push_step.ensures;
+      lies = c.requires.lies;
+      pushed = subst (λ (v : Parts). StepPushed (more (segment j) (Step c.args.worker s b out.item)) rs v out.progress out.wait c.in_ok-out.due) (sym c.in_ok-out.ensures.rest) made;
     }
 
 pub returns-in-Ok-clause-ok : goal.returns-in-Ok-clause-ok
-returns-in-Ok-clause-ok c = (
-  (
-    c.in_ok-serial.serial,
-    c.in_ok-serial.branch,
-    c.in_ok-out.out.item,
-    picks c.args.journal.now.items c.args.runs.now.list c.args.parts.now c.requires.stepping c.args.worker c.in_ok-serial.serial c.in_ok-serial.branch c.in_ok-serial.ensures,
-    c.push_step.ensures,
-  ),
-  subst (λ (k : Journal). Right k c.follow_step.new.runs.list) c.as_slice-2.ensures.value c.in-Ok.ensures.ok.0,
-  subst (λ (k : Journal). Kept k c.follow_step.new.runs.list c.follow_step.new.parts) c.as_slice-2.ensures.value c.in-Ok.ensures.ok.1,
-)
+returns-in-Ok-clause-ok c =
+    let j : Journal = c.args.journal.now.items in
+    let s = c.in_ok-serial.serial in
+    let b = c.in_ok-serial.branch in
+    let item = c.in_ok-out.out.item in
+    let told = c.in-Ok.ensures.ok j (Step c.args.worker s b item) c.requires.lies (c.as_slice-2.ensures.value ∙ c.push_step.ensures) in (
+      s,
+      b,
+      item,
+      picks (segment j) c.args.runs.now.list c.args.parts.now c.requires.stepping c.args.worker s b c.in_ok-serial.ensures,
+      take_at c.count_last.new.journal _ c.push_step.new.journal.len (c.count_last.ensures.len ∙ c.as_mut_slice.ensures.len)
+          ∙ c.count_last.ensures.last j c.args.worker s b item (c.as_mut_slice.ensures.value ∙ c.push_step.ensures)
+          ∙ (λ i. more j (Step c.args.worker (c.whole_serial-whole.ensures i) b item)),
+      told.0,
+      told.1,
+    )

@@ -3,16 +3,15 @@ use Rattle.std.proofs.Common.{◌≡◌, ◌-◌, [], ◌∷◌, length, filter,
 use Rattle.ha_journal.specs.declared.entry.Entry.{Entry}
 use Rattle.ha_journal.specs.declared.entry.Entry.TheVariants.{Boot}
 use Rattle.ha_journal.specs.Attempts.{fired}
-use Rattle.ha_journal.specs.Journal.{Journal, last_place, more}
+use Rattle.ha_journal.specs.Journal.{Journal, last_place}
 use Rattle.ha_journal.specs.Moves.{sight}
 use Rattle.cond_eval.specs.Seen.{seen}
-use Rattle.trig_set.specs.Next.{IsNext, Listed}
+use Rattle.trig_set.specs.Opening.{Opens}
 use Rattle.trig_set.specs.Stands as triggers
-use Rattle.ha_past.specs.Firings.{firings}
 use Rattle.engine_parts.specs.Kept.{AreSound, Looks}
 use Rattle.engine_parts.specs.Owners.{attempts_by, is_automation, owners_on}
 use Rattle.engine_parts.proofs.AttemptLemmas.{attempts-fired}
-use Rattle.ha_engine.proofs.BeginLemmas.{boot-looks, boot-next}
+use Rattle.ha_engine.proofs.BeginLemmas.{boot-looks}
 use Rattle.engine_entry.proofs.OpenLemmas.{opened-automations}
 use Rattle.engine_entry.proofs.TurnedOwners.{owners-whole}
 use Rattle.engine_parts.proofs.ViewLemmas.{view-of}
@@ -24,19 +23,13 @@ returns-clause-stands c =
     let k : Journal = c.args.journal.now in
     let x : Entry = Boot h.text h.config h.stored c.args.start c.args.zone.now h.carry in
     let t = c.args.triggers.now in
-    let last : c.last_entry.result.now ≡ x = c.last_entry.ensures [] x h.journal_is in
     let looks = boot-looks h.text h.config h.stored c.args.start c.args.zone.now h.carry h.zone_read h.in_time c.args.states.now c.requires.opened.stand in
     let sees : seen c.make-view.result ≡ sight k (length k)
     = c.make-view.ensures ∙ parts_see c.args.states.now c.configuration.result.now c.args.zone.now c.args.start k (view-of k c.args.states.now c.configuration.result.now c.args.zone.now c.args.start
-    (subst (λ (i : Journal). Looks i c.args.states.now c.args.zone.now c.args.start) (sym h.journal_is) looks) (subst AreSound (sym h.journal_is) h.sound) c.configuration.ensures) in
-    let first : IsNext [] 0 x [] (seen c.make-view.result) (triggers.attached t)
-    = boot-next h.text h.config h.stored c.args.start c.args.zone.now h.carry h.sound h.zone_read h.in_time c.args.states.now t c.requires.opened (seen c.make-view.result)
-    (subst (λ (i : Journal). seen c.make-view.result ≡ sight i (length i)) h.journal_is sees) in
-    let next : IsNext [] 0 c.last_entry.result.now c.make.result (seen c.make-view.result) (triggers.attached t)
-    = subst (λ (b : Listed). IsNext [] 0 c.last_entry.result.now b (seen c.make-view.result) (triggers.attached t)) (sym c.make.ensures)
-    (subst (λ (y : Entry). IsNext [] 0 y [] (seen c.make-view.result) (triggers.attached t)) (sym last) first) in
-    subst (λ (i : Journal). triggers.StandsFor c.note.new.self i) (sym h.journal_is)
-    (subst (λ (y : Entry). triggers.StandsFor c.note.new.self (more [] y)) last (c.in_ok-fired.ensures.stands [] c.requires.opened.triggers_stand next))
+    (subst (λ (i : Journal). Looks i c.args.states.now c.args.zone.now c.args.start) (sym h.journal_is) looks) (subst AreSound (sym h.journal_is) h.sound) c.configuration.ensures.automations) in
+    let opens : Opens x c.args.zone.now (seen c.make-view.result)
+    = record { boot = tt; zone = refl; sees = subst (λ (i : Journal). seen c.make-view.result ≡ sight i (length i)) h.journal_is sees } in
+    subst (λ (i : Journal). triggers.StandsFor c.open_segment.new.self i) (sym h.journal_is) (c.in_ok-fired.ensures.stands x c.requires.opened.triggers_stand opens)
 
 pub returns-clause-fired : goal.returns-clause-fired
 returns-clause-fired c =
@@ -44,19 +37,13 @@ returns-clause-fired c =
     let k : Journal = c.args.journal.now in
     let x : Entry = Boot h.text h.config h.stored c.args.start c.args.zone.now h.carry in
     let t = c.args.triggers.now in
-    let last : c.last_entry.result.now ≡ x = c.last_entry.ensures [] x h.journal_is in
     let looks = boot-looks h.text h.config h.stored c.args.start c.args.zone.now h.carry h.zone_read h.in_time c.args.states.now c.requires.opened.stand in
     let sees : seen c.make-view.result ≡ sight k (length k)
     = c.make-view.ensures ∙ parts_see c.args.states.now c.configuration.result.now c.args.zone.now c.args.start k (view-of k c.args.states.now c.configuration.result.now c.args.zone.now c.args.start
-    (subst (λ (i : Journal). Looks i c.args.states.now c.args.zone.now c.args.start) (sym h.journal_is) looks) (subst AreSound (sym h.journal_is) h.sound) c.configuration.ensures) in
-    let first : IsNext [] 0 x [] (seen c.make-view.result) (triggers.attached t)
-    = boot-next h.text h.config h.stored c.args.start c.args.zone.now h.carry h.sound h.zone_read h.in_time c.args.states.now t c.requires.opened (seen c.make-view.result)
-    (subst (λ (i : Journal). seen c.make-view.result ≡ sight i (length i)) h.journal_is sees) in
-    let next : IsNext [] 0 c.last_entry.result.now c.make.result (seen c.make-view.result) (triggers.attached t)
-    = subst (λ (b : Listed). IsNext [] 0 c.last_entry.result.now b (seen c.make-view.result) (triggers.attached t)) (sym c.make.ensures)
-    (subst (λ (y : Entry). IsNext [] 0 y [] (seen c.make-view.result) (triggers.attached t)) (sym last) first) in
+    (subst (λ (i : Journal). Looks i c.args.states.now c.args.zone.now c.args.start) (sym h.journal_is) looks) (subst AreSound (sym h.journal_is) h.sound) c.configuration.ensures.automations) in
+    let opens : Opens x c.args.zone.now (seen c.make-view.result)
+    = record { boot = tt; zone = refl; sees = subst (λ (i : Journal). seen c.make-view.result ≡ sight i (length i)) h.journal_is sees } in
     let on : filter is_automation (triggers.attached t) ≡ owners_on (x ∷ []) 0
     = opened-automations [] x refl h.sound c.args.states.now t c.requires.opened ∙ sym (owners-whole (x ∷ []) (omega arith)) in
     subst (λ (i : Journal). attempts_by c.in_ok-fired.fired ≡ fired i (last_place i)) (sym h.journal_is)
-    (ap attempts_by (c.in_ok-fired.ensures.fired [] c.requires.opened.triggers_stand next) ∙ ap (λ (y : Entry). attempts_by (firings (more [] y) 0 (triggers.attached t))) last
-    ∙ attempts-fired (x ∷ []) 0 (triggers.attached t) on)
+    (ap attempts_by (c.in_ok-fired.ensures.fired x c.requires.opened.triggers_stand opens) ∙ attempts-fired (x ∷ []) 0 (triggers.attached t) on)

@@ -11,7 +11,7 @@ open_all-requires c =
     let h = c.requires in
     boot-opening h.text h.config h.stored c.args.start c.args.zone.now h.carry h.sound c.args.switches.now (subst (λ (i : Journal). StandsFor c.args.switches.now i) h.journal_is h.switches_stand)
     c.make-states.result c.make-triggers.result (λ e. c.make-states.ensures e ∙ sym (states-empty e)) c.make-triggers.ensures.empty c.make-triggers.ensures.stands c.as_slice.result.now
-    (c.as_slice.ensures ∙ c.configuration.ensures ∙ ap automations h.journal_is)
+    (c.as_slice.ensures ∙ c.configuration.ensures.automations ∙ ap automations h.journal_is)
 
 pub returns : goal.returns
 returns c =
@@ -31,5 +31,5 @@ returns c =
       opened = c.in_ok-open_all.ensures
           (boot-opening h.text h.config h.stored c.args.start c.args.zone.now h.carry h.sound c.args.switches.now (subst (λ (i : Journal). StandsFor c.args.switches.now i) h.journal_is h.switches_stand)
           c.make-states.result c.make-triggers.result (λ e. c.make-states.ensures e ∙ sym (states-empty e)) c.make-triggers.ensures.empty c.make-triggers.ensures.stands c.as_slice.result.now
-          (c.as_slice.ensures ∙ c.configuration.ensures ∙ ap automations h.journal_is));
+          (c.as_slice.ensures ∙ c.configuration.ensures.automations ∙ ap automations h.journal_is));
     }

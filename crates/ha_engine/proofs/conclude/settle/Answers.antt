@@ -1,4 +1,4 @@
-use Rattle.std.proofs.Common.{◌≡◌, ◌-◌, ◌<◌, length, sym, ap, subst, ◌∙◌, refl, arith}
+use Rattle.std.proofs.Common.{◌≡◌, ◌-◌, ◌<◌, length, sym, ap, subst, ◌∙◌, arith}
 use Rattle.std.specs.Prelude.{Bool, vec_len}
 use Rattle.std.specs.Global.{Vec}
 use Rattle.ha_journal.specs.Journal.{Journal}
@@ -17,13 +17,13 @@ note_source-requires c =
     let same = ap (λ v. vec_len v) c.admit_all.ensures.rested in
     omega (arith, same, h.rested_is.count, c.args.parts.now.rested.ok.0)
 
-pub returns : goal.returns
-returns c =
+pub returns-clause-kept : goal.returns-clause-kept
+returns-clause-kept c =
     let h = c.requires.stopped in
     let k : Journal = c.args.journal.now in
     let rs' : Records = records_after h.j h.before h.x in
     let some : 0 < length k = omega (arith, ap length h.journal_is, length-more h.j h.x) in
-    let told = c.admit_all.ensures.all k (passing k) c.requires.prepared refl some h.table h.going in
+    let told = c.admit_all.ensures.all k (passing k) c.requires.prepared c.place.ensures.place some h.table h.going in
     let list : c.admit_all.new.runs.list ≡ rs' = told.0 ∙ h.records in
     let rested : RestedKept h.j h.before c.admit_all.new.parts.rested.items = subst (λ (v : Vec Bool). RestedKept h.j h.before v.items) (sym c.admit_all.ensures.rested) h.rested_is in
     let kept : Kept k rs' c.note_source.new.parts = c.note_source.ensures h.j h.x h.before h.journal_is h.right h.known rested h.right_behind (subst (λ (l : Records). Going nobody k l c.admit_all.new.parts) list told.1) in

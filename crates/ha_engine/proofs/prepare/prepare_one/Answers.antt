@@ -21,7 +21,7 @@ returns-in_ok-put g c k seen same =
     let a : ℕ = c.args.automation in
     let unit : unit_of (automations k) a ≡ option_copied c.get-rule.result = ap (λ all. slice_get all a) (sym same) ∙ sym c.get-rule.ensures.value in
     let on : passes k (last_place k) (asked_for a c.args.env c.args.skip) ≡ true
-    = (λ i. c.args.skip || option_map_or (λ (x : Automation). hold_all (sym seen i) x.tests c.args.env) (unit i) false) ∙ sym c.in_ok-holds.ensures ∙ c.if-holds.true in
+    = (λ i. option_map_or (λ (x : Automation). c.args.skip || hold_all (sym seen i) x.tests c.args.env) (unit i) false) ∙ sym c.in_ok-holds.ensures ∙ c.if-holds.true in
     let put = c.in_ok-put.ensures in
     subst (λ b. IsPut b k (c.args.order, asked_for a c.args.env c.args.skip) c.args.stack.now.items c.put.new.stack.items) (sym on)
     (put.0, put.1, ready-prepared k a c.args.order c.args.env c.args.skip put.0 (option_copied c.get-rule.result) unit put.2)

@@ -11,6 +11,7 @@ targets-preserved c =
     record {
       list = ap (stops_each p (drop (i + 1) ts)) c.stop_target.ensures.list ∙ sym (at_drop_more (λ l. stops_each p l c.targets.runs.list) ts i (0, false, false) c.targets-test.true) ∙ c.targets.invariant.list;
       kept = λ k lt table going. (let g = c.targets.invariant.kept k lt table going in c.stop_target.ensures.kept k lt g.0 g.1);
+      closed = c.stop_target.ensures.closed ∙ c.targets.invariant.closed;
       spare = omega (arith, c.targets.invariant.spare, c.stop_target.ensures.spare);
       room = λ n h. c.stop_target.ensures.room n (c.targets.invariant.room n h);
       rested = c.stop_target.ensures.rested ∙ c.targets.invariant.rested;

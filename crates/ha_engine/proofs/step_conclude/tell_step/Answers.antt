@@ -41,10 +41,11 @@ returns-clause-stopped c =
     let ends : StepEnds k c.count_call.new.runs.list s = subst (λ (l : Records). StepEnds k l s) (sym counted) (step-ends k rs p c.args.progress s item told (is_call item)) in
     let going : Going nobody k c.count_call.new.runs.list p = subst (λ (l : Records). Going nobody k l p) (sym counted) (going-counted k rs p c.args.progress s item told (is_call item)) in
     let ended = c.end_if.ensures.kept ends going in
-    let lt : length k - 1 < length k = omega (arith, ends.some) in
+    let at : c.place.result ≡ length k - 1 = c.place.ensures.place in
+    let lt : c.place.result < length k = omega (arith, ends.some, at) in
     let stopped = c.stop_switched.ensures.kept k lt ended.0 ended.1 in
     told-stopped k rs p c.args.progress s item told c.stop_switched.new.runs.list c.stop_switched.new.parts
-    (c.stop_switched.ensures.list ∙ ap (stops_by (length k - 1) item) (c.end_if.ensures.list ∙ (λ i. own_ended (length k - 1) s (c.cause_of.ensures i) (counted i))))
+    (c.stop_switched.ensures.list ∙ (λ i. stops_by (at i) item c.end_if.new.runs.list) ∙ ap (stops_by (length k - 1) item) (c.end_if.ensures.list ∙ (λ i. own_ended (length k - 1) s (c.cause_of.ensures i) (counted i))))
     stopped.0 stopped.1
     (subst (λ (v : Vec Bool). RestedKept told.told.j rs v.items) (sym (c.stop_switched.ensures.rested ∙ c.end_if.ensures.rested)) told.told.rested_is)
 

@@ -1,4 +1,4 @@
-use Rattle.std.proofs.Common.{◌≡◌, ◌-◌, ◌<◌, Bool, length, sym, subst, ap, ◌∙◌}
+use Rattle.std.proofs.Common.{◌≡◌, ◌-◌, ◌<◌, Bool, length, sym, subst, ap, ◌∙◌, arith}
 use Rattle.std.specs.Prelude.{Some, vec_len, if◌then◌else◌}
 use Rattle.std.specs.Global.{Vec}
 use Rattle.ha_model.specs.declared.record.EndCause.{EndCause}
@@ -49,11 +49,13 @@ settle-requires-clause-stopped c =
     let going : Going nobody k c.make_room.new.runs.list c.make_room.new.parts
     = subst (λ (l : Records). Going nobody k l c.make_room.new.parts) (sym old) (c.in_ok-make_room.ensures.going k rs (c.in_ok-fired.ensures.going rs before)) in
     let table : IsTable k c.make_room.new.runs.list = subst (λ (l : Records). IsTable k l) (sym old) (pushed-table c.args.name.now c.args.on c.args.stop k rs p c.requires) in
-    let lt : length k - 1 < length k = pushed-within c.args.name.now c.args.on c.args.stop k rs p c.requires in
+    let at : c.place.result ≡ length k - 1 = c.place.ensures.place in
+    let within : length k - 1 < length k = pushed-within c.args.name.now c.args.on c.args.stop k rs p c.requires in
+    let lt : c.place.result < length k = omega (arith, within, at) in
     let kept = c.stop_if.ensures.kept k lt table going in
     let rested = c.stop_if.ensures.rested ∙ c.in_ok-make_room.ensures.rested ∙ c.in_ok-fired.ensures.rested ∙ ap (λ (q : Parts). q.rested) c.in_ok-before.ensures.rest in
     pushed-stopped c.args.name.now c.args.on c.args.stop k rs p c.requires a c.number_of-automation.ensures c.stop_if.new.runs.list c.stop_if.new.parts
-    (c.stop_if.ensures.list ∙ (λ i. if c.ends_runs-stops.ensures i then stopped (Some a) (length k - 1) EndCause.SwitchedOff (old i) else old i))
+    (c.stop_if.ensures.list ∙ (λ i. if c.ends_runs-stops.ensures i then stopped (Some a) (at i) EndCause.SwitchedOff (old i) else old i))
     kept.0 kept.1 (subst (λ (v : Vec Bool). RestedKept c.requires.pushed.j rs v.items) (sym rested) c.requires.pushed.kept.rested_is)
 
 pub settle-requires-clause-room : goal.settle-requires-clause-room

@@ -1,6 +1,6 @@
 use Rattle.std.proofs.Common.{◌≡◌, ◌-◌, ℕ, false, length}
 use Rattle.ha_journal.specs.declared.entry.Entry.{Entry}
-use Rattle.ha_model.specs.Lawful.{Lawful}
+use Rattle.ha_whole.specs.Whole.{Lawful}
 use Rattle.ha_rehearse.specs.Puts.{Closing}
 use Rattle.ha_rehearse.proofs.puts.close.Given as goal
 
@@ -12,4 +12,4 @@ invariant-steps g l = record {
 }
 
 abbrev pub decreases-steps : goal.decreases-steps
-decreases-steps g l = 1_048_577 - length (g.C.Core.entries l.core)
+decreases-steps g l = 4_194_305 - length (g.C.Core.entries l.core)

@@ -1,6 +1,6 @@
-use Rattle.std.proofs.Common.{◌+◌}
+use Rattle.std.proofs.Common.{◌+◌, arith}
 use Rattle.std.proofs.lemmas.Result.{IfErr-weaker, on_ok_weaker}
-use Rattle.ha_rehearse.proofs.PutLemmas.{lined_on}
+use Rattle.ha_rehearse.proofs.PutLemmas.{line_refused, lined_on}
 use Rattle.ha_rehearse.proofs.puts.put_cmd.Goals as goal
 
 pub settle-requires-clause-running : goal.settle-requires-clause-running
@@ -19,3 +19,8 @@ returns-in-Ok-clause-failed g c =
     IfErr-weaker c.settle.result _ _ (λ fault h boot o. h boot (c.args.i + 1)
     (lined_on (g.C.Core.entries c.args.core.now) (g.C.Core.entries c.put_line.new.self) (g.C.Core.runs c.args.core.now) (g.C.Core.runs c.put_line.new.self) c.args.i c.from.result c.args.cmd
     c.from.ensures c.requires.cmd c.requires.rested c.in-Ok.ensures.right c.in-Ok.ensures.put boot o)) c.settle.ensures.failed
+
+pub returns-in-Err-clause-failed : goal.returns-in-Err-clause-failed
+returns-in-Err-clause-failed g c = λ boot o.
+    line_refused (g.C.Core.entries c.args.core.now) (g.C.Core.entries c.put_line.new.self) (g.C.Core.runs c.args.core.now) (g.C.Core.runs c.put_line.new.self) c.in-Err.fault
+    c.args.i (c.args.i + 1) c.args.cmd (omega arith) c.requires.cmd c.in-Err.ensures.full c.in-Err.ensures.stays boot o

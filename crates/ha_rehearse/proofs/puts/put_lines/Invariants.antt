@@ -1,6 +1,6 @@
 use Rattle.std.proofs.Common.{◌≡◌, true, false}
 use Rattle.ha_journal.specs.declared.entry.Entry.{Entry}
-use Rattle.ha_model.specs.Lawful.{is_rested}
+use Rattle.ha_whole.specs.Whole.{is_rested}
 use Rattle.rehearsal.specs.Generated.{x_at}
 use Rattle.ha_rehearse.specs.Puts.{On}
 use Rattle.ha_rehearse.proofs.puts.put_lines.Given as goal

@@ -3,7 +3,7 @@ use Rattle.std.specs.Prelude.{None, Some}
 use Rattle.std.proofs.lemmas.List.Sums.{count_by-le-length}
 use Rattle.ha_model.specs.Lawful.{is_line_of}
 use Rattle.ha_replay.specs.Steps.{line_by}
-use Rattle.ha_replay.proofs.LastLemmas.{Said, none-before, said-at}
+use Rattle.ha_replay.proofs.LastLemmas.{Said, none-at-all, none-before, said-at}
 use Rattle.ha_replay.proofs.last.next_number.Goals as goal
 
 said : (c : goal.Else-shuts) → Said c.args.source c.in-Some.number c.in-Some.shuts c.args.journal.now
@@ -24,6 +24,9 @@ overflow_add-result c =
 
 pub returns-else-shuts-clause-next : goal.returns-else-shuts-clause-next
 returns-else-shuts-clause-next c = (sym (said c).next, (said c).shut_is ∙ c.if-shuts.false)
+
+pub returns-clause-next : goal.returns-clause-next
+returns-clause-next c = none-at-all c.args.source c.args.journal.now (length c.args.journal.now - c.loop-i.i) (omega (arith, c.loop-i-test.false)) c.loop-i.invariant
 
 pub loop-i-preserved : goal.loop-i-preserved
 loop-i-preserved c =

@@ -12,4 +12,4 @@ invariant-steps g l = record {
 }
 
 abbrev pub decreases-steps : goal.decreases-steps
-decreases-steps g l = 1_048_576 - length l.bus.journal
+decreases-steps g l = 4_194_304 - length l.bus.journal

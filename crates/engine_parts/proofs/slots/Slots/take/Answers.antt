@@ -1,9 +1,6 @@
-use Rattle.engine_parts.proofs.SlotTables.{value-got, values-put, empty-none}
+use Rattle.engine_parts.proofs.SlotTables.{value-got, values-put}
 use Rattle.std.specs.Prelude.{None}
 use Rattle.engine_parts.proofs.slots.Slots.take.Goals as goal
-
-pub invariant_of-self : goal.invariant_of-self
-invariant_of-self g c = empty-none c.self.inside.empty c.args.at c.self.inside.list.items c.take_at.new.list.items c.take_at.ensures.rest c.self.invariant
 
 pub returns-clause-taken : goal.returns-clause-taken
 returns-clause-taken g c = rw (← c.self.view_is) (value-got c.self.inside.list.items c.args.at c.take_at.result c.take_at.ensures.taken)

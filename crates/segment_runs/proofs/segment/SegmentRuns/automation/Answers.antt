@@ -5,8 +5,8 @@ use Rattle.ha_model.specs.Lawful.{record_of}
 use Rattle.segment_runs.proofs.OverLemmas.{over-automation}
 use Rattle.segment_runs.proofs.segment.SegmentRuns.automation.Goals as goal
 
-pub automation_at-requires-clause-within : goal.automation_at-requires-clause-within
-automation_at-requires-clause-within c = omega (arith, c.self.invariant.within, ap length c.list.ensures)
+pub automation_at-requires : goal.automation_at-requires
+automation_at-requires c = omega (arith, c.self.invariant.within, ap length c.list.ensures)
 
 pub returns : goal.returns
 returns c =

@@ -1,5 +1,5 @@
 use Rattle.std.proofs.Common.{◌∙◌, ap, sym, subst, length}
-use Rattle.whole_laws.specs.Goes.{AllEnded}
+use Rattle.segment_runs.specs.Goes.{AllEnded}
 use Rattle.segment_runs.specs.Segment.{all_of}
 use Rattle.segment_runs.proofs.OverLemmas.{over-close}
 use Rattle.segment_runs.proofs.segment.SegmentRuns.close.Goals as goal

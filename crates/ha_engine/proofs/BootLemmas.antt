@@ -1,0 +1,86 @@
+-- The engine after the boot.
+use Rattle.std.proofs.Common.{◌≡◌, ℕ, zero, suc, ◌+◌, ◌≤◌, inl, inr, List, [], ◌∷◌, length, map, true, refl, sym, ap, subst, ◌∙◌, arith}
+use Rattle.std.specs.Prelude.{Option, None, replicate, ◌⊎◌}
+use Rattle.ha_config.specs.declared.config.Config.{Config}
+use Rattle.ha_config.specs.Sound.{IsSoundConfig}
+use Rattle.ha_config.specs.ValueFacts.{all_distinct}
+use Rattle.ha_config.specs.Words.{Text, numbers_from}
+use Rattle.ha_journal.specs.declared.entry.Entry.{Entry}
+use Rattle.ha_journal.specs.declared.entry.Entry.TheVariants.{Boot}
+use Rattle.ha_journal.specs.Entries.{first_carry}
+use Rattle.ha_journal.specs.Journal.{Journal, automations}
+use Rattle.ha_model.specs.Lawful as one
+use Rattle.ha_model.specs.Records as all
+use Rattle.ha_whole.specs.Whole.{AreEntries, IsFirst, Right, most_entries, most_in_segment, records_of}
+use Rattle.segment_runs.specs.Segment.{SegmentTable, all_of}
+use Rattle.segment_carry.proofs.LawLemmas.{table-records}
+use Rattle.store_text.specs.Store.{Switches}
+use Rattle.switch_book.specs.Book.{names_of}
+use Rattle.engine_parts.specs.declared.parts.Parts.{Parts}
+use Rattle.engine_parts.specs.Kept.{Kept}
+use Rattle.ha_engine.specs.declared.bounds.Bounds.{Bounds}
+use Rattle.ha_engine.specs.Lies.{Follows}
+use Rattle.ha_engine.specs.Noted.{noted}
+use Rattle.ha_engine.specs.Told.{AreRuns, IsFollowed, IsTold}
+use Rattle.ha_engine.proofs.BeginLemmas.{boot-right, starts}
+use Rattle.ha_engine.proofs.FollowedLemmas.{names-differ}
+use Rattle.ha_engine.proofs.LastsLemmas.{lasts-opened}
+use Rattle.ha_engine.proofs.WholeLemmas.{all-is}
+
+nothing-yet : (low n : ℕ) → replicate n None ≡ map {A = ℕ} {B = Option ℕ} (λ a. None) (numbers_from low n)
+nothing-yet low zero = refl
+nothing-yet low (suc n) = ap (λ l. None ∷ l) (nothing-yet (low + 1) n)
+
+module _ (text : Text) (config : Config) (stored : Option Switches) (start : ℕ) (zone : Text) (sound : IsSoundConfig config) where
+  abbrev x : Entry
+  x = Boot text config stored start zone first_carry
+
+  abbrev k : Journal
+  k = x ∷ []
+
+  first : IsFirst x
+  first = record { serials = refl; numbers = refl; lines = refl; shut = refl; last = refl; ordered = refl }
+
+  entries : AreEntries k
+  entries = (first, tt)
+
+  distinct : all_distinct (names_of (automations k)) ≡ true
+  distinct = names-differ k sound
+
+  module _ (t : SegmentTable) (b : Bounds) (own : t.list ≡ all.records_of k) (closed : t.closed ≡ record { records = []; entries = 0 }) (b_is : Follows b 0 0 1) where
+    runs-boot : AreRuns k t
+    runs-boot = record { own = own; records = (λ i. (closed i).records); entries = (λ i. (closed i).entries) }
+
+    all-boot : all_of t.closed t.list ≡ records_of k
+    all-boot = all-is k t runs-boot ∙ sym (table-records k entries distinct)
+
+    right-boot : Right k (records_of k)
+    right-boot = record { journal = record { entries = entries; opened = refl }; records_are = refl; entries = (tt, tt) }
+
+    -- LAW: all stands for the boot alone
+    pub told-boot : IsTold k b t
+    told-boot = record {
+      right = subst (Right k) (sym all-boot) right-boot;
+      own_right = subst (one.Right k) (sym own) (boot-right text config stored start zone first_carry);
+      runs = runs-boot;
+      lies = record { entries = entries; few = omega arith; front_is = b_is.front_is; base_is = b_is.base_is };
+      bounded = record {
+        segments_are = b_is.segments_are;
+        few = omega (arith, b_is.segments_are);
+        limit = b_is.limit;
+        within = by b_is.limit.is;
+      };
+    }
+      where
+        by : (b.limit ≡ 0 + most_in_segment) ⊎ (b.limit ≡ most_entries) → length k ≤ b.limit
+        by (inl e) = omega (arith, e)
+        by (inr e) = omega (arith, e)
+
+    pub followed-boot : (p : Parts) (ls ls' : List (Option ℕ)) → Kept k t.list p → ls ≡ replicate (length config.automations) None → ls' ≡ noted start t.list ls → IsFollowed k t.list p ls' true
+    followed-boot p ls ls' kept is noted_is = record {
+      kept = kept;
+      lasts_are =
+          noted_is ∙ (λ i. noted (starts text config stored start zone first_carry i) (own i) ls)
+          ∙ lasts-opened k tt ls (is ∙ nothing-yet 0 (length config.automations));
+      reset_is = λ e. refl;
+    }

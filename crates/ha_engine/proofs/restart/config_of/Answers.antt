@@ -1,0 +1,11 @@
+use Rattle.std.proofs.Common.{[], ◌∷◌, sym, ap}
+use Rattle.ha_journal.specs.declared.entry.Entry.{Entry}
+use Rattle.ha_journal.specs.Journal.{automations}
+use Rattle.segment_view.proofs.ViewLemmas.{no-other}
+use Rattle.ha_engine.proofs.restart.config_of.Goals as goal
+
+pub unreachable-requires : goal.unreachable-requires
+unreachable-requires c = no-other c.args.entry.now c.requires c.in_default.not-Boot
+
+pub returns : goal.returns
+returns c = sym (ap (λ (x : Entry). automations (x ∷ [])) c.in-Boot.is)

@@ -1,0 +1,44 @@
+-- An entry that was pushed to the list of all entries, and what becomes of it.
+use Rattle.std.specs.Prelude.{◌≡◌, ◌+◌, ℕ, false, Option, Some}
+use Rattle.ha_journal.specs.declared.entry.Entry.{Entry}
+use Rattle.ha_journal.specs.declared.entry.Entry.TheVariants.{Step}
+use Rattle.ha_journal.specs.Entries.{is_restart}
+use Rattle.ha_journal.specs.Journal.{Journal, more}
+use Rattle.ha_sight.specs.declared.item.Item.{Item}
+use Rattle.ha_sight.specs.declared.steps.Progress.{Progress}
+use Rattle.ha_sight.specs.declared.waiting.WaitAsk.{WaitAsk}
+use Rattle.ha_sight.specs.Scripts.{Branch}
+use Rattle.ha_model.specs.Records.{Records}
+use Rattle.ha_model.specs.Lawful.{Right, pick, ready}
+use Rattle.ha_whole.specs.Segments.{segment}
+use Rattle.engine_parts.specs.declared.parts.Parts.{Parts}
+use Rattle.engine_parts.specs.Kept.{Kept}
+use Rattle.engine_parts.specs.Stages.{Pushed}
+use Rattle.engine_entry.specs.Stepping.{StepPushed}
+use Rattle.ha_engine.specs.declared.bounds.Bounds.{Bounds}
+use Rattle.ha_engine.specs.Lies.{Lies}
+
+-- a line was pushed to it that is no restart, which nothing knows of yet
+pub record Adds (k : Journal) (b : Bounds) (rs : Records) (p : Parts) : Type 0 where
+  pub j : Journal
+  pub x : Entry
+  pub journal_is : k ≡ more j x
+  pub stays : is_restart x ≡ false
+  pub lies : Lies j b
+  pub pushed : Pushed (more (segment j) x) rs p
+
+-- a step was pushed to it, whose run counts from the segment's first
+pub record Makes (k : Journal) (b : Bounds) (rs : Records) (p : Parts) (progress : Progress) (wait : Option WaitAsk) (due : Option ℕ) : Type 0 where
+  pub j : Journal
+  pub x : Entry
+  pub journal_is : k ≡ more j x
+  pub lies : Lies j b
+  pub pushed : StepPushed (more (segment j) x) rs p progress wait due
+
+-- the journal has the step that the worker picks, whose run counts from the first of all; of the segment alone records and parts stand for
+-- it, where the run counts from the segment's first
+abbrev pub IsAdvanced : ℕ → ℕ → Records → Records → Parts → Journal → Journal → Type 0
+IsAdvanced worker base rs rs' p' j k =
+    (serial : ℕ) × (branch : Branch) × (item : Item)
+    × (pick worker (ready rs (segment j)) ≡ Some (serial, branch)) × (k ≡ more j (Step worker (base + serial) branch item))
+    × Right (more (segment j) (Step worker serial branch item)) rs' × Kept (more (segment j) (Step worker serial branch item)) rs' p'

@@ -1,0 +1,55 @@
+-- What stands for a journal whose last segment closes.
+use Rattle.std.specs.Prelude.{◌≡◌, ◌<◌, ◌≤◌, ◌^◌, ℕ, true, List, None, length, map, Option, slice_get, unwrap_or}
+use Rattle.ha_config.specs.declared.config.Automation.{Automation}
+use Rattle.ha_config.specs.Words.{up_to}
+use Rattle.ha_config.specs.ValueFacts.{all_distinct}
+use Rattle.ha_journal.specs.declared.carry.Carry.{Carry}
+use Rattle.ha_journal.specs.declared.entry.Entry.{Entry}
+use Rattle.ha_journal.specs.declared.entry.Entry.TheVariants.{Again}
+use Rattle.ha_journal.specs.Journal.{Journal, automations, now}
+use Rattle.ha_model.specs.Records.{Records}
+use Rattle.ha_whole.specs.Lasts.{last_triggered}
+use Rattle.ha_whole.specs.Segments as whole
+use Rattle.ha_whole.specs.Segments.{segment, segments}
+use Rattle.ha_whole.specs.Whole.{AreEntries, records_of}
+use Rattle.segment_runs.specs.Segment.{SegmentTable, all_of, runs_of}
+use Rattle.store_text.specs.Store.{Switches}
+use Rattle.switch_book.specs.Book.{StandsFor, flags, names_of}
+use Rattle.segment_carry.specs.ByName.{by_name, if_some, listed}
+use Rattle.segment_carry.specs.Sources.{lines_with, shut_with}
+
+-- as many records, and as many of each automation
+pub record AreAsMany (rs others : Records) : Type 0 where
+  pub all : length rs ≡ length others
+  pub each : (a : ℕ) → runs_of rs a ≡ runs_of others a
+
+-- the front, the number of segments, the present moment, the table of runs, the switches and the moments at which automations last
+-- triggered stand for the journal
+pub record Closes (k : Journal) (front count at : ℕ) (runs : SegmentTable) (switches : Switches) (lasts : List (Option ℕ)) : Type 0 where
+  pub entries : AreEntries k
+  pub small : length k < 2 ^ 56
+  pub few : length (automations k) ≤ 1_024
+  pub distinct : all_distinct (names_of (automations k)) ≡ true
+  pub front_is : front ≡ whole.front k
+  pub count_is : count ≡ length (segments k)
+  pub at_is : at ≡ now (segment k)
+  pub runs_are : AreAsMany (all_of runs.closed runs.list) (records_of k)
+  pub switches_are : StandsFor switches (segment k)
+  pub lasts_are : lasts ≡ map (last_triggered (segment k)) (up_to (length (automations k)))
+
+-- ---- what is made of these
+
+-- what the next segment takes over: of automations in this order, by what the closed one took over, its entries behind its opening, the
+-- records of all runs, and the moments at which automations last triggered
+abbrev pub carry_made : List Automation → List ℕ → Carry → List Entry → Records → List (Option ℕ) → Carry
+carry_made all order before entries rs lasts = record {
+  serials = length rs;
+  numbers = listed all (λ a. if_some (runs_of rs a)) order;
+  lines = lines_with before.lines entries;
+  shut = shut_with before.shut entries;
+  last = listed all (λ a. unwrap_or (slice_get lasts a) None) order;
+}
+
+abbrev pub again_made : List Automation → Carry → List Entry → ℕ → ℕ → Records → Switches → List (Option ℕ) → Entry
+again_made all before entries number at rs switches lasts =
+    Again number at (listed all (λ a. slice_get (flags switches) a) (by_name all)) (carry_made all (by_name all) before entries rs lasts)

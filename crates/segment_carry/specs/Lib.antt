@@ -1,0 +1,4 @@
+pub mod ByName
+pub mod Sources
+pub mod Closing
+pub mod Hands

@@ -1,0 +1,141 @@
+//! What is listed of automations by their names.
+ghost use Rattle.std.specs.Prelude.{◌≡◌, ◌++◌, ◌∷◌, [], ◌≤◌, ℕ, IfOk, OnOk, None, Some, length, map, nat_eq, slice_get, unwrap_or, if◌then◌else◌};
+ghost use Rattle.std.specs.Option.{option_map_or};
+ghost use Rattle.ha_config.specs.Names.{name_of};
+ghost use Rattle.ha_config.specs.Words.{up_to};
+ghost use Rattle.ha_whole.specs.Named.{named};
+ghost use Rattle.segment_runs.specs.Segment.{all_of, runs_of};
+ghost use Rattle.switch_book.specs.Book.{flags};
+ghost use Rattle.segment_carry.specs.ByName.{if_some, listed};
+
+use ha_clock::Moment;
+use ha_config::{Automation, same_text};
+use ha_value::{Many, Plain, Word};
+use segment_runs::SegmentRuns;
+use std::alloc::{AllocError, Global};
+use switch_book::Switches;
+
+/// The name of an automation; a number that names none has the empty one.
+fn name(alloc: Global, automations: &[Automation], at: u32) -> Result<Word, AllocError>
+    ensures { IfOk result (λ name. name ≡ name_of automations.now at) }
+{
+    match automations.get(at as usize) {
+        Some(automation) => automation.name.copy(alloc),
+        None => Ok(Word::new(alloc)),
+    }
+}
+
+/// Puts the value of an automation behind others, under its name, where it has one.
+fn put<T: Drop>(
+    alloc: Global,
+    all: &mut Many<(Word, T)>,
+    automations: &[Automation],
+    at: u32,
+    value: Option<T>,
+) -> Result<(), AllocError>
+    ensures { OnOk result (all.new ≡ all.old ++ option_map_or (λ v. (name_of automations.now at, v) ∷ []) value []) }
+{
+    match value {
+        Some(value) => {
+            let name = name(alloc, automations, at)?;
+            all.push((name, value))?;
+            Ok(())
+        }
+        None => Ok(()),
+    }
+}
+
+/// The switches of these automations, in their order.
+pub fn switches(
+    alloc: Global,
+    automations: &[Automation],
+    order: &[u32],
+    switches: &Switches,
+) -> Result<Many<(Word, bool)>, AllocError>
+    ensures { IfOk result (λ made. made ≡ listed automations.now (λ a. slice_get (flags switches.now) a) order.now) }
+{
+    let mut made = Many::with_room(alloc, order.len())?;
+    'automations: for at in order {
+        let on = switches.is_on(*at);
+        put(alloc, &mut made, automations, *at, on)?;
+    }
+    Ok(made)
+}
+
+/// A number that is not 0.
+fn some_number(number: u64) -> Option<u64>
+    ensures { result ≡ if_some number }
+{
+    if number == 0 { None } else { Some(number) }
+}
+
+/// How many runs each of these automations has had, in their order; none where it had none.
+pub fn numbers(
+    alloc: Global,
+    automations: &[Automation],
+    order: &[u32],
+    runs: &SegmentRuns,
+) -> Result<Many<(Word, u64)>, AllocError>
+    ensures { IfOk result (λ made. made ≡ listed automations.now (λ a. if_some (runs_of (all_of runs.now.closed runs.now.list) a)) order.now) }
+{
+    let mut made = Many::make(alloc);
+    'automations: for at in order {
+        let number = some_number(runs.made(*at));
+        put(alloc, &mut made, automations, *at, number)?;
+    }
+    Ok(made)
+}
+
+/// The moment at a place, if there is one.
+fn moment_at(lasts: &[Option<Moment>], at: u32) -> Option<Moment>
+    ensures { result ≡ unwrap_or (slice_get lasts.now at) None }
+{
+    match lasts.get(at as usize) {
+        Some(last) => *last,
+        None => None,
+    }
+}
+
+/// When each of these automations last triggered, in their order.
+pub fn moments(
+    alloc: Global,
+    automations: &[Automation],
+    order: &[u32],
+    lasts: &[Option<Moment>],
+) -> Result<Many<(Word, Moment)>, AllocError>
+    ensures { IfOk result (λ made. made ≡ listed automations.now (λ a. unwrap_or (slice_get lasts.now a) None) order.now) }
+{
+    let mut made = Many::make(alloc);
+    'automations: for at in order {
+        let last = moment_at(lasts, *at);
+        put(alloc, &mut made, automations, *at, last)?;
+    }
+    Ok(made)
+}
+
+/// The moment of a name, if there is one.
+fn moment_of(moments: &[(Word, Moment)], name: &Word) -> Option<Moment>
+    ensures { result ≡ named name.now moments.now }
+{
+    for pair in moments {
+        if same_text(&pair.0, name) {
+            return Some(pair.1);
+        }
+    }
+    None
+}
+
+/// When each automation last triggered, by the moments that an opening takes over under their names.
+pub fn lasts(
+    alloc: Global,
+    automations: &[Automation],
+    carried: &[(Word, Moment)],
+) -> Result<Vec<Option<Moment>>, AllocError>
+    ensures { IfOk result (λ lasts. lasts.items ≡ map (λ a. named (name_of automations.now a) carried.now) (up_to (length automations.now))) }
+{
+    let mut lasts = Vec::with_capacity(alloc, automations.len())?;
+    'automations: for at in 0..automations.len() {
+        lasts.push(moment_of(carried, &automations[at].name))?;
+    }
+    Ok(lasts)
+}
