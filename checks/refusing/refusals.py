@@ -37,9 +37,11 @@ def moment(time: str) -> str:
     return f'{{"moment":"2024-05-01T{time}Z"}}'
 
 
-def store(**switches: bool) -> str:
+def store(*triggered: str, **switches: bool) -> str:
+    """The store where these automations last triggered at the start."""
+    last = ",".join(f'"{name}":"2024-05-01T20:00:00.000Z"' for name in sorted(triggered))
     pairs = ",".join(f'"{name}":{str(on).lower()}' for name, on in sorted(switches.items()))
-    return f'{{"switches":{{{pairs}}},"version":1}}'
+    return f'{{"last":{{{last}}},"switches":{{{pairs}}},"version":2}}'
 
 
 @dataclass
@@ -140,21 +142,21 @@ HOMES = [
             call("hall_light", 1, 1, "light.turn_on", '"light.hall"', '"brightness":128'),
             call("hall_light", 1, 2, "light.turn_off", '"light.hall"', ""),
         ],
-        [store(hall_light=True)],
+        [store(hall_light=True), store("hall_light", hall_light=True)],
     ),
     Home(
         "a wait and switches",
         WAITS,
         ['{"event":"go"}', moment("20:00:05")],
         [call("b", 1, 1, "notify.b", "", '"done":true,"left":5.0')],
-        [store(a=True, b=True, z=True), store(a=True, b=True, z=False), store(a=True, b=True, z=True)],
+        [store(a=True, b=True, z=True)] + [store("a", "b", a=True, b=True, z=z) for z in (True, False, True)],
     ),
     Home(
         "a queue",
         QUEUE,
         [f'{{"event":"go","data":{{"n":{n}}}}}' for n in (1, 2, 3)] + [moment("20:00:05"), moment("20:00:10")],
         [call("a", 1, 1, "notify.q", "", '"n":1'), call("a", 2, 1, "notify.q", "", '"n":2')],
-        [store(a=True)],
+        [store(a=True), store("a", a=True)],
     ),
     Home("no automation", "[]\n", [moment("20:00:01")], [], [store()]),
     Home(
@@ -162,7 +164,7 @@ HOMES = [
         FAILS,
         ['{"report":"light.x"}', '{"event":"go"}', "bad"],
         [],
-        [store(a=True)],
+        [store(a=True), store("a", a=True)],
         ["source 0 line 0: L4", "run 1 failed F1", "source 0 line 2: L2"],
     ),
     Home(
@@ -171,7 +173,7 @@ HOMES = [
         [report("binary_sensor.hall", "on")],
         [],
         [store(hall_light=False)],
-        files={STORE: store(hall_light=False)},
+        files={STORE: '{"switches":{"hall_light":false},"version":1}'},
     ),
     Home(
         "a configuration that is refused",

@@ -9,6 +9,7 @@ import subprocess
 from dataclasses import dataclass
 from typing import Optional, Union
 
+from .clock import print_moment
 from .engine import Outcome, run_home
 from .generate import Home
 from .lines import print_value
@@ -34,10 +35,13 @@ class Answer:
 
 
 def stored_text(home: Home) -> Optional[str]:
-    """The text of the store before the run."""
+    """The text of the store before the run: of version 2 where it has moments, else of version 1."""
     if home.stored is None:
         return None
-    return print_value({"switches": home.stored})[:-1] + ',"version":1}'
+    if home.last is None:
+        return print_value({"switches": home.stored})[:-1] + ',"version":1}'
+    last = {name: print_moment(at) for name, at in home.last.items()}
+    return print_value({"last": last, "switches": home.stored})[:-1] + ',"version":2}'
 
 
 def lines_of(data: bytes) -> list[str]:
@@ -66,7 +70,8 @@ def answer_of(program: str, home: Home, folder: pathlib.Path) -> Answer:
 
 def outcome_of(home: Home, limit: int) -> Outcome:
     """What the second reading makes of a home."""
-    return run_home(home.automations, home.source(), home.start, home.zone, yaml_text(home.automations), home.stored, limit)
+    return run_home(home.automations, home.source(), home.start, home.zone, yaml_text(home.automations), home.stored, home.last,
+                    limit)
 
 
 def first_difference(what: str, here: list[str], there: list[str]) -> list[str]:
@@ -93,7 +98,7 @@ def written(who: str, one: Union[Answer, Outcome]) -> list[str]:
 
 def told(home: Home, answer: Answer, outcome: Outcome) -> str:
     """A home, its lines, what each of the two wrote, and where that differs, as text."""
-    head = f"start {home.start}, zone {home.zone}, stored {json.dumps(home.stored)}"
+    head = f"start {home.start}, zone {home.zone}, stored {json.dumps(home.stored)}, last {json.dumps(home.last)}"
     both = written("the program", answer) + written("the second reading", outcome)
     return "\n".join([head, "", yaml_text(home.automations), *home.lines, "", *both, *differences(answer, outcome)])
 

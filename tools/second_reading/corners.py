@@ -97,6 +97,8 @@ HOMES = {
                  [report("light.x", "on"), event("go"), moment("2025-05-01T19:59:59Z"), moment("2025-05-01T20:00:00Z"),
                   moment("2025-05-02T20:00:00Z")]),
     "stored names": home([go([call()])], [event("go")], stored={"a": False, "none": True, "zz": False}),
+    "stored moments": home([go([call()]), go([call()], alias="b", triggers=[]), go([call()], alias="c")], [moment("20:00:01"), event("go")],
+                           stored={"c": False}, last={"a": 0, "b": 32_503_679_999_999, "c": 1_714_593_600_000, "none": 1}),
     "many branches": home([go([{"parallel": [[{"delay": n % 3}, call(n=n)] for n in range(40)]}, call("notify.end")])],
                           [event("go"), moment("20:00:01"), moment("20:00:02")]),
     "many runs": home([go([{"wait_for_trigger": {"trigger": "event", "event_type": "pong"}, "timeout": 3}, call(n="{{ wait.remaining }}")],

@@ -47,8 +47,10 @@ class Engine:
     """The journal of one source with its records, and the lines that come of them."""
 
     def __init__(self, config: list[Automation], start: int, zone: str, stored: Mapping[str, bool],
-                 limit: int = LIMIT) -> None:
+                 last: Mapping[str, int], limit: int = LIMIT) -> None:
         self.config = config
+        self.taken = {one.name: last[one.name] for one in config if one.name in last}
+        self.last = dict(self.taken)
         self.journal = Journal(config, start, read_zone(zone), stored)
         self.limit = limit
         self.front = 0
@@ -180,6 +182,7 @@ class Engine:
         if mode == "restart":
             self.end_all(automation, place, "replaced")
         number = 1 + sum(one.automation == automation for one in self.records)
+        self.last[self.config[automation].name] = self.journal.after[place].now
         record = Record(len(self.records) + 1, automation, number, pairs)
         self.records.append(record)
         if mode != "queued" or not live:
@@ -205,9 +208,10 @@ class Engine:
             self.put_step(*ready[0])
 
     def store_text(self) -> str:
-        """The switches, by name."""
+        """When automations last triggered, and the switches, by name."""
         on = {one.name: self.journal.after[-1].on[at] for at, one in enumerate(self.config)}
-        return print_value({"switches": dict(sorted(on.items()))})[:-1] + ',"version":1}'
+        last = {name: print_moment(at) for name, at in sorted(self.last.items())}
+        return print_value({"last": last, "switches": dict(sorted(on.items()))})[:-1] + ',"version":2}'
 
 
 def named_attempts(entry: Entry) -> tuple[Optional[list[str]], bool]:
@@ -233,13 +237,15 @@ class Outcome:
 
 def run_home(automations: list[dict[str, Any]], source: bytes, start: str = "2024-05-01T20:00:00Z",
              zone: str = "UTC", text: str = "", stored: Optional[dict[str, bool]] = None,
-             limit: int = LIMIT) -> Outcome:
-    """What a home's lines come to."""
+             last: Optional[dict[str, int]] = None, limit: int = LIMIT) -> Outcome:
+    """What a home's lines come to. `last` has when automations last triggered, as a store of version 2 keeps it."""
     began = read_moment(start)
     assert began is not None
-    engine = Engine(read_config(automations), began, zone, stored or {}, limit)
+    engine = Engine(read_config(automations), began, zone, stored or {}, last or {}, limit)
+    taken = {name: print_moment(at) for name, at in sorted(engine.taken.items())}
     status = engine.run(commands_of(source))
-    boot = print_value({"boot": {"config": text, "stored": stored, "start": print_moment(began), "zone": zone}})
+    boot = print_value({"boot": {"config": text, "stored": stored, **({"last": taken} if taken else {}),
+                                 "start": print_moment(began), "zone": zone}})
     end = [f'{{"end":{len(engine.journal.entries)}}}'] if status == 0 else []
     errors = engine.errors + (["hearth: journal full"] if status == 7 else [])
     return Outcome(status, engine.calls, errors, engine.store_text(), [boot] + engine.trace + end, engine)

@@ -33,6 +33,7 @@ class Home:
     start: str
     zone: str
     stored: Optional[dict[str, bool]] = None
+    last: Optional[dict[str, int]] = None
 
     def source(self) -> bytes:
         """The bytes of the source."""
@@ -445,6 +446,11 @@ class Maker:
             out.append(made if isinstance(made, str) else json.dumps(made, separators=(",", ":")))
         return out
 
+    def moments(self) -> dict[str, int]:
+        """When some automations last triggered, and one that there is not."""
+        names = [name for name in self.names if self.maybe(0.6)] + (["zz"] if self.maybe(0.3) else [])
+        return {name: self.one(0, 999, 1_714_593_600_000, 32_503_679_999_999) for name in names}
+
 
 def make_home(seed: int) -> Home:
     """The home of a seed."""
@@ -452,4 +458,5 @@ def make_home(seed: int) -> Home:
     start, zone = maker.one(*STARTS) if maker.maybe(0.4) else STARTS[0], maker.one(*ZONES)
     automations = [maker.automation(name) for name in maker.names]
     stored = {name: maker.maybe(0.7) for name in maker.names} if maker.maybe(0.1) else None
-    return Home(automations, maker.lines(start), start, zone, stored)
+    last = maker.moments() if stored is not None and maker.maybe(0.6) else None
+    return Home(automations, maker.lines(start), start, zone, stored, last)

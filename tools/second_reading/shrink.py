@@ -65,9 +65,11 @@ def smaller_automations(home: Home) -> Iterator[Home]:
 
 
 def plainer(home: Home) -> Iterator[Home]:
-    """The home without a stored switch, or in UTC."""
+    """The home without a store or its moments, or in UTC."""
     if home.stored is not None:
-        yield replace(home, stored=None)
+        yield replace(home, stored=None, last=None)
+    if home.last is not None:
+        yield replace(home, last=None)
     if home.zone != "UTC":
         yield replace(home, zone="UTC")
 

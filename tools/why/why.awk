@@ -67,7 +67,7 @@ function begins_runs() {
 function boot(cut, tail, stored, a) {
     cut = index(opening, "\",\"stored\":")
     tail = cut ? printed("{" substr(opening, cut + 2, length(opening) - cut - 2)) : 0
-    if (!has_keys(tail, "stored start zone")) return refuse(1)
+    if (!has_keys(tail, "stored start zone") && !has_keys(tail, "stored last start zone")) return refuse(1)
     time = word[get(tail, "start")]
     configure(plain_text(substr(opening, 20, cut - 20)))
     stored = get(tail, "stored")

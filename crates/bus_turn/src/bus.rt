@@ -62,7 +62,7 @@ impl<C: Core, K: Sink, Q: Keeper> Model for Bus<C, K, Q> {
 
 impl<C: Core, K: Sink, Q: Keeper> Bus<C, K, Q> {
     /// A bus over a core whose journal is the boot alone, and sinks that took nothing. It writes the boot's line in the trace, where there
-    /// is one, and saves the switches. A fault of a part is kept.
+    /// is one, and saves what is to be stored. A fault of a part is kept.
     pub fn start(
         alloc: Global,
         core: C,

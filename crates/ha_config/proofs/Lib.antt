@@ -1,5 +1,7 @@
+pub mod AutomationLemmas
 pub mod EqualLemmas
 pub mod IdLemmas
 pub mod ListLemmas
 pub mod NameLemmas
+pub mod OrderLemmas
 pub mod ValueRolls

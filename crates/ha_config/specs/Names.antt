@@ -1,5 +1,5 @@
 -- The automations of a list by their places, and by their names.
-use Rattle.std.specs.Prelude.{ℕ, List, [], ◌∷◌, Option, slice_get, Bool, Some, None, find, option_map, if◌then◌else◌}
+use Rattle.std.specs.Prelude.{ℕ, List, [], ◌∷◌, Option, slice_get, Bool, Some, None, filter, find, is_some, option_map, if◌then◌else◌}
 use Rattle.std.specs.Option.{option_map_or}
 use Rattle.ha_config.specs.declared.config.Automation.{Automation}
 use Rattle.ha_config.specs.Words.{Text, same}
@@ -23,3 +23,7 @@ initial_of all a = option_map_or (λ x. x.initial) (unit_of all a) None
 abbrev pub stored_switch : Text → List (Text × Bool) → Option Bool
 stored_switch name [] = None
 stored_switch name (p ∷ ps) = if same p.0 name then Some p.1 else stored_switch name ps
+
+-- of moments under names those of names that an automation has
+abbrev pub of_automations : List Automation → List (Text × ℕ) → List (Text × ℕ)
+of_automations all ms = filter (λ p. is_some (automation_named all p.0)) ms

@@ -1,8 +1,9 @@
 -- Sound configurations: what every configuration that is read meets, and the engine relies on.
-use Rattle.std.specs.Prelude.{ℕ, Bool, true, false, ◌&&◌, nat_eq, nat_lt, nat_le, IsTrue, List, [], ◌∷◌, length, map, Option}
+use Rattle.std.specs.Prelude.{ℕ, ◌≡◌, Bool, true, false, ◌&&◌, nat_eq, nat_lt, nat_le, IsTrue, List, [], ◌∷◌, length, map, Option}
 use Rattle.std.specs.List.{list_all}
 use Rattle.std.specs.Option.{option_map_or}
 use Rattle.std.specs.Str.{is_utf8}
+use Rattle.ha_clock.specs.Local.{last_moment}
 use Rattle.ha_value.specs.Ids.{is_name}
 use Rattle.ha_value.specs.declared.value.Value.{Value}
 use Rattle.ha_value.specs.declared.value.Value.TheOpen.{Value-F}
@@ -208,10 +209,10 @@ is_sound_automation a =
     is_name a.name && nat_le 1 a.max && nat_le a.max 1_000
     && are_sound_triggers a.triggers && are_sound_conditions a.tests && are_sound_actions a.actions
 
--- ---- the stored switches
+-- ---- what is stored
 
 -- the names are in byte order, each once
-abbrev pub are_in_name_order : List (Text × Bool) → Bool
+abbrev pub are_in_name_order : {X : Type 0} → List (Text × X) → Bool
 are_in_name_order [] = true
 are_in_name_order (p ∷ []) = true
 are_in_name_order (p ∷ q ∷ ps) = comes_before p.0 q.0 && are_in_name_order (q ∷ ps)
@@ -222,6 +223,13 @@ is_sound_store stored = if_there (λ ps. are_in_name_order ps && list_all (λ p.
 
 abbrev pub IsSoundStore : Option (List (Text × Bool)) → Type 0
 IsSoundStore stored = IsTrue (is_sound_store stored)
+
+-- when automations last triggered, as a store gives it: names in UTF-8, in byte order, each once, and no moment past the last one that has a
+-- text
+pub record AreSoundMoments (ms : List (Text × ℕ)) : Type 0 where
+  pub ordered : are_in_name_order ms ≡ true
+  pub utf8 : list_all (λ p. is_utf8 p.0) ms ≡ true
+  pub in_time : list_all (λ p. nat_le p.1 last_moment) ms ≡ true
 
 -- ---- the whole
 

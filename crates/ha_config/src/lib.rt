@@ -15,7 +15,7 @@ pub use config::{
     Action, ActionKind, Automation, Condition, Config, Form, Match, Mode, RepeatKind, SpanForm,
     Trigger, TriggerRule, Unit,
 };
-pub use names::run_name;
+pub use names::{is_automation, run_name};
 pub use pairs::{first_pair, last_pair};
 pub use sameness::{same_data, same_id, same_text};
 pub use template::{Expr, Op, Piece, Template};

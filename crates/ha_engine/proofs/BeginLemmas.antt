@@ -1,5 +1,5 @@
 -- A journal of its boot alone.
-use Rattle.std.proofs.Common.{◌≡◌, ℕ, zero, suc, ◌-◌, ◌<◌, ◌≤◌, List, [], ◌∷◌, ◌++◌, length, Bool, true, false, refl, sym, ap, subst, ◌∙◌, rules, arith}
+use Rattle.std.proofs.Common.{◌≡◌, ℕ, zero, suc, ◌-◌, ◌<◌, ◌≤◌, List, [], ◌∷◌, ◌++◌, length, true, false, refl, sym, ap, ◌∙◌, rules, arith}
 use Rattle.std.specs.Prelude.{IsSome, Option, Some, slice_get}
 use Rattle.ha_clock.specs.Zone as clock
 use Rattle.ha_clock.specs.Local.{last_moment}
@@ -12,24 +12,21 @@ use Rattle.ha_journal.specs.Journal.{Journal, automations, now, zone_of}
 use Rattle.ha_model.specs.Records.{Records, records_of}
 use Rattle.ha_model.specs.Lawful.{Right}
 use Rattle.ha_config.specs.Sound.{IsSoundConfig}
-use Rattle.ha_sight.specs.Sight.{Sight}
-use Rattle.ha_journal.specs.Moves.{sight}
 use Rattle.ha_config.specs.Words.{Text}
 use Rattle.store_text.specs.Store.{Switches}
 use Rattle.state_laws.specs.Stands as states
 use Rattle.state_table.specs.declared.table.StateTable.{StateTable}
 use Rattle.state_laws.proofs.StateLaws.{states-other}
 use Rattle.switch_book.specs.Book as switches
-use Rattle.trig_set.specs.Next.{IsNext}
 use Rattle.trig_set.specs.Stands as triggers
 use Rattle.trig_set.specs.declared.set.TrigSet.{TrigSet}
 use Rattle.ha_ready.specs.Agree.{step_at}
 use Rattle.ha_ready.specs.RestedFlags.{RestedKept}
 use Rattle.ha_engine.specs.Begun.{trues}
 use Rattle.engine_parts.specs.Kept.{Looks}
-use Rattle.engine_entry.specs.Opened.{AllOpened, Opening}
+use Rattle.engine_entry.specs.Opened.{Opening}
 use Rattle.engine_parts.specs.Records.{IsTable}
-use Rattle.engine_entry.proofs.OpenLemmas.{open-begin, opened-late}
+use Rattle.engine_entry.proofs.OpenLemmas.{open-begin}
 
 more-true : (n : ℕ) → trues n ++ (true ∷ []) ≡ trues (suc n)
 more-true zero = refl
@@ -88,15 +85,4 @@ module _ (text : Text) (config : Config) (stored : Option Switches) (start : ℕ
     at_is = starts;
     switches_stand = stand;
     begun = open-begin [] x refl table t (λ e left. empty e ∙ sym (states-other [] e x refl refl refl left)) none stands;
-  }
-
-  -- LAW: the boot is the next entry of the empty journal
-  pub boot-next : IsSoundConfig config → IsSome (clock.zone_of zone) → start ≤ last_moment → (table : StateTable) (t : TrigSet) → AllOpened [] x table t → (seen : Sight) → seen ≡ sight k (length k) → IsNext [] 0 x [] seen (triggers.attached t)
-  boot-next sound read in_time table t opened seen sees = record {
-    at = refl;
-    journal = (tt, tt);
-    zone = read;
-    in_time = subst (λ n. n ≤ last_moment) starts in_time;
-    listed = λ earlier. absurd (let late = opened-late [] x refl sound table t opened in let bad : ◌≡◌ {A = Bool} true false = sym earlier ∙ late in cc);
-    sees = sees;
   }

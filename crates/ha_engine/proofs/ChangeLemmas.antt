@@ -1,4 +1,4 @@
--- Whether the last put changed what is stored, where the last entry is no opening.
+-- Whether the last put changed a switch, where the last entry is no opening.
 use Rattle.std.proofs.Common.{◌≡◌, ℕ, suc, ◌-◌, ◌<◌, ◌≤◌, [], ◌∷◌, length, take, Bool, false, refl, sym, ap, subst, ◌∙◌, arith}
 use Rattle.std.specs.Prelude.{nat_eq, not, ◌||◌, Option, Some, None, is_some, if◌then◌else◌}
 use Rattle.std.specs.List.{list_any}
@@ -15,9 +15,10 @@ use Rattle.ha_journal.proofs.MoreLemmas.{length-more}
 use Rattle.ha_model.specs.Records.{last_is}
 use Rattle.ha_model.proofs.LastEntry as last
 use Rattle.ha_whole.specs.Segments.{alone, front, reopened, segment}
-use Rattle.ha_whole.specs.Whole.{AreEntries, before_put, changes_store}
+use Rattle.ha_whole.specs.Whole.{AreEntries, before_put}
 use Rattle.whole_laws.proofs.CutLemmas.{IsCut, is-cut, segment-again, segment-on}
 use Rattle.whole_laws.proofs.SeenLemmas.{front-below}
+use Rattle.ha_engine.specs.Noted.{changes_switches}
 use Rattle.ha_engine.proofs.LastsLemmas.{apart-of}
 use Rattle.ha_engine.proofs.PrepareLemmas.{last-split}
 
@@ -55,7 +56,7 @@ module _ (d : Journal) (x : Entry) (entries : AreEntries (more d x)) (inner : le
   abbrev moved : ℕ → Journal → Journal → ℕ → Bool
   moved n before behind count = nat_eq n 1 || list_any (λ a. not (same_flag (is_on before a) (is_on behind a))) (up_to count)
 
-  plain : again_in x ≡ None → changes_store k ≡ changes_switch (segment k)
+  plain : again_in x ≡ None → changes_switches k ≡ changes_switch (segment k)
   plain none =
       (let on : segment k ≡ more s y = segment-on d x none in
       let never : last_is is_again k ≡ false = last.last-is is_again d x ∙ ap is_some none in
@@ -67,19 +68,19 @@ module _ (d : Journal) (x : Entry) (entries : AreEntries (more d x)) (inner : le
       ∙ (λ i. sym own i || list_any (λ a. not (same_flag (is_on (sym (take-less s y) i) a) (is_on (more s y) a))) (up_to (length (automations (more s y)))))
       ∙ (λ i. changes_switch (sym on i)))
 
-  again : (a : Reopening) → again_in x ≡ Some a → changes_store k ≡ changes_switch (segment k)
+  again : (a : Reopening) → again_in x ≡ Some a → changes_switches k ≡ changes_switch (segment k)
   again a some = absurd (inner (omega (arith, below, c.length_is, ap length (segment-again d x a some), reopened-short s a)))
 
-  one-more : changes_store k ≡ changes_switch (segment k)
+  one-more : changes_switches k ≡ changes_switch (segment k)
   one-more = by (again_in x) refl
     where
-      by : (o : Option Reopening) → again_in x ≡ o → changes_store k ≡ changes_switch (segment k)
+      by : (o : Option Reopening) → again_in x ≡ o → changes_switches k ≡ changes_switch (segment k)
       by None e = plain e
       by (Some a) e = again a e
 
--- LAW: the last put changed what is stored where the last entry changed a switch
-pub changes-inside : (j : Journal) → AreEntries j → (length j ≡ suc (front j) → ⊥) → changes_store j ≡ changes_switch (segment j)
+-- LAW: the last put changed a switch where the last entry did
+pub changes-inside : (j : Journal) → AreEntries j → (length j ≡ suc (front j) → ⊥) → changes_switches j ≡ changes_switch (segment j)
 changes-inside j entries inner =
     let split = last-split j (let lt = front-below j entries in omega (arith, lt)) in
-    subst (λ k. changes_store k ≡ changes_switch (segment k)) (sym split.2)
+    subst (λ k. changes_switches k ≡ changes_switch (segment k)) (sym split.2)
     (one-more split.0 split.1 (subst AreEntries split.2 entries) (λ e. inner (subst (λ k. length k ≡ suc (front k)) (sym split.2) e)))

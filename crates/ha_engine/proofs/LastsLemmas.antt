@@ -96,7 +96,7 @@ grows j x =
 
 -- ---- the last one of an automation
 
-or-each : {X Y : Type 0} (h : X → Y) (a b : Option X) → option_map h (or_else a b) ≡ or_else (option_map h a) (option_map h b)
+pub or-each : {X Y : Type 0} (h : X → Y) (a b : Option X) → option_map h (or_else a b) ≡ or_else (option_map h a) (option_map h b)
 or-each h None b = refl
 or-each h (Some x) b = refl
 
@@ -116,12 +116,12 @@ last-cons : {X : Type 0} (x : X) (xs : List X) → last_of (x ∷ xs) ≡ or_els
 last-cons x [] = refl
 last-cons x (y ∷ ys) = last-there y ys (Some x)
 
-abbrev one_if : Bool → Record → Option Record
+abbrev pub one_if : Bool → Record → Option Record
 one_if true r = Some r
 one_if false r = None
 
 -- the last one with one more before them
-run-cons : (a : ℕ) (r : Record) (rs : Records) → last_run a (r ∷ rs) ≡ or_else (last_run a rs) (one_if (nat_eq r.automation a) r)
+pub run-cons : (a : ℕ) (r : Record) (rs : Records) → last_run a (r ∷ rs) ≡ or_else (last_run a rs) (one_if (nat_eq r.automation a) r)
 run-cons a r rs = by (nat_eq r.automation a)
   where
     tail : Records
@@ -173,7 +173,7 @@ pub each-number : {X : Type 0} (v w : ℕ → X) (low n : ℕ) → ((a : ℕ) �
 each-number v w low zero h = refl
 each-number v w low (suc n) h = (λ i. h low (omega arith) (omega arith) i ∷ each-number v w (low + 1) n (λ a le lt. h a (omega (arith, le)) (omega (arith, lt))) i)
 
-abbrev put_at : {X : Type 0} → ℕ → X → (ℕ → X) → ℕ → X
+abbrev pub put_at : {X : Type 0} → ℕ → X → (ℕ → X) → ℕ → X
 put_at a x v b = if nat_eq a b then x else v b
 
 eq-of : (a b : ℕ) → nat_eq a b ≡ true → a ≡ b
@@ -192,7 +192,7 @@ not-equal a b lt = apart-of a b (λ e. omega (arith, e, lt))
 equal-self : (a : ℕ) → nat_eq a a ≡ true
 equal-self a = search rules
 
-set-number : {X : Type 0} (v : ℕ → X) (x : X) (low n a : ℕ) → slice_set (map v (numbers_from low n)) a x ≡ map (put_at (low + a) x v) (numbers_from low n)
+pub set-number : {X : Type 0} (v : ℕ → X) (x : X) (low n a : ℕ) → slice_set (map v (numbers_from low n)) a x ≡ map (put_at (low + a) x v) (numbers_from low n)
 set-number v x low zero a = refl
 set-number v x low (suc n) zero = (λ i. here i ∷ there i)
   where
@@ -213,7 +213,7 @@ set-number v x low (suc n) (suc a) = (λ i. here i ∷ there (set-number v x (lo
     there h = h ∙ (let e : (low + 1) + a ≡ low + suc a = omega arith in λ i. map (put_at (e i) x v) (numbers_from (low + 1) n))
 
 -- those of which one of these runs is, else what they were
-abbrev with_runs : ℕ → Records → (ℕ → Option ℕ) → ℕ → Option ℕ
+abbrev pub with_runs : ℕ → Records → (ℕ → Option ℕ) → ℕ → Option ℕ
 with_runs at rs v a = or_else (option_map (λ (r : Record). at) (last_run a rs)) (v a)
 
 noted-is : (at : ℕ) (rs : Records) (v : ℕ → Option ℕ) (n : ℕ) → noted at rs (map v (up_to n)) ≡ map (with_runs at rs v) (up_to n)
@@ -257,7 +257,7 @@ module _ (s : Journal) (y : Entry) (right : Right s (records_of s)) where
   at-last : now (through k (length s)) ≡ now k
   at-last = ap now (through-last s y)
 
-  last-more : (a : ℕ) → last_triggered k a ≡ with_runs (now k) (drop (length rs) rs') (last_triggered s) a
+  pub last-more : (a : ℕ) → last_triggered k a ≡ with_runs (now k) (drop (length rs) rs') (last_triggered s) a
   last-more a =
       (λ i. or_else (grown-last (λ q. now (through k q)) (λ q. now (through s q)) (length s) a (λ q lt. ap now (through-more s y q lt)) rs rs' (all-past s rs right) (grows s y) i)
       (named (name_of (sym (automations-more s y has) i) a) (carried-same s y has i)))
@@ -289,3 +289,10 @@ lasts-opened (x ∷ []) h ls is =
     ap (noted (now k) rs) is
     ∙ noted-is (now k) rs v (length (automations k))
     ∙ each-number (with_runs (now k) rs v) (last_triggered k) 0 (length (automations k)) (λ a le lt. (λ i. or_else (sym (at-one (λ q. now (through k q)) 0 a rs (first-at x)) i) (v a))))
+
+pub last-opened : (k : Journal) → IsBegun k → (a : ℕ) → last_triggered k a ≡ with_runs (now k) (records_of k) (λ b. named (name_of (automations k) b) (lasts_carried k)) a
+last-opened [] h a = absurd h
+last-opened (x ∷ y ∷ es) h a = absurd h
+last-opened (x ∷ []) h a =
+    (let k : Journal = x ∷ [] in
+    λ i. or_else (at-one (λ q. now (through k q)) 0 a (records_of k) (first-at x) i) (named (name_of (automations k) a) (lasts_carried k)))

@@ -1,4 +1,3 @@
-pub mod NameLemmas
 pub mod LiveLemmas
 pub mod AdmitLemmas
 pub mod PrepareLemmas
@@ -27,3 +26,5 @@ pub mod LieLemmas
 pub mod FollowedLemmas
 pub mod RestartingLemmas
 pub mod BootLemmas
+pub mod MovedLemmas
+pub mod StoredLemmas

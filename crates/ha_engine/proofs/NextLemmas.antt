@@ -8,7 +8,8 @@ use Rattle.ha_config.specs.Equal.{same_flag}
 use Rattle.ha_config.specs.Names.{initial_of, name_of}
 use Rattle.ha_config.specs.StoreText.{in_name_order}
 use Rattle.ha_config.specs.ValueFacts.{all_distinct}
-use Rattle.ha_config.specs.Words.{numbers_from, up_to}
+use Rattle.ha_config.specs.Words.{up_to}
+use Rattle.ha_config.proofs.ListLemmas.{some-same}
 use Rattle.ha_journal.specs.declared.entry.Entry.{Entry}
 use Rattle.ha_journal.specs.declared.entry.Entry.TheVariants.{Line}
 use Rattle.ha_journal.specs.Attempts.{passing}
@@ -25,12 +26,13 @@ use Rattle.run_modes.specs.Table.{stopped}
 use Rattle.ha_whole.specs.Lasts.{last_triggered, lasts_carried}
 use Rattle.ha_whole.specs.Named.{named}
 use Rattle.ha_whole.specs.Segments.{cut, entries_in, front, reopened, segment, segments}
-use Rattle.ha_whole.specs.Whole.{AreEntries, HasRoom, IsBehind, Right, again_of, before_put, changes_store, most_entries, most_in_segment, records_from, records_of}
+use Rattle.ha_whole.specs.Whole.{AreEntries, HasRoom, IsBehind, Right, again_of, before_put, most_entries, most_in_segment, records_from, records_of, same_moment}
 use Rattle.whole_laws.proofs.CutLemmas.{IsCut, closed-again, closed-on, is-cut, segment-again, segment-on}
 use Rattle.whole_laws.proofs.LiftLemmas.{entries-have, right-lifts}
 use Rattle.whole_laws.proofs.PutLemmas.{before-put, line-put, put-restart}
 use Rattle.segment_runs.specs.Segment.{SegmentTable, all_of}
 use Rattle.segment_carry.specs.Closing.{AreAsMany, Closes}
+use Rattle.segment_carry.proofs.AgainLemmas.{made-at}
 use Rattle.segment_carry.proofs.LawLemmas.{carried-moments, found-moments, stopped-counts, table-records}
 use Rattle.store_text.specs.Store.{Switches}
 use Rattle.switch_book.specs.Book as switches
@@ -40,10 +42,11 @@ use Rattle.engine_parts.specs.Kept.{AreSound, Kept}
 use Rattle.ha_engine.specs.declared.bounds.Bounds.{Bounds}
 use Rattle.ha_engine.specs.Begun.{IsBegun}
 use Rattle.ha_engine.specs.Lies.{Follows, IsBounded, IsLeast, Lies}
-use Rattle.ha_engine.specs.Noted.{noted}
+use Rattle.ha_engine.specs.Noted.{AreNoted, are_in_time, changes_lasts, changes_switches, moved_by, noted}
 use Rattle.ha_engine.specs.Restarts.{Reopened, reopening}
 use Rattle.ha_engine.specs.Told.{AreLasts, AreRuns, IsFollowed, IsTold}
-use Rattle.ha_engine.proofs.LastsLemmas.{apart-of, each-number, lasts-more, lasts-opened}
+use Rattle.ha_engine.proofs.LastsLemmas.{apart-of, each-number, last-opened, lasts-more, lasts-opened, with_runs}
+use Rattle.ha_engine.proofs.MovedLemmas.{any-same, differs, moved-is, noted-in-time}
 use Rattle.ha_engine.proofs.ReopenLemmas.{all-as-many, none-behind, on-reopened, reopened-begun}
 use Rattle.ha_engine.proofs.RestartLine.{again-few, again-now, again-read, again-right, again-some, again-sound, again-zone}
 use Rattle.ha_engine.proofs.WholeLemmas.{all-is}
@@ -55,10 +58,6 @@ entries-more (e ∷ es) x h b = (h.0, each-snoc IsBehind (e ∷ []) es x h.1 b)
 count-snoc : {X : Type 0} (xs : List X) (a : X) → length (xs ++ (a ∷ [])) ≡ suc (length xs)
 count-snoc [] a = refl
 count-snoc (x ∷ xs) a = ap suc (count-snoc xs a)
-
-any-same : (P Q : ℕ → Bool) (low n : ℕ) → ((a : ℕ) → low ≤ a → a < low + n → P a ≡ Q a) → list_any P (numbers_from low n) ≡ list_any Q (numbers_from low n)
-any-same P Q low zero h = refl
-any-same P Q low (suc n) h = (λ i. h low (omega arith) (omega arith) i || any-same P Q (low + 1) n (λ a le lt. h a (omega (arith, le)) (omega (arith, lt))) i)
 
 there : (all : List Automation) (a : ℕ) → a < length all → (x : Automation) × (slice_get all a ≡ Some x)
 there [] a lt = absurd (omega (arith, lt))
@@ -250,7 +249,7 @@ module _ (j : Journal) (source number : ℕ) (b : Bounds) (t : SegmentTable) (p 
       abbrev moved : ℕ → Bool
       moved a = not (same_flag (is_on s a) (unwrap_or (initial_of (automations s) a) (is_on s a)))
 
-      changes-n : changes_store n ≡ list_any moved (up_to (length (automations s)))
+      changes-n : changes_switches n ≡ list_any moved (up_to (length (automations s)))
       changes-n =
           (let first : nat_eq (length n) 1 ≡ false = apart-of (length n) 1 (λ e. omega (arith, e, length-more j x, length-more k (again_of k))) in
           let back : before_put n ≡ j = (λ i. before_put (sym (put-restart j x refl) i)) ∙ before-put j x refl in
@@ -262,10 +261,41 @@ module _ (j : Journal) (source number : ℕ) (b : Bounds) (t : SegmentTable) (p 
           (λ a le lt. (let found = there (automations s) a (omega (arith, lt)) in
           λ i. not (same_flag (is_on s a) (on-reopened s source number (reopening k) c.alone distinct stored a found.0 found.1 i)))))
 
-      -- LAW: and so do the parts, the moments and whether it changed what is stored
+      -- LAW: and so do the parts, the moments and whether it changed a switch
       pub followed-n : (reset : Bool) → reset ≡ list_any moved (up_to (length (automations s))) → IsFollowed n t'.list p' ls' reset
       followed-n reset is = record {
         kept = kept';
         lasts_are = noted_is ∙ (λ i. noted (kept'.going.sees.looks.now_is i) (own_is i) ls) ∙ lasts-opened (segment n) begun ls carried-n;
         reset_is = λ e. changes-n ∙ sym is;
+      }
+
+      -- the moment before it is the one that it carries
+      same-before : (a : ℕ) → a < length (automations s) → last_triggered s a ≡ named (name_of (automations (segment n)) a) (lasts_carried (segment n))
+      same-before a lt =
+          (let e : 0 + a ≡ a = omega arith in
+          let v : ℕ → Option ℕ = (λ b. named (name_of (automations (segment n)) b) (lasts_carried (segment n))) in
+          let count : length (automations (segment n)) ≡ length (automations s) = count-n ∙ ap length (c-k.automations_are ∙ all-k) in
+          let lists : map (last_triggered s) (up_to (length (automations s))) ≡ map v (up_to (length (automations s))) = sym lasts ∙ carried-n ∙ (λ i. map v (up_to (count i))) in
+          let both : Some (last_triggered s (0 + a)) ≡ Some (v (0 + a))
+          = sym (made-at (last_triggered s) 0 (length (automations s)) a lt) ∙ (λ i. slice_get (lists i) a) ∙ made-at v 0 (length (automations s)) a lt in
+          ap (last_triggered s) (sym e) ∙ some-same (last_triggered s (0 + a)) (v (0 + a)) both ∙ ap v e)
+
+      lasts-n : changes_lasts n ≡ moved_by p'.at t'.list ls
+      lasts-n =
+          (let v : ℕ → Option ℕ = (λ b. named (name_of (automations (segment n)) b) (lasts_carried (segment n))) in
+          let back : before_put n ≡ j = (λ i. before_put (sym (put-restart j x refl) i)) ∙ before-put j x refl in
+          let count : length (automations n) ≡ length (automations s) = ap length (all-n ∙ all-k) in
+          let there : length (automations (segment n)) ≡ length (automations s) = count-n ∙ ap length (c-k.automations_are ∙ all-k) in
+          (λ i. list_any (λ a. not (same_moment (last_triggered (segment (back i)) a) (last_triggered (segment n) a))) (up_to (count i)))
+          ∙ any-same (differs (last_triggered s) (last_triggered (segment n))) (differs v (with_runs (now (segment n)) (all.records_of (segment n)) v)) 0 (length (automations s))
+          (λ a le lt. (λ i. not (same_moment (same-before a (omega (arith, lt)) i) (last-opened (segment n) begun a i))))
+          ∙ sym (moved-is (now (segment n)) (all.records_of (segment n)) v (length (automations s)))
+          ∙ (λ i. moved_by (sym kept'.going.sees.looks.now_is i) (sym own_is i) (map v (up_to (sym there i))))
+          ∙ ap (moved_by p'.at t'.list) (sym carried-n))
+
+      -- LAW: and whether it changed when an automation last triggered
+      pub noted-n : are_in_time ls ≡ true → (moved : Bool) → moved ≡ moved_by p'.at t'.list ls → AreNoted n ls' moved
+      noted-n in_time moved is = record {
+        in_time = subst (λ l. are_in_time l ≡ true) (sym noted_is) (noted-in-time p'.at t'.list ls kept'.going.sees.looks.in_time in_time);
+        moved_is = λ many. lasts-n ∙ sym is;
       }

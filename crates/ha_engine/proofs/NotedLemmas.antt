@@ -1,5 +1,5 @@
 -- When automations last triggered, with one run more.
-use Rattle.std.proofs.Common.{◌≡◌, ℕ, zero, suc, ◌+◌, ◌-◌, ◌<◌, List, [], ◌∷◌, length, drop, refl, sym, ap, ◌∙◌, arith}
+use Rattle.std.proofs.Common.{◌≡◌, ℕ, zero, suc, ◌+◌, ◌-◌, ◌<◌, ◌≤◌, List, [], ◌∷◌, length, drop, refl, sym, ap, ◌∙◌, arith}
 use Rattle.std.specs.Prelude.{slice_get, Option, option_map}
 use Rattle.ha_model.specs.declared.record.Record.{Record}
 use Rattle.ha_model.specs.Records.{Records}
@@ -23,3 +23,9 @@ noted-step at p rs ls ls' a lt a_is is =
     (λ i. noted at (drop (more i) rs) (is i))
     ∙ (λ i. noted at (drop (suc p) rs) (noted_if at ((a_is ∙ ap (λ q. option_map whose (slice_get rs q)) less) i) ls))
     ∙ sym (here at p rs ls lt)
+
+pub noted-none : (at : ℕ) (rs : Records) (p : ℕ) (ls : List (Option ℕ)) → length rs ≤ p → noted at (drop p rs) ls ≡ ls
+noted-none at [] zero ls le = refl
+noted-none at [] (suc p) ls le = refl
+noted-none at (r ∷ rs) zero ls le = absurd (omega (arith, le))
+noted-none at (r ∷ rs) (suc p) ls le = noted-none at rs p ls (omega (arith, le))

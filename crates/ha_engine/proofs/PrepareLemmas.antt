@@ -1,5 +1,5 @@
 -- Attempts that are prepared, from the last on.
-use Rattle.std.proofs.Common.{◌≡◌, ℕ, zero, suc, ◌+◌, ◌<◌, ◌≤◌, List, [], ◌∷◌, ◌++◌, length, map, filter, take, get_or, Bool, true, false, refl, sym, ap, subst, ◌∙◌, rules, arith}
+use Rattle.std.proofs.Common.{◌≡◌, ℕ, zero, suc, ◌+◌, ◌<◌, ◌≤◌, List, [], ◌∷◌, ◌++◌, length, map, filter, take, get_or, Bool, true, false, refl, sym, ap, subst, ◌∙◌, arith}
 use Rattle.std.specs.Prelude.{Option, nat_le, slice_get, ◌&&◌, if◌then◌else◌}
 use Rattle.std.specs.List.{enumerate_from, list_all}
 use Rattle.std.specs.Option.{option_map_or}
@@ -61,16 +61,6 @@ sound-all c h =
     last-of (nat_le (length c.automations) 1_024 && all_distinct (map (λ (a : Automation). a.name) c.automations)) (list_all is_sound_automation c.automations)
     (true-of ((nat_le (length c.automations) 1_024 && all_distinct (map (λ (a : Automation). a.name) c.automations)) && list_all is_sound_automation c.automations) h)
 
-pub sound-few : (c : Config) → IsSoundConfig c → length c.automations ≤ 1_024
-sound-few c h =
-    at-most (length c.automations)
-    (both (nat_le (length c.automations) 1_024) (all_distinct (map (λ (a : Automation). a.name) c.automations))
-    (both (nat_le (length c.automations) 1_024 && all_distinct (map (λ (a : Automation). a.name) c.automations)) (list_all is_sound_automation c.automations)
-    (true-of ((nat_le (length c.automations) 1_024 && all_distinct (map (λ (a : Automation). a.name) c.automations)) && list_all is_sound_automation c.automations) h)).0).0
-  where
-    at-most : (n : ℕ) → nat_le n 1_024 ≡ true → n ≤ 1_024
-    at-most n e = search (rules, e)
-
 -- LAW: each automation that it has is sound
 pub sound-at : (all : List Automation) (n : ℕ) → list_all is_sound_automation all ≡ true → option_map_or (λ (a : Automation). are_sound_actions a.actions) (slice_get all n) true ≡ true
 sound-at [] n h = refl
@@ -116,9 +106,6 @@ attempts-same fs f off =
 pub first-attempt : (f : Firing) (fs : List Firing) → is_attempt f ≡ true → attempts_by (f ∷ fs) ≡ attempt_by f ∷ attempts_by fs
 first-attempt f fs on = (λ i. map {A = Firing} {B = Attempt} attempt_by (if on i then f ∷ filter is_attempt fs else filter is_attempt fs))
 
-pub first-other : (f : Firing) (fs : List Firing) → is_attempt f ≡ false → attempts_by (f ∷ fs) ≡ attempts_by fs
-first-other f fs off = (λ i. map {A = Firing} {B = Attempt} attempt_by (if off i then f ∷ filter is_attempt fs else filter is_attempt fs))
-
 pub weight-small : (f : Firing) → (if is_attempt f then 1 else 0) ≤ 1
 weight-small f = by (is_attempt f)
   where
@@ -141,9 +128,6 @@ take-at xs i x lt at = (let e : i + 1 ≡ suc i = omega arith in ap (λ n. take 
     by [] i lt at = absurd (omega (arith, lt))
     by (y ∷ xs) zero lt at = (λ k. sym at k ∷ [])
     by (y ∷ xs) (suc i) lt at = ap (λ l. y ∷ l) (by xs i (omega (arith, lt)) at)
-
-pub none-left : (fs : List Firing) → fs ≡ [] → length (attempts_by fs) ≡ 0
-none-left fs e = ap (λ (l : List Firing). length (attempts_by l)) e
 
 -- ---- the last entry
 

@@ -33,11 +33,11 @@ use Rattle.engine_parts.specs.Kept.{Kept}
 use Rattle.ha_engine.specs.declared.bounds.Bounds.{Bounds}
 use Rattle.ha_engine.specs.Begun.{IsBegun}
 use Rattle.ha_engine.specs.Lies.{Follows}
-use Rattle.ha_engine.specs.Noted.{noted}
+use Rattle.ha_engine.specs.Noted.{AreNoted, are_in_time, moved_by, noted}
 use Rattle.ha_engine.specs.Restarts.{Reopened, Restarting}
 use Rattle.ha_engine.specs.Told.{IsFollowed, IsTold}
 use Rattle.ha_engine.proofs.FollowedLemmas.{names-differ}
-use Rattle.ha_engine.proofs.NextLemmas.{all-k, begun, closes, entries-k, followed-n, reopened-n, told-n}
+use Rattle.ha_engine.proofs.NextLemmas.{all-k, begun, closes, entries-k, followed-n, noted-n, reopened-n, told-n}
 use Rattle.ha_engine.proofs.RestartLine.{again-few, length-switches}
 
 -- the bounds are those of a segment that stands behind the journal
@@ -115,3 +115,9 @@ module _ (k : Journal) (b : Bounds) (t : SegmentTable) (p : Parts) (ls : List (O
           subst (λ i. IsFollowed i t'.list p' ls' reset) (sym same-n)
           (followed-n h.j h.source h.number b t p ls h.told h.kept h.lasts_are distinct nothing next same-next h.room t' p' ls'
           (own_is ∙ (λ i. records_of (segment (same-n i)))) (subst (λ i. Right (segment i) t'.list) same-n own_right) (subst (λ i. Kept (segment i) t'.list p') same-n kept') closed-there noted_is reset reset_is)
+
+      pub starting-noted : are_in_time ls ≡ true → (moved : Bool) → moved ≡ moved_by p'.at t'.list ls → AreNoted n ls' moved
+      starting-noted in_time moved moved_is =
+          subst (λ i. AreNoted i ls' moved) (sym same-n)
+          (noted-n h.j h.source h.number b t p ls h.told h.kept h.lasts_are distinct nothing next same-next h.room t' p' ls'
+          (own_is ∙ (λ i. records_of (segment (same-n i)))) (subst (λ i. Right (segment i) t'.list) same-n own_right) (subst (λ i. Kept (segment i) t'.list p') same-n kept') closed-there noted_is in_time moved moved_is)

@@ -13,7 +13,7 @@ use Rattle.ha_ready.specs.RunPast.{AllPast, BeginBefore, IsPast}
 use Rattle.engine_parts.specs.declared.parts.Parts.{Parts}
 use Rattle.ha_engine.specs.Admits.{are_in}
 use Rattle.engine_parts.specs.Changes.{SameRun}
-use Rattle.engine_parts.specs.Kept.{Going, Gone, everyone, nobody}
+use Rattle.engine_parts.specs.Kept.{Going, Gone, nobody}
 use Rattle.engine_parts.specs.Records.{AreEnded, EndsIf, IsTable}
 use Rattle.engine_parts.proofs.GoneLemmas.{gone-ended}
 use Rattle.ha_engine.proofs.LiveLemmas.{AreLive, all-live}
@@ -72,18 +72,6 @@ stopped-each gone a place cause (r ∷ rs) h = (subst (λ b. EndsIf b r (one_sto
 -- LAW: the live runs of an automation end, and the others are the same
 pub stopped-ended : (a place : ℕ) (cause : EndCause) (rs : Records) → AreNumbered 0 rs → AreEnded (are_in (live_of a rs)) rs (stopped (Some a) place cause rs)
 stopped-ended a place cause rs num = stopped-each (are_in (live_of a rs)) a place cause rs (all-live a 0 rs num)
-
-ended-one : (place : ℕ) (cause : EndCause) (r : Record) → EndsIf true r (one_stopped (is_none r.end) place cause r)
-ended-one place cause r = by r.end
-  where
-    by : (e : Option (ℕ × EndCause)) → EndsIf true (record r { end = e }) (one_stopped (is_none e) place cause (record r { end = e }))
-    by None = (record { serial = refl; automation = refl; env = refl }, tt)
-    by (Some e) = (record { serial = refl; automation = refl; env = refl }, tt)
-
--- LAW: behind a stop of all, everybody has ended
-pub all-ended : (place : ℕ) (cause : EndCause) (rs : Records) → AreEnded everyone rs (stopped None place cause rs)
-all-ended place cause [] = tt
-all-ended place cause (r ∷ rs) = (ended-one place cause r, all-ended place cause rs)
 
 -- ---- the parts
 

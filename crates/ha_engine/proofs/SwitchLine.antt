@@ -39,10 +39,6 @@ or-first : (b : Bool) → (b || false) ≡ false → b ≡ false
 or-first true h = absurd (let bad : ◌≡◌ {A = Bool} true false = h in cc)
 or-first false h = refl
 
-or-last : (b : Bool) → (b || false) ≡ b
-or-last true = refl
-or-last false = refl
-
 module _ (j : Journal) (some : HasEntry j) (sound : IsSound (automations j)) (name : Text) (a : ℕ) (named : automation_named (automations j) name ≡ Some a) (source number : ℕ) (on stop : Bool) where
   abbrev x : Entry
   x = Line source number (Cmd.Switch name on stop)

@@ -1,7 +1,10 @@
 -- The fields of an engine.
 use Rattle.std.specs.Prelude.{◌≡◌, false}
+use Rattle.ha_journal.specs.Journal.{automations}
+use Rattle.segment_carry.specs.ByName.{by_name}
 use Rattle.segment_runs.specs.Segment.{all_of}
 use Rattle.ha_engine.specs.Core.{Core}
+use Rattle.ha_engine.specs.Noted.{AreNoted}
 use Rattle.ha_engine.specs.Told.{IsFollowed, IsTold}
 use Rattle.ha_engine.specs.declared.engine.Engine.TheInside.{Inside}
 
@@ -12,3 +15,5 @@ core_of e = record { entries = e.journal.items; runs = all_of e.runs.closed e.ru
 pub record IsKept (e : Inside) : Type 0 where
   pub told : IsTold e.journal.items e.bounds e.runs
   pub followed : e.spent ≡ false → IsFollowed e.journal.items e.runs.list e.parts e.lasts.items e.reset
+  pub noted : e.spent ≡ false → AreNoted e.journal.items e.lasts.items e.moved
+  pub ordered : e.spent ≡ false → e.order ≡ by_name (automations e.journal.items)

@@ -7,12 +7,13 @@ use Rattle.ha_model.specs.Records.{Records}
 use Rattle.ha_model.specs.Lawful as alone_right
 use Rattle.ha_whole.specs.Lasts.{last_triggered}
 use Rattle.ha_whole.specs.Segments.{cut, front, segment}
-use Rattle.ha_whole.specs.Whole.{Right, changes_store, records_from}
+use Rattle.ha_whole.specs.Whole.{Right, records_from}
 use Rattle.segment_runs.specs.Segment.{SegmentTable, all_of}
 use Rattle.engine_parts.specs.declared.parts.Parts.{Parts}
 use Rattle.engine_parts.specs.Kept.{Kept}
 use Rattle.ha_engine.specs.declared.bounds.Bounds.{Bounds}
 use Rattle.ha_engine.specs.Lies.{IsBounded, Lies}
+use Rattle.ha_engine.specs.Noted.{changes_switches}
 
 -- the runs of the last segment, read alone, behind the records of closed ones
 pub record AreRuns (j : Journal) (t : SegmentTable) : Type 0 where
@@ -36,4 +37,4 @@ AreLasts s lasts = lasts ≡ map (last_triggered s) (up_to (length (automations 
 pub record IsFollowed (j : Journal) (rs : Records) (p : Parts) (lasts : List (Option ℕ)) (reset : Bool) : Type 0 where
   pub kept : Kept (segment j) rs p
   pub lasts_are : AreLasts (segment j) lasts
-  pub reset_is : length j ≡ suc (front j) → changes_store j ≡ reset
+  pub reset_is : length j ≡ suc (front j) → changes_switches j ≡ reset

@@ -1,5 +1,5 @@
 //! What an opening begins, and the engine after its first entry, the boot.
-ghost use Rattle.std.specs.Prelude.{◌≡◌, ◌≤◌, ◌∷◌, [], None, false, true, IfOk, IsSome, OnOk, replicate, vec_len};
+ghost use Rattle.std.specs.Prelude.{◌≡◌, ◌≤◌, ◌∷◌, [], false, IfOk, IsSome, OnOk, vec_len};
 ghost use Rattle.ha_clock.specs.Local.{last_moment};
 ghost use Rattle.ha_clock.specs.Zone.{zone_of};
 ghost use Rattle.ha_journal.specs.declared.entry.Entry.TheVariants.{Boot};
@@ -8,7 +8,8 @@ ghost use Rattle.ha_journal.specs.Entries.{first_carry};
 ghost use Rattle.ha_journal.specs.Journal.{Journal, last_place};
 ghost use Rattle.ha_model.specs.Records.{records_of};
 ghost use Rattle.ha_model.specs.Lawful.{Right};
-ghost use Rattle.ha_config.specs.Sound.{IsSoundConfig};
+ghost use Rattle.ha_config.specs.Names.{of_automations};
+ghost use Rattle.ha_config.specs.Sound.{AreSoundMoments, IsSoundConfig};
 ghost use Rattle.trig_set.specs.Stands.{StandsFor, attached};
 ghost use Rattle.ha_whole.specs.Whole.{Right as RightWhole, records_of as records_whole};
 ghost use Rattle.ha_engine.specs.Admits.{ArePrepared, from_end};
@@ -21,7 +22,7 @@ use crate::admit::{Prepared, admit_all};
 use crate::bounds::Bounds;
 use crate::conclude::make_room;
 use crate::engine::Engine;
-use crate::lasts::note_lasts;
+use crate::lasts::{known_moments, note_lasts};
 use crate::prepare::prepare_opening;
 use cond_eval::View;
 use engine_entry::open::open_all;
@@ -32,6 +33,7 @@ use ha_clock::{ClockFault, Moment, Zone};
 use ha_config::Config;
 use ha_journal::{Carry, Entry, Firing};
 use ha_value::{Boxed, Many, Word};
+use segment_carry::{by_name, lasts};
 use segment_runs::SegmentRuns;
 use segment_view::Behind;
 use state_table::StateTable;
@@ -249,20 +251,10 @@ fn begin_first<'a>(
     begin(alloc, &segment, switches, zone, start)
 }
 
-/// No automation has triggered yet.
-fn no_lasts(alloc: Global, count: usize) -> Result<Vec<Option<Moment>>, AllocError>
-    ensures { IfOk result (λ v. v.items ≡ replicate count None) }
-{
-    let mut lasts = Vec::new(alloc);
-    'rules: for _at in 0..count {
-        lasts.push(None)?;
-    }
-    Ok(lasts)
-}
-
 impl Engine {
     /// The engine after its first entry, the boot: the switches are the initial ones, else those stored, else on, and start triggers fire.
-    /// `zone` is `UTC`, an offset or a POSIX rule text. The error is want of memory alone.
+    /// `zone` is `UTC`, an offset or a POSIX rule text. Of the moments at which automations last triggered those are taken over whose names
+    /// automations have. The error is want of memory alone.
     pub fn boot(
         alloc: Global,
         text: Word,
@@ -270,31 +262,37 @@ impl Engine {
         stored: Option<Many<(Word, bool)>>,
         start: Moment,
         zone: Word,
+        last: Many<(Word, Moment)>,
     ) -> Result<Engine, AllocError>
         requires config { IsSoundConfig config }
         requires zone { IsSome (zone_of zone) }
         requires start { start ≤ last_moment }
-        ensures entries { IfOk result (λ e. e.entries ≡ Boot text config stored start zone first_carry ∷ []) }
-        ensures runs { IfOk result (λ e. e.runs ≡ records_whole (Boot text config stored start zone first_carry ∷ [])) }
+        requires last { AreSoundMoments last }
+        ensures entries { IfOk result (λ e. e.entries ≡ Boot text config stored start zone (first_carry (of_automations config.automations last)) ∷ []) }
+        ensures runs { IfOk result (λ e. e.runs ≡ records_whole (Boot text config stored start zone (first_carry (of_automations config.automations last)) ∷ [])) }
         ensures right { IfOk result (λ e. RightWhole e.entries e.runs) }
         ensures spent { IfOk result (λ e. e.is_spent ≡ false) }
     {
         let read = read_zone(alloc, &zone)?;
         let switches = Switches::restore(alloc, &config, stored.as_ref())?;
-        let carry = Carry::first(alloc)?;
-        let count = config.automations.len();
+        let automations = config.automations.as_slice();
+        let known = known_moments(alloc, automations, last.as_slice())?;
+        let mut lasts = lasts(alloc, automations, known.as_slice())?;
+        let order = by_name(alloc, automations)?;
+        let carry = Carry::first(alloc, known)?;
         let journal = first_journal(alloc, text, config, stored, start, zone, carry)?;
-        let mut lasts = no_lasts(alloc, count)?;
         let (runs, parts) = begin_first(alloc, journal.as_slice(), switches, read, start)?;
-        note_lasts(&mut lasts, &runs, 0, start);
+        let moved = note_lasts(&mut lasts, &runs, 0, start);
         Ok(Engine {
             alloc,
             journal,
             runs,
             parts,
             lasts,
+            order,
             bounds: Bounds::first(),
             reset: true,
+            moved,
             spent: false,
         })
     }

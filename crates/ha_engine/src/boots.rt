@@ -15,7 +15,8 @@ impl Boots for Engine {
         stored: Option<Many<(Word, bool)>>,
         start: Moment,
         zone: Word,
+        last: Many<(Word, Moment)>,
     ) -> Result<Engine, AllocError> {
-        Engine::boot(alloc, text, config, stored, start, zone)
+        Engine::boot(alloc, text, config, stored, start, zone, last)
     }
 }

@@ -1,37 +1,39 @@
 //! The engine: the journal with its records, and the parts that stand for it.
-ghost use Rattle.std.specs.Prelude.{◌≡◌, ◌↔◌, ◌+◌, ◌<◌, ◌≤◌, ◌-◌, ◌++◌, ◌∷◌, [], ℕ, List, Some, IfOk, IfErr, OnOk, OnErr, Err, true, false, length, is_some, vec_len, vec_capacity};
-ghost use Rattle.std.specs.List.{list_any};
-ghost use Rattle.ha_config.specs.declared.command.Cmd.{Cmd as Said};
-ghost use Rattle.ha_config.specs.declared.command.Cmd.TheVariants.{Refused, Restart};
+ghost use Rattle.std.specs.Prelude.{◌≡◌, ◌↔◌, ◌+◌, ◌<◌, ◌≤◌, ◌-◌, ◌++◌, ◌∷◌, [], ℕ, List, Some, IfOk, IfErr, OnOk, OnErr, Err, true, false, vec_len, vec_capacity};
+ghost use Rattle.ha_config.specs.declared.command.Cmd.TheVariants.{Restart};
 ghost use Rattle.ha_journal.specs.declared.entry.Entry.{Entry as Put};
 ghost use Rattle.ha_journal.specs.declared.entry.Entry.TheVariants.{Line};
 ghost use Rattle.ha_journal.specs.Entries.{restarts as restarts_lem};
 ghost use Rattle.ha_journal.specs.Journal.{more, Journal, automations};
-ghost use Rattle.ha_journal.specs.Commands.{has_automation, put_as as put_as_lem, IsFair};
+ghost use Rattle.ha_journal.specs.Commands.{put_as as put_as_lem, IsFair};
 ghost use Rattle.ha_sight.specs.declared.item.Item as item_lem;
-ghost use Rattle.ha_config.specs.Words.{same};
-ghost use Rattle.ha_config.specs.Names.{automation_named};
 ghost use Rattle.ha_journal.specs.declared.entry.Entry.{Entry as Item};
 ghost use Rattle.ha_model.specs.Lawful.{Right as RightAlone, pick};
+ghost use Rattle.ha_config.specs.StoreText.{in_name_order};
+ghost use Rattle.store_text.specs.Store.{AreMoments};
+ghost use Rattle.ha_whole.specs.Lasts.{lasts};
 ghost use Rattle.ha_whole.specs.Segments.{segment};
 ghost use Rattle.ha_whole.specs.Whole.{CannotRestart, HasRoom, IsFull, LacksRoom, Right, changes_store, is_quiet, is_rested, put, ready, store_text, switch_of};
 ghost use Rattle.engine_parts.specs.Kept.{Kept};
 ghost use Rattle.ha_engine.specs.Lies.{Lies};
+ghost use Rattle.ha_engine.specs.Noted.{changes_switches};
 ghost use Rattle.ha_engine.specs.Put.{Adds};
 
 use crate::advance::advance;
 use crate::bounds::Bounds;
 use crate::follow::follow_line;
 use crate::lasts::note_lasts;
-use crate::restart::{config_in, follow_restart};
+use crate::restart::{config_in, either, follow_restart};
+use crate::settle::settle_last;
 use engine_parts::last::drop_last;
 use engine_parts::parts::Parts;
 use ha_clock::Moment;
-use ha_config::{Automation, Cmd, Config, same_text};
+use ha_config::{Cmd, Config};
 use ha_journal::Entry;
 use ha_model::Record;
-use ha_value::{Many, Value, Word};
+use ha_value::{Many, Word};
 use ha_whole::CoreFault;
+use segment_carry::moments;
 use segment_runs::SegmentRuns;
 use segment_view::Segment;
 use std::alloc::{AllocError, Global};
@@ -48,9 +50,13 @@ pub struct Engine {
     pub(crate) parts: Parts,
     /// By automation, when it last triggered.
     pub(crate) lasts: Vec<Option<Moment>>,
+    /// The automations in the byte order of their names.
+    pub(crate) order: Many<u32>,
     pub(crate) bounds: Bounds,
-    /// Whether the opening of the last segment changed what is stored.
+    /// Whether the opening of the last segment changed a switch.
     pub(crate) reset: bool,
+    /// Whether the last put changed when an automation last triggered.
+    pub(crate) moved: bool,
     pub(crate) spent: bool,
 }
 
@@ -90,89 +96,6 @@ fn push_line(journal: &mut Vec<Entry>, source: u32, number: u64, cmd: Cmd)
 #[inline(never)]
 fn let_go(cmd: Cmd) {
     drop(cmd);
-}
-
-/// Whether one of the automations has this name.
-fn any_named(all: &[Automation], name: &Word) -> bool
-    ensures { result ≡ list_any (λ a. same a.name name.now) all.now }
-{
-    all.iter().any(|a| same_text(&a.name, name))
-}
-
-fn is_among(all: &[Automation], name: &Word) -> bool
-    ensures { result ≡ is_some (automation_named all.now name.now) }
-{
-    any_named(all, name)
-}
-
-/// Whether there is an automation of this name.
-fn is_named(journal: &[Entry], name: &Word) -> bool
-    ensures { result ≡ has_automation journal.now name.now }
-{
-    match journal.first() {
-        Some(Entry::Boot { config, .. }) => is_among(config.automations.as_slice(), name),
-        _ => false,
-    }
-}
-
-/// Keeps the pairs in no more memory than they need.
-fn fit_pairs(alloc: Global, pairs: &mut Many<(Word, Value)>)
-    ensures { pairs.new ≡ pairs.old }
-{
-    if !pairs.is_empty() {
-        let held = std::mem::replace(pairs, Many::make(alloc));
-        *pairs = held.fitted();
-    }
-}
-
-/// A refusal takes the place of a command that names no automation.
-#[inline(never)]
-fn refuse_cmd(cmd: &mut Cmd)
-    ensures { cmd.new ≡ Refused 9 }
-{
-    *cmd = Cmd::Refused(9);
-}
-
-/// Makes of a command that was read the one that stands in the journal, where it is: a refusal where it names no automation.
-fn settle_cmd(alloc: Global, journal: &[Entry], cmd: &mut Cmd)
-    ensures { cmd.new ≡ put_as_lem journal.now cmd.old }
-{
-    match cmd {
-        Cmd::Report { attributes, .. } => fit_pairs(alloc, attributes),
-        Cmd::Event { pairs, .. } => fit_pairs(alloc, pairs),
-        Cmd::Switch { name, .. } => {
-            if !is_named(journal, name) {
-                refuse_cmd(cmd);
-            }
-        }
-        Cmd::Trigger { name, .. } => {
-            if !is_named(journal, name) {
-                refuse_cmd(cmd);
-            }
-        }
-        _ => {}
-    }
-}
-
-/// Makes of the command of a line that was read the one that stands in the journal, behind these entries.
-fn settle_entry(alloc: Global, before: &[Entry], last: &mut Entry)
-    ensures { (source number : ℕ) (cmd : Said) → last.old ≡ Line source number cmd → last.new ≡ Line source number (put_as_lem before.now cmd) }
-{
-    match last {
-        Entry::Line { cmd, .. } => settle_cmd(alloc, before, cmd),
-        Entry::Boot { .. } | Entry::Step { .. } | Entry::Again { .. } => {}
-    }
-}
-
-/// The same of the last entry, where it stands.
-fn settle_last(alloc: Global, journal: &mut [Entry])
-    ensures last { (j : Journal) (source number : ℕ) (cmd : Said) → journal.old ≡ more j (Line source number cmd) → journal.new ≡ more j (Line source number (put_as_lem j cmd)) }
-    ensures len { length journal.new ≡ length journal.old }
-{
-    match journal.split_last_mut() {
-        Some((last, before)) => settle_entry(alloc, before, last),
-        None => {}
-    }
 }
 
 /// Whether a command restarts.
@@ -249,7 +172,7 @@ impl Engine {
             &mut self.parts,
         ) {
             Ok(()) => {
-                note_lasts(&mut self.lasts, &self.runs, before, self.parts.at);
+                self.moved = note_lasts(&mut self.lasts, &self.runs, before, self.parts.at);
                 Ok(())
             }
             Err(error) => {
@@ -284,6 +207,7 @@ impl Engine {
             &mut self.runs,
             &mut self.parts,
             &mut self.lasts,
+            &mut self.moved,
         ) {
             Ok(reset) => {
                 self.reset = reset;
@@ -397,7 +321,7 @@ impl Engine {
             worker,
         ) {
             Ok(()) => {
-                note_lasts(&mut self.lasts, &self.runs, before, self.parts.at);
+                self.moved = note_lasts(&mut self.lasts, &self.runs, before, self.parts.at);
                 Ok(())
             }
             Err(error) => {
@@ -464,18 +388,34 @@ impl Engine {
         self.parts.switches.is_on(automation)
     }
 
-    /// The text that keeps the switches.
-    pub(crate) fn switches_text(&self, alloc: Global) -> Result<Word, AllocError>
+    /// When automations last triggered, in the byte order of their names.
+    fn last_moments(&self, alloc: Global) -> Result<Many<(Word, Moment)>, AllocError>
+        requires { self.now.is_spent ≡ false }
+        ensures moments { IfOk result (λ last. last ≡ in_name_order (lasts (segment self.now.entries))) }
+        ensures storable { IfOk result AreMoments }
+    {
+        let automations = self.configuration().automations.as_slice();
+        moments(
+            alloc,
+            automations,
+            self.order.as_slice(),
+            self.lasts.as_slice(),
+        )
+    }
+
+    /// The text that keeps the switches, and when automations last triggered.
+    pub(crate) fn stored_text(&self, alloc: Global) -> Result<Word, AllocError>
         requires { self.now.is_spent ≡ false }
         ensures { IfOk result (λ text. text ≡ store_text self.now.entries) }
     {
-        self.parts.switches.store_text(alloc)
+        let last = self.last_moments(alloc)?;
+        self.parts.switches.store_text(alloc, &last)
     }
 
-    /// Whether the last put, or the boot, changed what is stored.
-    pub(crate) fn has_changed(&self) -> bool
+    /// Whether the last put, or the boot, changed a switch.
+    fn has_switched(&self) -> bool
         requires { self.now.is_spent ≡ false }
-        ensures { result ≡ changes_store self.now.entries }
+        ensures { result ≡ changes_switches self.now.entries }
     {
         let opening = self.journal.len() == self.bounds.front + 1;
         if opening {
@@ -483,6 +423,14 @@ impl Engine {
         } else {
             self.parts.changed
         }
+    }
+
+    /// Whether the last put, or the boot, changed what is stored.
+    pub(crate) fn has_changed(&self) -> bool
+        requires { self.now.is_spent ≡ false }
+        ensures { result ≡ changes_store self.now.entries }
+    {
+        either(self.has_switched(), self.moved)
     }
 
     /// The journal and the records.
@@ -495,10 +443,12 @@ impl Engine {
             runs,
             parts,
             lasts,
+            order,
             ..
         } = self;
         drop(parts);
         drop(lasts);
+        drop(order);
         (Many::from_vec(journal), runs.into_all())
     }
 }

@@ -14,6 +14,7 @@ mod lasts;
 pub mod laws;
 mod prepare;
 mod restart;
+mod settle;
 mod step_conclude;
 mod step_end;
 mod step_follow;

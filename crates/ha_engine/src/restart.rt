@@ -1,5 +1,5 @@
 //! A restart: it closes the last segment, whose runs all end, and opens the next one.
-ghost use Rattle.std.specs.Prelude.{◌≡◌, ◌≤◌, ◌<◌, ◌||◌, ◌^◌, ◌∷◌, ℕ, List, Bool, [], Some, None, IfOk, OnOk, OnErr, not, length, slice_get, unwrap_or, vec_len, vec_capacity};
+ghost use Rattle.std.specs.Prelude.{◌≡◌, ◌≤◌, ◌<◌, ◌||◌, ◌^◌, ◌∷◌, ℕ, List, Bool, [], Some, None, IfOk, OnOk, OnErr, not, true, length, slice_get, unwrap_or, vec_len, vec_capacity};
 ghost use Rattle.std.specs.List.{list_any};
 ghost use Rattle.ha_config.specs.declared.command.Cmd.TheVariants.{Restart};
 ghost use Rattle.ha_config.specs.Equal.{same_flag};
@@ -26,7 +26,7 @@ ghost use Rattle.engine_parts.specs.Kept.{Going, Kept, nobody};
 ghost use Rattle.engine_parts.specs.Records.{HasRoom};
 ghost use Rattle.ha_engine.specs.Admits.{ArePrepared, from_end};
 ghost use Rattle.ha_engine.specs.Begun.{IsBegun, trues};
-ghost use Rattle.ha_engine.specs.Noted.{noted};
+ghost use Rattle.ha_engine.specs.Noted.{AreNoted, are_in_time, moved_by, noted};
 ghost use Rattle.ha_engine.specs.Restarts.{Reopened, Restarting};
 ghost use Rattle.ha_engine.specs.Told.{IsFollowed, IsTold};
 
@@ -60,7 +60,7 @@ fn moves(switches: &Switches, automation: u32, rule: &Automation) -> bool
 }
 
 /// One or the other.
-fn either(left: bool, right: bool) -> bool
+pub(crate) fn either(left: bool, right: bool) -> bool
     ensures { result ≡ (left || right) }
 {
     left || right
@@ -224,6 +224,7 @@ fn turn_over(
     alloc: Global,
     runs: &mut SegmentRuns,
     lasts: &mut Vec<Option<Moment>>,
+    moved: &mut bool,
     opened: Parts,
     stack: Vec<Prepared>,
     place: u64,
@@ -237,12 +238,13 @@ fn turn_over(
         → (runs.new.list ≡ records_of k) × Right k runs.new.list × Kept k runs.new.list result }
     ensures closed { runs.new.closed ≡ record { records = all_of runs.old.closed (stopped None place Cause.Restarted runs.old.list); entries = front } }
     ensures lasts { lasts.new.items ≡ noted result.at runs.new.list lasts.old.items }
+    ensures moved { moved.new ≡ moved_by result.at runs.new.list lasts.old.items }
 {
     let mut opened = opened;
     runs.stop_all(None, place, EndCause::Restarted);
     runs.close(front);
     admit_first(alloc, runs, &mut opened, stack);
-    note_lasts(lasts, runs, 0, opened.at);
+    *moved = note_lasts(lasts, runs, 0, opened.at);
     opened
 }
 
@@ -254,7 +256,8 @@ fn count_runs(runs: &SegmentRuns) -> u64
 }
 
 /// A restart line was pushed, and there is room for one entry more: the segment is closed and the next one opened. The answer is whether
-/// that changed what is stored. After an error all but the parts and the moments is as before, and these may only be dropped.
+/// that changed a switch; `moved` then says whether it changed when an automation last triggered. After an error all but the parts and the
+/// moments is as before, and these may only be dropped.
 pub(crate) fn follow_restart(
     alloc: Global,
     journal: &mut Vec<Entry>,
@@ -262,12 +265,15 @@ pub(crate) fn follow_restart(
     runs: &mut SegmentRuns,
     parts: &mut Parts,
     lasts: &mut Vec<Option<Moment>>,
+    moved: &mut bool,
 ) -> Result<bool, AllocError>
     requires restarting { Restarting journal.old.items bounds.old runs.old parts.old lasts.old.items }
+    requires in_time { are_in_time lasts.old.items ≡ true }
     requires room { vec_len journal.old < vec_capacity journal.old }
     ensures put { OnOk result (journal.new.items ≡ more journal.old.items (again_of journal.old.items)) }
     ensures told { OnOk result (IsTold journal.new.items bounds.new runs.new) }
     ensures followed { IfOk result (λ reset. IsFollowed journal.new.items runs.new.list parts.new lasts.new.items reset) }
+    ensures noted { OnOk result (AreNoted journal.new.items lasts.new.items moved.new) }
     ensures journal { OnErr result (journal.new.items ≡ journal.old.items) }
     ensures stays { OnErr result ((bounds.new ≡ bounds.old) × (runs.new.list ≡ runs.old.list) × (runs.new.closed ≡ runs.old.closed)) }
 {
@@ -283,7 +289,16 @@ pub(crate) fn follow_restart(
         }
     };
     let place = (front - 1 - bounds.front) as u64;
-    *parts = turn_over(alloc, runs, lasts, opened, stack, place, front as u64);
+    *parts = turn_over(
+        alloc,
+        runs,
+        lasts,
+        moved,
+        opened,
+        stack,
+        place,
+        front as u64,
+    );
     *bounds = next;
     Ok(reset)
 }

@@ -38,9 +38,9 @@ pub record Stepped : Type 0 where
   pub branch : List ℕ
   pub item : Item
 
--- what the first segment takes over: nothing
-abbrev pub first_carry : Carry
-first_carry = record { serials = 0; numbers = []; lines = replicate 16 0; shut = []; last = [] }
+-- what the first segment takes over: nothing but when automations last triggered
+abbrev pub first_carry : List (Text × ℕ) → Carry
+first_carry last = record { serials = 0; numbers = []; lines = replicate 16 0; shut = []; last = last }
 
 abbrev pub boot_of : Entry → Option Opening
 boot_of (Boot text config stored start zone carry) =

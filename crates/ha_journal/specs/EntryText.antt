@@ -1,4 +1,4 @@
--- The texts that are written of entries: calls, errors, the store, the trace.
+-- The texts that are written of entries: calls, errors, the trace.
 use Rattle.std.specs.Prelude.{ℕ, Bool, List, [], ◌∷◌, ◌++◌, length, map, Option, Some, None, option_map, decimal, codes, if◌then◌else◌}
 use Rattle.std.specs.Option.{option_map_or}
 use Rattle.ha_clock.specs.Print.{moment_text}
@@ -9,11 +9,10 @@ use Rattle.ha_journal.specs.declared.entry.Entry.TheVariants.{Boot, Line, Step, 
 use Rattle.ha_config.specs.Words.{Text}
 use Rattle.ha_sight.specs.Items.{Called, failure_in}
 use Rattle.ha_journal.specs.Journal.{Journal, automations}
-use Rattle.ha_journal.specs.States.{switches_of}
 use Rattle.ha_config.specs.ValueText.{quoted, list_text, map_text}
 use Rattle.ha_config.specs.CommandText.{one_key, cmd_text, line_code}
 use Rattle.ha_sight.specs.ItemText.{call_pairs, item_text, failure_code}
-use Rattle.ha_config.specs.StoreText.{store_of, stored_text}
+use Rattle.ha_config.specs.StoreText.{moments_text, stored_text}
 use Rattle.ha_config.specs.CheckText.{as_line}
 
 -- what each entry gives, with those before it, in order
@@ -62,18 +61,22 @@ error_text_of x = option_map_or (λ t. t) (error_line x) []
 abbrev pub error_text : Journal → Text
 error_text j = texts_after (λ before x. error_text_of x) [] j
 
--- ---- the store
-
-abbrev pub store_text : Journal → Text
-store_text j = store_of (switches_of j)
-
 -- ---- the trace
+
+-- when automations last triggered, where one has
+abbrev pub last_pairs : List (Text × ℕ) → List (Text × Text)
+last_pairs [] = []
+last_pairs (p ∷ ps) = (codes "last", moments_text (p ∷ ps)) ∷ []
+
+abbrev pub boot_pairs : Text → Option (List (Text × Bool)) → List (Text × ℕ) → ℕ → Text → List (Text × Text)
+boot_pairs text stored last start zone =
+    (codes "config", quoted text) ∷ (codes "stored", stored_text stored)
+    ∷ last_pairs last ++ (codes "start", quoted (moment_text start)) ∷ (codes "zone", quoted zone) ∷ []
 
 -- the trace line of an entry
 abbrev pub trace_line : List Automation → Entry → Text
 trace_line all (Boot text config stored start zone carry) =
-    as_line (one_key (codes "boot") (map_text ((codes "config", quoted text) ∷ (codes "stored", stored_text stored)
-    ∷ (codes "start", quoted (moment_text start)) ∷ (codes "zone", quoted zone) ∷ [])))
+    as_line (one_key (codes "boot") (map_text (boot_pairs text stored carry.last start zone)))
 trace_line all (Line source number cmd) =
     as_line (map_text ((codes "source", decimal source) ∷ (codes "number", decimal number) ∷ (codes "cmd", cmd_text cmd) ∷ []))
 trace_line all (Step worker serial branch item) =

@@ -33,9 +33,9 @@ fn no_lines(alloc: Global) -> Result<Many<u64>, AllocError>
 }
 
 impl Carry {
-    /// What the first segment takes over: nothing.
-    pub fn first(alloc: Global) -> Result<Boxed<Carry>, AllocError>
-        ensures { IfOk result (λ made. made ≡ first_carry) }
+    /// What the first segment takes over: nothing but when automations last triggered.
+    pub fn first(alloc: Global, last: Many<(Word, Moment)>) -> Result<Boxed<Carry>, AllocError>
+        ensures { IfOk result (λ made. made ≡ first_carry last) }
     {
         let lines = no_lines(alloc)?;
         let carry = Carry {
@@ -43,7 +43,7 @@ impl Carry {
             numbers: Many::make(alloc),
             lines,
             shut: Many::make(alloc),
-            last: Many::make(alloc),
+            last,
         };
         Boxed::new(alloc, carry)
     }

@@ -7,5 +7,6 @@ mod entry;
 mod firing;
 
 pub use carry::Carry;
+pub use copies::copy_moments;
 pub use entry::Entry;
 pub use firing::Firing;

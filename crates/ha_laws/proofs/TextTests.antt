@@ -10,7 +10,7 @@ use Rattle.ha_journal.specs.Commands.{put_as}
 use Rattle.ha_config.specs.CommandText.{cmd_text}
 use Rattle.ha_sight.specs.ItemText.{item_text}
 use Rattle.ha_model.specs.Texts.{call_text, rehearse_text}
-use Rattle.ha_journal.specs.EntryText.{error_text, store_text}
+use Rattle.ha_journal.specs.EntryText.{error_text}
 use Rattle.ha_config.specs.CheckText.{check_text}
 use Rattle.ha_laws.specs.WorkedHall.{journal, records, hall_light}
 use Rattle.ha_sight.proofs.Rolls.{rolls}
@@ -31,9 +31,6 @@ errors : error_text (Entry.Line 3 7 (Cmd.Refused 5) ∷ Entry.Line 0 1 Cmd.TooLo
     ≡ a_line (codes "source 3 line 7: L5") ++ a_line (codes "source 0 line 1: too long") ++ a_line (codes "run 4 failed F6")
 unfolding digits
 errors = refl
-
-pub stored : store_text journal ≡ codes "{\"switches\":{\"hall_light\":true},\"version\":1}"
-stored = refl
 
 checked : check_text (record { automations = hall_light ∷ [] }) ≡ a_line (codes "automation.hall_light restart 10 triggers 1 conditions 0 actions 3") ++ a_line (codes "ok 1")
 unfolding digits

@@ -50,7 +50,7 @@ boot rule =
         max = 10;
         initial = None;
       } ∷ [];
-    }) None start (codes "UTC") first_carry
+    }) None start (codes "UTC") (first_carry [])
 
 abbrev pub report : Text → Pairs → Entry
 report t ps = Entry.Line 0 0 (Cmd.Report lamp t ps)
@@ -105,7 +105,7 @@ abbrev pub queue : Automation
 queue = record (door Mode.Queued) { max = 1 }
 
 abbrev pub queue_boot : Entry
-queue_boot = Entry.Boot [] (record { automations = queue ∷ [] }) None start (codes "UTC") first_carry
+queue_boot = Entry.Boot [] (record { automations = queue ∷ [] }) None start (codes "UTC") (first_carry [])
 
 -- it opens at 2, at 4 and at 7; its first run calls at 5, and is done
 abbrev pub queue_of_one : Journal

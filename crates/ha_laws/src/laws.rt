@@ -26,7 +26,6 @@ ghost use Rattle.ha_sight.specs.Branches.{branches_of};
 ghost use Rattle.ha_laws.specs.Told.{ByTheRules, AreNear};
 ghost use Rattle.ha_config.specs.CheckText.{as_line};
 ghost use Rattle.ha_model.specs.Texts.{call_text};
-ghost use Rattle.ha_journal.specs.EntryText.{store_text};
 ghost use Rattle.ha_laws.specs.WorkedHall as hall;
 ghost use Rattle.ha_laws.specs.WorkedModes as modes;
 ghost use Rattle.ha_laws.specs.WorkedScripts as scripts;
@@ -138,14 +137,13 @@ pub fn one_call_is_made()
         → ran_on j r (spots j r.serial ++ (next_spot j [] ∷ [])) ≡ Some (call_made service target) }
 {}
 
-/// The hall light's journal is lawful and quiet, with these records, calls and store.
+/// The hall light's journal is lawful and quiet, with these records and calls.
 pub fn hall_light_goes_out()
     ensures lawful { Lawful hall.journal hall.records }
     ensures quiet { is_quiet hall.records hall.journal ≡ true }
     ensures calls { call_text hall.journal hall.records
         ≡ as_line (codes "{\"run\":\"hall_light\",\"number\":1,\"call\":1,\"service\":\"light.turn_on\",\"target\":[\"light.hall\"],\"data\":{\"brightness\":128}}")
         ++ as_line (codes "{\"run\":\"hall_light\",\"number\":1,\"call\":2,\"service\":\"light.turn_off\",\"target\":[\"light.hall\"],\"data\":{}}") }
-    ensures store { store_text hall.journal ≡ codes "{\"switches\":{\"hall_light\":true},\"version\":1}" }
 {}
 
 /// A door that opens twice, before its first run has made a step: in mode restart the new run

@@ -1,5 +1,5 @@
 -- What `rehearse` answers for.
-use Rattle.std.specs.Prelude.{ℕ, ◌≡◌, ◌≤◌, ◌⊎◌, true, Option, None, Ok, codes}
+use Rattle.std.specs.Prelude.{ℕ, ◌≡◌, ◌≤◌, ◌⊎◌, true, [], Option, None, Ok, codes}
 use Rattle.ha_config.specs.declared.config.Config.{Config}
 use Rattle.ha_journal.specs.declared.entry.Entry.{Entry}
 use Rattle.ha_journal.specs.declared.entry.Entry.TheVariants.{Boot}
@@ -15,9 +15,9 @@ use Rattle.ha_status.specs.StatusLine.{Text}
 use Rattle.ha_status.specs.Written.{IsWritten}
 use Rattle.ha_rehearse.specs.Puts.{Closing, HasNoRoom}
 
--- the boot of the generated configuration, at its start, in UTC, without stored switches
+-- the boot of the generated configuration, at its start, in UTC, without a store
 abbrev pub boot_of : Config → Entry
-boot_of config = Boot config_text config None start (codes "UTC") first_carry
+boot_of config = Boot config_text config None start (codes "UTC") (first_carry [])
 
 -- The journal is lawful with its records. It begins with the boot of the configuration that the generated text is, and its lines are the
 -- first n generated ones, of source 0 alone.

@@ -20,7 +20,7 @@ use ha_io::{Sink, Unwritten, write_whole};
 use ha_journal::Entry;
 use ha_model::Record;
 use ha_status::{Status, told};
-use ha_value::Word;
+use ha_value::{Many, Word};
 use ha_whole::CoreFault;
 use rehearsal::{START, rehearse_config};
 use sound_laws::laws::what_is_read_is_sound;
@@ -58,7 +58,15 @@ fn booted<C: Boots>(alloc: Global) -> Result<C, Status>
         Ok(config) => config,
         Err(status) => return Err(status),
     };
-    match C::boot(alloc, text, config, None, Moment::at(START), zone) {
+    match C::boot(
+        alloc,
+        text,
+        config,
+        None,
+        Moment::at(START),
+        zone,
+        Many::make(alloc),
+    ) {
         Ok(core) => Ok(core),
         Err(_) => Err(Status::Memory),
     }

@@ -1,5 +1,5 @@
 -- Names in their byte order are distinct.
-use Rattle.std.proofs.Common.{◌≡◌, ℕ, zero, suc, ◌<◌, ◌≤◌, ◌⊎◌, inl, inr, Bool, true, false, [], ◌∷◌, length, drop, get_or, refl, sym, ◌∙◌, arith}
+use Rattle.std.proofs.Common.{◌≡◌, ℕ, zero, suc, ◌<◌, ◌≤◌, ◌⊎◌, inl, inr, Bool, true, false, List, [], ◌∷◌, length, drop, get_or, refl, sym, ◌∙◌, arith}
 use Rattle.std.proofs.lemmas.Cmp.{same_from_slice_cmp_tested}
 use Rattle.std.specs.Ordering.{nat_cmp, is_lt, is_some_and}
 use Rattle.std.specs.Cmp.Lexicographic.{slice_partial_cmp}
@@ -9,7 +9,7 @@ use Rattle.std.specs.List.{list_any}
 use Rattle.ha_config.specs.Words.{Text, comes_before, same}
 use Rattle.ha_config.specs.ValueFacts.{all_distinct, keys_of}
 use Rattle.ha_config.proofs.EqualLemmas.{same-sound, and_left, and_right}
-use Rattle.ha_replay.specs.Boots.{Switches, are_in_order}
+use Rattle.ha_config.specs.Sound.{are_in_name_order}
 
 below : (a b : ℕ) → nat_lt a b ≡ true → a < b
 below a b h = grind (arith, nat_tests)
@@ -69,26 +69,26 @@ other-than t u h = by (same t u) refl
     by false e = e
 
 -- a name that comes before the first of these
-abbrev FrontAfter : Text → Switches → Type 0
+abbrev FrontAfter : {X : Type 0} → Text → List (Text × X) → Type 0
 FrontAfter t [] = Unit {0}
 FrontAfter t (p ∷ ps) = comes_before t p.0 ≡ true
 
 -- it is none of them, where they stand in order
-not-among : (t : Text) (ps : Switches) → are_in_order ps ≡ true → FrontAfter t ps → list_any (same t) (keys_of ps) ≡ false
+not-among : {X : Type 0} (t : Text) (ps : List (Text × X)) → are_in_name_order ps ≡ true → FrontAfter t ps → list_any (same t) (keys_of ps) ≡ false
 not-among t [] h front = refl
 not-among t (p ∷ []) h front = (λ i. other-than t p.0 front i || false)
 not-among t (p ∷ q ∷ qs) h front =
-    let before = and_left (comes_before p.0 q.0) (are_in_order (q ∷ qs)) h in
-    let rest = not-among t (q ∷ qs) (and_right (comes_before p.0 q.0) (are_in_order (q ∷ qs)) h) (further t p.0 q.0 front before) in
+    let before = and_left (comes_before p.0 q.0) (are_in_name_order (q ∷ qs)) h in
+    let rest = not-among t (q ∷ qs) (and_right (comes_before p.0 q.0) (are_in_name_order (q ∷ qs)) h) (further t p.0 q.0 front before) in
     (λ i. other-than t p.0 front i || rest i)
 
 -- LAW: names in their order are distinct
-pub ordered-distinct : (ps : Switches) → are_in_order ps ≡ true → all_distinct (keys_of ps) ≡ true
+pub ordered-distinct : {X : Type 0} (ps : List (Text × X)) → are_in_name_order ps ≡ true → all_distinct (keys_of ps) ≡ true
 ordered-distinct [] h = refl
 ordered-distinct (p ∷ []) h = refl
 ordered-distinct (p ∷ q ∷ qs) h =
-    let rest = and_right (comes_before p.0 q.0) (are_in_order (q ∷ qs)) h in
-    let none = not-among p.0 (q ∷ qs) rest (and_left (comes_before p.0 q.0) (are_in_order (q ∷ qs)) h) in
+    let rest = and_right (comes_before p.0 q.0) (are_in_name_order (q ∷ qs)) h in
+    let none = not-among p.0 (q ∷ qs) rest (and_left (comes_before p.0 q.0) (are_in_name_order (q ∷ qs)) h) in
     (λ i. not (none i) && ordered-distinct (q ∷ qs) rest i)
 
 -- ---- the tests
@@ -100,20 +100,20 @@ few : (m n : ℕ) → m < n → n ≤ m → ⊥
 few m n lt le = omega (arith, lt, le)
 
 -- from a place on the names stand in order where its two do, and those from the next place on
-in-order-from : (xs : Switches) (k : ℕ) (d : Text × Bool) → suc k < length xs
-    → are_in_order (drop k xs) ≡ (comes_before (get_or xs k d).0 (get_or xs (suc k) d).0 && are_in_order (drop (suc k) xs))
+in-order-from : {X : Type 0} (xs : List (Text × X)) (k : ℕ) (d : Text × X) → suc k < length xs
+    → are_in_name_order (drop k xs) ≡ (comes_before (get_or xs k d).0 (get_or xs (suc k) d).0 && are_in_name_order (drop (suc k) xs))
 in-order-from [] k d lt = absurd (few (suc k) 0 lt (omega arith))
 in-order-from (x ∷ []) zero d lt = absurd (few 1 1 lt (omega arith))
 in-order-from (x ∷ y ∷ ys) zero d lt = refl
 in-order-from (x ∷ xs) (suc k) d lt = in-order-from xs k d (omega (arith, lt))
 
-pub in-order-short : (xs : Switches) (k : ℕ) → length xs ≤ suc k → are_in_order (drop k xs) ≡ true
+pub in-order-short : {X : Type 0} (xs : List (Text × X)) (k : ℕ) → length xs ≤ suc k → are_in_name_order (drop k xs) ≡ true
 in-order-short [] zero le = refl
 in-order-short [] (suc k) le = refl
 in-order-short (x ∷ []) zero le = refl
 in-order-short (x ∷ y ∷ ys) zero le = absurd (few 1 (suc (suc (length ys))) (omega arith) le)
 in-order-short (x ∷ xs) (suc k) le = in-order-short xs k (omega (arith, le))
 
-pub in-order-next : (xs : Switches) (k i : ℕ) (d : Text × Bool) (b : Bool) → i ≡ suc k → i < length xs → comes_before (get_or xs k d).0 (get_or xs i d).0 ≡ b → are_in_order (drop k xs) ≡ (b && are_in_order (drop i xs))
+pub in-order-next : {X : Type 0} (xs : List (Text × X)) (k i : ℕ) (d : Text × X) (b : Bool) → i ≡ suc k → i < length xs → comes_before (get_or xs k d).0 (get_or xs i d).0 ≡ b → are_in_name_order (drop k xs) ≡ (b && are_in_name_order (drop i xs))
 in-order-next xs k i d b e lt is =
-    in-order-from xs k d (omega (arith, e, lt)) ∙ (λ j. comes_before (get_or xs k d).0 (get_or xs (sym e j) d).0 && are_in_order (drop (sym e j) xs)) ∙ (λ j. is j && are_in_order (drop i xs))
+    in-order-from xs k d (omega (arith, e, lt)) ∙ (λ j. comes_before (get_or xs k d).0 (get_or xs (sym e j) d).0 && are_in_name_order (drop (sym e j) xs)) ∙ (λ j. is j && are_in_name_order (drop i xs))

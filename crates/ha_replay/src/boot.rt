@@ -1,17 +1,19 @@
 //! The first line of a trace.
-ghost use Rattle.std.specs.Prelude.{◌≡◌, ◌≤◌, ◌<◌, ◌^◌, ◌↔◌, ◌∷◌, [], IfOk, IfSome, IsTrue, length};
+ghost use Rattle.std.specs.Prelude.{◌≡◌, ◌≤◌, ◌<◌, ◌^◌, ◌↔◌, ◌∷◌, [], IfOk, IfSome, IsTrue, length, true};
 ghost use Rattle.ha_clock.specs.Local.{last_moment};
 ghost use Rattle.ha_config.specs.CheckText.{as_line};
 ghost use Rattle.ha_journal.specs.EntryText.{trace_line as trace_line_lem};
-ghost use Rattle.ha_replay.specs.Boots.{Reads, ReadsFrom, ReadsZone, boot_of, parts_in as parts_in_lem};
+ghost use Rattle.ha_replay.specs.Boots.{Reads, ReadsFrom, ReadsZone, are_in_time, boot_of, parts_in as parts_in_lem};
 
 use crate::fault::TraceFault;
 use crate::same::is_same;
-use crate::stored::{are_stored, moment_under, stored_under, text_under, under};
+use crate::stored::{
+    are_in_order, are_stored, last_under, moment_under, stored_under, text_under, under,
+};
 use flow_line::{FlowFault, read_value};
 use ha_clock::{ClockFault, Moment, Zone};
 use ha_config::Config;
-use ha_journal::{Carry, Entry};
+use ha_journal::{Carry, Entry, copy_moments};
 use ha_texts::{empty_line, trace_line};
 use ha_value::{Many, Plain, Value, Word};
 use std::alloc::{AllocError, Global};
@@ -25,6 +27,8 @@ pub struct BootLine {
     pub stored: Option<Many<(Word, bool)>>,
     pub start: Moment,
     pub zone: Zone,
+    /// When automations last triggered, in the byte order of their names, each once.
+    pub last: Many<(Word, Moment)>,
 }
 
 /// What a value says as the first line, before it is looked at.
@@ -34,6 +38,7 @@ pub struct Parts {
     pub stored: Option<Many<(Word, bool)>>,
     pub start: Moment,
     pub zone: Word,
+    pub last: Many<(Word, Moment)>,
 }
 
 /// The parts that a value names; none where one is missing or of another kind.
@@ -41,6 +46,7 @@ pub struct Parts {
 fn parts_in(alloc: Global, value: &Value) -> Result<Option<Parts>, AllocError>
     ensures parts { IfOk result (λ found. found ≡ parts_in_lem value.now) }
     ensures start { IfOk result (λ found. IfSome found (λ p. p.start ≤ last_moment)) }
+    ensures last { IfOk result (λ found. IfSome found (λ p. are_in_time p.last ≡ true)) }
 {
     let Some(boot) = under(value, "boot") else {
         return Ok(None);
@@ -57,11 +63,15 @@ fn parts_in(alloc: Global, value: &Value) -> Result<Option<Parts>, AllocError>
     let Some(stored) = stored_under(alloc, boot, "stored")? else {
         return Ok(None);
     };
+    let Some(last) = last_under(alloc, boot, "last")? else {
+        return Ok(None);
+    };
     Ok(Some(Parts {
         text: text.copy(alloc)?,
         stored,
         start,
         zone: zone.copy(alloc)?,
+        last,
     }))
 }
 
@@ -85,7 +95,8 @@ fn boot_entries(alloc: Global, parts: &Parts) -> Result<Vec<Entry>, AllocError>
     let text = parts.text.copy(alloc)?;
     let stored = copy_stored(alloc, &parts.stored)?;
     let zone = parts.zone.copy(alloc)?;
-    let carry = Carry::first(alloc)?;
+    let last = copy_moments(alloc, parts.last.as_slice())?;
+    let carry = Carry::first(alloc, last)?;
     let mut entries = Vec::new(alloc);
     entries.push(Entry::Boot {
         text,
@@ -102,7 +113,8 @@ fn boot_entries(alloc: Global, parts: &Parts) -> Result<Vec<Entry>, AllocError>
 
 /// Whether the line is that of a first entry with these parts. A configuration is not in the line.
 fn is_line_of(alloc: Global, parts: &Parts, line: &[u8]) -> Result<bool, AllocError>
-    requires { parts.now.start ≤ last_moment }
+    requires start { parts.now.start ≤ last_moment }
+    requires last { are_in_time parts.now.last ≡ true }
     ensures { IfOk result (λ same. IsTrue same ↔ (as_line line.now ≡ trace_line_lem [] (boot_of parts.now))) }
 {
     let entries = boot_entries(alloc, parts)?;
@@ -126,6 +138,7 @@ fn with_zone(alloc: Global, parts: Parts) -> Result<BootLine, TraceFault>
         stored,
         start,
         zone,
+        last,
     } = parts;
     match Zone::read(alloc, zone.bytes()) {
         Ok(zone) => Ok(BootLine {
@@ -133,13 +146,14 @@ fn with_zone(alloc: Global, parts: Parts) -> Result<BootLine, TraceFault>
             stored,
             start,
             zone,
+            last,
         }),
         Err(ClockFault::Text) => Err(TraceFault::Refused),
         Err(ClockFault::Memory) => Err(TraceFault::Memory),
     }
 }
 
-/// The first line that a value is read as, where the line is printed of its parts and the stored names stand in order.
+/// The first line that a value is read as, where the line is printed of its parts and the names stand in order.
 fn boot_of_value(alloc: Global, value: &Value, line: &[u8]) -> Result<BootLine, TraceFault>
     ensures { ReadsFrom (parts_in_lem value.now) line.now result }
 {
@@ -148,7 +162,7 @@ fn boot_of_value(alloc: Global, value: &Value, line: &[u8]) -> Result<BootLine, 
         Ok(None) => return Err(TraceFault::Refused),
         Err(_) => return Err(TraceFault::Memory),
     };
-    if !are_stored(&parts.stored) {
+    if !are_stored(&parts.stored) || !are_in_order(parts.last.as_slice()) {
         return Err(TraceFault::Refused);
     }
     match is_line_of(alloc, &parts, line) {
@@ -159,7 +173,7 @@ fn boot_of_value(alloc: Global, value: &Value, line: &[u8]) -> Result<BootLine, 
 }
 
 /// Reads the first line of a trace, without its LF. Refused comes exactly where it is none: where it is not the line of a first entry, or
-/// its zone is not read, or its stored names do not stand in byte order, each once. Full never comes.
+/// its zone is not read, or the names of its switches or of its moments do not stand in byte order, each once. Full never comes.
 pub fn read_boot(alloc: Global, line: &[u8]) -> Result<BootLine, TraceFault>
     requires { length line.now < 2 ^ 32 }
     ensures { Reads line.now result }

@@ -1,7 +1,10 @@
 //! The parts of the value of a trace's first line.
-ghost use Rattle.std.specs.Prelude.{◌≡◌, ◌≤◌, IfOk, IfSome, is_some};
+ghost use Rattle.std.specs.Prelude.{◌≡◌, ◌≤◌, IfOk, IfSome, is_some, option_and_then, true};
 ghost use Rattle.std.specs.Option.{option_copied};
+ghost use Rattle.ha_value.specs.declared.value.Value.TheViews.{out-Value};
 ghost use Rattle.ha_clock.specs.Local.{last_moment};
+ghost use Rattle.ha_clock.specs.MomentText.{moment_of};
+ghost use Rattle.ha_config.specs.Sound.{are_in_name_order};
 ghost use Rattle.ha_config.specs.Words.{comes_before as comes_lem, first_pair as first_lem, same};
 ghost use Rattle.ha_replay.specs.Boots as boots;
 
@@ -102,11 +105,11 @@ fn comes_before(left: &Word, right: &Word) -> bool
 }
 
 /// Whether names stand in their byte order, each once.
-fn are_in_order(switches: &[(Word, bool)]) -> bool
-    ensures { result ≡ boots.are_in_order switches.now }
+pub(crate) fn are_in_order<T>(pairs: &[(Word, T)]) -> bool
+    ensures { result ≡ are_in_name_order pairs.now }
 {
-    for i in 1..switches.len() {
-        if !comes_before(&switches[i - 1].0, &switches[i].0) {
+    for i in 1..pairs.len() {
+        if !comes_before(&pairs[i - 1].0, &pairs[i].0) {
             return false;
         }
     }
@@ -120,5 +123,50 @@ pub(crate) fn are_stored(stored: &Option<Many<(Word, bool)>>) -> bool
     match stored {
         Some(switches) => are_in_order(switches.as_slice()),
         None => true,
+    }
+}
+
+/// The moment whose text a value is.
+fn moment_in(value: &Value) -> Option<Moment>
+    ensures value { result ≡ option_and_then moment_of (boots.text_of (out-Value value.now)) }
+    ensures bound { IfSome result (λ at. at ≤ last_moment) }
+{
+    match value {
+        Value::Text(text) => read_moment(text.bytes()),
+        _ => None,
+    }
+}
+
+/// The moments of a map of names and their texts; none where a value is no such text.
+fn moments_of(
+    alloc: Global,
+    pairs: &[(Word, Value)],
+) -> Result<Option<Many<(Word, Moment)>>, AllocError>
+    ensures value { IfOk result (λ found. found ≡ boots.moments_of pairs.now) }
+    ensures bound { IfOk result (λ found. IfSome found (λ last. boots.are_in_time last ≡ true)) }
+{
+    let mut moments = Many::make(alloc);
+    for pair in pairs {
+        let Some(at) = moment_in(&pair.1) else {
+            return Ok(None);
+        };
+        moments.push((pair.0.copy(alloc)?, at))?;
+    }
+    Ok(Some(moments))
+}
+
+/// When automations last triggered, under a key: nothing, or a map of names and moments.
+pub(crate) fn last_under(
+    alloc: Global,
+    value: &Value,
+    key: &str,
+) -> Result<Option<Many<(Word, Moment)>>, AllocError>
+    ensures value { IfOk result (λ found. found ≡ boots.last_under key.now value.now) }
+    ensures bound { IfOk result (λ found. IfSome found (λ last. boots.are_in_time last ≡ true)) }
+{
+    match under(value, key) {
+        None => Ok(Some(Many::make(alloc))),
+        Some(Value::Pairs(pairs)) => moments_of(alloc, pairs.as_slice()),
+        Some(_) => Ok(None),
     }
 }

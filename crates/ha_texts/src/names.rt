@@ -1,12 +1,13 @@
-//! Further parts of a trace's lines: switches, moments, names and lists of them.
-ghost use Rattle.std.specs.Prelude.{◌≡◌, ◌≤◌, ◌++◌, codes, decimal, flat_map, map, OnOk};
+//! Further parts of a trace's lines: switches, moments, names, and lists and maps of them.
+ghost use Rattle.std.specs.Prelude.{◌≡◌, ◌≤◌, ◌++◌, codes, decimal, flat_map, map, nat_le, true, OnOk};
+ghost use Rattle.std.specs.List.{list_all};
 ghost use Rattle.std.specs.Str.{IsAscii};
 ghost use Rattle.ha_clock.specs.Local.{last_moment};
 ghost use Rattle.ha_clock.specs.Print.{moment_text};
 ghost use Rattle.ha_config.specs.CommandText.{automation_text, line_code};
 ghost use Rattle.ha_sight.specs.ItemText.{failure_code};
 ghost use Rattle.ha_config.specs.Names.{name_of};
-ghost use Rattle.ha_config.specs.StoreText.{switches_text};
+ghost use Rattle.ha_config.specs.StoreText.{moments_text, switches_text};
 ghost use Rattle.ha_config.specs.ValueText.{escaped_byte, flag_text, list_text, quoted};
 
 use crate::parts::push_number;
@@ -117,6 +118,26 @@ pub(crate) fn push_switches(text: &mut Word, switches: &[(Word, bool)]) -> Resul
         push_quoted(text, pair.0.as_str())?;
         text.push_byte(b':')?;
         push_flag(text, pair.1)?;
+    }
+    text.push_byte(b'}')
+}
+
+/// Appends a map of names and moments.
+pub(crate) fn push_moments(
+    alloc: Global,
+    text: &mut Word,
+    moments: &[(Word, Moment)],
+) -> Result<(), AllocError>
+    requires { list_all (λ p. nat_le p.1 last_moment) moments.now ≡ true }
+    ensures { OnOk result (text.new ≡ text.old ++ moments_text moments.now) }
+{
+    text.push_byte(b'{')?;
+    for i in 0..moments.len() {
+        push_comma(text, i)?;
+        let pair = &moments[i];
+        push_quoted(text, pair.0.as_str())?;
+        text.push_byte(b':')?;
+        push_moment(alloc, text, pair.1)?;
     }
     text.push_byte(b'}')
 }

@@ -1,17 +1,17 @@
 //! The line of an entry in the trace.
-ghost use Rattle.std.specs.Prelude.{◌≡◌, ◌≤◌, ◌∷◌, [], ◌++◌, OnOk, codes, decimal, map};
+ghost use Rattle.std.specs.Prelude.{◌≡◌, ◌≤◌, ◌∷◌, [], ◌++◌, OnOk, codes, decimal, map, nat_le, true};
+ghost use Rattle.std.specs.List.{list_all};
 ghost use Rattle.ha_clock.specs.Local.{last_moment};
-ghost use Rattle.ha_clock.specs.Print.{moment_text};
 ghost use Rattle.ha_config.specs.CommandText.{cmd_text, one_key};
 ghost use Rattle.ha_sight.specs.ItemText.{item_text};
 ghost use Rattle.ha_config.specs.StoreText.{stored_text};
-ghost use Rattle.ha_journal.specs.EntryText.{trace_line as trace_line_lem};
-ghost use Rattle.ha_config.specs.ValueText.{list_text, map_text, quoted};
-ghost use Rattle.ha_texts.specs.Lines.{entry_text, AreDated, IsDated};
+ghost use Rattle.ha_journal.specs.EntryText.{boot_pairs, trace_line as trace_line_lem};
+ghost use Rattle.ha_config.specs.ValueText.{list_text, map_text};
+ghost use Rattle.ha_texts.specs.Lines.{entry_text, last_part, AreDated, IsDated};
 
 use crate::command::push_cmd;
 use crate::item::push_item;
-use crate::names::{push_moment, push_numbers, push_switches};
+use crate::names::{push_moment, push_moments, push_numbers, push_switches};
 use crate::parts::push_number;
 use flow_line::push_quoted;
 use ha_clock::Moment;
@@ -31,22 +31,38 @@ fn push_stored(text: &mut Word, stored: &Option<Many<(Word, bool)>>) -> Result<(
     }
 }
 
+/// Appends when automations last triggered, where one has.
+fn push_last(alloc: Global, text: &mut Word, last: &[(Word, Moment)]) -> Result<(), AllocError>
+    requires { list_all (λ p. nat_le p.1 last_moment) last.now ≡ true }
+    ensures { OnOk result (text.new ≡ text.old ++ last_part last.now) }
+{
+    if last.is_empty() {
+        return Ok(());
+    }
+    text.push_str(",\"last\":")?;
+    push_moments(alloc, text, last)?;
+    Ok(())
+}
+
 fn push_boot(
     alloc: Global,
     text: &mut Word,
     config: &Word,
     stored: &Option<Many<(Word, bool)>>,
+    last: &[(Word, Moment)],
     start: Moment,
     zone: &Word,
 ) -> Result<(), AllocError>
-    requires { start ≤ last_moment }
-    ensures { OnOk result (text.new ≡ text.old ++ one_key (codes "boot") (map_text ((codes "config", quoted config.now) ∷ (codes "stored", stored_text stored.now) ∷ (codes "start", quoted (moment_text start)) ∷ (codes "zone", quoted zone.now) ∷ []))) }
+    requires start { start ≤ last_moment }
+    requires last { list_all (λ p. nat_le p.1 last_moment) last.now ≡ true }
+    ensures { OnOk result (text.new ≡ text.old ++ one_key (codes "boot") (map_text (boot_pairs config.now stored.now last.now start zone.now))) }
 {
     text.push_str("{\"boot\":")?;
     text.push_str("{\"config\":")?;
     push_quoted(text, config.as_str())?;
     text.push_str(",\"stored\":")?;
     push_stored(text, stored)?;
+    push_last(alloc, text, last)?;
     text.push_str(",\"start\":")?;
     push_moment(alloc, text, start)?;
     text.push_str(",\"zone\":")?;
@@ -124,8 +140,17 @@ fn push_entry(
             stored,
             start,
             zone,
+            carry,
             ..
-        } => push_boot(alloc, text, config, stored, *start, zone),
+        } => push_boot(
+            alloc,
+            text,
+            config,
+            stored,
+            carry.get().last.as_slice(),
+            *start,
+            zone,
+        ),
         Entry::Line {
             source,
             number,

@@ -6,7 +6,7 @@ use Rattle.ha_io.specs.declared.place.Opening.{Opening}
 use Rattle.ha_config.specs.declared.config.Config.{Config}
 use Rattle.ha_journal.specs.declared.entry.Entry.{Entry}
 use Rattle.ha_config.specs.Words.{Text}
-use Rattle.store_text.specs.Store.{Switches}
+use Rattle.store_text.specs.Store.{Moments, Switches}
 use Rattle.ha_status.specs.declared.status.Status.{Status}
 use Rattle.ha_status.specs.Causes.{KeepCause, OpenCause, ReadCause, WriteCause}
 use Rattle.ha_status.specs.Files.{Files, HoldsText, IsTextFault}
@@ -20,7 +20,7 @@ use Rattle.conf_auto.specs.Config.{config_of}
 use Rattle.ha_check.specs.Configured.{RefusedCause}
 use Rattle.ha_top.specs.Views.{After, Before}
 use Rattle.ha_top.specs.Written.{AreTheSame}
-use Rattle.ha_top.specs.Answered.{AreStored, IsBooted, IsStore, IsStoreFault, IsTaken, IsTraceOf, RunOpenCause, StoreCause, WriteFailed, WriteTookNone, scene}
+use Rattle.ha_top.specs.Answered.{IsBooted, IsStore, IsStored, IsStoreFault, IsTaken, IsTraceOf, RunOpenCause, StoreCause, WriteFailed, WriteTookNone, scene}
 use Rattle.ha_top.specs.Lived.{Lived, Untouched, unlined}
 use Rattle.ha_status.proofs.CauseLemmas.{unopened_within}
 
@@ -54,9 +54,9 @@ pub config_taken : (files : Option Files) (name text : Text) (config : Config) (
 config_taken None name text config P held read = tt
 config_taken (Some f) name text config P held read = λ never. absurd (never (taken_of f name text config held read))
 
-pub store_taken : (kept : Option (Option Text)) (stored : Option Switches) (P : Type 0) → IfSome kept (λ k. AreStored k stored) → IfSome kept (λ k. (IsStore k → ⊥) → P)
-store_taken None stored P h = tt
-store_taken (Some k) stored P h = λ never. absurd (never (stored, h))
+pub store_taken : (kept : Option (Option Text)) (stored : Option Switches) (last : Moments) (P : Type 0) → IfSome kept (λ k. IsStored k stored last) → IfSome kept (λ k. (IsStore k → ⊥) → P)
+store_taken None stored last P h = tt
+store_taken (Some k) stored last P h = λ never. absurd (never (stored, last, h))
 
 -- ---- a source or the trace was not opened
 
@@ -128,17 +128,17 @@ module _ (words : RunWords) (b : Before) (a : After) (e : IsEarly b a) where
   untraced = no_trace_yet words.trace a.journal a.trace e.no_entry e.untouched.no_trace
 
   -- a source or the trace was not opened, or memory ran out before the boot
-  pub lived_open : (text : Text) (config : Config) (stored : Option Switches) → HoldsText b.place.files words.config text → config_of text ≡ Ok config
-      → IfSome b.keep.kept (λ kept. AreStored kept stored) → IsOpenFault a.status
+  pub lived_open : (text : Text) (config : Config) (stored : Option Switches) (last : Moments) → HoldsText b.place.files words.config text → config_of text ≡ Ok config
+      → IfSome b.keep.kept (λ kept. IsStored kept stored last) → IsOpenFault a.status
       → RunOpenCause words b.place.faults a.place.faults a.place.last a.status → AreOpened words.sources a.sources → Lived words b a
-  lived_open text config stored held read kept fault unopened opened = record {
+  lived_open text config stored last held read kept fault unopened opened = record {
     stands = open_cases Stood a.status fault (λ name. (e.untouched, there)) (inl (e.untouched, inl there));
     traced = untraced;
     same = same_of b a e;
     refused = open_cases (λ s. RefusedCause b.place.files words.config s) a.status fault (λ name. tt) tt;
     config_first = config_taken b.place.files words.config text config (IsTextFault words.config a.status) held read;
     store_refused = open_cases (λ s. StoreCause b.keep.kept s) a.status fault (λ name. tt) tt;
-    store_next = store_taken b.keep.kept stored (IsTextFault words.config a.status ⊎ IsStoreFault a.status) kept;
+    store_next = store_taken b.keep.kept stored last (IsTextFault words.config a.status ⊎ IsStoreFault a.status) kept;
     unopened = unopened;
     unread = open_cases (λ s. ReadCause words.config words.sources Counts Names s) a.status fault (λ name. tt) tt;
     unwritten = open_cases (λ s. WriteCause (WriteFailed b a) (WriteTookNone b a) s) a.status fault (λ name. tt) tt;

@@ -6,10 +6,11 @@ use Rattle.ha_config.specs.declared.config.Config.{Config}
 use Rattle.ha_journal.specs.declared.entry.Entry.{Entry}
 use Rattle.ha_journal.specs.declared.entry.Entry.TheVariants.{Boot}
 use Rattle.ha_journal.specs.Entries.{first_carry}
-use Rattle.ha_config.specs.Sound.{IsSoundStore}
+use Rattle.ha_config.specs.Names.{of_automations}
+use Rattle.ha_config.specs.Sound.{AreSoundMoments, IsSoundStore}
 use Rattle.ha_config.specs.Words.{Text}
 use Rattle.ha_model.specs.Records.{Records}
-use Rattle.store_text.specs.Store.{Switches}
+use Rattle.store_text.specs.Store.{Moments, Switches}
 use Rattle.ha_status.specs.declared.status.Status.{Status}
 use Rattle.ha_status.specs.Causes.{IsUnread, KeepCause, ReadCause, WriteCause}
 use Rattle.ha_status.specs.Files.{Files, HoldsText, IsTextFault}
@@ -30,7 +31,7 @@ use Rattle.conf_auto.specs.Config.{config_of}
 use Rattle.ha_check.specs.Configured.{RefusedCause}
 use Rattle.ha_top.specs.Views.{After, Before}
 use Rattle.ha_top.specs.Written.{handed, seen}
-use Rattle.ha_top.specs.Answered.{AreStored, IsBooted, IsNamedTrace, IsStoreFault, IsTraceOf, RunOpenCause, StopsAt, StoreCause, WriteFailed, WriteTookNone, scene}
+use Rattle.ha_top.specs.Answered.{IsBooted, IsNamedTrace, IsStored, IsStoreFault, IsTraceOf, RunOpenCause, StopsAt, StoreCause, WriteFailed, WriteTookNone, scene}
 use Rattle.ha_top.specs.Booted.{RanOrNot}
 use Rattle.ha_top.specs.Opening.{IsOpenFault}
 use Rattle.ha_top.specs.Lived.{Lived, unlined}
@@ -177,11 +178,11 @@ kept_above o (inr (inr (inr h))) = h
 
 -- ---- a run
 
-module _ (words : RunWords) (b : Before) (a : After) (keep : KeeperState) (text : Text) (config : Config) (stored : Option Switches) (opened : List SourceState) (trace : Option SinkState)
-    (new : IsNew b) (held : HoldsText b.place.files words.config text) (read : config_of text ≡ Ok config) (kept : IfSome b.keep.kept (λ k. AreStored k stored))
-    (sound : IsSoundStore stored) (runnable : IsRunnable words) (new_sources : AreNew b.place.files words.sources opened) (named : IsNamedTrace words.trace trace) (same_kept : keep.kept ≡ b.keep.kept) where
+module _ (words : RunWords) (b : Before) (a : After) (keep : KeeperState) (text : Text) (config : Config) (stored : Option Switches) (last : Moments) (opened : List SourceState) (trace : Option SinkState)
+    (new : IsNew b) (held : HoldsText b.place.files words.config text) (read : config_of text ≡ Ok config) (kept : IfSome b.keep.kept (λ k. IsStored k stored last))
+    (sound : IsSoundStore stored) (sound_last : AreSoundMoments last) (runnable : IsRunnable words) (new_sources : AreNew b.place.files words.sources opened) (named : IsNamedTrace words.trace trace) (same_kept : keep.kept ≡ b.keep.kept) where
   abbrev boot : Entry
-  boot = Boot text config stored words.start words.zone first_carry
+  boot = Boot text config stored words.start words.zone (first_carry (of_automations config.automations last))
 
   abbrev old : Outside
   old = outside b.out b.err trace keep
@@ -201,11 +202,13 @@ module _ (words : RunWords) (b : Before) (a : After) (keep : KeeperState) (text 
       text = text;
       config = config;
       stored = stored;
+      last = last;
       later = h.0;
       text_is = held;
       config_is = read;
       stored_is = kept;
       stored_is_sound = sound;
+      last_is_sound = sound_last;
       runnable = runnable;
       boots = h.1;
     }
@@ -244,7 +247,7 @@ module _ (words : RunWords) (b : Before) (a : After) (keep : KeeperState) (text 
       refused = free (λ z. RefusedCause b.place.files words.config z) (λ z. tt) tt (λ k. tt) tt tt tt (λ k. tt);
       config_first = config_taken b.place.files words.config text config (IsTextFault words.config a.status) held read;
       store_refused = free (λ z. StoreCause b.keep.kept z) (λ z. tt) tt (λ k. tt) tt tt tt (λ k. tt);
-      store_next = store_taken b.keep.kept stored (IsTextFault words.config a.status ⊎ IsStoreFault a.status) kept;
+      store_next = store_taken b.keep.kept stored last (IsTextFault words.config a.status ⊎ IsStoreFault a.status) kept;
       unopened = free (λ z. RunOpenCause words b.place.faults a.place.faults a.place.last z) (λ z. tt) tt (λ k. tt) tt tt tt (λ k. tt);
       unread = by_status (λ z. ReadCause words.config words.sources (counts a.sources) (names_of a.sources) z) (λ z. tt) tt
           (λ k feeds h f. lost_source b.place.files a.journal 0 k words.sources a.sources feeds h f) tt tt tt (λ k. tt);
@@ -270,6 +273,6 @@ module _ (words : RunWords) (b : Before) (a : After) (keep : KeeperState) (text 
         no_record = u.no_record;
         faults = subst (λ (k : KeeperState). b.keep.faults ≤ k.faults) (sym same_keep) stay;
       })
-      text config stored held read kept (subst IsOpenFault (sym u.status_is) tt)
+      text config stored last held read kept (subst IsOpenFault (sym u.status_is) tt)
       (subst (λ z. RunOpenCause words b.place.faults a.place.faults a.place.last z) (sym u.status_is) tt)
       (opened_all b.place.files words.sources a.sources (subst (λ z. AreNew b.place.files words.sources z) (sym u.handed_back) new_sources))

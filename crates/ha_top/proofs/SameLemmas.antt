@@ -1,5 +1,5 @@
 -- That the sinks are those that were handed in: what they tell is told as before.
-use Rattle.std.proofs.Common.{◌≡◌, ◌⊎◌, inl, inr, ◌∙◌, List, Option, Some, None, ap}
+use Rattle.std.proofs.Common.{◌≡◌, inl, inr, ◌∙◌, List, Option, ap}
 use Rattle.std.specs.Prelude.{is_some}
 use Rattle.ha_io.specs.Told.{Takes}
 use Rattle.ha_config.specs.Words.{Text}

@@ -1,6 +1,5 @@
 -- What was opened where a run did not come to its boot.
-use Rattle.std.proofs.Common.{◌≡◌, ◌⊎◌, inl, inr, List, [], ◌∷◌, ◌++◌, map, Option, Some, None, ap, sym, subst, true}
-use Rattle.std.specs.Prelude.{IfSome}
+use Rattle.std.proofs.Common.{◌≡◌, inl, inr, List, [], ◌∷◌, ◌++◌, map, Option, Some, None, ap, sym, subst, true}
 use Rattle.ha_io.specs.declared.place.Opening.{Opening}
 use Rattle.ha_io.specs.Told.{Call, and_asked}
 use Rattle.ha_io.proofs.AskedLemmas.{asked_then}

@@ -4,7 +4,7 @@ use Rattle.std.specs.Prelude.{IfErr, IfSome, Result, Ok, Err}
 use Rattle.ha_config.specs.Words.{Text}
 use Rattle.ha_status.specs.declared.status.Status.{Status}
 use Rattle.ha_top.specs.Answered.{StoreCause}
-use Rattle.ha_top.specs.Opening.{IsSwitchesFault}
+use Rattle.ha_top.specs.Opening.{IsTextRefused}
 
 pub if_err : {X E : Type 0} (P Q : E → Type 0) (r : Result X E) → ((e : E) → P e → Q e) → IfErr r P → IfErr r Q
 if_err P Q (Ok x) f h = tt
@@ -14,7 +14,7 @@ holds : (told : Option (Option Text)) (items sliced : Text) → IfSome told (λ 
 holds None items sliced h e = tt
 holds (Some kept) items sliced h e = sym h ∙ ap (λ (z : Text). Some z) (sym e)
 
-pub store_refusal : (told : Option (Option Text)) (items sliced : Text) → IfSome told (λ kept. Some items ≡ kept) → sliced ≡ items → (s : Status) → IsSwitchesFault sliced s → StoreCause told s
+pub store_refusal : (told : Option (Option Text)) (items sliced : Text) → IfSome told (λ kept. Some items ≡ kept) → sliced ≡ items → (s : Status) → IsTextRefused sliced s → StoreCause told s
 store_refusal told items sliced h e (Status.StoreRefused code) f = (sliced, holds told items sliced h e, f)
 store_refusal told items sliced h e Status.Ok f = tt
 store_refusal told items sliced h e Status.Usage f = tt

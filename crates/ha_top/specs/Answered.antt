@@ -8,9 +8,11 @@ use Rattle.ha_config.specs.declared.config.Config.{Config}
 use Rattle.ha_journal.specs.declared.entry.Entry.{Entry}
 use Rattle.ha_journal.specs.declared.entry.Entry.TheVariants.{Boot}
 use Rattle.ha_journal.specs.Entries.{first_carry}
-use Rattle.ha_config.specs.Sound.{IsSoundStore}
+use Rattle.ha_config.specs.Names.{of_automations}
+use Rattle.ha_config.specs.Sound.{AreSoundMoments, IsSoundStore}
 use Rattle.ha_config.specs.Words.{Text}
-use Rattle.store_text.specs.Store.{Switches, switches_in}
+use Rattle.store_text.specs.declared.stored.Stored.{Stored}
+use Rattle.store_text.specs.Store.{Moments, Switches, stored_in}
 use Rattle.ha_status.specs.declared.status.Status.{Status}
 use Rattle.ha_status.specs.Causes.{IsUnopened, KeepCause, OneRose, ReadCause, WriteCause}
 use Rattle.ha_status.specs.Files.{Files, HoldsText, IsTextFault}
@@ -28,25 +30,28 @@ use Rattle.ha_top.specs.Written.{AreTheSame, written}
 
 -- ---- the boot
 
--- the switches of what the keeper holds: none where it holds nothing, else those of its text
-abbrev pub AreStored : Option Text → Option Switches → Type 0
-AreStored None stored = stored ≡ None
-AreStored (Some text) stored = (switches : Switches) × (switches_in text ≡ Ok switches) × (stored ≡ Some switches)
+-- the switches, and when automations last triggered, of what the keeper holds: none where it holds nothing, else those of its text
+abbrev pub IsStored : Option Text → Option Switches → Moments → Type 0
+IsStored None stored last = (stored ≡ None) × (last ≡ [])
+IsStored (Some text) stored last = (kept : Stored) × (stored_in text ≡ Ok kept) × (stored ≡ Some kept.switches) × (last ≡ kept.last)
 
--- the journal begins with the Boot of the bytes that the place holds under the configuration's name, the configuration of these bytes, the
--- switches that the keeper held, the start and the zone. The names of the switches are in UTF-8 and in byte order, each once, and the words
--- are as every plan of `run` has them: the start is a moment, and the zone is one, in UTF-8.
+-- The journal begins with the Boot of the bytes that the place holds under the configuration's name, the configuration of these bytes, the
+-- switches that the keeper held, the start and the zone. It takes over when automations last triggered, as the keeper held it, of names that
+-- automations have. The names are in UTF-8 and in byte order, each once, and the words are as every plan of `run` has them: the start is a
+-- moment, and the zone is one, in UTF-8.
 pub record IsBooted (words : RunWords) (b : Before) (journal : List Entry) : Type 0 where
   pub text : Text
   pub config : Config
   pub stored : Option Switches
+  pub last : Moments
   pub later : List Entry
   pub text_is : HoldsText b.place.files words.config text
   pub config_is : config_of text ≡ Ok config
-  pub stored_is : IfSome b.keep.kept (λ kept. AreStored kept stored)
+  pub stored_is : IfSome b.keep.kept (λ kept. IsStored kept stored last)
   pub stored_is_sound : IsSoundStore stored
+  pub last_is_sound : AreSoundMoments last
   pub runnable : IsRunnable words
-  pub boots : journal ≡ Boot text config stored words.start words.zone first_carry ∷ later
+  pub boots : journal ≡ Boot text config stored words.start words.zone (first_carry (of_automations config.automations last)) ∷ later
 
 abbrev pub scene : RunWords → Before → After → Scene
 scene words b a = record { files = b.place.files; names = words.sources; journal = a.journal; records = a.records; sources = a.sources }
@@ -62,7 +67,7 @@ IsStoreFault _ = ⊥
 
 -- a store is refused with the code of a text, which is what the keeper holds, where it tells
 abbrev pub StoreCause : Option (Option Text) → Status → Type 0
-StoreCause told (Status.StoreRefused code) = (text : Text) × IfSome told (λ kept. kept ≡ Some text) × (switches_in text ≡ Err code)
+StoreCause told (Status.StoreRefused code) = (text : Text) × IfSome told (λ kept. kept ≡ Some text) × (stored_in text ≡ Err code)
 StoreCause told status = Unit {0}
 
 -- the file has a configuration
@@ -71,7 +76,7 @@ IsTaken file = IsSomeAnd file (λ text. IsOk (config_of text))
 
 -- the keeper holds nothing, or a store's text
 abbrev pub IsStore : Option Text → Type 0
-IsStore kept = (stored : Option Switches) × AreStored kept stored
+IsStore kept = (stored : Option Switches) × (last : Moments) × IsStored kept stored last
 
 -- ---- what a place is asked for
 

@@ -2,7 +2,7 @@
 use Rattle.std.specs.Prelude.{ℕ, ◌≡◌, List, [], ◌∷◌, ◌++◌, map, Option, None, Some, Err}
 use Rattle.ha_io.specs.declared.place.Opening.{Opening}
 use Rattle.ha_io.specs.Told.{Call, and_asked}
-use Rattle.store_text.specs.Store.{switches_in}
+use Rattle.store_text.specs.Store.{stored_in}
 use Rattle.ha_config.specs.Words.{Text}
 use Rattle.ha_status.specs.declared.status.Status.{Status}
 use Rattle.ha_status.specs.Causes.{IsUnopened}
@@ -46,6 +46,6 @@ OpensAs files names sources None = AreNew files names sources
 OpensAs files names sources (Some status) = AreOpened names sources
 
 -- the answers where a store's text was not taken
-abbrev pub IsSwitchesFault : Text → Status → Type 0
-IsSwitchesFault text (Status.StoreRefused code) = switches_in text ≡ Err code
-IsSwitchesFault text status = Unit {0}
+abbrev pub IsTextRefused : Text → Status → Type 0
+IsTextRefused text (Status.StoreRefused code) = stored_in text ≡ Err code
+IsTextRefused text status = Unit {0}

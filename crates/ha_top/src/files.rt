@@ -4,7 +4,8 @@ ghost use Rattle.ha_clock.specs.Local.{last_moment};
 ghost use Rattle.ha_clock.specs.Zone.{zone_of};
 ghost use Rattle.ha_journal.specs.declared.entry.Entry.TheVariants.{Boot};
 ghost use Rattle.ha_journal.specs.Entries.{first_carry};
-ghost use Rattle.ha_config.specs.Sound.{IsSoundConfig};
+ghost use Rattle.ha_config.specs.Names.{of_automations};
+ghost use Rattle.ha_config.specs.Sound.{AreSoundMoments, IsSoundConfig};
 ghost use Rattle.bus_turn.specs.States.{keeper_of, outside_of, sink_of};
 ghost use Rattle.ha_worker.specs.Courses.{source_of};
 ghost use Rattle.ha_run.specs.Core.{IsHandedOn};
@@ -15,7 +16,7 @@ ghost use Rattle.ha_top.specs.Unready.{GivesBack};
 ghost use Rattle.ha_top.specs.Views.{after_run, before_run, place_state};
 
 use crate::outcome::Outcome;
-use crate::prepare::{Opened, load_store, open_sources, open_trace};
+use crate::prepare::{Opened, Taken, load_store, open_sources, open_trace};
 use ha_boot::Boots;
 use ha_check::{Configured, read_config_at};
 use ha_config::Config;
@@ -82,7 +83,7 @@ fn run_booted<R: Threads + Wait + Sync, E: Boots, P: Place, Q: Keeper, G: Gate>(
     words: &RunWords,
     text: Word,
     config: Config,
-    stored: Option<Many<(Word, bool)>>,
+    taken: Taken,
     sources: Many<P::Source>,
     out: P::Sink,
     err: P::Sink,
@@ -96,19 +97,21 @@ fn run_booted<R: Threads + Wait + Sync, E: Boots, P: Place, Q: Keeper, G: Gate>(
     requires zone_is_text { IsUtf8 words.now.zone }
     requires some { 0 < length sources }
     requires few { length sources ≤ 16 }
+    requires last { AreSoundMoments taken.last }
     requires no_calls { IfSome (P.Sink.written out) (λ t. t ≡ []) }
     requires no_errors { IfSome (P.Sink.written err) (λ t. t ≡ []) }
     requires no_trace { IfSome trace (λ sink. IfSome (P.Sink.written sink) (λ t. t ≡ [])) }
     ensures handed { IsHandedOn (option_map P.Sink.kept result.trace) result.status }
     ensures ran { let s = sink_of P.Sink.written P.Sink.faults P.Sink.zeros P.Sink.name in
         let q = keeper_of Q.kept Q.faults in
-        RanOrNot (Boot text config stored words.now.start words.now.zone first_carry) (outside_of s q out err trace keep) (map (source_of P.Source.faults P.Source.left P.Source.name) sources)
+        RanOrNot (Boot text config taken.switches words.now.start words.now.zone (first_carry (of_automations config.automations taken.last))) (outside_of s q out err trace keep) (map (source_of P.Source.faults P.Source.left P.Source.name) sources)
         result.status result.journal result.records (map (source_of P.Source.faults P.Source.left P.Source.name) result.sources) (outside_of s q result.out result.err result.trace result.keep) }
 {
     let Ok(zone) = Word::from_bytes(alloc, words.zone.text()) else {
         return unbooted(alloc, Status::Memory, sources, out, err, keep);
     };
-    let Ok(core) = E::boot(alloc, text, config, stored, words.start, zone) else {
+    let Taken { switches, last } = taken;
+    let Ok(core) = E::boot(alloc, text, config, switches, words.start, zone, last) else {
         return unbooted(alloc, Status::Memory, sources, out, err, keep);
     };
     let CoreRun {
@@ -176,8 +179,8 @@ pub(crate) fn run_files<R: Threads + Wait + Sync, E: Boots, P: Place, Q: Keeper,
             return unbooted(alloc, status, sources, out, err, keep);
         }
     };
-    let stored = match load_store(alloc, &mut keep) {
-        Ok(stored) => stored,
+    let taken = match load_store(alloc, &mut keep) {
+        Ok(taken) => taken,
         Err(status) => return unbooted(alloc, status, Many::make(alloc), out, err, keep),
     };
     let Opened { sources, fault } = open_sources(
@@ -194,6 +197,6 @@ pub(crate) fn run_files<R: Threads + Wait + Sync, E: Boots, P: Place, Q: Keeper,
         Err(status) => return unbooted(alloc, status, sources, out, err, keep),
     };
     run_booted::<R, E, P, Q, G>(
-        rt, alloc, words, text, config, stored, sources, out, err, trace, keep, gate,
+        rt, alloc, words, text, config, taken, sources, out, err, trace, keep, gate,
     )
 }

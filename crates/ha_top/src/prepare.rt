@@ -1,44 +1,54 @@
-//! What a run needs before it boots: the stored switches, its sources, and the sink of its trace.
+//! What a run needs before it boots: what the store keeps, its sources, and the sink of its trace.
 ghost use Rattle.std.specs.Prelude.{◌≡◌, ◌≤◌, ◌++◌, ◌∷◌, [], ◌⊎◌, IfOk, IfErr, IfSome, List, is_none, is_ok, map, option_map, option_to_list};
 ghost use Rattle.ha_io.specs.declared.place.Opening.{Opening};
 ghost use Rattle.ha_io.specs.Told.{AreAsked};
-ghost use Rattle.ha_config.specs.Sound.{IsSoundStore};
+ghost use Rattle.ha_config.specs.Sound.{AreSoundMoments, IsSoundStore};
 ghost use Rattle.ha_config.specs.Words.{Text};
 ghost use Rattle.ha_status.specs.Causes.{KeepCause, OpenCause};
 ghost use Rattle.bus_turn.specs.States.{sink_of};
 ghost use Rattle.ha_worker.specs.Courses.{source_of};
 ghost use Rattle.ha_run.specs.Opened.{AreNew, IsOpened};
-ghost use Rattle.ha_top.specs.Answered.{AreStored, IsNamedTrace, IsStoreFault, StoreCause};
-ghost use Rattle.ha_top.specs.Opening.{IsOpenFault, IsSwitchesFault, OpensAs, StoppedAmong, StoppedAt, StoppedAtTrace, TraceOpenCause};
+ghost use Rattle.ha_top.specs.Answered.{IsNamedTrace, IsStored, IsStoreFault, StoreCause};
+ghost use Rattle.ha_top.specs.Opening.{IsOpenFault, IsTextRefused, OpensAs, StoppedAmong, StoppedAt, StoppedAtTrace, TraceOpenCause};
 
+use ha_clock::Moment;
 use ha_io::{IoFault, Keeper, Place, Source};
 use ha_status::Status;
 use ha_value::{Many, Word};
 use std::alloc::Global;
-use store_text::{StoreFault, read_store};
+use store_text::{StoreFault, Stored, read_store};
 
-/// The switches of a store's text, in byte order of their names, each once.
-fn read_switches(alloc: Global, text: &[u8]) -> Result<Option<Many<(Word, bool)>>, Status>
-    ensures ok { IfOk result (λ stored. AreStored (Some text.now) stored) }
-    ensures sound { IfOk result IsSoundStore }
+/// What is taken over from the store: the switches, where there is one, and when automations last triggered, the names of each in byte order.
+#[derive(Drop)]
+pub(crate) struct Taken {
+    pub(crate) switches: Option<Many<(Word, bool)>>,
+    pub(crate) last: Many<(Word, Moment)>,
+}
+
+/// What a store's text keeps.
+fn read_text(alloc: Global, text: &[u8]) -> Result<Taken, Status>
+    ensures ok { IfOk result (λ taken. IsStored (Some text.now) taken.switches taken.last) }
+    ensures sound { IfOk result (λ taken. IsSoundStore taken.switches) }
+    ensures last { IfOk result (λ taken. AreSoundMoments taken.last) }
     ensures fault { IfErr result IsStoreFault }
-    ensures refused { IfErr result (IsSwitchesFault text.now) }
+    ensures refused { IfErr result (IsTextRefused text.now) }
     ensures not_kept { IfErr result (λ status. status ≡ Status.KeepFault → ⊥) }
 {
     match read_store(alloc, text) {
-        Ok(switches) => Ok(Some(switches)),
+        Ok(Stored { switches, last }) => Ok(Taken {
+            switches: Some(switches),
+            last,
+        }),
         Err(StoreFault::Refused(code)) => Err(Status::StoreRefused { code }),
         Err(StoreFault::Memory) => Err(Status::Memory),
     }
 }
 
-/// Loads the store and reads its switches; none where nothing is kept.
-pub(crate) fn load_store<Q: Keeper>(
-    alloc: Global,
-    keep: &mut Q,
-) -> Result<Option<Many<(Word, bool)>>, Status>
-    ensures ok { IfOk result (λ stored. IfSome (Q.kept keep.old) (λ kept. AreStored kept stored)) }
-    ensures sound { IfOk result IsSoundStore }
+/// Loads the store and reads it; nothing is taken over where nothing is kept.
+pub(crate) fn load_store<Q: Keeper>(alloc: Global, keep: &mut Q) -> Result<Taken, Status>
+    ensures ok { IfOk result (λ taken. IfSome (Q.kept keep.old) (λ kept. IsStored kept taken.switches taken.last)) }
+    ensures sound { IfOk result (λ taken. IsSoundStore taken.switches) }
+    ensures last { IfOk result (λ taken. AreSoundMoments taken.last) }
     ensures fault { IfErr result IsStoreFault }
     ensures refused { IfErr result (StoreCause (Q.kept keep.old)) }
     ensures cause { IfErr result (KeepCause (Q.faults keep.old) (Q.faults keep.new)) }
@@ -46,8 +56,11 @@ pub(crate) fn load_store<Q: Keeper>(
     ensures never_falls { Q.faults keep.old ≤ Q.faults keep.new }
 {
     match keep.load(alloc) {
-        Ok(Some(text)) => read_switches(alloc, text.as_slice()),
-        Ok(None) => Ok(None),
+        Ok(Some(text)) => read_text(alloc, text.as_slice()),
+        Ok(None) => Ok(Taken {
+            switches: None,
+            last: Many::make(alloc),
+        }),
         Err(IoFault::Failed) => Err(Status::KeepFault),
         Err(IoFault::Memory) => Err(Status::Memory),
     }

@@ -1,6 +1,6 @@
 -- A whole journal: its records, which journals are right and which are lawful, by what its segments are, each read alone.
-use Rattle.std.specs.Prelude.{ℕ, suc, ◌+◌, ◌-◌, ◌≡◌, ◌<◌, ◌≤◌, ◌⊎◌, Bool, true, false, not, ◌||◌, nat_eq, List, [], ◌∷◌, ◌++◌, length, take, drop, replicate}
-use Rattle.std.specs.Prelude.{map, filter, filter_map, count_by, Option, Some, option_map, is_some, if◌then◌else◌}
+use Rattle.std.specs.Prelude.{ℕ, suc, ◌+◌, ◌-◌, ◌≡◌, ◌<◌, ◌≤◌, ◌⊎◌, Bool, true, false, not, ◌&&◌, ◌||◌, nat_eq, List, [], ◌∷◌, ◌++◌, length, take, drop, replicate}
+use Rattle.std.specs.Prelude.{map, filter, filter_map, count_by, Option, Some, None, option_map, is_some, if◌then◌else◌}
 use Rattle.std.specs.List.{list_any, list_all, enumerate_from}
 use Rattle.ha_config.specs.declared.config.Automation.{Automation}
 use Rattle.ha_journal.specs.declared.carry.Carry.{Carry}
@@ -18,11 +18,11 @@ use Rattle.ha_journal.specs.States.{switches_of}
 use Rattle.ha_sight.specs.Scripts.{Branch}
 use Rattle.ha_model.specs.Records as one
 use Rattle.ha_model.specs.Records.{Records, last_is}
-use Rattle.ha_whole.specs.Lasts.{last_run, lasts}
+use Rattle.ha_whole.specs.Lasts.{last_run, last_triggered, lasts}
 use Rattle.ha_model.specs.Lawful as alone
 use Rattle.ha_model.specs.Lawful.{is_line_of, shuts, is_by_worker_0, pick}
 use Rattle.ha_journal.specs.Sights as here
-use Rattle.ha_config.specs.StoreText.{store_of, in_name_order as switches_in_order}
+use Rattle.ha_config.specs.StoreText.{store_of}
 use Rattle.ha_whole.specs.Segments.{alone as counted, carried, carried_number, front, segment, segments}
 
 -- ---- records
@@ -80,7 +80,7 @@ carry_of j = record {
 }
 
 abbrev pub again_of : Journal → Entry
-again_of j = Again (suc (count_by is_again j)) (now (segment j)) (switches_in_order (switches_of (segment j))) (carry_of j)
+again_of j = Again (suc (count_by is_again j)) (now (segment j)) (in_name_order (switches_of (segment j))) (carry_of j)
 
 abbrev pub ends_segment : Journal → Bool
 ends_segment j = last_is is_restart j
@@ -195,18 +195,27 @@ pub record Running (j : Journal) (rs : Records) : Type 0 where
 abbrev pub switch_of : Journal → ℕ → Option Bool
 switch_of j a = here.switch_of (segment j) a
 
+-- the switches, and when automations last triggered, of those that have
 abbrev pub store_text : Journal → Text
-store_text j = store_of (switches_of (segment j))
+store_text j = store_of (switches_of (segment j)) (in_name_order (lasts (segment j)))
 
 -- the journal before its last put
 abbrev pub before_put : Journal → Journal
 before_put j = take (length j - (if last_is is_again j then 2 else 1)) j
 
+abbrev pub same_moment : Option ℕ → Option ℕ → Bool
+same_moment None None = true
+same_moment None (Some n) = false
+same_moment (Some m) None = false
+same_moment (Some m) (Some n) = nat_eq m n
+
+-- what the store keeps of automation a is the same after both
+abbrev pub is_kept_same : Journal → Journal → ℕ → Bool
+is_kept_same s t a = same_flag (is_on s a) (is_on t a) && same_moment (last_triggered s a) (last_triggered t a)
+
 -- the journal is the first Boot alone, or the last put changed what the store keeps
 abbrev pub changes_store : Journal → Bool
-changes_store j =
-    nat_eq (length j) 1
-    || list_any (λ a. not (same_flag (is_on (segment (before_put j)) a) (is_on (segment j) a))) (up_to (length (automations j)))
+changes_store j = nat_eq (length j) 1 || list_any (λ a. not (is_kept_same (segment (before_put j)) (segment j) a)) (up_to (length (automations j)))
 
 -- ---- room
 

@@ -91,12 +91,12 @@ pub trait Core: Sized {
         requires { is_spent self.now ≡ false }
         ensures { result ≡ switch_of (entries self.now) automation };
 
-    /// The text that keeps the switches.
+    /// The text that keeps the switches, and when automations last triggered.
     fn store_text(&self, alloc: Global) -> Result<Word, AllocError>
         requires { is_spent self.now ≡ false }
         ensures { IfOk result (λ text. text ≡ store_text (entries self.now)) };
 
-    /// Whether the last put, or the boot, changed the text that keeps the switches.
+    /// Whether the last put, or the boot, changed that text.
     fn last_changed_switch(&self) -> bool
         requires { is_spent self.now ≡ false }
         ensures { result ≡ changes_store (entries self.now) };

@@ -10,7 +10,7 @@ use std::io::ErrorKind;
 use std::process::ExitCode;
 use std::{env, mem};
 
-/// The file that keeps the switches, in the folder that the program runs in.
+/// The store's file, in the folder that the program runs in.
 const STORE: &str = "hearth_store.json";
 
 /// The words behind the program's name. Words that are not UTF-8 are none of the program's.

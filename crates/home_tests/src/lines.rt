@@ -74,7 +74,7 @@ fn a_home_without_automations_stores_none(rt: HostRuntime) {
                 Entries(1),
                 Output(""),
                 Errors(""),
-                Stored("{\"switches\":{},\"version\":1}"),
+                Stored("{\"last\":{},\"switches\":{},\"version\":2}"),
             ]
         )
     );

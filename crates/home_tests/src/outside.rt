@@ -19,7 +19,11 @@ pub const DOOR: &str =
 pub const PORCH: &str =
     "{\"run\":\"door\",\"number\":1,\"call\":1,\"service\":\"light.turn_on\",\"target\":[\"light.porch\"],\"data\":{}}\n";
 
-const DOOR_IS_ON: &str = "{\"switches\":{\"door\":true},\"version\":1}";
+const DOOR_IS_ON: &str = "{\"last\":{},\"switches\":{\"door\":true},\"version\":2}";
+
+/// The same behind the run that the door began.
+const DOOR_OPENED: &str =
+    "{\"last\":{\"door\":\"2024-05-01T20:00:00.000Z\"},\"switches\":{\"door\":true},\"version\":2}";
 
 /// Whether the evening on which the door opens ends so, with each of these outsides.
 fn all_end<R: Abort + Threads + Wait + Sync + Alloc<A = Global>>(
@@ -163,7 +167,7 @@ fn a_call_that_is_not_written_ends_the_run(rt: HostRuntime) {
                         Errors("hearth: write failed\n"),
                         Output(""),
                         Entries(4),
-                        Stored(DOOR_IS_ON),
+                        Stored(DOOR_OPENED),
                     ]
                 ),
                 (
@@ -173,7 +177,7 @@ fn a_call_that_is_not_written_ends_the_run(rt: HostRuntime) {
                         Errors("hearth: write failed\n"),
                         Output(""),
                         Entries(4),
-                        Stored(DOOR_IS_ON),
+                        Stored(DOOR_OPENED),
                     ]
                 ),
             ]

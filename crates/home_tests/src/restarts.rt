@@ -153,7 +153,12 @@ fn a_switch_stays_as_it_is_at_a_restart(rt: HostRuntime) {
                 &rt,
                 &evening(CALLS, &lines),
                 &PLAIN,
-                &[Well, Stored("{\"switches\":{\"a\":false},\"version\":1}")]
+                &[
+                    Well,
+                    Stored(
+                        "{\"last\":{\"a\":\"2024-05-01T20:00:00.000Z\"},\"switches\":{\"a\":false},\"version\":2}"
+                    )
+                ]
             )
     );
 }
@@ -167,7 +172,12 @@ fn a_switch_with_an_initial_state_has_it_behind_a_restart(rt: HostRuntime) {
                 &rt,
                 &evening(CALLS_ON, &lines),
                 &PLAIN,
-                &[Well, Stored("{\"switches\":{\"a\":true},\"version\":1}")]
+                &[
+                    Well,
+                    Stored(
+                        "{\"last\":{\"a\":\"2024-05-01T20:00:00.000Z\"},\"switches\":{\"a\":true},\"version\":2}"
+                    )
+                ]
             )
     );
 }

@@ -38,7 +38,9 @@ fn a_light_goes_out_after_its_delay(rt: HostRuntime) {
                 Called(&HALL_CALLS),
                 Errors(""),
                 Entries(8),
-                Stored("{\"switches\":{\"hall_light\":true},\"version\":1}"),
+                Stored(
+                    "{\"last\":{\"hall_light\":\"2024-05-01T20:00:00.000Z\"},\"switches\":{\"hall_light\":true},\"version\":2}"
+                ),
             ]
         )
     );
@@ -111,13 +113,17 @@ fn a_run_that_turns_its_automation_off_ends_there(rt: HostRuntime) {
                 Errors(""),
                 Runs(1),
                 End(2, EndCause::SwitchedOff),
-                Stored("{\"switches\":{\"a\":true},\"version\":1}"),
+                Stored(
+                    "{\"last\":{\"a\":\"2024-05-01T20:00:00.000Z\"},\"switches\":{\"a\":true},\"version\":2}"
+                ),
             ]
         ) && ends(
             &rt,
             &evening(home, &["e go"]),
             &PLAIN,
-            &[Stored("{\"switches\":{\"a\":false},\"version\":1}")]
+            &[Stored(
+                "{\"last\":{\"a\":\"2024-05-01T20:00:00.000Z\"},\"switches\":{\"a\":false},\"version\":2}"
+            )]
         )
     );
 }
@@ -159,16 +165,50 @@ fn are_refused<R: Abort + Threads + Wait + Sync + Alloc<A = Global>>(
 
 #[test]
 fn a_stored_switch_holds_and_a_bad_store_is_refused(rt: HostRuntime) {
-    let off = "{\"switches\":{\"a\":false},\"version\":1}";
+    let off = "{\"last\":{},\"switches\":{\"a\":false},\"version\":2}";
     let mut outside = PLAIN;
-    outside.stored = Some(off);
+    outside.stored = Some("{\"switches\":{\"a\":false},\"version\":1}");
     let facts = [Well, Output(""), Stored(off)];
     let refused = [
         ("{", "hearth: store refused S1\n"),
-        ("{\"version\":1}", "hearth: store refused S2\n"),
-        ("{\"version\":2}", "hearth: store refused S3\n"),
+        ("{\"version\":2}", "hearth: store refused S2\n"),
+        ("{\"version\":3}", "hearth: store refused S3\n"),
     ];
     assert!(rt;
         ends(&rt, &evening(NOTIFIES, &["e go"]), &outside, &facts) && are_refused(&rt, &refused)
+    );
+}
+
+#[test]
+fn when_automations_last_triggered_is_taken_from_the_store_and_kept(rt: HostRuntime) {
+    let home =
+        "automation: [{alias: a, triggers: [{trigger: event, event_type: go}], actions: []}, {alias: b, triggers: [{trigger: homeassistant, event: start}], actions: []}]";
+    let mut outside = PLAIN;
+    outside.stored = Some(
+        "{\"last\":{\"a\":\"2023-01-02T03:04:05Z\",\"b\":\"2023-01-02T03:04:05Z\",\"z\":\"2023-01-02T03:04:05Z\"},\"switches\":{},\"version\":2}",
+    );
+    let kept = [
+        "{\"last\":{\"a\":\"2023-01-02T03:04:05.000Z\",\"b\":\"2024-05-01T20:00:00.000Z\"},\"switches\":{\"a\":true,\"b\":true},\"version\":2}",
+        "{\"last\":{\"a\":\"2023-01-02T03:04:05.000Z\",\"b\":\"2024-05-01T20:00:01.000Z\"},\"switches\":{\"a\":true,\"b\":true},\"version\":2}",
+        "{\"last\":{\"a\":\"2024-05-01T20:00:01.000Z\",\"b\":\"2024-05-01T20:00:01.000Z\"},\"switches\":{\"a\":true,\"b\":true},\"version\":2}",
+    ];
+    let lines = ["m 20:00:01", "{\"restart\":true}", "e go", "m 20:00:02"];
+    assert!(rt;
+        ends(
+            &rt,
+            &evening(home, &lines[..1]),
+            &outside,
+            &[Well, Stored(kept[0])]
+        ) && ends(
+            &rt,
+            &evening(home, &lines[..2]),
+            &outside,
+            &[Well, Stored(kept[1])]
+        ) && ends(
+            &rt,
+            &evening(home, &lines),
+            &outside,
+            &[Well, Stored(kept[2])]
+        )
     );
 }

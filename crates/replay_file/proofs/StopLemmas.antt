@@ -1,7 +1,7 @@
 -- A text that goes no further: what a line that is not taken, or the end of the bytes, makes of what was found so far.
 use Rattle.std.proofs.Common.{◌≡◌, ◌≢◌, ◌∙◌, ap, sym, subst, refl, ℕ, suc, ◌+◌, inl, inr, [], ◌∷◌, ◌++◌, take, drop, length, Bool, true, false, arith, append_assoc, append-nil}
 use Rattle.std.proofs.lemmas.Bool.Decides.{nat_tests}
-use Rattle.std.specs.Prelude.{◌&&◌, ◌==◌, Ok, Option, Some}
+use Rattle.std.specs.Prelude.{◌&&◌, ◌==◌, Option, Some}
 use Rattle.std.specs.List.{list_all}
 use Rattle.std.proofs.lemmas.List.{nil_from_length, take-append-drop}
 use Rattle.std.proofs.lemmas.List.Folds.{list_all-append}

@@ -3,6 +3,7 @@ ghost use Rattle.std.specs.Prelude.{◌≡◌, true, IfOk, length};
 ghost use Rattle.ha_value.specs.Ids.{is_name};
 ghost use Rattle.ha_config.specs.Sound.{IsSoundConfig, is_sound_automation};
 
+use ha_clock::{Moment, read_moment};
 use ha_config::{Automation, Config, Mode};
 use ha_value::{Many, Word};
 use std::alloc::{AllocError, Global};
@@ -66,10 +67,12 @@ fn are_read(alloc: Global, texts: &[&str]) -> bool {
     true
 }
 
-/// Whether a text holds the switch `a`, off, and no other.
+/// Whether a text holds the switch `a`, off, and no other, and no moment.
 fn is_read(alloc: Global, text: &str) -> bool {
     match read_store(alloc, text.as_bytes()) {
-        Ok(found) => found.len() == 1 && is_a_off(found.get(0)),
+        Ok(found) => {
+            found.switches.len() == 1 && is_a_off(found.switches.get(0)) && found.last.is_empty()
+        }
         Err(_) => false,
     }
 }
@@ -92,8 +95,8 @@ fn is_stored_as(
     let Ok(stored) = read_store(alloc, text.as_bytes()) else {
         return Ok(false);
     };
-    let switches = Switches::restore(alloc, &house(alloc, initial)?, Some(&stored))?;
-    Ok(switches.store_text(alloc)?.as_str() == again)
+    let switches = Switches::restore(alloc, &house(alloc, initial)?, Some(&stored.switches))?;
+    Ok(switches.store_text(alloc, &Many::make(alloc))?.as_str() == again)
 }
 
 #[test]
@@ -101,6 +104,8 @@ fn the_keys_of_a_store_come_in_any_order(rt: HostRuntime) {
     let texts = [
         "{\"switches\":{\"a\":false},\"version\":1}",
         "{\"version\":1,\"switches\":{\"a\":false}}",
+        "{\"last\":{},\"switches\":{\"a\":false},\"version\":2}",
+        "{\"version\":2,\"switches\":{\"a\":false},\"last\":{}}",
         " {\n\"version\" : 1 ,\t\"switches\" : { \"a\" : false } } ",
         "{\"\\u0073witches\":{\"\\u0061\":false},\"version\":1}",
     ];
@@ -114,6 +119,7 @@ fn of_a_key_that_stands_twice_the_last_counts(rt: HostRuntime) {
         "{\"switches\":{\"b\":true},\"switches\":{\"a\":false},\"version\":1}",
         "{\"version\":1,\"switches\":7,\"switches\":{\"a\":false}}",
         "{\"version\":2,\"switches\":{\"a\":false},\"version\":1}",
+        "{\"version\":3,\"last\":7,\"switches\":{\"a\":false},\"last\":{},\"version\":2}",
     ];
     assert!(rt; are_read(rt.alloc(), &texts));
 }
@@ -167,6 +173,11 @@ fn other_kinds_are_s2(rt: HostRuntime) {
         "{\"version\":1,\"switches\":null}",
         "{\"version\":1,\"switches\":{\"a\":1}}",
         "{\"version\":1,\"switches\":{\"a\":\"on\"}}",
+        "{\"version\":2,\"switches\":[],\"last\":{}}",
+        "{\"version\":2,\"switches\":{},\"last\":[]}",
+        "{\"version\":2,\"switches\":{},\"last\":{\"a\":1714593600000}}",
+        "{\"version\":2,\"switches\":{},\"last\":{\"a\":\"2024-05-01\"}}",
+        "{\"version\":2,\"switches\":{},\"last\":{\"a\":\"3000-01-01T00:00:00Z\"}}",
     ];
     assert!(rt; are_refused(rt.alloc(), &texts, 2));
 }
@@ -180,6 +191,10 @@ fn other_keys_are_s2(rt: HostRuntime) {
         "{\"version\":1,\"switches\":{},\"last\":{}}",
         "{\"version\":1,\"switch\":{}}",
         "{\"version\":1,\"Switches\":{}}",
+        "{\"version\":2}",
+        "{\"version\":2,\"switches\":{}}",
+        "{\"version\":2,\"last\":{}}",
+        "{\"version\":2,\"switches\":{},\"last\":{},\"next\":{}}",
     ];
     assert!(rt; are_refused(rt.alloc(), &texts, 2));
 }
@@ -187,10 +202,10 @@ fn other_keys_are_s2(rt: HostRuntime) {
 #[test]
 fn another_version_is_s3(rt: HostRuntime) {
     let texts = [
-        "{\"version\":2}",
+        "{\"version\":3}",
         "{\"version\":0,\"switches\":{}}",
         "{\"version\":-1}",
-        "{\"version\":2,\"switches\":[],\"last\":{}}",
+        "{\"version\":3,\"switches\":[],\"last\":{}}",
         "{\"version\":18446744073709551615}",
     ];
     assert!(rt; are_refused(rt.alloc(), &texts, 3));
@@ -199,14 +214,14 @@ fn another_version_is_s3(rt: HostRuntime) {
 #[test]
 fn names_are_stored_in_byte_order(rt: HostRuntime) {
     let stored = "{\"switches\":{\"cellar\":true,\"porch\":false},\"version\":1}";
-    let again = "{\"switches\":{\"attic\":true,\"porch\":false},\"version\":1}";
+    let again = "{\"last\":{},\"switches\":{\"attic\":true,\"porch\":false},\"version\":2}";
     assert!(rt; is_stored_as(rt.alloc(), stored, None, again).unwrap_or(false));
 }
 
 #[test]
 fn an_initial_state_stands_over_the_store(rt: HostRuntime) {
     let stored = "{\"switches\":{\"attic\":true},\"version\":1}";
-    let again = "{\"switches\":{\"attic\":false,\"porch\":true},\"version\":1}";
+    let again = "{\"last\":{},\"switches\":{\"attic\":false,\"porch\":true},\"version\":2}";
     assert!(rt; is_stored_as(rt.alloc(), stored, Some(false), again).unwrap_or(false));
 }
 
@@ -231,4 +246,33 @@ fn go(alloc: Global) -> Result<bool, AllocError> {
 #[test]
 fn a_restart_sets_the_initial_states_alone(rt: HostRuntime) {
     assert!(rt; go(rt.alloc()).unwrap_or(false));
+}
+
+/// Whether a text that is read has these moments, by name.
+fn has_moments(alloc: Global, text: &str, wanted: &[(&str, &str)]) -> bool {
+    match read_store(alloc, text.as_bytes()) {
+        Ok(found) => found.last.len() == wanted.len() && are_moments(found.last.as_slice(), wanted),
+        Err(_) => false,
+    }
+}
+
+/// Whether these are the moments, by name, each as far as both go.
+fn are_moments(last: &[(Word, Moment)], wanted: &[(&str, &str)]) -> bool {
+    for (pair, want) in last.iter().zip(wanted) {
+        if pair.0.as_str() != want.0 || Some(pair.1) != read_moment(want.1.as_bytes()) {
+            return false;
+        }
+    }
+    true
+}
+
+#[test]
+fn moments_are_read_in_byte_order(rt: HostRuntime) {
+    let text =
+        "{\"last\":{\"b\":\"2024-05-01T20:00:00Z\",\"a\":\"1970-01-01T00:00:00.5Z\"},\"switches\":{},\"version\":2}";
+    let wanted = [
+        ("a", "1970-01-01T00:00:00.500Z"),
+        ("b", "2024-05-01T20:00:00.000Z"),
+    ];
+    assert!(rt; has_moments(rt.alloc(), text, &wanted));
 }

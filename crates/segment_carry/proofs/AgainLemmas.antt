@@ -1,11 +1,10 @@
 -- What is made of the parts that stand for a journal is its Again.
 use Rattle.std.proofs.Common.{◌≡◌, ◌∙◌, ap, refl, sym, ℕ, zero, suc, ◌+◌, ◌<◌, Bool, Option, List, [], ◌∷◌, ◌++◌, length, drop, subst, ◌||◌, arith, length-append}
-use Rattle.std.specs.Prelude.{Result, Ok, Err, IfOk, Some, None, count_by, filter, filter_map, map, nat_eq, option_map, slice_get, slice_index, unwrap_or, if◌then◌else◌, ◌^◌}
+use Rattle.std.specs.Prelude.{Result, Ok, Err, IfOk, Some, None, count_by, filter, filter_map, map, nat_eq, option_map, slice_get, slice_index, unwrap_or, ◌^◌}
 use Rattle.std.specs.List.{cons_option, enumerate_from, list_any}
 use Rattle.std.proofs.lemmas.List.Sums.{count_by-le-length}
 use Rattle.ha_config.specs.declared.config.Automation.{Automation}
-use Rattle.ha_config.specs.Words.{Text, comes_before, numbers_from, up_to}
-use Rattle.ha_config.specs.StoreText as stored
+use Rattle.ha_config.specs.Words.{Text, numbers_from, up_to}
 use Rattle.ha_config.proofs.ListLemmas.{some-same}
 use Rattle.ha_journal.specs.declared.carry.Carry.{Carry}
 use Rattle.ha_journal.specs.declared.entry.Entry.{Entry}
@@ -17,7 +16,7 @@ use Rattle.ha_journal.specs.Switches.{is_on}
 use Rattle.ha_model.specs.Lawful.{is_line_of, shuts}
 use Rattle.ha_model.specs.Records.{Records}
 use Rattle.ha_whole.specs.Lasts.{last_triggered, lasts}
-use Rattle.ha_whole.specs.Named.{in_name_order, placed_by_name}
+use Rattle.ha_whole.specs.Named.{in_name_order}
 use Rattle.ha_whole.specs.Segments.{cut, segment}
 use Rattle.ha_whole.specs.Whole.{again_of, numbers_of}
 use Rattle.segment_runs.specs.Segment.{SegmentTable, all_of, runs_of}
@@ -34,7 +33,7 @@ use Rattle.segment_carry.proofs.SourceLemmas.{filter-same, map-same}
 
 -- ---- lists of automations with the same values
 
-given-same : {X : Type 0} (f g : ℕ → Option X) (n : ℕ) (xs : List Automation) → ((i : ℕ) → i < length xs → f (n + i) ≡ g (n + i)) → filter_map (given f) (enumerate_from n xs) ≡ filter_map (given g) (enumerate_from n xs)
+pub given-same : {X : Type 0} (f g : ℕ → Option X) (n : ℕ) (xs : List Automation) → ((i : ℕ) → i < length xs → f (n + i) ≡ g (n + i)) → filter_map (given f) (enumerate_from n xs) ≡ filter_map (given g) (enumerate_from n xs)
 given-same {X} f g n [] h = refl
 given-same {X} f g n (x ∷ xs) h =
     let e : n + 0 ≡ n = omega arith in
@@ -47,7 +46,7 @@ given-each : {X : Type 0} (f : ℕ → X) (n : ℕ) (xs : List Automation) → f
 given-each f n [] = refl
 given-each f n (x ∷ xs) = (λ i. (x.name, f n) ∷ given-each f (n + 1) xs i)
 
-made-at : {X : Type 0} (f : ℕ → X) (low n i : ℕ) → i < n → slice_get (map f (numbers_from low n)) i ≡ Some (f (low + i))
+pub made-at : {X : Type 0} (f : ℕ → X) (low n i : ℕ) → i < n → slice_get (map f (numbers_from low n)) i ≡ Some (f (low + i))
 made-at f low zero i lt = absurd (omega (arith, lt))
 made-at f low (suc n) zero lt = (let e : low ≡ low + 0 = omega arith in λ i. Some (f (e i)))
 made-at f low (suc n) (suc i) lt = (let e : (low + 1) + i ≡ low + suc i = omega arith in made-at f (low + 1) n i (omega (arith, lt)) ∙ (λ k. Some (f (e k))))
@@ -57,15 +56,7 @@ flag-at on n [] i lt = absurd (omega (arith, lt))
 flag-at on n (x ∷ xs) zero lt = (let e : n ≡ n + 0 = omega arith in λ i. Some (on (e i)))
 flag-at on n (x ∷ xs) (suc i) lt = (let e : (n + 1) + i ≡ n + suc i = omega arith in flag-at on (n + 1) xs i (omega (arith, lt)) ∙ (λ k. Some (on (e k))))
 
--- ---- switches in the order of the store
-
-placed-switch : (p : Text × Bool) (qs : List (Text × Bool)) → stored.placed_by_name p qs ≡ placed_by_name p qs
-placed-switch p [] = refl
-placed-switch p (q ∷ qs) = (λ i. if comes_before p.0 q.0 then p ∷ q ∷ qs else q ∷ placed-switch p qs i)
-
-ordered-switches : (ps : List (Text × Bool)) → stored.in_name_order ps ≡ in_name_order ps
-ordered-switches [] = refl
-ordered-switches (p ∷ ps) = (λ i. stored.placed_by_name p (ordered-switches ps i)) ∙ placed-switch p (in_name_order ps)
+-- ---- what is made
 
 module _ (k : Journal) (front count at : ℕ) (runs : SegmentTable) (switches : Switches) (moments : List (Option ℕ)) (c : Closes k front count at runs switches moments) where
   abbrev rules : List Automation
@@ -107,13 +98,12 @@ module _ (k : Journal) (front count at : ℕ) (runs : SegmentTable) (switches : 
       ∙ flag-at (is_on (segment k)) 0 rules a lt
       ∙ (λ i. Some (is_on (segment k) (e i)))
 
-  switches-made : listed rules (λ a. slice_get (flags switches) a) (by_name rules) ≡ stored.in_name_order (switches_of (segment k))
+  switches-made : listed rules (λ a. slice_get (flags switches) a) (by_name rules) ≡ in_name_order (switches_of (segment k))
   switches-made =
       listed-by-name rules (λ a. slice_get (flags switches) a)
       ∙ ap in_name_order (given-same (λ a. slice_get (flags switches) a) (λ a. Some (is_on (segment k) a)) 0 rules (λ i lt. switch-at (0 + i) (omega (arith, lt))))
       ∙ ap in_name_order (given-each (is_on (segment k)) 0 rules)
       ∙ (λ i. in_name_order (map {A = ℕ × Automation} {B = Text × Bool} (λ p. (p.1.name, is_on (segment k) p.0)) (enumerate_from 0 (sym same-rules i))))
-      ∙ sym (ordered-switches (switches_of (segment k)))
 
   lines-made : lines_with (carry_in hands.opening).lines hands.behind ≡ map (λ q. count_by (is_line_of q) k) (up_to 16)
   lines-made = map-same (λ q. slice_index (carry_in hands.opening).lines q + count_by (is_line_of q) hands.behind) (λ q. count_by (is_line_of q) k) 0 16 (λ i lt. sym (hands.lines (0 + i) (omega (arith, lt))))

@@ -5,3 +5,4 @@ pub mod HandsLemmas
 pub mod SourceLemmas
 pub mod AgainLemmas
 pub mod LawLemmas
+pub mod MomentLemmas

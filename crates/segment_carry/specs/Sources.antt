@@ -1,5 +1,5 @@
 -- What the sources gave so far, by what a segment took over and its own entries.
-use Rattle.std.specs.Prelude.{ℕ, ◌+◌, Bool, false, ◌||◌, List, nat_eq, map, filter, count_by, slice_index, slice_index_or}
+use Rattle.std.specs.Prelude.{ℕ, ◌+◌, Bool, false, ◌||◌, List, [], nat_eq, map, filter, count_by, slice_index, slice_index_or}
 use Rattle.std.specs.List.{list_any}
 use Rattle.ha_config.specs.Words.{up_to}
 use Rattle.ha_journal.specs.declared.carry.Carry.{Carry}
@@ -12,8 +12,8 @@ use Rattle.ha_model.specs.Lawful.{is_line_of, shuts}
 abbrev pub carry_in : Entry → Carry
 carry_in (Boot text config stored start zone carry) = carry
 carry_in (Again number start stored carry) = carry
-carry_in (Line source number cmd) = first_carry
-carry_in (Step worker serial branch item) = first_carry
+carry_in (Line source number cmd) = first_carry []
+carry_in (Step worker serial branch item) = first_carry []
 
 -- how many lines each source gave, where it gave so many before these entries
 abbrev pub lines_with : List ℕ → List Entry → List ℕ

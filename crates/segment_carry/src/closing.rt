@@ -7,8 +7,8 @@ ghost use Rattle.segment_runs.specs.Segment.{all_of};
 ghost use Rattle.segment_carry.specs.Closing.{Closes, again_made, carry_made};
 ghost use Rattle.segment_carry.specs.Sources.{carry_in};
 
-use crate::by_name::by_name;
 use crate::lists::{moments, numbers, switches};
+use crate::order::by_name;
 use crate::sources::given;
 use ha_clock::Moment;
 use ha_config::Automation;

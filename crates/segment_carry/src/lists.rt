@@ -1,5 +1,5 @@
 //! What is listed of automations by their names.
-ghost use Rattle.std.specs.Prelude.{◌≡◌, ◌++◌, ◌∷◌, [], ◌≤◌, ℕ, IfOk, OnOk, None, Some, length, map, nat_eq, slice_get, unwrap_or, if◌then◌else◌};
+ghost use Rattle.std.specs.Prelude.{◌≡◌, ◌++◌, ◌∷◌, [], ℕ, IfOk, OnOk, None, Some, length, map, nat_eq, slice_get, unwrap_or, if◌then◌else◌};
 ghost use Rattle.std.specs.Option.{option_map_or};
 ghost use Rattle.ha_config.specs.Names.{name_of};
 ghost use Rattle.ha_config.specs.Words.{up_to};

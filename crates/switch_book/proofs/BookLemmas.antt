@@ -53,7 +53,7 @@ second false b h = absurd (true≢false (sym h))
 named : (x : Automation) → is_sound_automation x ≡ true → is_name x.name ≡ true
 named x h = first (is_name x.name) _ (first _ _ (first _ _ (first _ _ (first _ (are_sound_actions x.actions) h))))
 
-all-named : (all : List Automation) → list_all is_sound_automation all ≡ true → list_all is_name (names_of all) ≡ true
+pub all-named : (all : List Automation) → list_all is_sound_automation all ≡ true → list_all is_name (names_of all) ≡ true
 all-named [] h = refl
 all-named (x ∷ xs) h = ap₂ ◌&&◌ (named x (first (is_sound_automation x) (list_all is_sound_automation xs) h)) (all-named xs (second (is_sound_automation x) (list_all is_sound_automation xs) h))
 

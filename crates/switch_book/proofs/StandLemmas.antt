@@ -12,9 +12,7 @@ use Rattle.ha_journal.specs.Journal.{Journal, HasEntry, automations, more}
 use Rattle.ha_config.specs.Names.{initial_of}
 use Rattle.ha_journal.specs.Switches.{is_on, on_after}
 use Rattle.ha_journal.specs.Sights.{switch_of}
-use Rattle.ha_config.specs.StoreText.{store_of}
-use Rattle.ha_journal.specs.EntryText.{store_text}
-use Rattle.store_text.specs.Store.{Switches, AreStorable}
+use Rattle.store_text.specs.Store.{AreStorable, Switches}
 use Rattle.switch_book.specs.Book.{flags, names_of, restored, StandsFor}
 use Rattle.switch_book.proofs.SwitchLaws.{boot-stands, more-stands, flags-of-journal, names-of-journal, get-set, named-one}
 
@@ -44,6 +42,3 @@ turned-stands s s' a on storable are names j x source number stop some here stan
 
 pub seen-on : (s : Switches) (a : ℕ) (o : Option Bool) → o ≡ slice_get (flags s) a → (j : Journal) → StandsFor s j → o ≡ switch_of j a
 seen-on s a o e j stands = e ∙ flags-of-journal s j stands a
-
-pub text-stands : (s : Switches) (t : Text) → t ≡ store_of s → (j : Journal) → StandsFor s j → t ≡ store_text j
-text-stands s t e j stands = e ∙ ap store_of stands

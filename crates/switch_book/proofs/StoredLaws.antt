@@ -1,5 +1,5 @@
--- Switches in the order of their names are the same for each name.
-use Rattle.std.proofs.Common.{◌≡◌, Bool, true, false, ◌&&◌, ◌||◌, [], ◌∷◌, refl, sym, ap, ap₂, ◌∙◌, Option, true≢false, Ordering, Less, Equal, Greater}
+-- Pairs in the order of their names: switches are the same for each name, and the names are in order.
+use Rattle.std.proofs.Common.{◌≡◌, Bool, true, false, ◌&&◌, ◌||◌, List, [], ◌∷◌, refl, sym, ap, ap₂, ◌∙◌, Option, true≢false, Ordering, Less, Equal, Greater}
 use Rattle.std.specs.Prelude.{Some, if◌then◌else◌}
 use Rattle.std.specs.List.{list_any}
 use Rattle.std.specs.Ordering.{nat_cmp, is_lt, is_eq, ordering_reverse}
@@ -61,7 +61,7 @@ either true b h = absurd (true≢false h)
 either false b h = (refl, h)
 
 -- before q stands what follows it, and what is placed there
-placed-behind : (q p : Text × Bool) (qs : Switches) → comes_before q.0 p.0 ≡ true → are_in_name_order (q ∷ qs) ≡ true → are_in_name_order (placed_by_name p qs) ≡ true → are_in_name_order (q ∷ placed_by_name p qs) ≡ true
+placed-behind : {X : Type 0} (q p : Text × X) (qs : List (Text × X)) → comes_before q.0 p.0 ≡ true → are_in_name_order (q ∷ qs) ≡ true → are_in_name_order (placed_by_name p qs) ≡ true → are_in_name_order (q ∷ placed_by_name p qs) ≡ true
 placed-behind q p [] h o later = ap (λ b. b && true) h
 placed-behind q p (r ∷ rs) h o later = by (comes_before p.0 r.0) later
   where
@@ -69,11 +69,11 @@ placed-behind q p (r ∷ rs) h o later = by (comes_before p.0 r.0) later
     by true later = ap₂ ◌&&◌ h later
     by false later = ap₂ ◌&&◌ (both (comes_before q.0 r.0) (are_in_name_order (r ∷ rs)) o).0 later
 
-rest-ordered : (q : Text × Bool) (qs : Switches) → are_in_name_order (q ∷ qs) ≡ true → are_in_name_order qs ≡ true
+rest-ordered : {X : Type 0} (q : Text × X) (qs : List (Text × X)) → are_in_name_order (q ∷ qs) ≡ true → are_in_name_order qs ≡ true
 rest-ordered q [] o = refl
 rest-ordered q (r ∷ rs) o = (both (comes_before q.0 r.0) (are_in_name_order (r ∷ rs)) o).1
 
-placed-ordered : (p : Text × Bool) (ps : Switches) → list_any (same p.0) (keys_of ps) ≡ false → are_in_name_order ps ≡ true → are_in_name_order (placed_by_name p ps) ≡ true
+placed-ordered : {X : Type 0} (p : Text × X) (ps : List (Text × X)) → list_any (same p.0) (keys_of ps) ≡ false → are_in_name_order ps ≡ true → are_in_name_order (placed_by_name p ps) ≡ true
 placed-ordered p [] h o = refl
 placed-ordered p (q ∷ qs) h o =
     let apart = either (same p.0 q.0) (list_any (same p.0) (keys_of qs)) h in
@@ -84,7 +84,7 @@ placed-ordered p (q ∷ qs) h o =
     by false e apart later = placed-behind q p qs (before-or-behind p.0 q.0 apart e) o later
 
 -- LAW: the names are in order
-pub ordered-in_name_order : (s : Switches) → all_distinct (keys_of s) ≡ true → are_in_name_order (in_name_order s) ≡ true
+pub ordered-in_name_order : {X : Type 0} (s : List (Text × X)) → all_distinct (keys_of s) ≡ true → are_in_name_order (in_name_order s) ≡ true
 ordered-in_name_order [] h = refl
 ordered-in_name_order (p ∷ ps) h =
     let parts = distinct-parts p ps h in

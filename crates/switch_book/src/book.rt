@@ -13,10 +13,11 @@ ghost use Rattle.ha_journal.specs.Sights.{switch_of};
 ghost use Rattle.ha_config.specs.Sound.{IsSoundConfig};
 ghost use Rattle.ha_config.specs.Names.{initial_of, stored_switch};
 ghost use Rattle.ha_config.specs.StoreText.{in_name_order, store_of};
-ghost use Rattle.ha_journal.specs.EntryText.{store_text as stored_text};
-ghost use Rattle.store_text.specs.Store.{switches_in};
+ghost use Rattle.ha_journal.specs.States.{switches_of};
+ghost use Rattle.store_text.specs.Store.{AreMoments, stored_in};
 ghost use Rattle.switch_book.specs.Book.{StandsFor, flags, opening, restored};
 
+use ha_clock::Moment;
 use ha_config::{Automation, Config, same_text};
 use ha_value::{Many, Plain, Word};
 use std::alloc::{AllocError, Global};
@@ -93,14 +94,15 @@ impl Switches {
         restart_all(&mut self.switches, config.automations.as_slice());
     }
 
-    /// The store text: the switches in the byte order of their automations' names. What is read
-    /// from it are these switches.
-    pub fn store_text(&self, alloc: Global) -> Result<Word, AllocError>
-        ensures text { IfOk result (λ w. w ≡ store_of self.now) }
-        ensures stands { IfOk result (λ w. (j : Journal) → StandsFor self.now j → w ≡ stored_text j) }
-        ensures reads_back { IfOk result (λ w. switches_in w ≡ Ok (in_name_order self.now)) }
+    /// The store text: the switches in the byte order of their automations' names, and when automations last triggered, whose names stand in
+    /// that order. What is read from it are these.
+    pub fn store_text(&self, alloc: Global, last: &Many<(Word, Moment)>) -> Result<Word, AllocError>
+        requires { AreMoments last.now }
+        ensures text { IfOk result (λ w. w ≡ store_of self.now last.now) }
+        ensures stands { IfOk result (λ w. (j : Journal) → StandsFor self.now j → w ≡ store_of (switches_of j) last.now) }
+        ensures reads_back { IfOk result (λ w. stored_in w ≡ Ok (record { switches = in_name_order self.now; last = last.now })) }
     {
-        write_store(alloc, self.switches.as_slice())
+        write_store(alloc, self.switches.as_slice(), last.as_slice())
     }
 }
 

@@ -5,4 +5,4 @@ mod book;
 pub mod laws;
 
 pub use book::Switches;
-pub use store_text::{StoreFault, read_store};
+pub use store_text::{StoreFault, Stored, read_store};

@@ -1,12 +1,12 @@
 -- What is booted may stand first in a trace: its texts are UTF-8, and the stored names in byte order.
-use Rattle.std.proofs.Common.{◌≡◌, refl, Bool, true, false, [], ◌∷◌, length, Option, Some, None}
+use Rattle.std.proofs.Common.{◌≡◌, refl, Bool, true, false, length, Option, Some, None}
 use Rattle.std.specs.Prelude.{nat_lt, if◌then◌else◌, Ok, Err}
 use Rattle.std.specs.List.{list_all}
 use Rattle.std.specs.Str.{is_utf8}
-use Rattle.std.proofs.lemmas.Bool.{and_from, and_parts}
+use Rattle.std.proofs.lemmas.Bool.{and_parts}
 use Rattle.std.proofs.lemmas.Str.{is_utf8-from_IsUtf8}
 use Rattle.ha_config.specs.declared.config.Config.{Config}
-use Rattle.ha_config.specs.Words.{Text, comes_before}
+use Rattle.ha_config.specs.Words.{Text}
 use Rattle.ha_config.specs.Sound.{IsSoundStore, are_in_name_order}
 use Rattle.yaml_scan.specs.declared.fault.Fault.{Fault}
 use Rattle.yaml_scan.specs.declared.fault.Code.TheVariants as code
@@ -16,7 +16,7 @@ use Rattle.yaml_tree.specs.Layout.{Answer}
 use Rattle.yaml_tree.specs.Tree.{judged, tree}
 use Rattle.conf_field.specs.Readings.{Read, bad}
 use Rattle.conf_auto.specs.Config.{config_of, of_root}
-use Rattle.ha_replay.specs.Boots.{Switches, are_in_order, are_stored, have_utf8_names}
+use Rattle.ha_replay.specs.Boots.{Switches, are_stored, have_utf8_names}
 use Rattle.top_laws.proofs.LinesUtf8.{lines-utf8}
 
 -- ---- the text of a configuration
@@ -50,16 +50,9 @@ config-utf8 text config e =
 
 -- ---- the stored names
 
-in_order : (ps : Switches) → are_in_name_order ps ≡ true → are_in_order ps ≡ true
-in_order [] e = e
-in_order (p ∷ []) e = e
-in_order (p ∷ q ∷ ps) e =
-    let both = and_parts (comes_before p.0 q.0) (are_in_name_order (q ∷ ps)) e in
-    and_from (comes_before p.0 q.0) (are_in_order (q ∷ ps)) both.0 (in_order (q ∷ ps) both.1)
-
 pub stored-ordered : (stored : Option Switches) → IsSoundStore stored → are_stored stored ≡ true
 stored-ordered None sound = sound
-stored-ordered (Some ps) sound = in_order ps (and_parts (are_in_name_order ps) (list_all (λ p. is_utf8 p.0) ps) sound).0
+stored-ordered (Some ps) sound = (and_parts (are_in_name_order ps) (list_all (λ p. is_utf8 p.0) ps) sound).0
 
 pub stored-utf8 : (stored : Option Switches) → IsSoundStore stored → have_utf8_names stored ≡ true
 stored-utf8 None sound = sound

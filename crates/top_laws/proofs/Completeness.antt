@@ -6,7 +6,7 @@ use Rattle.ha_journal.specs.declared.entry.Entry.{Entry}
 use Rattle.ha_journal.specs.Journal.{Journal}
 use Rattle.ha_config.specs.Words.{Text}
 use Rattle.ha_whole.specs.Whole.{CannotRestart, HasRoom, IsFull}
-use Rattle.store_text.specs.Store.{Switches, switches_in}
+use Rattle.store_text.specs.Store.{Moments, Switches, stored_in}
 use Rattle.conf_auto.specs.Config.{config_of}
 use Rattle.ha_status.specs.declared.status.Status.{Status}
 use Rattle.ha_status.specs.Causes.{OneRose, IsUnread, ReadCause, OpenCause, WriteCause, KeepCause}
@@ -20,7 +20,7 @@ use Rattle.ha_check.specs.Checked.{IsAnswerOf, IsCheckStatus}
 use Rattle.ha_check.specs.Configured.{IsFaultAt, RefusedCause}
 use Rattle.ha_top.specs.Views.{After, Before}
 use Rattle.ha_top.specs.Written.{written}
-use Rattle.ha_top.specs.Answered.{Answered, AreStored, IsBooted, IsStore, IsTaken, RunOpenCause, StoreCause, WriteFailed, WriteTookNone, scene}
+use Rattle.ha_top.specs.Answered.{Answered, IsBooted, IsStore, IsStored, IsTaken, RunOpenCause, StoreCause, WriteFailed, WriteTookNone, scene}
 use Rattle.ha_top.specs.Program.{Checked}
 use Rattle.top_laws.specs.Unhindered.{IsNewWell, IsRead, IsWithin, IsUnhinderedCheck, IsUnhinderedRun}
 
@@ -49,11 +49,11 @@ not-refused (Some f) name line code h r = by (f name) h r.1
 -- what is none or a store's text is no refused store
 not-store-refused : (told : Option (Option Text)) (code : ℕ) → IsSomeAnd told IsStore → StoreCause told (Status.StoreRefused code) → ⊥
 not-store-refused None code h r = h
-not-store-refused (Some kept) code h r = by kept h.0 h.1 r.1
+not-store-refused (Some kept) code h r = by kept h.0 h.1 h.2 r.1
   where
-    by : (kept : Option Text) (stored : Option Switches) → AreStored kept stored → kept ≡ Some r.0 → ⊥
-    by None stored s e = absurd cc
-    by (Some text) stored s e = (let same : text ≡ r.0 = cc in let ok : switches_in r.0 ≡ Ok s.0 = (λ i. switches_in (sym same i)) ∙ s.1 in absurd (let z = sym ok ∙ r.2 in cc))
+    by : (kept : Option Text) (stored : Option Switches) (last : Moments) → IsStored kept stored last → kept ≡ Some r.0 → ⊥
+    by None stored last s e = absurd cc
+    by (Some text) stored last s e = (let same : text ≡ r.0 = cc in let ok : stored_in r.0 ≡ Ok s.0 = (λ i. stored_in (sym same i)) ∙ s.1 in absurd (let z = sym ok ∙ r.2 in cc))
 
 -- ---- sources
 

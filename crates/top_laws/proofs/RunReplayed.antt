@@ -3,6 +3,7 @@ use Rattle.std.proofs.Common.{◌≡◌, ◌∙◌, ap, refl, sym, subst, inl, i
 use Rattle.std.proofs.lemmas.Str.{is_utf8-from_IsUtf8}
 use Rattle.std.specs.Prelude.{Option, Some, None, IfSome, IsSomeAnd, if◌then◌else◌}
 use Rattle.ha_config.specs.Words.{Text}
+use Rattle.ha_config.proofs.OrderLemmas.{moments-kept, moments-named}
 use Rattle.ha_journal.specs.Journal.{HasEntry, Journal, more}
 use Rattle.ha_whole.specs.Whole.{IsWithin, Lawful, again_of, opened}
 use Rattle.ha_model.specs.Records.{Records}
@@ -51,6 +52,7 @@ opened_own j rs lawful = (λ i. if lawful.right.journal.opened i then more j (ag
 -- what is booted may stand first in a trace
 booted_run : (words : RunWords) (b : Before) (j : Journal) (rs : Records) → IsBooted words b j → Lawful j rs → HasEntry j × IsRun j rs
 booted_run words b j rs boot lawful =
+    let known = moments-kept boot.config.automations boot.last boot.last_is_sound in
     let P : Journal → Type 0 = λ z. HasEntry z × IsRun z rs in
     subst P (sym boot.boots) (
       tt,
@@ -61,10 +63,14 @@ booted_run words b j rs boot lawful =
             start = boot.runnable.in_time;
             zone = boot.runnable.zoned;
             ordered = stored-ordered boot.stored boot.stored_is_sound;
+            last_ordered = known.ordered;
+            last_in_time = known.in_time;
+            known = moments-named boot.config.automations boot.last;
             utf8 = record {
               text = config-utf8 boot.text boot.config boot.config_is;
               names = stored-utf8 boot.stored boot.stored_is_sound;
               zone = is_utf8-from_IsUtf8 words.zone boot.runnable.zone_is_text;
+              last_names = known.utf8;
             };
           },
           refl,

@@ -25,7 +25,7 @@ use Rattle.ha_config.specs.ValueText.{comma_joined, escaped_byte, flag_text, lis
 use Rattle.ha_sight.specs.ItemText.{call_pairs, failure_code, item_text, switched_text}
 use Rattle.ha_config.specs.CommandText.{cmd_text, id_text, line_code, one_key}
 use Rattle.ha_config.specs.CheckText.{as_line}
-use Rattle.ha_journal.specs.EntryText.{end_line, trace_line}
+use Rattle.ha_journal.specs.EntryText.{boot_pairs, end_line, trace_line}
 use Rattle.ha_config.specs.StoreText.{stored_text}
 use Rattle.ha_config.proofs.EqualLemmas.{and_left, and_right}
 use Rattle.ha_config.proofs.ValueRolls.{print_value-roll}
@@ -271,14 +271,31 @@ stored_line : (stored : Option (List (Text × Bool))) → IsLine (stored_text st
 stored_line None = refl
 stored_line (Some ps) = map_line (map {A = Text × Bool} {B = Text × Text} (λ p. (p.0, flag_text p.1)) ps) (switches_shown ps)
 
+moments_shown : (ps : List (Text × ℕ)) → AllShown (map {A = Text × ℕ} {B = Text × Text} (λ p. (p.0, quoted (moment_text p.1))) ps)
+moments_shown [] = tt
+moments_shown (p ∷ ps) = (quoted_line (moment_text p.1), moments_shown ps)
+
+boot_line : (text : Text) (stored : Option (List (Text × Bool))) (last : List (Text × ℕ)) (start : ℕ) (zone : Text) → AllShown (boot_pairs text stored last start zone)
+boot_line text stored [] start zone = (quoted_line text, (stored_line stored, (quoted_line (moment_text start), (quoted_line zone, tt))))
+boot_line text stored (p ∷ ps) start zone = (
+  quoted_line text,
+  (
+    stored_line stored,
+    (
+      map_line (map {A = Text × ℕ} {B = Text × Text} (λ q. (q.0, quoted (moment_text q.1))) (p ∷ ps)) (moments_shown (p ∷ ps)),
+      (quoted_line (moment_text start), (quoted_line zone, tt)),
+    ),
+  ),
+)
+
 -- LAW: the line of an entry has one LF, its end
 pub entry_feed : (all : List Automation) (x : Entry) → HasOneFeed (trace_line all x)
 entry_feed all (Boot text config stored start zone carry) =
-    let inner : List (Text × Text) = (codes "config", quoted text) ∷ (codes "stored", stored_text stored) ∷ (codes "start", quoted (moment_text start)) ∷ (codes "zone", quoted zone) ∷ [] in
+    let inner : List (Text × Text) = boot_pairs text stored carry.last start zone in
     record {
       line = one_key (codes "boot") (map_text inner);
       shown_is = refl;
-      one_line = one_line_key (codes "boot") (map_text inner) (map_line inner (quoted_line text, (stored_line stored, (quoted_line (moment_text start), (quoted_line zone, tt)))));
+      one_line = one_line_key (codes "boot") (map_text inner) (map_line inner (boot_line text stored carry.last start zone));
     }
 entry_feed all (Line source number cmd) =
     let shown : List (Text × Text) = (codes "source", decimal source) ∷ (codes "number", decimal number) ∷ (codes "cmd", cmd_text cmd) ∷ [] in

@@ -20,18 +20,21 @@ use Rattle.ha_replay.proofs.BootLemmas.{boot-parts, boot-spelled, value_of}
 use Rattle.trace_laws.specs.Runs.{IsConfigured, IsFirst, boot_line}
 use Rattle.trace_laws.proofs.FeedLemmas.{entry_feed}
 
+-- the parts of a first line
+abbrev pub parts_of : BootLine → Parts
+parts_of b = parts b.text b.stored b.start b.zone b.last
+
 -- LAW: a line is that of one first entry at most
-pub one_parts : (line : Text) (b b' : BootLine) → IsBootLine line b → HasUtf8 b → IsBootLine line b' → HasUtf8 b'
-    → ◌≡◌ {A = Parts} (parts b.text b.stored b.start b.zone) (parts b'.text b'.stored b'.start b'.zone)
+pub one_parts : (line : Text) (b b' : BootLine) → IsBootLine line b → HasUtf8 b → IsBootLine line b' → HasUtf8 b' → ◌≡◌ {A = Parts} (parts_of b) (parts_of b')
 one_parts line b b' is u is' u' =
     let same : value_of b ≡ value_of b' = same_value line (value_of b) (value_of b') (document_read line (value_of b) (boot-spelled line b is u)) (boot-spelled line b' is' u') in
-    some-same _ _ (sym (boot-parts b.text b.stored b.start b.zone is.start) ∙ ap parts_in same ∙ boot-parts b'.text b'.stored b'.start b'.zone is'.start)
+    some-same _ _ (sym (boot-parts b is.start is.last_in_time) ∙ ap parts_in same ∙ boot-parts b' is'.start is'.last_in_time)
 
 -- a configured first entry's line is that of its parts
-pub first_line : (line : Text) (b : BootLine) (config : Config) → IsConfigured b config → ((other : Config) → as_line line ≡ trace_line other.automations (Boot b.text other b.stored b.start b.zone first_carry)) → IsBootLine line b
-first_line line b config f is = record { line_is = is; start = f.start; zone = f.zone; ordered = f.ordered }
+pub first_line : (line : Text) (b : BootLine) (config : Config) → IsConfigured b config → ((other : Config) → as_line line ≡ trace_line other.automations (Boot b.text other b.stored b.start b.zone (first_carry b.last))) → IsBootLine line b
+first_line line b config f is = record { line_is = is; start = f.start; zone = f.zone; ordered = f.ordered; last_ordered = f.last_ordered; last_in_time = f.last_in_time }
 
-ok_same : (config config' : Config) → ◌≡◌ {A = Result Config Fault} (Ok config) (Ok config') → config ≡ config'
+pub ok_same : (config config' : Config) → ◌≡◌ {A = Result Config Fault} (Ok config) (Ok config') → config ≡ config'
 ok_same config config' e = cc
 
 -- LAW: two first entries with one line are the same
@@ -44,9 +47,9 @@ one_first all all' (Boot text config stored start zone carry) (Step worker seria
 one_first all all' (Boot text config stored start zone carry) (Again number start' stored' carry') f g e = absurd g
 one_first all all' (Boot text config stored start zone carry) (Boot text' config' stored' start' zone' carry') f g e =
     let feed = entry_feed all (Boot text config stored start zone carry) in
-    let same = one_parts feed.line (boot_line text stored start zone) (boot_line text' stored' start' zone')
-    (first_line feed.line (boot_line text stored start zone) config f.0 (λ other. feed.shown_is)) f.0.utf8
-    (first_line feed.line (boot_line text' stored' start' zone') config' g.0 (λ other. feed.shown_is ∙ e)) g.0.utf8 in
+    let same = one_parts feed.line (boot_line text stored start zone carry.last) (boot_line text' stored' start' zone' carry'.last)
+    (first_line feed.line (boot_line text stored start zone carry.last) config f.0 (λ other. feed.shown_is)) f.0.utf8
+    (first_line feed.line (boot_line text' stored' start' zone' carry'.last) config' g.0 (λ other. feed.shown_is ∙ e)) g.0.utf8 in
     let configs = ok_same config config' (sym f.0.config_is ∙ (λ i. config_of (same i).text) ∙ g.0.config_is) in
-    let carries : carry ≡ carry' = f.1 ∙ sym g.1 in
+    let carries : carry ≡ carry' = f.1 ∙ (λ i. first_carry (same i).last) ∙ sym g.1 in
     (λ i. Boot (same i).text (configs i) (same i).stored (same i).start (same i).zone (carries i))

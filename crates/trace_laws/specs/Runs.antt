@@ -1,10 +1,13 @@
 -- Runs so far, and what their traces begin with.
-use Rattle.std.specs.Prelude.{ℕ, ◌≡◌, ◌≤◌, ◌+◌, ◌⊎◌, Bool, true, false, [], ◌∷◌, ◌++◌, length, Option, Ok, IsSome, if◌then◌else◌}
+use Rattle.std.specs.Prelude.{ℕ, ◌≡◌, ◌≤◌, ◌+◌, ◌⊎◌, Bool, true, false, [], ◌∷◌, ◌++◌, length, Option, Ok, IsSome, is_some, if◌then◌else◌}
+use Rattle.std.specs.List.{list_all}
 use Rattle.ha_clock.specs.Local.{last_moment}
 use Rattle.ha_clock.specs.Zone.{zone_of}
 use Rattle.ha_config.specs.declared.config.Config.{Config}
 use Rattle.ha_journal.specs.declared.entry.Entry.{Entry}
 use Rattle.ha_journal.specs.declared.entry.Entry.TheVariants.{Boot, Line, Step, Again}
+use Rattle.ha_config.specs.Names.{automation_named}
+use Rattle.ha_config.specs.Sound.{are_in_name_order}
 use Rattle.ha_config.specs.Words.{Text}
 use Rattle.ha_journal.specs.Journal.{HasEntry, Journal, automations, more}
 use Rattle.ha_model.specs.Records.{Records}
@@ -14,24 +17,29 @@ use Rattle.ha_journal.specs.Entries.{first_carry}
 use Rattle.ha_journal.specs.EntryText.{trace_line, trace_text}
 use Rattle.conf_auto.specs.Config.{config_of}
 use Rattle.ha_replay.specs.declared.boot.BootLine.{BootLine}
-use Rattle.ha_replay.specs.Boots.{HasUtf8, Switches, are_stored}
+use Rattle.ha_replay.specs.Boots.{HasUtf8, Moments, Switches, are_in_time, are_stored}
 use Rattle.ha_replay.specs.Traces.{IsEnd}
 
 -- ---- the first entry
 
--- the configuration, the moment and the zone are read from their texts, and the stored names stand in byte order, each once
+-- The configuration, the moments and the zone are read from their texts, and the names of switches and of moments stand in byte order, each
+-- once. Each moment is one of an automation.
 pub record IsConfigured (b : BootLine) (config : Config) : Type 0 where
   pub config_is : config_of b.text ≡ Ok config
   pub start : b.start ≤ last_moment
   pub zone : IsSome (zone_of b.zone)
   pub ordered : are_stored b.stored ≡ true
+  pub last_ordered : are_in_name_order b.last ≡ true
+  pub last_in_time : are_in_time b.last ≡ true
+  pub known : list_all (λ p. is_some (automation_named config.automations p.0)) b.last ≡ true
   pub utf8 : HasUtf8 b
 
-abbrev pub boot_line : Text → Option Switches → ℕ → Text → BootLine
-boot_line text stored start zone = record { text = text; stored = stored; start = start; zone = zone }
+abbrev pub boot_line : Text → Option Switches → ℕ → Text → Moments → BootLine
+boot_line text stored start zone last = record { text = text; stored = stored; start = start; zone = zone; last = last }
 
 abbrev pub IsFirst : Entry → Type 0
-IsFirst (Boot text config stored start zone carry) = IsConfigured (boot_line text stored start zone) config × (carry ≡ first_carry)
+IsFirst (Boot text config stored start zone carry) =
+    IsConfigured (boot_line text stored start zone carry.last) config × (carry ≡ first_carry carry.last)
 IsFirst (Line source number cmd) = ⊥
 IsFirst (Step worker serial branch item) = ⊥
 IsFirst (Again number start stored carry) = ⊥

@@ -2,7 +2,6 @@
 use Rattle.std.proofs.Common.{◌≡◌, List, [], ◌∷◌, Bool, true, false, refl, sym, ◌∙◌}
 use Rattle.std.specs.Prelude.{Some, None, if◌then◌else◌}
 use Rattle.ha_config.specs.Words.{Text, same, comes_before}
-use Rattle.ha_config.specs.StoreText as switches
 use Rattle.ha_whole.specs.Named.{in_name_order, named, placed_by_name}
 use Rattle.ha_config.proofs.EqualLemmas.{same-refl, same-sound}
 use Rattle.ha_config.proofs.ListLemmas.{none-some}
@@ -44,15 +43,3 @@ named-in-order [] name h = refl
 named-in-order (p ∷ ps) name h =
     named-placed p (in_name_order ps) name (named-in-order ps p.0 h.1 ∙ h.0)
     ∙ (λ i. if same p.0 name then Some p.1 else named-in-order ps name h.1 i)
-
-placed-switch : (p : Text × Bool) (qs : List (Text × Bool)) → switches.placed_by_name p qs ≡ placed_by_name p qs
-placed-switch p [] = refl
-placed-switch p (q ∷ qs) = (λ i. if comes_before p.0 q.0 then p ∷ q ∷ qs else q ∷ placed-switch p qs i)
-
-ordered-switches : (ps : List (Text × Bool)) → switches.in_name_order ps ≡ in_name_order ps
-ordered-switches [] = refl
-ordered-switches (p ∷ ps) = (λ i. switches.placed_by_name p (ordered-switches ps i)) ∙ placed-switch p (in_name_order ps)
-
--- LAW: so are switches, in the order of the store
-pub switch-in-order : (ps : List (Text × Bool)) (name : Text) → AreApart ps → named name (switches.in_name_order ps) ≡ named name ps
-switch-in-order ps name h = (λ i. named name (ordered-switches ps i)) ∙ named-in-order ps name h

@@ -1,5 +1,5 @@
 //! Laws of whole journals, which are read segment by segment. Each is a function that does nothing; its contract is the law.
-ghost use Rattle.std.specs.Prelude.{◌≡◌, ◌<◌, ◌+◌, ℕ, suc, List, [], ◌∷◌, ◌++◌, length, map, flat_map, Bool, Option, Some, is_some, true, false};
+ghost use Rattle.std.specs.Prelude.{◌≡◌, ◌<◌, ◌+◌, ℕ, suc, List, [], ◌∷◌, ◌++◌, length, map, flat_map, Bool, Option, Some, codes, is_some, take, true, false};
 ghost use Rattle.ha_config.specs.declared.command.Cmd.{Cmd};
 ghost use Rattle.ha_config.specs.declared.config.Config.{Config};
 ghost use Rattle.ha_config.specs.declared.config.Trigger.{Trigger};
@@ -7,10 +7,11 @@ ghost use Rattle.ha_journal.specs.declared.entry.Entry.{Entry};
 ghost use Rattle.ha_journal.specs.declared.entry.Entry.TheVariants.{Boot, Line, Step};
 ghost use Rattle.ha_sight.specs.declared.item.Item.{Item};
 ghost use Rattle.ha_config.specs.Words.{Text, EachAfter};
-ghost use Rattle.ha_config.specs.StoreText.{in_name_order as switches_in_order};
+ghost use Rattle.ha_config.specs.StoreText.{store_of};
+ghost use Rattle.ha_config.specs.Sound.{are_in_name_order};
 ghost use Rattle.ha_whole.specs.Named.{in_name_order, named};
 ghost use Rattle.whole_laws.specs.Apart.{AreApart};
-ghost use Rattle.ha_journal.specs.Journal.{Journal, HasEntry, automations, IsJournal as IsJournalAlone, more};
+ghost use Rattle.ha_journal.specs.Journal.{Journal, HasEntry, automations, IsJournal as IsJournalAlone, more, now};
 ghost use Rattle.ha_journal.specs.Entries.{IsBoot, first_carry, is_again, is_restart};
 ghost use Rattle.ha_journal.specs.Commands.{ArePutFrom, lines_of, placed_line};
 ghost use Rattle.ha_journal.specs.EntryText.{error_text, error_text_of, trace_line, trace_text};
@@ -19,7 +20,7 @@ ghost use Rattle.ha_model.specs.Texts.{call_text, call_text_of};
 ghost use Rattle.ha_sight.specs.Items.{call_in};
 ghost use Rattle.ha_laws.specs.OneRun.{SameNumbers};
 ghost use Rattle.ha_sight.specs.Scripts.{Branch};
-ghost use Rattle.ha_config.specs.Names.{name_of};
+ghost use Rattle.ha_config.specs.Names.{name_of, of_automations};
 ghost use Rattle.ha_journal.specs.Triggers.{firings};
 ghost use Rattle.ha_model.specs.Records.{Records, calls_of, records_of as records_alone};
 ghost use Rattle.ha_model.specs.Lawful.{Lawful as LawfulAlone, Right as RightAlone, record_of, is_quiet as is_quiet_alone, is_rested as is_rested_alone, ready as ready_alone};
@@ -144,13 +145,15 @@ pub fn one_source()
 /// Pairs whose names differ have the same value for each name where they are put in the order of the names: so the switches, numbers and
 /// moments that a segment takes over are found again.
 pub fn ordered_pairs_are_found()
-    ensures switches { (ps : List (Text × Bool)) (name : Text) → AreApart ps → named name (switches_in_order ps) ≡ named name ps }
+    ensures switches { (ps : List (Text × Bool)) (name : Text) → AreApart ps → named name (in_name_order ps) ≡ named name ps }
     ensures numbers { (ps : List (Text × ℕ)) (name : Text) → AreApart ps → named name (in_name_order ps) ≡ named name ps }
 {}
 
-/// The first segment takes nothing over.
-pub fn the_first_segment_takes_nothing_over()
-    ensures { (text : Text) (config : Config) (stored : Option (List (Text × Bool))) (start : ℕ) (zone : Text) → IsFirst (Boot text config stored start zone first_carry) }
+/// The first segment takes nothing over but when automations last triggered: of moments that a store gives, those of names that an
+/// automation has.
+pub fn the_first_segment_takes_moments_over()
+    ensures { (text : Text) (config : Config) (stored : Option (List (Text × Bool))) (start : ℕ) (zone : Text) (last : List (Text × ℕ)) → are_in_name_order last ≡ true
+        → IsFirst (Boot text config stored start zone (first_carry (of_automations config.automations last))) }
 {}
 
 /// Where the journal is quiet each source is rested; behind a line that leaves it busy the line's source is not.
@@ -188,6 +191,11 @@ pub fn calls_are_counted()
     ensures own { (j : Journal) (rs : Records) → Right j rs → (q : ℕ) → 0 < q → calls_of j (carried (segment j) + q) ≡ calls_of (segment j) q }
     ensures step { (before : Journal) (k serial : ℕ) (branch : Branch) (item : Item) (rs : Records) → Right (more before (Step k serial branch item)) rs
         → (r : Record) → record_of rs serial ≡ Some r → is_some (call_in item) ≡ true → r.calls ≡ suc (calls_of before serial) }
+{}
+
+/// Behind the hall light's journal the store keeps that it is on, and when it triggered.
+pub fn the_hall_light_is_stored()
+    ensures { store_text hall.journal ≡ store_of ((codes "hall_light", true) ∷ []) ((codes "hall_light", now (take 3 hall.journal)) ∷ []) }
 {}
 
 /// Where the last put changed nothing that the store keeps, the store's text stays.

@@ -7,7 +7,7 @@ use ha_value::{Many, Plain, Word};
 use std::alloc::{AllocError, Global};
 
 /// A copy of moments by their names.
-fn copy_moments(
+pub fn copy_moments(
     alloc: Global,
     moments: &[(Word, Moment)],
 ) -> Result<Many<(Word, Moment)>, AllocError>

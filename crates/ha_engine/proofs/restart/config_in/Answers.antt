@@ -1,6 +1,5 @@
 use Rattle.std.proofs.Common.{◌≡◌, ◌<◌, [], ◌∷◌, get_or, length, refl, arith}
 use Rattle.ha_journal.specs.declared.entry.Entry.{Entry}
-use Rattle.ha_journal.specs.Entries.{IsBoot}
 use Rattle.ha_journal.specs.Journal.{Journal, automations}
 use Rattle.segment_view.specs.Views.{HasBoot}
 use Rattle.ha_engine.proofs.restart.config_in.Goals as goal
@@ -8,10 +7,6 @@ use Rattle.ha_engine.proofs.restart.config_in.Goals as goal
 some : (j : Journal) → HasBoot j → 0 < length j
 some [] h = absurd h
 some (e ∷ es) h = omega arith
-
-first-boot : (j : Journal) (d : Entry) → HasBoot j → IsBoot (get_or j 0 d)
-first-boot [] d h = absurd h
-first-boot (e ∷ es) d h = h
 
 same : (j : Journal) (d : Entry) → HasBoot j → automations (get_or j 0 d ∷ []) ≡ automations j
 same [] d h = absurd h

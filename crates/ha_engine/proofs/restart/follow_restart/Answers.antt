@@ -19,7 +19,7 @@ use Rattle.ha_engine.specs.Admits.{ArePrepared, from_end}
 use Rattle.ha_engine.specs.Lies.{Follows}
 use Rattle.ha_engine.specs.Restarts.{Reopened}
 use Rattle.ha_engine.proofs.ChangeLemmas.{take-less}
-use Rattle.ha_engine.proofs.RestartingLemmas.{IsNextOf, starting-automations, starting-begun, starting-behind, starting-boot, starting-closes, starting-few, starting-followed, starting-place, starting-reopened, starting-rules, starting-switches, starting-told}
+use Rattle.ha_engine.proofs.RestartingLemmas.{IsNextOf, starting-automations, starting-begun, starting-behind, starting-boot, starting-closes, starting-few, starting-followed, starting-noted, starting-place, starting-reopened, starting-rules, starting-switches, starting-told}
 use Rattle.ha_engine.proofs.restart.follow_restart.Goals as goal
 
 pub config_in-requires : goal.config_in-requires
@@ -158,6 +158,29 @@ returns-clause-followed c =
     let config = c.config_in.ensures ∙ ap automations c.as_slice.ensures.value ∙ starting-automations k b t p ls h in
     starting-followed k b t p ls h n c.next-next.result put next_is c.turn_over.new.runs c.turn_over.result c.turn_over.new.lasts.items made.0 made.1 made.2 closed c.turn_over.ensures.lasts
     c.reset_switches-reset.result (c.reset_switches-reset.ensures.changed (segment h.j) h.kept.going.sees.switches_stand config)
+
+pub returns-clause-noted : goal.returns-clause-noted
+returns-clause-noted c =
+    let k : Journal = c.args.journal.now.items in
+    let b = c.args.bounds.now in
+    let t = c.args.runs.now in
+    let p : Parts = c.args.parts.now in
+    let ls = c.args.lasts.now.items in
+    let h = c.requires.restarting in
+    let n : Journal = c.push_again.new.journal.items in
+    let put : n ≡ more k (again_of k) = c.in_ok-push_again.ensures.put in
+    let front : c.len-front.result - 1 ≡ length k = omega (arith, c.len-front.ensures, c.push_again.new.journal.ok.0, ap length put, length-more k (again_of k)) in
+    let next_is : IsNextOf k b t c.next-next.result
+    = subst (λ m. Follows c.next-next.result m (length (all_of t.closed t.list)) (b.segments + 1)) front (subst (λ m. Follows c.next-next.result (c.len-front.result - 1) m (b.segments + 1)) c.count_runs.ensures c.next-next.ensures) in
+    let going : Going nobody (segment n) [] c.in-Ok.opened.0 = subst (λ (i : Journal). Going nobody (segment i) [] c.in-Ok.opened.0) c.as_slice-3.ensures.value c.in-Ok.ensures.going in
+    let prepared = subst (λ (i : Journal). ArePrepared (segment i) (passing (segment i)) (from_end c.in-Ok.opened.1.items)) c.as_slice-3.ensures.value c.in-Ok.ensures.prepared in
+    let begun = starting-begun k b t p ls h n c.next-next.result put next_is in
+    let made = c.turn_over.ensures.begun (segment n) begun going c.in-Ok.ensures.rested prepared in
+    let place : c.len-front.result - 1 - 1 - b.front ≡ length (segment h.j) = omega (arith, front, starting-place k b t p ls h) in
+    let closed : c.turn_over.new.runs.closed ≡ record { records = all_of t.closed (stopped None (length (segment h.j)) EndCause.Restarted t.list); entries = length k }
+    = c.turn_over.ensures.closed ∙ (λ i. record { records = all_of (c.open_next.ensures.closed i) (stopped None (place i) EndCause.Restarted (c.open_next.ensures.list i)); entries = front i }) in
+    starting-noted k b t p ls h n c.next-next.result put next_is c.turn_over.new.runs c.turn_over.result c.turn_over.new.lasts.items made.0 made.1 made.2 closed c.turn_over.ensures.lasts
+    c.requires.in_time c.turn_over.new.moved c.turn_over.ensures.moved
 
 pub returns-in-Err-clause-journal : goal.returns-in-Err-clause-journal
 returns-in-Err-clause-journal c =

@@ -21,4 +21,7 @@ returns-clause-closed c =
     ∙ (λ i. record { records = all_of (c.stop_all.ensures.closed i) (c.stop_all.ensures.list i); entries = c.args.front })
 
 pub returns-clause-lasts : goal.returns-clause-lasts
-returns-clause-lasts c = c.note_lasts.ensures
+returns-clause-lasts c = c.note_lasts.ensures.lasts
+
+pub returns-clause-moved : goal.returns-clause-moved
+returns-clause-moved c = c.note_lasts.ensures.moved

@@ -10,6 +10,3 @@ returns-clause-quiet c = it_is_quiet
 
 pub returns-clause-calls : goal.returns-clause-calls
 returns-clause-calls c = texts.calls
-
-pub returns-clause-store : goal.returns-clause-store
-returns-clause-store c = texts.stored

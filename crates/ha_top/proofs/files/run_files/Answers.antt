@@ -11,7 +11,7 @@ use Rattle.bus_turn.specs.States.{keeper_of, sink_of}
 use Rattle.ha_worker.specs.Courses.{source_of}
 use Rattle.ha_run.specs.Opened.{AreNew}
 use Rattle.ha_run.specs.Served.{AreOpened}
-use Rattle.ha_top.specs.Answered.{AsksConfig, RunOpenCause, StopsAt}
+use Rattle.ha_top.specs.Answered.{RunOpenCause, StopsAt}
 use Rattle.ha_top.specs.Opening.{IsOpenFault, StoppedAmong}
 use Rattle.ha_top.proofs.AskedLemmas.{asked_all, asked_early}
 use Rattle.ha_top.proofs.EarlyLemmas.{early_from, lived_open, not_more, source_cause, trace_cause}
@@ -31,7 +31,7 @@ returns-in-Some-clause-lived g c =
     lived_open c.args.words.now _ _
     (early_from _ _ (ap sink e.out) (ap sink e.err) (ap (option_map sink) e.trace) (ap g.Q.Keeper.kept e.keep ∙ c.load_store.ensures.keeps)
     (not_more g.Q.Keeper.faults (g.Q.Keeper.faults c.args.keep) _ c.unbooted-in-Some.result.keep e.keep c.load_store.ensures.never_falls) e.journal e.records)
-    c.in-Ok.made.text c.in-Ok.made.config c.in-Ok-load_store.stored
+    c.in-Ok.made.text c.in-Ok.made.config c.in-Ok-load_store.taken.switches c.in-Ok-load_store.taken.last
     (subst (λ (z : Text). HoldsText (g.P.Place.holds c.args.place.now) z c.in-Ok.made.text) c.as_str.ensures.value c.in-Ok.ensures.config.holds) c.in-Ok.ensures.config.reads c.in-Ok-load_store.ensures.ok
     (subst IsOpenFault (sym e.status) fault)
     (subst (λ z. RunOpenCause c.args.words.now (g.P.Place.faults c.args.place.now) (g.P.Place.faults c.open_sources-sources.new.place) (g.P.Place.last c.open_sources-sources.new.place) z) (sym e.status)
@@ -49,7 +49,7 @@ returns-in-Err-open_trace-clause-lived g c =
     lived_open c.args.words.now _ _
     (early_from _ _ (ap sink e.out) (ap sink e.err) (ap (option_map sink) e.trace) (ap g.Q.Keeper.kept e.keep ∙ c.load_store.ensures.keeps)
     (not_more g.Q.Keeper.faults (g.Q.Keeper.faults c.args.keep) _ c.unbooted-in-Err-open_trace.result.keep e.keep c.load_store.ensures.never_falls) e.journal e.records)
-    c.in-Ok.made.text c.in-Ok.made.config c.in-Ok-load_store.stored
+    c.in-Ok.made.text c.in-Ok.made.config c.in-Ok-load_store.taken.switches c.in-Ok-load_store.taken.last
     (subst (λ (z : Text). HoldsText (g.P.Place.holds c.args.place.now) z c.in-Ok.made.text) c.as_str.ensures.value c.in-Ok.ensures.config.holds) c.in-Ok.ensures.config.reads c.in-Ok-load_store.ensures.ok
     (subst IsOpenFault (sym e.status) c.in-Err-open_trace.ensures.fault)
     (subst (λ z. RunOpenCause c.args.words.now (g.P.Place.faults c.args.place.now) (g.P.Place.faults c.open_trace.new.place) (g.P.Place.last c.open_trace.new.place) z) (sym e.status)
@@ -78,10 +78,10 @@ returns-clause-lived g c =
     let sink = sink_of g.P.Sink.Sink.written g.P.Sink.Sink.faults g.P.Sink.Sink.zeros g.P.Sink.Sink.name in
     let opens = c.open_sources-sources.ensures.opens [] (subst (λ z. AreNew (g.P.Place.holds c.read_config_at.new.place) [] (map state z)) (sym c.new.ensures.items) tt) in
     let all = opens_all _ _ _ c.open_sources-sources.result.fault c.in_default.is opens in
-    ran_lived c.args.words.now _ _ (keeper_of g.Q.Keeper.kept g.Q.Keeper.faults c.load_store.new.keep) c.in-Ok.made.text c.in-Ok.made.config c.in-Ok-load_store.stored
+    ran_lived c.args.words.now _ _ (keeper_of g.Q.Keeper.kept g.Q.Keeper.faults c.load_store.new.keep) c.in-Ok.made.text c.in-Ok.made.config c.in-Ok-load_store.taken.switches c.in-Ok-load_store.taken.last
     (map state c.open_sources-sources.result.sources) (option_map sink c.in-Ok-open_trace.trace)
     (record { out_faults = c.requires.out_new.0; out_zeros = c.requires.out_new.1; err_faults = c.requires.err_new.0; err_zeros = c.requires.err_new.1; keep_faults = c.requires.keep_new })
-    (subst (λ (z : Text). HoldsText (g.P.Place.holds c.args.place.now) z c.in-Ok.made.text) c.as_str.ensures.value c.in-Ok.ensures.config.holds) c.in-Ok.ensures.config.reads c.in-Ok-load_store.ensures.ok c.in-Ok-load_store.ensures.sound
+    (subst (λ (z : Text). HoldsText (g.P.Place.holds c.args.place.now) z c.in-Ok.made.text) c.as_str.ensures.value c.in-Ok.ensures.config.holds) c.in-Ok.ensures.config.reads c.in-Ok-load_store.ensures.ok c.in-Ok-load_store.ensures.sound c.in-Ok-load_store.ensures.last
     (record {
       few = record { some_source = c.requires.some; few_sources = c.requires.few };
       in_time = c.requires.in_time;

@@ -4,4 +4,4 @@ use Rattle.std.specs.Str.{is_utf8}
 use Rattle.replay_file.proofs.boot.are_texts.Given as goal
 
 abbrev pub invariant-loop-pair : goal.invariant-loop-pair
-invariant-loop-pair l = list_all (λ p. is_utf8 p.0) (take l.pair-index l.pairs) ≡ true
+invariant-loop-pair g l = list_all (λ p. is_utf8 p.0) (take l.pair-index l.pairs) ≡ true

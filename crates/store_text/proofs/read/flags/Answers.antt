@@ -2,7 +2,8 @@ use Rattle.std.proofs.Common.{◌≡◌, ◌∙◌, ap, refl, sym, rules, List, 
 use Rattle.serde_json.specs.View.{members_view}
 use Rattle.serde_json.proofs.Views.{Entry}
 use Rattle.store_text.specs.Store.{Switches, flags_of}
-use Rattle.store_text.proofs.FlagLemmas.{flags_more, flags_stop, flags_sound}
+use Rattle.serde_json.specs.Find.{as_bool}
+use Rattle.store_text.proofs.FlagLemmas.{values_more, values_stop, flags_sound}
 use Rattle.std.specs.List.Sorted.{IsStrictlySortedBy}
 use Rattle.std.specs.Map.{keys_of}
 use Rattle.std.specs.String.{string_cmp}
@@ -20,7 +21,7 @@ loop-name-preserved c =
     c.in-Ok-push.ensures.ok ∙ ap (λ (k : List ℕ). found ++ (k, c.in-Some-as_bool.on) ∷ []) named in (
       done ++ e ∷ [],
       all ∙ sym (append_assoc done (e ∷ []) left),
-      flags_more done e found c.in-Some-as_bool.on c.loop-name.invariant.2 (sym c.in-Some-as_bool.ensures)
+      values_more as_bool done e found c.in-Some-as_bool.on c.loop-name.invariant.2 (sym c.in-Some-as_bool.ensures)
           ∙ ap (λ (s : Switches). Some s) (sym more),
     )
 
@@ -30,7 +31,7 @@ returns-in-None-as_bool-clause-refused c =
     let e : Entry = (c.in-Some.name.now, c.in-Some.value.now) in
     let left = c.next.new.self in
     let all : c.args.members.now.entries ≡ done ++ e ∷ left = c.loop-name.invariant.1 ∙ ap (λ es. done ++ es) c.in-Some.ensures.steps in
-    (refl, ap (λ es. flags_of (members_view es)) all ∙ flags_stop done e left (sym c.in-None-as_bool.ensures))
+    (refl, ap (λ es. flags_of (members_view es)) all ∙ values_stop as_bool done e left (sym c.in-None-as_bool.ensures))
 
 pub returns-clause-sound : goal.returns-clause-sound
 returns-clause-sound c =

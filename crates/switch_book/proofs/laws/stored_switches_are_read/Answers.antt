@@ -5,4 +5,4 @@ pub returns-clause-found : goal.returns-clause-found
 returns-clause-found c = found-in_name_order
 
 pub returns-clause-order : goal.returns-clause-order
-returns-clause-order c = ordered-in_name_order
+returns-clause-order c = λ s h. ordered-in_name_order s h

@@ -2,21 +2,25 @@ use Rattle.std.proofs.Common.{◌≡◌, ◌+◌, false, drop, length, refl, sym
 use Rattle.std.specs.Prelude.{Some}
 use Rattle.ha_journal.specs.declared.entry.Entry.{Entry}
 use Rattle.ha_journal.specs.declared.entry.Entry.TheVariants.{Step}
-use Rattle.ha_journal.specs.Journal.{Journal, more}
+use Rattle.ha_journal.specs.Journal.{Journal, automations, more}
+use Rattle.ha_journal.proofs.MoreLemmas.{automations-more}
 use Rattle.ha_model.specs.Lawful as one
 use Rattle.ha_model.specs.Lawful.{Right, pick}
 use Rattle.ha_whole.specs.Segments.{alone, segment}
 use Rattle.ha_whole.specs.Whole.{HasRoom, Right as RightWhole, is_quiet, ready}
+use Rattle.segment_carry.specs.ByName.{by_name}
 use Rattle.segment_runs.specs.Segment.{all_of}
+use Rattle.whole_laws.proofs.LiftLemmas.{entries-have}
 use Rattle.whole_laws.proofs.PutLemmas.{step-is-put}
 use Rattle.engine_parts.specs.Kept.{Kept}
 use Rattle.whole_laws.proofs.CutLemmas.{is-cut}
 use Rattle.engine_entry.specs.Stepping.{Stepping}
 use Rattle.ha_engine.specs.Core.{Core}
 use Rattle.ha_engine.specs.Lies.{Lies}
-use Rattle.ha_engine.specs.Noted.{noted}
+use Rattle.ha_engine.specs.Noted.{AreNoted, moved_by, noted}
 use Rattle.ha_engine.specs.Told.{IsFollowed, IsTold}
 use Rattle.ha_engine.proofs.FollowedLemmas.{plain-followed, plain-told, step-alone, step-picked, told-quiet, told-same, true-not}
+use Rattle.ha_engine.proofs.StoredLemmas.{plain-noted}
 use Rattle.ha_engine.proofs.engine.Engine.append_one.Goals as goal
 
 pub advance-requires-clause-lies : goal.advance-requires-clause-lies
@@ -47,6 +51,8 @@ pub invariant_of-self : goal.invariant_of-self
 invariant_of-self c = record {
   told = told-same c.self.inside.journal.items _ c.self.inside.bounds c.self.inside.runs _ c.self.invariant.told c.reserve.ensures.items refl refl;
   followed = true-not;
+  noted = true-not;
+  ordered = true-not;
 }
 
 pub invariant_of-self-in-Ok : goal.invariant_of-self-in-Ok
@@ -55,7 +61,8 @@ invariant_of-self-in-Ok c =
     let t = c.self.inside.runs in
     let b = c.self.inside.bounds in
     let told = c.self.invariant.told in
-    let followed = c.self.invariant.followed (ap (λ (v : Core). v.is_spent) c.self.view_is ∙ c.requires.usable) in
+    let usable = ap (λ (v : Core). v.is_spent) c.self.view_is ∙ c.requires.usable in
+    let followed = c.self.invariant.followed usable in
     let room : HasRoom j false = subst (λ (v : Core). HasRoom v.entries false) (sym c.self.view_is) c.requires.room in
     let made = c.in-Ok.ensures.ok in
     let x : Entry = Step c.args.worker (b.base + made.0) made.1 made.2 in
@@ -69,10 +76,16 @@ invariant_of-self-in-Ok c =
     (subst (λ (l : Journal). Kept (more l (Step c.args.worker made.0 made.1 made.2)) c.advance.new.runs.list c.advance.new.parts) there made.6) in
     record {
       told = subst (λ (i : Journal). IsTold i b c.advance.new.runs) (sym is) (plain-told j x b t c.advance.new.runs c.self.inside.parts c.advance.new.parts c.self.inside.lasts.items c.self.inside.reset (step-is-put c.args.worker (b.base + made.0) made.1 made.2) refl told followed own kept c.advance.ensures.closed room);
-      followed = λ e. subst (λ (i : Journal). IsFollowed i c.advance.new.runs.list c.advance.new.parts c.note_lasts.new.lasts.items c.self.inside.reset) (sym is)
+      followed = λ e. subst (λ (i : Journal). IsFollowed i c.advance.new.runs.list c.advance.new.parts c.note_lasts-self-inside.new.lasts.items c.self.inside.reset) (sym is)
           (subst (λ l. IsFollowed (more j x) c.advance.new.runs.list c.advance.new.parts l c.self.inside.reset)
-          (sym (c.note_lasts.ensures ∙ (λ i. noted c.advance.new.parts.at (drop (c.len-before.ensures i) c.advance.new.runs.list) c.self.inside.lasts.items)))
+          (sym (c.note_lasts-self-inside.ensures.lasts ∙ (λ i. noted c.advance.new.parts.at (drop (c.len-before.ensures i) c.advance.new.runs.list) c.self.inside.lasts.items)))
           (plain-followed j x b t c.advance.new.runs c.self.inside.parts c.advance.new.parts c.self.inside.lasts.items c.self.inside.reset (step-is-put c.args.worker (b.base + made.0) made.1 made.2) refl told followed own kept c.advance.ensures.closed room));
+      noted = λ e. subst (λ (i : Journal). AreNoted i c.note_lasts-self-inside.new.lasts.items c.note_lasts-self-inside.result) (sym is)
+          (plain-noted j x b t c.advance.new.runs c.self.inside.parts c.advance.new.parts c.self.inside.lasts.items c.self.inside.reset (step-is-put c.args.worker (b.base + made.0) made.1 made.2) refl told followed own kept c.advance.ensures.closed room
+          (c.self.invariant.noted usable).in_time c.note_lasts-self-inside.new.lasts.items c.note_lasts-self-inside.result
+          (c.note_lasts-self-inside.ensures.lasts ∙ (λ i. noted c.advance.new.parts.at (drop (c.len-before.ensures i) c.advance.new.runs.list) c.self.inside.lasts.items))
+          (c.note_lasts-self-inside.ensures.moved ∙ (λ i. moved_by c.advance.new.parts.at (drop (c.len-before.ensures i) c.advance.new.runs.list) c.self.inside.lasts.items)));
+      ordered = λ e. c.self.invariant.ordered usable ∙ ap by_name (automations-more j x (entries-have j told.lies.entries) ∙ ap automations (sym is));
     }
 
 pub returns-in-Ok-clause-put : goal.returns-in-Ok-clause-put
@@ -125,6 +138,8 @@ pub invariant_of-self-in-Err : goal.invariant_of-self-in-Err
 invariant_of-self-in-Err c = record {
   told = told-same c.self.inside.journal.items _ c.self.inside.bounds c.self.inside.runs _ c.self.invariant.told (c.in-Err.ensures.journal ∙ c.reserve.ensures.items) c.in-Err.ensures.records c.advance.ensures.closed;
   followed = true-not;
+  noted = true-not;
+  ordered = true-not;
 }
 
 pub returns-in-Err-clause-stays : goal.returns-in-Err-clause-stays

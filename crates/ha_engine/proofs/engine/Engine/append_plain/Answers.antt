@@ -8,17 +8,21 @@ use Rattle.std.specs.Prelude.{List}
 use Rattle.ha_journal.specs.declared.entry.Entry.{Entry}
 use Rattle.ha_journal.specs.declared.entry.Entry.TheVariants.{Line}
 use Rattle.ha_journal.specs.Commands.{IsFair, put_as}
-use Rattle.ha_journal.specs.Journal.{Journal, more}
+use Rattle.ha_journal.specs.Journal.{Journal, automations, more}
+use Rattle.ha_journal.proofs.MoreLemmas.{automations-more}
 use Rattle.ha_whole.specs.Segments.{segment}
 use Rattle.ha_whole.specs.Whole.{HasRoom, Right, put}
+use Rattle.segment_carry.specs.ByName.{by_name}
 use Rattle.segment_runs.specs.Segment.{all_of}
 use Rattle.whole_laws.proofs.CutLemmas.{is-cut}
+use Rattle.whole_laws.proofs.LiftLemmas.{entries-have}
 use Rattle.whole_laws.proofs.PutLemmas.{line-put, put-on, put-restarts}
 use Rattle.ha_engine.specs.Core.{Core}
-use Rattle.ha_engine.specs.Noted.{noted}
+use Rattle.ha_engine.specs.Noted.{AreNoted, moved_by, noted}
 use Rattle.ha_engine.specs.Told.{IsFollowed, IsTold}
 use Rattle.ha_engine.proofs.ChangeLemmas.{take-less}
 use Rattle.ha_engine.proofs.FollowedLemmas.{plain-followed, plain-told, told-same, true-not}
+use Rattle.ha_engine.proofs.StoredLemmas.{plain-noted}
 use Rattle.ha_engine.proofs.engine.Engine.append_plain.Goals as goal
 
 pub follow_pushed-requires : goal.follow_pushed-requires
@@ -54,6 +58,8 @@ pub invariant_of-self : goal.invariant_of-self
 invariant_of-self c = record {
   told = told-same c.self.inside.journal.items _ c.self.inside.bounds c.self.inside.runs _ c.self.invariant.told c.reserve.ensures.items refl refl;
   followed = true-not;
+  noted = true-not;
+  ordered = true-not;
 }
 
 pub invariant_of-self-in-Ok : goal.invariant_of-self-in-Ok
@@ -61,7 +67,8 @@ invariant_of-self-in-Ok c =
     let j : Journal = c.self.inside.journal.items in
     let x : Entry = Line c.args.source c.args.number (put_as j c.args.cmd) in
     let told = c.self.invariant.told in
-    let followed = c.self.invariant.followed (ap (λ (v : Core). v.is_spent) c.self.view_is ∙ c.requires.usable) in
+    let usable = ap (λ (v : Core). v.is_spent) c.self.view_is ∙ c.requires.usable in
+    let followed = c.self.invariant.followed usable in
     let room : HasRoom j false = subst (λ (v : Core). HasRoom v.entries false) (sym c.self.view_is) c.requires.room in
     let pushed : c.as_mut_slice.result.now ≡ more j (Line c.args.source c.args.number c.args.cmd)
     = c.as_mut_slice.ensures.value ∙ c.push_line.ensures.items ∙ ap (λ (l : Journal). more l (Line c.args.source c.args.number c.args.cmd)) c.reserve.ensures.items in
@@ -73,10 +80,16 @@ invariant_of-self-in-Ok c =
     record {
       told = subst (λ (i : Journal). IsTold i c.self.inside.bounds c.follow_pushed.new.runs) (sym there)
           (plain-told j x c.self.inside.bounds c.self.inside.runs c.follow_pushed.new.runs c.self.inside.parts c.follow_pushed.new.parts c.self.inside.lasts.items c.self.inside.reset (line-put c.args.source c.args.number (put_as j c.args.cmd)) stays told followed own.0 own.1 c.follow_pushed.ensures.closed room);
-      followed = λ e. subst (λ (i : Journal). IsFollowed i c.follow_pushed.new.runs.list c.follow_pushed.new.parts c.note_lasts.new.lasts.items c.self.inside.reset) (sym there)
+      followed = λ e. subst (λ (i : Journal). IsFollowed i c.follow_pushed.new.runs.list c.follow_pushed.new.parts c.note_lasts-self-inside.new.lasts.items c.self.inside.reset) (sym there)
           (subst (λ l. IsFollowed (more j x) c.follow_pushed.new.runs.list c.follow_pushed.new.parts l c.self.inside.reset)
-          (sym (c.note_lasts.ensures ∙ (λ i. noted c.follow_pushed.new.parts.at (drop (c.len-before.ensures i) c.follow_pushed.new.runs.list) c.self.inside.lasts.items)))
+          (sym (c.note_lasts-self-inside.ensures.lasts ∙ (λ i. noted c.follow_pushed.new.parts.at (drop (c.len-before.ensures i) c.follow_pushed.new.runs.list) c.self.inside.lasts.items)))
           (plain-followed j x c.self.inside.bounds c.self.inside.runs c.follow_pushed.new.runs c.self.inside.parts c.follow_pushed.new.parts c.self.inside.lasts.items c.self.inside.reset (line-put c.args.source c.args.number (put_as j c.args.cmd)) stays told followed own.0 own.1 c.follow_pushed.ensures.closed room));
+      noted = λ e. subst (λ (i : Journal). AreNoted i c.note_lasts-self-inside.new.lasts.items c.note_lasts-self-inside.result) (sym there)
+          (plain-noted j x c.self.inside.bounds c.self.inside.runs c.follow_pushed.new.runs c.self.inside.parts c.follow_pushed.new.parts c.self.inside.lasts.items c.self.inside.reset (line-put c.args.source c.args.number (put_as j c.args.cmd)) stays told followed own.0 own.1 c.follow_pushed.ensures.closed room
+          (c.self.invariant.noted usable).in_time c.note_lasts-self-inside.new.lasts.items c.note_lasts-self-inside.result
+          (c.note_lasts-self-inside.ensures.lasts ∙ (λ i. noted c.follow_pushed.new.parts.at (drop (c.len-before.ensures i) c.follow_pushed.new.runs.list) c.self.inside.lasts.items))
+          (c.note_lasts-self-inside.ensures.moved ∙ (λ i. moved_by c.follow_pushed.new.parts.at (drop (c.len-before.ensures i) c.follow_pushed.new.runs.list) c.self.inside.lasts.items)));
+      ordered = λ e. c.self.invariant.ordered usable ∙ ap by_name (automations-more j x (entries-have j told.lies.entries) ∙ ap automations (sym there));
     }
 
 pub returns-in-Ok-clause-put : goal.returns-in-Ok-clause-put
@@ -126,6 +139,8 @@ invariant_of-self-in-Err c =
     record {
       told = told-same j c.drop_last.new.journal.items c.self.inside.bounds c.self.inside.runs c.follow_pushed.new.runs told back c.in-Err.ensures.err c.follow_pushed.ensures.closed;
       followed = true-not;
+      noted = true-not;
+      ordered = true-not;
     }
 
 pub returns-in-Err-clause-stays : goal.returns-in-Err-clause-stays

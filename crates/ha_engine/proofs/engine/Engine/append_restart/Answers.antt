@@ -1,15 +1,19 @@
 use Rattle.std.proofs.Common.{◌≡◌, ◌-◌, true, take, length, refl, sym, ap, subst, ◌∙◌}
 use Rattle.ha_config.specs.declared.command.Cmd.{Cmd}
+use Rattle.ha_journal.specs.declared.entry.Entry.{Entry}
 use Rattle.ha_journal.specs.declared.entry.Entry.TheVariants.{Line}
-use Rattle.ha_journal.specs.Journal.{Journal, more}
+use Rattle.ha_journal.specs.Journal.{Journal, automations, more}
 use Rattle.ha_whole.specs.Whole.{HasRoom, again_of, put}
+use Rattle.segment_carry.specs.ByName.{by_name}
 use Rattle.segment_runs.specs.Segment.{all_of}
+use Rattle.whole_laws.proofs.LiftLemmas.{entries-have}
 use Rattle.whole_laws.proofs.PutLemmas.{put-restart}
 use Rattle.ha_engine.specs.Core.{Core}
 use Rattle.ha_engine.specs.declared.bounds.Bounds.{Bounds}
 use Rattle.ha_engine.specs.Told.{IsTold}
 use Rattle.ha_engine.proofs.ChangeLemmas.{take-less}
 use Rattle.ha_engine.proofs.FollowedLemmas.{told-same, true-not}
+use Rattle.ha_engine.proofs.StoredLemmas.{automations-behind}
 use Rattle.ha_engine.proofs.engine.Engine.append_restart.Goals as goal
 
 pub follow_restart-requires-clause-restarting : goal.follow_restart-requires-clause-restarting
@@ -29,14 +33,29 @@ follow_restart-requires-clause-restarting c =
       lasts_are = followed.lasts_are;
     }
 
+pub follow_restart-requires-clause-in_time : goal.follow_restart-requires-clause-in_time
+follow_restart-requires-clause-in_time c = (c.self.invariant.noted (ap (λ (v : Core). v.is_spent) c.self.view_is ∙ c.requires.usable)).in_time
+
 pub invariant_of-self : goal.invariant_of-self
 invariant_of-self c = record {
   told = told-same c.self.inside.journal.items _ c.self.inside.bounds c.self.inside.runs _ c.self.invariant.told c.reserve.ensures.items refl refl;
   followed = true-not;
+  noted = true-not;
+  ordered = true-not;
 }
 
 pub invariant_of-self-in-Ok : goal.invariant_of-self-in-Ok
-invariant_of-self-in-Ok c = record { told = c.in-Ok.ensures.told; followed = λ e. c.in-Ok.ensures.followed }
+invariant_of-self-in-Ok c =
+    let j : Journal = c.self.inside.journal.items in
+    let x : Entry = Line c.args.source c.args.number Cmd.Restart in
+    let is : c.push_line.new.journal.items ≡ more j x = c.push_line.ensures.items ∙ ap (λ (l : Journal). more l x) c.reserve.ensures.items in
+    record {
+      told = c.in-Ok.ensures.told;
+      followed = λ e. c.in-Ok.ensures.followed;
+      noted = λ e. c.in-Ok.ensures.noted;
+      ordered = λ e. c.self.invariant.ordered (ap (λ (v : Core). v.is_spent) c.self.view_is ∙ c.requires.usable)
+          ∙ ap by_name (automations-behind j x (again_of (more j x)) (entries-have j c.self.invariant.told.lies.entries) ∙ ap automations (sym (c.in-Ok.ensures.put ∙ (λ i. more (is i) (again_of (is i))))));
+    }
 
 pub returns-in-Ok-clause-put : goal.returns-in-Ok-clause-put
 returns-in-Ok-clause-put c =
@@ -63,6 +82,8 @@ invariant_of-self-in-Err c =
       told = subst (λ (b : Bounds). IsTold c.drop_last.new.journal.items b c.follow_restart.new.runs) (sym same.0)
           (told-same j c.drop_last.new.journal.items c.self.inside.bounds c.self.inside.runs c.follow_restart.new.runs told back same.1 same.2);
       followed = true-not;
+      noted = true-not;
+      ordered = true-not;
     }
 
 pub returns-in-Err-clause-stays : goal.returns-in-Err-clause-stays

@@ -1,0 +1,4 @@
+pub mod Reads
+pub mod Agree
+pub mod Finds
+pub mod Worked
