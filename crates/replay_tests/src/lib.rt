@@ -2,4 +2,8 @@
 #![tactic(auto)]
 
 #[cfg(test)]
+mod boots;
+#[cfg(test)]
+mod restarts;
+#[cfg(test)]
 mod traces;

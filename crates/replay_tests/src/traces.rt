@@ -4,39 +4,20 @@ use ha_io::{MemFile, MemPlace, MemSink, have_distinct_names};
 use replay_file::replay_call;
 use std::alloc::{AllocError, Global};
 
-const BOOT: &str =
+pub(crate) const BOOT: &str =
     "{\"boot\":{\"config\":\"[]\\n\",\"stored\":null,\"start\":\"2024-05-01T20:00:00.000Z\",\"zone\":\"UTC\"}}\n";
 
-const BLANK: &str =
-    "{\"boot\": {\"config\":\"[]\\n\",\"stored\":null,\"start\":\"2024-05-01T20:00:00.000Z\",\"zone\":\"UTC\"}}\n";
-
-const ORDERED: &str =
-    "{\"boot\":{\"config\":\"[]\\n\",\"stored\":{\"a\":true,\"b\":true},\"start\":\"2024-05-01T20:00:00.000Z\",\"zone\":\"UTC\"}}\n";
-
-const UNORDERED: &str =
-    "{\"boot\":{\"config\":\"[]\\n\",\"stored\":{\"b\":true,\"a\":true},\"start\":\"2024-05-01T20:00:00.000Z\",\"zone\":\"UTC\"}}\n";
-
-/// A boot whose automations are `a` and `b`, up to what the store had of them.
-const TWO: &str =
-    "{\"boot\":{\"config\":\"- {alias: a, triggers: [], actions: []}\\n- {alias: b, triggers: [], actions: []}\\n\",\"stored\":{},";
-
-const START: &str = "\"start\":\"2024-05-01T20:00:00.000Z\",\"zone\":\"UTC\"}}\n";
-
-const FIRST: &str =
+pub(crate) const FIRST: &str =
     "{\"source\":0,\"number\":0,\"cmd\":{\"moment\":\"2024-05-01T20:00:01.000Z\"}}\n";
 
-const SECOND: &str =
+pub(crate) const SECOND: &str =
     "{\"source\":0,\"number\":1,\"cmd\":{\"moment\":\"2024-05-01T20:00:01.000Z\"}}\n";
 
-const RESTART: &str = "{\"source\":0,\"number\":0,\"cmd\":{\"restart\":true}}\n";
-
-const AGAIN: &str = "{\"again\":1}\n";
-
 /// A home that notifies, waits a second and notifies again, up to its last step.
-const HOME: &str =
+pub(crate) const HOME: &str =
     "{\"boot\":{\"config\":\"- alias: a\\n  triggers:\\n    - trigger: event\\n      event_type: go\\n  actions:\\n    - action: notify.x\\n    - delay: 1\\n    - action: notify.y\\n\",\"stored\":null,\"start\":\"2024-05-01T20:00:00.000Z\",\"zone\":\"UTC\"}}\n{\"source\":0,\"number\":0,\"cmd\":{\"event\":\"go\",\"data\":{}}}\n";
 
-const STEPS: &str =
+pub(crate) const STEPS: &str =
     "{\"worker\":0,\"run\":1,\"branch\":[],\"item\":{\"call\":{\"service\":\"notify.x\",\"target\":[],\"data\":{}}}}\n{\"worker\":0,\"run\":1,\"branch\":[],\"item\":{\"nothing\":true}}\n";
 
 const LATER: &str =
@@ -109,7 +90,7 @@ fn gives(
 }
 
 /// Whether the trace of these parts is given this status, with these calls and errors.
-fn is_given(alloc: Global, parts: &[&str], wanted: Wanted<'_>) -> bool {
+pub(crate) fn is_given(alloc: Global, parts: &[&str], wanted: Wanted<'_>) -> bool {
     gives(alloc, parts, &[], wanted).unwrap_or(false)
 }
 
@@ -122,7 +103,7 @@ fn is_refused(alloc: Global, text: Vec<u8>) -> Result<bool, AllocError> {
 }
 
 /// Whether each front of the trace is refused, but the whole.
-fn are_fronts_refused(alloc: Global, parts: &[&str]) -> Result<bool, AllocError> {
+pub(crate) fn are_fronts_refused(alloc: Global, parts: &[&str]) -> Result<bool, AllocError> {
     let trace = joined(alloc, parts)?;
     for count in 0..trace.len() {
         if !is_refused(alloc, Vec::from_slice(alloc, &trace[..count])?)? {
@@ -246,93 +227,6 @@ fn a_wrong_count(rt: HostRuntime) {
 }
 
 #[test]
-fn a_boot_with_a_blank(rt: HostRuntime) {
-    assert!(rt;
-        is_given(
-            rt.alloc(),
-            &[BLANK, FIRST, "{\"end\":2}\n"],
-            (11, "", "hearth: trace line 1: T\n")
-        )
-    );
-}
-
-#[test]
-fn stored_switches_in_their_order(rt: HostRuntime) {
-    assert!(rt;
-        is_given(rt.alloc(), &[ORDERED, "{\"end\":1}\n"], (0, "", ""))
-            && is_given(
-                rt.alloc(),
-                &[UNORDERED, "{\"end\":1}\n"],
-                (11, "", "hearth: trace line 1: T\n")
-            )
-    );
-}
-
-/// Whether a trace with this part of its boot is given this, without calls and errors but for the status line.
-fn is_taken(alloc: Global, last: &str, status: u8, line: &str) -> bool {
-    is_given(
-        alloc,
-        &[TWO, last, START, "{\"end\":1}\n"],
-        (status, "", line),
-    )
-}
-
-#[test]
-fn when_automations_last_triggered_in_their_order(rt: HostRuntime) {
-    let alloc = rt.alloc();
-    assert!(rt;
-        is_taken(alloc, "", 0, "")
-            && is_taken(
-                alloc,
-                "\"last\":{\"b\":\"1970-01-01T00:00:00.000Z\"},",
-                0,
-                ""
-            )
-            && is_taken(
-                alloc,
-                "\"last\":{\"a\":\"2999-12-31T23:59:59.999Z\",\"b\":\"1970-01-01T00:00:00.000Z\"},",
-                0,
-                ""
-            )
-    );
-}
-
-/// A moment of no automation, none at all, names out of order or twice, and moments in another form.
-#[test]
-fn a_boot_with_other_moments(rt: HostRuntime) {
-    let alloc = rt.alloc();
-    let line = "hearth: trace line 1: T\n";
-    assert!(rt;
-        is_taken(
-            alloc,
-            "\"last\":{\"c\":\"1970-01-01T00:00:00.000Z\"},",
-            11,
-            line
-        ) && is_taken(alloc, "\"last\":{},", 11, line)
-            && is_taken(alloc, "\"last\":null,", 11, line)
-            && is_taken(
-                alloc,
-                "\"last\":{\"b\":\"1970-01-01T00:00:00.000Z\",\"a\":\"1970-01-01T00:00:00.000Z\"},",
-                11,
-                line
-            )
-            && is_taken(
-                alloc,
-                "\"last\":{\"a\":\"1970-01-01T00:00:00.000Z\",\"a\":\"1970-01-01T00:00:00.000Z\"},",
-                11,
-                line
-            )
-            && is_taken(
-                alloc,
-                "\"last\":{\"a\":\"1970-01-01T00:00:00Z\"},",
-                11,
-                line
-            )
-            && is_taken(alloc, "\"last\":{\"a\":0},", 11, line)
-    );
-}
-
-#[test]
 fn the_read_fails(rt: HostRuntime) {
     assert!(rt;
         gives(
@@ -413,106 +307,4 @@ fn each_changed_byte_of_a_step_is_refused(rt: HostRuntime) {
 #[test]
 fn each_changed_byte_of_the_last_lines_is_refused(rt: HostRuntime) {
     assert!(rt; is_each_byte_told(rt.alloc(), &[HOME, STEPS, LATER], LAST, &[]).unwrap_or(false));
-}
-
-/// Behind a restart its `again` stands. Each front of the trace is refused, that behind the line of the restart too.
-#[test]
-fn a_restart_with_its_again(rt: HostRuntime) {
-    let parts = [BOOT, RESTART, AGAIN, SECOND, "{\"end\":4}\n"];
-    assert!(rt;
-        is_given(rt.alloc(), &parts, (0, "", ""))
-            && are_fronts_refused(rt.alloc(), &parts).unwrap_or(false)
-    );
-}
-
-/// It is missing, or of another number.
-#[test]
-fn a_restart_without_its_again(rt: HostRuntime) {
-    let wanted = (11, "", "hearth: trace line 3: T\n");
-    assert!(rt;
-        is_given(
-            rt.alloc(),
-            &[BOOT, RESTART, SECOND, "{\"end\":3}\n"],
-            wanted
-        ) && is_given(rt.alloc(), &[BOOT, RESTART, "{\"end\":2}\n"], wanted)
-            && is_given(
-                rt.alloc(),
-                &[BOOT, RESTART, "{\"again\":2}\n", SECOND, "{\"end\":4}\n"],
-                wanted
-            )
-    );
-}
-
-/// It stands twice, or behind no restart.
-#[test]
-fn an_again_that_is_not_due(rt: HostRuntime) {
-    assert!(rt;
-        is_given(
-            rt.alloc(),
-            &[BOOT, RESTART, AGAIN, AGAIN, SECOND, "{\"end\":5}\n"],
-            (11, "", "hearth: trace line 4: T\n")
-        ) && is_given(
-            rt.alloc(),
-            &[BOOT, AGAIN, "{\"end\":2}\n"],
-            (11, "", "hearth: trace line 2: T\n")
-        )
-    );
-}
-
-/// A source that is over, which has no line in the second segment.
-const LOST: &str = "{\"source\":1,\"number\":0,\"cmd\":{\"lost\":true}}\n";
-
-const LOST_AGAIN: &str = "{\"source\":1,\"number\":1,\"cmd\":{\"lost\":true}}\n";
-
-/// It stays over, whatever the number of its line.
-#[test]
-fn a_source_that_was_lost_before_a_restart(rt: HostRuntime) {
-    let lost = "source 1 line 0: lost\n";
-    let refused = "source 1 line 0: lost\nhearth: trace line 5: T\n";
-    let end = "{\"end\":5}\n";
-    assert!(rt;
-        is_given(
-            rt.alloc(),
-            &[BOOT, LOST, RESTART, AGAIN, SECOND, end],
-            (0, "", lost)
-        ) && is_given(
-            rt.alloc(),
-            &[BOOT, LOST, RESTART, AGAIN, LOST_AGAIN, end],
-            (11, "", refused)
-        ) && is_given(
-            rt.alloc(),
-            &[BOOT, LOST, RESTART, AGAIN, LOST, end],
-            (11, "", refused)
-        )
-    );
-}
-
-/// The home is restarted in the delay of its first run, and a second one begins.
-const OVER: &str =
-    "{\"source\":0,\"number\":1,\"cmd\":{\"restart\":true}}\n{\"again\":1}\n{\"source\":0,\"number\":2,\"cmd\":{\"event\":\"go\",\"data\":{}}}\n";
-
-const SECOND_STEPS: &str =
-    "{\"worker\":0,\"run\":2,\"branch\":[],\"item\":{\"call\":{\"service\":\"notify.x\",\"target\":[],\"data\":{}}}}\n{\"worker\":0,\"run\":2,\"branch\":[],\"item\":{\"nothing\":true}}\n";
-
-const SECOND_LAST: &str =
-    "{\"source\":1,\"number\":0,\"cmd\":{\"moment\":\"2024-05-01T20:00:01.000Z\"}}\n{\"worker\":1,\"run\":2,\"branch\":[],\"item\":{\"nothing\":true}}\n{\"worker\":1,\"run\":2,\"branch\":[],\"item\":{\"call\":{\"service\":\"notify.y\",\"target\":[],\"data\":{}}}}\n{\"end\":12}\n";
-
-/// Runs are counted over all segments.
-#[test]
-fn a_run_behind_a_restart(rt: HostRuntime) {
-    let first =
-        "{\"run\":\"a\",\"number\":1,\"call\":1,\"service\":\"notify.x\",\"target\":[],\"data\":{}}\n";
-    let calls =
-        "{\"run\":\"a\",\"number\":1,\"call\":1,\"service\":\"notify.x\",\"target\":[],\"data\":{}}\n{\"run\":\"a\",\"number\":2,\"call\":1,\"service\":\"notify.x\",\"target\":[],\"data\":{}}\n{\"run\":\"a\",\"number\":2,\"call\":2,\"service\":\"notify.y\",\"target\":[],\"data\":{}}\n";
-    assert!(rt;
-        is_given(
-            rt.alloc(),
-            &[HOME, STEPS, OVER, SECOND_STEPS, SECOND_LAST],
-            (0, calls, "")
-        ) && is_given(
-            rt.alloc(),
-            &[HOME, STEPS, OVER, STEPS, SECOND_LAST],
-            (11, first, "hearth: trace line 8: T\n")
-        )
-    );
 }
