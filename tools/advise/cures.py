@@ -6,7 +6,7 @@ from difflib import get_close_matches
 
 from . import kinds
 from .families import told_template
-from .keys import ACTION_KINDS, ACTIONS, AUTOMATION, CONDITIONS, GROUPS, MODES, TRIGGERS
+from .keys import ACTION_KINDS, ACTIONS, AUTOMATION, CONDITIONS, GROUPS, MODES, SCRIPT, TRIGGERS
 from .notation import Fault
 
 # C5: keys that are not taken, by the place where they stand ("" for any).
@@ -29,7 +29,10 @@ UNKNOWN = {
     ("action action", "data_template"): "`data`, which may hold templates",
     ("action action", "response_variable"): "`wait_for_trigger` on an event that your bridge sends with the answer, and `wait.trigger.event.data`",
     ("action action", "service_template"): "`action`, which may be a template",
-    ("file", "homeassistant"): "leave it out: the file has `automation` alone",
+    ("script", "actions"): "`sequence`",
+    ("script", "triggers"): "leave it out: nothing but a call starts a script",
+    ("script", "variables"): "the action `variables`, first in `sequence`",
+    ("file", "homeassistant"): "leave it out: the file has `automation` and `script` alone",
 }
 
 # C14: kinds that are not there, by the place where they stand.
@@ -56,6 +59,7 @@ KIND_OF_VALUE = {
     "target ids": "a text or a list of texts: `entity_id: [light.hall, light.porch]`",
     "choose": "a list of maps with `conditions` and `sequence`", "option": "a map with `conditions` and `sequence`",
     "repeat": "a map with `sequence`, and `count`, `while`, `until` or `for_each`",
+    "script": "a map with `sequence`", "scripts": "a map from names to scripts: `morning: {sequence: []}`",
     "automation": "a map with `triggers` and `actions`", "file": "`automation:` with a list below it",
     "trigger": "a map: `trigger: state` and its keys", "condition": "a condition: a template or a map",
     "action": "an action: `action: light.turn_on` and its keys", "service": "one name: `light.turn_on`",
@@ -86,7 +90,7 @@ NOTATION = {
 SIGN = {"!": "a tag: write the value itself, in this file", "&": "an anchor: write the value out at each place",
         "*": "an alias: write the value out", "@": "put quotes round it", "`": "put quotes round it", "%": "put quotes round it",
         "?": "a key that is no scalar: `key: value`"}
-LIMITS = {"file": "over 1,048,576 bytes: fewer automations in the file", "automations": "the 1,025th automation: fewer of them",
+LIMITS = {"file": "over 1,048,576 bytes: fewer automations in the file", "automations": "the 1,025th automation: fewer of them", "scripts": "the 1,025th script: fewer of them",
           "triggers": "the 65th trigger: a second automation", "template": "a template over 16,384 bytes: a shorter one"}
 
 
@@ -117,7 +121,7 @@ def keys_at(where: str) -> list[str]:
     table = {"trigger": TRIGGERS, "condition": CONDITIONS, "action": ACTIONS}.get(place, {}).get("action" if kind == "service" else kind)
     own = list(table.kinds) if table else []
     more = {"automation": ["triggers", "conditions", "actions", "mode", *AUTOMATION.kinds], "target": ["entity_id"],
-            "file": ["automation"], "duration": list(kinds.PARTS), "option": ["conditions", "sequence"],
+            "script": ["sequence", "mode", *SCRIPT.kinds], "file": ["automation", "script"], "duration": list(kinds.PARTS), "option": ["conditions", "sequence"],
             "repeat": ["count", "while", "until", "for_each", "sequence"], "trigger": ["id", "enabled"], "condition": ["enabled", "weekday"],
             "action": ["enabled", "continue_on_error", "entity_id", "target", "then", "else", "default"]}
     return own + more.get(place, [])
@@ -130,14 +134,14 @@ def unknown_key(fault: Fault) -> str:
     if cure is None and fault.word in ACTION_KINDS and where.startswith("action "):
         cure = "an item of its own: two actions are two items of the list"
     if cure is None and where == "file":
-        cure = "the file has the key `automation` alone, once; lists of several files are put below it by hand"
+        cure = "the file has the keys `automation` and `script` alone, each once; lists of several files are put below it by hand"
     if cure is None and where == "side":
         return f"`{fault.word}` beside its opposite: keep one of them"
     if cure is None:
         close = get_close_matches(fault.word, keys_at(where), 1)
         cure = f"`{close[0]}`" if close else "leave it out"
     place = {"file": "the file", "target": "a target", "option": "an option of `choose`", "repeat": "a `repeat`",
-             "automation": "an automation", "duration": "a duration"}.get(where, "this " + where.replace(" action", "").replace("_", " "))
+             "automation": "an automation", "script": "a script", "duration": "a duration"}.get(where, "this " + where.replace(" action", "").replace("_", " "))
     return f"`{fault.word}` is no key of {place}: {cure}"
 
 
@@ -176,6 +180,8 @@ def no_id(fault: Fault) -> str:
     """No entity id, or no service."""
     if fault.what == "service":
         return f"`{fault.word}` is no service: `light.turn_on`"
+    if fault.what == "script name":
+        return f"`{fault.word}` is no name of a script: small letters, digits and `_`"
     if fault.what == "entity kind":
         return "no entity id: a text or a list of texts"
     if fault.word.lower() == "all":

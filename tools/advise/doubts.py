@@ -1,4 +1,4 @@
-"""What nobody can have meant in the automations of a file that are taken."""
+"""What nobody can have meant in the automations and scripts of a file that are taken."""
 
 from __future__ import annotations
 
@@ -9,8 +9,8 @@ Doubt = tuple[Automation, int, str]
 
 
 def doubts_of(file: File) -> list[Doubt]:
-    """The doubts of each automation without faults, in its order."""
-    names = {one.name for one in file.automations}
+    """The doubts of each automation without faults, in its order, and of the scripts where all are taken."""
+    known = ({one.name for one in file.automations}, {one.name for one in file.scripts})
     out: list[Doubt] = []
     for automation in file.automations:
         if automation.node.kind != "map":
@@ -18,8 +18,12 @@ def doubts_of(file: File) -> list[Doubt]:
         out += lost_letters(automation)
         if not automation.faults:
             said: list[tuple[int, str]] = []
-            Walk(automation.node, automation.name, names, lambda line, text: said.append((line, text))).go()
+            Walk(automation.node, f"automation.{automation.name}", known, lambda line, text: said.append((line, text))).go()
             out += [(automation, line, text) for line, text in said]
+    for script in file.scripts if not file.faults else []:
+        said = []
+        Walk(script.node, f"script.{script.name}", known, lambda line, text: said.append((line, text))).go_script()
+        out += [(script, line, text) for line, text in said]
     return out
 
 

@@ -2,14 +2,15 @@
 
 from __future__ import annotations
 
+import re
 from typing import Callable, Optional
 
 from second_reading.template import holds_template
 from second_reading.values import is_entity
 
 from . import kinds
-from .keys import (ACTION_KINDS, ACTIONS, AUTOMATION, CONDITIONS, GROUPS, MODES, MOST_TRIGGERS, OF_ANY_ACTION,
-                   OF_ANY_TRIGGER, SYNONYMS, TRIGGERS, Keys)
+from .keys import (ACTION_KINDS, ACTIONS, AUTOMATION, CONDITIONS, GROUPS, MODES, MOST_SCRIPTS, MOST_TRIGGERS, OF_ANY_ACTION,
+                   OF_ANY_TRIGGER, SCRIPT, SYNONYMS, TRIGGERS, Keys)
 from .kinds import Judge, Kind
 from .notation import Key, Node
 
@@ -71,8 +72,33 @@ class Config(Judge):
             reads[part] = reads[SYNONYMS[part]] = read
         self.map(node, "automation", AUTOMATION, reads, {})
 
+    # Scripts
+
+    def scripts(self, key: Key, node: Node) -> None:
+        """All scripts, by their names, or null for none."""
+        if node.kind in ("null", "open"):
+            return
+        if node.kind != "map":
+            self.say(node.line, "C7", "scripts", node.text)
+            return
+        for name, value in node.pairs:
+            if re.fullmatch("[a-z0-9_]+", name.text) is None:
+                self.say(name.line, "C8", "script name", name.text)
+            self.script(value, name.line if value.kind == "null" else value.line)
+        for over, value in node.pairs[MOST_SCRIPTS:MOST_SCRIPTS + 1]:
+            self.say(over.line if value.kind == "null" else value.line, "C12", "scripts")
+
+    def script(self, node: Node, line: int) -> None:
+        """One script."""
+        if node.kind == "open":
+            return
+        if node.kind != "map":
+            self.say(line, "C7", "script", node.text)
+            return
+        self.map(node, "script", SCRIPT, {"mode": self.mode, "sequence": self.actions}, {})
+
     def mode(self, node: Node, line: int) -> None:
-        """The mode of an automation."""
+        """The mode of an automation or a script."""
         if not node.is_scalar():
             self.say(line, "C7", "text")
         elif node.text not in MODES:

@@ -1,4 +1,4 @@
-"""The keys of triggers, conditions, actions and automations, by kind, with what their values are."""
+"""The keys of triggers, conditions, actions, automations and scripts, by kind, with what their values are."""
 
 from __future__ import annotations
 
@@ -64,7 +64,10 @@ OF_ANY_ACTION = {"enabled": kinds.flag, "continue_on_error": kinds.flag}
 
 AUTOMATION = Keys({"alias": kinds.text, "id": kinds.text, "initial_state": kinds.flag, "max": kinds.max_runs},
                   ignored=("description", "max_exceeded", "trace"))
+SCRIPT = Keys({"max": kinds.max_runs}, needed=("sequence",),
+              ignored=("alias", "description", "icon", "fields", "max_exceeded"))
 MODES = ("single", "restart", "queued", "parallel")
 SYNONYMS = {"trigger": "triggers", "condition": "conditions", "action": "actions"}
 MOST_TRIGGERS = 64
 MOST_AUTOMATIONS = 1024
+MOST_SCRIPTS = 1024

@@ -20,7 +20,7 @@ class Line:
 
     def shown(self) -> str:
         """The line as it is printed."""
-        return f"line {self.line}: {f'automation {self.name}' if self.name else 'the file'}: {self.text}"
+        return f"line {self.line}: {self.name or 'the file'}: {self.text}"
 
 
 def refusals(faults: list[Fault], name: str) -> list[Line]:
@@ -38,11 +38,11 @@ def lines_of(file: File, doubts: list[tuple[Automation, int, str]]) -> list[Line
     if file.is_cut and not file.automations:
         found = [replace(line, text=line.text + "; the automations can't be told apart before it") for line in found]
     for automation in file.automations:
-        own = refusals(automation.faults, automation.name)
+        own = refusals(automation.faults, f"automation {automation.name}")
         if automation.node.kind == "open" and own:
             own[-1] = replace(own[-1], text=own[-1].text + "; what else this automation has is told when that is mended")
         found += own
-    found += [Line(line, 0, text, automation.name) for automation, line, text in doubts]
+    found += [Line(line, 0, text, f"{one.kind} {one.name}") for one, line, text in doubts]
     found = sorted(set(found))
     first = file.refusal
     if first is not None:

@@ -21,11 +21,12 @@ ASKS = ("states", "state_attr", "is_state", "is_state_attr", "has_value")
 class TemplateDoubts:
     """Goes over a template's tree with what is known of its names."""
 
-    def __init__(self, names: Mapping[str, Shape], say: Say, automations: set[str], name: str) -> None:
+    def __init__(self, names: Mapping[str, Shape], say: Say, automations: set[str], entity: str) -> None:
         self.names = dict(names)
         self.say = say
         self.automations = automations
-        self.name = name
+        self.entity = entity
+        self.hands_over = False
 
     def shown(self, text: str) -> list[tuple[int, Shape]]:
         """The shapes of what the template shows, each with its place."""
@@ -66,8 +67,8 @@ class TemplateDoubts:
         """A name."""
         if expr.word in self.names:
             return self.names[expr.word]
-        if not guarded or expr.word in ("this", "context"):
-            self.say(expr.at, unknown_text(expr.word, "", list(self.names), self.name))
+        if not (guarded or self.hands_over) or expr.word in ("this", "context"):
+            self.say(expr.at, unknown_text(expr.word, "", list(self.names), self.entity))
         return "any"
 
     def of_field(self, expr: Expr, guarded: bool) -> Shape:
@@ -84,7 +85,7 @@ class TemplateDoubts:
         """A part of a value; no key where it is not known."""
         base = expr.parts[0]
         if base.kind == "name" and base.word in ("this", "context") and base.word not in self.names:
-            self.say(expr.at, unknown_text(base.word, key, list(self.names), self.name))
+            self.say(expr.at, unknown_text(base.word, key, list(self.names), self.entity))
             return "any"
         held = self.shape(base, guarded)
         if not isinstance(held, Fields) or not key:

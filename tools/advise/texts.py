@@ -6,7 +6,7 @@ from difflib import get_close_matches
 
 CLOCK = "a clock that is reported: `states('sensor.time')`"
 OF_THIS = {
-    "entity_id": "`'automation.{name}'`", "state": "`states('automation.{name}')`", "name": "the name itself", "last_changed": CLOCK,
+    "entity_id": "`'{entity}'`", "state": "`states('{entity}')`", "name": "the name itself", "last_changed": CLOCK,
     "attributes": "a limit on how often is `mode: single` with a `delay` at the end", "context": "leave it out", "object_id": "`'{name}'`",
 }
 # Parts that Home Assistant has and Hearth never.
@@ -28,10 +28,12 @@ OF_KIND = {
 }
 
 
-def unknown_text(name: str, key: str, known: list[str], automation: str) -> str:
-    """What is told of a name that nothing sets."""
+def unknown_text(name: str, key: str, known: list[str], entity: str) -> str:
+    """What is told of a name that nothing sets, in an automation or script."""
     if name == "this":
-        cure = OF_THIS.get(key, "write the value itself").format(name=automation)
+        cure = OF_THIS.get(key, "write the value itself").format(entity=entity, name=entity.split(".")[1])
+        if key == "state" and entity.startswith("script."):
+            cure = "a script has no state"
         return f"`this{'.' + key if key else ''}` is never there, and is none: {cure}"
     if name == "context":
         return f"`context{'.' + key if key else ''}` is never there, and is none: leave it out, or a fixed text"

@@ -1,4 +1,4 @@
-"""An automation that is taken, gone over as a run would go: what its templates see, and what each is for."""
+"""An automation or script that is taken, gone over as a run would go: what its templates see, and what each is for."""
 
 from __future__ import annotations
 
@@ -35,13 +35,14 @@ def is_disabled(node: Node) -> bool:
 
 
 class Walk:
-    """Goes over one automation, and says what nobody can have meant."""
+    """Goes over one automation or script, and says what nobody can have meant."""
 
-    def __init__(self, node: Node, name: str, automations: set[str], say: Callable[[int, str], None]) -> None:
+    def __init__(self, node: Node, entity: str, known: tuple[set[str], set[str]], say: Callable[[int, str], None]) -> None:
         self.node = node
-        self.name = name
-        self.automations = automations
+        self.entity = entity
+        self.automations, self.scripts = known
         self.say = say
+        self.hands_over = False
 
     def go(self) -> None:
         """The whole automation."""
@@ -52,11 +53,17 @@ class Walk:
             self.condition(condition, sees)
         self.script(self.node.get("actions", "action"), [sees])
 
+    def go_script(self) -> None:
+        """The whole script, to which a call may hand over any name."""
+        self.hands_over = True
+        self.script(self.node.get("sequence"), [{"trigger": "any"}])
+
     # Templates
 
     def template(self, node: Node, names: Mapping[str, Shape], role: str) -> Shape:
         """A text with tags; what is known of the value that it gives."""
-        doubts = TemplateDoubts(names, lambda at, text: self.say(node.line_of(at), text), self.automations, self.name)
+        doubts = TemplateDoubts(names, lambda at, text: self.say(node.line_of(at), text), self.automations, self.entity)
+        doubts.hands_over = self.hands_over
         shown = doubts.shown(node.text)
         for at, shape in shown:
             self.shown(node.line_of(at), shape, role)
@@ -182,7 +189,7 @@ class Walk:
                 self.form(held, names, "entity")
         if (data := node.get("data")) is not None:
             self.form(data, names)
-        call_doubts(node, self.say, self.automations)
+        call_doubts(node, self.say, self.automations, self.scripts)
 
     def wait(self, node: Node, blocks: Blocks) -> None:
         """A wait, and what it leaves."""

@@ -18,18 +18,20 @@ LONGEST = 1_048_576
 
 @dataclass
 class Automation:
-    """An automation: its name, its tree where it could be read, and its faults."""
+    """An automation, or a script: its name, its tree where it could be read, and its faults (a script's are the file's)."""
 
     name: str
     node: Node
     faults: list[Fault] = field(default_factory=list)
+    kind: str = "automation"
 
 
 @dataclass
 class File:
-    """What was read of a file: its automations, the faults outside them, and what the program answers of it."""
+    """What was read of a file: its automations and scripts, the faults outside them, and what the program answers of it."""
 
     automations: list[Automation] = field(default_factory=list)
+    scripts: list[Automation] = field(default_factory=list)
     faults: list[Fault] = field(default_factory=list)
     refusal: Optional[Fault] = None
     is_cut: bool = False
@@ -65,12 +67,16 @@ def decoded(raw: bytes) -> tuple[str, int]:
 
 
 def of_tree(tree: Node) -> File:
-    """The automations of a tree."""
+    """The automations and scripts of a tree."""
     judge = Config()
     held = tree
+    scripts: list[Automation] = []
     if tree.kind == "map":
-        for key, _ in tree.pairs:
-            if key.text != "automation":
+        for key, value in tree.pairs:
+            if key.text == "script":
+                judge.scripts(key, value)
+                scripts = [Automation(name.text, one, kind="script") for name, one in value.pairs]
+            elif key.text != "automation":
                 judge.say(key.line, "C5", "file", key.text)
         held = tree.get("automation") or Node(tree.line, "null")
         if tree.get("automation") is None:
@@ -81,7 +87,7 @@ def of_tree(tree: Node) -> File:
     items = held.items if held.kind == "list" else [held] if held.kind != "null" else []
     for over in items[MOST_AUTOMATIONS:MOST_AUTOMATIONS + 1]:
         judge.say(over.line, "C12", "automations")
-    return File([judged(item) for item in named(items)], judge.faults)
+    return File([judged(item) for item in named(items)], scripts, judge.faults)
 
 
 def judged(found: Automation) -> Automation:
@@ -130,11 +136,13 @@ def cut(text: str) -> list[str]:
     if head < len(lines) and re.match(r"automation:[ \t]*(#.*)?$", lines.lines[head]):
         head += 1
     starts = [row for row in range(head, len(lines)) if not lines.is_blank(row)]
+    end = next((row for row in starts if re.match(r"script:[ \t]*(#.*)?$", lines.lines[row])), len(lines))
+    starts = [row for row in starts if row < end]
     if not starts or not re.match(r" *-( |$)", lines.lines[starts[0]]):
         return []
     indent = lines.indent(starts[0])
     fronts = [row for row in starts if lines.indent(row) == indent and re.match(r"-( |$)", lines.lines[row][indent:])]
-    ends = fronts[1:] + [len(lines)]
+    ends = fronts[1:] + [end]
     return ["\n" * front + "\n".join(lines.lines[front:end]) for front, end in zip(fronts, ends)]
 
 

@@ -7,6 +7,7 @@ import pathlib
 import sys
 import tempfile
 
+from .called import CALLED
 from .compare import Comparer
 from .corners import HOMES
 from .engine import LIMIT
@@ -46,7 +47,7 @@ def check_style(comparer: Comparer, style: str, seeds: range) -> int:
 
 def check_all(program: str, folder: pathlib.Path, seeds: range) -> bool:
     """Compares all, prints the line of result, and tells whether something was compared of each style, and nothing failed."""
-    failed, passed, empty = check_corners(program, folder), len(HOMES) + len(ROWS) + len(TEMPLATES), []
+    failed, passed, empty = check_corners(program, folder), len(HOMES) + len(ROWS) + len(CALLED) + len(TEMPLATES), []
     for style in STYLES:
         comparer = Comparer(program, folder)
         failed += check_style(comparer, style, seeds)
@@ -55,7 +56,7 @@ def check_all(program: str, folder: pathlib.Path, seeds: range) -> bool:
             empty.append(style)
             complain(f"no call of the style {style} was compared")
     count, unlike = differing(program, folder, seeds)
-    wrong = row_faults() + unlike
+    wrong = row_faults(ROWS + CALLED) + unlike
     for text in wrong:
         complain(text)
     failed += len(wrong)

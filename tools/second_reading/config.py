@@ -442,3 +442,9 @@ def read_config(value: list[dict[str, Any]]) -> list[Automation]:
     for one in value:
         out.append(automation(one, {earlier.name for earlier in out}))
     return out
+
+
+def read_scripts(value: dict[str, Any]) -> list[Automation]:
+    """All scripts, in order, each as an automation that nothing triggers, under the id that it has as an entity."""
+    return [Automation(f"script.{name}", [], [], actions(one["sequence"]) or [Action("block", {"body": []})],
+                       one.get("mode", "single"), int(written(one.get("max", 10))), None) for name, one in value.items()]

@@ -4,6 +4,7 @@ from __future__ import annotations
 
 from typing import Any
 
+from .called import CALLED, halting
 from .generate import Home
 from .rows import GO, SAME_STATE, call, event, go, moment, on, report
 
@@ -156,4 +157,21 @@ HOMES = {
                             '{"moment":"2024-05-01T20:00:01.Z"}', '{"moment":"2024-05-01T20:00:01.1234Z"}',
                             '{"moment":"2024-05-01t20:00:01Z"}', '{"moment":"1969-12-31T23:59:59Z"}',
                             '{"moment":"2024-05-01T20:00:01.5Z"}']),
+}
+
+CHAIN = {f"s{n}": {"sequence": [call(f"script.s{n + 1}"), call(n=n)]} for n in range(60)}
+
+HOMES |= {row.name: Home(row.home, row.lines, row.start, row.zone, scripts=row.scripts) for row in CALLED}
+
+HOMES |= {
+    "a chain of calls": home([go([call("script.s0"), call("notify.end")], mode="parallel")], [event("go"), event("go"), moment("20:00:05")],
+                             scripts=CHAIN | {"s60": {"sequence": [{"delay": 5}, call(n=60)]}}),
+    "many callers": home([go([call("script.s"), call(n="{{ trigger.event.data.n }}")], mode="parallel", max=40), halting("s")],
+                         [event("go", n=n) for n in range(45)] + [event("off"), event("go", n=50), moment("20:00:05")],
+                         scripts={"s": {"mode": "parallel", "max": 30, "sequence": [{"delay": 5}, call("notify.s")]}}),
+    "a script that calls itself in turns": home([go([call("script.s", n=20), call("notify.end")])], [event("go")], scripts={"s": {
+        "mode": "parallel", "max": 15, "sequence": [{"if": "{{ n > 0 }}", "then": [call("script.s", n="{{ n - 1 }}")]}, call(n="{{ n }}")]}}),
+    "a script that restarts itself without end": home(
+        [go([call("script.s"), call("notify.after")])], [event("go"), moment("20:00:01"), moment("20:00:02")],
+        scripts={"s": {"mode": "restart", "sequence": [call("notify.s"), {"delay": 1}, call("script.s")]}}),
 }

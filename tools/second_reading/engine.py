@@ -3,11 +3,11 @@
 from __future__ import annotations
 
 from dataclasses import dataclass
-from typing import Any, Mapping, Optional
+from typing import Any, Mapping, Optional, Sequence
 
 from .clock import print_moment, read_moment, read_zone
 from .conditions import Pairs, test_all
-from .config import Automation, read_config
+from .config import Automation, read_config, read_scripts
 from .journal import NOTHING, Entry, Journal
 from .lines import Command, commands_of, print_command, print_text, print_value, refused, target_automation
 from .script import Script, Thread
@@ -29,9 +29,10 @@ class Record:
     """An admitted attempt: its run begins and ends at places."""
 
     serial: int
-    automation: int
+    unit: int
     number: int
     pairs: Pairs
+    place: int
     begin: Optional[int] = None
     end: Optional[tuple[int, str]] = None
     calls: int = 0
@@ -44,14 +45,16 @@ class Record:
 
 
 class Engine:
-    """The journal of one source with its records, and the lines that come of them."""
+    """The journal of one source with its records, and the lines that come of them. Behind the automations the scripts have numbers."""
 
     def __init__(self, config: list[Automation], start: int, zone: str, stored: Mapping[str, bool],
-                 last: Mapping[str, int], limit: int = LIMIT) -> None:
+                 last: Mapping[str, int], limit: int = LIMIT, scripts: Sequence[Automation] = ()) -> None:
         self.config = config
+        self.units = config + list(scripts)
         self.taken = {one.name: last[one.name] for one in config if one.name in last}
         self.last = dict(self.taken)
         self.journal = Journal(config, start, read_zone(zone), stored)
+        self.journal.scripts = {one.name.split(".")[1]: len(config) + at for at, one in enumerate(scripts)}
         self.limit = limit
         self.front = 0
         self.segments = 1
@@ -112,7 +115,7 @@ class Engine:
             self.errors.append(f"run {record.serial} failed {item['failed']}")
         if "call" in item:
             record.calls += 1
-            name = print_text(self.config[record.automation].name)
+            name = print_text(self.units[record.unit].name)
             self.calls.append(f'{{"run":{name},"number":{record.number},"call":{record.calls},'
                               + print_value(item["call"])[1:])
 
@@ -137,33 +140,43 @@ class Engine:
         for name, _, stop in entry.switched():
             if stop:
                 self.end_all(self.journal.numbers[name], place, "switched_off")
+        for name in entry.halted():
+            self.end_all(self.journal.scripts[name], place, "switched_off")
         self.begin_queued(place)
-        for automation, pairs in self.attempts(place):
-            self.admit(automation, pairs, place)
+        for unit, pairs in self.attempts(place):
+            self.admit(unit, pairs, place)
 
-    def end_all(self, automation: Optional[int], place: int, cause: str) -> None:
-        """Ends the live runs of an automation, or of all."""
+    def end_all(self, unit: Optional[int], place: int, cause: str) -> None:
+        """Ends the live runs of an automation or script, or all."""
         for record in self.records:
-            if record.is_live() and automation in (None, record.automation):
+            if record.is_live() and unit in (None, record.unit):
                 record.end = (place, cause)
 
     def begin_queued(self, place: int) -> None:
         """The queued runs whose predecessor ended here begin."""
-        for automation in range(len(self.config)):
-            live = [one for one in self.records if one.automation == automation and one.is_live()]
+        for unit in range(len(self.units)):
+            live = [one for one in self.records if one.unit == unit and one.is_live()]
             if live and live[0].begin is None:
                 self.begin(live[0], place)
 
     def begin(self, record: Record, place: int) -> None:
         """Begins a run."""
         record.begin = place
-        record.script = Script(self.journal)
-        actions = self.config[record.automation].actions
+        record.script = Script(self.journal, self.has_ended)
+        actions = self.units[record.unit].actions
         record.thread = Thread((), record.script.run(actions, [list(record.pairs)]))
+
+    def has_ended(self, place: int) -> bool:
+        """Whether the run that was called at a place has ended; a call that had none ended at once."""
+        called = next((one for one in self.records if one.place == place), None)
+        return called is None or not called.is_live()
 
     def attempts(self, place: int) -> list[tuple[int, Pairs]]:
         """The attempts of an entry that pass, in order."""
         entry, sight = self.journal.entries[place], self.journal.after[place]
+        started = entry.started()
+        if started is not None:
+            return [(self.journal.scripts[name], BY_HAND + list(started["data"].items())) for name in started["scripts"]]
         named, skip = named_attempts(entry)
         if named is not None:
             tried = [(self.journal.numbers[name], BY_HAND) for name in named]
@@ -173,17 +186,18 @@ class Engine:
         return [(at, pairs) for at, pairs in tried
                 if skip or test_all(self.config[at].tests, sight, self.journal.zone, pairs)]
 
-    def admit(self, automation: int, pairs: Pairs, place: int) -> None:
-        """Admits an attempt by its automation's mode, or refuses it."""
-        mode, most = self.config[automation].mode, self.config[automation].max
-        live = [one for one in self.records if one.automation == automation and one.is_live()]
+    def admit(self, unit: int, pairs: Pairs, place: int) -> None:
+        """Admits an attempt by the mode of its automation or script, or refuses it."""
+        mode, most = self.units[unit].mode, self.units[unit].max
+        live = [one for one in self.records if one.unit == unit and one.is_live()]
         if mode == "single" and live or mode in ("queued", "parallel") and len(live) >= most:
             return
         if mode == "restart":
-            self.end_all(automation, place, "replaced")
-        number = 1 + sum(one.automation == automation for one in self.records)
-        self.last[self.config[automation].name] = self.journal.after[place].now
-        record = Record(len(self.records) + 1, automation, number, pairs)
+            self.end_all(unit, place, "replaced")
+        number = 1 + sum(one.unit == unit for one in self.records)
+        if unit < len(self.config):
+            self.last[self.units[unit].name] = self.journal.after[place].now
+        record = Record(len(self.records) + 1, unit, number, pairs, place)
         self.records.append(record)
         if mode != "queued" or not live:
             self.begin(record, place)
@@ -237,11 +251,12 @@ class Outcome:
 
 def run_home(automations: list[dict[str, Any]], source: bytes, start: str = "2024-05-01T20:00:00Z",
              zone: str = "UTC", text: str = "", stored: Optional[dict[str, bool]] = None,
-             last: Optional[dict[str, int]] = None, limit: int = LIMIT) -> Outcome:
+             last: Optional[dict[str, int]] = None, limit: int = LIMIT,
+             scripts: Optional[dict[str, Any]] = None) -> Outcome:
     """What a home's lines come to. `last` has when automations last triggered, as a store of version 2 keeps it."""
     began = read_moment(start)
     assert began is not None
-    engine = Engine(read_config(automations), began, zone, stored or {}, last or {}, limit)
+    engine = Engine(read_config(automations), began, zone, stored or {}, last or {}, limit, read_scripts(scripts or {}))
     taken = {name: print_moment(at) for name, at in sorted(engine.taken.items())}
     status = engine.run(commands_of(source))
     boot = print_value({"boot": {"config": text, "stored": stored, **({"last": taken} if taken else {}),

@@ -34,6 +34,7 @@ class Home:
     zone: str
     stored: Optional[dict[str, bool]] = None
     last: Optional[dict[str, int]] = None
+    scripts: Optional[dict[str, Any]] = None
 
     def source(self) -> bytes:
         """The bytes of the source."""

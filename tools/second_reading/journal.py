@@ -61,6 +61,14 @@ class Entry:
             return [(self.command["switch"].split(".")[1], on, self.command["stop_actions"] and not on)]
         return [(one["automation"], one["on"], one["stop"]) for one in (self.item or {}).get("switched", [])]
 
+    def started(self) -> Optional[dict[str, Any]]:
+        """The scripts that it starts, with the variables that it hands over."""
+        return (self.item or {}).get("started")
+
+    def halted(self) -> list[str]:
+        """The scripts whose runs it ends."""
+        return (self.item or {}).get("halted", [])
+
 
 @dataclass(frozen=True)
 class Sight:
@@ -87,6 +95,7 @@ class Journal:
         self.config = config
         self.zone = zone
         self.numbers = {one.name: at for at, one in enumerate(config)}
+        self.scripts: dict[str, int] = {}
         on = tuple(stored.get(one.name, True) if one.initial is None else one.initial for one in config)
         self.entries = [Entry()]
         self.after = [self.started(start, on, 0)]

@@ -112,6 +112,7 @@ class Script:
     """What the bodies of one run share."""
 
     journal: Journal
+    has_ended: Callable[[int], bool]
     item: Item = field(default_factory=lambda: NOTHING)
 
     def sight(self, place: int) -> Sight:
@@ -192,6 +193,8 @@ class Script:
         kind, fields = action.kind, action.fields
         if kind == "call":
             self.item = self.call(fields, scopes, place)
+            if self.item.get("started", {}).get("waits"):
+                yield lambda count: self.has_ended(place)
         elif kind == "event":
             self.item = {"fired": {"event": fields["event"], "data": self.pairs(fields["data"], scopes, place)}}
         elif kind == "variables":
@@ -287,9 +290,23 @@ class Script:
         target = [one for text in fields["targets"] for one in self.target(text, scopes, place)]
         data = self.pairs(fields["data"], scopes, place)
         domain, name = service.split(".")
+        scripts = self.journal.scripts
+        if domain == "script" and scripts and (name in ("turn_on", "turn_off") or name != "toggle" and name in scripts):
+            return self.of_script(name, target, data)
         if domain == "automation" and name in ("turn_on", "turn_off", "toggle", "trigger"):
             return self.own_service(name, target, data, place)
         return {"call": {"service": service, "target": target, "data": data}}
+
+    def of_script(self, name: str, target: list[str], data: dict[str, Value]) -> Item:
+        """The item in place of the call of a script."""
+        named = [entity.split(".")[1] for entity in dict.fromkeys(target) if entity.split(".")[0] == "script"]
+        named = [one for one in named if one in self.journal.scripts]
+        if name == "turn_off":
+            return {"halted": named}
+        if name == "turn_on":
+            handed = data.get("variables")
+            return {"started": {"scripts": named, "data": handed if isinstance(handed, dict) else {}, "waits": False}}
+        return {"started": {"scripts": [name], "data": data, "waits": True}}
 
     def target(self, text: str, scopes: Scopes, place: int) -> list[str]:
         """The entities of one target."""

@@ -64,6 +64,12 @@ def smaller_automations(home: Home) -> Iterator[Home]:
             yield replace(home, automations=found)
 
 
+def smaller_scripts(home: Home) -> Iterator[Home]:
+    """The home without a part of its scripts."""
+    for path in paths(home.scripts or {}):
+        yield replace(home, scripts=without(home.scripts, path))
+
+
 def plainer(home: Home) -> Iterator[Home]:
     """The home without a store or its moments, or in UTC."""
     if home.stored is not None:
@@ -79,7 +85,7 @@ def shrink(home: Home, keeps: Callable[[Home], bool], budget: int = 3000) -> Hom
     going = True
     while going and budget > 0:
         going = False
-        for make in (smaller_lines, smaller_automations, plainer):
+        for make in (smaller_lines, smaller_automations, smaller_scripts, plainer):
             found = True
             while found and budget > 0:
                 found = False

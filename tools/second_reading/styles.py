@@ -10,6 +10,7 @@ from .config import Plain
 from .expressions import Expressions
 from .generate import DAYS, ENTITIES, STARTS, ZONES, Home, Maker, make_home
 
+CALLED = ("s", "t", "u")
 FIRED = {"id": "{{ trigger.id ~ '/' ~ trigger.idx ~ '/' ~ trigger.entity_id }}", "old": "{{ trigger.from_state.state }}",
          "new": "{{ trigger.to_state.state }}", "n": "{{ trigger.event.data.n }}", "b": "{{ trigger.attribute }}"}
 
@@ -333,7 +334,69 @@ def of_lines(seed: int) -> Home:
     return Home([automation], lines, STARTS[0], "UTC")
 
 
+class Called(Maker):
+    """Automations and scripts that call scripts, hand over how deep they are, wait for them, and end their runs."""
+
+    def seen(self) -> dict[str, Any]:
+        """A call that tells where a run is, and what is seen there."""
+        self.marks += 1
+        sees = {"n": "{{ n }}", "w": "{{ wait.completed }}", "t": "{{ trigger.platform }}"}
+        return {"action": "notify.seen", "data": {"mark": self.marks} | sees}
+
+    def by_name(self) -> dict[str, Any]:
+        """A call that waits, mostly of a script that is there and not too deep."""
+        service = self.one(f"script.{self.one(*CALLED)}", f"script.{self.one(*CALLED)}", "script.{{ 's' if n|int(0) == 1 else 't' }}")
+        made = {"action": service} | self.one({"data": {"n": "{{ n|int(0) + 1 }}"}}, {"data": {"n": 2, "trigger": {"id": "k"}}}, {})
+        return made if self.maybe(0.4) else {"if": f"{{{{ n|int(0) < {self.one(1, 2, 3)} }}}}", "then": [made, self.seen()]}
+
+    def turn(self, *services: str) -> dict[str, Any]:
+        """A call of a service of scripts."""
+        target = self.one([f"script.{one}" for one in self.some(CALLED + ("none",), 3)], f"script.{self.one(*CALLED)}",
+                          "script.s, script.s, light.x", "{{ 'script.' ~ ('s' if n else 't') }}")
+        handed = self.one({}, {"data": {"variables": {"n": self.one(1, "{{ n|int(0) + 1 }}")}}}, {"data": {"variables": 5, "n": 1}})
+        return {"action": f"script.{self.one(*services)}", "target": {"entity_id": target}} | handed
+
+    def nested(self) -> dict[str, Any]:
+        """Lists of actions inside another one."""
+        return self.pick([
+            (3, lambda: {"parallel": [self.acts(3, 0) for _ in range(self.dice.randint(2, 3))]}),
+            (1, lambda: {"repeat": {"count": 2, "sequence": self.acts(2, 0)}}),
+            (1, lambda: {"if": self.run_truth(), "then": self.acts(2, 0), "else": self.acts(2, 0)})])
+
+    def act(self, depth: int) -> dict[str, Any]:
+        """An action."""
+        return self.pick([
+            (6, self.by_name), (2, lambda: self.turn("turn_on", "turn_on", "turn_off", "turn_off", "toggle")), (3, self.seen),
+            (5, lambda: {"delay": self.one(0, 1, 1, 2, 3)}), (0.7, self.wait), (0.5, self.own_call),
+            (0.5, lambda: {"event": self.one("ping", "pong"), "event_data": {"n": 1}}), (0.4, lambda: self.one({"stop": "x"}, self.call())),
+            (0.5, lambda: {"action": "notify.n", "data": {"n": "{{ n|int }}"}}),
+            (1.2 if depth else 0, self.nested)])
+
+    def acts(self, most: int, depth: int = 1) -> list[Any]:
+        """Some actions."""
+        return [self.act(depth) for _ in range(self.dice.randint(1, most))]
+
+    def ruled(self, made: dict[str, Any]) -> dict[str, Any]:
+        """An automation or script with its mode."""
+        mode = self.one("single", "queued", "queued", "parallel", "restart", "restart")
+        return made | {"mode": mode} | ({"max": self.one(1, 2, 3)} if self.maybe(0.5) else {})
+
+
+def of_called(seed: int) -> Home:
+    """Up to two automations that call three scripts, and one that ends runs of theirs."""
+    maker = Called(seed)
+    maker.names = maker.names[:2] + ["z"]
+    maker.weights = {"event": 7.0, "moment": 7.0, "report": 1.0, "own": 1.0, "restart": 0.3}
+    go: dict[str, Any] = {"trigger": "event", "event_type": "go"}
+    automations = [maker.ruled({"alias": name, "triggers": [maker.one(go, go, go | {"event_type": ["go", "ping"]})],
+                                "actions": maker.acts(4) + [maker.seen()]}) for name in maker.names[:-1]]
+    automations.append({"alias": "z", "triggers": [{"trigger": "event", "event_type": "pong"}], "actions": [
+        maker.turn("turn_off"), maker.seen()]})
+    scripts = {name: maker.ruled({"sequence": maker.acts(4)}) for name in CALLED}
+    return Home(automations, maker.lines(STARTS[0]), STARTS[0], "UTC", scripts=scripts)
+
+
 STYLES: dict[str, Callable[[int], Home]] = {
     "mixed": make_home, "triggers": of_triggers, "conditions": of_conditions, "scripts": of_scripts,
     "templates": of_templates, "lines": of_lines, "holds": of_holds, "modes": of_modes, "blocks": of_blocks,
-    "waits": of_waits, "odds": of_odds, "times": of_times}
+    "waits": of_waits, "odds": of_odds, "times": of_times, "called": of_called}

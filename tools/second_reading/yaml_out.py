@@ -4,7 +4,7 @@ from __future__ import annotations
 
 import json
 import re
-from typing import Any
+from typing import Any, Optional
 
 from .config import Plain, written
 
@@ -56,8 +56,11 @@ def leaf(value: Any) -> str:
     return "{}" if isinstance(value, dict) else scalar(value)
 
 
-def yaml_text(automations: list[dict[str, Any]]) -> str:
+def yaml_text(automations: list[dict[str, Any]], scripts: Optional[dict[str, Any]] = None) -> str:
     """The whole file."""
-    if not automations:
+    if not (automations or scripts):
         return "[]\n"
-    return "\n".join(["automation:"] + block(automations, 2)) + "\n"
+    lines = ["automation:"] + block(automations, 2) if automations else ["automation: []"]
+    if scripts:
+        lines += ["script:"] + block(scripts, 2)
+    return "\n".join(lines) + "\n"

@@ -1,11 +1,33 @@
-# The automations of a configuration, as far as a trace is explained by them: names, modes, triggers, how many conditions, and which
-# services and events their actions name. automations counts them from 1.
+# The automations and scripts of a configuration, as far as a trace is explained by them: names, modes, triggers, how many conditions, and
+# which services and events their actions name. automations counts them from 1, and units goes on with the scripts.
 
-function configure(text, root, list, i) {
+function configure(text, root, list, scripts, i) {
     root = yaml(text)
-    if (kind[root] == "map") root = get(root, "automation")
+    if (kind[root] == "map") {
+        scripts = get(root, "script")
+        root = get(root, "automation")
+    }
+    has_scripts = scripts && size[scripts]
+    if (has_scripts) for (i = 1; i <= size[scripts]; i++) is_script["script." key[scripts, i]] = 1
     list = as_list(root)
     for (i = 1; i <= size[list]; i++) automation(part[list, i])
+    units = automations
+    if (has_scripts) for (i = 1; i <= size[scripts]; i++) script("script." key[scripts, i], part[scripts, i])
+}
+
+function script(called, n, u, m) {
+    u = ++units
+    name[u] = called
+    number_of[called] = u
+    mode[u] = get(n, "mode") ? word[get(n, "mode")] : "single"
+    m = as_list(get(n, "sequence"))
+    read_actions(u, m)
+    plan_steps(u, m)
+}
+
+# A unit's name as that of an entity.
+function whole_name(a) {
+    return (a > automations ? "" : "automation.") name[a]
 }
 
 # A list as it is; nothing for null; else the one node.
@@ -74,6 +96,7 @@ function read_actions(a, n, i, k, m) {
         k = key[n, i]
         m = part[n, i]
         if (k == "delay" || k ~ /^wait_/) waits[a] = 1
+        if (has_scripts && (k == "action" || k == "service") && (is_template(word[m]) || calls_script(word[m]))) waits[a] = 1
         if (k == "parallel") splits[a] = 1
         if (kind[m] == "plain" || kind[m] == "text") {
             if (k == "action" || k == "service") {
@@ -86,7 +109,7 @@ function read_actions(a, n, i, k, m) {
 }
 
 # The steps of a script up to its first block, in words: plan[a, 1 .. planned[a]], and whether these are all of it.
-function plan_steps(a, list, i, n) {
+function plan_steps(a, list, i, n, s) {
     for (i = 1; i <= size[list]; i++) {
         n = part[list, i]
         if (is_disabled(n)) continue
@@ -95,11 +118,21 @@ function plan_steps(a, list, i, n) {
         else if (get(n, "wait_template") || get(n, "wait_for_trigger")) two_steps(a, "wait")
         else if (get(n, "stop")) plan[a, ++planned[a]] = "stopped"
         else if (get(n, "variables")) plan[a, ++planned[a]] = "set variables"
-        else if (get(n, "action") || get(n, "service") || get(n, "event")) plan[a, ++planned[a]] = "acted"
-        else return
+        else if (get(n, "action") || get(n, "service") || get(n, "event")) {
+            s = word[either(n, "action", "service")]
+            plan[a, ++planned[a]] = calls_script(s) ? "called" : "acted"
+            if (!is_template(s)) plan_call[a, planned[a]] = s
+            if (calls_script(s)) plan[a, ++planned[a]] = "went on"
+            if (has_scripts && is_template(s)) return
+        } else return
     }
     if (!planned[a]) plan[a, ++planned[a]] = "had nothing to do"
     is_whole[a] = 1
+}
+
+# Whether a service is a script, the end of whose run the next step waits for.
+function calls_script(service) {
+    return service in is_script && service !~ /^script\.(turn_on|turn_off|toggle)$/
 }
 
 function two_steps(a, what) {

@@ -42,6 +42,8 @@ function item_of(text) {
     if (text ~ /^\{"fired":\{"event":"([^"\\]|\\.)*","data":\{.*\}\}\}$/) return "fired"
     if (text ~ /^\{"switched":\[[a-z0-9_{}":,]*\]\}$/) return "switched"
     if (text ~ /^\{"triggered":\{"automations":\[[a-z0-9_",]*\],"skip_condition":(true|false)\}\}$/) return "triggered"
+    if (text ~ /^\{"started":\{"scripts":\[[a-z0-9_",]*\],"data":\{.*\},"waits":(true|false)\}\}$/) return "started"
+    if (text ~ /^\{"halted":\[[a-z0-9_",]*\]\}$/) return "halted"
     return text ~ /^\{"failed":"F[1-6]"\}$/ ? "failed" : ""
 }
 
@@ -64,7 +66,7 @@ function next_line() {
     }
     if (is == "line") {
         if (turn in last_line) line_before[turn] = last_line[turn]
-        else sources++
+        else if (++sources > 1) several_sources = 1
         last_line[turn] = here
     }
     return 1

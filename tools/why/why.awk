@@ -26,24 +26,34 @@ function refuse(line) {
 }
 
 # The first reading: the line that is wanted, the runs that it is about, and between which lines stands what may have asked for them.
-function find() {
+function find(is_first) {
+    wanted_run = run_of_wanted()
     while (next_line()) {
-        if (here == 1) opening = text
-        if (is == "step" && !(number in first_step)) {
+        if (here == 1) {
+            opening = text
+            has_calls = index(text, "script:")
+        }
+        is_first = is == "step" && !(number in first_step)
+        if (is_first) {
             first_step[number] = here
             from_line[number] = earliest()
-            if (here > wanted && from_line[number] > wanted) break
-            if (here > wanted && abouts < most) concern(number)
+            if (!has_calls && here > wanted && from_line[number] > wanted) break
+            if (here > wanted && wanted_begins && from_line[number] <= wanted && abouts < most) concern(number)
         }
+        if (has_calls && is == "step") note_step(is_first)
+        if (is == "line") split("", in_burst)
         if (here == wanted) {
             wanted_is = is
             if (is != "boot" && !printed(text)) return refuse(here)
             if (is == "step") concern(number)
             wanted_begins = begins_runs()
-            if (!wanted_begins) break
+            if (!wanted_begins && !has_calls) break
         }
     }
-    if (wanted_is) return 1
+    if (wanted_is) {
+        follow_called()
+        return 1
+    }
     if (broken || !here) return refuse(here ? broken : 1)
     fault = "the trace has " here (here == 1 ? " line" : " lines")
     status = 1
@@ -60,7 +70,7 @@ function concern(run) {
 
 # Whether a line can ask for runs.
 function begins_runs() {
-    return is == "boot" || is == "again" || is == "line" && act !~ /^(refused|shut|restart)$/ || act ~ /^(fired|switched|triggered)$/ && is == "step"
+    return is == "boot" || is == "again" || is == "line" && act !~ /^(refused|shut|restart)$/ || act ~ /^(fired|switched|triggered|started)$/ && is == "step"
 }
 
 # The first line: the configuration, the switches, the time.
@@ -102,6 +112,7 @@ function take(i) {
         wanted_said = said
         wanted_time = time
         wanted_asks = entry_is == "ask"
+        wanted_act = act
         wanted_skips = wanted_asks && skips
         wanted_turn = is ~ /^(boot|again|end)$/ ? "" : is == "line" ? "line " number " of source " turn : "the turn of source " turn
     }
@@ -241,16 +252,26 @@ function take_item(n, i, list, inner) {
         list = get(inner, "automations")
         for (i = 1; i <= size[list]; i++) asked[word[part[list, i]]] = 1
     }
-    service = act == "call" ? word[get(inner, "service")] : ""
+    if (act == "started") {
+        entry_is = "ask"
+        split("", asked)
+        skips = 1
+        list = get(inner, "scripts")
+        for (i = 1; i <= size[list]; i++) asked["script." word[part[list, i]]] = 1
+    } else if (act == "halted") {
+        for (i = 1; i <= size[inner]; i++) if ("script." word[part[inner, i]] in number_of) end_runs(number_of["script." word[part[inner, i]]])
+    }
+    service = act == "call" ? word[get(inner, "service")] : act == "halted" ? "script.turn_off" : ""
+    if (act == "started") service = is_true(inner, "waits") ? "script." word[part[list, 1]] : "script.turn_on"
     said = n ? item_words(n) : ""
 }
 
 # The answers of the automations to a line that matters; and to each other one of those in mode restart whose runs are told of, since a new
 # run ends the one before.
 function ask_all(a) {
-    for (a = 1; a <= automations; a++) {
+    for (a = 1; a <= units; a++) {
         if (!matters && !replaces[a]) continue
-        found[here, a] = answer(a)
+        found[here, a] = a > automations && entry_is != "ask" ? "apart" : answer(a)
         moved_by[here, a] = movers
         if (here == wanted) why[a] = because
         if (here == wanted) was_off[a] = on[a] ? 0 : turned_at[a]
@@ -266,7 +287,7 @@ function ask_all(a) {
 
 function follow(run) {
     if (here < first_step[run]) {
-        if (here >= from_line[run] && is == "step" && number < run) may_queue[run] = 1
+        if (here >= from_line[run] && is == "step" && number < run && !starts_and_waits()) may_queue[run] = 1
         return
     }
     if (here == first_step[run]) find_askers(run)
@@ -278,20 +299,20 @@ function follow(run) {
 function settle(run, a, n) {
     n = steps[run]
     if (!quiet_at[run] || last_act[run] == "failed" || first_ender(run, step_line[run, n], quiet_at[run])) return
-    for (a = 1; a <= automations; a++) if (goes_on(a, n)) may_be[run, a] = 0
+    for (a = 1; a <= units; a++) if (goes_on(a, n)) may_be[run, a] = 0
 }
 
 # Which automations the run can be of, by the lines that can have asked for it; a run that waited in a queue begins at a step of an earlier
 # one.
 function find_askers(run, line, a) {
     for (line = from_line[run]; line < here; line++) {
-        for (a = 1; a <= automations; a++) {
+        for (a = 1; a <= units; a++) {
             if (found[line, a] !~ /fires|may/) continue
             may_be[run, a] = 1
             if (mode[a] == "restart") replaces[a] = 1
         }
     }
-    for (a = 1; a <= automations; a++) if (mode[a] == "queued" && may_queue[run]) may_be[run, a] = 1
+    for (a = 1; a <= units; a++) if (mode[a] == "queued" && may_queue[run]) may_be[run, a] = 1
 }
 
 function take_step(run, n, a) {
@@ -302,26 +323,28 @@ function take_step(run, n, a) {
     behind_said[run, n] = last_said
     last_act[run] = act
     last_branch[run] = branch
+    take_call(run, n)
     quiet_at[run] = 0
-    for (a = 1; a <= automations; a++) if (may_be[run, a] && !(can_do(a) && is_planned(a, n))) may_be[run, a] = 0
+    for (a = 1; a <= units; a++) if (may_be[run, a] && !(can_do(a) && is_planned(a, n))) may_be[run, a] = 0
 }
 
 # Whether this can be the step n of an automation's script, as far as that goes without a block.
 function is_planned(a, n) {
     if (n > planned[a]) return !is_whole[a]
-    return act == "failed" || (act == "nothing") == (plan[a, n] != "acted")
+    if (act ~ /^(call|started|halted)$/ && plan_call[a, n] != "" && plan_call[a, n] != service) return 0
+    return act == "failed" || (act == "nothing") == (plan[a, n] !~ /^(acted|called)$/)
 }
 
 # Whether the script of an automation goes on at once behind its step n.
 function goes_on(a, n) {
-    return n < planned[a] && plan[a, n] !~ /^(began|tested|stopped|ended the wait)/
+    return n < planned[a] && plan[a, n] !~ /^(began|called|tested|stopped|ended the wait)/
 }
 
 # Whether an automation's actions hold what this step did.
 function can_do(a) {
     if (branch != "[]" && !splits[a]) return 0
     if (act == "fired") return (a, "event", event_type) in names
-    if (act == "call") return may_call(a, service)
+    if (act ~ /^(call|started|halted)$/) return may_call(a, service)
     if (act == "triggered") return may_call(a, "automation.trigger")
     if (act == "switched") return may_call(a, "automation.turn_on") || may_call(a, "automation.turn_off") || may_call(a, "automation.toggle")
     return 1

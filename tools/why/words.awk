@@ -60,6 +60,14 @@ function item_words(n, inner, i, out) {
         for (i = 1; i <= size[inner]; i++) out = out (i > 1 ? ", " : "") "turned " automation_in(part[inner, i]) (is_true(part[inner, i], "on") ? " on" : " off")
         return out == "" ? "turned no automation on or off" : out
     }
+    if (act == "started") {
+        for (i = 1; i <= size[get(inner, "scripts")]; i++) out = out (i > 1 ? ", " : " ") "script." word[part[get(inner, "scripts"), i]]
+        return "started" (out == "" ? " no script" : out) with_data(get(inner, "data")) (is_true(inner, "waits") ? ", and waits for the end of that run" : "")
+    }
+    if (act == "halted") {
+        for (i = 1; i <= size[inner]; i++) out = out (i > 1 ? ", " : " ") "script." word[part[inner, i]]
+        return "ended the runs of" (out == "" ? " no script" : out)
+    }
     if (act == "triggered") {
         for (i = 1; i <= size[get(inner, "automations")]; i++) out = out (i > 1 ? ", " : " ") "automation." word[part[get(inner, "automations"), i]]
         return "asked" (out == "" ? " no automation" : out) " to run, " (skips ? "whatever the conditions" : "if the conditions hold")
@@ -94,20 +102,22 @@ function may_begin(run, line, a) {
 # The automations that the run can be of, and the lines that can have asked for it.
 function read_run(run, a, line, by, any) {
     whose = askers = ""
+    asker_line = 0
     owners = asker_count = queues = 0
-    for (a = 1; a <= automations; a++) {
+    for (a = 1; a <= units; a++) {
         if (!may_be[run, a]) continue
-        whose = whose (owners++ ? " or " : "") "automation." name[a]
+        whose = whose (owners++ ? " or " : "") whole_name(a)
         owner = a
         if (mode[a] == "queued" && may_queue[run]) queues = 1
     }
     for (line = from_line[run]; line < first_step[run]; line++) {
         by = ""
-        for (a = any = 0; ++a <= automations;) {
+        for (a = any = 0; ++a <= units;) {
             if (!may_begin(run, line, a)) continue
             any = 1
-            if (moved_by[line, a] != "") by = by "        by " (owners > 1 ? "automation." name[a] ", " : "its ") moved_by[line, a] "\n"
+            if (moved_by[line, a] != "") by = by "        by " (owners > 1 ? whole_name(a) ", " : "its ") moved_by[line, a] "\n"
         }
+        if (any) asker_line = line
         if (any) askers = askers "    " (asker_count++ ? "or " : "") "asked for by line " line ": " sentence[line] "\n" by
     }
     if (queues) askers = askers "    " (asker_count ? "or it" : "it") " waited in the queue behind an earlier run, asked for by an earlier line\n"
@@ -127,6 +137,7 @@ function tell_run(run, i, behind) {
         print "    line " step_line[run, i] (step_line[run, i] == wanted ? ", this one" : "") ": it " step_words(run, i)
     }
     print "    " ending_words(run, step_line[run, steps[run]], step_in_plan(run, steps[run]))
+    if (asker_count == 1 && !queues && asker_line in caller_at) print "    " caller_words(asker_line)
 }
 
 # What the configuration tells of a step: that of an automation whose script has no block before it.
@@ -136,6 +147,7 @@ function step_in_plan(run, i) {
 
 function step_words(run, i) {
     if (step_said[run, i] != "") return step_said[run, i]
+    if ((run, i) in behind_call) return behind_words(run, i)
     if (step_in_plan(run, i) != "") return step_in_plan(run, i)
     return "took a step that shows nothing outside (a test, variables, a choice, or the begin or end of a delay, wait or block)"
 }
@@ -144,6 +156,7 @@ function step_words(run, i) {
 function ending_words(run, last, step, waits_on, ender) {
     if (last_act[run] == "failed" && last_branch[run] == "[]") return "it ended at line " last ": it failed"
     if (!quiet_at[run]) return "the trace stops before it tells whether a further step came"
+    if ((run, steps[run]) in script_called) return waiting_words(run, steps[run])
     if (step ~ /^began/) {
         ender = first_ender(run, last, 0)
         return "the " substr(step, 9) " that began at line " last (ender ? " was not over when line " ender " " verb : " is not over")
@@ -160,7 +173,7 @@ function ending_words(run, last, step, waits_on, ender) {
 }
 
 function may_wait(run, a) {
-    for (a = 1; a <= automations; a++) if (may_be[run, a] && waits[a]) return 1
+    for (a = 1; a <= units; a++) if (may_be[run, a] && waits[a]) return 1
     return !owners
 }
 
@@ -180,19 +193,20 @@ function tell_begun(i, a, run, begun, none) {
         run = about[i]
         if (first_step[run] <= wanted) continue
         read_run(run)
-        for (a = 1; a <= automations && !may_begin(run, wanted, a); a++) continue
-        if (a > automations) continue
-        for (a = 1; a <= automations; a++) if (may_begin(run, wanted, a)) begun[a] = 1
+        for (a = 1; a <= units && !may_begin(run, wanted, a); a++) continue
+        if (a > units) continue
+        for (a = 1; a <= units; a++) if (may_begin(run, wanted, a)) begun[a] = 1
         if (asker_count == 1 && !queues) print "it asked for this run:"
         else print "it may have asked for this run:"
         tell_run(run)
     }
-    for (a = 1; a <= automations; a++) {
+    for (a = 1; a <= units; a++) {
         if (found[wanted, a] == "apart") none++
         else if (!(a in begun)) tell_none(a)
     }
     if (abouts == most) print "further runs may have begun at it"
-    if (none == automations) print "no automation has a trigger for such a line: no run began"
+    if (wanted_act == "started") return
+    if (none == units) print "no automation has a trigger for such a line: no run began"
     else if (none) print "no other automation has a trigger for such a line"
 }
 
@@ -205,14 +219,14 @@ function tell_moved(i, out) {
 function tell_none(a, how) {
     how = found[wanted, a]
     if (how ~ /fires|may/ && (!all_begun || cut_at)) {
-        print "automation." name[a] ": " (cut_at ? "line " cut_at " restarted all" : "the trace stops") " before it tells whether a run of it began"
+        print whole_name(a) ": " (cut_at ? "line " cut_at " restarted all" : "the trace stops") " before it tells whether a run of it began"
         printf "%s", why[a]
         return
     }
     if (how == "off") how = "it was turned off" (was_off[a] == 1 ? " from the start" : " (line " was_off[a] ")")
     else if (how == "no") how = "no trigger of it fired"
     else how = (how == "may" ? "no trigger of it fired, or " : wanted_asks ? "" : "its trigger fired, but ") refusal(a)
-    print "automation." name[a] " began no run: " how
+    print whole_name(a) " began no run: " how
     printf "%s", why[a]
 }
 

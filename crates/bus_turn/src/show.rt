@@ -3,7 +3,7 @@ ghost use Rattle.std.specs.Prelude.{◌≡◌, ◌++◌, ◌-◌, [], IfErr, OnO
 ghost use Rattle.std.specs.Option.{option_copied};
 ghost use Rattle.ha_journal.specs.declared.entry.Entry.{Entry};
 ghost use Rattle.ha_journal.specs.Entries.{is_again as is_again_lem};
-ghost use Rattle.ha_journal.specs.Journal.{Journal, automations, more};
+ghost use Rattle.ha_journal.specs.Journal.{Journal, units, more};
 ghost use Rattle.ha_journal.specs.EntryText.{error_text_of, trace_line as trace_line_lem};
 ghost use Rattle.ha_model.specs.Texts.{call_text_of};
 ghost use Rattle.ha_texts.specs.Lines.{AreDated};
@@ -12,6 +12,7 @@ ghost use Rattle.bus_turn.specs.Dated.{IsLastDated};
 ghost use Rattle.bus_turn.specs.Shown.{saved_text, texts_of};
 ghost use Rattle.bus_turn.specs.States.{SinkState, keeper_of, outside, outside_of, sink_of};
 ghost use Rattle.bus_turn.specs.Writes.{Saves, Shows, WritesIn, entry_texts, fault_of, refusal};
+ghost use Rattle.ha_config.specs.Units.{units_of};
 
 use crate::fault::BusFault;
 use crate::write::{write_call, write_error, write_trace};
@@ -58,6 +59,22 @@ fn save<C: Core, Q: Keeper>(alloc: Global, core: &C, keep: &mut Q) -> Result<(),
     save_switches(alloc, core, keep)
 }
 
+/// Writes the line of an entry to the trace as `write_trace` does, by the units of the core's boot.
+fn show_line<C: Core, K: Sink>(
+    alloc: Global,
+    shown: &mut Word,
+    core: &C,
+    entry: &Entry,
+    trace: &mut Option<K>,
+    goes_on: bool,
+) -> Result<(), BusFault>
+    requires { AreDated entry.now }
+    ensures { let s = sink_of K.written K.faults K.zeros K.name in
+        WritesIn (trace_line_lem (units (C.entries core.now)) entry.now) (option_map s trace.old) (fault_of result) (option_map s trace.new) }
+{
+    write_trace(alloc, shown, entry, core.config(), trace, goes_on)
+}
+
 /// Writes what a put of one entry gives, and saves the switches where it changed what the store keeps: first the call, then the error,
 /// the trace and the store. After a fault nothing further is written. Unless more is at hand, the trace's sink hands on what it keeps.
 fn show<C: Core, K: Sink, Q: Keeper>(
@@ -78,7 +95,7 @@ fn show<C: Core, K: Sink, Q: Keeper>(
         (before : Journal)
         → C.entries core.now ≡ more before entry.now
         → Shows (entry_texts (call_text_of (C.runs core.now) before entry.now) (error_text_of entry.now)
-        (trace_line_lem (automations (C.entries core.now)) entry.now) (saved_text (C.entries core.now)))
+        (trace_line_lem (units (C.entries core.now)) entry.now) (saved_text (C.entries core.now)))
         (outside_of s q calls.old errors.old trace.old keep.old)
         (fault_of result)
         (outside_of s q calls.new errors.new trace.new keep.new) }
@@ -91,7 +108,7 @@ fn show<C: Core, K: Sink, Q: Keeper>(
         Ok(()) => {}
         Err(fault) => return Err(fault),
     }
-    match write_trace(alloc, shown, entry, core.config(), trace, goes_on) {
+    match show_line(alloc, shown, core, entry, trace, goes_on) {
         Ok(()) => {}
         Err(fault) => return Err(fault),
     }
@@ -111,7 +128,7 @@ fn write_both<K: Sink>(
     requires first { AreDated first.now }
     requires second { AreDated second.now }
     ensures { let s = sink_of K.written K.faults K.zeros K.name in
-        WritesIn (trace_line_lem config.now.automations first.now ++ trace_line_lem config.now.automations second.now)
+        WritesIn (trace_line_lem (units_of config.now) first.now ++ trace_line_lem (units_of config.now) second.now)
         (option_map s trace.old)
         (fault_of result)
         (option_map s trace.new) }
@@ -141,7 +158,7 @@ fn show_restart<C: Core, K: Sink, Q: Keeper>(
     ensures { let s = sink_of K.written K.faults K.zeros K.name in
         let q = keeper_of Q.kept Q.faults in
         (calls errors : SinkState)
-        → Shows (entry_texts [] [] (trace_line_lem (automations (C.entries core.now)) restart.now ++ trace_line_lem (automations (C.entries core.now)) again.now)
+        → Shows (entry_texts [] [] (trace_line_lem (units (C.entries core.now)) restart.now ++ trace_line_lem (units (C.entries core.now)) again.now)
         (saved_text (C.entries core.now)))
         (outside calls errors (option_map s trace.old) (q keep.old))
         (fault_of result)

@@ -1,5 +1,5 @@
 -- What a view sees.
-use Rattle.std.specs.Prelude.{ℕ, Bool, false, map, codes}
+use Rattle.std.specs.Prelude.{ℕ, Bool, false, [], map, codes}
 use Rattle.std.specs.Option.{option_map_or}
 use Rattle.ha_value.specs.declared.value.EntityId.{EntityId}
 use Rattle.ha_config.specs.declared.config.Automation.{Automation}
@@ -22,13 +22,14 @@ says_on s = same s.text (codes "on")
 abbrev pub is_shown_on : StateTable → Text → Bool
 is_shown_on states name = option_map_or says_on (at states (automation_id name)) false
 
--- what these parts see: the switch of an automation is the state of its entity
+-- what these parts see: the switch of an automation is the state of its entity, and no script is seen
 abbrev pub sight_of : StateTable → Config → Text → ℕ → Sight
 sight_of states config zone moment = record {
   states = at states;
   now = moment;
   zone = zone;
   automations = map {B = Text × Bool} (λ (a : Automation). (a.name, is_shown_on states a.name)) config.automations;
+  scripts = [];
 }
 
 abbrev pub seen : View → Sight

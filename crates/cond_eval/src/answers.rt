@@ -9,8 +9,8 @@ use crate::conditions::test;
 use crate::view::View;
 use ha_clock::{Moment, Zone};
 use ha_config::{Automation, Condition, Config, Template};
-use ha_sight::{Answers, Env, TplFault};
-use ha_value::{EntityId, Value, Word};
+use ha_sight::{Answers, Env, Inner, TplFault};
+use ha_value::{EntityId, Many, Value, Word};
 use state_table::StateTable;
 use std::alloc::{AllocError, Global};
 use tpl_eval::render;
@@ -20,7 +20,8 @@ impl<'a> View<'a> {
     pub fn make(states: &'a StateTable, config: &'a Config, zone: &'a Zone, at: Moment) -> View<'a>
         requires timely { at ≤ last_moment }
         requires few { length config.now.automations ≤ 2 ^ 32 }
-        ensures { seen result ≡ sight_of states.entry.now config.entry.now zone.entry.now at }
+        ensures seen { seen result ≡ sight_of states.entry.now config.entry.now zone.entry.now at }
+        ensures config { result.config.now ≡ config.entry.now }
     {
         View {
             states,
@@ -86,5 +87,15 @@ impl<'a> Answers for View<'a> {
     fn is_on(&self, automation: u32) -> bool {
         let automations = self.config.automations.as_slice();
         is_shown_on(self.states, &automations[automation as usize].name)
+    }
+
+    fn inner(
+        &self,
+        _alloc: Global,
+        _service: &Word,
+        _target: &Many<EntityId>,
+        _fields: &Many<(Word, Value)>,
+    ) -> Result<Inner, AllocError> {
+        Ok(Inner::Outer)
     }
 }

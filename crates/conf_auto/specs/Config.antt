@@ -3,6 +3,7 @@ use Rattle.std.specs.Prelude.{ℕ, ◌&&◌, nat_lt, if◌then◌else◌, List, 
 use Rattle.std.specs.List.{slice_get}
 use Rattle.ha_config.specs.declared.config.Automation.{Automation}
 use Rattle.ha_config.specs.declared.config.Config.{Config}
+use Rattle.ha_config.specs.declared.config.Script.{Script}
 use Rattle.yaml_scan.specs.declared.fault.Fault.{Fault}
 use Rattle.yaml_scan.specs.declared.fault.Code.TheVariants as code
 use Rattle.yaml_tree.specs.declared.node.Node.{Node}
@@ -11,9 +12,10 @@ use Rattle.yaml_tree.specs.Readers.{Shape, line_of, shape_of, is_null_word}
 use Rattle.yaml_tree.specs.Tree.{tree}
 use Rattle.conf_field.specs.declared.key.Key.TheVariants as key
 use Rattle.conf_field.specs.Readings.{Read, bad, both, fault, made, unless}
-use Rattle.conf_field.specs.Fields.{Meaning, Pair, row, keys, need}
-use Rattle.conf_auto.specs.Automations.{automation}
+use Rattle.conf_field.specs.Fields.{Meaning, Pair, row, get, keys, need}
+use Rattle.conf_auto.specs.Automations.{automation, or_empty}
 use Rattle.conf_auto.specs.Names.{joined}
+use Rattle.conf_auto.specs.Scripts.{scripts}
 
 abbrev pub at_most : ℕ → List Node → Option Fault
 at_most most ns = option_map (λ n. fault (line_of n) code.Limit) (slice_get ns most)
@@ -39,27 +41,30 @@ automations_by line n (NodeKind-F.Map pairs) = listed (n ∷ [])
 abbrev pub automations : Meaning (List Automation)
 automations line n = automations_by line n (shape_of n)
 
-abbrev pub made_root : Unit {0} × List Automation → List Automation
-made_root x = x.1
+abbrev pub made_root : Unit {0} × (List Automation × Option (List Script)) → Config
+made_root x = record { automations = x.1.0; scripts = or_empty x.1.1 }
 
--- the map of a file has one key
-abbrev pub root_map : ℕ → List Pair → Read (List Automation)
-root_map line pairs = made made_root (both (keys (row key.Automation ∷ []) pairs) (need key.Automation line pairs automations))
-
--- A list stands for that key's value; null is no automation.
-abbrev pub root_by : ℕ → Shape → Read (List Automation)
-root_by line (NodeKind-F.Scalar t plain) = if plain && is_null_word t then Ok [] else bad line code.Kind
-root_by line (NodeKind-F.List items) = listed items
-root_by line (NodeKind-F.Map pairs) = root_map line pairs
+-- the map of a file has the key of automations, and perhaps that of scripts
+abbrev pub root_map : ℕ → List Pair → Read Config
+root_map line pairs =
+    made made_root
+    (both (keys (row key.Automation ∷ row key.Script ∷ []) pairs)
+    (both (need key.Automation line pairs automations) (get key.Script pairs scripts)))
 
 abbrev pub config_with : List Automation → Config
-config_with all = record { automations = all }
+config_with all = record { automations = all; scripts = [] }
 
-abbrev pub of_node : Node → Read (List Automation)
+-- A list stands for the value of the key of automations; null is no automation.
+abbrev pub root_by : ℕ → Shape → Read Config
+root_by line (NodeKind-F.Scalar t plain) = made config_with (if plain && is_null_word t then Ok [] else bad line code.Kind)
+root_by line (NodeKind-F.List items) = made config_with (listed items)
+root_by line (NodeKind-F.Map pairs) = root_map line pairs
+
+abbrev pub of_node : Node → Read Config
 of_node root = root_by (line_of root) (shape_of root)
 
 abbrev pub of_root : Read Node → Read Config
-of_root (Ok root) = made config_with (of_node root)
+of_root (Ok root) = of_node root
 of_root (Err f) = Err f
 
 -- The length comes before every other fault, and a fault of the text's structure before those of its keys.

@@ -2,4 +2,5 @@ pub mod Automations
 pub mod Config
 pub mod Names
 pub mod Read
+pub mod Scripts
 pub mod Sizes

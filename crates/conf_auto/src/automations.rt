@@ -79,7 +79,7 @@ fn mode_named(text: &[u8]) -> Option<Mode>
     mode_among(&MODES, text)
 }
 
-struct Named;
+pub(crate) struct Named;
 
 impl Kind for Named {
     type Made = Mode;
@@ -98,7 +98,7 @@ impl Kind for Named {
 }
 
 /// How many runs may be live, from 1 to 1,000.
-struct Most;
+pub(crate) struct Most;
 
 #[tactic(auto, using(crate::proofs::Numbers::most_counted))]
 fn within(text: &[u8]) -> Option<u32>
@@ -155,7 +155,7 @@ impl Kind for Conditions {
     }
 }
 
-struct Actions;
+pub(crate) struct Actions;
 
 impl Kind for Actions {
     type Made = Many<Action>;
@@ -192,7 +192,7 @@ fn or_empty(alloc: Global, given: Option<Many<Condition>>) -> Many<Condition>
 }
 
 /// A script of nothing is one empty block.
-fn script_of(alloc: Global, actions: Many<Action>) -> Result<Many<Action>, AllocError>
+pub(crate) fn script_of(alloc: Global, actions: Many<Action>) -> Result<Many<Action>, AllocError>
     ensures { IfOk result (λ as'. as' ≡ automations.script_of actions) }
 {
     if !actions.is_empty() {

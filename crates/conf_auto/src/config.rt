@@ -1,22 +1,25 @@
 //! The configuration of a text.
 
-ghost use Rattle.std.specs.Prelude.{◌≡◌, ◌<◌, ◌^◌, ◌∷◌, [], ℕ, List, Result, None, Some, Ok, IfOk, length};
+ghost use Rattle.std.specs.Prelude.{◌≡◌, ◌<◌, ◌^◌, ◌∷◌, [], ℕ, List, Option, Result, None, Some, Ok, IfOk, length};
 ghost use Rattle.conf_field.specs.Sizes.{size};
 ghost use Rattle.ha_config.specs.declared.config.Automation.{Automation as One};
+ghost use Rattle.ha_config.specs.declared.config.Script.{Script as Called};
 ghost use Rattle.yaml_scan.specs.Answers.{Gives};
 ghost use Rattle.yaml_scan.specs.declared.fault.Fault.{Fault as Place};
 ghost use Rattle.yaml_tree.specs.declared.node.Node.{Node as Root};
 ghost use Rattle.yaml_tree.specs.Tree.{tree};
 ghost use Rattle.conf_field.specs.Readings.{Read, made};
+ghost use Rattle.conf_auto.specs.Automations.{or_empty};
 ghost use Rattle.conf_auto.specs.Config as config;
 ghost use Rattle.conf_auto.specs.Read.{IsReadOf};
 
 use crate::automations::automation;
 use crate::names::joined;
+use crate::scripts::Scripts;
 use crate::size::is_small;
-use conf_field::rows::AUTOMATION;
-use conf_field::{Kind, Pair, bad, both, keys, needed, unless};
-use ha_config::{Automation, Config};
+use conf_field::rows::{AUTOMATION, SCRIPT};
+use conf_field::{Kind, Pair, bad, both, keys, needed, optional, unless};
+use ha_config::{Automation, Config, Script};
 use ha_value::Many;
 use std::alloc::Global;
 use yaml_scan::{Code, Fault, YamlFault};
@@ -100,35 +103,72 @@ impl Kind for Automations {
     }
 }
 
-/// The map of a file has one key.
-fn root_map(alloc: Global, line: u32, pairs: &[Pair]) -> Result<Many<Automation>, YamlFault>
-    ensures { Gives (config.root_map line pairs.now) result }
+fn or_empty(alloc: Global, given: Option<Many<Script>>) -> Many<Script>
+    ensures { result ≡ or_empty given }
 {
-    let known = keys(&[], &[AUTOMATION], pairs);
-    behind_limit(both(known, needed::<Automations>(alloc, line, pairs, AUTOMATION)))
+    match given {
+        Some(scripts) => scripts,
+        None => Many::make(alloc),
+    }
 }
 
-fn of_root(alloc: Global, root: &Node) -> Result<Many<Automation>, YamlFault>
+fn made_root(
+    alloc: Global,
+    parts: Result<((), (Many<Automation>, Option<Many<Script>>)), YamlFault>,
+) -> Result<Config, YamlFault>
+    ensures { (m : Read (Prim.Unit {0} × (List One × Option (List Called)))) → Gives m parts → Gives (made config.made_root m) result }
+{
+    match parts {
+        Ok((_, (automations, scripts))) => Ok(Config {
+            automations,
+            scripts: or_empty(alloc, scripts),
+        }),
+        Err(fault) => Err(fault),
+    }
+}
+
+/// The map of a file has the key of automations, and perhaps that of scripts.
+fn root_map(alloc: Global, line: u32, pairs: &[Pair]) -> Result<Config, YamlFault>
+    ensures { Gives (config.root_map line pairs.now) result }
+{
+    let known = keys(&[], &[AUTOMATION, SCRIPT], pairs);
+    let automations = needed::<Automations>(alloc, line, pairs, AUTOMATION);
+    let scripts = optional::<Scripts>(alloc, pairs, SCRIPT);
+    made_root(alloc, both(known, both(automations, scripts)))
+}
+
+/// A configuration without scripts.
+fn config_with(alloc: Global, all: Result<Many<Automation>, YamlFault>) -> Result<Config, YamlFault>
+    ensures { (m : Read (List One)) → Gives m all → Gives (made config.config_with m) result }
+{
+    match all {
+        Ok(automations) => Ok(Config {
+            automations,
+            scripts: Many::make(alloc),
+        }),
+        Err(fault) => Err(fault),
+    }
+}
+
+/// A list of automations alone.
+fn of_list(alloc: Global, items: &[Node]) -> Result<Config, YamlFault>
+    ensures { Gives (made config.config_with (config.listed items.now)) result }
+{
+    config_with(alloc, listed(alloc, items))
+}
+
+fn of_root(alloc: Global, root: &Node) -> Result<Config, YamlFault>
     ensures { Gives (config.of_node root.now) result }
 {
     match &root.kind {
         NodeKind::Scalar { .. } => {
             if root.is_null() {
-                return Ok(Many::make(alloc));
+                return config_with(alloc, Ok(Many::make(alloc)));
             }
             bad(root.line, Code::Kind)
         }
-        NodeKind::List(items) => listed(alloc, items.as_slice()),
+        NodeKind::List(items) => of_list(alloc, items.as_slice()),
         NodeKind::Map(pairs) => root_map(alloc, root.line, pairs.as_slice()),
-    }
-}
-
-fn config_with(all: Result<Many<Automation>, YamlFault>) -> Result<Config, YamlFault>
-    ensures { (m : Read (List One)) → Gives m all → Gives (made config.config_with m) result }
-{
-    match all {
-        Ok(automations) => Ok(Config { automations }),
-        Err(fault) => Err(fault),
     }
 }
 
@@ -138,7 +178,7 @@ fn of_tree(alloc: Global, root: &Node) -> Result<Config, YamlFault>
     ensures small { IfOk result (λ made. size root.now < 2_147_483_648) }
 {
     if is_small(root) {
-        return config_with(of_root(alloc, root));
+        return of_root(alloc, root);
     }
     Err(YamlFault::Memory)
 }

@@ -4,6 +4,7 @@
 mod automations;
 mod config;
 mod names;
+mod scripts;
 mod size;
 
 pub use config::read_config;

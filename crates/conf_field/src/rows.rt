@@ -148,6 +148,11 @@ pub const EVENT_TYPE: Row = Row {
     also: None,
 };
 
+pub const FIELDS: Row = Row {
+    key: Key::Fields,
+    also: None,
+};
+
 pub const FOR: Row = Row {
     key: Key::For,
     also: None,
@@ -165,6 +170,11 @@ pub const FROM: Row = Row {
 
 pub const HOURS: Row = Row {
     key: Key::Hours,
+    also: None,
+};
+
+pub const ICON: Row = Row {
+    key: Key::Icon,
     also: None,
 };
 
@@ -245,6 +255,11 @@ pub const PLATFORM: Row = Row {
 
 pub const REPEAT: Row = Row {
     key: Key::Repeat,
+    also: None,
+};
+
+pub const SCRIPT: Row = Row {
+    key: Key::Script,
     also: None,
 };
 

@@ -37,7 +37,7 @@ pub fn reads(alloc: Global, text: &str, rows: &[Row<'_>]) -> bool {
 }
 
 /// Whether the text is refused at this line with the code of this number.
-fn is_refused(alloc: Global, text: &[u8], line: u32, code: u8) -> bool {
+pub fn is_refused(alloc: Global, text: &[u8], line: u32, code: u8) -> bool {
     match read_config(alloc, text) {
         Err(YamlFault::Bad { line: at, code: by }) => at == line && by.number() == code,
         _ => false,
@@ -129,7 +129,8 @@ fn faults_of_files(rt: HostRuntime) {
         ("automation: 5\n", 1, 7),
         ("- 5\n", 1, 7),
         ("{}\n", 1, 6),
-        ("script: {}\n", 1, 5),
+        ("script: {}\n", 1, 6),
+        ("light: {}\n", 1, 5),
         ("automation: []\nlight:\n  - platform: x\n", 2, 5),
         (
             "automation:\n  - alias: A\n    triggers: []\n\tactions: []\n",

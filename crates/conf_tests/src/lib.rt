@@ -17,6 +17,8 @@ mod pasted;
 #[cfg(test)]
 mod plans;
 #[cfg(test)]
+mod scripts;
+#[cfg(test)]
 mod triggers;
 #[cfg(test)]
 mod words;

@@ -38,7 +38,10 @@ fn config(alloc: Global, rows: &[(&str, u32)]) -> Result<Config, AllocError> {
     for row in rows {
         automations.push(automation(alloc, row.0, row.1)?)?;
     }
-    Ok(Config { automations })
+    Ok(Config {
+        automations,
+        scripts: Many::make(alloc),
+    })
 }
 
 fn listed(alloc: Global, numbers: &[u32]) -> Result<Many<u32>, AllocError> {

@@ -1,5 +1,5 @@
 -- A run ends by its script, and the one that was queued behind it begins.
-use Rattle.std.proofs.Common.{◌≡◌, ℕ, zero, suc, ◌+◌, ◌-◌, ◌<◌, List, [], ◌∷◌, length, Bool, true, false, refl, sym, ap, subst, ◌∙◌, rules, arith}
+use Rattle.std.proofs.Common.{◌≡◌, ℕ, zero, suc, ◌+◌, ◌-◌, ◌<◌, ◌≤◌, List, [], ◌∷◌, length, Bool, true, false, refl, sym, ap, subst, ◌∙◌, rules, arith}
 use Rattle.std.specs.Prelude.{Option, Some, None, ◌||◌, nat_eq, slice_get, option_map, if◌then◌else◌}
 use Rattle.std.specs.Option.{option_map_or}
 use Rattle.timer_queue.specs.Timers.{Timer}
@@ -7,13 +7,13 @@ use Rattle.ha_model.specs.declared.record.EndCause.{EndCause}
 use Rattle.ha_model.specs.declared.record.Record.{Record}
 use Rattle.ha_journal.specs.Journal.{Journal}
 use Rattle.ha_model.specs.Lawful.{is_running, record_of}
-use Rattle.ha_model.specs.Records.{Records}
+use Rattle.ha_model.specs.Records.{CallEnds, Records}
 use Rattle.ha_config.specs.Words.{or_else}
 use Rattle.ha_sight.specs.Scripts.{Branch}
-use Rattle.ha_ready.specs.ReadyPairs.{branches_at, changed_at, pairs_from, ready_branches}
+use Rattle.ha_ready.specs.ReadyPairs.{branches_with, changed_at, pairs_from, ready_with}
 use Rattle.ha_ready.specs.RunPast.{AllPast, BeginBefore, IsPast}
 use Rattle.ha_ready.proofs.ReadyLemmas.{pairs-same}
-use Rattle.ha_ready.proofs.RunPast.{ended-rests, queued-rests, resting}
+use Rattle.ha_ready.proofs.RunPast.{ended-rests, queued-rests, resting-with}
 use Rattle.run_modes.specs.Changes.{after_end}
 use Rattle.run_modes.specs.Fits.{AreNumbered}
 use Rattle.run_modes.specs.Table.{begin_first, begins_at, begun_by, called_on, ended_at, is_live}
@@ -22,6 +22,7 @@ use Rattle.run_modes.proofs.EndLemmas.{ended-numbered}
 use Rattle.run_modes.proofs.StopLemmas.{called-numbered}
 use Rattle.script_step.specs.declared.frames.Frames.{Frames}
 use Rattle.wait_set.specs.Asked.{WaitTable as Waits}
+use Rattle.engine_parts.specs.Called.{Alike, AreAlike, place_of}
 use Rattle.engine_parts.specs.Kept.{RunsKept, SlotBut, left_branches, left_if, nobody, slot_if}
 use Rattle.engine_parts.specs.Records.{AreEnded, EndsIf, IsTable, also}
 use Rattle.engine_parts.specs.Runs.{SlotKept, SlotsWith}
@@ -33,13 +34,13 @@ eq-of a b e = search (rules, e)
 -- ---- a call is counted
 
 -- LAW: nobody ends
-pub called-ended : (s : ℕ) (rs : Records) → AreEnded nobody rs (called_on s rs)
-called-ended s [] = tt
-called-ended s (r ∷ rs) = (one (nat_eq r.serial s), called-ended s rs)
+pub called-ended : (q s : ℕ) (rs : Records) → AreEnded nobody q rs (called_on s rs)
+called-ended q s [] = tt
+called-ended q s (r ∷ rs) = (one (nat_eq r.serial s), called-ended q s rs)
   where
-    one : (c : Bool) → EndsIf false r (if c then record r { calls = suc r.calls } else r)
-    one true = record { script = record { serial = refl; automation = refl; env = refl }; begin = refl; end = refl }
-    one false = record { script = record { serial = refl; automation = refl; env = refl }; begin = refl; end = refl }
+    one : (c : Bool) → EndsIf false q r (if c then record r { calls = suc r.calls } else r)
+    one true = (record { script = record { serial = refl; automation = refl; env = refl }; begin = refl; end = refl }, refl)
+    one false = (record { script = record { serial = refl; automation = refl; env = refl }; begin = refl; end = refl }, refl)
 
 called-past : (s n : ℕ) (rs : Records) → AllPast n rs → AllPast n (called_on s rs)
 called-past s n [] h = tt
@@ -107,6 +108,61 @@ ended-table s place cause k rs lt h = record {
   unstepped = λ q p behind. h.unstepped q p (omega (arith, behind, ended-length s place cause rs));
 }
 
+-- ---- what is told of called runs
+
+-- a run that did not go, as it is and where it begins
+stays-alike : (s q place : ℕ) (r : Record) → nat_eq r.serial s ≡ false → Alike (also nobody s) q r r × Alike (also nobody s) q r (begins_at place r)
+stays-alike s q place r off = (
+  record { serial = refl; place = refl; ends = sym (or-none (place_of r.end)) ∙ (λ i. or_else (place_of r.end) (if sym off i then Some q else None)); runs = λ n stays run. run },
+  record { serial = refl; place = refl; ends = sym (or-none (place_of r.end)) ∙ (λ i. or_else (place_of r.end) (if sym off i then Some q else None)); runs = λ n stays run. begun r.begin n run },
+)
+  where
+    or-none : (o : Option ℕ) → or_else o None ≡ o
+    or-none None = refl
+    or-none (Some n) = refl
+
+    begun : (b : Option ℕ) (n : ℕ) → is_running n (record r { begin = b }) ≡ true → is_running n (record r { begin = or_else b (Some place) }) ≡ true
+    begun None n run = absurd (let bad : ◌≡◌ {A = Bool} false true = run in cc)
+    begun (Some b) n run = run
+
+above : (n s : ℕ) (r : Record) → r.serial ≡ suc n → s ≤ n → nat_eq r.serial s ≡ false
+above n s r own le = apart r.serial s (omega (arith, own, le))
+  where
+    apart : (a b : ℕ) → b < a → nat_eq a b ≡ false
+    apart a b lt = search (rules, lt)
+
+rest-alike : (s q n : ℕ) (rs : Records) → AreNumbered n rs → s ≤ n → AreAlike (also nobody s) q rs rs
+rest-alike s q n [] num le = tt
+rest-alike s q n (r ∷ rs) num le = ((stays-alike s q q r (above n s r num.0 le)).0, rest-alike s q (suc n) rs num.1 (omega (arith, le)))
+
+begun-alike : (s q a place n : ℕ) (rs : Records) → AreNumbered n rs → s ≤ n → AreAlike (also nobody s) q rs (begin_first a place rs)
+begun-alike s q a place n [] num le = tt
+begun-alike s q a place n (r ∷ rs) num le = by (is_live a r) (begun-alike s q a place (suc n) rs num.1 (omega (arith, le)))
+  where
+    by : (c : Bool) → AreAlike (also nobody s) q rs (begin_first a place rs) → AreAlike (also nobody s) q (r ∷ rs) (if c then begins_at place r ∷ rs else r ∷ begin_first a place rs)
+    by true rest = ((stays-alike s q place r (above n s r num.0 le)).1, rest-alike s q (suc n) rs num.1 (omega (arith, le)))
+    by false rest = ((stays-alike s q place r (above n s r num.0 le)).0, rest)
+
+-- LAW: a run that had not ended ends there, and the others are alike
+pub end-alike : (s place n : ℕ) (cause : EndCause) (rs : Records) → AreNumbered n rs → ((i : ℕ) (r : Record) → slice_get rs i ≡ Some r → r.serial ≡ s → r.end ≡ None) → AreAlike (also nobody s) place rs (ended_at s place cause rs)
+end-alike s place n cause [] num live = tt
+end-alike s place n cause (r ∷ rs) num live = by (nat_eq r.serial s) refl (end-alike s place (suc n) cause rs num.1 (λ i x e. live (suc i) x e))
+  where
+    by : (c : Bool) → nat_eq r.serial s ≡ c → AreAlike (also nobody s) place rs (ended_at s place cause rs)
+        → AreAlike (also nobody s) place (r ∷ rs) (if c then record r { end = Some (place, cause) } ∷ begin_first r.automation place rs else r ∷ ended_at s place cause rs)
+    by true at rest =
+        (let own : r.serial ≡ s = eq-of r.serial s at in
+        let open' : r.end ≡ None = live 0 r refl own in (
+          record {
+            serial = refl;
+            place = refl;
+            ends = (λ i. or_else (place_of (sym open' i)) (if sym at i then Some place else None));
+            runs = λ n stays run. absurd (let bad : ◌≡◌ {A = Bool} true false = sym at ∙ stays in cc);
+          },
+          begun-alike s place r.automation place (suc n) rs num.1 (omega (arith, own, num.0)),
+        ))
+    by false off rest = ((stays-alike s place place r off).0, rest)
+
 -- ---- the slots
 
 -- slots that are right place by place
@@ -136,8 +192,8 @@ numbered-get n (suc i) (x ∷ rs) r h e = omega (arith, numbered-get (suc n) i r
 
 -- ---- all runs behind an end
 
-module _ (k : Journal) (delays : List Timer) (w : Waits) (rs : Records) (numbered : AreNumbered 0 rs) (s place : ℕ) (cause : EndCause) (last : length k ≡ suc place) (os : List (Option Frames)) (pairs : List (ℕ × Branch))
-    (kept : RunsKept (also nobody s) k rs delays w os pairs) where
+module _ (told : CallEnds) (k : Journal) (delays : List Timer) (w : Waits) (rs : Records) (numbered : AreNumbered 0 rs) (s place : ℕ) (cause : EndCause) (last : length k ≡ suc place) (os : List (Option Frames)) (pairs : List (ℕ × Branch))
+    (kept : RunsKept told (also nobody s) k rs delays w os pairs) where
   abbrev next : Option ℕ
   next = begun_by s rs
 
@@ -152,79 +208,79 @@ module _ (k : Journal) (delays : List Timer) (w : Waits) (rs : Records) (numbere
       by None f g = absurd (let bad : ◌≡◌ {A = Option Record} (Some r') None = g in cc)
       by (Some r) f g = (r, f, (let same : r' ≡ after_end s place cause next r = cc in same))
 
-  begun-slot : (r : Record) (o : Option Frames) → SlotKept k delays w r o → SlotKept k delays w (begins_at place r) o
+  begun-slot : (r : Record) (o : Option Frames) → SlotKept told k delays w r o → SlotKept told k delays w (begins_at place r) o
   begun-slot r None h = h
   begun-slot r (Some f) h = record { live = h.live; serial = h.serial; automation = h.automation; stands = h.stands; gates = h.gates }
 
-  slot-behind : (r : Record) (o : Option Frames) → SlotBut (also nobody s) k delays w r o → SlotKept k delays w (after_end s place cause next r) o
+  slot-behind : (r : Record) (o : Option Frames) → SlotBut (also nobody s) told k delays w r o → SlotKept told k delays w (after_end s place cause next r) o
   slot-behind r o h = by (nat_eq r.serial s) (option_map_or (nat_eq r.serial) next false) h
     where
-      by : (c d : Bool) → slot_if (false || c) k delays w r o → SlotKept k delays w (if c then record r { end = Some (place, cause) } else if d then begins_at place r else r) o
-      by true d gone = subst (SlotKept k delays w (record r { end = Some (place, cause) })) (sym gone) tt
+      by : (c d : Bool) → slot_if (false || c) told k delays w r o → SlotKept told k delays w (if c then record r { end = Some (place, cause) } else if d then begins_at place r else r) o
+      by true d gone = subst (SlotKept told k delays w (record r { end = Some (place, cause) })) (sym gone) tt
       by false true slot = begun-slot r o slot
       by false false slot = slot
 
-  slots : SlotsWith (SlotKept k delays w) rs' os
+  slots : SlotsWith (SlotKept told k delays w) rs' os
   slots =
-      slots-by (SlotKept k delays w) rs' os (slots-length (SlotBut (also nobody s) k delays w) rs os kept.slots ∙ sym (ended-length s place cause rs))
-      (λ i r' o e f. (let old = old-at i r' e in subst (λ (y : Record). SlotKept k delays w y o) (sym old.2) (slot-behind old.0 o (slots-both (SlotBut (also nobody s) k delays w) rs os i old.0 o kept.slots old.1 f))))
+      slots-by (SlotKept told k delays w) rs' os (slots-length (SlotBut (also nobody s) told k delays w) rs os kept.slots ∙ sym (ended-length s place cause rs))
+      (λ i r' o e f. (let old = old-at i r' e in subst (λ (y : Record). SlotKept told k delays w y o) (sym old.2) (slot-behind old.0 o (slots-both (SlotBut (also nobody s) told k delays w) rs os i old.0 o kept.slots old.1 f))))
 
   -- the branches of a run that neither ends nor begins, and of the one that ends
-  other-branches : (q : ℕ) → 0 < q → option_map_or (nat_eq q) next false ≡ false → left_branches (also nobody s) rs k q ≡ branches_at rs' k q
-  other-branches q low off = by (record_of rs q) refl ∙ ap (λ o. option_map_or (ready_branches rs' k) o []) (sym (ended-record s q place cause rs numbered))
+  other-branches : (q : ℕ) → 0 < q → option_map_or (nat_eq q) next false ≡ false → left_branches (also nobody s) told rs k q ≡ branches_with told rs' k q
+  other-branches q low off = by (record_of rs q) refl ∙ ap (λ o. option_map_or (ready_with told k) o []) (sym (ended-record s q place cause rs numbered))
     where
-      one : (r : Record) → r.serial ≡ q → record_of rs q ≡ Some r → left_if (nat_eq q s) rs k q ≡ ready_branches rs' k (after_end s place cause next r)
+      one : (r : Record) → r.serial ≡ q → record_of rs q ≡ Some r → left_if (nat_eq q s) told rs k q ≡ ready_with told k (after_end s place cause next r)
       one r own found =
-          (λ i. left_if (nat_eq (sym own i) s) rs k q) ∙ cases (nat_eq r.serial s) (option_map_or (nat_eq r.serial) next false) (ap (λ n. option_map_or (nat_eq n) next false) own ∙ off)
+          (λ i. left_if (nat_eq (sym own i) s) told rs k q) ∙ cases (nat_eq r.serial s) (option_map_or (nat_eq r.serial) next false) (ap (λ n. option_map_or (nat_eq n) next false) own ∙ off)
         where
-          cases : (c d : Bool) → d ≡ false → left_if c rs k q ≡ ready_branches rs' k (if c then record r { end = Some (place, cause) } else if d then begins_at place r else r)
+          cases : (c d : Bool) → d ≡ false → left_if c told rs k q ≡ ready_with told k (if c then record r { end = Some (place, cause) } else if d then begins_at place r else r)
           cases true d e =
-              sym (resting rs' k (record r { end = Some (place, cause) })
+              sym (resting-with told k (record r { end = Some (place, cause) })
               ((λ i. is_running (last i) (record r { end = Some (place, cause) })) ∙ ended-rests place place cause (record r { end = Some (place, cause) }) refl (omega arith)))
           cases false true e = absurd (let bad : ◌≡◌ {A = Bool} true false = e in cc)
-          cases false false e = ap (λ o. option_map_or (ready_branches rs k) o []) found
+          cases false false e = ap (λ o. option_map_or (ready_with told k) o []) found
 
-      by : (o : Option Record) → record_of rs q ≡ o → left_branches (also nobody s) rs k q ≡ option_map_or (ready_branches rs' k) (option_map (after_end s place cause next) o) []
+      by : (o : Option Record) → record_of rs q ≡ o → left_branches (also nobody s) told rs k q ≡ option_map_or (ready_with told k) (option_map (after_end s place cause next) o) []
       by None e = cases (nat_eq q s)
         where
-          cases : (c : Bool) → left_if c rs k q ≡ []
+          cases : (c : Bool) → left_if c told rs k q ≡ []
           cases true = refl
-          cases false = ap (λ o. option_map_or (ready_branches rs k) o []) e
+          cases false = ap (λ o. option_map_or (ready_with told k) o []) e
       by (Some r) e = one r (omega (arith, numbered-get 0 (q - 1) rs r numbered e, low)) e
 
   -- LAW: where nobody waited for it, all runs are kept
-  pub none-begun : next ≡ None → RunsKept nobody k rs' delays w os pairs
+  pub none-begun : next ≡ None → RunsKept told nobody k rs' delays w os pairs
   none-begun none = record {
     slots = slots;
     pairs_are = kept.pairs_are
-        ∙ pairs-same 0 (length rs) (left_branches (also nobody s) rs k) (branches_at rs' k) (λ q low high. other-branches q low (ap (λ o. option_map_or (nat_eq q) o false) none))
-        ∙ (λ i. pairs_from 0 (sym (ended-length s place cause rs) i) (branches_at rs' k));
+        ∙ pairs-same 0 (length rs) (left_branches (also nobody s) told rs k) (branches_with told rs' k) (λ q low high. other-branches q low (ap (λ o. option_map_or (nat_eq q) o false) none))
+        ∙ (λ i. pairs_from 0 (sym (ended-length s place cause rs) i) (branches_with told rs' k));
     held = kept.held;
   }
 
   -- LAW: where one begins, they are with its branches
-  pub one-begun : (q : ℕ) (bs : List Branch) (pairs' : List (ℕ × Branch)) → next ≡ Some q → branches_at rs' k q ≡ bs → pairs' ≡ pairs_from 0 (length rs) (changed_at q bs (left_branches (also nobody s) rs k))
-      → RunsKept nobody k rs' delays w os pairs'
+  pub one-begun : (q : ℕ) (bs : List Branch) (pairs' : List (ℕ × Branch)) → next ≡ Some q → branches_with told rs' k q ≡ bs → pairs' ≡ pairs_from 0 (length rs) (changed_at q bs (left_branches (also nobody s) told rs k))
+      → RunsKept told nobody k rs' delays w os pairs'
   one-begun q bs pairs' is branches put = record {
     slots = slots;
-    pairs_are = put ∙ pairs-same 0 (length rs) (changed_at q bs (left_branches (also nobody s) rs k)) (branches_at rs' k) (λ p low high. one p low (nat_eq p q) refl)
-        ∙ (λ i. pairs_from 0 (sym (ended-length s place cause rs) i) (branches_at rs' k));
+    pairs_are = put ∙ pairs-same 0 (length rs) (changed_at q bs (left_branches (also nobody s) told rs k)) (branches_with told rs' k) (λ p low high. one p low (nat_eq p q) refl)
+        ∙ (λ i. pairs_from 0 (sym (ended-length s place cause rs) i) (branches_with told rs' k));
     held = kept.held;
   }
     where
-      one : (p : ℕ) → 0 < p → (c : Bool) → nat_eq p q ≡ c → (if c then bs else left_branches (also nobody s) rs k p) ≡ branches_at rs' k p
-      one p low true e = sym branches ∙ ap (branches_at rs' k) (sym (eq-of p q e))
+      one : (p : ℕ) → 0 < p → (c : Bool) → nat_eq p q ≡ c → (if c then bs else left_branches (also nobody s) told rs k p) ≡ branches_with told rs' k p
+      one p low true e = sym branches ∙ ap (branches_with told rs' k) (sym (eq-of p q e))
       one p low false e = other-branches p low (ap (λ o. option_map_or (nat_eq p) o false) is ∙ e)
 
   -- the run that begins had no pairs
-  pub none-before : (q : ℕ) → next ≡ Some q → left_branches (also nobody s) rs k q ≡ []
+  pub none-before : (q : ℕ) → next ≡ Some q → left_branches (also nobody s) told rs k q ≡ []
   none-before q is = by (nat_eq q s)
     where
-      by : (c : Bool) → left_if c rs k q ≡ []
+      by : (c : Bool) → left_if c told rs k q ≡ []
       by true = refl
       by false =
           (let h : Queued 0 q rs = (begun-found s 0 q rs numbered is).0 in
-          (λ i. option_map_or (ready_branches rs k) (slice_get rs (at h i)) []) ∙ ap (λ o. option_map_or (ready_branches rs k) o []) h.found ∙ resting rs k h.run (queued-rests (length k) h.run h.waits))
+          (λ i. option_map_or (ready_with told k) (slice_get rs (at h i)) []) ∙ ap (λ o. option_map_or (ready_with told k) o []) h.found ∙ resting-with told k h.run (queued-rests (length k) h.run h.waits))
         where
           at : (h : Queued 0 q rs) → q - 1 ≡ h.index
           at h = omega (arith, h.place)

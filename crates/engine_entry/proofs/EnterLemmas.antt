@@ -4,6 +4,7 @@ use Rattle.std.specs.Prelude.{IsTrue, not, nat_eq, max, ◌||◌, flat_map, if�
 use Rattle.std.specs.List.{list_any, enumerate_from}
 use Rattle.std.proofs.lemmas.List.{take_all}
 use Rattle.ha_config.specs.declared.config.Automation.{Automation}
+use Rattle.ha_config.specs.declared.config.Config.{Config}
 use Rattle.ha_config.specs.declared.command.Cmd.{Cmd}
 use Rattle.ha_journal.specs.declared.entry.Entry.{Entry}
 use Rattle.ha_journal.specs.declared.entry.Entry.TheVariants.{Line}
@@ -16,7 +17,7 @@ use Rattle.ha_journal.specs.Switches.{is_on, since}
 use Rattle.ha_journal.specs.Sights.{changes_switch}
 use Rattle.ha_config.specs.Sound.{is_sound_config}
 use Rattle.ha_journal.proofs.SinceLaws.{take-before, on-left, since-left}
-use Rattle.ha_journal.proofs.MoreLemmas.{automations-more, length-more}
+use Rattle.ha_journal.proofs.MoreLemmas.{automations-more, length-more, configured-more}
 use Rattle.ha_journal.proofs.StateLemmas.{now-snoc}
 use Rattle.store_text.specs.Store.{Switches}
 use Rattle.switch_book.specs.Book.{StandsFor}
@@ -62,7 +63,7 @@ zone-more [] x h = absurd h
 zone-more (e ∷ es) x h = refl
 
 pub sound-more : (j : Journal) (x : Entry) → HasEntry j → AreSound j → AreSound (more j x)
-sound-more j x h sound = subst (λ (all : List Automation). IsTrue (is_sound_config (record { automations = all }))) (automations-more j x h) sound
+sound-more j x h sound = subst (λ (c : Config). IsTrue (is_sound_config c)) (configured-more j x h) sound
 
 has-length : (j : Journal) → HasEntry j → 0 < length j
 has-length [] h = absurd h

@@ -1,3 +1,4 @@
+pub mod CallsStepped
 pub mod EnterLemmas
 pub mod EnterPlain
 pub mod TakeLemmas

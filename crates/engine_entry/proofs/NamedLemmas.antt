@@ -6,8 +6,9 @@ use Rattle.std.specs.Option.{option_map_or}
 use Rattle.std.proofs.lemmas.Slice.Eq.{bytes_eq-Decides}
 use Rattle.ha_value.specs.Ids.{is_name}
 use Rattle.ha_config.specs.declared.config.Automation.{Automation}
+use Rattle.ha_config.specs.declared.config.Config.{Config}
 use Rattle.ha_config.specs.ValueFacts.{all_distinct}
-use Rattle.ha_config.specs.Sound.{are_sound_actions, are_sound_conditions, are_sound_triggers, is_sound_automation, is_sound_config}
+use Rattle.ha_config.specs.Sound.{are_sound_actions, are_sound_conditions, are_sound_triggers, is_sound_automation, are_sound_automations, are_sound_scripts, is_sound_config}
 use Rattle.ha_config.specs.Names.{automation_named, name_of}
 use Rattle.ha_config.specs.Words.{Text, same}
 use Rattle.ha_config.proofs.EqualLemmas.{and_left, and_right, same-sound}
@@ -30,28 +31,31 @@ not-true false h = refl
 
 -- ---- what is sound
 
-abbrev pub IsSound : List Automation → Type 0
-IsSound all = IsTrue (is_sound_config (record { automations = all }))
+abbrev pub IsSound : Config → Type 0
+IsSound c = IsTrue (is_sound_config c)
 
 abbrev names : List Automation → List Text
 names all = map {A = Automation} {B = Text} (λ a. a.name) all
 
-pub sound-few : (all : List Automation) → IsSound all → length all ≤ 1024
-sound-few all h = few (length all) (and_left (nat_le (length all) 1_024) (all_distinct (names all)) (and_left (nat_le (length all) 1_024 && all_distinct (names all)) (list_all is_sound_automation all) h))
+own : (c : Config) → IsSound c → are_sound_automations c.automations ≡ true
+own c h = and_left (are_sound_automations c.automations) (are_sound_scripts c.scripts) h
+
+pub sound-few : (c : Config) → IsSound c → length c.automations ≤ 1024
+sound-few c h = few (length c.automations) (and_left (nat_le (length c.automations) 1_024) (all_distinct (names c.automations)) (and_left (nat_le (length c.automations) 1_024 && all_distinct (names c.automations)) (list_all is_sound_automation c.automations) (own c h)))
   where
     few : (n : ℕ) → nat_le n 1024 ≡ true → n ≤ 1024
     few n e = search (rules, e)
 
-pub sound-distinct : (all : List Automation) → IsSound all → all_distinct (names all) ≡ true
-sound-distinct all h = and_right (nat_le (length all) 1_024) (all_distinct (names all)) (and_left (nat_le (length all) 1_024 && all_distinct (names all)) (list_all is_sound_automation all) h)
+pub sound-distinct : (c : Config) → IsSound c → all_distinct (names c.automations) ≡ true
+sound-distinct c h = and_right (nat_le (length c.automations) 1_024) (all_distinct (names c.automations)) (and_left (nat_le (length c.automations) 1_024 && all_distinct (names c.automations)) (list_all is_sound_automation c.automations) (own c h))
 
 all-at : (all : List Automation) (a : ℕ) (x : Automation) → list_all is_sound_automation all ≡ true → slice_get all a ≡ Some x → is_sound_automation x ≡ true
 all-at [] a x h e = absurd (let bad : ◌≡◌ {A = Option Automation} None (Some x) = e in cc)
 all-at (y ∷ ys) zero x h e = (let own : y ≡ x = cc in ap is_sound_automation (sym own) ∙ and_left (is_sound_automation y) (list_all is_sound_automation ys) h)
 all-at (y ∷ ys) (suc a) x h e = all-at ys a x (and_right (is_sound_automation y) (list_all is_sound_automation ys) h) e
 
-pub sound-at : (all : List Automation) → IsSound all → (a : ℕ) (x : Automation) → slice_get all a ≡ Some x → is_sound_automation x ≡ true
-sound-at all h a x e = all-at all a x (and_right (nat_le (length all) 1_024 && all_distinct (names all)) (list_all is_sound_automation all) h) e
+pub sound-at : (c : Config) → IsSound c → (a : ℕ) (x : Automation) → slice_get c.automations a ≡ Some x → is_sound_automation x ≡ true
+sound-at c h a x e = all-at c.automations a x (and_right (nat_le (length c.automations) 1_024 && all_distinct (names c.automations)) (list_all is_sound_automation c.automations) (own c h)) e
 
 -- LAW: an automation's triggers are sound, and its name is one
 pub sound-triggers : (x : Automation) → is_sound_automation x ≡ true → are_sound_triggers x.triggers ≡ true
@@ -130,24 +134,24 @@ named-some [] h = absurd (let bad : ◌≡◌ {A = Bool} false true = h in cc)
 named-some (c ∷ cs) h = refl
 
 -- LAW: only the automation's own number has its name
-pub name-apart : (all : List Automation) → IsSound all → (a b : ℕ) (x : Automation) → slice_get all a ≡ Some x → same x.name (name_of all b) ≡ nat_eq a b
-name-apart all sound a b x e = by (slice_get all b) refl
+pub name-apart : (c : Config) → IsSound c → (a b : ℕ) (x : Automation) → slice_get c.automations a ≡ Some x → same x.name (name_of c.automations b) ≡ nat_eq a b
+name-apart c sound a b x e = by (slice_get c.automations b) refl
   where
-    distinct : all_distinct (names all) ≡ true
-    distinct = sound-distinct all sound
+    distinct : all_distinct (names c.automations) ≡ true
+    distinct = sound-distinct c sound
 
-    one : (y : Automation) → slice_get all b ≡ Some y → (c : Bool) → same x.name y.name ≡ c → c ≡ nat_eq a b
+    one : (y : Automation) → slice_get c.automations b ≡ Some y → (d : Bool) → same x.name y.name ≡ d → d ≡ nat_eq a b
     one y f true is =
-        (let own : Some a ≡ Some b = sym (named-own all a x distinct e) ∙ ap (automation_named all) (same-sound x.name y.name is) ∙ named-own all b y distinct f in
+        (let own : Some a ≡ Some b = sym (named-own c.automations a x distinct e) ∙ ap (automation_named c.automations) (same-sound x.name y.name is) ∙ named-own c.automations b y distinct f in
         let at : a ≡ b = cc in sym ((λ i. nat_eq a (sym at i)) ∙ eq-self a))
-    one y f false is = sym (apart-of a b (λ at. absurd (let own : Some x ≡ Some y = sym e ∙ ap (slice_get all) at ∙ f in let self : x ≡ y = cc in let bad : ◌≡◌ {A = Bool} true false = sym (same-self x.name) ∙ ap (λ (z : Automation). same x.name z.name) self ∙ is in cc)))
+    one y f false is = sym (apart-of a b (λ at. absurd (let own : Some x ≡ Some y = sym e ∙ ap (slice_get c.automations) at ∙ f in let self : x ≡ y = cc in let bad : ◌≡◌ {A = Bool} true false = sym (same-self x.name) ∙ ap (λ (z : Automation). same x.name z.name) self ∙ is in cc)))
 
-    by : (o : Option Automation) → slice_get all b ≡ o → same x.name (name_of all b) ≡ nat_eq a b
+    by : (o : Option Automation) → slice_get c.automations b ≡ o → same x.name (name_of c.automations b) ≡ nat_eq a b
     by None f =
         (λ i. same x.name (option_map_or (λ (z : Automation). z.name) (f i) []))
-        ∙ named-some x.name (sound-name x (sound-at all sound a x e))
-        ∙ sym (apart-of a b (λ at. absurd (let bad : ◌≡◌ {A = Option Automation} (Some x) None = sym e ∙ ap (slice_get all) at ∙ f in cc)))
-    by (Some y) f = ap (same x.name) (name-at all b y f) ∙ one y f (same x.name y.name) refl
+        ∙ named-some x.name (sound-name x (sound-at c sound a x e))
+        ∙ sym (apart-of a b (λ at. absurd (let bad : ◌≡◌ {A = Option Automation} (Some x) None = sym e ∙ ap (slice_get c.automations) at ∙ f in cc)))
+    by (Some y) f = ap (same x.name) (name-at c.automations b y f) ∙ one y f (same x.name y.name) refl
 
 -- what an index reads
 pub read-here : {X : Type 0} (xs : List X) (i : ℕ) (d y : X) → i < length xs → y ≡ get_or xs i d → slice_get xs i ≡ Some y

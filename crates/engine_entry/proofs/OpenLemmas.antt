@@ -9,7 +9,7 @@ use Rattle.ha_config.specs.declared.config.Automation.{Automation}
 use Rattle.ha_journal.specs.declared.entry.Entry.{Entry}
 use Rattle.ha_journal.specs.Entries.{opens_segment}
 use Rattle.ha_config.specs.Equal.{same_flag}
-use Rattle.ha_journal.specs.Journal.{Journal, automations, now, more}
+use Rattle.ha_journal.specs.Journal.{Journal, automations, now, more, configured}
 use Rattle.ha_config.specs.Names.{automation_named}
 use Rattle.ha_journal.specs.States.{states}
 use Rattle.ha_journal.specs.Switches.{is_on, since}
@@ -104,7 +104,7 @@ module _ (j : Journal) (x : Entry) (opens : opens_segment x ≡ true) where
 
   module _ (sound : AreSound k) (n : ℕ) (y : Automation) (here : slice_get (automations k) n ≡ Some y) where
     own-named : automation_named (automations k) y.name ≡ Some n
-    own-named = named-own (automations k) n y (sound-distinct (automations k) sound) here
+    own-named = named-own (automations k) n y (sound-distinct (configured k) sound) here
 
     -- LAW: the state of an automation
     pub open-state : states k (entity_named y.name) ≡ Some (switch_object (is_on k n) (now k))
@@ -244,14 +244,14 @@ module _ (j : Journal) (x : Entry) (opens : opens_segment x ≡ true) where
 
   module _ (sound : AreSound k) (table : StateTable) (t : TrigSet) (h : AllOpened j x table t) where
     few : AreBelow 1024 (triggers.attached t)
-    few = subst (AreBelow 1024) (sym h.owners) (all-below 1024 0 (automations k) (omega (arith, sound-few (automations k) sound)))
+    few = subst (AreBelow 1024) (sym h.owners) (all-below 1024 0 (automations k) (omega (arith, sound-few (configured k) sound)))
 
     -- LAW: the owners ascend, are automations, and none was attached earlier
     pub opened-ascend : AreAscending 0 (triggers.attached t)
     opened-ascend = subst (AreAscending 0) (sym h.owners) (all-ascend 0 (automations k))
 
     pub opened-below : (m : ℕ) → 1024 ≤ m → AreBelow m (triggers.attached t)
-    opened-below m le = subst (AreBelow m) (sym h.owners) (all-below m 0 (automations k) (omega (arith, le, sound-few (automations k) sound)))
+    opened-below m le = subst (AreBelow m) (sym h.owners) (all-below m 0 (automations k) (omega (arith, le, sound-few (configured k) sound)))
 
     pub opened-automations : filter is_automation (triggers.attached t) ≡ flat_map (owner_in k) (enumerate_from 0 (automations k))
     opened-automations = low-all (triggers.attached t) few ∙ h.owners

@@ -7,14 +7,14 @@ use Rattle.ha_journal.specs.declared.entry.Entry.TheVariants.{Step}
 use Rattle.ha_sight.specs.declared.item.Item.{Item}
 use Rattle.ha_model.specs.declared.record.Record.{Record}
 use Rattle.ha_journal.specs.Entries.{Stepped, step_of}
-use Rattle.ha_journal.specs.Journal.{Journal, automations, more}
+use Rattle.ha_journal.specs.Journal.{Journal, more, units}
 use Rattle.ha_model.specs.Lawful.{Right, is_running, record_of}
-use Rattle.ha_model.specs.Records.{Records, actions_of, spots, spots_from}
+use Rattle.ha_model.specs.Records.{CallEnds, Records, actions_of, spot_with, spots, spots_from}
+use Rattle.ha_model.specs.Records.{next_spot}
 use Rattle.ha_sight.specs.Scripts.{Branch, Spot}
-use Rattle.ha_journal.specs.Waits.{next_spot}
 use Rattle.ha_config.specs.Words.{Pairs}
 use Rattle.ha_ready.specs.Agree.{step_at}
-use Rattle.ha_ready.specs.ReadyPairs.{ready_branches}
+use Rattle.ha_ready.specs.ReadyPairs.{ready_with}
 use Rattle.ha_ready.proofs.RunPast.{queued-rests}
 use Rattle.run_modes.specs.Fits.{AreNumbered}
 use Rattle.run_modes.specs.Table.{begun_by, is_live, waiting_first}
@@ -152,14 +152,14 @@ first-open : (actions : List Action) (env : Pairs) → has_few_lists actions ≡
 unfolding fresh
 first-open actions env few at own = fronts-are (fresh actions env few) actions env [] [] at own (fresh-stands actions env few) ∙ ap (open_branches at) (fresh-fronts (env ∷ []) actions begins)
 
-open-first : (k : Journal) (actions : List Action) → open_branches (next_spot k) (first_fronts actions) ≡ first_branches actions
-open-first k [] = refl
-open-first k (a ∷ rest) = refl
+open-first : (told : CallEnds) (k : Journal) (actions : List Action) → open_branches (spot_with told k) (first_fronts actions) ≡ first_branches actions
+open-first told k [] = refl
+open-first told k (a ∷ rest) = refl
 
 -- LAW: a run without places that runs has its outer branch, where its script has an action
-pub first-ready : (all : Records) (k : Journal) (r : Record) → is_running (length k) r ≡ true → spots k r.serial ≡ [] → has_few_lists (actions_of (automations k) r.automation) ≡ true
-    → ready_branches all k r ≡ first_branches (actions_of (automations k) r.automation)
-first-ready all k r on nowhere few =
-    let actions : List Action = actions_of (automations k) r.automation in
-    front-branches all k r (first_fronts actions) on (subst (λ (ss : List Spot). AreFronts actions r.env ss (first_fronts actions)) (sym nowhere) (first-open actions r.env few))
-    ∙ open-first k actions
+pub first-ready : (told : CallEnds) (k : Journal) (r : Record) → is_running (length k) r ≡ true → spots k r.serial ≡ [] → has_few_lists (actions_of (units k) r.automation) ≡ true
+    → ready_with told k r ≡ first_branches (actions_of (units k) r.automation)
+first-ready told k r on nowhere few =
+    let actions : List Action = actions_of (units k) r.automation in
+    front-branches told k r (first_fronts actions) on (subst (λ (ss : List Spot). AreFronts actions r.env ss (first_fronts actions)) (sym nowhere) (first-open actions r.env few))
+    ∙ open-first told k actions

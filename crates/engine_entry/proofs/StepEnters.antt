@@ -43,6 +43,8 @@ step-leaves worker serial branch (Item.Call service target fields) h = refl
 step-leaves worker serial branch (Item.Fired kind pairs) h = refl
 step-leaves worker serial branch (Item.Triggered automations skip) h = refl
 step-leaves worker serial branch (Item.Failed code) h = refl
+step-leaves worker serial branch (Item.Started scripts fields waits) h = refl
+step-leaves worker serial branch (Item.Halted scripts) h = refl
 
 module _ (k : Journal) (p : Parts) (h : StepHere k p) (plain : SwitchesNone h.item) where
   abbrev j : Journal

@@ -7,9 +7,8 @@ use Rattle.ha_sight.specs.declared.item.Item.{Item}
 use Rattle.ha_sight.specs.declared.waiting.WaitAsk.{WaitAsk}
 use Rattle.ha_sight.specs.declared.waiting.WaitEnd.{WaitEnd}
 use Rattle.ha_journal.specs.Journal.{Journal, more}
-use Rattle.ha_model.specs.Records.{spots}
+use Rattle.ha_model.specs.Records.{spots, next_spot}
 use Rattle.ha_sight.specs.Scripts.{Branch, Spot}
-use Rattle.ha_journal.specs.Waits.{next_spot}
 use Rattle.ha_config.specs.Words.{same}
 use Rattle.ha_config.proofs.ListLemmas.{append-nil}
 use Rattle.ha_config.proofs.EqualLemmas.{same-refl, same-sound}
@@ -17,7 +16,7 @@ use Rattle.ha_model.proofs.FoldLaws.{spots-more}
 use Rattle.script_step.specs.Gates.{gate_at}
 use Rattle.script_step.specs.declared.frames.Frames.{Frames}
 use Rattle.wait_set.specs.declared.asked.Asked as wait
-use Rattle.wait_set.specs.Asked.{WaitTable, is_of, wait_of}
+use Rattle.wait_set.specs.Asked.{WaitTable, is_bare, is_of, wait_of}
 use Rattle.wait_set.proofs.FindLemmas.{wait-added}
 use Rattle.engine_parts.specs.Fronts.{fronts}
 use Rattle.engine_parts.specs.Runs.{AreHeld, IsHeld, IsWait}
@@ -87,13 +86,18 @@ module _ (place s : ℕ) (b : Branch) (wait' : Option WaitAsk) (w w' : WaitTable
   taken-branches c apart = ap (option_map {T = wait.Asked} {U = Asked} asked) (other-wait s c (λ e f. apart f))
 
   -- LAW: and its own is there
-  pub taken-own : (ask : WaitAsk) → wait' ≡ Some ask → asked_at w' s b ≡ Some (record { owner = 1024 + place; place = place; ask = ask })
+  pub taken-own : (ask : WaitAsk) → wait' ≡ Some ask → asked_at w' s b ≡ Some (record { owner = 1024 + place; place = place; ask = ask; named = None })
   taken-own ask e =
       (let a : wait.Asked = record { owner = 1024 + place; place = place; ask = ask; end = None } in
       let own = whose ask e in
       let there : is_of s b a ≡ true = names s b a own.0 own.1 in
       ap (λ l. option_map {T = wait.Asked} {U = Asked} asked (wait_of s b l)) (is ∙ ap (λ o. asks_with place o w.asks) e)
-      ∙ ap (option_map {T = wait.Asked} {U = Asked} asked) (wait-added s b a w.asks ∙ (λ i. if there i then Some a else wait_of s b w.asks)))
+      ∙ ap (option_map {T = wait.Asked} {U = Asked} asked) (wait-added s b a w.asks ∙ (λ i. if there i then Some a else wait_of s b w.asks))
+      ∙ (λ i. Some (record { owner = 1024 + place; place = place; ask = ask; named = none-yet (is_bare ask) None refl i })))
+    where
+      none-yet : (c : Bool) (e : Option WaitEnd) → e ≡ None → (if c then e else None) ≡ None
+      none-yet true e is = is
+      none-yet false e is = refl
 
 -- ---- pending waits of runs that have frames
 

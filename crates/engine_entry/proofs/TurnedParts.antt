@@ -9,7 +9,7 @@ use Rattle.ha_config.specs.declared.config.Automation.{Automation}
 use Rattle.ha_sight.specs.declared.state.StateObject.{StateObject}
 use Rattle.ha_config.specs.ValueFacts.{keys_of}
 use Rattle.ha_config.specs.Equal.{same_flag}
-use Rattle.ha_journal.specs.Journal.{Journal, HasEntry, automations, now, zone_of, more}
+use Rattle.ha_journal.specs.Journal.{Journal, HasEntry, automations, now, zone_of, more, configured}
 use Rattle.ha_journal.specs.Sights.{changes_switch}
 use Rattle.ha_journal.specs.States.{states}
 use Rattle.ha_journal.specs.Switches.{is_on}
@@ -128,7 +128,7 @@ module _ (y : Automation) (a : ℕ) (on : Bool) (place : ℕ) (p : Parts) (befor
   within = slice_get_within (automations h.j) a y h.here
 
   pub low-number : a < 1024
-  low-number = omega (arith, within, sound-few (automations h.j) h.sound)
+  low-number = omega (arith, within, sound-few (configured h.j) h.sound)
 
   -- what `set` says of it
   moves : (moved : Bool) → slice_get (flags p.switches) a ≡ Some (same_flag on (not moved)) → moved ≡ not (same_flag (is_on h.j a) (is_on k a))

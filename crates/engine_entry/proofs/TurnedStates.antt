@@ -9,7 +9,7 @@ use Rattle.ha_journal.specs.declared.entry.Entry.{Entry}
 use Rattle.ha_sight.specs.declared.state.StateObject.{StateObject}
 use Rattle.ha_journal.specs.Entries.{gone_in, is_restart, opens_segment, report_in}
 use Rattle.ha_config.specs.Equal.{same_flag}
-use Rattle.ha_journal.specs.Journal.{Journal, HasEntry, automations, now, more}
+use Rattle.ha_journal.specs.Journal.{Journal, HasEntry, automations, now, more, configured}
 use Rattle.ha_config.specs.Names.{automation_named}
 use Rattle.ha_journal.specs.States.{states}
 use Rattle.ha_journal.specs.Switches.{is_on}
@@ -127,12 +127,12 @@ module _ (j : Journal) (x : Entry) (some : HasEntry j) (report : report_in x ≡
           (λ i. states (if p i && option_map_or left (q i) false then j else more j x) e) ∙ one b p q (left b) (nat_eq b a) refl
           ∙ sym (λ i. states (if p i && option_map_or (less left a) (q i) false then j else more j x) e)
 
-  module _ (sound : IsSound (automations j)) (left : ℕ → Bool) (a : ℕ) (y : Automation) (here : slice_get (automations j) a ≡ Some y) (is_left' : left a ≡ true) where
+  module _ (sound : IsSound (configured j)) (left : ℕ → Bool) (a : ℕ) (y : Automation) (here : slice_get (automations j) a ≡ Some y) (is_left' : left a ≡ true) where
     own-auto : is_automation (id_of y) ≡ true
     own-auto = same-self (codes "automation")
 
     own-named : automation_named (automations j) y.name ≡ Some a
-    own-named = named-own (automations j) a y (sound-distinct (automations j) sound) here
+    own-named = named-own (automations j) a y (sound-distinct (configured j) sound) here
 
     own-left : is_left (automations j) left (id_of y) ≡ true
     own-left = (λ i. own-auto i && option_map_or left (own-named i) false) ∙ is_left'

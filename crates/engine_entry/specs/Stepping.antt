@@ -11,17 +11,18 @@ use Rattle.ha_sight.specs.declared.waiting.WaitAsk.{WaitAsk}
 use Rattle.ha_sight.specs.declared.waiting.WaitEnd.{WaitEnd}
 use Rattle.ha_sight.specs.declared.steps.Progress.{Progress}
 use Rattle.ha_sight.specs.declared.steps.StepOut.{StepOut}
-use Rattle.ha_journal.specs.Journal.{Journal, HasEntry, IsJournal, automations, now, more}
+use Rattle.ha_journal.specs.Journal.{Journal, HasEntry, IsJournal, now, more, units}
 use Rattle.ha_sight.specs.Sight.{Sight}
 use Rattle.ha_sight.specs.Scripts.{Branch}
-use Rattle.ha_journal.specs.Waits.{next_spot}
 use Rattle.ha_model.specs.NextPlace.{next_end}
-use Rattle.ha_model.specs.Records.{Records, actions_of, spots}
+use Rattle.ha_model.specs.Records.{Records, actions_of, spots, next_spot}
 use Rattle.ha_model.specs.Lawful.{Right, IsRightEntry, is_quiet, record_of}
 use Rattle.ha_config.specs.Sound.{are_sound_triggers}
 use Rattle.ha_ready.specs.Picked.{IsPicked}
 use Rattle.ha_ready.specs.RestedFlags.{RestedKept}
+use Rattle.ha_ready.specs.ReadyPairs.{ends_at}
 use Rattle.run_modes.specs.Table.{stopped}
+use Rattle.script_calls.specs.Waiting.{Waiting, caller_of}
 use Rattle.script_step.specs.declared.frames.Frames.{Frames}
 use Rattle.script_step.specs.Continuation.{Began, placed}
 use Rattle.script_step.specs.Frames as run
@@ -34,6 +35,7 @@ use Rattle.wait_set.specs.declared.asked.Asked.{Asked}
 use Rattle.wait_set.specs.Asked.{WaitTable as Waits, added, is_of}
 use Rattle.wait_set.specs.Stands as waits
 use Rattle.engine_parts.specs.declared.parts.Parts.{Parts}
+use Rattle.engine_parts.specs.Called.{CallsKept}
 use Rattle.engine_parts.specs.Fronts.{Stands, fronts}
 use Rattle.engine_parts.specs.Kept.{Going, Kept, KeysBelow, Owned, RunsKept, Sees, nobody}
 use Rattle.engine_parts.specs.Owners.{AreBelow}
@@ -54,7 +56,7 @@ pub record Stepping (j : Journal) (rs : Records) (p : Parts) : Type 0 where
 pub record MaySlot (j : Journal) (s : ℕ) (b : Branch) (at : ℕ) (wait : Option WaitEnd) (os : List (Option Frames)) : Type 0 where
   pub frames : Frames
   pub there : slice_get os (s - 1) ≡ Some (Some frames)
-  pub script : actions_of (automations j) frames.automation ≡ frames.script.value
+  pub script : actions_of (units j) frames.automation ≡ frames.script.value
   pub may : may frames b at wait ≡ true
 
 -- the frames behind a step from those before it, and what it gave
@@ -86,7 +88,7 @@ cause_of Progress.Faulted = Some EndCause.Faulted
 
 -- ---- the stops of a step
 
--- the automations that are turned off so that their runs end
+-- the automations that are turned off so that their runs end, and the scripts whose runs end
 abbrev pub turned_in : List (ℕ × Bool × Bool) → List ℕ
 turned_in [] = []
 turned_in (t ∷ ts) = if not t.1 && t.2 then t.0 ∷ turned_in ts else turned_in ts
@@ -98,11 +100,17 @@ turned_by (Item.Call service target fields) = []
 turned_by (Item.Fired kind pairs) = []
 turned_by (Item.Triggered automations skip) = []
 turned_by (Item.Failed code) = []
+turned_by (Item.Started scripts fields waits) = []
+turned_by (Item.Halted scripts) = scripts
 
 -- the records where the runs of these have ended at a place
 abbrev pub stops_each : ℕ → List (ℕ × Bool × Bool) → Records → Records
 stops_each p [] rs = rs
 stops_each p (t ∷ ts) rs = stops_each p ts (if not t.1 && t.2 then stopped (Some t.0) p EndCause.SwitchedOff rs else rs)
+
+abbrev pub halts_each : ℕ → List ℕ → Records → Records
+halts_each p [] rs = rs
+halts_each p (s ∷ ss) rs = halts_each p ss (stopped (Some s) p EndCause.SwitchedOff rs)
 
 abbrev pub stops_by : ℕ → Item → Records → Records
 stops_by p (Item.Switched targets) rs = stops_each p targets rs
@@ -111,6 +119,8 @@ stops_by p (Item.Call service target fields) rs = rs
 stops_by p (Item.Fired kind pairs) rs = rs
 stops_by p (Item.Triggered automations skip) rs = rs
 stops_by p (Item.Failed code) rs = rs
+stops_by p (Item.Started scripts fields waits) rs = rs
+stops_by p (Item.Halted scripts) rs = halts_each p scripts rs
 
 -- the run that ends is there, and a run that has not begun has no places
 pub record StepEnds (k : Journal) (rs : Records) (serial : ℕ) : Type 0 where
@@ -124,7 +134,7 @@ pub record StepEnds (k : Journal) (rs : Records) (serial : ℕ) : Type 0 where
 
 -- the last entry is a step of this run, whose frames stand behind it; nothing else knows of it yet
 pub record StepRuns (k : Journal) (rs : Records) (progress : Progress) (wait : Option WaitAsk) (due : Option ℕ)
-    (w : Waits) (delays : List Timer) (os' : List (Option Frames)) (pairs : List (ℕ × Branch)) : Type 0 where
+    (w : Waits) (delays : List Timer) (os' : List (Option Frames)) (pairs : List (ℕ × Branch)) (waiting : Waiting) : Type 0 where
   pub j : Journal
   pub worker : ℕ
   pub serial : ℕ
@@ -138,15 +148,16 @@ pub record StepRuns (k : Journal) (rs : Records) (progress : Progress) (wait : O
   pub low : 0 < serial
   pub waits_stand : waits.StandsFor w.asks j
   pub os : List (Option Frames)
-  pub runs_kept : RunsKept nobody j rs delays w os pairs
+  pub runs_kept : RunsKept (ends_at j) nobody j rs delays w os pairs
+  pub calls_kept : CallsKept (ends_at j) j rs waiting os
   pub old : Frames
   pub new : Frames
   pub there : slice_get os (serial - 1) ≡ Some (Some old)
-  pub live : LiveKept j delays w picked.run old
+  pub live : LiveKept (ends_at j) j delays w picked.run old
   pub slots : os' ≡ set os (serial - 1) (Some new)
   pub serial_is : new.serial ≡ old.serial
   pub automation_is : new.automation ≡ old.automation
-  pub stands : Stands new (actions_of (automations j) picked.run.automation) picked.run.env (spots j serial ++ (next_spot j branch ∷ []))
+  pub stands : Stands new (actions_of (units j) picked.run.automation) picked.run.env (spots j serial ++ (next_spot j branch ∷ []))
   pub told : AreTold serial (length j) (now j) branch (fronts old (spots j serial))
       (fronts new (spots j serial ++ (next_spot j branch ∷ []))) out
   pub due_is : due ≡ option_and_then due_of (gate_at branch (fronts new (spots j serial ++ (next_spot j branch ∷ []))))
@@ -168,10 +179,14 @@ abbrev pub asks_with : ℕ → Option WaitAsk → List Asked → List Asked
 asks_with place None asks = asks
 asks_with place (Some ask) asks = added (record { owner = first_wait + place; place = place; ask = ask; end = None }) asks
 
+-- who waits behind a step of run s in branch b: where that one calls, it waits for the run that comes after n
+abbrev pub CallBegun : Bool → ℕ → ℕ → Branch → Waiting → Waiting → Type 0
+CallBegun calls n s b old new = (c : ℕ) → caller_of c new ≡ (if calls && nat_eq (suc n) c then Some (s, b) else caller_of c old)
+
 -- ---- the stages
 
 pub record StepPushed (k : Journal) (rs : Records) (p : Parts) (progress : Progress) (wait : Option WaitAsk) (due : Option ℕ) : Type 0 where
-  pub runs : StepRuns k rs progress wait due p.waits p.delays p.frames.items p.ready.pairs.items
+  pub runs : StepRuns k rs progress wait due p.waits p.delays p.frames.items p.ready.pairs.items p.calls
   pub room : length runs.j < 1048576
   pub sees : Sees runs.j p
   pub triggers_stand : triggers.StandsFor p.triggers runs.j

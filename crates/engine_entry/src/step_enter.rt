@@ -132,5 +132,7 @@ pub fn enter_step(
         Item::Fired { .. } => Ok(enter_none(parts, alloc)),
         Item::Triggered { .. } => Ok(enter_none(parts, alloc)),
         Item::Failed(_) => Ok(enter_none(parts, alloc)),
+        Item::Started { .. } => Ok(enter_none(parts, alloc)),
+        Item::Halted(_) => Ok(enter_none(parts, alloc)),
     }
 }

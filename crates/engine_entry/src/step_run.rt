@@ -1,6 +1,6 @@
 //! The step itself: the frames of a run are taken out of their slot, step on what the journal shows, and are put back.
 ghost use Rattle.std.specs.Prelude.{◌≡◌, ◌-◌, ◌<◌, IfOk, None, Some, length, set, slice_get, true};
-ghost use Rattle.ha_journal.specs.Journal.{IsJournal, automations};
+ghost use Rattle.ha_journal.specs.Journal.{IsJournal, units};
 ghost use Rattle.ha_model.specs.Records.{actions_of};
 ghost use Rattle.ha_journal.specs.Moves.{sight};
 ghost use Rattle.script_step.specs.Frames.{may};
@@ -9,10 +9,10 @@ ghost use Rattle.engine_parts.specs.Kept.{AreSound, Looks};
 ghost use Rattle.engine_parts.specs.Slots.{value_in};
 ghost use Rattle.engine_entry.specs.Stepping.{IsRunStep, MaySlot, SlotStep};
 
-use cond_eval::View;
 use engine_parts::slots::Slots;
 use ha_clock::{Moment, Zone};
 use ha_sight::{Branch, WaitEnd};
+use script_calls::Seeing;
 use script_step::{Frames, Held, Taken};
 use segment_view::Behind;
 use state_table::StateTable;
@@ -32,11 +32,13 @@ fn step_frames<'a>(
     requires journal { IsJournal journal.now }
     requires looks { Looks journal.now states.now zone.now at }
     requires sound { AreSound journal.now }
-    requires script { actions_of (automations journal.now) run.old.automation ≡ run.old.script.value }
+    requires script { actions_of (units journal.now) run.old.automation ≡ run.old.script.value }
     requires may { may run.old branch.now at wait ≡ true }
     ensures { IfOk result (λ out. IsRunStep (sight journal.entry.now (length journal.entry.now)) branch.now wait run.old run.new (out_of out)) }
 {
-    let view = View::make(states, journal.configuration(), zone, at);
+    let view = Seeing::make(states, journal.configuration(), zone, at);
+    // The borrow checker builds its plan only where a place has the type that the view holds.
+    let _ = &view.view;
     let actions = journal.script(run.automation());
     let out = run.step(alloc, actions, branch, wait, &view)?;
     Ok(out)

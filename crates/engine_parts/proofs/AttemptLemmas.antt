@@ -7,13 +7,12 @@ use Rattle.ha_model.specs.declared.record.Record.{Record}
 use Rattle.ha_journal.specs.declared.firing.Firing.{Firing}
 use Rattle.ha_sight.specs.declared.steps.StepOut.{StepOut}
 use Rattle.ha_config.specs.Words.{last_of}
-use Rattle.ha_journal.specs.Journal.{Journal, automations}
+use Rattle.ha_journal.specs.Journal.{Journal, automations, units}
 use Rattle.ha_journal.specs.Switches.{is_on, since}
 use Rattle.ha_journal.specs.Triggers.{Fired, firings as fired_by}
 use Rattle.ha_journal.specs.Attempts.{Attempt, attempt_for, fired_for, fired}
 use Rattle.ha_sight.specs.Scripts.{Branch}
-use Rattle.ha_journal.specs.Waits.{next_spot}
-use Rattle.ha_model.specs.Records.{actions_of, spots}
+use Rattle.ha_model.specs.Records.{actions_of, spots, next_spot}
 use Rattle.ha_model.specs.NextPlace.{next_item}
 use Rattle.ha_past.specs.Firings.{Owner, firing_by, firings_of, firings}
 use Rattle.engine_parts.specs.Fronts.{IsGiven}
@@ -85,5 +84,5 @@ module _ (j : Journal) (p : ℕ) where
       (λ i. map {A = Firing} {B = Attempt} attempt_by (automation-firings os i)) ∙ (λ i. map {A = Firing} {B = Attempt} attempt_by (firings j p (on i))) ∙ all-automations (enumerate_from 0 (automations j))
 
 -- LAW: the item that the frames give at the next place is the script's
-pub given-item : (j : Journal) (r : Record) (b : Branch) (out : StepOut) → IsGiven (actions_of (automations j) r.automation) r.env (spots j r.serial) (next_spot j b) out → next_item j r b ≡ Some out.item
+pub given-item : (j : Journal) (r : Record) (b : Branch) (out : StepOut) → IsGiven (actions_of (units j) r.automation) r.env (spots j r.serial) (next_spot j b) out → next_item j r b ≡ Some out.item
 given-item j r b out given = (λ i. option_and_then (λ o. last_of o.items) (given.whole_is i)) ∙ given.item

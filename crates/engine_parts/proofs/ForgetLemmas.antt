@@ -6,7 +6,7 @@ use Rattle.timer_queue.specs.Timers.{Timer}
 use Rattle.ha_model.specs.declared.record.Record.{Record}
 use Rattle.ha_journal.specs.Journal.{Journal}
 use Rattle.ha_sight.specs.Scripts.{Branch}
-use Rattle.ha_model.specs.Records.{Records}
+use Rattle.ha_model.specs.Records.{Records, CallEnds}
 use Rattle.run_modes.specs.Fits.{AreNumbered}
 use Rattle.script_step.specs.declared.frames.Frames.{Frames}
 use Rattle.ha_past.specs.Firings.{Owner}
@@ -115,7 +115,7 @@ asks-left s w q other b = ap (option_map {T = wait.Asked} {U = Asked} asked) (wa
 
 -- ---- its slot
 
-module _ (gone : Gone) (s : ℕ) (k : Journal) (delays : List Timer) (w w' : WaitTable) (asks : (q : ℕ) → nat_eq q s ≡ false → AsksKept w w' q) where
+module _ (told : CallEnds) (gone : Gone) (s : ℕ) (k : Journal) (delays : List Timer) (w w' : WaitTable) (asks : (q : ℕ) → nat_eq q s ≡ false → AsksKept w w' q) where
   or-none : (b : Bool) → (b || false) ≡ b
   or-none true = refl
   or-none false = refl
@@ -124,15 +124,15 @@ module _ (gone : Gone) (s : ℕ) (k : Journal) (delays : List Timer) (w w' : Wai
   or-all true = refl
   or-all false = refl
 
-  other-slot : (r : Record) (o : Option Frames) → nat_eq r.serial s ≡ false → SlotBut gone k delays w r o → SlotBut (also gone s) k delays w' r o
-  other-slot r o apart h = subst (λ b. slot_if (gone r.serial || b) k delays w' r o) (sym apart) (subst (λ b. slot_if b k delays w' r o) (sym (or-none (gone r.serial))) (by (gone r.serial) h))
+  other-slot : (r : Record) (o : Option Frames) → nat_eq r.serial s ≡ false → SlotBut gone told k delays w r o → SlotBut (also gone s) told k delays w' r o
+  other-slot r o apart h = subst (λ b. slot_if (gone r.serial || b) told k delays w' r o) (sym apart) (subst (λ b. slot_if b told k delays w' r o) (sym (or-none (gone r.serial))) (by (gone r.serial) h))
     where
-      by : (b : Bool) → slot_if b k delays w r o → slot_if b k delays w' r o
+      by : (b : Bool) → slot_if b told k delays w r o → slot_if b told k delays w' r o
       by true e = e
-      by false e = slot-changed k delays w w' r r o o (record { serial = refl; automation = refl; env = refl }, inl (refl, refl)) (λ none. asks r.serial apart) e
+      by false e = slot-changed told k delays w w' r r o o (record { serial = refl; automation = refl; env = refl }, inl (refl, refl)) (λ none. asks r.serial apart) e
 
-  own-slot : (r : Record) → nat_eq r.serial s ≡ true → SlotBut (also gone s) k delays w' r None
-  own-slot r own = subst (λ b. slot_if (gone r.serial || b) k delays w' r None) (sym own) (subst (λ b. slot_if b k delays w' r None) (sym (or-all (gone r.serial))) refl)
+  own-slot : (r : Record) → nat_eq r.serial s ≡ true → SlotBut (also gone s) told k delays w' r None
+  own-slot r own = subst (λ b. slot_if (gone r.serial || b) told k delays w' r None) (sym own) (subst (λ b. slot_if b told k delays w' r None) (sym (or-all (gone r.serial))) refl)
 
   is-not : (a b : ℕ) → (a ≡ b → ⊥) → nat_eq a b ≡ false
   is-not a b h = search (rules, h)
@@ -140,14 +140,14 @@ module _ (gone : Gone) (s : ℕ) (k : Journal) (delays : List Timer) (w w' : Wai
   is-so : (a b : ℕ) → a ≡ b → nat_eq a b ≡ true
   is-so a b h = search (rules, h)
 
-  slots-behind : (n : ℕ) (rs : Records) (os : List (Option Frames)) → AreNumbered n rs → s ≤ n → SlotsWith (SlotBut gone k delays w) rs os → SlotsWith (SlotBut (also gone s) k delays w') rs os
+  slots-behind : (n : ℕ) (rs : Records) (os : List (Option Frames)) → AreNumbered n rs → s ≤ n → SlotsWith (SlotBut gone told k delays w) rs os → SlotsWith (SlotBut (also gone s) told k delays w') rs os
   slots-behind n [] [] num le h = tt
   slots-behind n [] (o ∷ os) num le h = absurd h
   slots-behind n (r ∷ rs) [] num le h = absurd h
   slots-behind n (r ∷ rs) (o ∷ os) num le h = (other-slot r o (is-not r.serial s (λ e. omega (arith, e, num.0, le))) h.0, slots-behind (suc n) rs os num.1 (omega (arith, le)) h.1)
 
   -- LAW: its slot is emptied, and the others stay
-  pub slots-cleared : (n i : ℕ) (rs : Records) (os : List (Option Frames)) → AreNumbered n rs → s ≡ suc (n + i) → SlotsWith (SlotBut gone k delays w) rs os → SlotsWith (SlotBut (also gone s) k delays w') rs (set os i None)
+  pub slots-cleared : (n i : ℕ) (rs : Records) (os : List (Option Frames)) → AreNumbered n rs → s ≡ suc (n + i) → SlotsWith (SlotBut gone told k delays w) rs os → SlotsWith (SlotBut (also gone s) told k delays w') rs (set os i None)
   slots-cleared n i [] [] num at h = tt
   slots-cleared n i [] (o ∷ os) num at h = absurd h
   slots-cleared n i (r ∷ rs) [] num at h = absurd h
@@ -187,11 +187,11 @@ pairs-without s n (suc m) by =
 
 -- ---- all of it
 
-module _ (gone : Gone) (s : ℕ) (k : Journal) (rs : Records) (numbered : AreNumbered 0 rs) (low : 0 < s) where
-  left-also : (q : ℕ) → changed_at s [] (left_branches gone rs k) q ≡ left_branches (also gone s) rs k q
+module _ (told : CallEnds) (gone : Gone) (s : ℕ) (k : Journal) (rs : Records) (numbered : AreNumbered 0 rs) (low : 0 < s) where
+  left-also : (q : ℕ) → changed_at s [] (left_branches gone told rs k) q ≡ left_branches (also gone s) told rs k q
   left-also q = by (gone q) (nat_eq q s)
     where
-      by : (b c : Bool) → (if c then [] else left_if b rs k q) ≡ left_if (b || c) rs k q
+      by : (b c : Bool) → (if c then [] else left_if b told rs k q) ≡ left_if (b || c) told rs k q
       by true true = refl
       by true false = refl
       by false true = refl
@@ -199,12 +199,12 @@ module _ (gone : Gone) (s : ℕ) (k : Journal) (rs : Records) (numbered : AreNum
 
   -- LAW: the run went
   pub run-gone : (delays : List Timer) (w w' : WaitTable) (os : List (Option Frames)) (pairs : List (ℕ × Branch)) → ((q : ℕ) → nat_eq q s ≡ false → AsksKept w w' q)
-      → (AreHeld k os w.asks → AreHeld k (set os (s - 1) None) w'.asks) → RunsKept gone k rs delays w os pairs
-      → RunsKept (also gone s) k rs delays w' (set os (s - 1) None) (filter (λ (x : ℕ × Branch). not (nat_eq x.0 s)) pairs)
+      → (AreHeld k os w.asks → AreHeld k (set os (s - 1) None) w'.asks) → RunsKept told gone k rs delays w os pairs
+      → RunsKept told (also gone s) k rs delays w' (set os (s - 1) None) (filter (λ (x : ℕ × Branch). not (nat_eq x.0 s)) pairs)
   run-gone delays w w' os pairs asks held kept = record {
-    slots = slots-cleared gone s k delays w w' asks 0 (s - 1) rs os numbered (omega (arith, low)) kept.slots;
-    pairs_are = ap (filter (λ (x : ℕ × Branch). not (nat_eq x.0 s))) kept.pairs_are ∙ pairs-without s 0 (length rs) (left_branches gone rs k)
-        ∙ pairs-same 0 (length rs) (changed_at s [] (left_branches gone rs k)) (left_branches (also gone s) rs k) (λ q lo hi. left-also q);
+    slots = slots-cleared told gone s k delays w w' asks 0 (s - 1) rs os numbered (omega (arith, low)) kept.slots;
+    pairs_are = ap (filter (λ (x : ℕ × Branch). not (nat_eq x.0 s))) kept.pairs_are ∙ pairs-without s 0 (length rs) (left_branches gone told rs k)
+        ∙ pairs-same 0 (length rs) (changed_at s [] (left_branches gone told rs k)) (left_branches (also gone s) told rs k) (λ q lo hi. left-also q);
     held = held kept.held;
   }
 

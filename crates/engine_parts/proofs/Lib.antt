@@ -30,3 +30,6 @@ pub mod PutLemmas
 pub mod LowerLemmas
 pub mod OverLemmas
 pub mod SlotTables
+pub mod CalledLemmas
+pub mod PlacedLemmas
+pub mod WokenLemmas

@@ -7,12 +7,11 @@ use Rattle.ha_model.specs.declared.record.EndCause.{EndCause}
 use Rattle.ha_journal.specs.declared.entry.Entry.{Entry}
 use Rattle.ha_model.specs.declared.record.Record.{Record}
 use Rattle.ha_journal.specs.Entries.{Stepped, step_of}
-use Rattle.ha_journal.specs.Journal.{Journal, HasEntry, automations, now, more}
-use Rattle.ha_journal.specs.Waits.{next_spot}
-use Rattle.ha_model.specs.Records.{Records, actions_of, spots, spot_of}
+use Rattle.ha_journal.specs.Journal.{Journal, HasEntry, now, more, units}
+use Rattle.ha_model.specs.Records.{Records, actions_of, spots, spot_of, next_spot, CallEnds}
 use Rattle.ha_model.specs.Lawful.{Right, is_running, record_of}
 use Rattle.ha_config.proofs.ListLemmas.{append-nil, get-last}
-use Rattle.ha_journal.proofs.MoreLemmas.{has-entry, automations-more, length-more}
+use Rattle.ha_journal.proofs.MoreLemmas.{has-entry, length-more, units-more}
 use Rattle.ha_model.proofs.StepLaws.{serial-at, Numbered}
 use Rattle.ha_model.proofs.FoldLaws.{spots-more}
 use Rattle.script_step.specs.Gates.{open_now}
@@ -22,12 +21,12 @@ use Rattle.script_step.specs.declared.frames.Frames.{Frames}
 use Rattle.engine_parts.specs.Waiting.{ends, fresh, TellsEnds, AsksKept, EndsGrow}
 use Rattle.wait_set.specs.Asked.{WaitTable as Waits}
 use Rattle.ha_ready.specs.RunPast.{IsPast, EndBefore}
-use Rattle.ha_ready.specs.ReadyPairs.{ready_branches, branches_at}
+use Rattle.ha_ready.specs.ReadyPairs.{ready_branches, branches_at, branches_with, ends_at, ready_with}
 use Rattle.engine_parts.specs.Runs.{GatesKept, LiveKept, SlotKept, SlotsWith, SlotsKept, HasEnd}
 use Rattle.ha_ready.specs.Agree.{step_at, touched}
 use Rattle.engine_parts.specs.Touched.{due_places, wait_places, QueueKept}
 use Rattle.engine_parts.proofs.GateLemmas.{gates-more, gates-stay, open-kept}
-use Rattle.ha_ready.proofs.RunPast.{all-past, past-at, resting}
+use Rattle.ha_ready.proofs.RunPast.{all-past, past-at, resting, resting-with}
 use Rattle.engine_parts.proofs.ReadyOneMore.{front-branches, branches-stay}
 
 -- ---- slots
@@ -78,22 +77,22 @@ no-spot j x s h = by (step_of x) ((λ i. option_map_or (λ y. option_map_or (λ 
     by None e = refl
     by (Some t) e = (λ i. if e i then next_spot j t.branch ∷ [] else [])
 
-module _ (j : Journal) (x : Entry) (delays delays' : List Timer) (w w' : Waits) (h : HasEntry j) (queue : QueueKept (now (more j x)) delays delays') where
+module _ (told told' : CallEnds) (j : Journal) (x : Entry) (same : (p : ℕ) → p < length j → told' p ≡ told p) (delays delays' : List Timer) (w w' : Waits) (h : HasEntry j) (queue : QueueKept (now (more j x)) delays delays') where
   -- LAW: the frames of a run that makes no step stand for its script behind the entry too
-  pub live-more : (r : Record) (f : Frames) → spot_of r.serial j x ≡ [] → AsksKept w w' r.serial → LiveKept j delays w r f → LiveKept (more j x) delays' w' r f
+  pub live-more : (r : Record) (f : Frames) → spot_of r.serial j x ≡ [] → AsksKept w w' r.serial → LiveKept told j delays w r f → LiveKept told' (more j x) delays' w' r f
   live-more r f none asks live =
       let places : spots j r.serial ≡ spots (more j x) r.serial
       = sym (append-nil (spots j r.serial)) ∙ (λ i. spots j r.serial ++ sym none i) ∙ sym (spots-more j x r.serial) in
-      let script : actions_of (automations j) r.automation ≡ actions_of (automations (more j x)) r.automation = (λ i. actions_of (automations-more j x h i) r.automation) in
+      let script : actions_of (units j) r.automation ≡ actions_of (units (more j x)) r.automation = (λ i. actions_of (units-more j x h i) r.automation) in
       record {
         live = live.live;
         serial = live.serial;
         automation = live.automation;
-        stands = subst (λ ss. Stands f (actions_of (automations (more j x)) r.automation) r.env ss) places (subst (λ actions. Stands f actions r.env (spots j r.serial)) script live.stands);
-        gates = subst (λ ss. GatesKept (more j x) delays' w' r.serial (fronts f ss)) places (gates-more j x delays delays' w w' r.serial (fronts f (spots j r.serial)) queue asks live.gates);
+        stands = subst (λ ss. Stands f (actions_of (units (more j x)) r.automation) r.env ss) places (subst (λ actions. Stands f actions r.env (spots j r.serial)) script live.stands);
+        gates = subst (λ ss. GatesKept told' (more j x) delays' w' r.serial (fronts f ss)) places (gates-more told told' j x same delays delays' w w' r.serial (fronts f (spots j r.serial)) queue asks live.gates);
       }
 
-  pub slot-more : (r : Record) (o : Option Frames) → spot_of r.serial j x ≡ [] → AsksKept w w' r.serial → SlotKept j delays w r o → SlotKept (more j x) delays' w' r o
+  pub slot-more : (r : Record) (o : Option Frames) → spot_of r.serial j x ≡ [] → AsksKept w w' r.serial → SlotKept told j delays w r o → SlotKept told' (more j x) delays' w' r o
   slot-more r None none asks live = live
   slot-more r (Some f) none asks live = live-more r f none asks live
 
@@ -112,35 +111,36 @@ ended-off n m le r h past = by (option_map_or (λ b. nat_lt b m) r.begin false) 
     by c None h past = absurd h
     by c (Some e) h past = (let off = over m e.0 (omega (arith, past, le)) in λ i. c && off i) ∙ and-false c
 
-module _ (j : Journal) (x : Entry) (delays : List Timer) (w w' : Waits) (rs : Records) (os : List (Option Frames)) (right : Right j rs) (stood : TellsEnds w j) (stands : TellsEnds w' (more j x)) (kept : SlotsKept j delays w rs os) where
+module _ (told' : CallEnds) (j : Journal) (x : Entry) (same : (p : ℕ) → p < length j → told' p ≡ ends_at j p) (delays : List Timer) (w w' : Waits) (rs : Records) (os : List (Option Frames)) (right : Right j rs)
+    (stood : TellsEnds w j) (stands : TellsEnds w' (more j x)) (kept : SlotsKept (ends_at j) j delays w rs os) where
   -- LAW: a run that the entry does not touch has the branches that may step which it had
   pub untouched-stays : (s : ℕ) → 0 < s → AsksKept w w' s → EndsGrow w w' s → step_at (more j x) s (length j) ≡ false
-      → touched (more j x) (due_places (now (more j x)) delays ++ wait_places (fresh w')) s ≡ false → branches_at rs j s ≡ branches_at rs (more j x) s
+      → touched (more j x) (due_places (now (more j x)) delays ++ wait_places (fresh w')) s ≡ false → branches_at rs j s ≡ branches_with told' rs (more j x) s
   untouched-stays s low asks grow no_step none = by (record_of rs s) refl
     where
-      by : (o : Option Record) → record_of rs s ≡ o → branches_at rs j s ≡ branches_at rs (more j x) s
-      by None e = (λ i. option_map_or (ready_branches rs j) (e i) []) ∙ (λ i. option_map_or (ready_branches rs (more j x)) (sym e i) [])
+      by : (o : Option Record) → record_of rs s ≡ o → branches_at rs j s ≡ branches_with told' rs (more j x) s
+      by None e = (λ i. option_map_or (ready_branches rs j) (e i) []) ∙ (λ i. option_map_or (ready_with told' (more j x)) (sym e i) [])
       by (Some r) e =
-          let slot = slots-at (SlotKept j delays w) rs os (s - 1) r kept e in
+          let slot = slots-at (SlotKept (ends_at j) j delays w) rs os (s - 1) r kept e in
           let numbered : r.serial ≡ suc (s - 1) = serial-at j (s - 1) r (ap (λ l. slice_get l (s - 1)) (sym right.records_are) ∙ e) in
           let own : s ≡ r.serial = omega (arith, numbered, low) in
           let past : IsPast (length j) r = past-at (length j) rs (s - 1) r (all-past j rs right) e in
-          (λ i. option_map_or (ready_branches rs j) (e i) []) ∙ one slot.0 slot.2 own past ∙ (λ i. option_map_or (ready_branches rs (more j x)) (sym e i) [])
+          (λ i. option_map_or (ready_branches rs j) (e i) []) ∙ one slot.0 slot.2 own past ∙ (λ i. option_map_or (ready_with told' (more j x)) (sym e i) [])
         where
-          one : (o : Option Frames) → SlotKept j delays w r o → s ≡ r.serial → IsPast (length j) r → ready_branches rs j r ≡ ready_branches rs (more j x) r
+          one : (o : Option Frames) → SlotKept (ends_at j) j delays w r o → s ≡ r.serial → IsPast (length j) r → ready_branches rs j r ≡ ready_with told' (more j x) r
           one None ended own past =
               resting rs j r (ended-off (length j) (length j) (omega arith) r ended past)
-              ∙ sym (resting rs (more j x) r (ended-off (length j) (length (more j x)) (omega (arith, length-more j x)) r ended past))
+              ∙ sym (resting-with told' (more j x) r (ended-off (length j) (length (more j x)) (omega (arith, length-more j x)) r ended past))
           one (Some f) live own past =
-              sym (branches-stay j x rs rs r r (fronts f (spots j r.serial)) (has-entry j right.journal) past (record { serial = refl; automation = refl; env = refl }) refl refl
+              sym (branches-stay (ends_at j) told' j x r r (fronts f (spots j r.serial)) (has-entry j right.journal) past (record { serial = refl; automation = refl; env = refl }) refl refl
               (no-spot j x r.serial (subst (λ q. step_at (more j x) q (length j) ≡ false) own no_step))
-              (fronts-are f (actions_of (automations j) r.automation) r.env (spots j r.serial) live.stands)
-              (gates-stay j x delays w w' r.serial stood stands (subst (AsksKept w w') own asks) (subst (EndsGrow w w') own grow)
+              (fronts-are f (actions_of (units j) r.automation) r.env (spots j r.serial) live.stands)
+              (gates-stay (ends_at j) told' j x same delays w w' r.serial stood stands (subst (AsksKept w w') own asks) (subst (EndsGrow w w') own grow)
               (subst (λ q. touched (more j x) (due_places (now (more j x)) delays ++ wait_places (fresh w')) q ≡ false) own none) (fronts f (spots j r.serial)) live.gates))
 
 -- LAW: the branches of a running run that may step are those that its frames list
-pub listed-branches : (j : Journal) (delays : List Timer) (w : Waits) (rs : Records) (r : Record) (f : Frames) → TellsEnds w j → is_running (length j) r ≡ true → LiveKept j delays w r f
-    → ready_branches rs j r ≡ open_now (now j) (ends w r.serial) (fronts f (spots j r.serial))
-listed-branches j delays w rs r f stands on live =
-    front-branches rs j r (fronts f (spots j r.serial)) on (fronts-are f (actions_of (automations j) r.automation) r.env (spots j r.serial) live.stands)
-    ∙ open-kept j delays w r.serial stands (fronts f (spots j r.serial)) live.gates
+pub listed-branches : (told : CallEnds) (j : Journal) (delays : List Timer) (w : Waits) (r : Record) (f : Frames) → TellsEnds w j → is_running (length j) r ≡ true → LiveKept told j delays w r f
+    → ready_with told j r ≡ open_now (now j) (ends w r.serial) (fronts f (spots j r.serial))
+listed-branches told j delays w r f stands on live =
+    front-branches told j r (fronts f (spots j r.serial)) on (fronts-are f (actions_of (units j) r.automation) r.env (spots j r.serial) live.stands)
+    ∙ open-kept told j delays w r.serial stands (fronts f (spots j r.serial)) live.gates

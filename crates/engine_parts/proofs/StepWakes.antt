@@ -11,7 +11,7 @@ use Rattle.ha_model.specs.declared.record.Record.{Record}
 use Rattle.ha_journal.specs.Entries.{step_of}
 use Rattle.ha_journal.specs.Journal.{Journal, now, more}
 use Rattle.ha_sight.specs.Scripts.{Branch}
-use Rattle.ha_model.specs.Records.{Records}
+use Rattle.ha_model.specs.Records.{Records, CallEnds}
 use Rattle.ha_model.specs.Lawful.{Right, record_of, is_running, ready}
 use Rattle.ha_journal.proofs.MoreLemmas.{has-entry, length-more}
 use Rattle.ha_config.proofs.ListLemmas.{get-last}
@@ -28,6 +28,7 @@ use Rattle.ha_ready.proofs.AgreeLemmas.{agree-first}
 use Rattle.ha_ready.proofs.RunPast.{all-past, past-at}
 use Rattle.engine_parts.proofs.SlotLemmas.{slots-set, slot-more, no-spot, ended-off, untouched-stays}
 use Rattle.engine_parts.proofs.SteppersRun.{stepper-runs, still-runs}
+use Rattle.ha_ready.specs.ReadyPairs.{ends_at}
 
 eq-of : (a b : ℕ) → nat_eq a b ≡ true → a ≡ b
 eq-of a b e = search (rules, e)
@@ -40,7 +41,8 @@ or-right : (a b : Bool) → (a || b) ≡ false → b ≡ false
 or-right true b h = absurd (let bad : ◌≡◌ {A = Bool} true false = h in cc)
 or-right false b h = h
 
-module _ (j : Journal) (rs : Records) (k s : ℕ) (b : Branch) (item : Item) (delays delays' : List Timer) (w w' : Waits) (os : List (Option Frames)) (right : Right j rs) (others : OthersTold w w' s) where
+module _ (told : CallEnds) (j : Journal) (same : (p : ℕ) → p < length j → told p ≡ ends_at j p) (rs : Records) (k s : ℕ) (b : Branch) (item : Item) (delays delays' : List Timer) (w w' : Waits) (os : List (Option Frames))
+    (right : Right j rs) (others : OthersTold w w' s) where
   abbrev x : Entry
   x = Step k s b item
 
@@ -62,14 +64,14 @@ module _ (j : Journal) (rs : Records) (k s : ℕ) (b : Branch) (item : Item) (de
       self-of a c same = search (rules, same)
 
   -- LAW: behind a step the ready pairs before it agree, but for its own run and those of delays that are over and of waits that ended there
-  pub step-agrees : TellsEnds w j → TellsEnds w' j' → SlotsKept j delays w rs os → AgreesBut (touched j' (length j ∷ (due_places (now j') delays ++ wait_places (fresh w')))) rs j' (ready rs j)
+  pub step-agrees : TellsEnds w j → TellsEnds w' j' → SlotsKept (ends_at j) j delays w rs os → AgreesBut told (touched j' (length j ∷ (due_places (now j') delays ++ wait_places (fresh w')))) rs j' (ready rs j)
   step-agrees stood stands kept =
       let left : List ℕ = due_places (now j') delays ++ wait_places (fresh w') in
-      agree-first (touched j' (length j ∷ left)) rs j j' right
+      agree-first told (touched j' (length j ∷ left)) rs j j' right
       (λ q low high none.
       (let no_step : step_at j' q (length j) ≡ false = or-left (step_at j' q (length j)) (touched j' left q) none in
       let apart : nat_eq q s ≡ false = other-of q (sym (last-step q) ∙ no_step) in
-      untouched-stays j x delays w w' rs os right stood stands kept q low (others.asks q apart) (others.grow q apart) no_step (or-right (step_at j' q (length j)) (touched j' left q) none)))
+      untouched-stays told j x same delays w w' rs os right stood stands kept q low (others.asks q apart) (others.grow q apart) no_step (or-right (step_at j' q (length j)) (touched j' left q) none)))
 
   -- a Step of the longer journal is one before it, or this one
   step-where : (i : Journal) (q p : ℕ) → step_at (more i x) q p ≡ true → (step_at i q p ≡ true) ⊎ (s ≡ q)
@@ -95,16 +97,16 @@ module _ (j : Journal) (rs : Records) (k s : ℕ) (b : Branch) (item : Item) (de
   turned q e = false-of (nat_eq s q) (λ same. let bad : ◌≡◌ {A = Bool} true false = sym (self-of q s (sym (eq-of s q same))) ∙ e in cc)
 
   -- LAW: the slots are kept, where the frames of the run that made the step are
-  pub step-slots : (picked : IsPicked rs j s b) → picked.run.serial ≡ s → (f : Frames) → QueueKept (now j') delays delays' → SlotsKept j delays w rs os → LiveKept j' delays' w' picked.run f
-      → SlotsKept j' delays' w' rs (set os (s - 1) (Some f))
+  pub step-slots : (picked : IsPicked rs j s b) → picked.run.serial ≡ s → (f : Frames) → QueueKept (now j') delays delays' → SlotsKept (ends_at j) j delays w rs os → LiveKept told j' delays' w' picked.run f
+      → SlotsKept told j' delays' w' rs (set os (s - 1) (Some f))
   step-slots picked own f queue kept live =
-      slots-set (SlotKept j delays w) (SlotKept j' delays' w') s 0 (s - 1)
-      (λ r o apart h. slot-more j x delays delays' w w' (has-entry j right.journal) queue r o (no-spot j x r.serial (last-step r.serial ∙ turned r.serial apart)) (others.asks r.serial apart) h)
+      slots-set (SlotKept (ends_at j) j delays w) (SlotKept told j' delays' w') s 0 (s - 1)
+      (λ r o apart h. slot-more (ends_at j) told j x same delays delays' w w' (has-entry j right.journal) queue r o (no-spot j x r.serial (last-step r.serial ∙ turned r.serial apart)) (others.asks r.serial apart) h)
       rs os picked.run (Some f) (subst (Numbered 0) (sym right.records_are) (numbered-of j)) kept picked.found (omega (arith, (numbers s picked.run picked.found own).0)) live
 
   -- LAW: and the branches of runs may be listed anew, where the frames of the run that made the step are kept
-  pub step-waking : (picked : IsPicked rs j s b) → picked.run.serial ≡ s → (f : Frames) (at : ℕ) → at ≡ now j' → QueueKept (now j') delays delays' → TellsEnds w' j' → SlotsKept j delays w rs os
-      → LiveKept j' delays' w' picked.run f → Waking rs j' w' (set os (s - 1) (Some f)) at
+  pub step-waking : (picked : IsPicked rs j s b) → picked.run.serial ≡ s → (f : Frames) (at : ℕ) → at ≡ now j' → QueueKept (now j') delays delays' → TellsEnds w' j' → SlotsKept (ends_at j) j delays w rs os
+      → LiveKept told j' delays' w' picked.run f → Waking told rs j' w' (set os (s - 1) (Some f)) at
   step-waking picked own f at is queue stands kept live = record {
     delays = delays';
     now_is = is;

@@ -11,7 +11,7 @@ use Rattle.ha_model.specs.declared.record.Record.{Record}
 use Rattle.ha_config.specs.Words.{EachAfter}
 use Rattle.ha_journal.specs.Entries.{step_of}
 use Rattle.ha_journal.specs.Journal.{Journal, now, more}
-use Rattle.ha_model.specs.Records.{Records}
+use Rattle.ha_model.specs.Records.{Records, CallEnds}
 use Rattle.ha_model.specs.Lawful.{Right, IsRightEntry, record_of, is_running, ready}
 use Rattle.ha_journal.proofs.MoreLemmas.{has-entry, length-more}
 use Rattle.ha_config.proofs.ListLemmas.{get-last}
@@ -25,6 +25,7 @@ use Rattle.engine_parts.specs.Touched.{due_places, wait_places, QueueKept}
 use Rattle.ha_ready.proofs.RunPast.{all-past, past-at}
 use Rattle.engine_parts.proofs.SlotLemmas.{slots-map, slot-more, ended-off, untouched-stays}
 use Rattle.ha_ready.proofs.AgreeLemmas.{agree-first}
+use Rattle.ha_ready.specs.ReadyPairs.{ends_at}
 
 -- what holds of each entry, with those before it, holds of the entry at a place
 each-at : (P : Journal → Entry → Type 0) (before xs : Journal) (i : ℕ) (y : Entry) → EachAfter P before xs → slice_get xs i ≡ Some y → (d : Journal) × (length d ≡ length before + i) × P d y
@@ -95,16 +96,16 @@ line-steps (e ∷ es) source number cmd s zero h = h
 line-steps (e ∷ es) source number cmd s (suc p) h = line-steps es source number cmd s p h
 
 -- LAW: behind a line the frames of the runs are kept
-pub line-slots : (j : Journal) (rs : Records) (source number : ℕ) (cmd : Cmd) (delays delays' : List Timer) (w w' : Waits) (os : List (Option Frames)) → Right j rs
-    → QueueKept (now (more j (Line source number cmd))) delays delays' → ((s : ℕ) → AsksKept w w' s) → SlotsKept j delays w rs os → SlotsKept (more j (Line source number cmd)) delays' w' rs os
-line-slots j rs source number cmd delays delays' w w' os right queue asks kept =
-    slots-map (SlotKept j delays w) (SlotKept (more j (Line source number cmd)) delays' w') (λ r o h. slot-more j (Line source number cmd) delays delays' w w' (has-entry j right.journal) queue r o refl (asks r.serial) h) rs os kept
+pub line-slots : (told : CallEnds) (j : Journal) (same : (p : ℕ) → p < length j → told p ≡ ends_at j p) (rs : Records) (source number : ℕ) (cmd : Cmd) (delays delays' : List Timer) (w w' : Waits) (os : List (Option Frames)) → Right j rs
+    → QueueKept (now (more j (Line source number cmd))) delays delays' → ((s : ℕ) → AsksKept w w' s) → SlotsKept (ends_at j) j delays w rs os → SlotsKept told (more j (Line source number cmd)) delays' w' rs os
+line-slots told j same rs source number cmd delays delays' w w' os right queue asks kept =
+    slots-map (SlotKept (ends_at j) j delays w) (SlotKept told (more j (Line source number cmd)) delays' w') (λ r o h. slot-more (ends_at j) told j (Line source number cmd) same delays delays' w w' (has-entry j right.journal) queue r o refl (asks r.serial) h) rs os kept
 
 -- LAW: behind a line, where the waits stand for it, the branches of runs may be listed anew
-pub line-waking : (j : Journal) (rs : Records) (source number : ℕ) (cmd : Cmd) (delays delays' : List Timer) (w w' : Waits) (os : List (Option Frames)) (at : ℕ) → Right j rs → at ≡ now (more j (Line source number cmd))
-    → QueueKept (now (more j (Line source number cmd))) delays delays' → ((s : ℕ) → AsksKept w w' s) → TellsEnds w' (more j (Line source number cmd)) → SlotsKept j delays w rs os
-    → Waking rs (more j (Line source number cmd)) w' os at
-line-waking j rs source number cmd delays delays' w w' os at right is queue asks stands kept = record {
+pub line-waking : (told : CallEnds) (j : Journal) (same : (p : ℕ) → p < length j → told p ≡ ends_at j p) (rs : Records) (source number : ℕ) (cmd : Cmd) (delays delays' : List Timer) (w w' : Waits) (os : List (Option Frames)) (at : ℕ) → Right j rs → at ≡ now (more j (Line source number cmd))
+    → QueueKept (now (more j (Line source number cmd))) delays delays' → ((s : ℕ) → AsksKept w w' s) → TellsEnds w' (more j (Line source number cmd)) → SlotsKept (ends_at j) j delays w rs os
+    → Waking told rs (more j (Line source number cmd)) w' os at
+line-waking told j same rs source number cmd delays delays' w w' os at right is queue asks stands kept = record {
   delays = delays';
   now_is = is;
   numbered = λ s p step. (let run = stepper-runs j rs s p right (line-steps j source number cmd s p step) in numbers s run.0 run.1 run.2);
@@ -113,7 +114,7 @@ line-waking j rs source number cmd delays delays' w w' os at right is queue asks
       (subst (λ (q : Record). q.serial ≡ s) same run.2, longer r end (subst (λ (q : Record). q.end ≡ None → is_running (length j) q ≡ true) same run.4 end)));
   resting = λ s r found ended. ended-off (length j) (length (more j (Line source number cmd))) (omega (arith, length-more j (Line source number cmd))) r ended (past-at (length j) rs (s - 1) r (all-past j rs right) found);
   stands = stands;
-  slots = slots-map (SlotKept j delays w) (SlotKept (more j (Line source number cmd)) delays' w') (λ r o h. slot-more j (Line source number cmd) delays delays' w w' (has-entry j right.journal) queue r o refl (asks r.serial) h) rs os kept;
+  slots = slots-map (SlotKept (ends_at j) j delays w) (SlotKept told (more j (Line source number cmd)) delays' w') (λ r o h. slot-more (ends_at j) told j (Line source number cmd) same delays delays' w w' (has-entry j right.journal) queue r o refl (asks r.serial) h) rs os kept;
 }
   where
     numbers : (s : ℕ) (r : Record) → record_of rs s ≡ Some r → r.serial ≡ s → (0 < s) × (s ≤ length rs)
@@ -129,10 +130,10 @@ no-step : (j : Journal) (source number : ℕ) (cmd : Cmd) (s : ℕ) → step_at 
 no-step j source number cmd s = (λ i. option_map_or (λ y. option_map_or (λ t. nat_eq t.serial s) (step_of y) false) (get-last j (Line source number cmd) i) false)
 
 -- LAW: behind a line the ready pairs before it agree, but for the runs of delays that are over and of waits that ended there
-pub line-agrees : (j : Journal) (rs : Records) (source number : ℕ) (cmd : Cmd) (delays : List Timer) (w w' : Waits) (os : List (Option Frames)) → Right j rs → TellsEnds w j → TellsEnds w' (more j (Line source number cmd))
-    → ((s : ℕ) → AsksKept w w' s) → ((s : ℕ) → EndsGrow w w' s) → SlotsKept j delays w rs os
-    → AgreesBut (touched (more j (Line source number cmd)) (due_places (now (more j (Line source number cmd))) delays ++ wait_places (fresh w'))) rs (more j (Line source number cmd)) (ready rs j)
-line-agrees j rs source number cmd delays w w' os right stood stands asks grow kept =
+pub line-agrees : (told : CallEnds) (j : Journal) (same : (p : ℕ) → p < length j → told p ≡ ends_at j p) (rs : Records) (source number : ℕ) (cmd : Cmd) (delays : List Timer) (w w' : Waits) (os : List (Option Frames)) → Right j rs → TellsEnds w j → TellsEnds w' (more j (Line source number cmd))
+    → ((s : ℕ) → AsksKept w w' s) → ((s : ℕ) → EndsGrow w w' s) → SlotsKept (ends_at j) j delays w rs os
+    → AgreesBut told (touched (more j (Line source number cmd)) (due_places (now (more j (Line source number cmd))) delays ++ wait_places (fresh w'))) rs (more j (Line source number cmd)) (ready rs j)
+line-agrees told j same rs source number cmd delays w w' os right stood stands asks grow kept =
     let k = more j (Line source number cmd) in
-    agree-first (touched k (due_places (now k) delays ++ wait_places (fresh w'))) rs j k right
-    (λ s low high none. untouched-stays j (Line source number cmd) delays w w' rs os right stood stands kept s low (asks s) (grow s) (no-step j source number cmd s) none)
+    agree-first told (touched k (due_places (now k) delays ++ wait_places (fresh w'))) rs j k right
+    (λ s low high none. untouched-stays told j (Line source number cmd) same delays w w' rs os right stood stands kept s low (asks s) (grow s) (no-step j source number cmd s) none)

@@ -1,22 +1,27 @@
 -- A set of waits over one entry: which asks stay, which waits end, and who owns them.
-use Rattle.std.proofs.Common.{◌≡◌, ℕ, suc, ◌+◌, take, List, [], ◌∷◌, map, filter, Bool, true, false, cond, refl, sym, ap, subst, ◌∙◌, rules, arith}
-use Rattle.std.specs.Prelude.{Option, Some, None, nat_eq, is_some, is_none, option_map, option_and_then, ◌&&◌, ◌||◌, if◌then◌else◌}
+use Rattle.std.proofs.Common.{◌≡◌, ℕ, suc, ◌+◌, take, List, [], ◌∷◌, map, filter, Bool, true, false, cond, refl, sym, ap, subst, ◌∙◌, rules, arith, length}
+use Rattle.std.specs.Prelude.{Option, Some, None, nat_eq, is_some, is_none, option_map, option_and_then, ◌&&◌, ◌||◌, if◌then◌else◌, nat_le}
 use Rattle.std.specs.List.{list_any}
 use Rattle.ha_sight.specs.declared.waiting.WaitEnd.{WaitEnd}
 use Rattle.ha_journal.specs.declared.firing.Firing.{Firing}
 use Rattle.ha_journal.specs.Journal.{Journal, now}
 use Rattle.ha_sight.specs.Sight.{Sight}
-use Rattle.ha_config.specs.Words.{or_else}
-use Rattle.ha_sight.specs.Scripts.{Branch}
-use Rattle.ha_journal.specs.Waits.{wait_end}
+use Rattle.ha_config.specs.Words.{or_else, first_of_list}
+use Rattle.ha_sight.specs.Scripts.{Branch, Ask}
+use Rattle.ha_sight.specs.Templates.{rendered, says}
+use Rattle.ha_journal.specs.Triggers.{firings}
+use Rattle.ha_journal.specs.Waits.{wait_end, all_fired}
 use Rattle.ha_past.specs.Firings.{Owner, owner_named}
 use Rattle.wait_set.specs.declared.asked.Asked as wait
-use Rattle.wait_set.specs.Asked.{WaitTable, is_of, wait_of, end_of, end_now, fired_values, noted, noted_one, ends_in, owners_ended}
-use Rattle.wait_set.specs.Stands.{StandsFor, StandsOne}
+use Rattle.wait_set.specs.Asked.{WaitTable, is_of, wait_of, end_of, end_now, fired_values, noted, noted_one, ends_in, owners_ended, end_with, is_bare}
+use Rattle.wait_set.specs.Stands.{StandsFor, StandsOne, AreFired}
 use Rattle.wait_set.specs.Timers.{AreApart}
+use Rattle.wait_set.proofs.BareLemmas.{no-test, no-time, no-trigger}
 use Rattle.engine_parts.specs.Waiting.{Asked, asked, ends, fresh, AsksKept, EndsGrow, TellsEnds}
 use Rattle.engine_parts.specs.Pending.{AreOthers, AreWaits}
 use Rattle.engine_parts.specs.Kept.{AreOwned}
+use Rattle.ha_config.proofs.EqualLemmas.{and_left, and_right}
+use Rattle.std.specs.Option.{option_map_or}
 
 -- ---- what a set tells
 
@@ -30,7 +35,7 @@ stands-found j s b a (x ∷ xs) h e = by (is_of s b x) (stands-found j s b a xs 
 
 -- LAW: waits that stand for a journal tell how its waits ended
 pub stands-tells : (w : WaitTable) (j : Journal) → StandsFor w.asks j → TellsEnds w j
-stands-tells w j h s b a ask found is = by (wait_of s b w.asks) refl found
+stands-tells w j h s b a ask found full is = by (wait_of s b w.asks) refl found
   where
     by : (o : Option wait.Asked) → wait_of s b w.asks ≡ o → option_map {T = wait.Asked} {U = Asked} asked o ≡ Some a → ends w s b ≡ wait_end j ask a.place
     by None e bad = absurd (let none : ◌≡◌ {A = Option Asked} None (Some a) = bad in cc)
@@ -40,7 +45,7 @@ stands-tells w j h s b a ask found is = by (wait_of s b w.asks) refl found
         let place : x.place ≡ a.place = ap (λ (y : Asked). y.place) same in
         let ask_is : x.ask ≡ a.ask = ap (λ (y : Asked). y.ask) same in
         ap (λ (y : Option wait.Asked). option_and_then {T = wait.Asked} {U = WaitEnd} (λ z. z.end) y) e
-        ∙ one.end ask (record {
+        ∙ one.end (ap is_bare ask_is ∙ full) ask (record {
           test = ap (λ y. y.test) ask_is ∙ is.test;
           triggers = ap (λ y. y.triggers) ask_is ∙ is.triggers;
           env = ap (λ y. y.env) ask_is ∙ is.env;
@@ -54,19 +59,60 @@ none-kept : (e z : Option WaitEnd) → or_else e z ≡ None → e ≡ None
 none-kept None z h = refl
 none-kept (Some w) z h = h
 
-asked-noted : (q : ℕ) (s : Sight) (fired : List Firing) (serial : ℕ) (b : Branch) (asks : List wait.Asked)
+-- a bare wait is not ended by an entry that is told of its triggers, of which it has none
+bare-noted : (k : Journal) (q : ℕ) (s : Sight) (fired : List Firing) (a : wait.Asked) → is_bare a.ask ≡ true
+    → (a.end ≡ None → (ask : Ask) → a.ask.triggers ≡ ask.triggers → fired_values a.owner fired ≡ all_fired k ask a.place q) → or_else a.end (end_now q s (fired_values a.owner fired) a.ask) ≡ a.end
+bare-noted k q s fired a bare told = by a.end refl
+  where
+    front : (is_none a.ask.test && nat_eq (length a.ask.triggers) 0) ≡ true
+    front = and_left (is_none a.ask.test && nat_eq (length a.ask.triggers) 0) (is_none a.ask.due) bare
+
+    test : a.ask.test ≡ None
+    test = no-test a.ask.test (and_left (is_none a.ask.test) (nat_eq (length a.ask.triggers) 0) front)
+
+    triggers : a.ask.triggers ≡ []
+    triggers = no-trigger a.ask.triggers (and_right (is_none a.ask.test) (nat_eq (length a.ask.triggers) 0) front)
+
+    due : a.ask.due ≡ None
+    due = no-time a.ask.due (and_right (is_none a.ask.test && nat_eq (length a.ask.triggers) 0) (is_none a.ask.due) bare)
+
+    asked_for : Ask
+    asked_for = record { test = None; triggers = a.ask.triggers; timeout = None; env = a.ask.env; called = false }
+
+    none : a.end ≡ None → fired_values a.owner fired ≡ []
+    none e = told e asked_for refl ∙ (λ i. map (λ f. f.variables) (firings k (triggers i) a.place q))
+
+    never : a.end ≡ None → end_now q s (fired_values a.owner fired) a.ask ≡ None
+    never e =
+        (λ i. if (option_map_or (λ t. says (rendered s t a.ask.env)) (test i) false || is_some (first_of_list (none e i))) || option_map_or (λ d. nat_le d s.now) (due i) false
+        then Some (end_with q s (fired_values a.owner fired) a.ask) else None)
+
+    by : (o : Option WaitEnd) → a.end ≡ o → or_else a.end (end_now q s (fired_values a.owner fired) a.ask) ≡ a.end
+    by None e = (λ i. or_else (e i) (end_now q s (fired_values a.owner fired) a.ask)) ∙ never e ∙ sym e
+    by (Some x) e = (λ i. or_else (e i) (end_now q s (fired_values a.owner fired) a.ask)) ∙ sym e
+
+-- so what is kept of a wait stays
+same-noted : (k : Journal) (q : ℕ) (s : Sight) (fired : List Firing) (a : wait.Asked)
+    → (a.end ≡ None → (ask : Ask) → a.ask.triggers ≡ ask.triggers → fired_values a.owner fired ≡ all_fired k ask a.place q) → asked (noted_one q s fired a) ≡ asked a
+same-noted k q s fired a told = (λ i. record { owner = a.owner; place = a.place; ask = a.ask; named = by (is_bare a.ask) refl i })
+  where
+    by : (c : Bool) → is_bare a.ask ≡ c → (if is_bare a.ask then or_else a.end (end_now q s (fired_values a.owner fired) a.ask) else None) ≡ (if is_bare a.ask then a.end else None)
+    by true e = (λ i. if is_bare a.ask then bare-noted k q s fired a e told i else None)
+    by false e = (λ i. if e i then or_else a.end (end_now q s (fired_values a.owner fired) a.ask) else None) ∙ (λ i. if sym e i then a.end else None)
+
+asked-noted : (k : Journal) (q : ℕ) (s : Sight) (fired : List Firing) (serial : ℕ) (b : Branch) (asks : List wait.Asked) → AreFired k q fired asks
     → option_map {T = wait.Asked} {U = Asked} asked (wait_of serial b (noted q s fired asks)) ≡ option_map {T = wait.Asked} {U = Asked} asked (wait_of serial b asks)
-asked-noted q s fired serial b [] = refl
-asked-noted q s fired serial b (x ∷ xs) = by (is_of serial b x) (asked-noted q s fired serial b xs)
+asked-noted k q s fired serial b [] told = refl
+asked-noted k q s fired serial b (x ∷ xs) told = by (is_of serial b x) (asked-noted k q s fired serial b xs told.1)
   where
     by : (c : Bool) → option_map {T = wait.Asked} {U = Asked} asked (wait_of serial b (noted q s fired xs)) ≡ option_map {T = wait.Asked} {U = Asked} asked (wait_of serial b xs)
         → option_map {T = wait.Asked} {U = Asked} asked (if c then Some (noted_one q s fired x) else wait_of serial b (noted q s fired xs)) ≡ option_map {T = wait.Asked} {U = Asked} asked (if c then Some x else wait_of serial b xs)
-    by true h = refl
+    by true h = ap Some (same-noted k q s fired x told.0)
     by false h = h
 
 -- LAW: the asks stay
-pub asks-noted : (q : ℕ) (s : Sight) (fired : List Firing) (w w' : WaitTable) → w'.asks ≡ noted q s fired w.asks → (serial : ℕ) → AsksKept w w' serial
-asks-noted q s fired w w' e serial b = ap (λ l. option_map {T = wait.Asked} {U = Asked} asked (wait_of serial b l)) e ∙ asked-noted q s fired serial b w.asks
+pub asks-noted : (k : Journal) (q : ℕ) (s : Sight) (fired : List Firing) (w w' : WaitTable) → w'.asks ≡ noted q s fired w.asks → AreFired k q fired w.asks → (serial : ℕ) → AsksKept w w' serial
+asks-noted k q s fired w w' e told serial b = ap (λ l. option_map {T = wait.Asked} {U = Asked} asked (wait_of serial b l)) e ∙ asked-noted k q s fired serial b w.asks told
 
 -- LAW: and which waits end is told
 pub grow-noted : (w w' : WaitTable)

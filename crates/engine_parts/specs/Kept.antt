@@ -4,10 +4,10 @@ use Rattle.std.specs.Prelude.{List, [], ◌∷◌, filter, length, Option, Some,
 use Rattle.timer_queue.specs.Timers.{Timer}
 use Rattle.ha_clock.specs.Zone as clock
 use Rattle.ha_clock.specs.Local.{last_moment}
-use Rattle.ha_journal.specs.Journal.{Journal, automations, zone_of, now}
+use Rattle.ha_journal.specs.Journal.{Journal, zone_of, now, configured}
 use Rattle.ha_model.specs.declared.record.Record.{Record}
 use Rattle.ha_sight.specs.Scripts.{Branch}
-use Rattle.ha_model.specs.Records.{Records}
+use Rattle.ha_model.specs.Records.{CallEnds, Records}
 use Rattle.ha_journal.specs.Sights.{changes_switch}
 use Rattle.ha_config.specs.Sound.{is_sound_config}
 use Rattle.ha_config.specs.Words.{Text}
@@ -25,14 +25,15 @@ use Rattle.wait_set.specs.Timers.{AreApart}
 use Rattle.ha_ready.specs.RestedFlags.{RestedKept}
 use Rattle.engine_parts.specs.declared.parts.Parts.{Parts}
 use Rattle.engine_parts.specs.Owners.{AreAscending, AreBelow, owners_on, is_automation}
-use Rattle.ha_ready.specs.ReadyPairs.{branches_at, pairs_from}
+use Rattle.ha_ready.specs.ReadyPairs.{branches_with, ends_at, pairs_from}
+use Rattle.engine_parts.specs.Called.{CallsKept, told_by}
 use Rattle.engine_parts.specs.Runs.{AreHeld, SlotKept, SlotsWith, first_wait}
 
 -- ---- what is seen
 
--- the automations are those of a sound configuration
+-- its configuration is sound
 abbrev pub AreSound : Journal → Type 0
-AreSound j = IsTrue (is_sound_config (record { automations = automations j }))
+AreSound j = IsTrue (is_sound_config (configured j))
 
 -- Now, the zone and the states are those after the journal
 pub record Looks (j : Journal) (table : StateTable) (zone : Text) (at : ℕ) : Type 0 where
@@ -82,26 +83,26 @@ nobody s = false
 abbrev pub everyone : Gone
 everyone s = true
 
-abbrev pub slot_if : Bool → Journal → List Timer → Waits → Record → Option Frames → Type 0
-slot_if true k delays w r o = o ≡ None
-slot_if false k delays w r o = SlotKept k delays w r o
+abbrev pub slot_if : Bool → CallEnds → Journal → List Timer → Waits → Record → Option Frames → Type 0
+slot_if true told k delays w r o = o ≡ None
+slot_if false told k delays w r o = SlotKept told k delays w r o
 
-abbrev pub SlotBut : Gone → Journal → List Timer → Waits → Record → Option Frames → Type 0
-SlotBut gone k delays w r o = slot_if (gone r.serial) k delays w r o
+abbrev pub SlotBut : Gone → CallEnds → Journal → List Timer → Waits → Record → Option Frames → Type 0
+SlotBut gone told k delays w r o = slot_if (gone r.serial) told k delays w r o
 
-abbrev pub left_if : Bool → Records → Journal → ℕ → List Branch
-left_if true rs k s = []
-left_if false rs k s = branches_at rs k s
+abbrev pub left_if : Bool → CallEnds → Records → Journal → ℕ → List Branch
+left_if true told rs k s = []
+left_if false told rs k s = branches_with told rs k s
 
-abbrev pub left_branches : Gone → Records → Journal → ℕ → List Branch
-left_branches gone rs k s = left_if (gone s) rs k s
+abbrev pub left_branches : Gone → CallEnds → Records → Journal → ℕ → List Branch
+left_branches gone told rs k s = left_if (gone s) told rs k s
 
--- each live run that did not go has its frames, the pairs are those that may step, and each pending wait is one of such a run, behind whose
--- gate a branch is
-pub record RunsKept (gone : Gone) (k : Journal) (rs : Records) (delays : List Timer)
+-- where called runs ended so, each live run that did not go has its frames, the pairs are those that may step, and each pending wait is one
+-- of such a run, behind whose gate a branch is
+pub record RunsKept (told : CallEnds) (gone : Gone) (k : Journal) (rs : Records) (delays : List Timer)
     (w : Waits) (os : List (Option Frames)) (pairs : List (ℕ × Branch)) : Type 0 where
-  pub slots : SlotsWith (SlotBut gone k delays w) rs os
-  pub pairs_are : pairs ≡ pairs_from 0 (length rs) (left_branches gone rs k)
+  pub slots : SlotsWith (SlotBut gone told k delays w) rs os
+  pub pairs_are : pairs ≡ pairs_from 0 (length rs) (left_branches gone told rs k)
   pub held : AreHeld k os w.asks
 
 -- each key is before place n
@@ -111,16 +112,21 @@ KeysBelow n (t ∷ ts) = (t.1 < n) × KeysBelow n ts
 
 -- ---- all of it
 
--- the parts stand for the journal with these records, but for the runs that went
-pub record Going (gone : Gone) (k : Journal) (rs : Records) (p : Parts) : Type 0 where
+-- the parts stand for the journal with these records, where called runs ended so, but for the runs that went
+pub record GoingWith (told : CallEnds) (gone : Gone) (k : Journal) (rs : Records) (p : Parts) : Type 0 where
   pub sees : Sees k p
   pub triggers_stand : triggers.StandsFor p.triggers k
   pub waits_stand : waits.StandsFor p.waits.asks k
   pub owned : Owned k p.triggers p.waits
   pub keys_early : KeysBelow (length k) p.delays
-  pub runs_kept : RunsKept gone k rs p.delays p.waits p.frames.items p.ready.pairs.items
+  pub runs_kept : RunsKept told gone k rs p.delays p.waits p.frames.items p.ready.pairs.items
+  pub calls_kept : CallsKept told k rs p.calls p.frames.items
+
+-- the same where called runs ended as far as it is told
+abbrev pub Going : Gone → Journal → Records → Parts → Type 0
+Going gone k rs p = GoingWith (told_by gone k rs) gone k rs p
 
 -- the journal's records are these, and each part stands for it
 pub record Kept (j : Journal) (rs : Records) (p : Parts) : Type 0 where
-  pub going : Going nobody j rs p
+  pub going : GoingWith (ends_at j) nobody j rs p
   pub rested_is : RestedKept j rs p.rested.items

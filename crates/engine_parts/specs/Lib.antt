@@ -1,5 +1,6 @@
 pub mod Waiting
 pub mod Fronts
+pub mod Called
 pub mod Lower
 pub mod Slots
 pub mod OneMore

@@ -2,13 +2,13 @@
 use Rattle.std.specs.Prelude.{◌≡◌, [], ◌∷◌}
 use Rattle.ha_journal.specs.Journal.{Journal}
 use Rattle.ha_sight.specs.Scripts.{Branch}
-use Rattle.ha_journal.specs.Waits.{next_spot}
 use Rattle.script_step.specs.Gates.{Gate, Fronts, opens}
+use Rattle.ha_model.specs.Records.{CallEnds, spot_with}
 
--- a gate that opens after journal k where it opens after j
-abbrev pub StaysAt : Journal → Journal → Branch × Gate → Type 0
-StaysAt j k x = opens x.1 (next_spot k x.0) ≡ opens x.1 (next_spot j x.0)
+-- a gate that opens after journal k where it opens after j, where called runs ended so by the one and by the other
+abbrev pub StaysAt : CallEnds → CallEnds → Journal → Journal → Branch × Gate → Type 0
+StaysAt told told' j k x = opens x.1 (spot_with told' k x.0) ≡ opens x.1 (spot_with told j x.0)
 
-abbrev pub FrontsStay : Journal → Journal → Fronts → Type 0
-FrontsStay j k [] = Unit {0}
-FrontsStay j k (x ∷ xs) = StaysAt j k x × FrontsStay j k xs
+abbrev pub FrontsStay : CallEnds → CallEnds → Journal → Journal → Fronts → Type 0
+FrontsStay told told' j k [] = Unit {0}
+FrontsStay told told' j k (x ∷ xs) = StaysAt told told' j k x × FrontsStay told told' j k xs

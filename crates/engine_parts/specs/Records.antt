@@ -1,5 +1,6 @@
 -- The table of records while the records of an entry are told.
-use Rattle.std.specs.Prelude.{◌≡◌, ℕ, ◌+◌, ◌<◌, ◌≤◌, vec_len, vec_capacity, Bool, true, false, ◌||◌, nat_eq, List, [], ◌∷◌, length}
+use Rattle.std.specs.Prelude.{◌≡◌, ℕ, ◌+◌, ◌<◌, ◌≤◌, vec_len, vec_capacity, Bool, true, false, ◌||◌, nat_eq, List, [], ◌∷◌, length, Some}
+use Rattle.ha_config.specs.Words.{or_else}
 use Rattle.ha_config.specs.declared.config.Action.{Action}
 use Rattle.ha_model.specs.declared.record.Record.{Record}
 use Rattle.ha_journal.specs.Journal.{Journal}
@@ -10,7 +11,7 @@ use Rattle.engine_parts.specs.declared.parts.Parts.{Parts}
 use Rattle.engine_parts.specs.Changes.{SameRun}
 use Rattle.engine_parts.specs.Kept.{Gone}
 use Rattle.ha_ready.specs.RunPast.{AllPast, SameScript}
-use Rattle.engine_parts.specs.Runs.{HasEnd}
+use Rattle.engine_parts.specs.Called.{place_of}
 use Rattle.ha_ready.specs.Agree.{step_at}
 
 -- they are numbered, tell of the places of the journal alone, and nobody behind them made a step
@@ -23,20 +24,20 @@ pub record IsTable (k : Journal) (rs : Records) : Type 0 where
 abbrev pub also : Gone → ℕ → Gone
 also gone s q = gone q || nat_eq q s
 
--- a run that went has ended, and another is the same
-abbrev pub EndsIf : Bool → Record → Record → Type 0
-EndsIf true r r' = SameScript r r' × HasEnd r'.end
-EndsIf false r r' = SameRun r r'
+-- a run that went ended at place q, unless it had ended, and another is the same
+abbrev pub EndsIf : Bool → ℕ → Record → Record → Type 0
+EndsIf true q r r' = SameScript r r' × (r.place ≡ r'.place) × (place_of r'.end ≡ or_else (place_of r.end) (Some q))
+EndsIf false q r r' = SameRun r r' × (r.place ≡ r'.place)
 
-abbrev pub AreEnded : Gone → Records → Records → Type 0
-AreEnded gone [] [] = Unit {0}
-AreEnded gone [] (r' ∷ rs') = ⊥
-AreEnded gone (r ∷ rs) [] = ⊥
-AreEnded gone (r ∷ rs) (r' ∷ rs') = EndsIf (gone r.serial) r r' × AreEnded gone rs rs'
+abbrev pub AreEnded : Gone → ℕ → Records → Records → Type 0
+AreEnded gone q [] [] = Unit {0}
+AreEnded gone q [] (r' ∷ rs') = ⊥
+AreEnded gone q (r ∷ rs) [] = ⊥
+AreEnded gone q (r ∷ rs) (r' ∷ rs') = EndsIf (gone r.serial) q r r' × AreEnded gone q rs rs'
 
--- there is room for the frames and a pair of so many runs more
+-- there is room for the frames and a pair of so many runs more, and for a pair of each call that waits
 abbrev pub HasRoom : ℕ → Parts → Type 0
-HasRoom n p = (n ≤ p.frames.spare) × (vec_len p.ready.pairs + n ≤ vec_capacity p.ready.pairs)
+HasRoom n p = (n ≤ p.frames.spare) × (vec_len p.ready.pairs + n + length p.calls ≤ vec_capacity p.ready.pairs)
 
 -- the branches of a run that just begins
 abbrev pub first_branches : List Action → List Branch

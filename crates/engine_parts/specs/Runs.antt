@@ -4,9 +4,9 @@ use Rattle.std.specs.List.{list_any}
 use Rattle.timer_queue.specs.Timers.{Timer, due_of}
 use Rattle.ha_model.specs.declared.record.EndCause.{EndCause}
 use Rattle.ha_model.specs.declared.record.Record.{Record}
-use Rattle.ha_journal.specs.Journal.{Journal, automations, now}
+use Rattle.ha_journal.specs.Journal.{Journal, now, units}
 use Rattle.ha_sight.specs.Scripts.{Branch}
-use Rattle.ha_model.specs.Records.{Records, actions_of, spots}
+use Rattle.ha_model.specs.Records.{CallEnds, Records, actions_of, ask_end, spots}
 use Rattle.ha_ready.specs.Agree.{step_at}
 use Rattle.script_step.specs.Gates.{Gate, Fronts, gate_at}
 use Rattle.script_step.specs.Told.{IsAsk}
@@ -15,40 +15,42 @@ use Rattle.script_step.specs.declared.frames.Frames.{Frames}
 use Rattle.engine_parts.specs.Waiting.{Asked, asked_at, TellsEnds}
 use Rattle.ha_model.specs.Lawful.{is_running, record_of}
 use Rattle.wait_set.specs.declared.asked.Asked as wait
-use Rattle.wait_set.specs.Asked.{WaitTable as Waits, is_of}
+use Rattle.wait_set.specs.Asked.{WaitTable as Waits, is_bare, is_of}
 
 -- owners below this are automations; the wait that began at place p has the owner that is p above it
 abbrev pub first_wait : ℕ
 first_wait = 1024
 
--- a gate that is shut is known: the due of a delay is in the queue, under the place of its step; a wait was taken in
-abbrev pub GateKept : Journal → List Timer → Waits → ℕ → Branch × Gate → Type 0
-GateKept j delays w serial (b, Gate.Free) = Unit {0}
-GateKept j delays w serial (b, Gate.From due) = (due ≤ now j) ⊎ ((p : ℕ) × (due_of p delays ≡ Some due) × (step_at j serial p ≡ true))
-GateKept j delays w serial (b, Gate.Behind ask p) =
+-- a gate that is shut is known: the due of a delay is in the queue, under the place of its step; a wait was taken in, and of a bare one the
+-- end that was named is the one that there is where called runs ended so
+abbrev pub GateKept : CallEnds → Journal → List Timer → Waits → ℕ → Branch × Gate → Type 0
+GateKept told j delays w serial (b, Gate.Free) = Unit {0}
+GateKept told j delays w serial (b, Gate.From due) = (due ≤ now j) ⊎ ((p : ℕ) × (due_of p delays ≡ Some due) × (step_at j serial p ≡ true))
+GateKept told j delays w serial (b, Gate.Behind ask p) =
     (a : Asked) × (asked_at w serial b ≡ Some a) × (a.place ≡ p) × (a.owner ≡ first_wait + p)
     × (p < length j) × (step_at j serial p ≡ true) × IsAsk (now (take (suc p) j)) ask a.ask
+    × (is_bare a.ask ≡ true → a.named ≡ ask_end told j ask p)
 
-abbrev pub GatesKept : Journal → List Timer → Waits → ℕ → Fronts → Type 0
-GatesKept j delays w serial [] = Unit {0}
-GatesKept j delays w serial (x ∷ xs) = GateKept j delays w serial x × GatesKept j delays w serial xs
+abbrev pub GatesKept : CallEnds → Journal → List Timer → Waits → ℕ → Fronts → Type 0
+GatesKept told j delays w serial [] = Unit {0}
+GatesKept told j delays w serial (x ∷ xs) = GateKept told j delays w serial x × GatesKept told j delays w serial xs
 
 -- the frames of a live run stand for its script on its places
-pub record LiveKept (j : Journal) (delays : List Timer) (w : Waits) (r : Record) (f : Frames) : Type 0 where
+pub record LiveKept (told : CallEnds) (j : Journal) (delays : List Timer) (w : Waits) (r : Record) (f : Frames) : Type 0 where
   pub live : r.end ≡ None
   pub serial : f.serial ≡ r.serial
   pub automation : f.automation ≡ r.automation
-  pub stands : Stands f (actions_of (automations j) r.automation) r.env (spots j r.serial)
-  pub gates : GatesKept j delays w r.serial (fronts f (spots j r.serial))
+  pub stands : Stands f (actions_of (units j) r.automation) r.env (spots j r.serial)
+  pub gates : GatesKept told j delays w r.serial (fronts f (spots j r.serial))
 
 -- a run that has ended has no frames
 abbrev pub HasEnd : Option (ℕ × EndCause) → Type 0
 HasEnd None = ⊥
 HasEnd (Some e) = Unit {0}
 
-abbrev pub SlotKept : Journal → List Timer → Waits → Record → Option Frames → Type 0
-SlotKept j delays w r None = HasEnd r.end
-SlotKept j delays w r (Some f) = LiveKept j delays w r f
+abbrev pub SlotKept : CallEnds → Journal → List Timer → Waits → Record → Option Frames → Type 0
+SlotKept told j delays w r None = HasEnd r.end
+SlotKept told j delays w r (Some f) = LiveKept told j delays w r f
 
 -- each record has its slot, of which this holds
 abbrev pub SlotsWith : (Record → Option Frames → Type 0) → Records → List (Option Frames) → Type 0
@@ -57,8 +59,8 @@ SlotsWith P [] (f ∷ fs) = ⊥
 SlotsWith P (r ∷ rs) [] = ⊥
 SlotsWith P (r ∷ rs) (f ∷ fs) = P r f × SlotsWith P rs fs
 
-abbrev pub SlotsKept : Journal → List Timer → Waits → Records → List (Option Frames) → Type 0
-SlotsKept j delays w = SlotsWith (SlotKept j delays w)
+abbrev pub SlotsKept : CallEnds → Journal → List Timer → Waits → Records → List (Option Frames) → Type 0
+SlotsKept told j delays w = SlotsWith (SlotKept told j delays w)
 
 -- a gate that is a wait's
 abbrev pub IsWait : Option Gate → Type 0
@@ -79,7 +81,7 @@ AreHeld j os [] = Unit {0}
 AreHeld j os (a ∷ asks) = IsHeld j os a × (list_any (is_of a.ask.serial a.ask.branch) asks ≡ false) × AreHeld j os asks
 
 -- what is known where ready pairs are listed anew behind an entry: who made a step, and has not ended, runs, and its frames stand
-pub record Waking (rs : Records) (k : Journal) (w : Waits) (os : List (Option Frames)) (at : ℕ) : Type 0 where
+pub record Waking (told : CallEnds) (rs : Records) (k : Journal) (w : Waits) (os : List (Option Frames)) (at : ℕ) : Type 0 where
   pub delays : List Timer
   pub now_is : at ≡ now k
   pub numbered : (s p : ℕ) → step_at k s p ≡ true → (0 < s) × (s ≤ length rs)
@@ -87,4 +89,4 @@ pub record Waking (rs : Records) (k : Journal) (w : Waits) (os : List (Option Fr
       → r.end ≡ None → (r.serial ≡ s) × (is_running (length k) r ≡ true)
   pub resting : (s : ℕ) (r : Record) → record_of rs s ≡ Some r → HasEnd r.end → is_running (length k) r ≡ false
   pub stands : TellsEnds w k
-  pub slots : SlotsKept k delays w rs os
+  pub slots : SlotsKept told k delays w rs os

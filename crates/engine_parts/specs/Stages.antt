@@ -26,6 +26,9 @@ use Rattle.wait_set.specs.Stands as waits
 use Rattle.engine_parts.specs.declared.parts.Parts.{Parts}
 use Rattle.engine_parts.specs.Waiting.{AsksKept, EndsGrow}
 use Rattle.engine_parts.specs.Pending.{AreOthers, AreWaits}
+use Rattle.ha_ready.specs.ReadyPairs.{ends_at}
+use Rattle.script_calls.specs.Waiting.{Waiting}
+use Rattle.engine_parts.specs.Called.{CallsKept}
 use Rattle.engine_parts.specs.Runs.{AreHeld}
 use Rattle.engine_parts.specs.Kept.{Sees, Owned, KeysBelow, RunsKept, Going, Kept, nobody}
 use Rattle.ha_ready.specs.RestedFlags.{IsKnown, RestedKept, source_of}
@@ -120,7 +123,7 @@ pub record Noted (k : Journal) (w : Waits) (p : Parts) : Type 0 where
 
 -- the runs before a line
 pub record RunsBefore (k : Journal) (rs : Records) (w : Waits) (delays : List Timer)
-    (os : List (Option Frames)) (pairs : List (ℕ × Branch)) : Type 0 where
+    (os : List (Option Frames)) (pairs : List (ℕ × Branch)) (waiting : Waiting) : Type 0 where
   pub j : Journal
   pub source : ℕ
   pub number : ℕ
@@ -128,7 +131,8 @@ pub record RunsBefore (k : Journal) (rs : Records) (w : Waits) (delays : List Ti
   pub journal_is : k ≡ more j (Line source number cmd)
   pub right : Right j rs
   pub waits_stand : waits.StandsFor w.asks j
-  pub runs_kept : RunsKept nobody j rs delays w os pairs
+  pub runs_kept : RunsKept (ends_at j) nobody j rs delays w os pairs
+  pub calls_kept : CallsKept (ends_at j) j rs waiting os
 
 -- all parts were told of a line; its stops and attempts, and the flags of the sources, are still to come
 pub record LineTold (k : Journal) (rs : Records) (p : Parts) : Type 0 where

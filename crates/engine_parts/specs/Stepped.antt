@@ -1,5 +1,5 @@
 -- What is taken over from a step.
-use Rattle.std.specs.Prelude.{◌≡◌, ◌≢◌, ◌⊎◌, ℕ, ◌+◌, ◌≤◌, false, nat_eq, List, Some}
+use Rattle.std.specs.Prelude.{◌≡◌, ◌≢◌, ◌⊎◌, ℕ, ◌+◌, ◌≤◌, false, nat_eq, List, Some, None}
 use Rattle.timer_queue.specs.Timers.{Timer, due_of}
 use Rattle.ha_sight.specs.declared.waiting.WaitAsk.{WaitAsk}
 use Rattle.ha_sight.specs.declared.steps.StepOut.{StepOut}
@@ -15,7 +15,7 @@ DueTaken at p b new delays = (due : ℕ) → gate_at b new ≡ Some (Gate.From d
 -- the ask of a wait that began at place p was taken in
 abbrev pub AskTaken : ℕ → ℕ → Branch → StepOut → Waits → Type 0
 AskTaken p serial b out w =
-    (ask : WaitAsk) → out.wait ≡ Some ask → asked_at w serial b ≡ Some (record { owner = 1024 + p; place = p; ask = ask })
+    (ask : WaitAsk) → out.wait ≡ Some ask → asked_at w serial b ≡ Some (record { owner = 1024 + p; place = p; ask = ask; named = None })
 
 -- the asks of the run's other branches are the same
 abbrev pub OthersKept : Waits → Waits → ℕ → Branch → Type 0

@@ -14,10 +14,10 @@ ghost use Rattle.engine_parts.specs.Without.{without_owners};
 use crate::note::note;
 use crate::parts::Parts;
 use crate::wake::wake;
-use cond_eval::View;
 use ha_clock::{Moment, Zone};
 use ha_journal::Firing;
 use ha_value::Many;
+use script_calls::Seeing;
 use segment_view::Segment;
 use state_table::StateTable;
 use std::alloc::{AllocError, Global};
@@ -42,7 +42,9 @@ fn note_last<'a>(
     ensures told { OnOk result (Told journal.entry.now waits.old triggers.new waits.new) }
     ensures fired { IfOk result (λ fired. fired ≡ firings journal.entry.now (length journal.entry.now - 1) (attached triggers.old)) }
 {
-    let view = View::make(states, journal.configuration(), zone, at);
+    let view = Seeing::make(states, journal.configuration(), zone, at);
+    // The borrow checker builds its plan only where a place has the type that the view holds.
+    let _ = &view.view;
     let fired = note(
         triggers,
         waits,
@@ -86,7 +88,7 @@ pub fn wake_line(parts: &mut Parts, alloc: Global, journal: &Segment<'_>) -> Res
     ensures attached { OnOk result (attached parts.new.triggers ≡ without_owners parts.old.waits.fresh (attached parts.old.triggers)) }
     ensures waits { parts.new.waits ≡ parts.old.waits }
     ensures going { OnOk result ((rs : Records) (w : WaitTable) → Noted journal.now w parts.old
-        → RunsBefore journal.now rs w parts.old.delays parts.old.frames.items parts.old.ready.pairs.items → Going nobody journal.now rs parts.new) }
+        → RunsBefore journal.now rs w parts.old.delays parts.old.frames.items parts.old.ready.pairs.items parts.old.calls → Going nobody journal.now rs parts.new) }
     ensures rest { parts.new.rested ≡ parts.old.rested }
 {
     wake(
@@ -113,7 +115,7 @@ pub fn attend(
     ensures attached { OnOk result (attached parts.new.triggers ≡ without_owners parts.new.waits.fresh (attached parts.old.triggers)) }
     ensures ended { OnOk result ((serial : ℕ) → EndsGrow parts.old.waits parts.new.waits serial) }
     ensures fired { IfOk result (λ fired. attempts_by fired ≡ fired_lem journal.now (length journal.now - 1)) }
-    ensures going { OnOk result ((rs : Records) → RunsBefore journal.now rs parts.old.waits parts.old.delays parts.old.frames.items parts.old.ready.pairs.items
+    ensures going { OnOk result ((rs : Records) → RunsBefore journal.now rs parts.old.waits parts.old.delays parts.old.frames.items parts.old.ready.pairs.items parts.old.calls
         → Going nobody journal.now rs parts.new) }
     ensures rested { OnOk result (parts.new.rested ≡ parts.old.rested) }
 {

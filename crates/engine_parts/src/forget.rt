@@ -1,15 +1,17 @@
-//! A run that ends leaves nothing behind: its triggers, its waits, its frames and its pairs go.
+//! A run that ends leaves nothing behind: its triggers, its waits, its frames and its pairs go, and the one that waits for it goes on.
 ghost use Rattle.std.specs.Prelude.{◌≡◌, ◌-◌, ◌<◌, ◌≤◌, ◌∷◌, [], ℕ, None, Some, length, set, slice_get};
-ghost use Rattle.ha_journal.specs.Journal.{Journal};
-ghost use Rattle.ha_model.specs.Records.{Records};
+ghost use Rattle.ha_journal.specs.Journal.{Journal, last_place};
+ghost use Rattle.ha_model.specs.Records.{CallEnds, Records};
 ghost use Rattle.run_modes.specs.Fits.{AreNumbered};
 ghost use Rattle.trig_set.specs.Stands.{StandsFor, attached};
 ghost use Rattle.wait_set.specs.Asked.{owners_of, without_run};
-ghost use Rattle.engine_parts.specs.Kept.{Going, Gone, Owned};
+ghost use Rattle.engine_parts.specs.Called.{woken_asks, woken_owners};
+ghost use Rattle.engine_parts.specs.Kept.{Going, GoingWith, Gone, Owned};
 ghost use Rattle.engine_parts.specs.Pending.{AreOthers};
-ghost use Rattle.engine_parts.specs.Records.{HasRoom, also};
+ghost use Rattle.engine_parts.specs.Records.{HasRoom, IsTable, also};
 ghost use Rattle.engine_parts.specs.Without.{without_owners};
 
+use crate::called::wake_caller;
 use crate::parts::Parts;
 use crate::ready::drop_pairs;
 use crate::slots::Slots;
@@ -43,9 +45,9 @@ fn clear_slot(frames: &mut Slots<Frames>, serial: u64)
     frames.drop_at(serial.saturating_sub(1) as usize);
 }
 
-/// A run goes; it has still to be ended.
-pub fn forget(parts: &mut Parts, serial: u64)
-    ensures going { (gone : Gone) (k : Journal) (rs : Records) → AreNumbered 0 rs → 0 < serial → serial ≤ length rs → Going gone k rs parts.old → Going (also gone serial) k rs parts.new }
+/// Its triggers, its waits, its frames and its pairs go, and it waits for no other run any more.
+fn clear_run(parts: &mut Parts, serial: u64)
+    ensures going { (told : CallEnds) (gone : Gone) (k : Journal) (rs : Records) → AreNumbered 0 rs → 0 < serial → serial ≤ length rs → GoingWith told gone k rs parts.old → GoingWith told (also gone serial) k rs parts.new }
     ensures rest { attached parts.new.triggers ≡ without_owners (owners_of serial parts.old.waits.asks) (attached parts.old.triggers) }
     ensures waits { parts.new.waits.asks ≡ without_run serial parts.old.waits.asks }
     ensures rested { parts.new.rested ≡ parts.old.rested }
@@ -55,4 +57,19 @@ pub fn forget(parts: &mut Parts, serial: u64)
     parts.waits.drop_run(serial);
     clear_slot(&mut parts.frames, serial);
     drop_pairs(&mut parts.ready, serial);
+    parts.calls.drop_run(serial);
+}
+
+/// A run goes at the last place, and the one that waits for it goes on; it has still to be ended. There is room for the pairs of all that
+/// wait.
+pub fn forget(parts: &mut Parts, serial: u64, place: u64)
+    requires { HasRoom 0 parts.old }
+    ensures rest { attached parts.new.triggers ≡ without_owners (owners_of serial parts.old.waits.asks) (without_owners (woken_owners serial parts.old.calls parts.old.waits.asks) (attached parts.old.triggers)) }
+    ensures waits { parts.new.waits.asks ≡ without_run serial (woken_asks serial place parts.old.calls parts.old.waits.asks) }
+    ensures going { (gone : Gone) (k : Journal) (rs : Records) → place ≡ last_place k → IsTable k rs → 0 < serial → serial ≤ length rs → Going gone k rs parts.old → Going (also gone serial) k rs parts.new }
+    ensures rested { parts.new.rested ≡ parts.old.rested }
+    ensures room { (n : ℕ) → HasRoom n parts.old → HasRoom n parts.new }
+{
+    wake_caller(parts, serial, place);
+    clear_run(parts, serial);
 }

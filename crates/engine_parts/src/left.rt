@@ -12,9 +12,9 @@ ghost use Rattle.engine_parts.specs.Without.{without_owners};
 use crate::attend::wake_line;
 use crate::note::note_waits;
 use crate::parts::Parts;
-use cond_eval::View;
 use ha_clock::{Moment, Zone};
 use ha_value::{EntityId, Many, Value, Word};
+use script_calls::Seeing;
 use segment_view::Segment;
 use state_table::StateTable;
 use std::alloc::{AllocError, Global};
@@ -42,7 +42,9 @@ fn note_report<'a>(
     ensures fired { firings journal.entry.now (length journal.entry.now - 1) (attached triggers.old) ≡ [] }
 {
     triggers.note_left(alloc, entity, text, attributes, at)?;
-    let view = View::make(states, journal.configuration(), zone, at);
+    let view = Seeing::make(states, journal.configuration(), zone, at);
+    // The borrow checker builds its plan only where a place has the type that the view holds.
+    let _ = &view.view;
     let fired = Many::make(alloc);
     note_waits(waits, alloc, journal.place(), &fired, &view)?;
     Ok(())
@@ -91,7 +93,7 @@ pub fn attend_left(
     ensures attached { OnOk result (attached parts.new.triggers ≡ without_owners parts.new.waits.fresh (attached parts.old.triggers)) }
     ensures ended { OnOk result ((serial : ℕ) → EndsGrow parts.old.waits parts.new.waits serial) }
     ensures fired { [] ≡ fired_lem journal.now (length journal.now - 1) }
-    ensures going { OnOk result ((rs : Records) → RunsBefore journal.now rs parts.old.waits parts.old.delays parts.old.frames.items parts.old.ready.pairs.items
+    ensures going { OnOk result ((rs : Records) → RunsBefore journal.now rs parts.old.waits parts.old.delays parts.old.frames.items parts.old.ready.pairs.items parts.old.calls
         → Going nobody journal.now rs parts.new) }
     ensures rested { OnOk result (parts.new.rested ≡ parts.old.rested) }
 {

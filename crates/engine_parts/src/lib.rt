@@ -3,6 +3,7 @@
 
 pub mod attempts;
 pub mod attend;
+pub mod called;
 pub mod forget;
 pub mod last;
 pub mod laws;

@@ -31,7 +31,7 @@ pub fn note_waits<A: Answers>(
 ) -> Result<(), AllocError>
     ensures stands { OnOk result ((j : Journal) (x : Item) → waits_lem.StandsFor waits.old.asks j → waits_lem.IsNext j place x (A.sight answers.now) fired.now waits.old.asks
         → waits_lem.StandsFor waits.new.asks (more j x)) }
-    ensures asks { OnOk result ((serial : ℕ) → AsksKept waits.old waits.new serial) }
+    ensures asks { OnOk result ((j : Journal) (x : Item) → waits_lem.IsNext j place x (A.sight answers.now) fired.now waits.old.asks → (serial : ℕ) → AsksKept waits.old waits.new serial) }
     ensures grow { OnOk result ((serial : ℕ) → EndsGrow waits.old waits.new serial) }
     ensures owned { OnOk result ((n : ℕ) (owners : List Owner) → AreOwned n owners waits.old.asks → AreOwned n owners waits.new.asks) }
     ensures told { OnOk result ((n : ℕ) (owners : List Owner) → AreOwned n owners waits.old.asks → AreWaits waits.new.fresh) }
@@ -64,7 +64,10 @@ pub fn note<A: Answers>(
         → IsNext j place entry.now before (A.sight answers.now) (triggers_lem.attached triggers.old)
         → waits_lem.AreFired (more j entry.now) place (firings (more j entry.now) place (triggers_lem.attached triggers.old)) waits.old.asks
         → waits_lem.StandsFor waits.new.asks (more j entry.now)) }
-    ensures asks { OnOk result ((serial : ℕ) → AsksKept waits.old waits.new serial) }
+    ensures asks { OnOk result ((j : Journal) → HasEntry j → triggers_lem.StandsFor triggers.old j
+        → IsNext j place entry.now before (A.sight answers.now) (triggers_lem.attached triggers.old)
+        → waits_lem.AreFired (more j entry.now) place (firings (more j entry.now) place (triggers_lem.attached triggers.old)) waits.old.asks
+        → (serial : ℕ) → AsksKept waits.old waits.new serial) }
     ensures grow { OnOk result ((serial : ℕ) → EndsGrow waits.old waits.new serial) }
     ensures owned { OnOk result ((n : ℕ) (owners : List Owner) → AreOwned n owners waits.old.asks → AreOwned n owners waits.new.asks) }
     ensures told { OnOk result ((n : ℕ) (owners : List Owner) → AreOwned n owners waits.old.asks → AreWaits waits.new.fresh) }

@@ -2,6 +2,7 @@
 use crate::ready::Ready;
 use crate::slots::Slots;
 use ha_clock::{Moment, Zone};
+use script_calls::Calls;
 use script_step::Frames;
 use state_table::StateTable;
 use switch_book::Switches;
@@ -23,6 +24,8 @@ pub struct Parts {
     /// The dues of the delays that are not over, under the places of their steps.
     pub delays: TimerQueue,
     pub ready: Ready,
+    /// The runs that wait for runs that they called.
+    pub calls: Calls,
     /// Of sources 0 to 15.
     pub rested: Vec<bool>,
     /// Whether the last entry is the boot or changed a switch.

@@ -1,8 +1,10 @@
 //! The ready pairs of run and branch, in order, kept from entry to entry.
-ghost use Rattle.std.specs.Prelude.{◌≡◌, ◌++◌, ◌&&◌, [], ◌∷◌, ◌<◌, ◌≤◌, ℕ, suc, List, not, nat_eq, nat_lt, OnOk, length, take, drop, filter, slice_set, vec_len, vec_capacity};
+ghost use Rattle.std.specs.Prelude.{◌≡◌, ◌++◌, ◌&&◌, [], ◌∷◌, ◌<◌, ◌≤◌, ◌+◌, ℕ, suc, List, not, nat_eq, nat_lt, OnOk, length, take, drop, filter, slice_set, vec_len, vec_capacity};
+ghost use Rattle.ha_config.specs.Words.{comes_before};
 ghost use Rattle.ha_sight.specs.Scripts.{Branch as Path};
-ghost use Rattle.ha_ready.specs.ReadyPairs.{pairs_from, pairs_of, with_run};
-ghost use Rattle.engine_parts.specs.Lower.{Ascends, has_one, lower, stands_at};
+ghost use Rattle.ha_ready.specs.ReadyPairs.{changed_at, pairs_from, pairs_of, with_run};
+ghost use Rattle.engine_parts.specs.Called.{placed};
+ghost use Rattle.engine_parts.specs.Lower.{Ascends, earlier_at, has_one, is_earlier, lower, put_in, stands_at};
 
 use ha_sight::Branch;
 use ha_value::Many;
@@ -151,4 +153,66 @@ pub fn set_run(ready: &mut Ready, serial: u64, branches: Many<Branch>) -> Result
         return Ok(());
     }
     put_anew(ready, serial, branches)
+}
+
+/// Whether a branch comes before another.
+fn is_less(left: &[u32], right: &[u32]) -> bool
+    ensures { result ≡ comes_before left.now right.now }
+{
+    left < right
+}
+
+/// Whether a pair is of this run, in an earlier branch.
+fn is_earlier(pair: &(u64, Branch), serial: u64, branch: &Branch) -> bool
+    ensures { result ≡ is_earlier serial branch.now pair.now }
+{
+    pair.0 == serial && is_less(pair.1.as_slice(), branch.as_slice())
+}
+
+/// Whether such a pair stands at that place.
+fn earlier_at(ready: &Ready, at: usize, serial: u64, branch: &Branch) -> bool
+    ensures { result ≡ earlier_at serial branch.now at ready.now.pairs.items }
+{
+    match ready.pairs.get(at) {
+        Some(pair) => is_earlier(pair, serial, branch),
+        None => false,
+    }
+}
+
+/// The place at which the pair of a run and branch belongs, where the pairs stand by their runs.
+fn place_of(ready: &Ready, serial: u64, branch: &Branch) -> usize
+    ensures fits { result ≤ length ready.now.pairs.items }
+    ensures place { Ascends 0 ready.now.pairs.items
+        → take result ready.now.pairs.items ++ (serial, branch.now) ∷ drop result ready.now.pairs.items ≡ put_in serial branch.now ready.now.pairs.items }
+{
+    let mut at = lower(ready.pairs.as_slice(), serial);
+    'pairs: while earlier_at(ready, at, serial, branch) {
+        at += 1;
+    }
+    at
+}
+
+/// A pair is put in at a place; there is room for it.
+pub fn put_reserved(ready: &mut Ready, at: usize, serial: u64, branch: Branch)
+    requires fits { at ≤ length ready.old.pairs.items }
+    requires room { vec_len ready.old.pairs < vec_capacity ready.old.pairs }
+    ensures items { ready.new.pairs.items ≡ take at ready.old.pairs.items ++ (serial, branch) ∷ drop at ready.old.pairs.items }
+    ensures len { vec_len ready.new.pairs ≡ vec_len ready.old.pairs + 1 }
+    ensures capacity { vec_capacity ready.old.pairs ≤ vec_capacity ready.new.pairs }
+{
+    match ready.pairs.insert(at, (serial, branch)) {
+        Ok(()) => {}
+        Err(_) => unreachable!(),
+    }
+}
+
+/// One more branch of a run may step; there is room for its pair.
+pub fn put_woken(ready: &mut Ready, serial: u64, branch: Branch)
+    requires { vec_len ready.old.pairs < vec_capacity ready.old.pairs }
+    ensures items { (m : ℕ) (by : ℕ → List Path) → ready.old.pairs.items ≡ pairs_from 0 m by → 0 < serial → serial ≤ m → ready.new.pairs.items ≡ pairs_from 0 m (changed_at serial (placed branch (by serial)) by) }
+    ensures len { vec_len ready.new.pairs ≡ vec_len ready.old.pairs + 1 }
+    ensures capacity { vec_capacity ready.old.pairs ≤ vec_capacity ready.new.pairs }
+{
+    let at = place_of(ready, serial, &branch);
+    put_reserved(ready, at, serial, branch);
 }

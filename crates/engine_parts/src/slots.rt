@@ -1,5 +1,5 @@
 //! A list of slots, each of which holds a value in a box of its own or is empty.
-ghost use Rattle.std.specs.Prelude.{◌≡◌, ◌<◌, ◌≤◌, ◌-◌, ◌∷◌, [], ◌++◌, ℕ, None, Some, suc, length, set, slice_get, replicate, OnOk, option_and_then, option_map, vec_len, vec_capacity};
+ghost use Rattle.std.specs.Prelude.{◌≡◌, ◌<◌, ◌≤◌, ◌-◌, ◌∷◌, [], ◌++◌, ◌^◌, ℕ, None, Some, suc, length, set, slice_get, replicate, OnOk, option_and_then, option_map, vec_len, vec_capacity};
 ghost use Rattle.std.specs.Option.{option_copied};
 ghost use Rattle.engine_parts.specs.Slots.{value_in, values_in};
 
@@ -31,6 +31,14 @@ impl<T: Drop> Slots<T> {
         Slots {
             list: Vec::new(alloc),
         }
+    }
+
+    /// How many slots there are.
+    pub fn len(&self) -> usize
+        ensures len { result ≡ length self.now.items }
+        ensures small { result < 2 ^ 63 }
+    {
+        self.list.len()
     }
 
     /// What the slot at that place holds, if there is one and it holds something.

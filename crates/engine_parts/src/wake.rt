@@ -2,9 +2,9 @@
 ghost use Rattle.std.specs.Prelude.{◌≡◌, ◌<◌, ◌≤◌, All, IsNone, ◌++◌, ◌-◌, ◌∷◌, [], ℕ, List, true, OnOk, length, slice_get, option_and_then};
 ghost use Rattle.std.specs.Option.{option_copied};
 ghost use Rattle.ha_journal.specs.Journal.{Journal};
-ghost use Rattle.ha_model.specs.Records.{Records};
+ghost use Rattle.ha_model.specs.Records.{CallEnds, Records};
 ghost use Rattle.engine_parts.specs.Runs.{Waking};
-ghost use Rattle.ha_ready.specs.ReadyPairs.{branches_at, pairs_from};
+ghost use Rattle.ha_ready.specs.ReadyPairs.{branches_with, pairs_from};
 ghost use Rattle.ha_ready.specs.Agree.{AgreesBut, step_at, touched};
 ghost use Rattle.engine_parts.specs.Touched.{QueueKept, due_places, wait_places};
 ghost use Rattle.timer_queue.specs.Timers.{first_due, after_due};
@@ -44,8 +44,8 @@ fn refresh(
     waits: &Waits,
     serial: u64,
 ) -> Result<(), AllocError>
-    ensures { OnOk result ((rs : Records) (p : ℕ) (left : List ℕ) → Waking rs journal.now waits.now frames.now.items now → step_at journal.now serial p ≡ true
-        → AgreesBut (touched journal.now (p ∷ left)) rs journal.now ready.old.pairs.items → AgreesBut (touched journal.now left) rs journal.now ready.new.pairs.items) }
+    ensures { OnOk result ((told : CallEnds) (rs : Records) (p : ℕ) (left : List ℕ) → Waking told rs journal.now waits.now frames.now.items now → step_at journal.now serial p ≡ true
+        → AgreesBut told (touched journal.now (p ∷ left)) rs journal.now ready.old.pairs.items → AgreesBut told (touched journal.now left) rs journal.now ready.new.pairs.items) }
 {
     match run_at(frames, serial) {
         Some(run) => match run.list_ready(alloc, journal.script(run.automation()), now, waits) {
@@ -66,8 +66,8 @@ fn wake_one(
     waits: &Waits,
     place: u64,
 ) -> Result<(), AllocError>
-    ensures { OnOk result ((rs : Records) (left : List ℕ) → Waking rs journal.now waits.now frames.now.items now
-        → AgreesBut (touched journal.now (place ∷ left)) rs journal.now ready.old.pairs.items → AgreesBut (touched journal.now left) rs journal.now ready.new.pairs.items) }
+    ensures { OnOk result ((told : CallEnds) (rs : Records) (left : List ℕ) → Waking told rs journal.now waits.now frames.now.items now
+        → AgreesBut told (touched journal.now (place ∷ left)) rs journal.now ready.old.pairs.items → AgreesBut told (touched journal.now left) rs journal.now ready.new.pairs.items) }
 {
     match journal.stepper(place) {
         Some(serial) => refresh(ready, frames, journal, alloc, now, waits, serial),
@@ -99,8 +99,8 @@ fn wake_delays(
     ensures over { OnOk result (due_places now delays.new ≡ []) }
     ensures queue { OnOk result (QueueKept now delays.old delays.new) }
     ensures early { OnOk result ((n : ℕ) → KeysBelow n delays.old → KeysBelow n delays.new) }
-    ensures agree { OnOk result ((rs : Records) (left : List ℕ) → Waking rs journal.now waits.now frames.now.items now
-        → AgreesBut (touched journal.now (due_places now delays.old ++ left)) rs journal.now ready.old.pairs.items → AgreesBut (touched journal.now left) rs journal.now ready.new.pairs.items) }
+    ensures agree { OnOk result ((told : CallEnds) (rs : Records) (left : List ℕ) → Waking told rs journal.now waits.now frames.now.items now
+        → AgreesBut told (touched journal.now (due_places now delays.old ++ left)) rs journal.now ready.old.pairs.items → AgreesBut told (touched journal.now left) rs journal.now ready.new.pairs.items) }
 {
     'due: while let Some(place) = pop(delays, now) {
         wake_one(ready, frames, journal, alloc, now, waits, place)?;
@@ -137,8 +137,8 @@ fn wake_waits(
     now: Moment,
     waits: &Waits,
 ) -> Result<(), AllocError>
-    ensures { OnOk result ((rs : Records) (left : List ℕ) → Waking rs journal.now waits.now frames.now.items now
-        → AgreesBut (touched journal.now (wait_places (fresh waits.now) ++ left)) rs journal.now ready.old.pairs.items → AgreesBut (touched journal.now left) rs journal.now ready.new.pairs.items) }
+    ensures { OnOk result ((told : CallEnds) (rs : Records) (left : List ℕ) → Waking told rs journal.now waits.now frames.now.items now
+        → AgreesBut told (touched journal.now (wait_places (fresh waits.now) ++ left)) rs journal.now ready.old.pairs.items → AgreesBut told (touched journal.now left) rs journal.now ready.new.pairs.items) }
 {
     let owners = waits.ended_now();
     'owners: for owner in owners {
@@ -173,9 +173,9 @@ pub fn wake(
     ensures over { OnOk result (due_places now delays.new ≡ []) }
     ensures queue { OnOk result (QueueKept now delays.old delays.new) }
     ensures early { OnOk result ((n : ℕ) → KeysBelow n delays.old → KeysBelow n delays.new) }
-    ensures pairs { OnOk result ((rs : Records) → Waking rs journal.now waits.now frames.now.items now
-        → AgreesBut (touched journal.now (due_places now delays.old ++ wait_places (fresh waits.now))) rs journal.now ready.old.pairs.items
-        → ready.new.pairs.items ≡ pairs_from 0 (length rs) (branches_at rs journal.now)) }
+    ensures pairs { OnOk result ((told : CallEnds) (rs : Records) → Waking told rs journal.now waits.now frames.now.items now
+        → AgreesBut told (touched journal.now (due_places now delays.old ++ wait_places (fresh waits.now))) rs journal.now ready.old.pairs.items
+        → ready.new.pairs.items ≡ pairs_from 0 (length rs) (branches_with told rs journal.now)) }
 {
     wake_delays(delays, ready, frames, journal, alloc, now, waits)?;
     detach_all(triggers, waits.ended_now());
@@ -201,9 +201,9 @@ pub fn wake_step(
     ensures over { OnOk result (due_places now delays.new ≡ []) }
     ensures queue { OnOk result (QueueKept now delays.old delays.new) }
     ensures early { OnOk result ((n : ℕ) → KeysBelow n delays.old → KeysBelow n delays.new) }
-    ensures pairs { OnOk result ((rs : Records) → Waking rs journal.now waits.now frames.now.items now
-        → AgreesBut (touched journal.now (place ∷ (due_places now delays.old ++ wait_places (fresh waits.now)))) rs journal.now ready.old.pairs.items
-        → ready.new.pairs.items ≡ pairs_from 0 (length rs) (branches_at rs journal.now)) }
+    ensures pairs { OnOk result ((told : CallEnds) (rs : Records) → Waking told rs journal.now waits.now frames.now.items now
+        → AgreesBut told (touched journal.now (place ∷ (due_places now delays.old ++ wait_places (fresh waits.now)))) rs journal.now ready.old.pairs.items
+        → ready.new.pairs.items ≡ pairs_from 0 (length rs) (branches_with told rs journal.now)) }
 {
     wake_one(ready, frames, journal, alloc, now, waits, place)?;
     wake(delays, triggers, ready, frames, journal, alloc, now, waits)?;

@@ -20,6 +20,7 @@ use Rattle.wait_set.specs.contracts.asked.Asked as Asked
 use Rattle.wait_set.specs.contracts.waits.Waits as Waits
 use Rattle.wait_set.proofs.pending.Pending.TheSendSync as pending
 use Rattle.switch_book.proofs.book.Switches.TheSendSync as switches
+use Rattle.script_calls.proofs.calls.Calls.TheSendSync as calls
 use Rattle.engine_parts.specs.contracts.parts.Parts as Parts
 use Rattle.engine_parts.proofs.ready.Ready.TheSendSync as ready
 use Rattle.engine_parts.proofs.slots.Slots.TheSendSync as slots
@@ -53,7 +54,7 @@ asked_send = search entries depth 60 fits 20000
 waits_send : IsSend Waits.the_row
 waits_send = search (asked_send, pending.the_field_send, crosses, entries) depth 60 fits 20000
 
-ruleset kept = (states_field, switches.the_send, triggers_field, waits_send, frames_send, ready.the_field_send)
+ruleset kept = (states_field, switches.the_send, triggers_field, waits_send, calls.the_send, frames_send, ready.the_field_send)
 
 pub parts_field : IsSend Parts.the_field.row
 parts_field = search (kept, zone.the_send, queue.the_send, slots.the_send, crosses, entries) depth 60 fits 20000

@@ -5,6 +5,7 @@ use Rattle.ha_config.specs.contracts.config.SpanForm as SpanForm
 use Rattle.ha_config.specs.contracts.config.RepeatKind as RepeatKind
 use Rattle.ha_config.specs.contracts.config.Action as Action
 use Rattle.ha_config.specs.contracts.config.Automation as Automation
+use Rattle.ha_config.specs.contracts.config.Script as Script
 use Rattle.ha_config.specs.contracts.config.Config as Config
 use Rattle.ha_config.proofs.config.Mode.TheSendSync as mode
 use Rattle.ha_config.proofs.config.Form.TheLaws.TheKnot as form
@@ -38,7 +39,13 @@ automation_field = search (action_send, mode.the_field_send, triggers) depth 60 
 pub automation_send : IsSend Automation.the_row
 automation_send = search (automation_field, sendable) depth 60 fits 20000
 
+pub script_field : IsSend Script.the_field.row
+script_field = search (action_send, mode.the_field_send, triggers) depth 60 fits 20000
+
+pub script_send : IsSend Script.the_row
+script_send = search (script_field, sendable) depth 60 fits 20000
+
 pub config_field : IsSend Config.the_field.row
-config_field = search (automation_send, triggers) depth 60 fits 20000
+config_field = search (automation_send, script_send, triggers) depth 60 fits 20000
 
 pub ruleset scripts = (action_send, config_field, triggers)

@@ -4,4 +4,5 @@ pub mod IdLemmas
 pub mod ListLemmas
 pub mod NameLemmas
 pub mod OrderLemmas
+pub mod UnitLemmas
 pub mod ValueRolls

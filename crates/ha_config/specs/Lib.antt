@@ -6,6 +6,7 @@ pub mod Names
 pub mod Numbers
 pub mod Sound
 pub mod StoreText
+pub mod Units
 pub mod ValueFacts
 pub mod ValueText
 pub mod Words

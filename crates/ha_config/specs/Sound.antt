@@ -31,6 +31,7 @@ use Rattle.ha_config.specs.declared.config.ActionKind.TheOpen.{ActionKind-F}
 use Rattle.ha_config.specs.declared.config.ActionKind.TheFolds.{fold-Action}
 use Rattle.ha_config.specs.declared.config.Automation.{Automation}
 use Rattle.ha_config.specs.declared.config.Config.{Config}
+use Rattle.ha_config.specs.declared.config.Script.{Script}
 use Rattle.ha_config.specs.Words.{Text, comes_before}
 use Rattle.ha_config.specs.Numbers.{is_in_range}
 use Rattle.ha_config.specs.ValueFacts.{all_distinct, is_sound_value, are_sound_pairs}
@@ -209,6 +210,9 @@ is_sound_automation a =
     is_name a.name && nat_le 1 a.max && nat_le a.max 1_000
     && are_sound_triggers a.triggers && are_sound_conditions a.tests && are_sound_actions a.actions
 
+abbrev pub is_sound_script : Script → Bool
+is_sound_script s = is_name s.name && nat_le 1 s.max && nat_le s.max 1_000 && are_sound_actions s.actions
+
 -- ---- what is stored
 
 -- the names are in byte order, each once
@@ -234,9 +238,15 @@ pub record AreSoundMoments (ms : List (Text × ℕ)) : Type 0 where
 -- ---- the whole
 
 -- the names of the automations are distinct object ids, and there are at most 1,024 of them
+abbrev pub are_sound_automations : List Automation → Bool
+are_sound_automations all = nat_le (length all) 1_024 && all_distinct (map (λ a. a.name) all) && list_all is_sound_automation all
+
+-- the same of the scripts
+abbrev pub are_sound_scripts : List Script → Bool
+are_sound_scripts all = nat_le (length all) 1_024 && all_distinct (map (λ s. s.name) all) && list_all is_sound_script all
+
 abbrev pub is_sound_config : Config → Bool
-is_sound_config c =
-    nat_le (length c.automations) 1_024 && all_distinct (map (λ a. a.name) c.automations) && list_all is_sound_automation c.automations
+is_sound_config c = are_sound_automations c.automations && are_sound_scripts c.scripts
 
 abbrev pub IsSoundConfig : Config → Type 0
 IsSoundConfig c = IsTrue (is_sound_config c)

@@ -1,13 +1,28 @@
-//! A configuration as it was read: automations with their triggers, conditions and actions.
+//! A configuration as it was read: automations with their triggers, conditions and actions, and scripts.
 
 use crate::template::Template;
 use ha_clock::Span;
 use ha_value::{EntityId, Many, Num, Value, Word};
 
-/// All automations, in the order of the file. An automation is named elsewhere by its place in this list, from 0.
+/// All automations and all scripts, each in the order of the file. A unit is what has runs: the automations, named elsewhere by their
+/// places in their list, from 0, and behind them the scripts.
 #[derive(Drop)]
 pub struct Config {
     pub automations: Many<Automation>,
+    /// The scripts that calls start by name.
+    pub scripts: Many<Script>,
+}
+
+/// One script, which calls start.
+#[derive(Drop)]
+pub struct Script {
+    /// The object id of `script.NAME`, distinct from every other script's.
+    pub name: Word,
+    /// Its actions; one empty block where none is enabled.
+    pub actions: Many<Action>,
+    pub mode: Mode,
+    /// How many runs may be live at once in the modes queued and parallel, from 1 to 1,000.
+    pub max: u32,
 }
 
 /// One automation.
@@ -28,7 +43,7 @@ pub struct Automation {
     pub initial: Option<bool>,
 }
 
-/// What an attempt does while a run of its automation is live.
+/// What an attempt does while a run of its unit is live.
 #[derive(Clone, Copy, Debug, PartialEq, Eq)]
 pub enum Mode {
     /// It is refused.

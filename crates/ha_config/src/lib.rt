@@ -12,8 +12,8 @@ mod texts;
 
 pub use command::Cmd;
 pub use config::{
-    Action, ActionKind, Automation, Condition, Config, Form, Match, Mode, RepeatKind, SpanForm,
-    Trigger, TriggerRule, Unit,
+    Action, ActionKind, Automation, Condition, Config, Form, Match, Mode, RepeatKind, Script,
+    SpanForm, Trigger, TriggerRule, Unit,
 };
 pub use names::{is_automation, run_name};
 pub use pairs::{first_pair, last_pair};

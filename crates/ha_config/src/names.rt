@@ -1,7 +1,8 @@
 //! The names of runs and of automations.
-ghost use Rattle.std.specs.Prelude.{◌≡◌, ◌<◌, length, IfOk, is_some};
+ghost use Rattle.std.specs.Prelude.{◌≡◌, ◌<◌, ◌++◌, codes, length, IfOk, is_some};
 ghost use Rattle.std.specs.List.{list_any};
 ghost use Rattle.ha_config.specs.Names.{automation_named, name_of};
+ghost use Rattle.ha_config.specs.Units.{units_of};
 ghost use Rattle.ha_config.specs.Words.{same};
 
 use crate::config::{Automation, Config};
@@ -9,14 +10,28 @@ use crate::sameness::same_text;
 use ha_value::{Plain, Word};
 use std::alloc::{AllocError, Global};
 
-/// The name that a call line of the automation's runs has.
-pub fn run_name(alloc: Global, config: &Config, automation: u32) -> Result<Word, AllocError>
-    requires { automation < length config.now.automations }
-    ensures { IfOk result (λ name. name ≡ name_of config.now.automations automation) }
+/// The name of a script's runs, `script.NAME`.
+fn script_run(alloc: Global, name: &Word) -> Result<Word, AllocError>
+    ensures { IfOk result (λ made. made ≡ codes "script." ++ name.now) }
 {
-    config.automations.as_slice()[automation as usize]
-        .name
-        .copy(alloc)
+    let mut made = Word::with_room(alloc, name.len().saturating_add(7))?;
+    made.push_str("script.")?;
+    made.push_bytes(name.bytes())?;
+    Ok(made)
+}
+
+/// The name that a call line of the unit's runs has.
+pub fn run_name(alloc: Global, config: &Config, unit: u32) -> Result<Word, AllocError>
+    requires { unit < length (units_of config.now) }
+    ensures { IfOk result (λ name. name ≡ name_of (units_of config.now) unit) }
+{
+    let at = unit as usize;
+    let automations = config.automations.as_slice();
+    if at < automations.len() {
+        return automations[at].name.copy(alloc);
+    }
+    let scripts = config.scripts.as_slice();
+    script_run(alloc, &scripts[at - automations.len()].name)
 }
 
 /// Whether one of the automations has this name.

@@ -7,12 +7,12 @@ use Rattle.ha_config.specs.declared.config.Action.{Action}
 use Rattle.ha_config.specs.declared.config.Mode.{Mode}
 use Rattle.ha_model.specs.declared.record.Record.{Record}
 use Rattle.ha_config.specs.Words.{Pairs}
-use Rattle.ha_journal.specs.Journal.{Journal, automations, last_place}
+use Rattle.ha_journal.specs.Journal.{Journal, last_place, units}
 use Rattle.ha_sight.specs.Scripts.{Branch}
-use Rattle.ha_model.specs.Records.{Records, actions_of, is_restart_mode, lets_in, live_count}
+use Rattle.ha_model.specs.Records.{CallEnds, Records, actions_of, spots, is_restart_mode, lets_in, live_count}
 use Rattle.ha_model.specs.RunSteps.{joined}
 use Rattle.run_modes.specs.Fits.{AreNumbered}
-use Rattle.run_modes.specs.Table.{admission, attempted, begin_now, live_of, new_run, told}
+use Rattle.run_modes.specs.Table.{admission, attempted, begin_now, live_of, new_run, told as says}
 use Rattle.script_step.specs.Frames.{began_by, begins}
 use Rattle.script_step.specs.Gates.{first_fronts}
 use Rattle.script_step.specs.declared.frames.Frames.{Frames}
@@ -25,25 +25,29 @@ use Rattle.run_modes.proofs.TableLemmas.{live-length}
 use Rattle.ha_engine.specs.declared.admit.Prepared.{Prepared}
 use Rattle.ha_engine.specs.Admits.{ArePrepared, IsPrepared, branches_if, from_end, gone_by, has_action, left_by, pairs_by, IsNumbered, OneSlot, SlotsBy}
 use Rattle.engine_parts.specs.Fronts.{Stands, fronts}
-use Rattle.engine_parts.specs.Kept.{Gone, RunsKept, nobody}
+use Rattle.script_calls.specs.Waiting.{Waiting}
+use Rattle.engine_parts.specs.Called.{AreAlike, AreAwaited, CallsKept, told_by}
+use Rattle.engine_parts.specs.Kept.{Gone, RunsKept, SlotBut, nobody}
 use Rattle.ha_ready.specs.RunPast.{AllPast, BeginBefore, IsPast}
-use Rattle.ha_ready.specs.ReadyPairs.{ready_branches, pairs_of}
+use Rattle.ha_ready.specs.ReadyPairs.{ready_with, pairs_of}
 use Rattle.engine_parts.specs.Records.{AreEnded, IsTable, first_branches}
-use Rattle.engine_parts.proofs.FreshLemmas.{run-added, fresh-live, fresh-branches}
+use Rattle.engine_parts.proofs.CalledLemmas.{calls-alike, calls-joined, ended-alike, told-alike, told-joined}
+use Rattle.engine_parts.proofs.ForgetLemmas.{slots-length}
+use Rattle.engine_parts.proofs.FreshLemmas.{fresh-branches, fresh-live, nowhere, run-added}
 use Rattle.engine_parts.proofs.GoneLemmas.{gone-ended}
 use Rattle.ha_engine.proofs.LiveLemmas.{replaced-ended, replaced-numbered, replaced-length, replaced-past, same-ended}
-use Rattle.ha_ready.proofs.RunPast.{queued-rests, resting}
+use Rattle.ha_ready.proofs.RunPast.{queued-rests, resting-with}
 
 left-length : (restart : Bool) (a place : ℕ) (rs : Records) → length (left_by restart a place rs) ≡ length rs
 left-length true a place rs = replaced-length a place rs
 left-length false a place rs = refl
 
 -- LAW: those that are replaced went
-pub left-ended : (mode : Mode) (a place : ℕ) (rs : Records) → AreNumbered 0 rs → AreEnded (gone_by mode a rs) rs (left_by (is_restart_mode mode) a place rs)
+pub left-ended : (mode : Mode) (a place : ℕ) (rs : Records) → AreNumbered 0 rs → AreEnded (gone_by mode a rs) place rs (left_by (is_restart_mode mode) a place rs)
 left-ended Mode.Restart a place rs num = replaced-ended a place 0 rs num
-left-ended Mode.Single a place rs num = same-ended rs
-left-ended Mode.Queued a place rs num = same-ended rs
-left-ended Mode.Parallel a place rs num = same-ended rs
+left-ended Mode.Single a place rs num = same-ended place rs
+left-ended Mode.Queued a place rs num = same-ended place rs
+left-ended Mode.Parallel a place rs num = same-ended place rs
 
 pub left-table : (restart : Bool) (a place : ℕ) (k : Journal) (rs : Records) → place < length k → IsTable k rs → IsTable k (left_by restart a place rs)
 left-table true a place k rs lt table = record {
@@ -102,7 +106,7 @@ module _ (k : Journal) (rs : Records) (table : IsTable k rs) (a : ℕ) (mode : M
         unstepped = λ s p behind. mid.unstepped s p (omega (arith, behind, length-snoc left new));
       }
 
-  module _ (f : Frames) (serial : f.serial ≡ suc (length rs)) (stands : Stands f (actions_of (automations k) a) env []) (first : fronts f [] ≡ first_fronts (actions_of (automations k) a)) where
+  module _ (f : Frames) (serial : f.serial ≡ suc (length rs)) (stands : Stands f (actions_of (units k) a) env []) (first : fronts f [] ≡ first_fronts (actions_of (units k) a)) where
     mid : IsTable k left
     mid = left-table (is_restart_mode mode) a place k rs here table
 
@@ -110,19 +114,19 @@ module _ (k : Journal) (rs : Records) (table : IsTable k rs) (a : ℕ) (mode : M
     own = ap suc (sym (left-length (is_restart_mode mode) a place rs))
 
     -- LAW: the new run is kept, with its outer branch where it begins, and with none where it waits
-    pub joined-kept : f.automation ≡ a → (delays : List Timer) (w : Waits) (os : List (Option Frames)) (pairs : List (ℕ × Branch)) (bs : List Branch) → ready_branches left k new ≡ bs → RunsKept (gone_by mode a rs) k rs delays w os pairs
-        → RunsKept nobody k (left ++ (new ∷ [])) delays w (os ++ (Some f ∷ [])) (pairs ++ pairs_of (suc (length rs)) bs)
-    joined-kept whose delays w os pairs bs is kept =
-        subst (λ n. RunsKept nobody k (left ++ (new ∷ [])) delays w (os ++ (Some f ∷ [])) (pairs ++ pairs_of (suc n) bs)) (left-length (is_restart_mode mode) a place rs)
-        (run-added k left delays w new f os pairs bs (fresh-live k left mid new f own stands first delays w refl serial whose) is
-        (gone-ended (gone_by mode a rs) k delays w rs left os pairs mid.past table.numbered (left-ended mode a place rs table.numbered) kept))
+    pub joined-kept : (told : CallEnds) → f.automation ≡ a → (delays : List Timer) (w : Waits) (os : List (Option Frames)) (pairs : List (ℕ × Branch)) (bs : List Branch) → ready_with told k new ≡ bs → RunsKept told (gone_by mode a rs) k rs delays w os pairs
+        → RunsKept told nobody k (left ++ (new ∷ [])) delays w (os ++ (Some f ∷ [])) (pairs ++ pairs_of (suc (length rs)) bs)
+    joined-kept told whose delays w os pairs bs is kept =
+        subst (λ n. RunsKept told nobody k (left ++ (new ∷ [])) delays w (os ++ (Some f ∷ [])) (pairs ++ pairs_of (suc n) bs)) (left-length (is_restart_mode mode) a place rs)
+        (run-added told k left delays w new f os pairs bs (fresh-live told k left mid new f own stands first delays w refl serial whose) is
+        (gone-ended told (gone_by mode a rs) place k delays w rs left os pairs mid.past table.numbered (left-ended mode a place rs table.numbered) kept))
 
-    pub begun-branches : begin_now mode (live_count a rs) place ≡ Some place → ready_branches left k new ≡ first_branches (actions_of (automations k) a)
-    begun-branches begun = fresh-branches k left mid new f own stands first left
+    pub begun-branches : (told : CallEnds) → begin_now mode (live_count a rs) place ≡ Some place → ready_with told k new ≡ first_branches (actions_of (units k) a)
+    begun-branches told begun = fresh-branches told k left mid new f own stands first
         ((λ i. option_map_or (λ b. nat_lt b (length k)) (begun i) false && true) ∙ (λ i. is-less place (length k) here i && true))
 
-    pub waiting-branches : begin_now mode (live_count a rs) place ≡ None → ready_branches left k new ≡ []
-    waiting-branches waits = resting left k new (queued-rests (length k) new waits)
+    pub waiting-branches : (told : CallEnds) → begin_now mode (live_count a rs) place ≡ None → ready_with told k new ≡ []
+    waiting-branches told waits = resting-with told k new (queued-rests (length k) new waits)
 
 -- ---- what an attempt is told
 
@@ -151,7 +155,7 @@ record Waits' (mode : Mode) (live place s : ℕ) (f : Frames) (acts : Bool) (sai
   slots : (os os' : List (Option Frames)) → SlotsBy said f os os' → OneSlot s f os os'
   pairs : pairs_by said acts ≡ []
 
-begins-or-waits : (mode : Mode) (live : List ℕ) (place s : ℕ) (f : Frames) (acts : Bool) → Begins mode (length live) place s f acts (told mode s (first_of live)) ⊎ Waits' mode (length live) place s f acts (told mode s (first_of live))
+begins-or-waits : (mode : Mode) (live : List ℕ) (place s : ℕ) (f : Frames) (acts : Bool) → Begins mode (length live) place s f acts (says mode s (first_of live)) ⊎ Waits' mode (length live) place s f acts (says mode s (first_of live))
 begins-or-waits Mode.Single live place s f acts = inl (record { begun = refl; slots = λ os os' h. h; pairs = refl })
 begins-or-waits Mode.Parallel live place s f acts = inl (record { begun = refl; slots = λ os os' h. h; pairs = refl })
 begins-or-waits Mode.Restart [] place s f acts = inl (record { begun = refl; slots = λ os os' h. h; pairs = refl })
@@ -160,70 +164,149 @@ begins-or-waits Mode.Queued [] place s f acts = inl (record { begun = refl; slot
 begins-or-waits Mode.Queued (o ∷ live) place s f acts = inr (record { waiting = (let off : nat_eq (suc (length live)) 0 ≡ false = search rules in λ i. if off i then Some place else None); slots = λ os os' h. h; pairs = refl })
 
 module _ (k : Journal) (rs : Records) (table : IsTable k rs) (a : ℕ) (mode : Mode) (place order : ℕ) (env : Pairs) (here : place < length k) (f : Frames) (acts : Bool)
-    (stands : Stands f (actions_of (automations k) a) env []) (first : fronts f [] ≡ first_fronts (actions_of (automations k) a)) (act : acts ≡ has_action (actions_of (automations k) a)) (whose : f.automation ≡ a) where
-  own_stands : (g : Frames) → IsNumbered (suc (length rs)) f g → Stands g (actions_of (automations k) a) env []
-  own_stands g same = record { items = stands.items; stands = same.stands (actions_of (automations k) a) env [] stands.items stands.stands }
+    (stands : Stands f (actions_of (units k) a) env []) (first : fronts f [] ≡ first_fronts (actions_of (units k) a)) (act : acts ≡ has_action (actions_of (units k) a)) (whose : f.automation ≡ a) where
+  own_stands : (g : Frames) → IsNumbered (suc (length rs)) f g → Stands g (actions_of (units k) a) env []
+  own_stands g same = record { items = stands.items; stands = same.stands (actions_of (units k) a) env [] stands.items stands.stands }
 
-  own_first : (g : Frames) → IsNumbered (suc (length rs)) f g → fronts g [] ≡ first_fronts (actions_of (automations k) a)
+  own_first : (g : Frames) → IsNumbered (suc (length rs)) f g → fronts g [] ≡ first_fronts (actions_of (units k) a)
   own_first g same = same.fronts (began_by begins []) ∙ first
 
   -- LAW: behind an attempt that is admitted
-  admitted-kept : (delays : List Timer) (w : Waits) (os os' : List (Option Frames)) (pairs : List (ℕ × Branch)) (said : Admission) → said ≡ told mode (suc (length rs)) (first_of (live_of a rs)) → SlotsBy said f os os'
-      → RunsKept (gone_by mode a rs) k rs delays w os pairs → RunsKept nobody k (joined mode a place rs (new_run rs a mode place order env)) delays w os' (pairs ++ pairs_by said acts)
-  admitted-kept delays w os os' pairs said is slots kept =
-      subst (λ (t : Admission). RunsKept nobody k (joined mode a place rs (new_run rs a mode place order env)) delays w os' (pairs ++ pairs_by t acts)) (sym is)
-      (by (told mode (suc (length rs)) (first_of (live_of a rs))) (begins-or-waits mode (live_of a rs) place (suc (length rs)) f acts) (subst (λ (t : Admission). SlotsBy t f os os') is slots))
+  admitted-kept : (told : CallEnds) → (delays : List Timer) (w : Waits) (os os' : List (Option Frames)) (pairs : List (ℕ × Branch)) (said : Admission) → said ≡ says mode (suc (length rs)) (first_of (live_of a rs)) → SlotsBy said f os os'
+      → RunsKept told (gone_by mode a rs) k rs delays w os pairs → RunsKept told nobody k (joined mode a place rs (new_run rs a mode place order env)) delays w os' (pairs ++ pairs_by said acts)
+  admitted-kept told delays w os os' pairs said is slots kept =
+      subst (λ (t : Admission). RunsKept told nobody k (joined mode a place rs (new_run rs a mode place order env)) delays w os' (pairs ++ pairs_by t acts)) (sym is)
+      (by (says mode (suc (length rs)) (first_of (live_of a rs))) (begins-or-waits mode (live_of a rs) place (suc (length rs)) f acts) (subst (λ (t : Admission). SlotsBy t f os os') is slots))
     where
       count : length (live_of a rs) ≡ live_count a rs
       count = sym (live-length a rs)
 
       by : (t : Admission) → Begins mode (length (live_of a rs)) place (suc (length rs)) f acts t ⊎ Waits' mode (length (live_of a rs)) place (suc (length rs)) f acts t → SlotsBy t f os os'
-          → RunsKept nobody k (joined mode a place rs (new_run rs a mode place order env)) delays w os' (pairs ++ pairs_by t acts)
+          → RunsKept told nobody k (joined mode a place rs (new_run rs a mode place order env)) delays w os' (pairs ++ pairs_by t acts)
       by t (inl b) slots =
           (let begun : begin_now mode (live_count a rs) place ≡ Some place = ap (λ n. begin_now mode n place) (sym count) ∙ b.begun in
-          let bs : List Branch = first_branches (actions_of (automations k) a) in
+          let bs : List Branch = first_branches (actions_of (units k) a) in
           let one : OneSlot (suc (length rs)) f os os' = b.slots os os' slots in
-          let made = joined-kept k rs table a mode place order env here one.0 one.2.serial (own_stands one.0 one.2) (own_first one.0 one.2) (one.2.automation ∙ whose) delays w os pairs bs
-          (begun-branches k rs table a mode place order env here one.0 one.2.serial (own_stands one.0 one.2) (own_first one.0 one.2) begun) kept in
-          let more : pairs_of (suc (length rs)) bs ≡ pairs_by t acts = ap (pairs_of (suc (length rs))) (first-is (actions_of (automations k) a) ∙ ap branches_if (sym act)) ∙ sym b.pairs in
-          subst (λ (l : List (Option Frames)). RunsKept nobody k (joined mode a place rs (new_run rs a mode place order env)) delays w l (pairs ++ pairs_by t acts)) (sym one.1)
-          (subst (λ (l : List (ℕ × Branch)). RunsKept nobody k (joined mode a place rs (new_run rs a mode place order env)) delays w (os ++ (Some one.0 ∷ [])) (pairs ++ l)) more made))
+          let made = joined-kept k rs table a mode place order env here one.0 one.2.serial (own_stands one.0 one.2) (own_first one.0 one.2) told (one.2.automation ∙ whose) delays w os pairs bs
+          (begun-branches k rs table a mode place order env here one.0 one.2.serial (own_stands one.0 one.2) (own_first one.0 one.2) told begun) kept in
+          let more : pairs_of (suc (length rs)) bs ≡ pairs_by t acts = ap (pairs_of (suc (length rs))) (first-is (actions_of (units k) a) ∙ ap branches_if (sym act)) ∙ sym b.pairs in
+          subst (λ (l : List (Option Frames)). RunsKept told nobody k (joined mode a place rs (new_run rs a mode place order env)) delays w l (pairs ++ pairs_by t acts)) (sym one.1)
+          (subst (λ (l : List (ℕ × Branch)). RunsKept told nobody k (joined mode a place rs (new_run rs a mode place order env)) delays w (os ++ (Some one.0 ∷ [])) (pairs ++ l)) more made))
       by t (inr b) slots =
           (let waits : begin_now mode (live_count a rs) place ≡ None = ap (λ n. begin_now mode n place) (sym count) ∙ b.waiting in
           let one : OneSlot (suc (length rs)) f os os' = b.slots os os' slots in
-          let made = joined-kept k rs table a mode place order env here one.0 one.2.serial (own_stands one.0 one.2) (own_first one.0 one.2) (one.2.automation ∙ whose) delays w os pairs []
-          (waiting-branches k rs table a mode place order env here one.0 one.2.serial (own_stands one.0 one.2) (own_first one.0 one.2) waits) kept in
-          subst (λ (l : List (Option Frames)). RunsKept nobody k (joined mode a place rs (new_run rs a mode place order env)) delays w l (pairs ++ pairs_by t acts)) (sym one.1)
-          (subst (λ (l : List (ℕ × Branch)). RunsKept nobody k (joined mode a place rs (new_run rs a mode place order env)) delays w (os ++ (Some one.0 ∷ [])) (pairs ++ l)) (sym b.pairs) made))
+          let made = joined-kept k rs table a mode place order env here one.0 one.2.serial (own_stands one.0 one.2) (own_first one.0 one.2) told (one.2.automation ∙ whose) delays w os pairs []
+          (waiting-branches k rs table a mode place order env here one.0 one.2.serial (own_stands one.0 one.2) (own_first one.0 one.2) told waits) kept in
+          subst (λ (l : List (Option Frames)). RunsKept told nobody k (joined mode a place rs (new_run rs a mode place order env)) delays w l (pairs ++ pairs_by t acts)) (sym one.1)
+          (subst (λ (l : List (ℕ × Branch)). RunsKept told nobody k (joined mode a place rs (new_run rs a mode place order env)) delays w (os ++ (Some one.0 ∷ [])) (pairs ++ l)) (sym b.pairs) made))
 
   -- LAW: behind an attempt all runs are kept
-  pub attempted-runs : (max : ℕ) (said : Admission) → said ≡ admission a mode max rs → (delays : List Timer) (w : Waits) (os os' : List (Option Frames)) (pairs : List (ℕ × Branch)) → SlotsBy said f os os'
-      → RunsKept (gone_by mode a rs) k rs delays w os pairs
-      → IsTable k (attempted a mode max place order env rs) × RunsKept nobody k (attempted a mode max place order env rs) delays w os' (pairs ++ pairs_by said acts)
-  attempted-runs max said answer delays w os os' pairs slots kept = by (lets_in mode max (live_count a rs)) refl answer
+  pub attempted-runs : (told : CallEnds) (max : ℕ) (said : Admission) → said ≡ admission a mode max rs → (delays : List Timer) (w : Waits) (os os' : List (Option Frames)) (pairs : List (ℕ × Branch)) → SlotsBy said f os os'
+      → RunsKept told (gone_by mode a rs) k rs delays w os pairs
+      → IsTable k (attempted a mode max place order env rs) × RunsKept told nobody k (attempted a mode max place order env rs) delays w os' (pairs ++ pairs_by said acts)
+  attempted-runs told max said answer delays w os os' pairs slots kept = by (lets_in mode max (live_count a rs)) refl answer
     where
-      by : (b : Bool) → lets_in mode max (live_count a rs) ≡ b → said ≡ (if b then told mode (suc (length rs)) (first_of (live_of a rs)) else Admission.Refused)
+      by : (b : Bool) → lets_in mode max (live_count a rs) ≡ b → said ≡ (if b then says mode (suc (length rs)) (first_of (live_of a rs)) else Admission.Refused)
           → IsTable k (if b then joined mode a place rs (new_run rs a mode place order env) else rs)
-          × RunsKept nobody k (if b then joined mode a place rs (new_run rs a mode place order env) else rs) delays w os' (pairs ++ pairs_by said acts)
-      by true e is = (joined-table k rs table a mode place order env here, admitted-kept delays w os os' pairs said is slots kept)
+          × RunsKept told nobody k (if b then joined mode a place rs (new_run rs a mode place order env) else rs) delays w os' (pairs ++ pairs_by said acts)
+      by true e is = (joined-table k rs table a mode place order env here, admitted-kept told delays w os os' pairs said is slots kept)
       by false e is = (
         table,
-        subst (λ (t : Admission). RunsKept nobody k rs delays w os' (pairs ++ pairs_by t acts)) (sym is)
+        subst (λ (t : Admission). RunsKept told nobody k rs delays w os' (pairs ++ pairs_by t acts)) (sym is)
             (let same : os' ≡ os = subst (λ (t : Admission). SlotsBy t f os os') is slots in
-            subst (λ (l : List (Option Frames)). RunsKept nobody k rs delays w l (pairs ++ [])) (sym same)
-            (subst (λ (l : List (ℕ × Branch)). RunsKept nobody k rs delays w os l) (sym (append-nil pairs))
-            (subst (λ (g : Gone). RunsKept g k rs delays w os pairs) (not-restart mode max (live_count a rs) a rs e) kept))),
+            subst (λ (l : List (Option Frames)). RunsKept told nobody k rs delays w l (pairs ++ [])) (sym same)
+            (subst (λ (l : List (ℕ × Branch)). RunsKept told nobody k rs delays w os l) (sym (append-nil pairs))
+            (subst (λ (g : Gone). RunsKept told g k rs delays w os pairs) (not-restart mode max (live_count a rs) a rs e) kept))),
       )
 
+  -- LAW: what is told of called runs is the same
+  pub attempted-told : (max : ℕ) → place ≡ last_place k → told_by (gone_by mode a rs) k rs ≡ told_by nobody k (attempted a mode max place order env rs)
+  attempted-told max at = by (lets_in mode max (live_count a rs)) refl
+    where
+      ended : AreAlike (gone_by mode a rs) (last_place k) rs (left_by (is_restart_mode mode) a place rs)
+      ended = ended-alike (gone_by mode a rs) (last_place k) rs (left_by (is_restart_mode mode) a place rs)
+          (subst (λ q. AreEnded (gone_by mode a rs) q rs (left_by (is_restart_mode mode) a place rs)) at (left-ended mode a place rs table.numbered))
+
+      by : (b : Bool) → lets_in mode max (live_count a rs) ≡ b → told_by (gone_by mode a rs) k rs ≡ told_by nobody k (if b then joined mode a place rs (new_run rs a mode place order env) else rs)
+      by true e =
+          told-alike (gone_by mode a rs) k rs (left_by (is_restart_mode mode) a place rs) ended
+          ∙ sym (told-joined k (left_by (is_restart_mode mode) a place rs) (new_run rs a mode place order env) at refl)
+      by false e = ap (λ (g : Gone). told_by g k rs) (not-restart mode max (live_count a rs) a rs e)
+
+  -- at a begin nothing is awaited
+  first-awaited : (told : CallEnds) (all : Records) (waiting : Waiting) (s : ℕ) (actions : List Action) → AreAwaited told all waiting s (first_fronts actions)
+  first-awaited told all waiting s [] = tt
+  first-awaited told all waiting s (x ∷ rest) = (tt, tt)
+
+  -- LAW: and so is who waits
+  pub attempted-calls : (max : ℕ) (said : Admission) → said ≡ admission a mode max rs → place ≡ last_place k → (delays : List Timer) (w : Waits) (os os' : List (Option Frames)) (pairs : List (ℕ × Branch)) (waiting : Waiting) → SlotsBy said f os os'
+      → RunsKept (told_by (gone_by mode a rs) k rs) (gone_by mode a rs) k rs delays w os pairs → CallsKept (told_by (gone_by mode a rs) k rs) k rs waiting os
+      → CallsKept (told_by nobody k (attempted a mode max place order env rs)) k (attempted a mode max place order env rs) waiting os'
+  attempted-calls max said answer at delays w os os' pairs waiting slots kept calls = by (lets_in mode max (live_count a rs)) refl answer
+    where
+      ended : AreAlike (gone_by mode a rs) (last_place k) rs (left_by (is_restart_mode mode) a place rs)
+      ended = ended-alike (gone_by mode a rs) (last_place k) rs (left_by (is_restart_mode mode) a place rs)
+          (subst (λ q. AreEnded (gone_by mode a rs) q rs (left_by (is_restart_mode mode) a place rs)) at (left-ended mode a place rs table.numbered))
+
+      mid : IsTable k (left_by (is_restart_mode mode) a place rs)
+      mid = left-table (is_restart_mode mode) a place k rs here table
+
+      behind : CallsKept (told_by nobody k (left_by (is_restart_mode mode) a place rs)) k (left_by (is_restart_mode mode) a place rs) waiting os
+      behind = calls-alike (gone_by mode a rs) k rs (left_by (is_restart_mode mode) a place rs) delays w os waiting table.numbered ended kept.slots calls
+
+      own : (new_run rs a mode place order env).serial ≡ suc (length (left_by (is_restart_mode mode) a place rs))
+      own = ap suc (sym (left-length (is_restart_mode mode) a place rs))
+
+      size : length os ≡ length (left_by (is_restart_mode mode) a place rs)
+      size = slots-length (SlotBut (gone_by mode a rs) (told_by (gone_by mode a rs) k rs) k delays w) rs os kept.slots ∙ sym (left-length (is_restart_mode mode) a place rs)
+
+      with-one : (g : Frames) → IsNumbered (suc (length rs)) f g → CallsKept (told_by nobody k (joined mode a place rs (new_run rs a mode place order env))) k (joined mode a place rs (new_run rs a mode place order env)) waiting (os ++ (Some g ∷ []))
+      with-one g same =
+          (let none : spots k (new_run rs a mode place order env).serial ≡ [] = nowhere (told_by nobody k rs) k (left_by (is_restart_mode mode) a place rs) mid (new_run rs a mode place order env) g own in
+          calls-joined k (left_by (is_restart_mode mode) a place rs) (new_run rs a mode place order env) g os waiting at refl own size
+          (subst (λ F. AreAwaited (told_by nobody k (left_by (is_restart_mode mode) a place rs)) (joined mode a place rs (new_run rs a mode place order env)) waiting (suc (length rs)) F)
+          (sym (ap (fronts g) none ∙ own_first g same))
+          (first-awaited (told_by nobody k (left_by (is_restart_mode mode) a place rs)) (joined mode a place rs (new_run rs a mode place order env)) waiting (suc (length rs)) (actions_of (units k) a))) behind)
+
+      one-slot : Begins mode (length (live_of a rs)) place (suc (length rs)) f acts said ⊎ Waits' mode (length (live_of a rs)) place (suc (length rs)) f acts said → OneSlot (suc (length rs)) f os os'
+      one-slot (inl b) = b.slots os os' slots
+      one-slot (inr b) = b.slots os os' slots
+
+      by : (b : Bool) → lets_in mode max (live_count a rs) ≡ b → said ≡ (if b then says mode (suc (length rs)) (first_of (live_of a rs)) else Admission.Refused)
+          → CallsKept (told_by nobody k (if b then joined mode a place rs (new_run rs a mode place order env) else rs)) k (if b then joined mode a place rs (new_run rs a mode place order env) else rs) waiting os'
+      by true e is =
+          (let one = one-slot (subst (λ (t : Admission). Begins mode (length (live_of a rs)) place (suc (length rs)) f acts t ⊎ Waits' mode (length (live_of a rs)) place (suc (length rs)) f acts t) (sym is)
+          (begins-or-waits mode (live_of a rs) place (suc (length rs)) f acts)) in
+          subst (λ (l : List (Option Frames)). CallsKept (told_by nobody k (joined mode a place rs (new_run rs a mode place order env))) k (joined mode a place rs (new_run rs a mode place order env)) waiting l) (sym one.1) (with-one one.0 one.2))
+      by false e is =
+          (let same : os' ≡ os = subst (λ (t : Admission). SlotsBy t f os os') is slots in
+          subst (λ (l : List (Option Frames)). CallsKept (told_by nobody k rs) k rs waiting l) (sym same)
+          (subst (λ (g : Gone). CallsKept (told_by g k rs) k rs waiting os) (not-restart mode max (live_count a rs) a rs e) calls))
+
 -- LAW: so it is with one that is prepared
-pub prepared-kept : (k : Journal) (rs : Records) → IsTable k rs → (x : ℕ × Attempt) (p : Prepared) → IsPrepared k x p → (place : ℕ) → place < length k → (said : Admission) → said ≡ admission p.automation p.mode p.max rs
-    → (delays : List Timer) (w : Waits) (os os' : List (Option Frames)) (pairs : List (ℕ × Branch)) → SlotsBy said p.frames.value os os' → RunsKept (gone_by p.mode p.automation rs) k rs delays w os pairs
-    → IsTable k (attempted p.automation p.mode p.max place p.order p.env rs) × RunsKept nobody k (attempted p.automation p.mode p.max place p.order p.env rs) delays w os' (pairs ++ pairs_by said p.acts)
-prepared-kept k rs table x p is place here said answer delays w os os' pairs slots kept =
-    let script : actions_of (automations k) x.1.automation ≡ actions_of (automations k) p.automation = ap (actions_of (automations k)) (sym is.automation) in
+pub prepared-kept : (told : CallEnds) (k : Journal) (rs : Records) → IsTable k rs → (x : ℕ × Attempt) (p : Prepared) → IsPrepared k x p → (place : ℕ) → place < length k → (said : Admission) → said ≡ admission p.automation p.mode p.max rs
+    → (delays : List Timer) (w : Waits) (os os' : List (Option Frames)) (pairs : List (ℕ × Branch)) → SlotsBy said p.frames.value os os' → RunsKept told (gone_by p.mode p.automation rs) k rs delays w os pairs
+    → IsTable k (attempted p.automation p.mode p.max place p.order p.env rs) × RunsKept told nobody k (attempted p.automation p.mode p.max place p.order p.env rs) delays w os' (pairs ++ pairs_by said p.acts)
+prepared-kept told k rs table x p is place here said answer delays w os os' pairs slots kept =
+    let script : actions_of (units k) x.1.automation ≡ actions_of (units k) p.automation = ap (actions_of (units k)) (sym is.automation) in
     attempted-runs k rs table p.automation p.mode place p.order p.env here p.frames.value p.acts
-    (subst (λ (actions : List Action). Stands p.frames.value actions p.env []) script (subst (λ (env : Pairs). Stands p.frames.value (actions_of (automations k) x.1.automation) env []) (sym is.env) is.stands))
-    (is.first ∙ ap first_fronts script) (is.acts ∙ ap has_action script) (is.script ∙ sym is.automation) p.max said answer delays w os os' pairs slots kept
+    (subst (λ (actions : List Action). Stands p.frames.value actions p.env []) script (subst (λ (env : Pairs). Stands p.frames.value (actions_of (units k) x.1.automation) env []) (sym is.env) is.stands))
+    (is.first ∙ ap first_fronts script) (is.acts ∙ ap has_action script) (is.script ∙ sym is.automation) told p.max said answer delays w os os' pairs slots kept
+
+-- LAW: and what is told of called runs, and who waits, is so too
+pub prepared-calls : (k : Journal) (rs : Records) → IsTable k rs → (x : ℕ × Attempt) (p : Prepared) → IsPrepared k x p → (place : ℕ) → place < length k → place ≡ last_place k → (said : Admission) → said ≡ admission p.automation p.mode p.max rs
+    → (delays : List Timer) (w : Waits) (os os' : List (Option Frames)) (pairs : List (ℕ × Branch)) (waiting : Waiting) → SlotsBy said p.frames.value os os'
+    → RunsKept (told_by (gone_by p.mode p.automation rs) k rs) (gone_by p.mode p.automation rs) k rs delays w os pairs → CallsKept (told_by (gone_by p.mode p.automation rs) k rs) k rs waiting os
+    → (told_by (gone_by p.mode p.automation rs) k rs ≡ told_by nobody k (attempted p.automation p.mode p.max place p.order p.env rs))
+    × CallsKept (told_by nobody k (attempted p.automation p.mode p.max place p.order p.env rs)) k (attempted p.automation p.mode p.max place p.order p.env rs) waiting os'
+prepared-calls k rs table x p is place here at said answer delays w os os' pairs waiting slots kept calls =
+    let script : actions_of (units k) x.1.automation ≡ actions_of (units k) p.automation = ap (actions_of (units k)) (sym is.automation) in
+    let stands : Stands p.frames.value (actions_of (units k) p.automation) p.env []
+    = subst (λ (actions : List Action). Stands p.frames.value actions p.env []) script (subst (λ (env : Pairs). Stands p.frames.value (actions_of (units k) x.1.automation) env []) (sym is.env) is.stands) in (
+      attempted-told k rs table p.automation p.mode place p.order p.env here p.frames.value p.acts stands (is.first ∙ ap first_fronts script) (is.acts ∙ ap has_action script) (is.script ∙ sym is.automation) p.max at,
+      attempted-calls k rs table p.automation p.mode place p.order p.env here p.frames.value p.acts stands (is.first ∙ ap first_fronts script) (is.acts ∙ ap has_action script) (is.script ∙ sym is.automation) p.max said answer at
+          delays w os os' pairs waiting slots kept calls,
+    )
 
 -- LAW: the call is that of the definition
 pub prepared-tried : (k : Journal) (rs : Records) (x : ℕ × Attempt) (p : Prepared) → IsPrepared k x p → (place : ℕ) → place ≡ last_place k → attempted p.automation p.mode p.max place p.order p.env rs ≡ tried k rs x

@@ -7,13 +7,14 @@ use Rattle.ha_journal.specs.declared.entry.Entry.TheVariants.{Step}
 use Rattle.ha_sight.specs.declared.waiting.WaitAsk.{WaitAsk}
 use Rattle.ha_sight.specs.declared.waiting.WaitEnd.{WaitEnd}
 use Rattle.ha_sight.specs.declared.steps.StepOut.{StepOut}
-use Rattle.ha_journal.specs.Journal.{Journal, automations, now, more}
+use Rattle.ha_journal.specs.Journal.{Journal, now, more, units}
 use Rattle.ha_model.specs.Lawful.{is_empty, pick, ready}
 use Rattle.ha_model.specs.Records.{Records, actions_of}
 use Rattle.ha_sight.specs.Scripts.{Ask, Branch}
 use Rattle.ha_config.specs.Sound.{are_sound_actions, are_sound_triggers}
 use Rattle.ha_journal.specs.Moves.{sight}
 use Rattle.ha_ready.specs.Picked.{IsPicked}
+use Rattle.ha_ready.specs.ReadyPairs.{ends_at}
 use Rattle.std.proofs.lemmas.Option.{slice_get_within}
 use Rattle.segment_runs.specs.Goes.{moved_all}
 use Rattle.segment_runs.specs.Segment.{Closed, all_of, runs_of}
@@ -74,7 +75,7 @@ module _ (j : Journal) (rs : Records) (p : Parts) (h : Stepping j rs p) where
           record {
             frames = run.0;
             there = run.1;
-            script = ap (actions_of (automations j)) run.2.automation ∙ sym run.2.stands.stands.script;
+            script = ap (actions_of (units j)) run.2.automation ∙ sym run.2.stands.stands.script;
             may = (λ i. may run.0 b (h.kept.going.sees.looks.now_is i) (wait_is i))
                 ∙ may-step j p.delays p.waits s b told-ends pair.run (own j rs worker s b h.right picks pair) run.0 run.2 rs pair.allowed;
           })
@@ -84,8 +85,8 @@ module _ (j : Journal) (rs : Records) (p : Parts) (h : Stepping j rs p) where
         sound : (ask : WaitAsk) → out.wait ≡ Some ask → IsTrue (are_sound_triggers ask.triggers)
         sound ask e = by (ask_of step.new b) (λ q f. f) (sym e ∙ step.step.wait_is)
           where
-            lives : LiveKept j p.delays p.waits (picked j rs worker s b h.right picks p.delays p.waits p.frames.items p.ready.pairs.items h.kept.going.runs_kept h.kept.going.waits_stand wait wait_is frames'.items out due step).run step.old
-            lives = live j rs worker s b h.right picks p.delays p.waits p.frames.items p.ready.pairs.items h.kept.going.runs_kept h.kept.going.waits_stand wait wait_is frames'.items out due step
+            lives : LiveKept (ends_at j) j p.delays p.waits (picked j rs worker s b h.right picks p.delays p.waits p.frames.items p.ready.pairs.items p.calls h.kept.going.runs_kept h.kept.going.calls_kept h.kept.going.waits_stand wait wait_is frames'.items out due step).run step.old
+            lives = live j rs worker s b h.right picks p.delays p.waits p.frames.items p.ready.pairs.items p.calls h.kept.going.runs_kept h.kept.going.calls_kept h.kept.going.waits_stand wait wait_is frames'.items out due step
 
             script : are_sound_actions step.new.script.value ≡ true
             script = ap are_sound_actions (step.step.steps.script ∙ lives.stands.stands.script) ∙ actions-sound j (the_pair j rs worker s b h.right picks).run.automation h.kept.going.sees.sound
@@ -96,7 +97,7 @@ module _ (j : Journal) (rs : Records) (p : Parts) (h : Stepping j rs p) where
                 (let same : ask ≡ asked_by step.old.serial b (sight j (length j)).now q = cc in
                 true-is (are_sound_triggers ask.triggers) (ap (λ (a : WaitAsk). are_sound_triggers a.triggers) same ∙ ask-sound b step.new.root step.new.script.value q script (is q refl)))
 
-        free-of : (m : StepRuns (more j (Step worker s b out.item)) rs out.progress out.wait due p.waits p.delays frames'.items p.ready.pairs.items) (ask : WaitAsk) → out.wait ≡ Some ask
+        free-of : (m : StepRuns (more j (Step worker s b out.item)) rs out.progress out.wait due p.waits p.delays frames'.items p.ready.pairs.items p.calls) (ask : WaitAsk) → out.wait ≡ Some ask
             → list_any (λ a. is_of ask.serial ask.branch a && is_none a.end) p.waits.asks ≡ false
         free-of m ask e =
             (let whose = m.asked ask e in
@@ -107,8 +108,8 @@ module _ (j : Journal) (rs : Records) (p : Parts) (h : Stepping j rs p) where
         pub pushed : StepPushed (more j (Step worker s b out.item)) rs (record p { frames = frames' }) out.progress out.wait due
         unfolding made
         pushed =
-            (let runs : StepRuns (more j (Step worker s b out.item)) rs out.progress out.wait due p.waits p.delays frames'.items p.ready.pairs.items
-            = made j rs worker s b h.right picks p.delays p.waits p.frames.items p.ready.pairs.items h.kept.going.runs_kept h.kept.going.waits_stand wait wait_is frames'.items out due step in
+            (let runs : StepRuns (more j (Step worker s b out.item)) rs out.progress out.wait due p.waits p.delays frames'.items p.ready.pairs.items p.calls
+            = made j rs worker s b h.right picks p.delays p.waits p.frames.items p.ready.pairs.items p.calls h.kept.going.runs_kept h.kept.going.calls_kept h.kept.going.waits_stand wait wait_is frames'.items out due step in
             let sees = h.kept.going.sees in
             record {
               runs = runs;

@@ -6,36 +6,51 @@ use Rattle.std.proofs.lemmas.Option.{slice_get_within}
 use Rattle.ha_config.specs.declared.config.Automation.{Automation}
 use Rattle.ha_model.specs.declared.record.EndCause.{EndCause}
 use Rattle.ha_model.specs.declared.record.Record.{Record}
-use Rattle.ha_journal.specs.Journal.{Journal, automations}
+use Rattle.ha_journal.specs.Journal.{Journal, units, configured, last_place}
 use Rattle.ha_model.specs.Lawful.{is_running, record_of}
-use Rattle.ha_model.specs.Records.{Records, actions_of, spots}
+use Rattle.ha_model.specs.Records.{CallEnds, Records, actions_of, spots}
 use Rattle.ha_config.specs.Words.{or_else}
 use Rattle.ha_config.specs.Sound.{are_sound_actions}
-use Rattle.ha_ready.specs.ReadyPairs.{branches_at, changed_at, pairs_from, ready_branches}
+use Rattle.ha_ready.specs.ReadyPairs.{branches_with, changed_at, pairs_from, ready_with}
 use Rattle.ha_ready.proofs.RunPast.{begun-runs}
 use Rattle.run_modes.specs.Changes.{after_end}
 use Rattle.run_modes.specs.Table.{begins_at, begun_by, called_on, ended_at}
 use Rattle.run_modes.proofs.ChangeLaws.{called-record, ended-record}
 use Rattle.script_step.proofs.SoundFew.{sound-few}
 use Rattle.engine_parts.specs.declared.parts.Parts.{Parts}
-use Rattle.engine_parts.specs.Kept.{AreSound, Going, left_branches, nobody}
+use Rattle.engine_parts.specs.Called.{AreAlike, CallsKept, told_by}
+use Rattle.engine_parts.specs.Kept.{AreSound, Going, RunsKept, left_branches, nobody}
 use Rattle.engine_parts.specs.Records.{also, first_branches}
 use Rattle.engine_entry.specs.Stepping.{StepEnds}
-use Rattle.engine_entry.proofs.EndLemmas.{called-length, called-table, none-before, none-begun, one-begun}
-use Rattle.ha_engine.proofs.PrepareLemmas.{sound-all, sound-at}
+use Rattle.engine_parts.proofs.CalledLemmas.{calls-alike, told-alike}
+use Rattle.engine_entry.proofs.EndLemmas.{called-length, called-table, end-alike, none-before, none-begun, one-begun}
+use Rattle.ha_engine.proofs.PrepareLemmas.{unit-sound}
 use Rattle.engine_entry.proofs.QueuedLemmas.{Queued, begun-found, first-ready}
 
--- LAW: the script of an automation is sound
-pub actions-sound : (k : Journal) (a : ℕ) → AreSound k → are_sound_actions (actions_of (automations k) a) ≡ true
-actions-sound k a sound = by (slice_get (automations k) a) (sound-at (automations k) a (sound-all (record { automations = automations k }) sound))
+-- LAW: the actions of a unit are sound
+pub actions-sound : (k : Journal) (a : ℕ) → AreSound k → are_sound_actions (actions_of (units k) a) ≡ true
+actions-sound k a sound = by (slice_get (units k) a) (unit-sound (configured k) a sound)
   where
     by : (o : Option Automation) → option_map_or (λ (x : Automation). are_sound_actions x.actions) o true ≡ true → are_sound_actions (option_map_or (λ (x : Automation). x.actions) o []) ≡ true
     by None h = refl
     by (Some x) h = h
 
-module _ (k : Journal) (rs : Records) (s : ℕ) (cause : EndCause) (h : StepEnds k rs s) (p : Parts) (going : Going (also nobody s) k rs p) where
+module _ (k : Journal) (rs : Records) (s : ℕ) (cause : EndCause) (h : StepEnds k rs s) (live : (i : ℕ) (r : Record) → slice_get rs i ≡ Some r → r.serial ≡ s → r.end ≡ None) (p : Parts) (going : Going (also nobody s) k rs p) where
   last : length k ≡ suc (length k - 1)
   last = omega (arith, h.some)
+
+  -- what is told, and who waits, is the same behind
+  alike : AreAlike (also nobody s) (last_place k) rs (ended_at s (length k - 1) cause rs)
+  alike = end-alike s (length k - 1) 0 cause rs h.table.numbered live
+
+  abbrev so : CallEnds
+  so = told_by (also nobody s) k rs
+
+  same-told : so ≡ told_by nobody k (ended_at s (length k - 1) cause rs)
+  same-told = told-alike (also nobody s) k rs (ended_at s (length k - 1) cause rs) alike
+
+  calls-behind : CallsKept (told_by nobody k (ended_at s (length k - 1) cause rs)) k (ended_at s (length k - 1) cause rs) p.calls p.frames.items
+  calls-behind = calls-alike (also nobody s) k rs (ended_at s (length k - 1) cause rs) p.delays p.waits p.frames.items p.calls h.table.numbered alike going.runs_kept.slots going.calls_kept
 
   -- LAW: where nobody waited for it
   pub going-ended : begun_by s rs ≡ None → Going nobody k (ended_at s (length k - 1) cause rs) p
@@ -45,7 +60,9 @@ module _ (k : Journal) (rs : Records) (s : ℕ) (cause : EndCause) (h : StepEnds
     waits_stand = going.waits_stand;
     owned = going.owned;
     keys_early = going.keys_early;
-    runs_kept = none-begun k p.delays p.waits rs h.table.numbered s (length k - 1) cause last p.frames.items p.ready.pairs.items going.runs_kept none;
+    runs_kept = subst (λ (told : CallEnds). RunsKept told nobody k (ended_at s (length k - 1) cause rs) p.delays p.waits p.frames.items p.ready.pairs.items) same-told
+        (none-begun so k p.delays p.waits rs h.table.numbered s (length k - 1) cause last p.frames.items p.ready.pairs.items going.runs_kept none);
+    calls_kept = calls-behind;
   }
 
   -- the run that begins, before and behind
@@ -97,17 +114,17 @@ module _ (k : Journal) (rs : Records) (s : ℕ) (cause : EndCause) (h : StepEnds
     nowhere : spots k new.serial ≡ []
     nowhere = ap (spots k) queued.own ∙ h.nowhere q queued.run found queued.waits queued.live (λ e. omega (arith, e, behind))
 
-    branches : branches_at (ended_at s (length k - 1) cause rs) k q ≡ first_branches (actions_of (automations k) queued.run.automation)
+    branches : branches_with so (ended_at s (length k - 1) cause rs) k q ≡ first_branches (actions_of (units k) queued.run.automation)
     branches =
-        ap (λ o. option_map_or (ready_branches (ended_at s (length k - 1) cause rs) k) o []) found-behind
-        ∙ first-ready (ended_at s (length k - 1) cause rs) k new runs nowhere (sound-few (actions_of (automations k) queued.run.automation) (actions-sound k queued.run.automation going.sees.sound))
+        ap (λ o. option_map_or (ready_with so k) o []) found-behind
+        ∙ first-ready so k new runs nowhere (sound-few (actions_of (units k) queued.run.automation) (actions-sound k queued.run.automation going.sees.sound))
 
-    pub before-none : left_branches (also nobody s) rs k q ≡ []
-    before-none = none-before k p.delays p.waits rs h.table.numbered s (length k - 1) cause last p.frames.items p.ready.pairs.items going.runs_kept q is
+    pub before-none : left_branches (also nobody s) so rs k q ≡ []
+    before-none = none-before so k p.delays p.waits rs h.table.numbered s (length k - 1) cause last p.frames.items p.ready.pairs.items going.runs_kept q is
 
     -- LAW: where one begins, whose pairs are put in
     pub going-begun : (p' : Parts) → p' ≡ record p { ready = p'.ready }
-        → p'.ready.pairs.items ≡ pairs_from 0 (length rs) (changed_at q (first_branches (actions_of (automations k) new.automation)) (left_branches (also nobody s) rs k)) → Going nobody k (ended_at s (length k - 1) cause rs) p'
+        → p'.ready.pairs.items ≡ pairs_from 0 (length rs) (changed_at q (first_branches (actions_of (units k) new.automation)) (left_branches (also nobody s) so rs k)) → Going nobody k (ended_at s (length k - 1) cause rs) p'
     going-begun p' rest pairs =
         subst (Going nobody k (ended_at s (length k - 1) cause rs)) (sym rest)
         (record {
@@ -116,7 +133,9 @@ module _ (k : Journal) (rs : Records) (s : ℕ) (cause : EndCause) (h : StepEnds
           waits_stand = going.waits_stand;
           owned = going.owned;
           keys_early = going.keys_early;
-          runs_kept = one-begun k p.delays p.waits rs h.table.numbered s (length k - 1) cause last p.frames.items p.ready.pairs.items going.runs_kept q (first_branches (actions_of (automations k) queued.run.automation)) p'.ready.pairs.items is branches pairs;
+          runs_kept = subst (λ (told : CallEnds). RunsKept told nobody k (ended_at s (length k - 1) cause rs) p.delays p.waits p.frames.items p'.ready.pairs.items) same-told
+              (one-begun so k p.delays p.waits rs h.table.numbered s (length k - 1) cause last p.frames.items p.ready.pairs.items going.runs_kept q (first_branches (actions_of (units k) queued.run.automation)) p'.ready.pairs.items is branches pairs);
+          calls_kept = calls-behind;
         })
 
 -- LAW: where a call was counted, a run that has not begun has no places

@@ -11,7 +11,7 @@ use Rattle.ha_config.proofs.OrderLemmas.{moments-kept, moments-named}
 use Rattle.ha_journal.specs.declared.entry.Entry.{Entry}
 use Rattle.ha_journal.specs.declared.entry.Entry.TheVariants.{Boot}
 use Rattle.ha_journal.specs.Entries.{first_carry}
-use Rattle.ha_journal.specs.Journal.{Journal, automations}
+use Rattle.ha_journal.specs.Journal.{Journal, automations, units}
 use Rattle.ha_model.specs.Lawful as one
 use Rattle.ha_model.specs.Records as all
 use Rattle.ha_whole.specs.Named.{named}
@@ -61,7 +61,7 @@ module _ (text : Text) (config : Config) (stored : Option Switches) (start : ℕ
   entries : AreEntries k
   entries = (first, tt)
 
-  distinct : all_distinct (names_of (automations k)) ≡ true
+  distinct : all_distinct (names_of (units k)) ≡ true
   distinct = names-differ k sound
 
   module _ (t : SegmentTable) (b : Bounds) (own : t.list ≡ all.records_of k) (closed : t.closed ≡ record { records = []; entries = 0 }) (b_is : Follows b 0 0 1) where

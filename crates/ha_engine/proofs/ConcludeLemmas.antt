@@ -1,6 +1,6 @@
 -- The records of a line that changes no switch, and what is kept behind it.
-use Rattle.std.proofs.Common.{◌≡◌, ℕ, suc, ◌-◌, ◌<◌, ◌≤◌, List, [], ◌∷◌, length, Bool, true, false, refl, sym, ap, subst, ◌∙◌, arith}
-use Rattle.std.specs.Prelude.{Option, Some, None, filter, slice_get}
+use Rattle.std.proofs.Common.{◌≡◌, ℕ, suc, rules, ◌-◌, ◌<◌, ◌≤◌, List, [], ◌∷◌, length, Bool, true, false, refl, sym, ap, subst, ◌∙◌, arith}
+use Rattle.std.specs.Prelude.{Option, Some, None, filter, nat_eq, slice_get, ◌||◌, if◌then◌else◌}
 use Rattle.std.specs.List.{enumerate_from}
 use Rattle.std.specs.Option.{option_map_or}
 use Rattle.ha_value.specs.declared.value.EntityId.{EntityId}
@@ -12,7 +12,8 @@ use Rattle.ha_config.specs.Fair.{IsPlain}
 use Rattle.ha_journal.specs.Commands.{IsFair}
 use Rattle.ha_journal.specs.Journal.{Journal, automations, last_place, more}
 use Rattle.ha_config.specs.Words.{Text, Pairs}
-use Rattle.ha_model.specs.Records.{Records, stops_turned}
+use Rattle.ha_journal.specs.Entries.{Turning, step_of}
+use Rattle.ha_model.specs.Records.{CallEnds, Records, call_end, stops_turned}
 use Rattle.ha_model.specs.RecordSteps.{records_after}
 use Rattle.ha_model.specs.Lawful.{Right}
 use Rattle.ha_model.proofs.LawfulLaws.{right-more}
@@ -25,7 +26,13 @@ use Rattle.run_modes.specs.Fits.{AreNumbered}
 use Rattle.run_laws.proofs.EntryLaws.{by-calls}
 use Rattle.ha_ready.specs.RunPast.{AllPast, BeginBefore, EndBefore}
 use Rattle.ha_model.specs.declared.record.EndCause.{EndCause}
+use Rattle.script_calls.specs.Waiting.{caller_of}
+use Rattle.engine_parts.specs.declared.parts.Parts.{Parts}
+use Rattle.engine_parts.specs.Called.{told_after, told_by}
+use Rattle.engine_parts.specs.Kept.{Going, GoingWith, nobody}
 use Rattle.engine_parts.specs.Records.{IsTable}
+use Rattle.engine_parts.proofs.CalledLemmas.{none-waits, told-whole}
+use Rattle.engine_parts.proofs.WokenLemmas.{calls-after, unwoken-runs}
 use Rattle.ha_ready.specs.Agree.{step_at}
 use Rattle.engine_entry.proofs.EnterLemmas.{plain-leaves}
 use Rattle.ha_ready.proofs.RunPast.{all-past}
@@ -37,7 +44,7 @@ pub plain-records : (j : Journal) (rs : Records) (source number : ℕ) (cmd : Cm
     → all_tried (more j (Line source number cmd)) rs (passing (more j (Line source number cmd))) ≡ records_after j rs (Line source number cmd)
 plain-records j rs source number cmd right plain fair =
     let x : Entry = Line source number cmd in
-    let nobody : AreTurned j x [] = (λ a. ap (stops_turned (automations j) a) (plain-leaves source number cmd plain)) in
+    let nobody : AreTurned j x [] = (λ a. ap (λ (t : Turning). stops_turned (automations j) a t || false) (plain-leaves source number cmd plain)) in
     same-stops cmd plain
     ∙ by-calls j rs x [] right (λ boot. boot) fair nobody ∙ records-more j x ∙ ap (λ l. records_after j l x) (sym right.records_are)
   where
@@ -105,3 +112,33 @@ pub none-told : (k j : Journal) (rs : Records) (source number : ℕ) (cmd : Cmd)
     → passing k ≡ [] → rs ≡ records_after j rs (Line source number cmd)
 none-told k j rs source number cmd is right plain fair none =
     ap (all_tried k rs) (sym none) ∙ ap (λ (i : Journal). all_tried i rs (passing i)) is ∙ plain-records j rs source number cmd right plain fair
+
+-- LAW: behind a line nobody waits for a run that would come next, so all is told
+pub line-whole : (k j : Journal) (rs : Records) (source number : ℕ) (cmd : Cmd) (p : Parts) → k ≡ more j (Line source number cmd) → Right j rs → Going nobody k rs p → GoingWith (call_end rs) nobody k rs p
+line-whole k j rs source number cmd p is right going =
+    let table : IsTable k rs = subst (λ (i : Journal). IsTable i rs) (sym is) (line-table j rs source number cmd right) in
+    let last : last_place k ≡ length j = omega (arith, ap length is, length-more j (Line source number cmd)) in
+    let plain : (s : ℕ) → step_at k s (last_place k) ≡ false = λ s. ap (λ (i : Journal). step_at i s (last_place k)) is ∙ ap (step_at (more j (Line source number cmd)) s) last
+    ∙ (λ i. option_map_or (λ y. option_map_or (λ t. nat_eq t.serial s) (step_of y) false) (get-last j (Line source number cmd) i) false) in
+    let none : caller_of (suc (length rs)) p.calls ≡ None = none-waits k rs p.delays p.waits p.frames.items p.calls table.numbered plain going.runs_kept.slots going.calls_kept in
+    let so : told_after (suc (length rs)) (last_place k) (told_by nobody k rs) rs ≡ call_end rs = told-whole k rs table.numbered in
+    subst (λ (told : CallEnds). GoingWith told nobody k rs p) so (record {
+      sees = going.sees;
+      triggers_stand = going.triggers_stand;
+      waits_stand = going.waits_stand;
+      owned = going.owned;
+      keys_early = going.keys_early;
+      runs_kept = unwoken-runs nobody (told_by nobody k rs) k rs table (suc (length rs)) (last_place k) p.calls p.delays p.waits p.waits p.frames.items going.runs_kept.slots going.calls_kept none
+          p.ready.pairs.items going.runs_kept.pairs_are going.runs_kept.held refl;
+      calls_kept = calls-after (told_by nobody k rs) k rs (suc (length rs)) (last_place k) p.calls p.calls (λ c. unwaited c none) p.frames.items going.calls_kept;
+    })
+  where
+    unwaited : (c : ℕ) → caller_of (suc (length rs)) p.calls ≡ None → caller_of c p.calls ≡ (if nat_eq (suc (length rs)) c then None else caller_of c p.calls)
+    unwaited c none = by (nat_eq (suc (length rs)) c) refl
+      where
+        same : (a b : ℕ) → nat_eq a b ≡ true → a ≡ b
+        same a b e = search (rules, e)
+
+        by : (t : Bool) → nat_eq (suc (length rs)) c ≡ t → caller_of c p.calls ≡ (if t then None else caller_of c p.calls)
+        by true e = ap (λ n. caller_of n p.calls) (sym (same (suc (length rs)) c e)) ∙ none
+        by false e = refl

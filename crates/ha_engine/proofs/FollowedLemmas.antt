@@ -10,7 +10,7 @@ use Rattle.ha_journal.specs.declared.entry.Entry.TheVariants.{Step}
 use Rattle.ha_sight.specs.declared.item.Item.{Item}
 use Rattle.ha_sight.specs.Scripts.{Branch}
 use Rattle.ha_journal.specs.Entries.{is_restart, restarts}
-use Rattle.ha_journal.specs.Journal.{Journal, automations, more}
+use Rattle.ha_journal.specs.Journal.{Journal, automations, more, configured, units}
 use Rattle.ha_model.specs.Lawful as one
 use Rattle.ha_model.specs.Lawful.{pick}
 use Rattle.ha_model.specs.Records as all
@@ -22,21 +22,21 @@ use Rattle.segment_runs.specs.Segment.{SegmentTable, all_of}
 use Rattle.segment_carry.proofs.LawLemmas.{table-records}
 use Rattle.switch_book.specs.Book.{names_of}
 use Rattle.whole_laws.specs.Puts.{IsPut}
-use Rattle.whole_laws.proofs.CutLemmas.{IsCut, is-cut}
+use Rattle.whole_laws.proofs.CutLemmas.{IsCut, is-cut, units-are}
 use Rattle.whole_laws.proofs.LiftLemmas.{entries-have, quiet-is, ready-is, rested-is}
-use Rattle.ha_journal.proofs.MoreLemmas.{automations-more}
+use Rattle.ha_journal.proofs.MoreLemmas.{units-more}
 use Rattle.engine_parts.specs.declared.parts.Parts.{Parts}
 use Rattle.engine_parts.specs.Kept.{AreSound, Kept}
-use Rattle.engine_entry.proofs.NamedLemmas.{sound-distinct}
+use Rattle.ha_config.proofs.UnitLemmas.{units-apart}
 use Rattle.ha_engine.specs.declared.bounds.Bounds.{Bounds}
 use Rattle.ha_engine.specs.Told.{IsFollowed, IsTold}
 use Rattle.ha_engine.specs.Noted.{noted}
 use Rattle.ha_engine.proofs.LastsLemmas.{lasts-more}
 use Rattle.ha_engine.proofs.WholeLemmas.{below-limit, not-opening, on, told-on}
 
--- names of a sound configuration differ
-pub names-differ : (s : Journal) → AreSound s → all_distinct (names_of (automations s)) ≡ true
-names-differ s sound = sound-distinct (automations s) sound
+-- the names of a sound configuration's units differ
+pub names-differ : (s : Journal) → AreSound s → all_distinct (names_of (units s)) ≡ true
+names-differ s sound = units-apart (configured s) sound
 
 module _ (j : Journal) (x : Entry) (b : Bounds) (t t' : SegmentTable) (p p' : Parts) (ls : List (Option ℕ)) (reset : Bool) (is_put : IsPut x) (stays : is_restart x ≡ false) (told : IsTold j b t) (followed : IsFollowed j t.list p ls reset)
     (own : one.Right (more (segment j) (alone (segment j) x)) t'.list) (kept : Kept (more (segment j) (alone (segment j) x)) t'.list p') (closed : t'.closed ≡ t.closed) (room : HasRoom j false) where
@@ -49,10 +49,10 @@ module _ (j : Journal) (x : Entry) (b : Bounds) (t t' : SegmentTable) (p p' : Pa
   c : IsCut j
   c = is-cut j told.lies.entries
 
-  distinct-k : all_distinct (names_of (automations k)) ≡ true
+  distinct-k : all_distinct (names_of (units k)) ≡ true
   distinct-k =
-      (λ i. all_distinct (names_of (sym (automations-more j x (entries-have j told.lies.entries)) i)))
-      ∙ (λ i. all_distinct (names_of (sym c.automations_are i)))
+      (λ i. all_distinct (names_of (sym (units-more j x (entries-have j told.lies.entries)) i)))
+      ∙ (λ i. all_distinct (names_of (sym (units-are j c) i)))
       ∙ names-differ s followed.kept.going.sees.sound
 
   below : length j < b.limit

@@ -7,7 +7,7 @@ use Rattle.ha_config.specs.Names.{name_of}
 use Rattle.ha_config.specs.Words.{last_of, numbers_from, or_else, up_to}
 use Rattle.ha_sight.specs.Scripts.{Spot}
 use Rattle.ha_journal.specs.Attempts.{Attempt, passing}
-use Rattle.ha_journal.specs.Journal.{HasEntry, Journal, automations, last_place, more, now, through}
+use Rattle.ha_journal.specs.Journal.{HasEntry, Journal, automations, last_place, more, now, through, units}
 use Rattle.ha_journal.proofs.MoreLemmas.{automations-more, has-entry, length-more, through-last, through-more}
 use Rattle.ha_model.specs.declared.record.Record.{Record}
 use Rattle.ha_model.specs.Records.{Records, is_restart_mode, lets_in_after, mode_of, new_record, own_ends_on, records_of, spots}
@@ -73,13 +73,13 @@ at-joined p mode n q a b new e h = by (is_restart_mode mode)
 
 at-attempts : (k : Journal) (a b : Records) (xs : List (ℕ × Attempt)) → Grows (last_place k) a b → Grows (last_place k) a (attempt_all k b xs)
 at-attempts k a b [] h = h
-at-attempts k a b (x ∷ xs) h = at-attempts k a (if lets_in_after (automations k) b x.1.automation then one else b) xs (by (lets_in_after (automations k) b x.1.automation))
+at-attempts k a b (x ∷ xs) h = at-attempts k a (if lets_in_after (units k) b x.1.automation then one else b) xs (by (lets_in_after (units k) b x.1.automation))
   where
     one : Records
-    one = joined (mode_of (automations k) x.1.automation) x.1.automation (last_place k) b (new_record k b x)
+    one = joined (mode_of (units k) x.1.automation) x.1.automation (last_place k) b (new_record k b x)
 
     by : (c : Bool) → Grows (last_place k) a (if c then one else b)
-    by true = at-joined (last_place k) (mode_of (automations k) x.1.automation) x.1.automation (last_place k) a b (new_record k b x) refl h
+    by true = at-joined (last_place k) (mode_of (units k) x.1.automation) x.1.automation (last_place k) a b (new_record k b x) refl h
     by false = h
 
 grows-after : (j : Journal) (rs : Records) (x : Entry) → Grows (last_place (more j x)) rs (records_after j rs x)

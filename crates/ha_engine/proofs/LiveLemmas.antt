@@ -122,31 +122,31 @@ all-live a n (r ∷ rs) num = by (is_live a r) refl (all-live a (suc n) rs num.1
 
 -- ---- their replacement
 
-replaced-one : (a p : ℕ) (r : Record) (b : Bool) → b ≡ is_live a r → EndsIf b r (ends_for p (if nat_eq r.automation a then Some EndCause.Replaced else None) r)
+replaced-one : (a p : ℕ) (r : Record) (b : Bool) → b ≡ is_live a r → EndsIf b p r (ends_for p (if nat_eq r.automation a then Some EndCause.Replaced else None) r)
 replaced-one a p r b is = by (nat_eq r.automation a) r.end b is
   where
     by : (c : Bool) (e : Option (ℕ × EndCause)) (b : Bool) → b ≡ (c && is_none e)
-        → EndsIf b (record r { end = e }) (record r { end = or_else e (option_map {T = EndCause} (λ x. (p, x)) (if c then Some EndCause.Replaced else None)) })
-    by true None true is = (record { serial = refl; automation = refl; env = refl }, tt)
+        → EndsIf b p (record r { end = e }) (record r { end = or_else e (option_map {T = EndCause} (λ x. (p, x)) (if c then Some EndCause.Replaced else None)) })
+    by true None true is = (record { serial = refl; automation = refl; env = refl }, refl, refl)
     by true None false is = absurd (let bad : ◌≡◌ {A = Bool} false true = is in cc)
     by true (Some e) true is = absurd (let bad : ◌≡◌ {A = Bool} true false = is in cc)
-    by true (Some e) false is = record { script = record { serial = refl; automation = refl; env = refl }; begin = refl; end = refl }
+    by true (Some e) false is = (record { script = record { serial = refl; automation = refl; env = refl }; begin = refl; end = refl }, refl)
     by false None true is = absurd (let bad : ◌≡◌ {A = Bool} true false = is in cc)
-    by false None false is = record { script = record { serial = refl; automation = refl; env = refl }; begin = refl; end = refl }
+    by false None false is = (record { script = record { serial = refl; automation = refl; env = refl }; begin = refl; end = refl }, refl)
     by false (Some e) true is = absurd (let bad : ◌≡◌ {A = Bool} true false = is in cc)
-    by false (Some e) false is = record { script = record { serial = refl; automation = refl; env = refl }; begin = refl; end = refl }
+    by false (Some e) false is = (record { script = record { serial = refl; automation = refl; env = refl }; begin = refl; end = refl }, refl)
 
-replaced-each : (gone : Gone) (a p : ℕ) (rs : Records) → AreLive gone a rs → AreEnded gone rs (replace_all a p rs)
+replaced-each : (gone : Gone) (a p : ℕ) (rs : Records) → AreLive gone a rs → AreEnded gone p rs (replace_all a p rs)
 replaced-each gone a p [] h = tt
 replaced-each gone a p (r ∷ rs) h = (replaced-one a p r (gone r.serial) h.0, replaced-each gone a p rs h.1)
 
 -- LAW: the live runs of an automation end, and the others are the same
-pub replaced-ended : (a p n : ℕ) (rs : Records) → AreNumbered n rs → AreEnded (are_in (live_of a rs)) rs (replace_all a p rs)
+pub replaced-ended : (a p n : ℕ) (rs : Records) → AreNumbered n rs → AreEnded (are_in (live_of a rs)) p rs (replace_all a p rs)
 replaced-ended a p n rs num = replaced-each (are_in (live_of a rs)) a p rs (all-live a n rs num)
 
-pub same-ended : (rs : Records) → AreEnded nobody rs rs
-same-ended [] = tt
-same-ended (r ∷ rs) = (record { script = record { serial = refl; automation = refl; env = refl }; begin = refl; end = refl }, same-ended rs)
+pub same-ended : (p : ℕ) (rs : Records) → AreEnded nobody p rs rs
+same-ended p [] = tt
+same-ended p (r ∷ rs) = ((record { script = record { serial = refl; automation = refl; env = refl }; begin = refl; end = refl }, refl), same-ended p rs)
 
 pub replaced-numbered : (a p n : ℕ) (rs : Records) → AreNumbered n rs → AreNumbered n (replace_all a p rs)
 replaced-numbered a p n [] num = tt

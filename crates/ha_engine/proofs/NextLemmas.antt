@@ -13,10 +13,10 @@ use Rattle.ha_config.proofs.ListLemmas.{some-same}
 use Rattle.ha_journal.specs.declared.entry.Entry.{Entry}
 use Rattle.ha_journal.specs.declared.entry.Entry.TheVariants.{Line}
 use Rattle.ha_journal.specs.Attempts.{passing}
-use Rattle.ha_journal.specs.Journal.{Journal, automations, more, now, zone_of}
+use Rattle.ha_journal.specs.Journal.{Journal, automations, more, now, scripts, units, zone_of}
 use Rattle.ha_journal.specs.States.{switches_of}
 use Rattle.ha_journal.specs.Switches.{is_on}
-use Rattle.ha_journal.proofs.MoreLemmas.{automations-more, length-more}
+use Rattle.ha_journal.proofs.MoreLemmas.{automations-more, length-more, units-more}
 use Rattle.ha_model.specs.declared.record.EndCause.{EndCause}
 use Rattle.ha_model.specs.Lawful as one
 use Rattle.ha_model.specs.Records as all
@@ -27,11 +27,13 @@ use Rattle.ha_whole.specs.Lasts.{last_triggered, lasts_carried}
 use Rattle.ha_whole.specs.Named.{named}
 use Rattle.ha_whole.specs.Segments.{cut, entries_in, front, reopened, segment, segments}
 use Rattle.ha_whole.specs.Whole.{AreEntries, HasRoom, IsBehind, Right, again_of, before_put, most_entries, most_in_segment, records_from, records_of, same_moment}
-use Rattle.whole_laws.proofs.CutLemmas.{IsCut, closed-again, closed-on, is-cut, segment-again, segment-on}
+use Rattle.whole_laws.proofs.CutLemmas.{IsCut, closed-again, closed-on, is-cut, segment-again, segment-on, units-are}
 use Rattle.whole_laws.proofs.LiftLemmas.{entries-have, right-lifts}
 use Rattle.whole_laws.proofs.PutLemmas.{before-put, line-put, put-restart}
 use Rattle.segment_runs.specs.Segment.{SegmentTable, all_of}
 use Rattle.segment_carry.specs.Closing.{AreAsMany, Closes}
+use Rattle.segment_carry.proofs.ListedLemmas.{front-apart}
+use Rattle.ha_config.specs.Units.{as_unit}
 use Rattle.segment_carry.proofs.AgainLemmas.{made-at}
 use Rattle.segment_carry.proofs.LawLemmas.{carried-moments, found-moments, stopped-counts, table-records}
 use Rattle.store_text.specs.Store.{Switches}
@@ -48,7 +50,7 @@ use Rattle.ha_engine.specs.Told.{AreLasts, AreRuns, IsFollowed, IsTold}
 use Rattle.ha_engine.proofs.LastsLemmas.{apart-of, each-number, last-opened, lasts-more, lasts-opened, with_runs}
 use Rattle.ha_engine.proofs.MovedLemmas.{any-same, differs, moved-is, noted-in-time}
 use Rattle.ha_engine.proofs.ReopenLemmas.{all-as-many, none-behind, on-reopened, reopened-begun}
-use Rattle.ha_engine.proofs.RestartLine.{again-few, again-now, again-read, again-right, again-some, again-sound, again-zone}
+use Rattle.ha_engine.proofs.RestartLine.{again-now, again-read, again-right, again-some, again-sound, again-units, again-zone}
 use Rattle.ha_engine.proofs.WholeLemmas.{all-is}
 
 pub entries-more : (j : Journal) (x : Entry) → AreEntries j → IsBehind j x → AreEntries (more j x)
@@ -65,7 +67,7 @@ there (x ∷ xs) zero lt = (x, refl)
 there (x ∷ xs) (suc a) lt = there xs a (omega (arith, lt))
 
 module _ (j : Journal) (source number : ℕ) (b : Bounds) (t : SegmentTable) (p : Parts) (ls : List (Option ℕ)) (told : IsTold j b t) (kept : Kept (segment j) t.list p) (lasts : AreLasts (segment j) ls)
-    (distinct : all_distinct (names_of (automations (segment j))) ≡ true) (nothing : passing (more (segment j) (Line source number Cmd.Restart)) ≡ []) where
+    (distinct : all_distinct (names_of (units (segment j))) ≡ true) (nothing : passing (more (segment j) (Line source number Cmd.Restart)) ≡ []) where
   abbrev x : Entry
   x = Line source number Cmd.Restart
 
@@ -111,14 +113,17 @@ module _ (j : Journal) (source number : ℕ) (b : Bounds) (t : SegmentTable) (p 
   pub all-k : automations k ≡ automations s
   all-k = sym c-k.automations_are ∙ (λ i. automations (on-k i)) ∙ sym (automations-more s x (again-some s t.list p source number told.own_right kept nothing))
 
+  units-k : units k ≡ units s
+  units-k = sym (units-are k c-k) ∙ (λ i. units (on-k i)) ∙ sym (units-more s x (again-some s t.list p source number told.own_right kept nothing))
+
   all-n : automations n ≡ automations k
   all-n = sym (automations-more k (again_of k) (entries-have k entries-k))
 
-  distinct-k : all_distinct (names_of (automations k)) ≡ true
-  distinct-k = (λ i. all_distinct (names_of (all-k i))) ∙ distinct
+  distinct-k : all_distinct (names_of (units k)) ≡ true
+  distinct-k = (λ i. all_distinct (names_of (units-k i))) ∙ distinct
 
-  distinct-n : all_distinct (names_of (automations n)) ≡ true
-  distinct-n = (λ i. all_distinct (names_of (all-n i))) ∙ distinct-k
+  distinct-n : all_distinct (names_of (units n)) ≡ true
+  distinct-n = (λ i. all_distinct (names_of (sym (units-more k (again_of k) (entries-have k entries-k)) i))) ∙ distinct-k
 
   front-k : front k ≡ front j
   front-k = (λ i. entries_in (closed-k i))
@@ -144,7 +149,7 @@ module _ (j : Journal) (source number : ℕ) (b : Bounds) (t : SegmentTable) (p 
   closes sw stand = record {
     entries = entries-k;
     small = omega (arith, told.lies.few, length-more j x);
-    few = subst (λ (l : List Automation). length l ≤ 1024) (sym all-k) (again-few s t.list p source number told.own_right kept nothing);
+    few = subst (λ (l : List Automation). length l ≤ 2_048) (sym units-k) (again-units s t.list p source number told.own_right kept nothing);
     distinct = distinct-k;
     front_is = told.lies.front_is ∙ sym front-k;
     count_is = told.bounded.segments_are ∙ count-snoc (cut j).closed s ∙ (λ i. suc (length (sym closed-k i))) ∙ sym (count-snoc (cut k).closed (segment k));
@@ -238,7 +243,7 @@ module _ (j : Journal) (source number : ℕ) (b : Bounds) (t : SegmentTable) (p 
       carried-n : ls ≡ map (λ a. named (name_of (automations (segment n)) a) (lasts_carried (segment n))) (up_to (length (automations (segment n))))
       carried-n =
           (let same : automations (segment k) ≡ automations (segment n) = c-k.automations_are ∙ sym all-n ∙ sym c-n.automations_are in
-          let apart : all_distinct (names_of (automations (segment k))) ≡ true = (λ i. all_distinct (names_of (c-k.automations_are i))) ∙ distinct-k in
+          let apart : all_distinct (names_of (automations (segment k))) ≡ true = (λ i. all_distinct (names_of (c-k.automations_are i))) ∙ front-apart (automations k) (map as_unit (scripts k)) distinct-k in
           lasts-k
           ∙ (λ i. map (last_triggered (sym on-k i)) (up_to (length (automations (sym on-k i)))))
           ∙ each-number (last_triggered (segment k)) (λ a. named (name_of (automations (segment n)) a) (lasts_carried (segment n))) 0 (length (automations (segment k)))
@@ -259,7 +264,7 @@ module _ (j : Journal) (source number : ℕ) (b : Bounds) (t : SegmentTable) (p 
           (λ i. first i || list_any (λ a. not (same_flag (is_on (segment (back i)) a) (is_on (on i) a))) (up_to (count i)))
           ∙ any-same (λ a. not (same_flag (is_on s a) (is_on (reopened (more s x) (reopening k)) a))) moved 0 (length (automations s))
           (λ a le lt. (let found = there (automations s) a (omega (arith, lt)) in
-          λ i. not (same_flag (is_on s a) (on-reopened s source number (reopening k) c.alone distinct stored a found.0 found.1 i)))))
+          λ i. not (same_flag (is_on s a) (on-reopened s source number (reopening k) c.alone (front-apart (automations s) (map as_unit (scripts s)) distinct) stored a found.0 found.1 i)))))
 
       -- LAW: and so do the parts, the moments and whether it changed a switch
       pub followed-n : (reset : Bool) → reset ≡ list_any moved (up_to (length (automations s))) → IsFollowed n t'.list p' ls' reset

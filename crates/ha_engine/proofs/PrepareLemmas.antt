@@ -1,8 +1,12 @@
 -- Attempts that are prepared, from the last on.
 use Rattle.std.proofs.Common.{◌≡◌, ℕ, zero, suc, ◌+◌, ◌<◌, ◌≤◌, List, [], ◌∷◌, ◌++◌, length, map, filter, take, get_or, Bool, true, false, refl, sym, ap, subst, ◌∙◌, arith}
-use Rattle.std.specs.Prelude.{Option, nat_le, slice_get, ◌&&◌, if◌then◌else◌}
+use Rattle.std.specs.Prelude.{Option, Some, None, OnOk, Result, nat_le, option_map, slice_get, ◌-◌, ◌&&◌, ◌||◌, if◌then◌else◌}
 use Rattle.std.specs.List.{enumerate_from, list_all}
 use Rattle.std.specs.Option.{option_map_or}
+use Rattle.ha_sight.specs.Sight.{Sight}
+use Rattle.ha_sight.specs.Conditions.{hold_all}
+use Rattle.ha_journal.specs.Moves.{sight}
+use Rattle.ha_model.proofs.LastEntry.{ok-then}
 use Rattle.ha_config.specs.declared.config.Automation.{Automation}
 use Rattle.ha_config.specs.declared.config.Config.{Config}
 use Rattle.ha_config.specs.declared.config.Mode.{Mode}
@@ -10,10 +14,13 @@ use Rattle.ha_journal.specs.declared.entry.Entry.{Entry}
 use Rattle.ha_journal.specs.declared.firing.Firing.{Firing}
 use Rattle.ha_journal.specs.Attempts.{Attempt, passes}
 use Rattle.ha_config.specs.ValueFacts.{all_distinct}
-use Rattle.ha_journal.specs.Journal.{Journal, IsJournal, automations, more, last_place}
+use Rattle.ha_journal.specs.Journal.{Journal, IsJournal, automations, configured, scripts, units, more, last_place}
 use Rattle.ha_config.specs.Names.{unit_of}
 use Rattle.ha_value.specs.Ids.{is_name}
-use Rattle.ha_config.specs.Sound.{IsSoundConfig, are_sound_actions, are_sound_conditions, are_sound_triggers, is_sound_automation}
+use Rattle.ha_config.specs.declared.config.Script.{Script}
+use Rattle.ha_config.specs.Units.{as_unit, units_of}
+use Rattle.ha_config.proofs.UnitLemmas.{unit-there as rule-unit, unit-behind as called-unit}
+use Rattle.ha_config.specs.Sound.{IsSoundConfig, is_sound_script, are_sound_actions, are_sound_conditions, are_sound_triggers, is_sound_automation}
 use Rattle.ha_config.specs.Words.{Pairs}
 use Rattle.script_step.specs.Gates.{first_fronts}
 use Rattle.ha_engine.specs.declared.admit.Prepared.{Prepared}
@@ -21,7 +28,7 @@ use Rattle.ha_engine.specs.Admits.{ArePassing, ArePrepared, IsPrepared, IsPut, I
 use Rattle.engine_parts.specs.Fronts.{Stands}
 use Rattle.engine_parts.specs.Owners.{attempt_by, attempts_by, is_attempt}
 use Rattle.ha_engine.proofs.AdmitLemmas.{from-end-snoc}
-use Rattle.engine_parts.proofs.ViewLemmas.{both, true-of}
+use Rattle.engine_parts.proofs.ViewLemmas.{both, sound-automations, sound-scripts}
 
 -- ---- one attempt
 
@@ -35,8 +42,8 @@ pub passing-next : (k : Journal) (n m : ℕ) (x : Attempt) (xs : List Attempt) (
 passing-next k n m x xs old new next put h =
     put-prepared k (passes k (last_place k) x) (n, x) (filter (λ (y : ℕ × Attempt). passes k (last_place k) y.1) (enumerate_from (n + 1) xs)) old new put (subst (λ q. ArePassing k q xs old) next h)
 
--- LAW: what was put together for the automation is prepared
-pub ready-prepared : (k : Journal) (a n : ℕ) (env : Pairs) (skip : Bool) (p : Prepared) (rule : Option Automation) → unit_of (automations k) a ≡ rule
+-- LAW: what was put together for the unit is prepared
+pub ready-prepared : (k : Journal) (a n : ℕ) (env : Pairs) (skip : Bool) (p : Prepared) (rule : Option Automation) → unit_of (units k) a ≡ rule
     → IsReady a n env (option_map_or (λ (x : Automation). x.mode) rule Mode.Single) (option_map_or (λ (x : Automation). x.max) rule 0) (option_map_or (λ (x : Automation). x.actions) rule []) p
     → IsPrepared k (n, asked_for a env skip) p
 ready-prepared k a n env skip p rule e h = record {
@@ -59,7 +66,7 @@ last-of a b h = (both a b h).1
 pub sound-all : (c : Config) → IsSoundConfig c → list_all is_sound_automation c.automations ≡ true
 sound-all c h =
     last-of (nat_le (length c.automations) 1_024 && all_distinct (map (λ (a : Automation). a.name) c.automations)) (list_all is_sound_automation c.automations)
-    (true-of ((nat_le (length c.automations) 1_024 && all_distinct (map (λ (a : Automation). a.name) c.automations)) && list_all is_sound_automation c.automations) h)
+    (sound-automations c h)
 
 -- LAW: each automation that it has is sound
 pub sound-at : (all : List Automation) (n : ℕ) → list_all is_sound_automation all ≡ true → option_map_or (λ (a : Automation). are_sound_actions a.actions) (slice_get all n) true ≡ true
@@ -68,6 +75,77 @@ sound-at (a ∷ all) zero h =
     last-of ((((is_name a.name && nat_le 1 a.max) && nat_le a.max 1_000) && are_sound_triggers a.triggers) && are_sound_conditions a.tests) (are_sound_actions a.actions)
     (both (is_sound_automation a) (list_all is_sound_automation all) h).0
 sound-at (a ∷ all) (suc n) h = sound-at all n (both (is_sound_automation a) (list_all is_sound_automation all) h).1
+
+-- the actions of a unit are sound
+abbrev pub acts_soundly : Option Automation → Bool
+acts_soundly o = option_map_or (λ (a : Automation). are_sound_actions a.actions) o true
+
+scripts-at : (ss : List Script) (n : ℕ) → list_all is_sound_script ss ≡ true → acts_soundly (slice_get (map {A = Script} {B = Automation} as_unit ss) n) ≡ true
+scripts-at [] n h = refl
+scripts-at (s ∷ ss) zero h =
+    last-of ((is_name s.name && nat_le 1 s.max) && nat_le s.max 1_000) (are_sound_actions s.actions) (both (is_sound_script s) (list_all is_sound_script ss) h).0
+scripts-at (s ∷ ss) (suc n) h = scripts-at ss n (both (is_sound_script s) (list_all is_sound_script ss) h).1
+
+behind-at : (all : List Automation) (ss : List Script) (n : ℕ) → list_all is_sound_automation all ≡ true → list_all is_sound_script ss ≡ true
+    → acts_soundly (slice_get (all ++ map {A = Script} {B = Automation} as_unit ss) n) ≡ true
+behind-at [] ss n h k = scripts-at ss n k
+behind-at (a ∷ all) ss zero h k = sound-at (a ∷ all) zero h
+behind-at (a ∷ all) ss (suc n) h k = behind-at all ss n (both (is_sound_automation a) (list_all is_sound_automation all) h).1 k
+
+-- LAW: of a sound configuration each unit's actions are sound
+pub unit-sound : (c : Config) (n : ℕ) → IsSoundConfig c → acts_soundly (slice_get (units_of c) n) ≡ true
+unit-sound c n h =
+    behind-at c.automations c.scripts n (sound-all c h)
+    (last-of (nat_le (length c.scripts) 1_024 && all_distinct (map (λ (s : Script). s.name) c.scripts)) (list_all is_sound_script c.scripts) (sound-scripts c h))
+
+-- ---- units by their numbers
+
+-- LEMMA: a number that names no automation is none of theirs
+pub past-automations : (all : List Automation) (n : ℕ) → slice_get all n ≡ None → length all ≤ n
+past-automations [] n e = omega arith
+past-automations (a ∷ all) zero e = absurd (let bad : ◌≡◌ {A = Option Automation} (Some a) None = e in cc)
+past-automations (a ∷ all) (suc n) e = omega (arith, past-automations all n e)
+
+-- LAW: the unit of an automation's number, and of one behind all automations
+pub unit-there : (k : Journal) (c : Config) (n : ℕ) (x : Automation) → c.automations ≡ automations k → c.scripts ≡ scripts k → slice_get c.automations n ≡ Some x → unit_of (units k) n ≡ Some x
+unit-there k c n x same also found = rule-unit (configured k) n x ((λ i. slice_get (sym same i) n) ∙ found)
+
+pub unit-behind : (k : Journal) (c : Config) (n : ℕ) → c.automations ≡ automations k → c.scripts ≡ scripts k → length c.automations ≤ n
+    → unit_of (units k) n ≡ option_map {T = Script} {U = Automation} as_unit (slice_get c.scripts (n - length c.automations))
+unit-behind k c n same also past =
+    called-unit (configured k) n (subst (λ (l : List Automation). length l ≤ n) same past)
+    ∙ (λ i. option_map {T = Script} {U = Automation} as_unit (slice_get (sym also i) (n - length (sym same i))))
+
+-- LAW: of a sound configuration each script's actions are sound
+pub script-sound : (c : Config) (n : ℕ) → IsSoundConfig c → option_map_or (λ (s : Script). are_sound_actions s.actions) (slice_get c.scripts n) true ≡ true
+script-sound c n h =
+    by c.scripts n (last-of (nat_le (length c.scripts) 1_024 && all_distinct (map (λ (s : Script). s.name) c.scripts)) (list_all is_sound_script c.scripts) (sound-scripts c h))
+  where
+    by : (ss : List Script) (n : ℕ) → list_all is_sound_script ss ≡ true → option_map_or (λ (s : Script). are_sound_actions s.actions) (slice_get ss n) true ≡ true
+    by [] n e = refl
+    by (s ∷ ss) zero e = last-of ((is_name s.name && nat_le 1 s.max) && nat_le s.max 1_000) (are_sound_actions s.actions) (both (is_sound_script s) (list_all is_sound_script ss) e).0
+    by (s ∷ ss) (suc n) e = by ss n (both (is_sound_script s) (list_all is_sound_script ss) e).1
+
+or-true : (b : Bool) → (b || true) ≡ true
+or-true true = refl
+or-true false = refl
+
+-- LAW: an attempt behind all automations is put there where there is its script
+pub called-put : (S : Sight) {E : Type 0} (r : Result (Unit {0}) E) (script : Option Script) (c : Config) (n order : ℕ) (env : Pairs) (skip : Bool) (old new : List Prepared) → length c.automations ≤ n
+    → script ≡ slice_get c.scripts (n - length c.automations)
+    → ((s : Script) → script ≡ Some s → OnOk r ((p : Prepared) × (new ≡ old ++ (p ∷ [])) × IsReady n order env s.mode s.max s.actions p)) → (script ≡ None → OnOk r (new ≡ old))
+    → OnOk r ((k : Journal) → S ≡ sight k (suc (last_place k)) → c.automations ≡ automations k → c.scripts ≡ scripts k
+    → IsPut (passes k (last_place k) (asked_for n env skip)) k (order, asked_for n env skip) old new)
+called-put S r (Some s) c n order env skip old new past is there none = ok-then r (λ h k seen same also.
+    (let unit : unit_of (units k) n ≡ Some (as_unit s) = unit-behind k c n same also past ∙ ap (option_map {T = Script} {U = Automation} as_unit) (sym is) in
+    let on : passes k (last_place k) (asked_for n env skip) ≡ true
+    = (λ i. option_map_or (λ (x : Automation). skip || hold_all (sight k (suc (last_place k))) x.tests env) (unit i) false) ∙ or-true skip in
+    subst (λ b. IsPut b k (order, asked_for n env skip) old new) (sym on) (h.0, h.1, ready-prepared k n order env skip h.0 (Some (as_unit s)) unit h.2))) (there s refl)
+called-put S r None c n order env skip old new past is there none = ok-then r (λ h k seen same also.
+    (let unit : unit_of (units k) n ≡ None = unit-behind k c n same also past ∙ ap (option_map {T = Script} {U = Automation} as_unit) (sym is) in
+    let off : passes k (last_place k) (asked_for n env skip) ≡ false
+    = (λ i. option_map_or (λ (x : Automation). skip || hold_all (sight k (suc (last_place k))) x.tests env) (unit i) false) in
+    subst (λ b. IsPut b k (order, asked_for n env skip) old new) (sym off) h)) (none refl)
 
 -- ---- firings
 

@@ -18,7 +18,7 @@ use Rattle.ha_journal.specs.declared.carry.Carry.{Carry}
 use Rattle.ha_journal.specs.declared.entry.Entry.{Entry}
 use Rattle.ha_journal.specs.declared.entry.Entry.TheVariants.{Boot, Line, Step, Again}
 use Rattle.ha_journal.specs.Entries.{BeginsSegment, Reopening}
-use Rattle.ha_journal.specs.Journal.{Journal, IsJournal, automations, more, zone_of}
+use Rattle.ha_journal.specs.Journal.{Journal, IsJournal, automations, more, zone_of, configured}
 use Rattle.ha_journal.specs.States.{switches_of}
 use Rattle.ha_journal.specs.Switches.{is_on}
 use Rattle.ha_journal.proofs.MoreLemmas.{automations-more, has-entry}
@@ -53,14 +53,21 @@ reopened-automations (Line source number cmd ∷ es) a h = absurd h.0
 reopened-automations (Step worker serial branch item ∷ es) a h = absurd h.0
 reopened-automations (Again number start stored carry ∷ es) a h = absurd h.0
 
+pub reopened-configured : (s : Journal) (a : Reopening) → IsJournal s → configured (reopened s a) ≡ configured s
+reopened-configured [] a h = absurd h
+reopened-configured (Boot text config stored start zone carry ∷ es) a h = refl
+reopened-configured (Line source number cmd ∷ es) a h = absurd h.0
+reopened-configured (Step worker serial branch item ∷ es) a h = absurd h.0
+reopened-configured (Again number start stored carry ∷ es) a h = absurd h.0
+
 -- LAW: its switches are those that are restored from what the Again has
 pub opening-begun : (s : Journal) (a : Reopening) (zone : Text) (at : ℕ) → IsJournal s → AreSound s → zone ≡ zone_of s → IsSome (clock.zone_of zone) → at ≡ a.start → at ≤ last_moment
-    → (sw : Switches) (config : Config) → config.automations ≡ automations s
+    → (sw : Switches) (config : Config) → config ≡ configured s
     → ((text : Text) (start : ℕ) (zone : Text) (carry : Carry) → switches.StandsFor sw (Boot text config (Some a.stored) start zone carry ∷ []))
     → Begun (reopened s a) sw zone at
 opening-begun [] a zone at h sound zone_is read at_is in_time sw config same stand = absurd h
 opening-begun (Boot text c stored start z carry ∷ es) a zone at h sound zone_is read at_is in_time sw config same stand =
-    let is : config ≡ c = (λ i. record { automations = same i }) in
+    let is : config ≡ c = same in
     record {
       text = text;
       config = c;

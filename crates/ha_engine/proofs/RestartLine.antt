@@ -12,14 +12,14 @@ use Rattle.ha_journal.specs.declared.entry.Entry.{Entry}
 use Rattle.ha_journal.specs.declared.entry.Entry.TheVariants.{Line}
 use Rattle.ha_config.specs.ValueFacts.{keys_of}
 use Rattle.ha_config.specs.Equal.{same_flag}
-use Rattle.ha_journal.specs.Journal.{Journal, HasEntry, automations, now, zone_of, more}
+use Rattle.ha_journal.specs.Journal.{Journal, HasEntry, automations, now, zone_of, more, configured, units}
 use Rattle.ha_model.specs.Lawful.{Right}
 use Rattle.ha_model.specs.RecordSteps.{records_after}
 use Rattle.ha_model.specs.Records.{Records}
 use Rattle.ha_journal.specs.Attempts.{passing}
 use Rattle.ha_config.specs.Names.{initial_of}
 use Rattle.ha_config.specs.Words.{Text, numbers_from, up_to}
-use Rattle.ha_journal.proofs.MoreLemmas.{has-entry, automations-more}
+use Rattle.ha_journal.proofs.MoreLemmas.{has-entry, automations-more, units-more}
 use Rattle.ha_model.proofs.LawfulLaws.{right-more}
 use Rattle.ha_model.proofs.FoldLaws.{records-more}
 use Rattle.run_laws.proofs.EntryLaws.{by-calls}
@@ -33,6 +33,7 @@ use Rattle.engine_parts.specs.declared.parts.Parts.{Parts}
 use Rattle.engine_parts.specs.Kept.{AreSound, Kept}
 use Rattle.engine_entry.proofs.EnterLemmas.{now-left, sound-more, zone-more}
 use Rattle.engine_entry.proofs.NamedLemmas.{sound-few}
+use Rattle.ha_config.proofs.UnitLemmas.{units-few}
 
 -- ---- its switches
 
@@ -102,4 +103,7 @@ module _ (s : Journal) (rs : Records) (p : Parts) (source number : ℕ) (right :
   again-read = subst (λ z. IsSome (clock.zone_of z)) (sym kept.going.sees.looks.zone_is) kept.going.sees.looks.zone_read
 
   pub again-few : length (automations s) ≤ 1024
-  again-few = omega (arith, sound-few (automations k) again-sound, ap length (automations-more s again again-some))
+  again-few = omega (arith, sound-few (configured k) again-sound, ap length (automations-more s again again-some))
+
+  pub again-units : length (units s) ≤ 2_048
+  again-units = omega (arith, units-few (configured k) again-sound, ap length (units-more s again again-some))

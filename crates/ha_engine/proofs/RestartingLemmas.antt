@@ -10,7 +10,7 @@ use Rattle.ha_config.specs.ValueFacts.{all_distinct}
 use Rattle.ha_config.specs.Words.{up_to}
 use Rattle.ha_journal.specs.declared.entry.Entry.TheVariants.{Line}
 use Rattle.ha_journal.specs.Attempts.{passing}
-use Rattle.ha_journal.specs.Journal.{Journal, automations, more}
+use Rattle.ha_journal.specs.Journal.{Journal, automations, more, units}
 use Rattle.ha_journal.specs.Switches.{is_on}
 use Rattle.ha_journal.proofs.MoreLemmas.{length-more}
 use Rattle.ha_past.proofs.RestartLemmas.{restart-passes-none}
@@ -54,7 +54,7 @@ module _ (k : Journal) (b : Bounds) (t : SegmentTable) (p : Parts) (ls : List (O
   nothing : passing (more s (Line h.source h.number Cmd.Restart)) ≡ []
   nothing = restart-passes-none s h.source h.number
 
-  distinct : all_distinct (names_of (automations s)) ≡ true
+  distinct : all_distinct (names_of (units s)) ≡ true
   distinct = names-differ s h.kept.going.sees.sound
 
   pub starting-boot : HasBoot k

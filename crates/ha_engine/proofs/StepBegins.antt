@@ -1,26 +1,25 @@
 -- The run that was picked: it may step, and what is known of it behind its step.
-use Rattle.std.proofs.Common.{◌≡◌, ℕ, suc, ◌+◌, ◌-◌, ◌<◌, List, [], ◌∷◌, ◌++◌, length, take, Bool, true, false, refl, sym, ap, subst, ◌∙◌, rules, arith}
+use Rattle.std.proofs.Common.{◌≡◌, ℕ, suc, ◌+◌, ◌-◌, ◌<◌, List, [], ◌∷◌, ◌++◌, length, Bool, true, false, refl, sym, ap, subst, ◌∙◌, rules, arith}
 use Rattle.std.specs.Prelude.{Option, Some, None, ◌&&◌, ◌||◌, is_none, is_some, nat_eq, slice_get, option_map, option_and_then, if◌then◌else◌}
 use Rattle.std.specs.List.{list_any}
 use Rattle.timer_queue.specs.Timers.{Timer}
 use Rattle.ha_model.specs.declared.record.Record.{Record}
 use Rattle.ha_sight.specs.declared.waiting.WaitEnd.{WaitEnd}
-use Rattle.ha_journal.specs.Journal.{Journal, automations, now}
+use Rattle.ha_journal.specs.Journal.{Journal, now, units}
 use Rattle.ha_model.specs.Lawful.{Right, may_step, pick, ready}
-use Rattle.ha_model.specs.Records.{Records, actions_of, ran_on, spots}
+use Rattle.ha_model.specs.Records.{Records, actions_of, ask_end, ran_on, spots, next_spot}
 use Rattle.ha_sight.specs.Scripts.{Ask, Branch, Spot}
-use Rattle.ha_journal.specs.Waits.{next_spot, wait_end}
 use Rattle.ha_config.specs.Words.{same}
 use Rattle.ha_config.proofs.EqualLemmas.{same-sound}
 use Rattle.ha_model.proofs.StepLaws.{ready-found, serial-at}
 use Rattle.ha_ready.specs.Picked.{IsPicked}
+use Rattle.ha_ready.specs.ReadyPairs.{ends_at}
 use Rattle.ha_ready.proofs.Picked as pairs
 use Rattle.ha_ready.proofs.RunPast.{all-past, past-at}
 use Rattle.script_step.specs.declared.frames.Frames.{Frames}
 use Rattle.script_step.specs.Continuation.{Began}
 use Rattle.script_step.specs.Frames.{ask_of, began_by, begins, may}
 use Rattle.script_step.specs.Gates.{Gate, gate_at, wait_of}
-use Rattle.script_step.specs.Told.{IsAsk}
 use Rattle.script_step.proofs.GateLemmas.{gated}
 use Rattle.script_step.proofs.ToldLemmas.{wait-gate}
 use Rattle.wait_set.specs.declared.asked.Asked as wait
@@ -30,7 +29,7 @@ use Rattle.engine_parts.specs.Kept.{RunsKept, nobody}
 use Rattle.engine_parts.specs.Runs.{AreHeld, GateKept, GatesKept, IsHeld, IsWait, LiveKept, SlotKept}
 use Rattle.engine_parts.specs.Waiting.{TellsEnds, ends}
 use Rattle.engine_parts.proofs.FrontWords.{gate-is}
-use Rattle.engine_parts.proofs.GateLemmas.{next-now}
+use Rattle.engine_parts.proofs.GateLemmas.{gate-ends, next-now}
 use Rattle.engine_parts.proofs.SlotLemmas.{ended-off, slots-at}
 use Rattle.engine_parts.proofs.StepRight.{allowed-open, gate-known}
 
@@ -49,11 +48,11 @@ module _ (j : Journal) (rs : Records) (worker s : ℕ) (b : Branch) (right : Rig
       omega (arith, numbered, above))
 
   -- LAW: its frames stand in its slot
-  pub runner : (delays : List Timer) (w : Waits) (os : List (Option Frames)) (picked : IsPicked rs j s b) (pairs : List (ℕ × Branch)) → RunsKept nobody j rs delays w os pairs
-      → (f : Frames) × (slice_get os (s - 1) ≡ Some (Some f)) × LiveKept j delays w picked.run f
-  runner delays w os picked pairs kept = (let slot = slots-at (SlotKept j delays w) rs os (s - 1) picked.run kept.slots picked.found in by slot.0 slot.1 slot.2)
+  pub runner : (delays : List Timer) (w : Waits) (os : List (Option Frames)) (picked : IsPicked rs j s b) (pairs : List (ℕ × Branch)) → RunsKept (ends_at j) nobody j rs delays w os pairs
+      → (f : Frames) × (slice_get os (s - 1) ≡ Some (Some f)) × LiveKept (ends_at j) j delays w picked.run f
+  runner delays w os picked pairs kept = (let slot = slots-at (SlotKept (ends_at j) j delays w) rs os (s - 1) picked.run kept.slots picked.found in by slot.0 slot.1 slot.2)
     where
-      by : (o : Option Frames) → slice_get os (s - 1) ≡ Some o → SlotKept j delays w picked.run o → (f : Frames) × (slice_get os (s - 1) ≡ Some (Some f)) × LiveKept j delays w picked.run f
+      by : (o : Option Frames) → slice_get os (s - 1) ≡ Some o → SlotKept (ends_at j) j delays w picked.run o → (f : Frames) × (slice_get os (s - 1) ≡ Some (Some f)) × LiveKept (ends_at j) j delays w picked.run f
       by None e ended =
           absurd (let bad : ◌≡◌ {A = Bool} true false
           = sym picked.running ∙ ended-off (length j) (length j) (omega arith) picked.run ended (past-at (length j) rs (s - 1) picked.run (all-past j rs right) picked.found) in cc)
@@ -61,47 +60,46 @@ module _ (j : Journal) (rs : Records) (worker s : ℕ) (b : Branch) (right : Rig
 
 -- ---- it may step
 
-module _ (j : Journal) (delays : List Timer) (w : Waits) (s : ℕ) (b : Branch) (stands : TellsEnds w j) (r : Record) (own_is : r.serial ≡ s) (f : Frames) (live : LiveKept j delays w r f) where
+module _ (j : Journal) (delays : List Timer) (w : Waits) (s : ℕ) (b : Branch) (stands : TellsEnds w j) (r : Record) (own_is : r.serial ≡ s) (f : Frames) (live : LiveKept (ends_at j) j delays w r f) where
   abbrev pub began : Began
   began = began_by begins (spots j s)
 
   abbrev pub places : List Spot
   places = spots j s
 
-  gates : GatesKept j delays w s (fronts f places)
-  gates = subst (λ q. GatesKept j delays w q (fronts f (spots j q))) own_is live.gates
+  gates : GatesKept (ends_at j) j delays w s (fronts f places)
+  gates = subst (λ q. GatesKept (ends_at j) j delays w q (fronts f (spots j q))) own_is live.gates
 
-  pub script : Stands f (actions_of (automations j) r.automation) r.env places
-  script = subst (λ q. Stands f (actions_of (automations j) r.automation) r.env (spots j q)) own_is live.stands
+  pub script : Stands f (actions_of (units j) r.automation) r.env places
+  script = subst (λ q. Stands f (actions_of (units j) r.automation) r.env (spots j q)) own_is live.stands
 
   -- the end of its wait is told
   pub tells : (ask : Ask) → ask_of f b ≡ Some ask → (next_spot j b).wait_end ask (began b) ≡ ends w s b
   tells ask e = by (gate_at b (fronts f places)) refl (sym (ap (option_map (λ q. (q, began b))) e) ∙ wait-gate b f.root f.script.value began)
     where
-      by : (o : Option Gate) → gate_at b (fronts f places) ≡ o → Some (ask, began b) ≡ option_and_then wait_of o → wait_end j ask (began b) ≡ ends w s b
+      by : (o : Option Gate) → gate_at b (fronts f places) ≡ o → Some (ask, began b) ≡ option_and_then wait_of o → ask_end (ends_at j) j ask (began b) ≡ ends w s b
       by None g h = absurd (let bad : ◌≡◌ {A = Option (Ask × ℕ)} (Some (ask, began b)) None = h in cc)
       by (Some Gate.Free) g h = absurd (let bad : ◌≡◌ {A = Option (Ask × ℕ)} (Some (ask, began b)) None = h in cc)
       by (Some (Gate.From due)) g h = absurd (let bad : ◌≡◌ {A = Option (Ask × ℕ)} (Some (ask, began b)) None = h in cc)
       by (Some (Gate.Behind a p)) g h =
           (let same : ◌≡◌ {A = Ask × ℕ} (ask, began b) (a, p) = cc in
-          let known : GateKept j delays w s (b, Gate.Behind a p) = gate-known j delays w s (fronts f places) b (Gate.Behind a p) g gates in
-          let ended : ends w s b ≡ wait_end j a p
-          = stands s b known.0 a known.1 (subst (λ q. IsAsk (now (take (suc q) j)) a known.0.ask) (sym known.2) known.6) ∙ ap (wait_end j a) known.2 in
-          (λ i. wait_end j (same i).0 (same i).1) ∙ sym ended)
+          let known : GateKept (ends_at j) j delays w s (b, Gate.Behind a p) = gate-known (ends_at j) j delays w s (fronts f places) b (Gate.Behind a p) g gates in
+          let ended : ends w s b ≡ ask_end (ends_at j) j a p = gate-ends (ends_at j) j delays w s stands b a p known in
+          (λ i. ask_end (ends_at j) j (same i).0 (same i).1) ∙ sym ended)
 
   -- LAW: so it may step
   pub may-step : (all : Records) → may_step all j r b ≡ true → may f b (now j) (ends w s b) ≡ true
   may-step all allowed =
       (λ i. may f b (sym (next-now j b) i) (ends w s b))
       ∙ gated b f.root f.script.value began (next_spot j b) (ends w s b) tells
-      ∙ sym (gate-is f (actions_of (automations j) r.automation) r.env places script (next_spot j b))
+      ∙ sym (gate-is f (actions_of (units j) r.automation) r.env places script (next_spot j b))
       ∙ (λ i. is_some (ran_on j r (spots j (sym own_is i) ++ (next_spot j b ∷ []))))
       ∙ allowed
 
   -- ---- no wait of its branch is pending
 
   ended-gate : (all : Records) → may_step all j r b ≡ true → IsWait (gate_at b (fronts f places)) → (e : WaitEnd) × (ends w s b ≡ Some e)
-  ended-gate all allowed at = by (gate_at b (fronts f places)) at (subst (λ q. IsOpen (gate_at b (fronts f (spots j q))) (next_spot j b) (ends w s b)) own_is (allowed-open j delays w s b stands all r f own_is live allowed))
+  ended-gate all allowed at = by (gate_at b (fronts f places)) at (subst (λ q. IsOpen (gate_at b (fronts f (spots j q))) (next_spot j b) (ends w s b)) own_is (allowed-open (ends_at j) j delays w s b stands r f own_is live allowed))
     where
       by : (o : Option Gate) → IsWait o → IsOpen o (next_spot j b) (ends w s b) → (e : WaitEnd) × (ends w s b ≡ Some e)
       by None h open' = absurd h

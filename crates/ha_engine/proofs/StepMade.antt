@@ -9,15 +9,15 @@ use Rattle.ha_model.specs.declared.record.Record.{Record}
 use Rattle.ha_sight.specs.declared.waiting.WaitAsk.{WaitAsk}
 use Rattle.ha_sight.specs.declared.waiting.WaitEnd.{WaitEnd}
 use Rattle.ha_sight.specs.declared.steps.StepOut.{StepOut}
-use Rattle.ha_journal.specs.Journal.{Journal, automations, now, more}
+use Rattle.ha_journal.specs.Journal.{Journal, now, more, units}
 use Rattle.ha_model.specs.Lawful.{Right, pick, ready, record_of}
-use Rattle.ha_model.specs.Records.{Records, actions_of, ran_on, script_end, spots}
+use Rattle.ha_model.specs.Records.{Records, actions_of, ran_on, script_end, spots, next_spot}
 use Rattle.ha_sight.specs.Scripts.{Ask, Branch, Outcome, Spot, Status, prefixed, whole}
 use Rattle.ha_journal.specs.Moves.{sight}
-use Rattle.ha_journal.specs.Waits.{next_spot}
 use Rattle.ha_config.specs.Words.{Pairs}
 use Rattle.ha_config.proofs.ListLemmas.{append-nil}
 use Rattle.ha_ready.specs.Picked.{IsPicked}
+use Rattle.ha_ready.specs.ReadyPairs.{ends_at}
 use Rattle.script_step.specs.declared.frames.Frames.{Frames}
 use Rattle.script_step.specs.declared.strand.End.{End}
 use Rattle.script_step.specs.Continuation.{Began, placed}
@@ -31,6 +31,8 @@ use Rattle.script_step.proofs.ToldLemmas.{wait-gate}
 use Rattle.wait_set.specs.Asked.{WaitTable as Waits}
 use Rattle.wait_set.specs.Stands as waits
 use Rattle.engine_parts.specs.Fronts.{IsGiven, Stands, fronts, progress_of}
+use Rattle.script_calls.specs.Waiting.{Waiting}
+use Rattle.engine_parts.specs.Called.{CallsKept}
 use Rattle.engine_parts.specs.Kept.{RunsKept, nobody}
 use Rattle.engine_parts.specs.Runs.{IsWait, LiveKept}
 use Rattle.engine_entry.specs.Stepping.{SlotStep, StepRuns, cause_of}
@@ -78,7 +80,7 @@ waiting-gate f began c ask e = by (gate_at c (fronts_of f began)) (sym (ap (opti
     by (Some (Gate.Behind a p)) h = tt
 
 module _ (j : Journal) (rs : Records) (worker s : ℕ) (b : Branch) (right : Right j rs) (is : pick worker (ready rs j) ≡ Some (s, b)) (delays : List Timer) (w : Waits) (os : List (Option Frames)) (pairs : List (ℕ × Branch))
-    (kept : RunsKept nobody j rs delays w os pairs) (stand : waits.StandsFor w.asks j) (wait : Option WaitEnd) (wait_is : wait ≡ ends w s b) (os' : List (Option Frames)) (out : StepOut) (due : Option ℕ)
+    (waiting : Waiting) (kept : RunsKept (ends_at j) nobody j rs delays w os pairs) (calls_kept : CallsKept (ends_at j) j rs waiting os) (stand : waits.StandsFor w.asks j) (wait : Option WaitEnd) (wait_is : wait ≡ ends w s b) (os' : List (Option Frames)) (out : StepOut) (due : Option ℕ)
     (step : SlotStep (sight j (length j)) s b wait os os' out due) where
   abbrev pub picked : IsPicked rs j s b
   picked = the_pair j rs worker s b right is
@@ -93,15 +95,15 @@ module _ (j : Journal) (rs : Records) (worker s : ℕ) (b : Branch) (right : Rig
   ends-told = stands-tells w j stand
 
   -- its frames are those in its slot
-  pub live : LiveKept j delays w r step.old
+  pub live : LiveKept (ends_at j) j delays w r step.old
   live =
       let found = runner j rs worker s b right is delays w os picked pairs kept in
       let same : Some (Some found.0) ≡ Some (Some step.old) = sym found.1 ∙ step.there in
       let self : found.0 ≡ step.old = cc in
-      subst (LiveKept j delays w r) self found.2
+      subst (LiveKept (ends_at j) j delays w r) self found.2
 
   abbrev pub actions : List Action
-  actions = actions_of (automations j) r.automation
+  actions = actions_of (units j) r.automation
 
   abbrev pub ss : List Spot
   ss = spots j s
@@ -125,11 +127,11 @@ module _ (j : Journal) (rs : Records) (worker s : ℕ) (b : Branch) (right : Rig
     progress = step.step.progress ∙ progress-by (end_of step.new.root);
   }
 
-  pub given-for : (q : Record) → record_of rs s ≡ Some q → IsGiven (actions_of (automations j) q.automation) q.env (spots j q.serial) sp out
+  pub given-for : (q : Record) → record_of rs s ≡ Some q → IsGiven (actions_of (units j) q.automation) q.env (spots j q.serial) sp out
   given-for q e =
       (let found = sym picked.found ∙ e in
       let same : r ≡ q = cc in
-      subst (λ (z : Record). IsGiven (actions_of (automations j) z.automation) z.env (spots j z.serial) sp out) same
+      subst (λ (z : Record). IsGiven (actions_of (units j) z.automation) z.env (spots j z.serial) sp out) same
       (subst (λ n. IsGiven actions r.env (spots j n) sp out) (sym own_is) given))
 
   behind-is : began_by begins (ss ++ (sp ∷ [])) ≡ placed b (length j) (began_by begins ss)
@@ -158,7 +160,7 @@ module _ (j : Journal) (rs : Records) (worker s : ℕ) (b : Branch) (right : Rig
       ((λ i. may step.old b (next-now j b i) (wait_is i)) ∙ may-step j delays w s b ends-told r own_is step.old live rs picked.allowed) c apart at)
 
   -- LAW: all that is known of the runs behind the step
-  unfoldable pub made : StepRuns (more j (Step worker s b out.item)) rs out.progress out.wait due w delays os' pairs
+  unfoldable pub made : StepRuns (more j (Step worker s b out.item)) rs out.progress out.wait due w delays os' pairs waiting
   made = record {
     j = j;
     worker = worker;
@@ -174,6 +176,7 @@ module _ (j : Journal) (rs : Records) (worker s : ℕ) (b : Branch) (right : Rig
     waits_stand = stand;
     os = os;
     runs_kept = kept;
+    calls_kept = calls_kept;
     old = step.old;
     new = step.new;
     there = step.there;

@@ -7,14 +7,14 @@ use Rattle.ha_clock.specs.Local.{last_moment}
 use Rattle.ha_config.specs.declared.config.Automation.{Automation}
 use Rattle.ha_config.specs.Equal.{same_flag}
 use Rattle.ha_config.specs.Names.{name_of}
-use Rattle.ha_config.specs.Sound.{is_sound_automation}
+use Rattle.ha_config.specs.Sound.{are_sound_automations, are_sound_scripts, is_sound_automation}
 use Rattle.ha_config.specs.StoreText.{in_name_order}
 use Rattle.ha_config.specs.ValueFacts.{all_distinct}
 use Rattle.ha_config.specs.Words.{Text, numbers_from, same, up_to}
 use Rattle.ha_config.proofs.EqualLemmas.{and_left, and_right}
 use Rattle.ha_journal.specs.declared.entry.Entry.{Entry}
 use Rattle.ha_journal.specs.Entries.{is_again, is_restart}
-use Rattle.ha_journal.specs.Journal.{HasEntry, Journal, automations, more, now}
+use Rattle.ha_journal.specs.Journal.{HasEntry, Journal, automations, configured, more, now, scripts}
 use Rattle.ha_journal.specs.Switches.{is_on}
 use Rattle.ha_journal.proofs.MoreLemmas.{automations-more}
 use Rattle.ha_model.specs.Lawful as one
@@ -29,18 +29,18 @@ use Rattle.store_text.specs.Store.{AreMoments}
 use Rattle.switch_book.specs.Book.{names_of}
 use Rattle.switch_book.proofs.BookLemmas.{all-named}
 use Rattle.segment_runs.specs.Segment.{SegmentTable}
-use Rattle.segment_carry.specs.ByName.{by_name, listed}
+use Rattle.segment_carry.specs.ByName.{rule_order, listed}
 use Rattle.segment_carry.proofs.MomentLemmas.{moments-listed, moments-storable}
 use Rattle.whole_laws.specs.Puts.{IsPut}
 use Rattle.whole_laws.proofs.CutLemmas.{is-cut, segment-on}
 use Rattle.whole_laws.proofs.LiftLemmas.{entries-have}
 use Rattle.engine_parts.specs.declared.parts.Parts.{Parts}
 use Rattle.engine_parts.specs.Kept.{AreSound, Kept}
+use Rattle.engine_entry.proofs.NamedLemmas.{sound-distinct}
 use Rattle.ha_engine.specs.declared.bounds.Bounds.{Bounds}
 use Rattle.ha_engine.specs.Noted.{AreNoted, are_in_time, changes_lasts, changes_switches, moved_by, noted}
 use Rattle.ha_engine.specs.Told.{IsFollowed, IsTold}
 use Rattle.ha_engine.proofs.ChangeLemmas.{take-less}
-use Rattle.ha_engine.proofs.FollowedLemmas.{names-differ}
 use Rattle.ha_engine.proofs.LastsLemmas.{last-more, with_runs}
 use Rattle.ha_engine.proofs.MovedLemmas.{any-same, differs, each-in-time, moved-is, noted-in-time}
 
@@ -152,18 +152,19 @@ carried-in-time configured ms h = each-from (λ a. named (name_of configured a) 
 
 module _ (j : Journal) (b : Bounds) (t : SegmentTable) (p : Parts) (ls : List (Option ℕ)) (reset moved : Bool) (told : IsTold j b t) (followed : IsFollowed j t.list p ls reset) (known : AreNoted j ls moved) where
   -- LAW: the moments by name, as the store has them
-  pub told-moments : (configured : List Automation) (order : List ℕ) (l : List (Option ℕ)) → configured ≡ automations j → order ≡ by_name (automations j) → l ≡ ls
-      → listed configured (λ a. unwrap_or (slice_get l a) None) order ≡ in_name_order (lasts (segment j))
-  told-moments configured order l is order_is l_is =
+  pub told-moments : (rules : List Automation) (order : List ℕ) (l : List (Option ℕ)) → rules ≡ automations j → order ≡ rule_order (automations j) → l ≡ ls
+      → listed (names_of rules) (λ a. unwrap_or (slice_get l a) None) order ≡ in_name_order (lasts (segment j))
+  told-moments rules order l is order_is l_is =
       (let there : automations j ≡ automations (segment j) = sym (is-cut j told.lies.entries).automations_are in
-      (λ i. listed ((is ∙ there) i) (λ a. unwrap_or (slice_get (l_is i) a) None) ((order_is ∙ ap by_name there) i)) ∙ moments-listed (segment j) ls followed.lasts_are)
+      (λ i. listed (names_of ((is ∙ there) i)) (λ a. unwrap_or (slice_get (l_is i) a) None) ((order_is ∙ ap rule_order there) i)) ∙ moments-listed (segment j) ls followed.lasts_are)
 
   pub told-storable : AreMoments (in_name_order (lasts (segment j)))
   told-storable =
       (let sound : AreSound (segment j) = followed.kept.going.sees.sound in
       let rules : List Automation = automations (segment j) in
-      moments-storable (segment j) (names-differ (segment j) sound)
-      (all-named rules (and_right (nat_le (length rules) 1_024 && all_distinct (names_of rules)) (list_all is_sound_automation rules) sound))
+      let own : are_sound_automations rules ≡ true = and_left (are_sound_automations rules) (are_sound_scripts (scripts (segment j))) sound in
+      moments-storable (segment j) (sound-distinct (configured (segment j)) sound)
+      (all-named rules (and_right (nat_le (length rules) 1_024 && all_distinct (names_of rules)) (list_all is_sound_automation rules) own))
       (λ a lt. (let e : 0 + a ≡ a = omega arith in
       (λ i. option_map_or (λ at. nat_le at last_moment) (last_triggered (segment j) (sym e i)) true)
       ∙ each-in-time (last_triggered (segment j)) 0 (length rules) a lt (ap are_in_time (sym followed.lasts_are) ∙ known.in_time))))

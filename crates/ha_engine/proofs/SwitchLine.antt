@@ -8,7 +8,7 @@ use Rattle.ha_model.specs.declared.record.EndCause.{EndCause}
 use Rattle.ha_journal.specs.declared.entry.Entry.{Entry}
 use Rattle.ha_journal.specs.declared.entry.Entry.TheVariants.{Line}
 use Rattle.ha_journal.specs.Commands.{IsFair, has_automation}
-use Rattle.ha_journal.specs.Journal.{Journal, HasEntry, IsJournal, automations, more}
+use Rattle.ha_journal.specs.Journal.{Journal, HasEntry, IsJournal, automations, more, configured}
 use Rattle.ha_model.specs.Lawful.{Right}
 use Rattle.ha_model.specs.RecordSteps.{records_after}
 use Rattle.ha_model.specs.Records.{Records}
@@ -39,7 +39,11 @@ or-first : (b : Bool) → (b || false) ≡ false → b ≡ false
 or-first true h = absurd (let bad : ◌≡◌ {A = Bool} true false = h in cc)
 or-first false h = refl
 
-module _ (j : Journal) (some : HasEntry j) (sound : IsSound (automations j)) (name : Text) (a : ℕ) (named : automation_named (automations j) name ≡ Some a) (source number : ℕ) (on stop : Bool) where
+or-none : (b : Bool) → (b || false) ≡ b
+or-none true = refl
+or-none false = refl
+
+module _ (j : Journal) (some : HasEntry j) (sound : IsSound (configured j)) (name : Text) (a : ℕ) (named : automation_named (automations j) name ≡ Some a) (source number : ℕ) (on stop : Bool) where
   abbrev x : Entry
   x = Line source number (Cmd.Switch name on stop)
 
@@ -47,7 +51,7 @@ module _ (j : Journal) (some : HasEntry j) (sound : IsSound (automations j)) (na
   own-name : (b : ℕ) → same name (name_of (automations j) b) ≡ nat_eq a b
   own-name b =
       let found = found-named (automations j) name a named in
-      ap (λ (t : Text). same t (name_of (automations j) b)) (sym found.name_is) ∙ name-apart (automations j) sound a b found.automation found.here
+      ap (λ (t : Text). same t (name_of (automations j) b)) (sym found.name_is) ∙ name-apart (configured j) sound a b found.automation found.here
 
   on-behind : (b : ℕ) → is_on (more j x) b ≡ (if nat_eq a b then on else is_on j b)
   on-behind b = on-more j x b some ∙ (λ i. if own-name b i then on else is_on j b)
@@ -68,7 +72,7 @@ module _ (j : Journal) (some : HasEntry j) (sound : IsSound (automations j)) (na
   turned = if not on && stop then a ∷ [] else []
 
   are-turned : AreTurned j x turned
-  are-turned b = (λ i. own-name b i && not on && stop) ∙ by on stop
+  are-turned b = or-none (same name (name_of (automations j) b) && not on && stop) ∙ (λ i. own-name b i && not on && stop) ∙ by on stop
     where
       by : (u v : Bool) → (nat_eq a b && not u && v) ≡ list_any (λ c. nat_eq c b) (if not u && v then a ∷ [] else [])
       by true v = one (nat_eq a b) v
@@ -142,7 +146,7 @@ module _ (name : Text) (on stop : Bool) (k : Journal) (rs : Records) (p : Parts)
   pushed-within = omega (arith, ap length pushed-is, length-more j y)
 
   -- LAW: the runs before it
-  pub pushed-before : RunsBefore k rs p.waits p.delays p.frames.items p.ready.pairs.items
+  pub pushed-before : RunsBefore k rs p.waits p.delays p.frames.items p.ready.pairs.items p.calls
   pushed-before = record {
     j = j;
     source = h.pushed.source;
@@ -152,6 +156,7 @@ module _ (name : Text) (on stop : Bool) (k : Journal) (rs : Records) (p : Parts)
     right = h.pushed.right;
     waits_stand = h.pushed.kept.going.waits_stand;
     runs_kept = h.pushed.kept.going.runs_kept;
+    calls_kept = h.pushed.kept.going.calls_kept;
   }
 
   pub pushed-table : IsTable k rs

@@ -1,5 +1,6 @@
 -- The records of a step, from those before it.
 use Rattle.std.proofs.Common.{◌≡◌, ℕ, zero, suc, ◌+◌, ◌-◌, ◌^◌, ◌<◌, ◌≤◌, ◌⊎◌, inl, inr, List, [], ◌∷◌, length, Bool, true, false, refl, sym, ap, subst, ◌∙◌, rules, arith}
+use Rattle.std.proofs.lemmas.Bool.Decides.{nat_tests}
 use Rattle.std.specs.Prelude.{Option, Some, None, not, ◌&&◌, ◌||◌, nat_eq, nat_le, nat_lt, fold, count_by, slice_get, option_map, option_and_then, if◌then◌else◌}
 use Rattle.std.specs.List.{list_any}
 use Rattle.std.specs.Option.{option_map_or}
@@ -12,10 +13,10 @@ use Rattle.ha_sight.specs.declared.item.Item.{Item}
 use Rattle.ha_model.specs.declared.record.Record.{Record}
 use Rattle.ha_sight.specs.declared.steps.Progress.{Progress}
 use Rattle.ha_sight.specs.Items.{is_call}
-use Rattle.ha_journal.specs.Journal.{Journal, IsJournal, automations, more}
+use Rattle.ha_journal.specs.Journal.{Journal, IsJournal, automations, last_place, more}
 use Rattle.ha_model.specs.Lawful.{Right, record_of}
 use Rattle.ha_model.specs.NextPlace.{next_end}
-use Rattle.ha_model.specs.Records.{Records, calls_of, is_call_of, spots}
+use Rattle.ha_model.specs.Records.{CallEnds, Records, calls_of, is_call_of, spots}
 use Rattle.ha_journal.specs.Attempts.{passing}
 use Rattle.ha_model.specs.RecordSteps.{records_after}
 use Rattle.ha_sight.specs.Scripts.{Branch}
@@ -33,14 +34,16 @@ use Rattle.run_modes.specs.Fits.{AreNumbered}
 use Rattle.run_modes.specs.Table.{HasBegun, called_on, stopped}
 use Rattle.run_modes.proofs.ChangeLaws.{called-record}
 use Rattle.engine_parts.specs.declared.parts.Parts.{Parts}
-use Rattle.engine_parts.specs.Kept.{Going, nobody}
+use Rattle.engine_parts.specs.Called.{AreAlike, told_by}
+use Rattle.engine_parts.specs.Kept.{Going, RunsKept, nobody}
 use Rattle.engine_parts.specs.Records.{IsTable}
 use Rattle.engine_parts.specs.Runs.{HasEnd}
 use Rattle.engine_parts.specs.Stages.{Stopped}
-use Rattle.engine_entry.specs.Stepping.{StepEnds, StepTelling, StepTold, cause_of, stops_by, stops_each, turned_by, turned_in}
+use Rattle.engine_entry.specs.Stepping.{StepEnds, StepTelling, StepTold, cause_of, halts_each, stops_by, stops_each, turned_by, turned_in}
 use Rattle.ha_engine.proofs.BeginGoing.{ends-called}
 use Rattle.ha_engine.proofs.ConcludeLemmas.{past-more}
 use Rattle.engine_entry.proofs.EndLemmas.{called-ended, called-table}
+use Rattle.engine_parts.proofs.CalledLemmas.{calls-alike, ended-alike, told-alike}
 use Rattle.engine_parts.proofs.GoneLemmas.{gone-ended}
 use Rattle.engine_entry.proofs.QueuedLemmas.{queued-nowhere, step-where}
 use Rattle.engine_parts.proofs.SlotLemmas.{ended-off}
@@ -58,6 +61,10 @@ each-turned p (t ∷ ts) rs = by (not t.1 && t.2) (λ l. each-turned p ts l)
     by true rec = rec (stopped (Some t.0) p EndCause.SwitchedOff rs)
     by false rec = rec rs
 
+each-halted : (p : ℕ) (scripts : List ℕ) (rs : Records) → halts_each p scripts rs ≡ fold (stop_turned p) rs scripts
+each-halted p [] rs = refl
+each-halted p (s ∷ ss) rs = each-halted p ss (stopped (Some s) p EndCause.SwitchedOff rs)
+
 stops-is : (p w s : ℕ) (b : Branch) (item : Item) (rs : Records) → stops_by p item rs ≡ stops_done p (Step w s b item) (turned_by item) rs
 stops-is p w s b (Item.Switched targets) rs = each-turned p targets rs
 stops-is p w s b Item.Nothing rs = refl
@@ -65,6 +72,8 @@ stops-is p w s b (Item.Call service target fields) rs = refl
 stops-is p w s b (Item.Fired kind pairs) rs = refl
 stops-is p w s b (Item.Triggered automations skip) rs = refl
 stops-is p w s b (Item.Failed code) rs = refl
+stops-is p w s b (Item.Started scripts fields waits) rs = refl
+stops-is p w s b (Item.Halted scripts) rs = each-halted p scripts rs
 
 any-turned : (a : ℕ) (targets : List (ℕ × Bool × Bool)) → list_any (λ t. nat_eq t.0 a && not t.1 && t.2) targets ≡ list_any (λ b. nat_eq b a) (turned_in targets)
 any-turned a [] = refl
@@ -79,13 +88,26 @@ any-turned a (t ∷ ts) = by (nat_eq t.0 a) (not t.1) t.2 refl (any-turned a ts)
     by false true false q rec = rec
     by false false e q rec = rec
 
+flipped : (a b : ℕ) → nat_eq a b ≡ nat_eq b a
+flipped a b = grind (arith, nat_tests)
+
+any-halted : (a : ℕ) (scripts : List ℕ) → list_any (nat_eq a) scripts ≡ list_any (λ b. nat_eq b a) scripts
+any-halted a [] = refl
+any-halted a (s ∷ ss) = (λ i. flipped a s i || any-halted a ss i)
+
+or-false : (b : Bool) → (b || false) ≡ b
+or-false true = refl
+or-false false = refl
+
 are-turned : (j : Journal) (w s : ℕ) (b : Branch) (item : Item) → AreTurned j (Step w s b item) (turned_by item)
-are-turned j w s b (Item.Switched targets) a = any-turned a targets
+are-turned j w s b (Item.Switched targets) a = or-false (list_any (λ t. nat_eq t.0 a && not t.1 && t.2) targets) ∙ any-turned a targets
 are-turned j w s b Item.Nothing a = refl
 are-turned j w s b (Item.Call service target fields) a = refl
 are-turned j w s b (Item.Fired kind pairs) a = refl
 are-turned j w s b (Item.Triggered automations skip) a = refl
 are-turned j w s b (Item.Failed code) a = refl
+are-turned j w s b (Item.Started scripts fields waits) a = refl
+are-turned j w s b (Item.Halted scripts) a = any-halted a scripts
 
 -- ---- the calls of a run
 
@@ -206,6 +228,9 @@ module _ (k : Journal) (rs : Records) (p : Parts) (progress : Progress) (serial 
   step-ends true = ends-called k rs serial ends-plain
   step-ends false = ends-plain
 
+  counted-alike : AreAlike nobody (last_place k) rs (called_on serial rs)
+  counted-alike = ended-alike nobody (last_place k) rs (called_on serial rs) (called-ended (last_place k) serial rs)
+
   -- LAW: all runs are kept where the call was counted
   pub going-counted : (made : Bool) → Going nobody k (call_counted made serial rs) p
   going-counted false = h.told.going
@@ -217,7 +242,9 @@ module _ (k : Journal) (rs : Records) (p : Parts) (progress : Progress) (serial 
         waits_stand = g.waits_stand;
         owned = g.owned;
         keys_early = g.keys_early;
-        runs_kept = gone-ended nobody k p.delays p.waits rs (called_on serial rs) p.frames.items p.ready.pairs.items (called-table serial k rs table).past table.numbered (called-ended serial rs) g.runs_kept;
+        runs_kept = subst (λ (told : CallEnds). RunsKept told nobody k (called_on serial rs) p.delays p.waits p.frames.items p.ready.pairs.items) (told-alike nobody k rs (called_on serial rs) counted-alike)
+            (gone-ended (told_by nobody k rs) nobody (last_place k) k p.delays p.waits rs (called_on serial rs) p.frames.items p.ready.pairs.items (called-table serial k rs table).past table.numbered (called-ended (last_place k) serial rs) g.runs_kept);
+        calls_kept = calls-alike nobody k rs (called_on serial rs) p.delays p.waits p.frames.items p.calls table.numbered counted-alike g.runs_kept.slots g.calls_kept;
       })
 
   pub journal-right : Right k (records_after j rs x)

@@ -4,7 +4,7 @@ use Rattle.std.specs.List.{enumerate_from, list_any}
 use Rattle.ha_config.specs.declared.config.Action.{Action}
 use Rattle.ha_config.specs.declared.config.Mode.{Mode}
 use Rattle.ha_journal.specs.Attempts.{Attempt, passes}
-use Rattle.ha_journal.specs.Journal.{Journal, automations, last_place}
+use Rattle.ha_journal.specs.Journal.{Journal, last_place, units}
 use Rattle.ha_model.specs.Records.{Records, actions_of, mode_of, max_of}
 use Rattle.ha_model.specs.RunSteps.{replace_all}
 use Rattle.ha_sight.specs.declared.item.Item.{Item}
@@ -43,14 +43,14 @@ has_action (a ∷ rest) = true
 -- it has what the attempt, at its order, and its automation say, and frames at the begin of the script
 pub record IsPrepared (k : Journal) (x : ℕ × Attempt) (p : Prepared) : Type 0 where
   pub automation : p.automation ≡ x.1.automation
-  pub mode : p.mode ≡ mode_of (automations k) x.1.automation
-  pub max : p.max ≡ max_of (automations k) x.1.automation
+  pub mode : p.mode ≡ mode_of (units k) x.1.automation
+  pub max : p.max ≡ max_of (units k) x.1.automation
   pub order : p.order ≡ x.0
   pub env : p.env ≡ x.1.env
   pub script : p.frames.value.automation ≡ x.1.automation
-  pub stands : Stands p.frames.value (actions_of (automations k) x.1.automation) x.1.env []
-  pub first : fronts p.frames.value [] ≡ first_fronts (actions_of (automations k) x.1.automation)
-  pub acts : p.acts ≡ has_action (actions_of (automations k) x.1.automation)
+  pub stands : Stands p.frames.value (actions_of (units k) x.1.automation) x.1.env []
+  pub first : fronts p.frames.value [] ≡ first_fronts (actions_of (units k) x.1.automation)
+  pub acts : p.acts ≡ has_action (actions_of (units k) x.1.automation)
 
 -- the attempt of an automation that is asked for
 abbrev pub asked_for : ℕ → Pairs → Bool → Attempt

@@ -1,7 +1,7 @@
 -- The fields of an engine.
 use Rattle.std.specs.Prelude.{◌≡◌, false}
 use Rattle.ha_journal.specs.Journal.{automations}
-use Rattle.segment_carry.specs.ByName.{by_name}
+use Rattle.segment_carry.specs.ByName.{rule_order}
 use Rattle.segment_runs.specs.Segment.{all_of}
 use Rattle.ha_engine.specs.Core.{Core}
 use Rattle.ha_engine.specs.Noted.{AreNoted}
@@ -16,4 +16,4 @@ pub record IsKept (e : Inside) : Type 0 where
   pub told : IsTold e.journal.items e.bounds e.runs
   pub followed : e.spent ≡ false → IsFollowed e.journal.items e.runs.list e.parts e.lasts.items e.reset
   pub noted : e.spent ≡ false → AreNoted e.journal.items e.lasts.items e.moved
-  pub ordered : e.spent ≡ false → e.order ≡ by_name (automations e.journal.items)
+  pub ordered : e.spent ≡ false → e.order ≡ rule_order (automations e.journal.items)

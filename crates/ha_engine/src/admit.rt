@@ -5,7 +5,6 @@ ghost use Rattle.ha_journal.specs.Journal.{last_place, Journal};
 ghost use Rattle.run_modes.specs.Calls.{all_tried, tried};
 ghost use Rattle.ha_ready.specs.ReadyPairs.{pairs_of};
 ghost use Rattle.engine_parts.specs.Records.{HasRoom, IsTable};
-ghost use Rattle.run_modes.specs.Fits.{AreNumbered};
 ghost use Rattle.run_modes.specs.Table.{live_of};
 ghost use Rattle.engine_parts.specs.Kept.{Going, nobody};
 ghost use Rattle.ha_engine.specs.Admits.{ArePrepared, IsPrepared, OneSlot, SlotsBy, are_in, branches_if, from_end, gone_by, pairs_by};
@@ -34,29 +33,31 @@ pub struct Prepared {
     pub(crate) acts: bool,
 }
 
-/// All live runs of an automation go.
-pub(crate) fn forget_live(runs: &SegmentRuns, parts: &mut Parts, automation: u32)
-    ensures going { (k : Journal) → AreNumbered 0 runs.now.list → Going nobody k runs.now.list parts.old → Going (are_in (live_of automation runs.now.list)) k runs.now.list parts.new }
+/// All live runs of an automation go at the last place.
+pub(crate) fn forget_live(runs: &SegmentRuns, parts: &mut Parts, automation: u32, place: u64)
+    requires { HasRoom 0 parts.old }
+    ensures going { (k : Journal) → place ≡ last_place k → IsTable k runs.now.list → Going nobody k runs.now.list parts.old → Going (are_in (live_of automation runs.now.list)) k runs.now.list parts.new }
     ensures rested { parts.new.rested ≡ parts.old.rested }
     ensures room { (n : ℕ) → HasRoom n parts.old → HasRoom n parts.new }
 {
     let most = runs.len();
     'runs: for at in 0..most {
         match runs.live(automation, at) {
-            Some(serial) => forget(parts, serial),
+            Some(serial) => forget(parts, serial, place),
             None => return,
         }
     }
 }
 
 /// Those that a new run replaces go.
-fn clear_way(runs: &SegmentRuns, parts: &mut Parts, mode: Mode, automation: u32)
-    ensures going { (k : Journal) → AreNumbered 0 runs.now.list → Going nobody k runs.now.list parts.old → Going (gone_by mode automation runs.now.list) k runs.now.list parts.new }
+fn clear_way(runs: &SegmentRuns, parts: &mut Parts, mode: Mode, automation: u32, place: u64)
+    requires { HasRoom 0 parts.old }
+    ensures going { (k : Journal) → place ≡ last_place k → IsTable k runs.now.list → Going nobody k runs.now.list parts.old → Going (gone_by mode automation runs.now.list) k runs.now.list parts.new }
     ensures rested { parts.new.rested ≡ parts.old.rested }
     ensures room { (n : ℕ) → HasRoom n parts.old → HasRoom n parts.new }
 {
     match mode {
-        Mode::Restart => forget_live(runs, parts, automation),
+        Mode::Restart => forget_live(runs, parts, automation, place),
         Mode::Single => {}
         Mode::Queued => {}
         Mode::Parallel => {}
@@ -123,7 +124,7 @@ fn admit_one(
         frames,
         acts,
     } = prepared;
-    clear_way(runs, parts, mode, automation);
+    clear_way(runs, parts, mode, automation, place);
     match runs.attempt(automation, mode, max, place, order, env) {
         Ok(told) => take_in(parts, alloc, told, frames, acts),
         Err(_) => unreachable!(),
@@ -142,7 +143,8 @@ pub(crate) fn admit_all(
     requires runs { vec_len stack ≤ runs.old.spare }
     requires parts { HasRoom (vec_len stack) parts.old }
     ensures all { (k : Journal) (xs : List (ℕ × Tried)) → ArePrepared k xs (from_end stack.items) → place ≡ last_place k → 0 < length k → IsTable k runs.old.list → Going nobody k runs.old.list parts.old
-        → (runs.new.list ≡ all_tried k runs.old.list xs) × Going nobody k runs.new.list parts.new }
+        → (runs.new.list ≡ all_tried k runs.old.list xs) × IsTable k runs.new.list × Going nobody k runs.new.list parts.new }
+    ensures room { HasRoom 0 parts.new }
     ensures closed { runs.new.closed ≡ runs.old.closed }
     ensures rested { parts.new.rested ≡ parts.old.rested }
 {

@@ -20,11 +20,10 @@ ghost use Rattle.engine_parts.specs.Records.{HasRoom};
 
 use crate::admit::{Prepared, admit_all};
 use crate::bounds::Bounds;
-use crate::conclude::make_room;
+use crate::conclude::{drop_refused, make_room};
 use crate::engine::Engine;
 use crate::lasts::{known_moments, note_lasts};
 use crate::prepare::prepare_opening;
-use cond_eval::View;
 use engine_entry::open::open_all;
 use engine_parts::parts::Parts;
 use engine_parts::ready::Ready;
@@ -33,7 +32,8 @@ use ha_clock::{ClockFault, Moment, Zone};
 use ha_config::Config;
 use ha_journal::{Carry, Entry, Firing};
 use ha_value::{Boxed, Many, Word};
-use segment_carry::{by_name, lasts};
+use script_calls::{Calls, Seeing};
+use segment_carry::{lasts, rule_order};
 use segment_runs::SegmentRuns;
 use segment_view::Behind;
 use state_table::StateTable;
@@ -119,7 +119,9 @@ fn note_first<'a>(
     ensures stands { OnOk result (StandsFor triggers.new journal.entry.now) }
     ensures fired { IfOk result (λ fired. attempts_by fired ≡ fired_lem journal.entry.now (last_place journal.entry.now)) }
 {
-    let view = View::make(states, journal.configuration(), zone, start);
+    let view = Seeing::make(states, journal.configuration(), zone, start);
+    // The borrow checker builds its plan only where a place has the type that the view holds.
+    let _ = &view.view;
     let fired = triggers.open_segment(alloc, zone, &view)?;
     Ok(fired)
 }
@@ -166,6 +168,7 @@ fn first_parts(
         switches,
         triggers,
         waits: Waits::make(alloc),
+        calls: Calls::make(alloc),
         frames: Slots::make(alloc),
         delays: TimerQueue::make(alloc),
         ready: Ready {
@@ -210,6 +213,7 @@ pub(crate) fn admit_first(
     ensures closed { runs.new.closed ≡ runs.old.closed }
 {
     admit_all(runs, parts, alloc, 0, stack);
+    drop_refused(parts, 0);
 }
 
 /// The runs and the parts behind the boot.
@@ -278,7 +282,7 @@ impl Engine {
         let automations = config.automations.as_slice();
         let known = known_moments(alloc, automations, last.as_slice())?;
         let mut lasts = lasts(alloc, automations, known.as_slice())?;
-        let order = by_name(alloc, automations)?;
+        let order = rule_order(alloc, automations)?;
         let carry = Carry::first(alloc, known)?;
         let journal = first_journal(alloc, text, config, stored, start, zone, carry)?;
         let (runs, parts) = begin_first(alloc, journal.as_slice(), switches, read, start)?;

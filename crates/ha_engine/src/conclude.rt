@@ -1,30 +1,46 @@
 //! The end of the work on an entry: its attempts, and the flags of the sources.
-ghost use Rattle.std.specs.Prelude.{◌≡◌, ◌≤◌, [], ℕ, OnOk, OnErr, vec_len};
+ghost use Rattle.std.specs.Prelude.{◌≡◌, ◌≤◌, ◌+◌, [], ℕ, suc, OnOk, OnErr, length, vec_len, vec_capacity};
 ghost use Rattle.ha_journal.specs.declared.entry.Entry.{Entry as Item};
 ghost use Rattle.ha_journal.specs.Attempts.{fired as fired_lem, passing};
 ghost use Rattle.ha_journal.specs.Journal.{Journal, last_place, more as longer};
-ghost use Rattle.ha_model.specs.Records.{Records};
+ghost use Rattle.ha_model.specs.Records.{Records, call_end};
 ghost use Rattle.ha_model.specs.RecordSteps.{records_after};
 ghost use Rattle.ha_model.specs.Lawful.{Right};
 ghost use Rattle.ha_engine.specs.Admits.{ArePrepared, from_end};
-ghost use Rattle.engine_parts.specs.Kept.{Going, Kept, nobody};
+ghost use Rattle.engine_parts.specs.Kept.{Going, GoingWith, Kept, nobody};
 ghost use Rattle.ha_ready.specs.RestedFlags.{RestedKept};
 ghost use Rattle.engine_parts.specs.Owners.{attempts_by};
-ghost use Rattle.engine_parts.specs.Records.{HasRoom};
+ghost use Rattle.engine_parts.specs.Records.{HasRoom, IsTable};
 ghost use Rattle.ha_ready.specs.RestedFlags.{IsKnown, source_of};
 ghost use Rattle.engine_parts.specs.Stages.{LineTold, Stopped};
 
 use crate::admit::{Prepared, admit_all};
 use crate::prepare::prepare;
+use engine_parts::called::wake_caller;
 use engine_parts::parts::Parts;
 use engine_parts::rested::note_flags;
+use engine_parts::slots::Slots;
 use ha_journal::{Entry, Firing};
 use ha_value::Many;
+use script_step::Frames;
 use segment_runs::SegmentRuns;
 use segment_view::Segment;
 use std::alloc::{AllocError, Global};
 
-/// Room for so many runs more, each with its frames and a pair.
+/// Room for so many pairs more, and for one of each call that waits.
+fn reserve_pairs(parts: &mut Parts, more: usize) -> Result<(), AllocError>
+    ensures rest { parts.new ≡ record parts.old { ready = parts.new.ready } }
+    ensures items { parts.new.ready.pairs.items ≡ parts.old.ready.pairs.items }
+    ensures room { OnOk result (vec_len parts.new.ready.pairs + more + length parts.new.calls ≤ vec_capacity parts.new.ready.pairs) }
+{
+    let calls = parts.calls.len();
+    if usize::MAX - calls < more {
+        return Err(AllocError);
+    }
+    parts.ready.pairs.reserve(more + calls)
+}
+
+/// Room for so many runs more, each with its frames and a pair, and for a pair of each call that waits.
 pub(crate) fn make_room(
     runs: &mut SegmentRuns,
     parts: &mut Parts,
@@ -39,7 +55,7 @@ pub(crate) fn make_room(
 {
     runs.reserve(more as u64)?;
     parts.frames.reserve(more)?;
-    parts.ready.pairs.reserve(more)?;
+    reserve_pairs(parts, more)?;
     Ok(())
 }
 
@@ -57,11 +73,28 @@ fn last_source(journal: &Segment<'_>) -> Option<u32>
 fn note_source(parts: &mut Parts, journal: &Segment<'_>)
     requires { vec_len parts.old.rested ≤ 16 }
     ensures { (j : Journal) (x : Item) (rs : Records) → journal.now ≡ longer j x → Right j rs → IsKnown (source_of x) → RestedKept j rs parts.old.rested.items → Right journal.now (records_after j rs x)
-        → Going nobody journal.now (records_after j rs x) parts.old → Kept journal.now (records_after j rs x) parts.new }
+        → GoingWith (call_end (records_after j rs x)) nobody journal.now (records_after j rs x) parts.old → Kept journal.now (records_after j rs x) parts.new }
 {
     let source = last_source(journal);
     let quiet = parts.ready.pairs.len() == 0;
     note_flags(&mut parts.rested, source, quiet);
+}
+
+/// The serial of the run that comes next.
+fn next_serial(frames: &Slots<Frames>) -> u64
+    ensures { result ≡ suc (length frames.now.items) }
+{
+    frames.len() as u64 + 1
+}
+
+/// All records of an entry were told: where its own call has no run, the one that waits for it goes on.
+pub(crate) fn drop_refused(parts: &mut Parts, place: u64)
+    requires { HasRoom 0 parts.old }
+    ensures going { (k : Journal) (rs : Records) → place ≡ last_place k → IsTable k rs → Going nobody k rs parts.old → GoingWith (call_end rs) nobody k rs parts.new }
+    ensures rested { parts.new.rested ≡ parts.old.rested }
+{
+    let next = next_serial(&parts.frames);
+    wake_caller(parts, next, place);
 }
 
 /// The end of the work on a line that stops nobody and asks for no run: its records are those before it, and the flags alone are left.
@@ -88,7 +121,9 @@ pub(crate) fn settle(
     ensures kept { Right journal.now runs.new.list × Kept journal.now runs.new.list parts.new }
     ensures closed { runs.new.closed ≡ runs.old.closed }
 {
-    admit_all(runs, parts, alloc, journal.place(), stack);
+    let place = journal.place();
+    admit_all(runs, parts, alloc, place, stack);
+    drop_refused(parts, place);
     note_source(parts, journal);
 }
 

@@ -4,7 +4,7 @@ ghost use Rattle.ha_config.specs.declared.command.Cmd.TheVariants.{Restart};
 ghost use Rattle.ha_journal.specs.declared.entry.Entry.{Entry as Put};
 ghost use Rattle.ha_journal.specs.declared.entry.Entry.TheVariants.{Line};
 ghost use Rattle.ha_journal.specs.Entries.{restarts as restarts_lem};
-ghost use Rattle.ha_journal.specs.Journal.{more, Journal, automations};
+ghost use Rattle.ha_journal.specs.Journal.{more, Journal, automations, configured};
 ghost use Rattle.ha_journal.specs.Commands.{put_as as put_as_lem, IsFair};
 ghost use Rattle.ha_sight.specs.declared.item.Item as item_lem;
 ghost use Rattle.ha_journal.specs.declared.entry.Entry.{Entry as Item};
@@ -33,7 +33,7 @@ use ha_journal::Entry;
 use ha_model::Record;
 use ha_value::{Many, Word};
 use ha_whole::CoreFault;
-use segment_carry::moments;
+use segment_carry::rule_moments;
 use segment_runs::SegmentRuns;
 use segment_view::Segment;
 use std::alloc::{AllocError, Global};
@@ -360,7 +360,8 @@ impl Engine {
 
     /// The configuration of the boot.
     pub(crate) fn configuration(&self) -> &Config
-        ensures { result.now.automations ≡ automations self.now.entries }
+        ensures automations { result.now.automations ≡ automations self.now.entries }
+        ensures configured { result.now ≡ configured self.now.entries }
     {
         config_in(self.journal.as_slice())
     }
@@ -395,7 +396,7 @@ impl Engine {
         ensures storable { IfOk result AreMoments }
     {
         let automations = self.configuration().automations.as_slice();
-        moments(
+        rule_moments(
             alloc,
             automations,
             self.order.as_slice(),

@@ -28,8 +28,8 @@ use trig_set::Before;
 /// What a command that changes no switch changes itself.
 fn enter_plain(parts: &mut Parts, alloc: Global, cmd: &Cmd) -> Result<Before, AllocError>
     ensures entered { IfOk result (λ before. (k : Journal) (rs : Records) → (h : Pushed k rs parts.old) → h.cmd ≡ cmd.now → IsPlain cmd.now → Entered k parts.new before) }
-    ensures runs { OnOk result ((k : Journal) (rs : Records) → RunsBefore k rs parts.old.waits parts.old.delays parts.old.frames.items parts.old.ready.pairs.items
-        → RunsBefore k rs parts.new.waits parts.new.delays parts.new.frames.items parts.new.ready.pairs.items) }
+    ensures runs { OnOk result ((k : Journal) (rs : Records) → RunsBefore k rs parts.old.waits parts.old.delays parts.old.frames.items parts.old.ready.pairs.items parts.old.calls
+        → RunsBefore k rs parts.new.waits parts.new.delays parts.new.frames.items parts.new.ready.pairs.items parts.new.calls) }
     ensures rested { OnOk result (parts.new.rested ≡ parts.old.rested) }
 {
     match cmd {

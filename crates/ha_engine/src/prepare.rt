@@ -1,14 +1,15 @@
 //! The attempts of an entry that pass, each with the frames that its run begins with.
-ghost use Rattle.std.specs.Prelude.{◌≡◌, ◌+◌, ◌-◌, ◌<◌, ◌≤◌, ◌^◌, ◌∷◌, [], ◌++◌, ◌||◌, ℕ, suc, true, false, IsTrue, List, Some, None, IfOk, OnOk, length, map, slice_get, if◌then◌else◌};
+ghost use Rattle.std.specs.Prelude.{◌≡◌, ◌+◌, ◌-◌, ◌<◌, ◌≤◌, ◌^◌, ◌∷◌, [], ◌++◌, ◌||◌, ℕ, suc, true, false, IsTrue, List, Some, None, IfOk, OnOk, codes, length, map, slice_get, if◌then◌else◌};
 ghost use Rattle.std.specs.List.{enumerate_from};
 ghost use Rattle.std.specs.Option.{option_copied, option_map_or};
 ghost use Rattle.ha_journal.specs.declared.firing.Firing.{Firing as Fire};
 ghost use Rattle.ha_journal.specs.Attempts.{attempts, by_hand, fired as fired_lem, passes as passes_lem, passing};
 ghost use Rattle.ha_sight.specs.Conditions.{hold_all};
 ghost use Rattle.ha_journal.specs.Entries.{asked_in};
-ghost use Rattle.ha_journal.specs.Journal.{Journal, IsJournal, automations, more, last_place};
+ghost use Rattle.ha_journal.specs.Journal.{Journal, IsJournal, automations, more, last_place, scripts, units};
 ghost use Rattle.ha_config.specs.Sound.{IsSoundConfig, are_sound_actions};
-ghost use Rattle.ha_config.specs.Names.{automation_named};
+ghost use Rattle.ha_config.specs.declared.config.Script.{Script as Called};
+ghost use Rattle.ha_config.specs.Names.{automation_named, unit_of};
 ghost use Rattle.ha_journal.specs.Moves.{sight};
 ghost use Rattle.script_step.specs.Few.{has_few_lists};
 ghost use Rattle.script_step.specs.Gates.{first_fronts};
@@ -20,36 +21,31 @@ ghost use Rattle.ha_engine.specs.Begun.{IsBegun};
 ghost use Rattle.ha_engine.specs.declared.admit.Prepared.{Prepared as Made};
 
 use crate::admit::Prepared;
-use cond_eval::View;
 use engine_parts::attempts::hold_all;
 use engine_parts::parts::Parts;
-use ha_config::{Action, Automation, Cmd, Config, Mode, same_text};
+use ha_config::{Action, Automation, Cmd, Config, Mode, Script, same_text};
 use ha_journal::{Entry, Firing};
 use ha_sight::{Answers, Env, Item, TriggerData};
-use ha_value::{Many, Value, Word};
+use ha_value::{Many, Value, Word, copy_pairs};
+use script_calls::Seeing;
 use script_step::Frames;
 use segment_view::{Behind, Segment};
 use std::alloc::{AllocError, Global};
 
-/// Whether an attempt passes: it has an automation, and its conditions are skipped, or all hold.
+/// Whether an attempt of an automation passes: its conditions are skipped, or all hold.
 fn passes<A: Answers>(
     alloc: Global,
-    rule: Option<&Automation>,
+    rule: &Automation,
     answers: &A,
     env: &Env,
     skip: bool,
 ) -> Result<bool, AllocError>
-    ensures { IfOk result (λ b. b ≡ option_map_or (λ a. skip || hold_all (A.sight answers.now) a.tests env.now) (option_copied rule.entry) false) }
+    ensures { IfOk result (λ b. b ≡ (skip || hold_all (A.sight answers.now) rule.now.tests env.now)) }
 {
-    match rule {
-        Some(rule) => {
-            if skip {
-                return Ok(true);
-            }
-            hold_all(alloc, &rule.tests, env, answers)
-        }
-        None => Ok(false),
+    if skip {
+        return Ok(true);
     }
+    hold_all(alloc, &rule.tests, env, answers)
 }
 
 /// Whether a script has an action.
@@ -106,42 +102,87 @@ fn put_script(
     Ok(())
 }
 
-/// An attempt of an automation is put there; a number that names none has no action.
+/// An attempt of an automation is put there.
 fn put(
     alloc: Global,
     stack: &mut Vec<Prepared>,
-    rule: Option<&Automation>,
+    rule: &Automation,
     automation: u32,
     order: u64,
     env: Env,
 ) -> Result<(), AllocError>
-    requires { option_map_or (λ a. are_sound_actions a.actions) (option_copied rule) true ≡ true }
+    requires { are_sound_actions rule.now.actions ≡ true }
     ensures { OnOk result ((p : Made) × (stack.new.items ≡ stack.old.items ++ p ∷ [])
-        × IsReady automation order env (option_map_or (λ a. a.mode) (option_copied rule.entry) Mode.Single) (option_map_or (λ a. a.max) (option_copied rule.entry) 0)
-        (option_map_or (λ a. a.actions) (option_copied rule.entry) []) p) }
+        × IsReady automation order env rule.now.mode rule.now.max rule.now.actions p) }
 {
-    match rule {
-        Some(rule) => put_script(
+    put_script(
+        alloc,
+        stack,
+        &rule.actions,
+        rule.mode,
+        rule.max,
+        automation,
+        order,
+        env,
+    )
+}
+
+/// The script at a place behind the automations.
+fn script_at(config: &Config, at: usize) -> Option<&Script>
+    requires { length config.now.automations ≤ at }
+    ensures { option_copied result ≡ slice_get config.now.scripts (at - length config.now.automations) }
+{
+    config.scripts.get(at - config.automations.len())
+}
+
+/// An attempt of a script is put there, where there is one: a script has no conditions.
+fn put_called(
+    alloc: Global,
+    stack: &mut Vec<Prepared>,
+    script: Option<&Script>,
+    unit: u32,
+    order: u64,
+    env: Env,
+) -> Result<(), AllocError>
+    requires { option_map_or (λ s. are_sound_actions s.actions) (option_copied script) true ≡ true }
+    ensures there { (s : Called) → option_copied script.entry ≡ Some s → OnOk result ((p : Made) × (stack.new.items ≡ stack.old.items ++ p ∷ []) × IsReady unit order env s.mode s.max s.actions p) }
+    ensures none { option_copied script.entry ≡ None → OnOk result (stack.new.items ≡ stack.old.items) }
+{
+    match script {
+        Some(script) => put_script(
             alloc,
             stack,
-            &rule.actions,
-            rule.mode,
-            rule.max,
-            automation,
+            &script.actions,
+            script.mode,
+            script.max,
+            unit,
             order,
             env,
         ),
-        None => put_script(
-            alloc,
-            stack,
-            &Many::make(alloc),
-            Mode::Single,
-            0,
-            automation,
-            order,
-            env,
-        ),
+        None => Ok(()),
     }
+}
+
+/// An attempt of an automation that is there is put there where it passes.
+fn prepare_rule<A: Answers>(
+    alloc: Global,
+    stack: &mut Vec<Prepared>,
+    rule: &Automation,
+    answers: &A,
+    automation: u32,
+    order: u64,
+    env: Env,
+    skip: bool,
+) -> Result<(), AllocError>
+    requires { are_sound_actions rule.now.actions ≡ true }
+    ensures { OnOk result ((k : Journal) → A.sight answers.now ≡ sight k (suc (last_place k)) → unit_of (units k) automation ≡ Some rule.now
+        → IsPut (passes_lem k (last_place k) (asked_for automation env skip)) k (order, asked_for automation env skip) stack.old.items stack.new.items) }
+{
+    let holds = passes(alloc, rule, answers, &env, skip)?;
+    if holds {
+        put(alloc, stack, rule, automation, order, env)?;
+    }
+    Ok(())
 }
 
 /// An attempt is put there where it passes.
@@ -150,21 +191,26 @@ fn prepare_one<A: Answers>(
     stack: &mut Vec<Prepared>,
     config: &Config,
     answers: &A,
-    automation: u32,
+    unit: u32,
     order: u64,
     env: Env,
     skip: bool,
 ) -> Result<(), AllocError>
     requires { IsSoundConfig config.now }
-    ensures { OnOk result ((k : Journal) → A.sight answers.now ≡ sight k (suc (last_place k)) → config.now.automations ≡ automations k
-        → IsPut (passes_lem k (last_place k) (asked_for automation env skip)) k (order, asked_for automation env skip) stack.old.items stack.new.items) }
+    ensures { OnOk result ((k : Journal) → A.sight answers.now ≡ sight k (suc (last_place k)) → config.now.automations ≡ automations k → config.now.scripts ≡ scripts k
+        → IsPut (passes_lem k (last_place k) (asked_for unit env skip)) k (order, asked_for unit env skip) stack.old.items stack.new.items) }
 {
-    let rule = config.automations.get(automation as usize);
-    let holds = passes(alloc, rule, answers, &env, skip)?;
-    if holds {
-        put(alloc, stack, rule, automation, order, env)?;
+    match config.automations.get(unit as usize) {
+        Some(rule) => prepare_rule(alloc, stack, rule, answers, unit, order, env, skip),
+        None => put_called(
+            alloc,
+            stack,
+            script_at(config, unit as usize),
+            unit,
+            order,
+            env,
+        ),
     }
-    Ok(())
 }
 
 /// Whether a firing is of an automation.
@@ -204,7 +250,7 @@ fn prepare_firing<A: Answers>(
     requires sound { IsSoundConfig config.now }
     requires left { (if is_attempt firing then 1 else 0) ≤ left }
     ensures order { IfOk result (λ order. order + (if is_attempt firing then 1 else 0) ≡ left) }
-    ensures done { IfOk result (λ order. (k : Journal) (fs : List Fire) → A.sight answers.now ≡ sight k (suc (last_place k)) → config.now.automations ≡ automations k
+    ensures done { IfOk result (λ order. (k : Journal) (fs : List Fire) → A.sight answers.now ≡ sight k (suc (last_place k)) → config.now.automations ≡ automations k → config.now.scripts ≡ scripts k
         → ArePassing k left (attempts_by fs) stack.old.items → ArePassing k order (attempts_by (firing ∷ fs)) stack.new.items) }
 {
     if !is_attempt(&firing) {
@@ -233,7 +279,7 @@ fn prepare_fired<A: Answers>(
     fired: Many<Firing>,
 ) -> Result<Vec<Prepared>, AllocError>
     requires { IsSoundConfig config.now }
-    ensures { IfOk result (λ stack. (k : Journal) → A.sight answers.now ≡ sight k (suc (last_place k)) → config.now.automations ≡ automations k
+    ensures { IfOk result (λ stack. (k : Journal) → A.sight answers.now ≡ sight k (suc (last_place k)) → config.now.automations ≡ automations k → config.now.scripts ≡ scripts k
         → ArePassing k 0 (attempts_by fired) stack.items) }
 {
     let mut fired = fired;
@@ -245,13 +291,20 @@ fn prepare_fired<A: Answers>(
     Ok(stack)
 }
 
+/// The variable `trigger` of a run that was asked for.
+fn trigger_by_hand(alloc: Global) -> Result<TriggerData, AllocError>
+    ensures { IfOk result (λ trigger. (codes "trigger", trigger) ∷ [] ≡ by_hand) }
+{
+    let mut pairs = Many::with_room(alloc, 1)?;
+    pairs.push((Word::from_str(alloc, "platform")?, Value::Null))?;
+    TriggerData::whole(alloc, Value::Pairs(pairs))
+}
+
 /// The variables of a run that was asked for.
 fn env_by_hand(alloc: Global) -> Result<Env, AllocError>
     ensures { IfOk result (λ env. env ≡ by_hand) }
 {
-    let mut pairs = Many::with_room(alloc, 1)?;
-    pairs.push((Word::from_str(alloc, "platform")?, Value::Null))?;
-    let trigger = TriggerData::whole(alloc, Value::Pairs(pairs))?;
+    let trigger = trigger_by_hand(alloc)?;
     Ok(Env::of_trigger(alloc, trigger))
 }
 
@@ -277,7 +330,7 @@ fn prepare_named<A: Answers>(
     skip: bool,
 ) -> Result<Vec<Prepared>, AllocError>
     requires { IsSoundConfig config.now }
-    ensures { IfOk result (λ stack. (k : Journal) → A.sight answers.now ≡ sight k (suc (last_place k)) → config.now.automations ≡ automations k
+    ensures { IfOk result (λ stack. (k : Journal) → A.sight answers.now ≡ sight k (suc (last_place k)) → config.now.automations ≡ automations k → config.now.scripts ≡ scripts k
         → ArePassing k 0 (option_map_or (λ a. asked_for a by_hand skip ∷ []) (automation_named (automations k) name.now) []) stack.items) }
 {
     let mut stack = Vec::new(alloc);
@@ -300,7 +353,7 @@ fn prepare_chosen<A: Answers>(
     skip: bool,
 ) -> Result<Vec<Prepared>, AllocError>
     requires { IsSoundConfig config.now }
-    ensures { IfOk result (λ stack. (k : Journal) → A.sight answers.now ≡ sight k (suc (last_place k)) → config.now.automations ≡ automations k
+    ensures { IfOk result (λ stack. (k : Journal) → A.sight answers.now ≡ sight k (suc (last_place k)) → config.now.automations ≡ automations k → config.now.scripts ≡ scripts k
         → ArePassing k 0 (map (λ a. asked_for a by_hand skip) chosen.now) stack.items) }
 {
     let mut stack = Vec::new(alloc);
@@ -322,6 +375,46 @@ fn prepare_chosen<A: Answers>(
     Ok(stack)
 }
 
+/// The variables of a run that a step asked a script for: behind those of one that was asked for by hand, the ones that it hands over.
+fn env_called(alloc: Global, fields: &[(Word, Value)]) -> Result<Env, AllocError>
+    ensures { IfOk result (λ env. env ≡ by_hand ++ fields.now) }
+{
+    let trigger = trigger_by_hand(alloc)?;
+    let pairs = copy_pairs(alloc, fields)?;
+    Ok(Env::of_trigger_with(trigger, pairs))
+}
+
+/// The attempts that a step asks scripts for, from the last on.
+fn prepare_called<A: Answers>(
+    alloc: Global,
+    config: &Config,
+    answers: &A,
+    chosen: &[u32],
+    fields: &[(Word, Value)],
+) -> Result<Vec<Prepared>, AllocError>
+    requires { IsSoundConfig config.now }
+    ensures { IfOk result (λ stack. (k : Journal) → A.sight answers.now ≡ sight k (suc (last_place k)) → config.now.automations ≡ automations k → config.now.scripts ≡ scripts k
+        → ArePassing k 0 (map (λ a. asked_for a (by_hand ++ fields.now) true) chosen.now) stack.items) }
+{
+    let mut stack = Vec::new(alloc);
+    let mut left = chosen.len();
+    'chosen: while 0 < left {
+        left -= 1;
+        let env = env_called(alloc, fields)?;
+        prepare_one(
+            alloc,
+            &mut stack,
+            config,
+            answers,
+            chosen[left],
+            left as u64,
+            env,
+            true,
+        )?;
+    }
+    Ok(stack)
+}
+
 /// Those of an entry: what it asks for itself, else those by triggers.
 fn prepare_asked<A: Answers>(
     alloc: Global,
@@ -331,7 +424,7 @@ fn prepare_asked<A: Answers>(
     fired: Many<Firing>,
 ) -> Result<Vec<Prepared>, AllocError>
     requires { IsSoundConfig config.now }
-    ensures { IfOk result (λ stack. (k : Journal) → A.sight answers.now ≡ sight k (suc (last_place k)) → config.now.automations ≡ automations k
+    ensures { IfOk result (λ stack. (k : Journal) → A.sight answers.now ≡ sight k (suc (last_place k)) → config.now.automations ≡ automations k → config.now.scripts ≡ scripts k
         → slice_get k (last_place k) ≡ Some entry.now → attempts_by fired ≡ fired_lem k (last_place k) → ArePassing k 0 (attempts k (last_place k)) stack.items) }
 {
     match entry {
@@ -343,6 +436,20 @@ fn prepare_asked<A: Answers>(
             item: Item::Triggered { automations, skip },
             ..
         } => prepare_chosen(alloc, config, answers, automations.as_slice(), *skip),
+        Entry::Step {
+            item: Item::Started {
+                scripts,
+                fields,
+                ..
+            },
+            ..
+        } => prepare_called(
+            alloc,
+            config,
+            answers,
+            scripts.as_slice(),
+            fields.as_slice(),
+        ),
         _ => prepare_fired(alloc, config, answers, fired),
     }
 }
@@ -360,7 +467,9 @@ pub(crate) fn prepare<'a>(
     ensures { IfOk result (λ stack. ArePrepared journal.entry.now (passing journal.entry.now) (from_end stack.items)) }
 {
     let config = journal.configuration();
-    let view = View::make(&parts.states, config, &parts.zone, parts.at);
+    let view = Seeing::make(&parts.states, config, &parts.zone, parts.at);
+    // The borrow checker builds its plan only where a place has the type that the view holds.
+    let _ = &view.view;
     prepare_asked(alloc, config, &view, journal.last_entry(), fired)
 }
 
@@ -377,6 +486,8 @@ pub(crate) fn prepare_opening<'a>(
     ensures { IfOk result (λ stack. ArePrepared journal.entry.now (passing journal.entry.now) (from_end stack.items)) }
 {
     let config = journal.configuration();
-    let view = View::make(&parts.states, config, &parts.zone, parts.at);
+    let view = Seeing::make(&parts.states, config, &parts.zone, parts.at);
+    // The borrow checker builds its plan only where a place has the type that the view holds.
+    let _ = &view.view;
     prepare_fired(alloc, config, &view, fired)
 }

@@ -10,7 +10,7 @@ ghost use Rattle.ha_journal.specs.declared.entry.Entry.{Entry as Put};
 ghost use Rattle.ha_journal.specs.declared.entry.Entry.TheVariants.{Again, Line};
 ghost use Rattle.ha_journal.specs.Attempts.{passing};
 ghost use Rattle.ha_journal.specs.Entries.{IsBoot};
-ghost use Rattle.ha_journal.specs.Journal.{HasEntry, Journal, automations, more};
+ghost use Rattle.ha_journal.specs.Journal.{HasEntry, Journal, automations, configured, more};
 ghost use Rattle.ha_journal.specs.Switches.{is_on};
 ghost use Rattle.ha_model.specs.declared.record.EndCause.{EndCause as Cause};
 ghost use Rattle.ha_model.specs.Lawful.{Right};
@@ -82,7 +82,8 @@ fn moves_any(switches: &Switches, rules: &[Automation]) -> bool
 /// The configuration of an entry that is the boot.
 fn config_of(entry: &Entry) -> &Config
     requires { IsBoot entry.now }
-    ensures { result.now.automations ≡ automations (entry.now ∷ []) }
+    ensures automations { result.now.automations ≡ automations (entry.now ∷ []) }
+    ensures configured { result.now ≡ configured (entry.now ∷ []) }
 {
     match entry {
         Entry::Boot { config, .. } => config,
@@ -93,7 +94,8 @@ fn config_of(entry: &Entry) -> &Config
 /// The configuration of the boot, which stands first.
 pub(crate) fn config_in(journal: &[Entry]) -> &Config
     requires { HasBoot journal.now }
-    ensures { result.now.automations ≡ automations journal.now }
+    ensures automations { result.now.automations ≡ automations journal.now }
+    ensures configured { result.now ≡ configured journal.now }
 {
     config_of(&journal[0])
 }

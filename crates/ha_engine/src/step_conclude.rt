@@ -7,12 +7,12 @@ ghost use Rattle.engine_parts.specs.Kept.{Going, Kept, nobody};
 ghost use Rattle.engine_parts.specs.Owners.{attempts_by};
 ghost use Rattle.engine_parts.specs.Records.{HasRoom, IsTable};
 ghost use Rattle.engine_parts.specs.Stages.{Stopped};
-ghost use Rattle.engine_entry.specs.Stepping.{StepTold, StepTelling, stops_by, stops_each};
+ghost use Rattle.engine_entry.specs.Stepping.{StepTold, StepTelling, halts_each, stops_by, stops_each};
 
 use crate::conclude::{make_room, settle};
 use crate::prepare::prepare;
 use crate::step_end::{cause_of, count_call, end_if};
-use crate::stop::stop_if;
+use crate::stop::{stop_if, stop_runs};
 use crate::switch::ends_runs;
 use engine_parts::parts::Parts;
 use ha_journal::{Entry, Firing};
@@ -24,9 +24,10 @@ use std::alloc::{AllocError, Global};
 
 /// The runs of one automation end, where it is turned off with stop.
 fn stop_target(runs: &mut SegmentRuns, parts: &mut Parts, target: &(u32, bool, bool), place: u64)
-    requires { place < 2 ^ 56 }
+    requires place { place < 2 ^ 56 }
+    requires room { HasRoom 0 parts.old }
     ensures list { runs.new.list ≡ stops_each place (target.now ∷ []) runs.old.list }
-    ensures kept { (k : Journal) → place < length k → IsTable k runs.old.list → Going nobody k runs.old.list parts.old → IsTable k runs.new.list × Going nobody k runs.new.list parts.new }
+    ensures kept { (k : Journal) → place ≡ last_place k → 0 < length k → IsTable k runs.old.list → Going nobody k runs.old.list parts.old → IsTable k runs.new.list × Going nobody k runs.new.list parts.new }
     ensures closed { runs.new.closed ≡ runs.old.closed }
     ensures spare { runs.old.spare ≤ runs.new.spare }
     ensures room { (n : ℕ) → HasRoom n parts.old → HasRoom n parts.new }
@@ -43,9 +44,10 @@ fn stop_targets(
     targets: &[(u32, bool, bool)],
     place: u64,
 )
-    requires { place < 2 ^ 56 }
+    requires place { place < 2 ^ 56 }
+    requires room { HasRoom 0 parts.old }
     ensures list { runs.new.list ≡ stops_each place targets.now runs.old.list }
-    ensures kept { (k : Journal) → place < length k → IsTable k runs.old.list → Going nobody k runs.old.list parts.old → IsTable k runs.new.list × Going nobody k runs.new.list parts.new }
+    ensures kept { (k : Journal) → place ≡ last_place k → 0 < length k → IsTable k runs.old.list → Going nobody k runs.old.list parts.old → IsTable k runs.new.list × Going nobody k runs.new.list parts.new }
     ensures closed { runs.new.closed ≡ runs.old.closed }
     ensures spare { runs.old.spare ≤ runs.new.spare }
     ensures room { (n : ℕ) → HasRoom n parts.old → HasRoom n parts.new }
@@ -56,11 +58,28 @@ fn stop_targets(
     }
 }
 
-/// The same of an item, where it switches automations.
+/// The runs of these scripts end, one script after the other.
+fn halt_scripts(runs: &mut SegmentRuns, parts: &mut Parts, scripts: &[u32], place: u64)
+    requires place { place < 2 ^ 56 }
+    requires room { HasRoom 0 parts.old }
+    ensures list { runs.new.list ≡ halts_each place scripts.now runs.old.list }
+    ensures kept { (k : Journal) → place ≡ last_place k → 0 < length k → IsTable k runs.old.list → Going nobody k runs.old.list parts.old → IsTable k runs.new.list × Going nobody k runs.new.list parts.new }
+    ensures closed { runs.new.closed ≡ runs.old.closed }
+    ensures spare { runs.old.spare ≤ runs.new.spare }
+    ensures room { (n : ℕ) → HasRoom n parts.old → HasRoom n parts.new }
+    ensures rested { parts.new.rested ≡ parts.old.rested }
+{
+    'scripts: for script in scripts {
+        stop_runs(runs, parts, *script, place);
+    }
+}
+
+/// The same of an item, where it switches automations or ends runs of scripts.
 fn stop_switched(runs: &mut SegmentRuns, parts: &mut Parts, item: &Item, place: u64)
-    requires { place < 2 ^ 56 }
+    requires place { place < 2 ^ 56 }
+    requires room { HasRoom 0 parts.old }
     ensures list { runs.new.list ≡ stops_by place item.now runs.old.list }
-    ensures kept { (k : Journal) → place < length k → IsTable k runs.old.list → Going nobody k runs.old.list parts.old → IsTable k runs.new.list × Going nobody k runs.new.list parts.new }
+    ensures kept { (k : Journal) → place ≡ last_place k → 0 < length k → IsTable k runs.old.list → Going nobody k runs.old.list parts.old → IsTable k runs.new.list × Going nobody k runs.new.list parts.new }
     ensures closed { runs.new.closed ≡ runs.old.closed }
     ensures spare { runs.old.spare ≤ runs.new.spare }
     ensures room { (n : ℕ) → HasRoom n parts.old → HasRoom n parts.new }
@@ -73,6 +92,8 @@ fn stop_switched(runs: &mut SegmentRuns, parts: &mut Parts, item: &Item, place: 
         Item::Fired { .. } => {}
         Item::Triggered { .. } => {}
         Item::Failed(_) => {}
+        Item::Started { .. } => {}
+        Item::Halted(scripts) => halt_scripts(runs, parts, scripts.as_slice(), place),
     }
 }
 

@@ -2,7 +2,7 @@
 ghost use Rattle.std.specs.Prelude.{◌≡◌, ◌+◌, ◌-◌, ◌<◌, ◌≤◌, ◌^◌, ◌∷◌, [], ◌++◌, ℕ, suc, List, None, Some, take, drop, length, vec_len, vec_capacity};
 ghost use Rattle.ha_model.specs.declared.record.Record.{Record as Run};
 ghost use Rattle.ha_sight.specs.Items.{is_call};
-ghost use Rattle.ha_journal.specs.Journal.{IsJournal, automations, last_place};
+ghost use Rattle.ha_journal.specs.Journal.{IsJournal, last_place, units};
 ghost use Rattle.ha_model.specs.Lawful.{record_of};
 ghost use Rattle.ha_model.specs.Records.{actions_of};
 ghost use Rattle.ha_sight.specs.Scripts.{Branch as Path};
@@ -51,6 +51,8 @@ pub(crate) fn count_call(runs: &mut SegmentRuns, serial: u64, item: &Item)
         Item::Switched(_) => {}
         Item::Triggered { .. } => {}
         Item::Failed(_) => {}
+        Item::Started { .. } => {}
+        Item::Halted(_) => {}
     }
 }
 
@@ -63,7 +65,7 @@ fn has_some(actions: &[Action]) -> bool
 
 /// Whether the script of a run has one.
 fn acts(journal: &Segment<'_>, runs: &SegmentRuns, serial: u64) -> bool
-    ensures { (r : Run) → record_of runs.now.list serial ≡ Some r → result ≡ has_action (actions_of (automations journal.now) r.automation) }
+    ensures { (r : Run) → record_of runs.now.list serial ≡ Some r → result ≡ has_action (actions_of (units journal.now) r.automation) }
 {
     match runs.automation(serial) {
         Some(automation) => has_some(journal.script(automation)),
@@ -106,7 +108,7 @@ fn begin_run(
 )
     requires { HasRoom 1 parts.old }
     ensures pairs { (m : ℕ) (by : ℕ → List Path) (r : Run) → parts.old.ready.pairs.items ≡ pairs_from 0 m by → by serial ≡ [] → 0 < serial → serial ≤ m → record_of runs.now.list serial ≡ Some r
-        → parts.new.ready.pairs.items ≡ pairs_from 0 m (changed_at serial (first_branches (actions_of (automations journal.now) r.automation)) by) }
+        → parts.new.ready.pairs.items ≡ pairs_from 0 m (changed_at serial (first_branches (actions_of (units journal.now) r.automation)) by) }
     ensures rest { parts.new ≡ record parts.old { ready = parts.new.ready } }
     ensures room { (n : ℕ) → HasRoom (suc n) parts.old → HasRoom n parts.new }
 {
@@ -135,8 +137,9 @@ fn end_run(
     ensures room { (n : ℕ) → HasRoom (suc n) parts.old → HasRoom n parts.new }
     ensures rested { parts.new.rested ≡ parts.old.rested }
 {
-    forget(parts, serial);
-    match runs.ended(serial, journal.place(), cause) {
+    let place = journal.place();
+    forget(parts, serial, place);
+    match runs.ended(serial, place, cause) {
         Some(next) => begin_run(runs, parts, alloc, journal, next),
         None => {}
     }

@@ -13,7 +13,7 @@ use Rattle.ha_journal.specs.declared.entry.Entry.{Entry}
 use Rattle.ha_sight.specs.declared.state.StateObject.{StateObject}
 use Rattle.ha_config.specs.Words.{Text, same, first_pair, numbers_from}
 use Rattle.ha_journal.specs.Entries.{Asked, asked_in, Turning, turning, boot_of, report_in, gone_in, is_restart, opens_segment}
-use Rattle.ha_journal.specs.Journal.{Journal, HasEntry, automations, now, last_place, more}
+use Rattle.ha_journal.specs.Journal.{Journal, HasEntry, automations, now, last_place, more, units}
 use Rattle.ha_journal.specs.Switches.{is_on, since, switched_at}
 use Rattle.ha_journal.specs.States.{states, reported, of_automation as state_of_automation}
 use Rattle.ha_config.specs.Names.{automation_named}
@@ -256,7 +256,7 @@ pub passing-none : (j : Journal) (x : Entry) → attempts (more j x) (length j) 
 passing-none j x none = passing-last j x ∙ (λ i. filter (λ y. passes (more j x) (length j) y.1) (enumerate_from 0 (none i)))
 
 -- LAW: an attempt of an automation without conditions passes
-pub passes-untested : (j : Journal) (p : ℕ) (x : Attempt) (a : Automation) → slice_get (automations j) x.automation ≡ Some a → a.tests ≡ [] → passes j p x ≡ true
+pub passes-untested : (j : Journal) (p : ℕ) (x : Attempt) (a : Automation) → slice_get (units j) x.automation ≡ Some a → a.tests ≡ [] → passes j p x ≡ true
 passes-untested j p x a at untested =
     (λ i. option_map_or (λ b. x.skip || hold_all (sight j (suc p)) b.tests x.env) (at i) false)
     ∙ (λ i. x.skip || hold_all (sight j (suc p)) (untested i) x.env)

@@ -2,7 +2,8 @@
 use Rattle.std.proofs.Common.{◌≡◌, ℕ, suc, ◌-◌, ◌<◌, [], ◌∷◌, length, refl, arith, length-append}
 use Rattle.ha_journal.specs.declared.entry.Entry.{Entry}
 use Rattle.ha_journal.specs.declared.entry.Entry.TheVariants.{Boot, Line, Step, Again}
-use Rattle.ha_journal.specs.Journal.{Journal, IsJournal, automations, more, HasEntry, through}
+use Rattle.ha_config.specs.Units.{units_of}
+use Rattle.ha_journal.specs.Journal.{Journal, IsJournal, automations, configured, scripts, units, more, HasEntry, through}
 use Rattle.std.proofs.lemmas.List.{take-append-le, take_all}
 
 pub has-entry : (j : Journal) → IsJournal j → HasEntry j
@@ -15,6 +16,19 @@ automations-more (Boot text config stored start zone carry ∷ es) x h = refl
 automations-more (Again number start stored carry ∷ es) x h = refl
 automations-more (Line source number cmd ∷ es) x h = refl
 automations-more (Step worker serial branch item ∷ es) x h = refl
+
+pub scripts-more : (j : Journal) (x : Entry) → HasEntry j → scripts j ≡ scripts (more j x)
+scripts-more [] x h = absurd h
+scripts-more (Boot text config stored start zone carry ∷ es) x h = refl
+scripts-more (Again number start stored carry ∷ es) x h = refl
+scripts-more (Line source number cmd ∷ es) x h = refl
+scripts-more (Step worker serial branch item ∷ es) x h = refl
+
+pub configured-more : (j : Journal) (x : Entry) → HasEntry j → configured j ≡ configured (more j x)
+configured-more j x h = (λ i. record { automations = automations-more j x h i; scripts = scripts-more j x h i })
+
+pub units-more : (j : Journal) (x : Entry) → HasEntry j → units j ≡ units (more j x)
+units-more j x h = (λ i. units_of (configured-more j x h i))
 
 pub length-more : (j : Journal) (x : Entry) → length (more j x) ≡ suc (length j)
 length-more j x = omega (arith, length-append j (x ∷ []))

@@ -1,5 +1,5 @@
 -- Attempts: what an entry asks to run.
-use Rattle.std.specs.Prelude.{ℕ, suc, Bool, false, ◌||◌, List, [], ◌∷◌, take, slice_get, map, flat_map, codes, if◌then◌else◌, filter}
+use Rattle.std.specs.Prelude.{ℕ, suc, Bool, true, false, ◌||◌, List, [], ◌∷◌, ◌++◌, take, slice_get, map, flat_map, codes, if◌then◌else◌, filter}
 use Rattle.std.specs.List.{enumerate_from}
 use Rattle.std.specs.Option.{option_map_or}
 use Rattle.ha_value.specs.declared.value.Value.{Value}
@@ -8,7 +8,7 @@ use Rattle.ha_config.specs.declared.config.Automation.{Automation}
 use Rattle.ha_journal.specs.declared.entry.Entry.{Entry}
 use Rattle.ha_journal.specs.Entries.{Asked, asked_in}
 use Rattle.ha_config.specs.Words.{Pairs}
-use Rattle.ha_journal.specs.Journal.{Journal, automations, last_place}
+use Rattle.ha_journal.specs.Journal.{Journal, automations, units, last_place}
 use Rattle.ha_config.specs.Names.{unit_of, automation_named}
 use Rattle.ha_journal.specs.Switches.{is_on, since}
 use Rattle.ha_sight.specs.Conditions.{hold_all}
@@ -16,6 +16,7 @@ use Rattle.ha_journal.specs.Triggers.{Fired, firings}
 use Rattle.ha_journal.specs.Moves.{sight}
 
 pub record Attempt : Type 0 where
+  -- its unit
   pub automation : ℕ
   pub env : Pairs
   -- whether its conditions are skipped
@@ -40,6 +41,7 @@ module _ (j : Journal) (p : ℕ) where
   attempts_asked (Asked.ByName name skip) =
       option_map_or (λ a. record { automation = a; env = by_hand; skip = skip } ∷ []) (automation_named (automations j) name) []
   attempts_asked (Asked.ByNumber chosen skip) = map (λ a. record { automation = a; env = by_hand; skip = skip }) chosen
+  attempts_asked (Asked.OfScripts chosen fields) = map (λ a. record { automation = a; env = by_hand ++ fields; skip = true }) chosen
   attempts_asked Asked.Nobody = fired
 
   -- all attempts of an entry, in order
@@ -49,9 +51,9 @@ module _ (j : Journal) (p : ℕ) where
   abbrev pub attempts : List Attempt
   attempts = option_map_or attempts_of (slice_get j p) []
 
-  -- there is such an automation, and its conditions all hold after the entry or are skipped
+  -- there is such a unit, and its conditions all hold after the entry or are skipped
   abbrev pub passes : Attempt → Bool
-  passes x = option_map_or (λ a. x.skip || hold_all (sight j (suc p)) a.tests x.env) (unit_of (automations j) x.automation) false
+  passes x = option_map_or (λ a. x.skip || hold_all (sight j (suc p)) a.tests x.env) (unit_of (units j) x.automation) false
 
 -- the attempts of the last entry that pass, each with its order there
 abbrev pub passing : Journal → List (ℕ × Attempt)

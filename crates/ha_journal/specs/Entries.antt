@@ -5,6 +5,7 @@ use Rattle.ha_value.specs.declared.value.EntityId.{EntityId}
 use Rattle.ha_config.specs.declared.config.Config.{Config}
 use Rattle.ha_config.specs.declared.command.Cmd.{Cmd}
 use Rattle.ha_sight.specs.declared.item.Item.{Item}
+use Rattle.ha_sight.specs.Items.{halted_by}
 use Rattle.ha_journal.specs.declared.carry.Carry.{Carry}
 use Rattle.ha_journal.specs.declared.entry.Entry.{Entry}
 use Rattle.ha_journal.specs.declared.entry.Entry.TheVariants.{Boot, Line, Step, Again}
@@ -157,6 +158,8 @@ event_in (Step worker serial branch (Item.Call service target fields)) = None
 event_in (Step worker serial branch (Item.Switched targets)) = None
 event_in (Step worker serial branch (Item.Triggered automations skip)) = None
 event_in (Step worker serial branch (Item.Failed code)) = None
+event_in (Step worker serial branch (Item.Started scripts fields waits)) = None
+event_in (Step worker serial branch (Item.Halted scripts)) = None
 event_in (Boot text config stored start zone carry) = None
 event_in (Again number start stored carry) = None
 
@@ -223,12 +226,16 @@ turning (Step worker serial branch (Item.Call service target fields)) = Turning.
 turning (Step worker serial branch (Item.Fired kind pairs)) = Turning.Leaves
 turning (Step worker serial branch (Item.Triggered automations skip)) = Turning.Leaves
 turning (Step worker serial branch (Item.Failed code)) = Turning.Leaves
+turning (Step worker serial branch (Item.Started scripts fields waits)) = Turning.Leaves
+turning (Step worker serial branch (Item.Halted scripts)) = Turning.Leaves
 
 -- ---- attempts that an entry names itself, with whether their conditions are skipped
 
 pub data Asked : Type 0 where
   ByName : Text → Bool → Asked
   ByNumber : List ℕ → Bool → Asked
+  -- of scripts, with variables
+  OfScripts : List ℕ → Pairs → Asked
   Nobody : Asked
 
 abbrev pub asked_in : Entry → Asked
@@ -248,5 +255,15 @@ asked_in (Step worker serial branch (Item.Call service target fields)) = Asked.N
 asked_in (Step worker serial branch (Item.Fired kind pairs)) = Asked.Nobody
 asked_in (Step worker serial branch (Item.Switched targets)) = Asked.Nobody
 asked_in (Step worker serial branch (Item.Failed code)) = Asked.Nobody
+asked_in (Step worker serial branch (Item.Started scripts fields waits)) = Asked.OfScripts scripts fields
+asked_in (Step worker serial branch (Item.Halted scripts)) = Asked.Nobody
 asked_in (Boot text config stored start zone carry) = Asked.Nobody
 asked_in (Again number start stored carry) = Asked.Nobody
+
+-- ---- the scripts whose runs an entry ends
+
+abbrev pub halted_in : Entry → List ℕ
+halted_in (Step worker serial branch item) = halted_by item
+halted_in (Line source number cmd) = []
+halted_in (Boot text config stored start zone carry) = []
+halted_in (Again number start stored carry) = []

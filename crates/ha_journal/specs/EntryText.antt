@@ -8,7 +8,7 @@ use Rattle.ha_journal.specs.declared.entry.Entry.{Entry}
 use Rattle.ha_journal.specs.declared.entry.Entry.TheVariants.{Boot, Line, Step, Again}
 use Rattle.ha_config.specs.Words.{Text}
 use Rattle.ha_sight.specs.Items.{Called, failure_in}
-use Rattle.ha_journal.specs.Journal.{Journal, automations}
+use Rattle.ha_journal.specs.Journal.{Journal, units}
 use Rattle.ha_config.specs.ValueText.{quoted, list_text, map_text}
 use Rattle.ha_config.specs.CommandText.{one_key, cmd_text, line_code}
 use Rattle.ha_sight.specs.ItemText.{call_pairs, item_text, failure_code}
@@ -22,7 +22,7 @@ texts_after gives before (x ∷ xs) = gives before x ++ texts_after gives (befor
 
 -- ---- calls
 
--- the line of call c of a run: its automation's name, and its number among the runs of that automation
+-- the line of call c of a run: its unit's name, and its number among the runs of that unit
 abbrev pub call_line : Text → ℕ → ℕ → Called → Text
 call_line name number c call =
     as_line (map_text ((codes "run", quoted name) ∷ (codes "number", decimal number) ∷ (codes "call", decimal c)
@@ -89,4 +89,4 @@ end_line n = as_line (one_key (codes "end") (decimal n))
 
 -- the trace of a journal, with its end line where it has ended
 abbrev pub trace_text : Journal → Bool → Text
-trace_text j ended = texts_after (λ before x. trace_line (automations j) x) [] j ++ (if ended then end_line (length j) else [])
+trace_text j ended = texts_after (λ before x. trace_line (units j) x) [] j ++ (if ended then end_line (length j) else [])

@@ -2,7 +2,10 @@
 use Rattle.std.specs.Prelude.{ℕ, List, [], ◌∷◌, max, unwrap_or, ◌++◌, suc, ◌-◌, length, take}
 use Rattle.std.specs.Option.{option_map_or}
 use Rattle.ha_config.specs.declared.config.Automation.{Automation}
+use Rattle.ha_config.specs.declared.config.Config.{Config}
+use Rattle.ha_config.specs.declared.config.Script.{Script}
 use Rattle.ha_journal.specs.declared.entry.Entry.{Entry}
+use Rattle.ha_config.specs.Units.{units_of}
 use Rattle.ha_config.specs.Words.{Text, EachFrom}
 use Rattle.ha_journal.specs.Entries.{boot_of, moment_in, IsBoot, BeginsSegment}
 
@@ -19,10 +22,21 @@ abbrev pub HasEntry : Journal → Type 0
 HasEntry [] = ⊥
 HasEntry (e ∷ es) = Unit {0}
 
--- the automations of the Boot, in order
+-- the automations of the Boot, in order, and its scripts
 abbrev pub automations : Journal → List Automation
 automations [] = []
 automations (e ∷ es) = option_map_or (λ b. b.config.automations) (boot_of e) []
+
+abbrev pub scripts : Journal → List Script
+scripts [] = []
+scripts (e ∷ es) = option_map_or (λ b. b.config.scripts) (boot_of e) []
+
+abbrev pub configured : Journal → Config
+configured j = record { automations = automations j; scripts = scripts j }
+
+-- what has runs: the automations, and behind them the scripts
+abbrev pub units : Journal → List Automation
+units j = units_of (configured j)
 
 abbrev pub zone_of : Journal → Text
 zone_of [] = []

@@ -10,7 +10,8 @@ use Rattle.ha_journal.specs.declared.entry.Entry.{Entry}
 use Rattle.ha_journal.specs.Entries.{report_in, event_in, is_boot, is_moment, opens_segment}
 use Rattle.ha_config.specs.Words.{Text, same_entity, longest_end, last_of, one_of}
 use Rattle.ha_config.specs.Numbers.{in_bounds}
-use Rattle.ha_journal.specs.Journal.{Journal, zone_of, now}
+use Rattle.ha_config.specs.Units.{scripts_of}
+use Rattle.ha_journal.specs.Journal.{Journal, configured, zone_of, now}
 use Rattle.ha_sight.specs.Sight.{Sight}
 use Rattle.ha_journal.specs.States.{states, switches_of}
 use Rattle.ha_sight.specs.Templates.{rendered, says}
@@ -19,7 +20,13 @@ use Rattle.ha_sight.specs.Rules.{starts, passed, state_moves, pair_holds}
 
 -- what a place sees
 abbrev pub sight : Journal → ℕ → Sight
-sight j n = record { states = states (take n j); now = now (take n j); zone = zone_of j; automations = switches_of (take n j) }
+sight j n = record {
+  states = states (take n j);
+  now = now (take n j);
+  zone = zone_of j;
+  automations = switches_of (take n j);
+  scripts = scripts_of (configured j);
+}
 
 -- the number that a Report gives of e
 abbrev pub report_number : EntityId → Option Text → Entry → Option Num

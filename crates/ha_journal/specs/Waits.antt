@@ -1,4 +1,4 @@
--- The end of a wait, and what a script asks of a place.
+-- The end of a wait.
 use Rattle.std.specs.Prelude.{ℕ, suc, ◌+◌, ◌*◌, ◌-◌, Bool, false, ◌||◌, nat_le, List, Option, is_some, find, length, map, option_map, pos}
 use Rattle.std.specs.Option.{option_map_or}
 use Rattle.ha_value.specs.declared.value.Num.{Num}
@@ -10,7 +10,7 @@ use Rattle.ha_sight.specs.Templates.{rendered, says}
 use Rattle.ha_journal.specs.Moves.{sight}
 use Rattle.ha_journal.specs.Holds.{between}
 use Rattle.ha_journal.specs.Triggers.{firings}
-use Rattle.ha_sight.specs.Scripts.{Ask, Branch, Spot}
+use Rattle.ha_sight.specs.Scripts.{Ask}
 
 module _ (j : Journal) where
   -- what the listed triggers that fire at place q give, in order of trigger and entity
@@ -38,7 +38,3 @@ module _ (j : Journal) where
   -- the end, within the journal, of a wait that began at place p: its first place
   abbrev pub wait_end : Ask → ℕ → Option WaitEnd
   wait_end ask p = option_map (end_at ask p) (find (λ q. completes ask p q || is_over ask p q) (between j p (length j - 1)))
-
--- the next place of a journal, with what a script asks there: all of it is told by the entries before
-abbrev pub next_spot : Journal → Branch → Spot
-next_spot j b = record { place = length j; branch = b; sight = sight j (length j); wait_end = wait_end j }

@@ -11,7 +11,7 @@ use std::alloc::{AllocError, Global};
 pub struct Carry {
     /// How many runs there were.
     pub serials: u64,
-    /// By automation, how many of its runs there were; none where it had none.
+    /// By unit, under the name of its runs, how many of these there were; none where it had none.
     pub numbers: Many<(Word, u64)>,
     /// By source, from 0 to 15, how many lines it gave.
     pub lines: Many<u64>,

@@ -8,7 +8,7 @@ use Rattle.ha_model.specs.declared.record.Record.{Record}
 use Rattle.ha_config.specs.Words.{Text, EachAfter}
 use Rattle.ha_sight.specs.Items.{Called, call_in}
 use Rattle.ha_journal.specs.Entries.{Stepped}
-use Rattle.ha_journal.specs.Journal.{Journal, automations}
+use Rattle.ha_journal.specs.Journal.{Journal, units}
 use Rattle.ha_config.specs.Names.{name_of}
 use Rattle.ha_model.specs.Records.{Records, calls_of}
 use Rattle.ha_model.specs.Lawful.{IsRightEntry, Right}
@@ -37,10 +37,10 @@ get-same (y ∷ ys) (z ∷ zs) zero r s e = (z, refl, sym (ap (λ o. o.automatio
 get-same (y ∷ ys) (z ∷ zs) (suc i) r s e = get-same ys zs i r s.2 e
 
 line_for : Journal → Stepped → Called → ℕ → ℕ → Text
-line_for before s call a n = call_line (name_of (automations before) a) n (suc (calls_of before s.serial)) call
+line_for before s call a n = call_line (name_of (units before) a) n (suc (calls_of before s.serial)) call
 
 text_for : Journal → Stepped → Called → Option Record → Text
-text_for before s call o = option_map_or (λ r. call_line (name_of (automations before) r.automation) r.number (suc (calls_of before s.serial)) call) o []
+text_for before s call o = option_map_or (λ r. call_line (name_of (units before) r.automation) r.number (suc (calls_of before s.serial)) call) o []
 
 pub step-same : (before : Journal) (s : Stepped) (call : Called) (rs rs' : Records) (r : Record) → SameNumbers rs rs' → slice_get rs (s.serial - 1) ≡ Some r
     → call_of_step rs before s call ≡ call_of_step rs' before s call

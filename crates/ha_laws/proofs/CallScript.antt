@@ -1,7 +1,9 @@
 -- A script that is one call of literal texts.
 use Rattle.std.proofs.Common.{◌≡◌, ℕ, List, [], ◌∷◌, ◌++◌, length, map, Bool, true, false, refl, sym, ap, subst, ◌∙◌, ◌&&◌, arith}
-use Rattle.std.specs.Prelude.{Some, None, Ok, Err, ok_or, nat_le, nat_eq, not, option_and_then, option_map, is_some, codes, if◌then◌else◌}
-use Rattle.std.specs.List.{list_all, slice_split, onto_first}
+use Rattle.std.specs.Prelude.{Option, Some, None, Ok, Err, ok_or, nat_le, nat_eq, not, option_and_then, option_map, is_some, codes, drop, if◌then◌else◌}
+use Rattle.std.specs.List.{list_all, slice_split, onto_first, starts_with}
+use Rattle.std.specs.Option.{option_map_or}
+use Rattle.std.proofs.lemmas.Bool.{eqb-true}
 use Rattle.std.proofs.lemmas.Bool.Decides.{nat_tests}
 use Rattle.ha_value.specs.declared.value.EntityId.{EntityId}
 use Rattle.ha_value.specs.Ids.{entity_text, is_entity, is_name, is_name_byte, read_entity}
@@ -14,28 +16,35 @@ use Rattle.ha_config.specs.declared.config.ActionKind.{ActionKind}
 use Rattle.ha_config.specs.declared.config.ActionKind.TheViews.{out-ActionKind, out-Action}
 use Rattle.ha_config.specs.declared.config.ActionKind.TheFolds.{fold_out-ActionKind, fold_out-Action, map-ActionKind}
 use Rattle.ha_config.specs.declared.config.ActionKind.TheVariants.{outs-Call}
+use Rattle.ha_config.specs.declared.config.Script.{Script}
 use Rattle.ha_sight.specs.declared.item.Item.{Item}
+use Rattle.ha_sight.specs.declared.steps.Inner.{Inner}
 use Rattle.ha_model.specs.declared.record.Record.{Record}
+use Rattle.ha_config.specs.Units.{numbered_from}
 use Rattle.ha_config.specs.Words.{Text, Pairs, same, without_breaks, without_blanks, is_empty_text, parts_between_commas}
 use Rattle.ha_sight.specs.Values.{bounded}
 use Rattle.ha_sight.specs.Sight.{Sight}
 use Rattle.ha_sight.specs.Templates.{pieces_of, rendered}
-use Rattle.ha_journal.specs.Journal.{Journal, automations}
+use Rattle.ha_journal.specs.Journal.{Journal, automations, scripts, units}
 use Rattle.ha_journal.specs.Moves.{sight}
-use Rattle.ha_sight.specs.Scripts.{Branch, Status, whole, called, ends}
-use Rattle.ha_journal.specs.Waits.{next_spot}
+use Rattle.ha_sight.specs.Scripts.{Branch, Outcome, Status, whole, called, behind_call, ends}
 use Rattle.ha_sight.specs.Branches.{action_branches, branches_of, kind_branches}
-use Rattle.ha_sight.specs.Calls.{all_read, call_item, checked_then, entities_in, item_of, no_service, no_target, service_of, target_of, template_fault}
-use Rattle.ha_model.specs.Records.{spots, actions_of, ran_on}
-use Rattle.ha_laws.specs.OneCall.{IsCallable, call_made, literal_text, one_call}
+use Rattle.ha_sight.specs.Calls.{all_read, call_item, checked_then, done_by, entities_in, item_of, item_or_failed, no_service, no_target, service_of, target_of, template_fault}
+use Rattle.ha_sight.specs.Inner.{inner_of, number_named, own_item, scripts_named, variables_in}
+use Rattle.ha_model.specs.Records.{spots, actions_of, ran_on, next_spot}
+use Rattle.ha_laws.specs.OneCall.{IsCallable, IsNoScript, call_made, literal_text, one_call}
 use Rattle.ha_sight.proofs.Rolls.{below_kind, run_action-out, run_kind-out, pieces_of-out, piece-out}
-use Rattle.ha_config.proofs.ListLemmas.{append-nil, some-same}
+use Rattle.ha_config.proofs.ListLemmas.{append-nil, some-same, true-false}
 use Rattle.ha_config.proofs.EqualLemmas.{and_left, and_right, same-refl, same-sound}
 
 -- ---- the script at its place
 
+-- what it gives there, where its call gives this item
+abbrev one_place : Journal → Pairs → Item → Option Outcome
+one_place j env item = called item (behind_call item (length j) (λ s p. ends Status.Done p) (env ∷ []) [] []) []
+
 one-whole : (service target : Text) (env : Pairs) (j : Journal)
-    → whole (one_call service target) env (next_spot j [] ∷ []) ≡ called (call_item (sight j (length j)) (env ++ []) (literal_text service) (literal_text target ∷ []) []) (ends Status.Done []) []
+    → whole (one_call service target) env (next_spot j [] ∷ []) ≡ one_place j env (call_item (sight j (length j)) (env ++ []) (literal_text service) (literal_text target ∷ []) [])
 one-whole service target env j = simp (run_action-out, run_kind-out, outs-Call)
 
 action_branches-out : (a : Action) → action_branches a ≡ below_kind (out-Action a).kind
@@ -100,6 +109,12 @@ no-blank c h = grind (arith, nat_tests)
 
 no-comma : (c : ℕ) → is_name_byte c ≡ true → not (nat_eq 44 c) ≡ true
 no-comma c h = grind (arith, nat_tests)
+
+no-dot : (c : ℕ) → is_name_byte c ≡ true → nat_eq 46 c ≡ false
+no-dot c h = grind (arith, nat_tests)
+
+no-dot-in : (c : ℕ) → is_name_byte c ≡ true → nat_eq c 46 ≡ false
+no-dot-in c h = grind (arith, nat_tests)
 
 not-empty : (id : EntityId) → is_empty_text (entity_text id) ≡ false
 not-empty id = by id.domain
@@ -184,15 +199,55 @@ called-outside all id h es ps =
     let trigger : same (entity_text id) (codes "automation.trigger") ≡ false = not-automation id h (codes "automation.trigger") (named (codes "trigger")) reads-trigger refl in
     rw (on, off, toggle, trigger) refl
 
-call-is : (s : Sight) (env : Pairs) (service target : EntityId) → IsCallable service → IsCallable target
+-- a text whose first dot stands behind another word does not begin with this word and a dot
+no-start : (name word rest : List ℕ) → list_all is_name_byte name ≡ true → list_all is_name_byte word ≡ true → (name ≡ word → ⊥) → starts_with nat_eq (name ++ 46 ∷ rest) (word ++ 46 ∷ []) ≡ false
+no-start [] [] rest n w apart = absurd (apart refl)
+no-start [] (c ∷ cs) rest n w apart = (λ i. no-dot-in c (and_left _ _ w) i && starts_with nat_eq rest (cs ++ 46 ∷ []))
+no-start (x ∷ xs) [] rest n w apart = (λ i. no-dot x (and_left _ _ n) i && starts_with nat_eq (xs ++ 46 ∷ rest) [])
+no-start (x ∷ xs) (c ∷ cs) rest n w apart = by (nat_eq c x) refl (no-start xs cs rest (and_right (is_name_byte x) _ n) (and_right (is_name_byte c) _ w))
+  where
+    by : (b : Bool) → nat_eq c x ≡ b → ((xs ≡ cs → ⊥) → starts_with nat_eq (xs ++ 46 ∷ rest) (cs ++ 46 ∷ []) ≡ false) → (b && starts_with nat_eq (xs ++ 46 ∷ rest) (cs ++ 46 ∷ [])) ≡ false
+    by false e later = refl
+    by true e later = later (λ same_rest. apart (λ i. sym (eqb-true c x e) i ∷ same_rest i))
+
+-- nor is it a text that does
+not-begun : (text name : Text) → starts_with nat_eq name (codes "script.") ≡ true → starts_with nat_eq text (codes "script.") ≡ false → same text name ≡ false
+not-begun text name begun none = by (same text name) refl
+  where
+    by : (b : Bool) → same text name ≡ b → b ≡ false
+    by false e = refl
+    by true e = absurd (true-false (sym begun ∙ (λ i. starts_with nat_eq (sym (same-sound text name e) i) (codes "script.")) ∙ none))
+
+-- where no script is configured, or the id is of another domain, the core does not do the call itself
+not-own : (n : ℕ) (ss : List Script) (id : EntityId) → is_entity id ≡ true → IsNoScript ss id → (es : List EntityId) (ps : Pairs) → own_item (numbered_from n ss) (entity_text id) es ps ≡ None
+not-own n [] id form h es ps = refl
+not-own n (s ∷ ss) id form h es ps =
+    let all = numbered_from n (s ∷ ss) in
+    let other : id.domain ≡ codes "script" → ⊥
+    = λ e. true-false (sym (same-refl id.domain) ∙ (λ i. same id.domain (e i)) ∙ yes-no (same id.domain (codes "script")) h) in
+    let plain : starts_with nat_eq (entity_text id) (codes "script.") ≡ false = no-start id.domain (codes "script") id.object (name-bytes id.domain (and_left _ _ form)) refl other in
+    let on = not-begun (entity_text id) (codes "script.turn_on") refl plain in
+    let off = not-begun (entity_text id) (codes "script.turn_off") refl plain in
+    let toggle = not-begun (entity_text id) (codes "script.toggle") refl plain in
+    (λ i. if on i then Some (Item.Started (scripts_named all es) (variables_in ps) false)
+    else if off i then Some (Item.Halted (scripts_named all es))
+    else if toggle i then None
+    else option_map (λ k. Item.Started (k ∷ []) ps true) (if plain i then number_named all (drop 7 (entity_text id)) else None))
+
+call-is : (s : Sight) (env : Pairs) (service target : EntityId) → IsCallable service → IsCallable target → inner_of s (entity_text service) (target ∷ []) [] ≡ Inner.Outer
     → call_item s env (literal_text (entity_text service)) (literal_text (entity_text target) ∷ []) [] ≡ Item.Call (entity_text service) (target ∷ []) []
-call-is s env service target h g =
-    rw (service-is s service env h, target-is s target env g) (called-outside s.automations service h (target ∷ []) [])
+call-is s env service target h g outer =
+    rw (service-is s service env h, target-is s target env g)
+    ((λ i. item_or_failed s env (done_by (outer i) (item_of s.automations (entity_text service) (target ∷ []) [])))
+    ∙ called-outside s.automations service h (target ∷ []) [])
 
 -- LAW: such a script makes its call at its first place, and is done
-pub one-call-ran : (j : Journal) (r : Record) (service target : EntityId) → IsCallable service → IsCallable target → actions_of (automations j) r.automation ≡ one_call (entity_text service) (entity_text target)
-    → spots j r.serial ≡ [] → ran_on j r (spots j r.serial ++ (next_spot j [] ∷ [])) ≡ Some (call_made service target)
-one-call-ran j r service target h g script fresh =
+pub one-call-ran : (j : Journal) (r : Record) (service target : EntityId) → IsCallable service → IsCallable target → IsNoScript (scripts j) service
+    → actions_of (units j) r.automation ≡ one_call (entity_text service) (entity_text target) → spots j r.serial ≡ []
+    → ran_on j r (spots j r.serial ++ (next_spot j [] ∷ [])) ≡ Some (call_made service target)
+one-call-ran j r service target h g written script fresh =
+    let outer : inner_of (sight j (length j)) (entity_text service) (target ∷ []) [] ≡ Inner.Outer
+    = (λ i. option_map_or Inner.Does (not-own (length (automations j)) (scripts j) service h.form written (target ∷ []) [] i) Inner.Outer) in
     (λ i. whole (script i) r.env (fresh i ++ (next_spot j [] ∷ [])))
     ∙ one-whole (entity_text service) (entity_text target) r.env j
-    ∙ (λ i. called (call-is (sight j (length j)) (r.env ++ []) service target h g i) (ends Status.Done []) [])
+    ∙ (λ i. one_place j r.env (call-is (sight j (length j)) (r.env ++ []) service target h g outer i))

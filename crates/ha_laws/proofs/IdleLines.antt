@@ -15,8 +15,9 @@ use Rattle.ha_journal.specs.declared.entry.Entry.TheVariants.{Line}
 use Rattle.ha_model.specs.declared.record.Record.{Record}
 use Rattle.ha_config.specs.Words.{Text, same_entity, one_of, up_to, or_else}
 use Rattle.ha_config.specs.Numbers.{in_bounds}
-use Rattle.ha_journal.specs.Entries.{Reported, Asked, asked_in, Turning, turning, report_in, gone_in, event_in, is_boot, is_moment, is_restart, opens_segment, step_of}
-use Rattle.ha_journal.specs.Journal.{Journal, HasEntry, automations, brings, zone_of, now, last_place, more}
+use Rattle.ha_journal.specs.Entries.{Reported, Asked, asked_in, Turning, turning, report_in, gone_in, event_in, is_boot, is_moment, is_restart, opens_segment, step_of, halted_in}
+use Rattle.ha_config.specs.Units.{scripts_of}
+use Rattle.ha_journal.specs.Journal.{Journal, HasEntry, automations, brings, configured, zone_of, now, last_place, more, units}
 use Rattle.ha_journal.specs.Switches.{is_on}
 use Rattle.ha_journal.specs.States.{states, switches_of}
 use Rattle.ha_sight.specs.Templates.{rendered, says}
@@ -31,7 +32,7 @@ use Rattle.ha_journal.proofs.StateLemmas.{now-snoc}
 use Rattle.ha_journal.proofs.SinceLaws.{take-before, on-left}
 use Rattle.ha_config.proofs.ListLemmas.{get-last}
 use Rattle.ha_model.proofs.RecordGrowth.{AllBelow, below-bare}
-use Rattle.ha_journal.proofs.MoreLemmas.{automations-more, length-more, through-last}
+use Rattle.ha_journal.proofs.MoreLemmas.{automations-more, length-more, through-last, units-more}
 use Rattle.ha_model.proofs.RecordLaws.{at_place, ended-more}
 use Rattle.ha_model.proofs.FoldLaws.{records-passes}
 use Rattle.ha_model.proofs.Passes.{end_here, with_ends, with_begins, bare, ended, end_now, admit_now}
@@ -51,6 +52,7 @@ record IsStill (x : Entry) : Type 0 where
   opens : opens_segment x ≡ false
   asks : asked_in x ≡ Asked.Nobody
   step : step_of x ≡ None
+  halts : halted_in x ≡ []
 
 idle-still : (source number : ℕ) (cmd : Cmd) → IsIdle cmd → IsStill (Line source number cmd)
 idle-still source number (Cmd.Report entity text attributes) h = absurd h
@@ -60,9 +62,9 @@ idle-still source number (Cmd.Moment at) h = absurd h
 idle-still source number (Cmd.Switch name on stop) h = absurd h
 idle-still source number (Cmd.Trigger name skip) h = absurd h
 idle-still source number Cmd.Restart h = absurd h
-idle-still source number (Cmd.Refused code) h = record { report = refl; gone = refl; event = refl; moment = refl; start = refl; turns = refl; restart = refl; opens = refl; asks = refl; step = refl }
-idle-still source number Cmd.Lost h = record { report = refl; gone = refl; event = refl; moment = refl; start = refl; turns = refl; restart = refl; opens = refl; asks = refl; step = refl }
-idle-still source number Cmd.TooLong h = record { report = refl; gone = refl; event = refl; moment = refl; start = refl; turns = refl; restart = refl; opens = refl; asks = refl; step = refl }
+idle-still source number (Cmd.Refused code) h = record { report = refl; gone = refl; event = refl; moment = refl; start = refl; turns = refl; restart = refl; opens = refl; asks = refl; step = refl; halts = refl }
+idle-still source number Cmd.Lost h = record { report = refl; gone = refl; event = refl; moment = refl; start = refl; turns = refl; restart = refl; opens = refl; asks = refl; step = refl; halts = refl }
+idle-still source number Cmd.TooLong h = record { report = refl; gone = refl; event = refl; moment = refl; start = refl; turns = refl; restart = refl; opens = refl; asks = refl; step = refl; halts = refl }
 
 find-none : (test : ℕ → Bool) (ns : List ℕ) → ((n : ℕ) → test n ≡ false) → find test ns ≡ None
 find-none test [] h = refl
@@ -114,9 +116,9 @@ module _ (j : Journal) (x : Entry) (h : HasEntry j) (s : IsStill x) where
 
   sight-still : after k p ≡ before k p
   sight-still =
-      (let all = through-last j x in λ i. record { states = states (all i); now = now (all i); zone = zone_of k; automations = switches_of (all i) })
-      ∙ (λ i. record { states = λ e. states-still e i; now = now-still i; zone = zone_of k; automations = switches-still i })
-      ∙ (let all = sym (take-before j x) in λ i. record { states = states (all i); now = now (all i); zone = zone_of k; automations = switches_of (all i) })
+      (let all = through-last j x in λ i. record { states = states (all i); now = now (all i); zone = zone_of k; automations = switches_of (all i); scripts = scripts_of (configured k) })
+      ∙ (λ i. record { states = λ e. states-still e i; now = now-still i; zone = zone_of k; automations = switches-still i; scripts = scripts_of (configured k) })
+      ∙ (let all = sym (take-before j x) in λ i. record { states = states (all i); now = now (all i); zone = zone_of k; automations = switches_of (all i); scripts = scripts_of (configured k) })
 
   -- ---- nothing moves, and nothing fires
 
@@ -185,7 +187,7 @@ module _ (j : Journal) (x : Entry) (h : HasEntry j) (s : IsStill x) where
       (λ i. or_else (if last-is (is_step_of r.serial) j x i then option_and_then (λ o. script_end o.status) (ran k r) else None)
       (if last-is (stops (automations k) r.automation) j x i then Some EndCause.SwitchedOff else if last-is is_restart j x i then Some EndCause.Restarted else None))
       ∙ (λ i. or_else (if option_map_or (λ y. nat_eq y.serial r.serial) (s.step i) false then option_and_then (λ o. script_end o.status) (ran k r) else None)
-      (if stops_turned (automations k) r.automation (s.turns i) then Some EndCause.SwitchedOff else if s.restart i then Some EndCause.Restarted else None))
+      (if stops_turned (automations k) r.automation (s.turns i) || list_any (nat_eq r.automation) (s.halts i) then Some EndCause.SwitchedOff else if s.restart i then Some EndCause.Restarted else None))
 
   -- none of these has the place of the entry
   next-earlier : (a : ℕ) (rs : Records) → AllBelow p rs → option_map_or (λ q. nat_eq q (last_place k)) (next_place a rs) false ≡ false
@@ -199,8 +201,8 @@ module _ (j : Journal) (x : Entry) (h : HasEntry j) (s : IsStill x) where
   here-still : (r : Record) (rs : Records) → AllBelow p rs → end_here k r (next_place r.automation rs) ≡ None
   here-still r rs b =
       (λ i. at_place (last_place k) (or_else (if nat_lt r.place (last_place k) then cause-still r i else None)
-      (if is_restart_mode (mode_of (automations k) r.automation) && next-earlier r.automation rs b i then Some EndCause.Replaced else None)))
-      ∙ by (nat_lt r.place (last_place k)) (is_restart_mode (mode_of (automations k) r.automation))
+      (if is_restart_mode (mode_of (units k) r.automation) && next-earlier r.automation rs b i then Some EndCause.Replaced else None)))
+      ∙ by (nat_lt r.place (last_place k)) (is_restart_mode (mode_of (units k) r.automation))
     where
       by : (a c : Bool) → at_place (last_place k) (or_else (if a then None else None) (if c && false then Some EndCause.Replaced else None)) ≡ None
       by true true = refl
@@ -220,7 +222,7 @@ module _ (j : Journal) (x : Entry) (h : HasEntry j) (s : IsStill x) where
   begins-still : (back rs : Records) → with_begins k back rs ≡ with_begins j back rs
   begins-still back [] = refl
   begins-still back (r ∷ rs) =
-      (λ i. record r { begin = begin_of (mode_of (sym (automations-more j x h) i) r.automation) (last_record r.automation back) r; calls = calls-still r.serial i } ∷ begins-still (r ∷ back) rs i)
+      (λ i. record r { begin = begin_of (mode_of (sym (units-more j x h) i) r.automation) (last_record r.automation back) r; calls = calls-still r.serial i } ∷ begins-still (r ∷ back) rs i)
 
   abbrev admit_these : List (ℕ × Attempt) → Records
   admit_these xs = admit_now k (end_now k (ended j)) xs

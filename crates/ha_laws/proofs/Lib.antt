@@ -1,5 +1,6 @@
 pub mod CallGrowth
 pub mod CallScript
+pub mod CalledTests
 pub mod DoorTests
 pub mod HallLightTests
 pub mod ModeTests

@@ -9,11 +9,10 @@ use Rattle.ha_journal.specs.declared.entry.Entry.{Entry}
 use Rattle.ha_journal.specs.declared.entry.Entry.TheVariants.{Boot, Line, Step, Again}
 use Rattle.ha_model.specs.declared.record.Record.{Record}
 use Rattle.ha_config.specs.Words.{Pairs, last_of, EachAfter, EachFrom, EachWith}
-use Rattle.ha_journal.specs.Journal.{Journal, automations, more, HasEntry}
+use Rattle.ha_journal.specs.Journal.{Journal, more, HasEntry, units}
 use Rattle.ha_journal.specs.Entries.{BeginsSegment}
 use Rattle.ha_sight.specs.Scripts.{Branch, whole}
-use Rattle.ha_journal.specs.Waits.{next_spot}
-use Rattle.ha_model.specs.Records.{Records, records_of, actions_of, spots}
+use Rattle.ha_model.specs.Records.{Records, records_of, actions_of, spots, next_spot}
 use Rattle.ha_laws.specs.Makers.{Maker, Source, Worker, maker, makers, cmds_of, IsOfOne, OfOne}
 use Rattle.ha_model.specs.NextPlace.{next_item}
 use Rattle.ha_model.specs.Lawful.{is_running, IsRightEntry, ready, pick, is_line_of, is_empty, is_quiet, is_rested, is_by_worker_0, IsTurn, IsDue, Lawful}
@@ -41,7 +40,7 @@ back-same n (y ∷ rs) (y' ∷ rs') zero r' s e run = (y, refl, subst (λ z. Sam
 back-same n (y ∷ rs) (y' ∷ rs') (suc i) r' s e run = back-same n rs rs' i r' s.1 e run
 
 abbrev item_by : Journal → ℕ → Pairs → ℕ → Branch → Option Item
-item_by j a env serial branch = option_and_then (λ o. last_of o.items) (whole (actions_of (automations j) a) env (spots j serial ++ (next_spot j branch ∷ [])))
+item_by j a env serial branch = option_and_then (λ o. last_of o.items) (whole (actions_of (units j) a) env (spots j serial ++ (next_spot j branch ∷ [])))
 
 -- what a Step of this pair gives, if it is right
 pub record GivesItem (d : Journal) (serial : ℕ) (branch : Branch) (item : Item) : Type 0 where

@@ -10,10 +10,9 @@ use Rattle.ha_journal.specs.declared.entry.Entry.{Entry}
 use Rattle.ha_journal.specs.declared.entry.Entry.TheVariants.{Boot, Line, Step, Again}
 use Rattle.ha_model.specs.declared.record.Record.{Record}
 use Rattle.ha_config.specs.Words.{EachAfter}
-use Rattle.ha_journal.specs.Journal.{Journal, HasEntry, automations, more}
-use Rattle.ha_journal.specs.Waits.{next_spot}
+use Rattle.ha_journal.specs.Journal.{Journal, HasEntry, more, units}
 use Rattle.ha_sight.specs.Branches.{branches_of}
-use Rattle.ha_model.specs.Records.{Records, spot_of, spots_from, spots, actions_of, live_count}
+use Rattle.ha_model.specs.Records.{Records, spot_of, spots_from, spots, actions_of, live_count, next_spot}
 use Rattle.ha_model.specs.Lawful.{is_running, is_empty, IsRightEntry, Right, may_step, ready_of, ready, is_quiet, is_rested, is_line_of}
 use Rattle.ha_laws.specs.OneRun.{has_ended, AllEnded, IsBegun}
 use Rattle.ha_config.proofs.ListLemmas.{append-nil}
@@ -41,7 +40,7 @@ ended-over n r h = over n (option_map_or (λ b. nat_lt b n) r.begin false) r.end
 pub ready-ended : (all : Records) (j : Journal) (rs : Records) → AllEnded (length j) rs → flat_map (ready_of all j) rs ≡ []
 ready-ended all j [] h = refl
 ready-ended all j (r ∷ rs) h =
-    (λ i. (if ended-over (length j) r h.0 i then map (λ b. (r.serial, b)) (filter (may_step all j r) (branches_of (actions_of (automations j) r.automation))) else []) ++ ready-ended all j rs h.1 i)
+    (λ i. (if ended-over (length j) r h.0 i then map (λ b. (r.serial, b)) (filter (may_step all j r) (branches_of (actions_of (units j) r.automation))) else []) ++ ready-ended all j rs h.1 i)
 
 -- LAW: where all runs have ended, the journal is quiet
 pub ended-quiet : (j : Journal) (rs : Records) → AllEnded (length j) rs → is_quiet rs j ≡ true
@@ -79,7 +78,7 @@ ended-live n a rs h = no-live n a 0 rs h
 ready-last : (all : Records) (j : Journal) (rs : Records) (r : Record) → AllEnded (length j) rs → flat_map (ready_of all j) (rs ++ (r ∷ [])) ≡ ready_of all j r
 ready-last all j [] r h = append-nil (ready_of all j r)
 ready-last all j (x ∷ xs) r h =
-    (λ i. (if ended-over (length j) x h.0 i then map (λ b. (x.serial, b)) (filter (may_step all j x) (branches_of (actions_of (automations j) x.automation))) else []) ++ ready-last all j xs r h.1 i)
+    (λ i. (if ended-over (length j) x h.0 i then map (λ b. (x.serial, b)) (filter (may_step all j x) (branches_of (actions_of (units j) x.automation))) else []) ++ ready-last all j xs r h.1 i)
 
 is-less : (a b : ℕ) → a < b → nat_lt a b ≡ true
 is-less a b lt = grind (arith, nat_tests)
@@ -93,7 +92,7 @@ begun-runs k j rs b =
     (λ i. option_map_or (λ p. nat_lt p (length j)) (b.begin i) false && option_map_or (λ e. nat_le (length j) e.0) (b.live i) true) ∙ (λ i. before i && true)
 
 -- LAW: then its one branch is ready, and no other, where one more place of it is allowed
-pub begun-ready : (k : ℕ) (j : Journal) (rs : Records) (b : IsBegun k j rs) → branches_of (actions_of (automations j) b.run.automation) ≡ [] ∷ [] → may_step rs j b.run [] ≡ true
+pub begun-ready : (k : ℕ) (j : Journal) (rs : Records) (b : IsBegun k j rs) → branches_of (actions_of (units j) b.run.automation) ≡ [] ∷ [] → may_step rs j b.run [] ≡ true
     → ready rs j ≡ (b.run.serial, []) ∷ []
 begun-ready k j rs b one allowed =
     (λ i. flat_map (ready_of rs j) (b.records_are i))

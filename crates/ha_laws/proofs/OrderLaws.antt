@@ -6,7 +6,7 @@ use Rattle.std.specs.Option.{option_map_or}
 use Rattle.ha_config.specs.declared.config.Mode.{Mode}
 use Rattle.ha_model.specs.declared.record.EndCause.{EndCause}
 use Rattle.ha_model.specs.declared.record.Record.{Record}
-use Rattle.ha_journal.specs.Journal.{Journal, automations}
+use Rattle.ha_journal.specs.Journal.{Journal, units}
 use Rattle.ha_model.specs.Records.{Records, mode_of, next_place, records_of, last_record}
 use Rattle.ha_model.specs.Lawful.{Right}
 use Rattle.ha_laws.specs.Told.{has_ended_by, is_unended}
@@ -45,7 +45,7 @@ live-unended a q (r ∷ rs) h = by (nat_eq r.automation a) r.end refl (live-unen
 -- ---- the walk along the records
 
 order-from : (j : Journal) (right : Right j (records_of j)) (m : ℕ) (rs back told : Records) → SortedFrom m rs → Carried j m back told → records_of j ≡ told ++ with_begins j back (with_ends j rs)
-    → InOrderBehind (automations j) (λ a. list_any (is_live a) back) (with_begins j back (with_ends j rs))
+    → InOrderBehind (units j) (λ a. list_any (is_live a) back) (with_begins j back (with_ends j rs))
 order-from j right m [] back told sorted carried whole = tt
 order-from j right m (r ∷ rs) back told sorted carried whole =
     let next = next_place r.automation rs in
@@ -62,7 +62,7 @@ order-from j right m (r ∷ rs) back told sorted carried whole =
     (whole ∙ sym (append_assoc told (made ∷ []) (with_begins j (one ∷ back) (with_ends j rs)))) in
     (λ queued live. by grown queued live (E j r next back told) refl, rest)
   where
-    by : Carried j r.place (e j r (next_place r.automation rs) back told ∷ back) (told ++ (f j r (next_place r.automation rs) back told ∷ [])) → mode_of (automations j) r.automation ≡ Mode.Queued
+    by : Carried j r.place (e j r (next_place r.automation rs) back told ∷ back) (told ++ (f j r (next_place r.automation rs) back told ∷ [])) → mode_of (units j) r.automation ≡ Mode.Queued
         → list_any (is_live r.automation) back ≡ true → (o : Option (ℕ × EndCause)) → E j r (next_place r.automation rs) back told ≡ o → E j r (next_place r.automation rs) back told ≡ None
     by grown queued live None g = g
     by grown queued live (Some (q, c)) g =
@@ -73,9 +73,9 @@ order-from j right m (r ∷ rs) back told sorted carried whole =
         let e : false ≡ true = sym none ∙ live-unended r.automation q back live in
         cc
 
-in-order-of : (j : Journal) → Right j (records_of j) → InOrder (automations j) (records_of j)
+in-order-of : (j : Journal) → Right j (records_of j) → InOrder (units j) (records_of j)
 in-order-of j right =
-    subst (InOrder (automations j)) (sym (records-passes j))
+    subst (InOrder (units j)) (sym (records-passes j))
     (order-from j right 0 (bare j) [] [] (sorted-bare j (length j) (omega arith)).sorted
     (record { past = tt; unended = λ a p. refl; last = λ a. refl; queue = λ a p y m h. absurd (none y h) }) (records-passes j))
   where
@@ -83,5 +83,5 @@ in-order-of j right =
     none y e = cc
 
 -- LAW: on a right journal they do
-pub in-order : (j : Journal) (rs : Records) → Right j rs → InOrder (automations j) rs
-in-order j rs right = subst (InOrder (automations j)) (sym right.records_are) (in-order-of j (subst (Right j) right.records_are right))
+pub in-order : (j : Journal) (rs : Records) → Right j rs → InOrder (units j) rs
+in-order j rs right = subst (InOrder (units j)) (sym right.records_are) (in-order-of j (subst (Right j) right.records_are right))

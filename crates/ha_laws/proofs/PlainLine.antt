@@ -1,4 +1,4 @@
--- What a line that ends nobody does to the records, where all automations are of mode single.
+-- What a line that ends nobody does to the records, where all units are of mode single.
 use Rattle.std.proofs.Common.{◌≡◌, ℕ, suc, ◌+◌, ◌-◌, ◌<◌, List, [], ◌∷◌, ◌++◌, length, Bool, true, false, cond, refl, sym, ap, subst, ◌∙◌, arith, Option, length-append}
 use Rattle.std.specs.Prelude.{Some, None, is_none, option_and_then, nat_eq, nat_lt, fold, ◌&&◌, if◌then◌else◌}
 use Rattle.std.specs.Option.{option_map_or}
@@ -7,7 +7,7 @@ use Rattle.ha_journal.specs.declared.entry.Entry.{Entry}
 use Rattle.ha_journal.specs.declared.entry.Entry.TheVariants.{Line}
 use Rattle.ha_model.specs.declared.record.EndCause.{EndCause}
 use Rattle.ha_model.specs.declared.record.Record.{Record}
-use Rattle.ha_journal.specs.Journal.{Journal, automations, last_place, more, HasEntry}
+use Rattle.ha_journal.specs.Journal.{Journal, automations, last_place, more, HasEntry, units}
 use Rattle.ha_journal.specs.Attempts.{Attempt, passing}
 use Rattle.ha_model.specs.Records.{Records, mode_of, max_of, script_end, own_cause, is_restart_mode, is_step_of, stops, next_place, lets_in, live_count, new_record, last_record, begin_of, calls_of, ran}
 use Rattle.ha_config.specs.Words.{or_else}
@@ -19,7 +19,7 @@ use Rattle.ha_model.specs.Lawful.{IsTurn, Right, Running}
 use Rattle.ha_model.proofs.RecordLaws.{at_place, ended-more}
 use Rattle.ha_model.proofs.FoldLaws.{records-more, records-passes}
 use Rattle.ha_model.proofs.Passes.{replaced, end_here, with_begins, ended, end_now, admit_now}
-use Rattle.ha_journal.proofs.MoreLemmas.{automations-more, has-entry}
+use Rattle.ha_journal.proofs.MoreLemmas.{has-entry, units-more}
 use Rattle.ha_model.proofs.LawfulLaws.{running-more}
 use Rattle.ha_model.proofs.LastEntry.{last-is, or-none, calls-more, no-calls}
 
@@ -59,7 +59,7 @@ plain-now k single none rs (x ∷ xs) =
     ∙ plain-now k single none (if nat_eq (live_count x.1.automation rs) 0 then rs ++ (new_record k rs x ∷ []) else rs) xs
   where
     max : Journal → ℕ
-    max k = max_of (automations k) x.1.automation
+    max k = max_of (units k) x.1.automation
 
 -- LAW: the ends after such an entry
 pub plain-ended : (j : Journal) (x : Entry) → AllSingle (more j x) → EndsNone (more j x) → ended (more j x) ≡ admit_plain (more j x) (ended j) (passing (more j x))
@@ -138,7 +138,7 @@ filled-admit k rs (x ∷ xs) h =
     by false = refl
 
 pub single-more : (j : Journal) (x : Entry) → HasEntry j → AllSingle j → AllSingle (more j x)
-single-more j x h single a = (λ i. mode_of (sym (automations-more j x h) i) a) ∙ single a
+single-more j x h single a = (λ i. mode_of (sym (units-more j x h) i) a) ∙ single a
 
 -- LAW: such a line adds the records of its attempts that are admitted, which begin at once
 pub plain-records : (j : Journal) (rs : Records) (source number : ℕ) (cmd : Cmd) → Right j rs → AllSingle j → IsPlain cmd

@@ -5,7 +5,7 @@ use Rattle.ha_sight.specs.declared.item.Item.{Item}
 use Rattle.ha_journal.specs.declared.entry.Entry.{Entry}
 use Rattle.ha_journal.specs.declared.entry.Entry.TheVariants.{Boot, Line, Step, Again}
 use Rattle.ha_config.specs.Words.{last_of, EachAfter, EachFrom}
-use Rattle.ha_journal.specs.Journal.{Journal, IsJournal, HasEntry, automations, more}
+use Rattle.ha_journal.specs.Journal.{Journal, IsJournal, HasEntry, more, units}
 use Rattle.ha_journal.specs.Entries.{BeginsSegment}
 use Rattle.ha_sight.specs.Scripts.{Branch, whole}
 use Rattle.ha_model.specs.Records.{Records, spots, actions_of}
@@ -46,7 +46,7 @@ right-back n rs rs' s d (Step worker serial branch item) le h =
       back.2.serial ∙ h.2,
       record {
         runs = subst IsTrue (sym (back.2.running (length (d ++ (y ∷ [])) - 1) (omega (arith, place)))) h.3.runs;
-        item_is = (λ i. option_and_then (λ o. last_of o.items) (whole (actions_of (automations (d ++ (y ∷ []))) (back.2.automation i)) (back.2.env i) (spots (d ++ (y ∷ [])) (back.2.serial i)))) ∙ h.3.item_is;
+        item_is = (λ i. option_and_then (λ o. last_of o.items) (whole (actions_of (units (d ++ (y ∷ []))) (back.2.automation i)) (back.2.env i) (spots (d ++ (y ∷ [])) (back.2.serial i)))) ∙ h.3.item_is;
       },
     )
 

@@ -39,8 +39,7 @@ use Rattle.ha_journal.specs.Journal.{Journal}
 use Rattle.ha_journal.specs.Switches.{is_on}
 use Rattle.ha_journal.specs.Variables.{variables}
 use Rattle.ha_sight.specs.Scripts.{Spot, Outcome, Status, whole, turns}
-use Rattle.ha_journal.specs.Waits.{next_spot}
-use Rattle.ha_model.specs.Records.{records_of}
+use Rattle.ha_model.specs.Records.{records_of, next_spot}
 use Rattle.ha_model.proofs.FoldLaws.{records-passes}
 use Rattle.ha_laws.specs.WorkedHall.{text_template, show, act}
 use Rattle.ha_sight.proofs.Rolls.{rolls}
@@ -59,7 +58,7 @@ abbrev automation : Text → List Trigger → List Action → Mode → Option Bo
 automation name ts actions mode initial = record { name = name; triggers = ts; tests = []; actions = actions; mode = mode; max = 10; initial = initial }
 
 abbrev boot : List Automation → Entry
-boot all = Entry.Boot [] (record { automations = all }) None start (codes "UTC") (first_carry [])
+boot all = Entry.Boot [] (record { automations = all; scripts = [] }) None start (codes "UTC") (first_carry [])
 
 abbrev go : Entry
 go = Entry.Line 0 0 (Cmd.Event (codes "go") [])

@@ -1,4 +1,4 @@
--- What a Step does to the records, where all automations are of mode single and no attempt passes.
+-- What a Step does to the records, where all units are of mode single and no attempt passes.
 use Rattle.std.proofs.Common.{◌≡◌, ℕ, zero, suc, ◌+◌, ◌-◌, ◌%◌, ◌<◌, ◌≤◌, List, [], ◌∷◌, length, set, Bool, true, false, cond, refl, sym, subst, ◌∙◌, rules, arith, Option}
 use Rattle.std.specs.Prelude.{Some, None, option_and_then, nat_eq, slice_get, ◌&&◌, if◌then◌else◌}
 use Rattle.ha_sight.specs.declared.item.Item.{Item}
@@ -14,7 +14,7 @@ use Rattle.ha_config.specs.Words.{or_else}
 use Rattle.ha_journal.specs.Entries.{is_restart}
 use Rattle.ha_sight.specs.Items.{is_call}
 use Rattle.ha_model.specs.RecordSteps.{records_after}
-use Rattle.ha_laws.specs.SingleMode.{AllSingle, SwitchesNone, with_step, step_all}
+use Rattle.ha_laws.specs.SingleMode.{AllSingle, EndsNone, with_step, step_all}
 use Rattle.ha_model.specs.NextPlace.{next_item, next_end}
 use Rattle.ha_model.specs.Lawful.{Right, Running, record_of, ready, pick, is_rested}
 use Rattle.std.proofs.lemmas.Option.{slice_get_within}
@@ -33,7 +33,7 @@ use Rattle.ha_laws.proofs.PlainLine.{single-replaced, single-more, single-begins
 eq-of : (a b : ℕ) → nat_eq a b ≡ true → a ≡ b
 eq-of a b e = search (rules, e)
 
-module _ (j : Journal) (h : HasEntry j) (single : AllSingle j) (w s : ℕ) (branch : Branch) (item : Item) (plain : SwitchesNone item) where
+module _ (j : Journal) (h : HasEntry j) (single : AllSingle j) (w s : ℕ) (branch : Branch) (item : Item) (plain : EndsNone item) where
   abbrev x : Entry
   x = Step w s branch item
 
@@ -49,13 +49,15 @@ module _ (j : Journal) (h : HasEntry j) (single : AllSingle j) (w s : ℕ) (bran
       ∙ or-none (if nat_eq s r.serial then option_and_then (λ o. script_end o.status) (ran k r) else None)
       ∙ by (nat_eq s r.serial) refl
     where
-      quiet : (item : Item) → SwitchesNone item → (if stops (automations k) r.automation (Step w s branch item) then Some EndCause.SwitchedOff else if is_restart (Step w s branch item) then Some EndCause.Restarted else None) ≡ None
+      quiet : (item : Item) → EndsNone item → (if stops (automations k) r.automation (Step w s branch item) then Some EndCause.SwitchedOff else if is_restart (Step w s branch item) then Some EndCause.Restarted else None) ≡ None
       quiet Item.Nothing p = refl
       quiet (Item.Call service target fields) p = refl
       quiet (Item.Fired kind pairs) p = refl
       quiet (Item.Switched targets) p = absurd p
       quiet (Item.Triggered chosen skip) p = refl
       quiet (Item.Failed code) p = refl
+      quiet (Item.Started scripts fields waits) p = refl
+      quiet (Item.Halted scripts) p = absurd p
 
       by : (b : Bool) → nat_eq s r.serial ≡ b → (if b then option_and_then (λ o. script_end o.status) (ran k r) else None) ≡ (if b then next_end j r branch else None)
       by true e = (λ i. option_and_then (λ o. script_end o.status) (ran-step j w s branch item r h (sym (eq-of s r.serial e)) i))
@@ -85,7 +87,7 @@ module _ (j : Journal) (h : HasEntry j) (single : AllSingle j) (w s : ℕ) (bran
   all-steps (r ∷ rs) below = (λ i. one-step r (next_place r.automation rs) below.0 i ∷ all-steps rs below.1 i)
 
 -- LAW: such a Step changes the record of its run alone
-pub step-records : (j : Journal) (rs : Records) (w s : ℕ) (branch : Branch) (item : Item) → Right j rs → AllSingle j → SwitchesNone item → [] ≡ passing (more j (Step w s branch item))
+pub step-records : (j : Journal) (rs : Records) (w s : ℕ) (branch : Branch) (item : Item) → Right j rs → AllSingle j → EndsNone item → [] ≡ passing (more j (Step w s branch item))
     → records_after j rs (Step w s branch item) ≡ step_all j s branch item rs
 step-records j rs w s branch item right single plain passes =
     let x : Entry = Step w s branch item in
@@ -135,7 +137,7 @@ pub picked-found : (j : Journal) (rs : Records) (k serial : ℕ) (branch : Branc
 picked-found j rs k serial branch right picked = ready-found j rs k serial branch right picked
 
 -- LAW: so the code that appends such a Step, and changes that record, keeps the journal lawful
-pub step-kept : (j j' : Journal) (rs rs' : Records) (w s : ℕ) (branch : Branch) (item : Item) → Running j rs → AllSingle j → SwitchesNone item → [] ≡ passing (more j (Step w s branch item))
+pub step-kept : (j j' : Journal) (rs rs' : Records) (w s : ℕ) (branch : Branch) (item : Item) → Running j rs → AllSingle j → EndsNone item → [] ≡ passing (more j (Step w s branch item))
     → pick w (ready rs j) ≡ Some (s, branch) → is_rested rs w j ≡ false → ((r : Record) → record_of rs s ≡ Some r → next_item j r branch ≡ Some item)
     → j' ≡ more j (Step w s branch item) → ((r : Record) → record_of rs s ≡ Some r → rs' ≡ set rs (s - 1) (with_step j branch item r)) → Running j' rs'
 step-kept j j' rs rs' w s branch item run single plain passes picked busy gives journal_is records_are =

@@ -39,6 +39,7 @@ seen = record {
   now = 0;
   zone = codes "UTC";
   automations = [];
+  scripts = [];
 }
   where
     if_lamp : Bool → Option StateObject

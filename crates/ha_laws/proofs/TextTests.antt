@@ -4,6 +4,9 @@ use Rattle.std.specs.Prelude.{codes}
 use Rattle.std.specs.Fmt.{digits}
 use Rattle.ha_value.specs.Numbers.{print_number}
 use Rattle.ha_config.specs.declared.command.Cmd.{Cmd}
+use Rattle.ha_config.specs.declared.config.Automation.{Automation}
+use Rattle.ha_config.specs.declared.config.Mode.{Mode}
+use Rattle.ha_config.specs.Units.{as_unit}
 use Rattle.ha_sight.specs.declared.item.Item.{Item}
 use Rattle.ha_journal.specs.declared.entry.Entry.{Entry}
 use Rattle.ha_journal.specs.Commands.{put_as}
@@ -32,7 +35,7 @@ errors : error_text (Entry.Line 3 7 (Cmd.Refused 5) ∷ Entry.Line 0 1 Cmd.TooLo
 unfolding digits
 errors = refl
 
-checked : check_text (record { automations = hall_light ∷ [] }) ≡ a_line (codes "automation.hall_light restart 10 triggers 1 conditions 0 actions 3") ++ a_line (codes "ok 1")
+checked : check_text (record { automations = hall_light ∷ []; scripts = [] }) ≡ a_line (codes "automation.hall_light restart 10 triggers 1 conditions 0 actions 3") ++ a_line (codes "ok 1")
 unfolding digits
 checked = refl
 
@@ -48,6 +51,16 @@ switched_printed = refl
 
 triggered_printed : item_text (hall_light ∷ []) (Item.Triggered (0 ∷ []) true) ≡ codes "{\"triggered\":{\"automations\":[\"hall_light\"],\"skip_condition\":true}}"
 triggered_printed = refl
+
+-- a script by its own name, without that of its runs' domain
+abbrev greet : Automation
+greet = as_unit (record { name = codes "greet"; actions = []; mode = Mode.Single; max = 10 })
+
+started_printed : item_text (hall_light ∷ greet ∷ []) (Item.Started (1 ∷ []) [] true) ≡ codes "{\"started\":{\"scripts\":[\"greet\"],\"data\":{},\"waits\":true}}"
+started_printed = refl
+
+halted_printed : item_text (hall_light ∷ greet ∷ []) (Item.Halted (1 ∷ [])) ≡ codes "{\"halted\":[\"greet\"]}"
+halted_printed = refl
 
 not_named : put_as journal (Cmd.Trigger (codes "none") true) ≡ Cmd.Refused 9
 not_named = refl

@@ -8,7 +8,7 @@ use Rattle.std.proofs.lemmas.List.{length-take-le}
 use Rattle.ha_config.specs.declared.config.Mode.{Mode}
 use Rattle.ha_model.specs.declared.record.EndCause.{EndCause}
 use Rattle.ha_model.specs.declared.record.Record.{Record}
-use Rattle.ha_journal.specs.Journal.{Journal, automations, through, last_place}
+use Rattle.ha_journal.specs.Journal.{Journal, through, last_place, units}
 use Rattle.ha_journal.specs.Attempts.{Attempt, passing}
 use Rattle.ha_model.specs.Records.{Records, mode_of, max_of, lets_in, is_restart_mode, next_place, live_count, lets_in_after, new_record, records_of, last_record, begin_of, calls_of}
 use Rattle.ha_config.specs.Words.{or_else}
@@ -17,19 +17,19 @@ use Rattle.ha_model.proofs.RecordLaws.{at_place, last-through}
 use Rattle.ha_model.proofs.RecordGrowth.{EndBelow, below-ends, is-at-most, is-over}
 use Rattle.ha_model.proofs.FoldLaws.{records-passes}
 use Rattle.ha_model.proofs.Passes.{own_end, replaced, end_here, end_below, with_ends, admitted, bare_below, bare, with_begins, by_passes}
-use Rattle.ha_model.proofs.RunLaws.{automations-through}
+use Rattle.ha_model.proofs.RunLaws.{units-through}
 
 -- ---- ends, in an automation that is not of mode restart
 
 -- the next record then ends nothing
-pub end-any-next : (j : Journal) (r : Record) (next : Option ℕ) (n : ℕ) → is_restart_mode (mode_of (automations j) r.automation) ≡ false → end_below j r next n ≡ end_below j r None n
+pub end-any-next : (j : Journal) (r : Record) (next : Option ℕ) (n : ℕ) → is_restart_mode (mode_of (units j) r.automation) ≡ false → end_below j r next n ≡ end_below j r None n
 end-any-next j r next zero m = refl
 end-any-next j r next (suc p) m =
     (λ i. or_else (end-any-next j r next p m i) (at_place (last_place (through j p)) (or_else (own_end (through j p) r) (none next i))))
     ∙ (λ i. or_else (end_below j r None p) (at_place (last_place (through j p)) (or_else (own_end (through j p) r) (sym (none None) i))))
   where
-    not_restart : is_restart_mode (mode_of (automations (through j p)) r.automation) ≡ false
-    not_restart = (λ i. is_restart_mode (mode_of (automations-through j p i) r.automation)) ∙ m
+    not_restart : is_restart_mode (mode_of (units (through j p)) r.automation) ≡ false
+    not_restart = (λ i. is_restart_mode (mode_of (units-through j p i) r.automation)) ∙ m
 
     none : (next : Option ℕ) → replaced (through j p) r next ≡ None
     none next = (λ i. if not_restart i && option_map_or (λ q. nat_eq q (last_place (through j p))) next false then Some EndCause.Replaced else None)
@@ -77,7 +77,7 @@ pub record Alike (j : Journal) (f r : Record) : Type 0 where
   pub place : f.place ≡ r.place
   pub order : f.order ≡ r.order
   pub env : f.env ≡ r.env
-  pub ends : (p : ℕ) → p < length j → is_restart_mode (mode_of (automations j) r.automation) ≡ false → has_ended_by p f ≡ is_some (end_below j r None (suc p))
+  pub ends : (p : ℕ) → p < length j → is_restart_mode (mode_of (units j) r.automation) ≡ false → has_ended_by p f ≡ is_some (end_below j r None (suc p))
 
 abbrev pub AllAlike : Journal → Records → Records → Type 0
 AllAlike j [] [] = Unit {0}
@@ -100,11 +100,11 @@ pub all-alike : (j : Journal) (before rs : Records) → AllAlike j (with_begins 
 all-alike j before [] = tt
 all-alike j before (r ∷ rs) =
     let e : Record = record r { end = end_below j r (next_place r.automation rs) (length j) } in
-    (alike-one j r (next_place r.automation rs) (begin_of (mode_of (automations j) r.automation) (last_record r.automation before) e) (calls_of j r.serial), all-alike j (e ∷ before) rs)
+    (alike-one j r (next_place r.automation rs) (begin_of (mode_of (units j) r.automation) (last_record r.automation before) e) (calls_of j r.serial), all-alike j (e ∷ before) rs)
 
 -- ---- counts
 
-count-alike : (j : Journal) (a p : ℕ) → p < length j → is_restart_mode (mode_of (automations j) a) ≡ false → (fs rs : Records) → AllAlike j fs rs → (m : ℕ)
+count-alike : (j : Journal) (a p : ℕ) → p < length j → is_restart_mode (mode_of (units j) a) ≡ false → (fs rs : Records) → AllAlike j fs rs → (m : ℕ)
     → fold (λ n r. n + cond (is_unended a p r) 1 0) m fs ≡ fold (λ n r. n + cond (nat_eq r.automation a && is_none r.end) 1 0) m (with_ends (through j p) rs)
 count-alike j a p lt mode [] [] h m = refl
 count-alike j a p lt mode [] (r ∷ rs) h m = absurd h
@@ -118,8 +118,8 @@ count-alike j a p lt mode (f ∷ fs) (r ∷ rs) h m =
 
     here : nat_eq r.automation a ≡ true → now ≡ end_below j r None (suc p)
     here e =
-        let mode' : is_restart_mode (mode_of (automations (through j p)) r.automation) ≡ false
-        = (λ i. is_restart_mode (mode_of (automations-through j p i) (eqb-true r.automation a e i))) ∙ mode in
+        let mode' : is_restart_mode (mode_of (units (through j p)) r.automation) ≡ false
+        = (λ i. is_restart_mode (mode_of (units-through j p i) (eqb-true r.automation a e i))) ∙ mode in
         let len : length (through j p) ≡ suc p = length-take-le (suc p) j lt in
         end-any-next (through j p) r (next_place r.automation rs) (length (through j p)) mode'
         ∙ (λ i. end_below (through j p) r None (len i)) ∙ end-through j r None p (suc p) (omega arith)
@@ -127,31 +127,31 @@ count-alike j a p lt mode (f ∷ fs) (r ∷ rs) h m =
     by : (b : Bool) → nat_eq r.automation a ≡ b → (b && not (has_ended_by p f)) ≡ (b && is_none now)
     by false e = refl
     by true e =
-        let mode' : is_restart_mode (mode_of (automations j) r.automation) ≡ false = (λ i. is_restart_mode (mode_of (automations j) (eqb-true r.automation a e i))) ∙ mode in
+        let mode' : is_restart_mode (mode_of (units j) r.automation) ≡ false = (λ i. is_restart_mode (mode_of (units j) (eqb-true r.automation a e i))) ∙ mode in
         (λ i. not (h.0.ends p lt mode' i)) ∙ (λ i. not (is_some (sym (here e) i)))
 
     both : is_unended a p f ≡ (nat_eq r.automation a && is_none now)
     both = (λ i. nat_eq (h.0.automation i) a && not (has_ended_by p f)) ∙ by (nat_eq r.automation a) refl
 
 pub admitted-alike : (j : Journal) (t : Tried) → t.place < length j → (fs rs : Records) → AllAlike j fs rs
-    → is_admitted (automations j) fs t ≡ lets_in_after (automations (through j t.place)) (with_ends (through j t.place) rs) t.attempt.automation
+    → is_admitted (units j) fs t ≡ lets_in_after (units (through j t.place)) (with_ends (through j t.place) rs) t.attempt.automation
 admitted-alike j t lt fs rs h =
-    by (mode_of (automations j) a) refl
-    ∙ (λ i. lets_in (mode_of (sym (automations-through j t.place) i) a) (max_of (sym (automations-through j t.place) i) a) (live_count a (with_ends (through j t.place) rs)))
+    by (mode_of (units j) a) refl
+    ∙ (λ i. lets_in (mode_of (sym (units-through j t.place) i) a) (max_of (sym (units-through j t.place) i) a) (live_count a (with_ends (through j t.place) rs)))
   where
     a : ℕ
     a = t.attempt.automation
 
-    counted : is_restart_mode (mode_of (automations j) a) ≡ false → (m : Mode) → lets_in m (max_of (automations j) a) (unended_count a t.place fs) ≡ lets_in m (max_of (automations j) a) (live_count a (with_ends (through j t.place) rs))
-    counted e m = (let c = count-alike j a t.place lt e fs rs h 0 in λ i. lets_in m (max_of (automations j) a) (c i))
+    counted : is_restart_mode (mode_of (units j) a) ≡ false → (m : Mode) → lets_in m (max_of (units j) a) (unended_count a t.place fs) ≡ lets_in m (max_of (units j) a) (live_count a (with_ends (through j t.place) rs))
+    counted e m = (let c = count-alike j a t.place lt e fs rs h 0 in λ i. lets_in m (max_of (units j) a) (c i))
 
-    by : (m : Mode) → mode_of (automations j) a ≡ m → is_admitted (automations j) fs t ≡ lets_in (mode_of (automations j) a) (max_of (automations j) a) (live_count a (with_ends (through j t.place) rs))
-    by Mode.Single e = counted (λ i. is_restart_mode (e i)) (mode_of (automations j) a)
-    by Mode.Queued e = counted (λ i. is_restart_mode (e i)) (mode_of (automations j) a)
-    by Mode.Parallel e = counted (λ i. is_restart_mode (e i)) (mode_of (automations j) a)
+    by : (m : Mode) → mode_of (units j) a ≡ m → is_admitted (units j) fs t ≡ lets_in (mode_of (units j) a) (max_of (units j) a) (live_count a (with_ends (through j t.place) rs))
+    by Mode.Single e = counted (λ i. is_restart_mode (e i)) (mode_of (units j) a)
+    by Mode.Queued e = counted (λ i. is_restart_mode (e i)) (mode_of (units j) a)
+    by Mode.Parallel e = counted (λ i. is_restart_mode (e i)) (mode_of (units j) a)
     by Mode.Restart e =
-        (λ i. lets_in (e i) (max_of (automations j) a) (unended_count a t.place fs))
-        ∙ (λ i. lets_in (sym e i) (max_of (automations j) a) (live_count a (with_ends (through j t.place) rs)))
+        (λ i. lets_in (e i) (max_of (units j) a) (unended_count a t.place fs))
+        ∙ (λ i. lets_in (sym e i) (max_of (units j) a) (live_count a (with_ends (through j t.place) rs)))
 
 -- ---- the bare records, attempt by attempt
 
@@ -159,7 +159,7 @@ abbrev pub new_of : Journal → Records → Tried → Record
 new_of j before t = new_record (through j t.place) before (t.order, t.attempt)
 
 abbrev pub let_in_at : Journal → Records → Tried → Bool
-let_in_at j before t = lets_in_after (automations (through j t.place)) (with_ends (through j t.place) before) t.attempt.automation
+let_in_at j before t = lets_in_after (units (through j t.place)) (with_ends (through j t.place) before) t.attempt.automation
 
 abbrev pub admit_each : Journal → Records → List Tried → Records
 admit_each j before [] = []
@@ -253,7 +253,7 @@ record-of j t lt fs rs f h g = record {
 }
 
 have-records : (j : Journal) (ts : List Tried) → AllBelowPlace (length j) ts → (before bare_before fs : Records) → AllAlike j before bare_before → AllAlike j fs (admit_each j bare_before ts)
-    → HaveRecords (automations j) before ts fs
+    → HaveRecords (units j) before ts fs
 have-records j [] below before bs [] h g = tt
 have-records j [] below before bs (f ∷ fs) h g = absurd g
 have-records j (t ∷ ts) below before bs fs h g = by (let_in_at j bs t) (admitted-alike j t below.0 before bs h) (have-records j ts below.1) fs g
@@ -261,17 +261,17 @@ have-records j (t ∷ ts) below before bs fs h g = by (let_in_at j bs t) (admitt
     new : Record
     new = new_of j bs t
 
-    by : (b : Bool) → is_admitted (automations j) before t ≡ b
-        → ((before' bs' fs : Records) → AllAlike j before' bs' → AllAlike j fs (admit_each j bs' ts) → HaveRecords (automations j) before' ts fs) → (fs : Records)
-        → AllAlike j fs (if b then new ∷ admit_each j (bs ++ (new ∷ [])) ts else admit_each j bs ts) → HaveRecords (automations j) before (t ∷ ts) fs
+    by : (b : Bool) → is_admitted (units j) before t ≡ b
+        → ((before' bs' fs : Records) → AllAlike j before' bs' → AllAlike j fs (admit_each j bs' ts) → HaveRecords (units j) before' ts fs) → (fs : Records)
+        → AllAlike j fs (if b then new ∷ admit_each j (bs ++ (new ∷ [])) ts else admit_each j bs ts) → HaveRecords (units j) before (t ∷ ts) fs
     by true e ih [] g = absurd g
     by true e ih (f ∷ fs) g = inl (e, record-of j t below.0 before bs f h g.0, ih (before ++ (f ∷ [])) (bs ++ (new ∷ [])) fs (alike-snoc j before bs f new h g.0) g.1)
     by false e ih [] g = (e, ih before bs [] h g)
     by false e ih (f ∷ fs) g = inr (e, ih before bs (f ∷ fs) h g)
 
 -- LAW: exactly the admitted attempts have records
-pub records-admitted : (j : Journal) → HaveRecords (automations j) [] (passing_below j (length j)) (records_of j)
+pub records-admitted : (j : Journal) → HaveRecords (units j) [] (passing_below j (length j)) (records_of j)
 records-admitted j =
-    subst (HaveRecords (automations j) [] (passing_below j (length j))) (sym (records-passes j))
+    subst (HaveRecords (units j) [] (passing_below j (length j))) (sym (records-passes j))
     (have-records j (passing_below j (length j)) (below-passing j (length j) (length j) (omega arith)) [] [] (by_passes j) tt
     (subst (λ rs. AllAlike j (by_passes j) rs) (bare-each j (length j)) (all-alike j [] (bare j))))

@@ -9,7 +9,7 @@ use Rattle.std.proofs.lemmas.List.Folds.{list_any-append}
 use Rattle.ha_config.specs.declared.config.Mode.{Mode}
 use Rattle.ha_model.specs.declared.record.EndCause.{EndCause}
 use Rattle.ha_model.specs.declared.record.Record.{Record}
-use Rattle.ha_journal.specs.Journal.{Journal, automations, through, last_place}
+use Rattle.ha_journal.specs.Journal.{Journal, through, last_place, units}
 use Rattle.ha_journal.specs.Attempts.{Attempt, passing}
 use Rattle.ha_model.specs.Records.{Records, mode_of, own_cause, is_restart_mode, ended_by_script, script_end, ran, last_is, is_step_of, next_place, lets_in_after, new_record, records_of, last_record, begin_of, begin_behind, calls_of}
 use Rattle.ha_config.specs.Words.{or_else}
@@ -19,7 +19,7 @@ use Rattle.ha_config.proofs.EqualLemmas.{and_left}
 use Rattle.ha_model.proofs.RecordLaws.{at_place, last-through}
 use Rattle.ha_model.proofs.RecordGrowth.{AllBelow, is-at-most}
 use Rattle.ha_config.proofs.ListLemmas.{true-false, none-some, some-same}
-use Rattle.ha_model.proofs.RunLaws.{automations-through, is-below}
+use Rattle.ha_model.proofs.RunLaws.{is-below, units-through}
 use Rattle.ha_model.proofs.StepLaws.{serial-at}
 use Rattle.ha_model.proofs.FoldLaws.{records-passes}
 use Rattle.ha_model.proofs.Passes.{own_end, replaced, end_here, end_below, with_ends, admitted, bare_below, bare, ended, with_begins}
@@ -56,7 +56,7 @@ within-more n (y ∷ ys) h = (omega (arith, h.0), within-more n ys h.1)
 
 sorted-admitted : (k : Journal) (p : ℕ) → last_place k ≡ p → (rs : Records) (xs : List (ℕ × Attempt)) → SortedTo (suc p) rs → SortedTo (suc p) (admitted k rs xs)
 sorted-admitted k p e rs [] h = h
-sorted-admitted k p e rs (x ∷ xs) h = sorted-admitted k p e (if lets_in_after (automations k) (with_ends k rs) x.1.automation then rs ++ (new_record k rs x ∷ []) else rs) xs (by (lets_in_after (automations k) (with_ends k rs) x.1.automation))
+sorted-admitted k p e rs (x ∷ xs) h = sorted-admitted k p e (if lets_in_after (units k) (with_ends k rs) x.1.automation then rs ++ (new_record k rs x ∷ []) else rs) xs (by (lets_in_after (units k) (with_ends k rs) x.1.automation))
   where
     by : (b : Bool) → SortedTo (suc p) (if b then rs ++ (new_record k rs x ∷ []) else rs)
     by true = record { sorted = sorted-snoc 0 p rs (new_record k rs x) (omega arith) h.sorted h.within e; within = within-snoc (suc p) rs (new_record k rs x) h.within (omega (arith, e)) }
@@ -88,8 +88,8 @@ ends-told j r e b c next late (suc p) le =
     place : last_place k ≡ p
     place = last-through j p le
 
-    replaced_told : replaced k r next ≡ (if is_restart_mode (mode_of (automations j) r.automation) && option_map_or (λ q. nat_eq q p) next false then Some EndCause.Replaced else None)
-    replaced_told = (λ i. if is_restart_mode (mode_of (automations-through j p i) r.automation) && option_map_or (λ q. nat_eq q (place i)) next false then Some EndCause.Replaced else None)
+    replaced_told : replaced k r next ≡ (if is_restart_mode (mode_of (units j) r.automation) && option_map_or (λ q. nat_eq q p) next false then Some EndCause.Replaced else None)
+    replaced_told = (λ i. if is_restart_mode (mode_of (units-through j p i) r.automation) && option_map_or (λ q. nat_eq q (place i)) next false then Some EndCause.Replaced else None)
 
     own : (t : Bool) → nat_lt r.place p ≡ t → (s : Bool) → last_is (is_step_of r.serial) k ≡ s
         → (if t then or_else (if s then option_and_then (λ o. script_end o.status) (ran k r) else None) (outer_cause k r) else None)
@@ -105,21 +105,21 @@ ends-told j r e b c next late (suc p) le =
     here =
         (λ i. option_map {T = EndCause} {U = ℕ × EndCause} (λ x. (place i, x)) (or_else (own_told i) (replaced_told i)))
         ∙ (λ i. option_map {T = EndCause} {U = ℕ × EndCause} (λ x. (p, x)) (or-assoc (ended_by_script k r) (if nat_lt r.place p then outer_cause k r else None)
-        (if is_restart_mode (mode_of (automations j) r.automation) && option_map_or (λ q. nat_eq q p) next false then Some EndCause.Replaced else None) i))
+        (if is_restart_mode (mode_of (units j) r.automation) && option_map_or (λ q. nat_eq q p) next false then Some EndCause.Replaced else None) i))
 
 -- in an automation that is not of mode restart, an end at q is the entry's own
 record OwnEnd (j : Journal) (r : Record) (n q : ℕ) (c : EndCause) : Type 0 where
   early : q < n
   cause : own_end (through j q) r ≡ Some c
 
-own-of : (j : Journal) (r : Record) (n : ℕ) → n ≤ length j → is_restart_mode (mode_of (automations j) r.automation) ≡ false → (q : ℕ) (c : EndCause) → end_below j r None n ≡ Some (q, c) → OwnEnd j r n q c
+own-of : (j : Journal) (r : Record) (n : ℕ) → n ≤ length j → is_restart_mode (mode_of (units j) r.automation) ≡ false → (q : ℕ) (c : EndCause) → end_below j r None n ≡ Some (q, c) → OwnEnd j r n q c
 own-of j r zero le m q c h = absurd (none-some (q, c) h)
 own-of j r (suc p) le m q c h = by (end_below j r None p) refl (own_end (through j p) r) refl (λ e. own-of j r p (omega arith) m q c e) (plain ∙ h)
   where
     plain : or_else (end_below j r None p) (at_place p (own_end (through j p) r)) ≡ end_below j r None (suc p)
     plain =
         let none : replaced (through j p) r None ≡ None
-        = (λ i. if ((λ i. is_restart_mode (mode_of (automations-through j p i) r.automation)) ∙ m) i && false then Some EndCause.Replaced else None) in
+        = (λ i. if ((λ i. is_restart_mode (mode_of (units-through j p i) r.automation)) ∙ m) i && false then Some EndCause.Replaced else None) in
         let or_none : or_else (own_end (through j p) r) None ≡ own_end (through j p) r = both (own_end (through j p) r) in
         (λ i. or_else (end_below j r None p) (at_place (sym (last-through j p le) i) (sym or_none i)))
         ∙ (λ i. or_else (end_below j r None p) (at_place (last_place (through j p)) (or_else (own_end (through j p) r) (sym none i))))
@@ -137,7 +137,7 @@ own-of j r (suc p) le m q c h = by (end_below j r None p) refl (own_end (through
         record { early = omega (arith, ap (λ x. x.0) same); cause = (λ i. own_end (through j (sym (ap (λ x. x.0) same) i)) r) ∙ f ∙ (λ i. Some (same i).1) }
 
 -- where its own entry ends it at q, it has ended by q
-owns-end : (j : Journal) (r : Record) (q : ℕ) → q < length j → is_restart_mode (mode_of (automations j) r.automation) ≡ false → (next : Option ℕ) (c : EndCause) → own_end (through j q) r ≡ Some c
+owns-end : (j : Journal) (r : Record) (q : ℕ) → q < length j → is_restart_mode (mode_of (units j) r.automation) ≡ false → (next : Option ℕ) (c : EndCause) → own_end (through j q) r ≡ Some c
     → option_map_or (λ e. nat_le e.0 q) (end_below j r next (length j)) false ≡ true
 owns-end j r q lt m next c h =
     (λ i. option_map_or (λ e. nat_le e.0 q) (end-any-next j r next (length j) m i) false)
@@ -153,7 +153,7 @@ owns-end j r q lt m next c h =
 
 pub record Past (j : Journal) (m : ℕ) (x : Record) : Type 0 where
   pub place : x.place ≤ m
-  pub ends : (q : ℕ) → q < length j → is_restart_mode (mode_of (automations j) x.automation) ≡ false → (c : EndCause) → own_end (through j q) x ≡ Some c → has_ended_by q x ≡ true
+  pub ends : (q : ℕ) → q < length j → is_restart_mode (mode_of (units j) x.automation) ≡ false → (c : EndCause) → own_end (through j q) x ≡ Some c → has_ended_by q x ≡ true
 
 abbrev pub AllPast : Journal → ℕ → Records → Type 0
 AllPast j m [] = Unit {0}
@@ -223,7 +223,7 @@ pub record Carried (j : Journal) (m : ℕ) (back told : Records) : Type 0 where
   pub past : AllPast j m back
   pub unended : (a p : ℕ) → list_any (is_unended a p) told ≡ list_any (is_unended a p) back
   pub last : (a : ℕ) → end_in (last_among a told) ≡ end_in (last_record a back)
-  pub queue : (a p : ℕ) (y : Record) → mode_of (automations j) a ≡ Mode.Queued → last_record a back ≡ Some y → has_ended_by p y ≡ true → list_any (is_unended a p) back ≡ false
+  pub queue : (a p : ℕ) (y : Record) → mode_of (units j) a ≡ Mode.Queued → last_record a back ≡ Some y → has_ended_by p y ≡ true → list_any (is_unended a p) back ≡ false
 
 last-snoc : (a : ℕ) (xs : Records) (x : Record) → last_among a (xs ++ (x ∷ [])) ≡ or_else (if nat_eq x.automation a then Some x else None) (last_among a xs)
 last-snoc a [] x = by (nat_eq x.automation a)
@@ -253,7 +253,7 @@ module _ (j : Journal) (r : Record) (next : Option ℕ) (back told : Records) wh
   e = record r { end = E }
 
   abbrev pub M : Mode
-  M = mode_of (automations j) r.automation
+  M = mode_of (units j) r.automation
 
   abbrev pub B : Option ℕ
   B = begin_of M (last_record r.automation back) e
@@ -278,8 +278,8 @@ module _ (j : Journal) (r : Record) (next : Option ℕ) (back told : Records) wh
       of_y : PastOf j r.place r.automation y
       of_y = past-last j r.place r.automation back y past previous
 
-      y_not_restart : is_restart_mode (mode_of (automations j) y.automation) ≡ false
-      y_not_restart = (λ i. is_restart_mode (mode_of (automations j) (of_y.automation i))) ∙ not_restart
+      y_not_restart : is_restart_mode (mode_of (units j) y.automation) ≡ false
+      y_not_restart = (λ i. is_restart_mode (mode_of (units j) (of_y.automation i))) ∙ not_restart
 
       -- it began behind that one
       begun : (q : ℕ) (c : EndCause) → E ≡ Some (q, c) → option_map_or (λ b. nat_lt b q) B false ≡ true → has_ended_by q y ≡ true
@@ -384,7 +384,7 @@ module _ (j : Journal) (r : Record) (next : Option ℕ) (back told : Records) wh
       last_one a true = refl
       last_one a false = carried.last a
 
-      queue : (a p : ℕ) (y : Record) → mode_of (automations j) a ≡ Mode.Queued → (b : Bool) → nat_eq r.automation a ≡ b → (if b then Some e else last_record a back) ≡ Some y → has_ended_by p y ≡ true
+      queue : (a p : ℕ) (y : Record) → mode_of (units j) a ≡ Mode.Queued → (b : Bool) → nat_eq r.automation a ≡ b → (if b then Some e else last_record a back) ≡ Some y → has_ended_by p y ≡ true
           → ((b && not (has_ended_by p e)) || list_any (is_unended a p) back) ≡ false
       queue a p y m false g h ended = carried.queue a p y m h ended
       queue a p y m true g h ended =
@@ -395,7 +395,7 @@ module _ (j : Journal) (r : Record) (next : Option ℕ) (back told : Records) wh
           rest : r.automation ≡ a → has_ended_by p e ≡ true → (o : Option Record) → last_record a back ≡ o → list_any (is_unended a p) back ≡ false
           rest same done None g = none-unended a p back g
           rest same done (Some z) g =
-              carried.queue a p z m g (in-order runs carried.past ((λ i. mode_of (automations j) (same i)) ∙ m) z ((λ i. last_record (same i) back) ∙ g) p done)
+              carried.queue a p z m g (in-order runs carried.past ((λ i. mode_of (units j) (same i)) ∙ m) z ((λ i. last_record (same i) back) ∙ g) p done)
 
 -- ---- all records
 

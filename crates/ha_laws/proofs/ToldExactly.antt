@@ -8,7 +8,7 @@ use Rattle.ha_config.specs.declared.config.Mode.{Mode}
 use Rattle.ha_model.specs.declared.record.EndCause.{EndCause}
 use Rattle.ha_model.specs.declared.record.Record.{Record}
 use Rattle.ha_config.specs.Words.{EachAfter, or_else}
-use Rattle.ha_journal.specs.Journal.{Journal, automations, through}
+use Rattle.ha_journal.specs.Journal.{Journal, through, units}
 use Rattle.ha_journal.specs.Attempts.{Attempt, passing}
 use Rattle.ha_model.specs.Records.{Records, mode_of, is_restart_mode, last_is, is_step_of, next_place, records_of, last_record, begin_of, calls_of}
 use Rattle.ha_model.specs.Lawful.{IsRightEntry}
@@ -28,7 +28,7 @@ abbrev AreNumbered : Records → Records → Type 0
 AreNumbered before [] = Unit {0}
 AreNumbered before (r ∷ rs) = (r.serial ≡ suc (length before)) × AreNumbered (before ++ (r ∷ [])) rs
 
-numbered : (j : Journal) (before : Records) (ts : List Tried) (rs : Records) → HaveRecords (automations j) before ts rs → AreNumbered before rs
+numbered : (j : Journal) (before : Records) (ts : List Tried) (rs : Records) → HaveRecords (units j) before ts rs → AreNumbered before rs
 numbered j before [] [] h = tt
 numbered j before [] (r ∷ rs) h = absurd h
 numbered j before (t ∷ ts) [] h = tt
@@ -43,7 +43,7 @@ sorted-less : (m n : ℕ) → m ≤ n → (ts : List Tried) → SortedTs n ts �
 sorted-less m n le [] h = tt
 sorted-less m n le (t ∷ ts) h = (omega (arith, h.0), h.1)
 
-sorted-records : (j : Journal) (m : ℕ) (before : Records) (ts : List Tried) (rs : Records) → SortedTs m ts → HaveRecords (automations j) before ts rs → SortedFrom m rs
+sorted-records : (j : Journal) (m : ℕ) (before : Records) (ts : List Tried) (rs : Records) → SortedTs m ts → HaveRecords (units j) before ts rs → SortedFrom m rs
 sorted-records j m before [] [] s h = tt
 sorted-records j m before [] (r ∷ rs) s h = absurd h
 sorted-records j m before (t ∷ ts) [] s h = tt
@@ -72,8 +72,8 @@ told-same Mode.Parallel told r b c = refl
 told-same Mode.Queued told r b c = refl
 
 told-late : (j : Journal) (r : Record) (back told : Records) → Carried j r.place back told → (p : ℕ)
-    → option_map_or (λ b. nat_lt b p) (told_begin (mode_of (automations j) r.automation) told r) false ≡ true → r.place < p
-told-late j r back told carried p h = by (mode_of (automations j) r.automation) refl h
+    → option_map_or (λ b. nat_lt b p) (told_begin (mode_of (units j) r.automation) told r) false ≡ true → r.place < p
+told-late j r back told carried p h = by (mode_of (units j) r.automation) refl h
   where
     a : ℕ
     a = r.automation
@@ -81,7 +81,7 @@ told-late j r back told carried p h = by (mode_of (automations j) r.automation) 
     unended : Bool
     unended = list_any (is_unended a r.place) told
 
-    queued : mode_of (automations j) a ≡ Mode.Queued → unended ≡ true → (o : Option Record) → last_record a back ≡ o
+    queued : mode_of (units j) a ≡ Mode.Queued → unended ≡ true → (o : Option Record) → last_record a back ≡ o
         → option_map_or (λ b. nat_lt b p) (begins_behind r.end (option_map_or (λ x. x.end) o None)) false ≡ true → r.place < p
     queued m open' None g h = absurd (true-false (sym h))
     queued m open' (Some y) g h = end_of y.end refl h
@@ -100,14 +100,14 @@ told-late j r back told carried p h = by (mode_of (automations j) r.automation) 
         end_of None u h = absurd (true-false (sym ((λ i. option_map_or (λ b. nat_lt b p) (begins_behind r.end (sym u i)) false) ∙ h)))
         end_of (Some z) u h = split z u (leb_tells z.0 r.place) ((λ i. option_map_or (λ b. nat_lt b p) (begins_behind r.end (sym u i)) false) ∙ h)
 
-    open_or_not : mode_of (automations j) a ≡ Mode.Queued → (t : Bool) → unended ≡ t
+    open_or_not : mode_of (units j) a ≡ Mode.Queued → (t : Bool) → unended ≡ t
         → option_map_or (λ b. nat_lt b p) (if t then begins_behind r.end (option_map_or (λ x. x.end) (last_among a told) None) else Some r.place) false ≡ true → r.place < p
     open_or_not m false g h = below r.place p h
     open_or_not m true g h =
         queued m g (last_record a back) refl
         ((let ends = end-or-none (last_record a back) (last_among a told) (sym (carried.last a)) in λ i. option_map_or (λ b. nat_lt b p) (begins_behind r.end (ends i)) false) ∙ h)
 
-    by : (m : Mode) → mode_of (automations j) a ≡ m → option_map_or (λ b. nat_lt b p) (told_begin (mode_of (automations j) a) told r) false ≡ true → r.place < p
+    by : (m : Mode) → mode_of (units j) a ≡ m → option_map_or (λ b. nat_lt b p) (told_begin (mode_of (units j) a) told r) false ≡ true → r.place < p
     by Mode.Single g h = below r.place p ((λ i. option_map_or (λ b. nat_lt b p) (told_begin (sym g i) told r) false) ∙ h)
     by Mode.Restart g h = below r.place p ((λ i. option_map_or (λ b. nat_lt b p) (told_begin (sym g i) told r) false) ∙ h)
     by Mode.Parallel g h = below r.place p ((λ i. option_map_or (λ b. nat_lt b p) (told_begin (sym g i) told r) false) ∙ h)
@@ -153,7 +153,7 @@ stripped-snoc (x ∷ xs) r = (λ i. strip x ∷ stripped-snoc xs r i)
 
 -- each has its end by its own entries, where it is not of mode restart
 abbrev HasEnds : Journal → Record → Type 0
-HasEnds j r = (p : ℕ) → p < length j → is_restart_mode (mode_of (automations j) r.automation) ≡ false → has_ended_by p r ≡ is_some (end_below j (strip r) None (suc p))
+HasEnds j r = (p : ℕ) → p < length j → is_restart_mode (mode_of (units j) r.automation) ≡ false → has_ended_by p r ≡ is_some (end_below j (strip r) None (suc p))
 
 abbrev AllEnds : Journal → Records → Type 0
 AllEnds j [] = Unit {0}
@@ -186,7 +186,7 @@ strip-new j t lt before r h =
     let p = h.place ∙ sym (last-through j t.place lt) in
     (λ i. record { serial = s i; automation = h.automation i; number = n i; place = p i; order = h.order i; env = h.env i; begin = None; end = None; calls = 0 })
 
-admitted-only : (j : Journal) (ts : List Tried) → AllBelowPlace (length j) ts → (before rs : Records) → AllEnds j before → AllEnds j rs → HaveRecords (automations j) before ts rs
+admitted-only : (j : Journal) (ts : List Tried) → AllBelowPlace (length j) ts → (before rs : Records) → AllEnds j before → AllEnds j rs → HaveRecords (units j) before ts rs
     → stripped rs ≡ admit_each j (stripped before) ts
 admitted-only j [] low before [] b h g = refl
 admitted-only j [] low before (r ∷ rs) b h g = absurd g
@@ -249,7 +249,7 @@ begin-ended-only Mode.Queued (Some x) r = refl
 begins-ended-only : (j : Journal) (back rs : Records) → with_begins j (all_ended_only back) (all_ended_only rs) ≡ with_begins j back rs
 begins-ended-only j back [] = refl
 begins-ended-only j back (r ∷ rs) =
-    let m = mode_of (automations j) r.automation in
+    let m = mode_of (units j) r.automation in
     let begin : begin_of m (last_record r.automation (all_ended_only back)) (ended_only r) ≡ begin_of m (last_record r.automation back) r
     = (λ i. begin_of m (last-ended-only r.automation back i) (ended_only r)) ∙ begin-ended-only m (last_record r.automation back) r in
     (λ i. record r { begin = begin i; calls = calls_of j r.serial } ∷ begins-ended-only j (r ∷ back) rs i)

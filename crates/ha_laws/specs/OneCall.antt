@@ -6,6 +6,7 @@ use Rattle.ha_config.specs.declared.template.Template.{Template}
 use Rattle.ha_config.specs.declared.template.Piece.TheVariants as piece
 use Rattle.ha_config.specs.declared.config.Action.{Action}
 use Rattle.ha_config.specs.declared.config.ActionKind.TheVariants.{Call}
+use Rattle.ha_config.specs.declared.config.Script.{Script}
 use Rattle.ha_sight.specs.declared.item.Item.{Item}
 use Rattle.ha_config.specs.Words.{Text, same}
 use Rattle.ha_sight.specs.Scripts.{Outcome, Status}
@@ -22,6 +23,11 @@ pub record IsCallable (id : EntityId) : Type 0 where
   pub form : is_entity id ≡ true
   pub outside : not (same id.domain (codes "automation")) ≡ true
   pub short : nat_le (length (entity_text id)) 65_536 ≡ true
+
+-- where scripts are configured, an entity id of another domain than `script`
+abbrev pub IsNoScript : List Script → EntityId → Type 0
+IsNoScript [] id = Unit {0}
+IsNoScript (s ∷ ss) id = not (same id.domain (codes "script")) ≡ true
 
 -- what the script gives at its one place
 abbrev pub call_made : EntityId → EntityId → Outcome

@@ -31,7 +31,7 @@ pub record IsBegun (k : ℕ) (j : Journal) (records : Records) : Type 0 where
   pub no_call : calls_of j run.serial ≡ 0
   pub none_counted : run.calls ≡ 0
 
--- the same automations and numbers, with perhaps more runs behind them
+-- the same units and numbers, with perhaps more runs behind them
 abbrev pub SameNumbers : Records → Records → Type 0
 SameNumbers [] rs' = Unit {0}
 SameNumbers (r ∷ rs) [] = ⊥

@@ -9,7 +9,7 @@ use Rattle.ha_model.specs.Records.{Records, mode_of}
 abbrev pub is_live : ℕ → Record → Bool
 is_live a r = nat_eq r.automation a && is_none r.end
 
--- behind a live record of an automation of mode queued none of it has ended; `live` says of which automations one is live so far
+-- behind a live record of an automation of mode queued none of it has ended; `live` says of which units one is live so far
 abbrev pub InOrderBehind : List Automation → (ℕ → Bool) → Records → Type 0
 InOrderBehind all live [] = Unit {0}
 InOrderBehind all live (r ∷ rs) =

@@ -1,12 +1,12 @@
--- What a line that ends nobody does to the records, where all automations are of mode single.
+-- What a line that ends nobody does to the records, where all units are of mode single.
 use Rattle.std.specs.Prelude.{ℕ, ◌+◌, ◌≡◌, List, [], ◌∷◌, ◌++◌, length, Some}
 use Rattle.std.specs.Prelude.{option_map, nat_eq, cond, if◌then◌else◌}
 use Rattle.ha_config.specs.declared.config.Mode.{Mode}
 use Rattle.ha_model.specs.declared.record.Record.{Record}
-use Rattle.ha_journal.specs.Journal.{Journal, automations}
+use Rattle.ha_journal.specs.Journal.{Journal, units}
 use Rattle.ha_journal.specs.Attempts.{Attempt}
 pub use Rattle.ha_config.specs.Fair.{IsPlain}
-pub use Rattle.ha_sight.specs.Items.{SwitchesNone}
+pub use Rattle.ha_sight.specs.Items.{EndsNone}
 use Rattle.ha_model.specs.Records.{Records, mode_of, live_count, new_record}
 use Rattle.ha_config.specs.Words.{or_else}
 use Rattle.ha_sight.specs.Items.{is_call}
@@ -15,9 +15,9 @@ use Rattle.ha_sight.specs.declared.item.Item.{Item}
 use Rattle.ha_model.specs.NextPlace.{next_end}
 use Rattle.ha_model.specs.declared.record.EndCause.{EndCause}
 
--- all automations are of mode single
+-- all units are of mode single
 abbrev pub AllSingle : Journal → Type 0
-AllSingle j = (a : ℕ) → mode_of (automations j) a ≡ Mode.Single
+AllSingle j = (a : ℕ) → mode_of (units j) a ≡ Mode.Single
 
 -- admission in mode single: the new record begins at once
 abbrev pub started : Record → Record

@@ -8,7 +8,7 @@ use Rattle.ha_config.specs.declared.config.Mode.{Mode}
 use Rattle.ha_config.specs.declared.config.Automation.{Automation}
 use Rattle.ha_model.specs.declared.record.EndCause.{EndCause}
 use Rattle.ha_model.specs.declared.record.Record.{Record}
-use Rattle.ha_journal.specs.Journal.{Journal, automations, through}
+use Rattle.ha_journal.specs.Journal.{Journal, automations, through, units}
 use Rattle.ha_journal.specs.Attempts.{Attempt, passing}
 use Rattle.ha_model.specs.Records.{Records, mode_of, max_of, lets_in, ended_by_script, stops, last_is, is_restart_mode, next_place, begin_of, calls_of}
 use Rattle.ha_journal.specs.Entries.{is_restart}
@@ -66,7 +66,8 @@ HaveRecords all before (t ∷ ts) (r ∷ rs) =
 
 -- ---- how a record ends
 
--- after its own place, an entry that turns its automation off and stops its runs ends it, and so does a Restart
+-- after its own place, an entry ends it that turns its automation off and stops its runs, or ends the runs of its script; and so does a
+-- Restart
 abbrev pub outer_cause : Journal → Record → Option EndCause
 outer_cause k r =
     if last_is (stops (automations k) r.automation) k then Some EndCause.SwitchedOff
@@ -78,7 +79,7 @@ outer_cause k r =
 abbrev pub cause_at : Journal → Record → Option ℕ → ℕ → Option EndCause
 cause_at j r next p = or_else (ended_by_script (through j p) r) (or_else
     (if nat_lt r.place p then outer_cause (through j p) r else None)
-    (if is_restart_mode (mode_of (automations j) r.automation) && option_map_or (λ q. nat_eq q p) next false
+    (if is_restart_mode (mode_of (units j) r.automation) && option_map_or (λ q. nat_eq q p) next false
     then Some EndCause.Replaced else None))
 
 -- the first place below n at which there is something
@@ -113,7 +114,7 @@ told_begin Mode.Queued before r =
 
 -- a record between those before it and those behind it
 pub record IsTold (j : Journal) (before : Records) (r : Record) (behind : Records) : Type 0 where
-  pub begin : r.begin ≡ told_begin (mode_of (automations j) r.automation) before r
+  pub begin : r.begin ≡ told_begin (mode_of (units j) r.automation) before r
   pub end : r.end ≡ first_below (cause_at j r (next_place r.automation behind)) (length j)
   pub calls : r.calls ≡ calls_of j r.serial
 
@@ -123,7 +124,7 @@ AreTold j before (r ∷ rs) = IsTold j before r rs × AreTold j (before ++ (r �
 
 -- the records of a journal, by the rules
 pub record ByTheRules (j : Journal) (rs : Records) : Type 0 where
-  pub admitted : HaveRecords (automations j) [] (passing_below j (length j)) rs
+  pub admitted : HaveRecords (units j) [] (passing_below j (length j)) rs
   pub told : AreTold j [] rs
 
 -- each begin is also told by the record of its automation just before it alone: in mode queued it is the same to ask whether an earlier
@@ -131,4 +132,4 @@ pub record ByTheRules (j : Journal) (rs : Records) : Type 0 where
 abbrev pub AreNear : Journal → Records → Records → Type 0
 AreNear j before [] = Unit {0}
 AreNear j before (r ∷ rs) =
-    (r.begin ≡ begin_of (mode_of (automations j) r.automation) (last_among r.automation before) r) × AreNear j (before ++ (r ∷ [])) rs
+    (r.begin ≡ begin_of (mode_of (units j) r.automation) (last_among r.automation before) r) × AreNear j (before ++ (r ∷ [])) rs

@@ -33,8 +33,7 @@ use Rattle.ha_journal.specs.Entries.{first_carry}
 use Rattle.ha_journal.specs.Journal.{Journal}
 use Rattle.ha_journal.specs.Variables.{variables}
 use Rattle.ha_sight.specs.Scripts.{Spot}
-use Rattle.ha_journal.specs.Waits.{next_spot}
-use Rattle.ha_model.specs.Records.{Records}
+use Rattle.ha_model.specs.Records.{Records, next_spot}
 
 abbrev pub text_template : Text → Template
 text_template t = roll-Template (record { pieces = roll-Piece (Piece-F.Text t) ∷ [] })
@@ -90,7 +89,7 @@ abbrev pub step : Item → Entry
 step i = Entry.Step 0 1 [] i
 
 abbrev pub journal : Journal
-journal = Entry.Boot [] (record { automations = hall_light ∷ [] }) None start (codes "UTC") (first_carry []) ∷ report 0 (codes "off") ∷ report 1 (codes "on")
+journal = Entry.Boot [] (record { automations = hall_light ∷ []; scripts = [] }) None start (codes "UTC") (first_carry []) ∷ report 0 (codes "off") ∷ report 1 (codes "on")
     ∷ step on_item ∷ step Item.Nothing ∷ Entry.Line 0 2 (Cmd.Moment (start + 120000)) ∷ step Item.Nothing ∷ step off_item ∷ []
 
 abbrev pub env : Pairs

@@ -13,12 +13,12 @@ ghost use Rattle.ha_sight.specs.declared.item.Item.{Item};
 ghost use Rattle.ha_model.specs.declared.record.Record.{Record};
 ghost use Rattle.ha_config.specs.Words.{Text, Pairs, EachAfter, same_entity};
 ghost use Rattle.ha_journal.specs.Entries.{report_in, gone_in, is_restart};
-ghost use Rattle.ha_journal.specs.Journal.{Journal, HasEntry, automations, brings, now as now_lem, more};
+ghost use Rattle.ha_journal.specs.Journal.{Journal, HasEntry, automations, brings, now as now_lem, more, scripts as configured_scripts, units};
 ghost use Rattle.ha_journal.specs.Switches.{is_on, on_after};
 ghost use Rattle.ha_journal.specs.States.{reported};
 ghost use Rattle.ha_sight.specs.StateStep.{next_object};
 ghost use Rattle.ha_sight.specs.Scripts.{Status, whole};
-ghost use Rattle.ha_model.specs.Records.{Records, actions_of, records_of, ran_on, spots};
+ghost use Rattle.ha_model.specs.Records.{Records, actions_of, records_of, ran_on, spots, next_spot};
 ghost use Rattle.ha_journal.specs.Attempts.{passing};
 ghost use Rattle.ha_model.specs.RecordSteps.{records_after};
 ghost use Rattle.ha_model.specs.RunSteps.{runs_after};
@@ -30,10 +30,9 @@ ghost use Rattle.ha_laws.specs.WorkedHall as hall;
 ghost use Rattle.ha_laws.specs.WorkedModes as modes;
 ghost use Rattle.ha_laws.specs.WorkedScripts as scripts;
 ghost use Rattle.ha_laws.specs.WorkedHolds as holds;
-ghost use Rattle.ha_journal.specs.Waits.{next_spot};
 ghost use Rattle.ha_laws.specs.IdleLines.{IsIdle, NothingChanges};
 ghost use Rattle.ha_laws.specs.Order.{InOrder};
-ghost use Rattle.ha_laws.specs.OneCall.{IsCallable, call_made, one_call};
+ghost use Rattle.ha_laws.specs.OneCall.{IsCallable, IsNoScript, call_made, one_call};
 ghost use Rattle.ha_laws.specs.OneRun.{AllEnded, IsBegun, SameNumbers};
 ghost use Rattle.ha_config.specs.declared.config.Mode.{Mode};
 ghost use Rattle.ha_model.specs.declared.record.EndCause.{EndCause};
@@ -84,7 +83,7 @@ pub fn rested_of_one_more()
 {}
 
 /// The records are exactly those of the rules: the attempts that are admitted by the number of
-/// earlier records of their automation that have not ended have one, and each begins and ends as
+/// earlier records of their unit that have not ended have one, and each begins and ends as
 /// the rules say. On a right journal they are so, and no other list is, whose steps are right.
 /// `near` says that in mode queued it is the same to ask whether an earlier record has not ended
 /// and whether the one just before has not.
@@ -94,9 +93,9 @@ pub fn records_by_the_rules()
     ensures near { (j : Journal) (rs : Records) → Right j rs → AreNear j [] rs }
 {}
 
-/// Each record is of an automation of the journal: an attempt of none does not pass.
-pub fn each_record_has_an_automation()
-    ensures { (j : Journal) (n : ℕ) → MatchOption (slice_get (records_of j) n) (Unit {0}) (λ r. r.automation < length (automations j)) }
+/// Each record is of a unit of the journal, an automation or a script: an attempt of none does not pass.
+pub fn each_record_has_a_unit()
+    ensures { (j : Journal) (n : ℕ) → MatchOption (slice_get (records_of j) n) (Unit {0}) (λ r. r.automation < length (units j)) }
 {}
 
 /// A line that was refused, or that says that its source failed or gave too much, changes no
@@ -105,35 +104,35 @@ pub fn idle_lines_change_nothing()
     ensures { (j : Journal) (source number : ℕ) (cmd : Cmd) → HasEntry j → IsIdle cmd → NothingChanges j (more j (Line source number cmd)) }
 {}
 
-/// On a right journal the runs of an automation of mode queued end in their order: behind a live
-/// one none has ended.
+/// On a right journal the runs of a unit of mode queued end in their order: behind a live one none
+/// has ended.
 pub fn queued_runs_end_in_order()
-    ensures { (j : Journal) (rs : Records) → Right j rs → InOrder (automations j) rs }
+    ensures { (j : Journal) (rs : Records) → Right j rs → InOrder (units j) rs }
 {}
 
 /// Where all runs have ended, the journal is quiet; where the last one alone is live and has made no step, its own branch
 /// is ready and nothing else. Each source is rested where the journal is quiet, and none is behind its own line where it is not.
 pub fn one_run_at_a_time()
     ensures ended { (j : Journal) (rs : Records) → AllEnded (length j) rs → is_quiet rs j ≡ true }
-    ensures begun { (k : ℕ) (j : Journal) (rs : Records) (b : IsBegun k j rs) → branches_of (actions_of (automations j) b.run.automation) ≡ [] ∷ []
+    ensures begun { (k : ℕ) (j : Journal) (rs : Records) (b : IsBegun k j rs) → branches_of (actions_of (units j) b.run.automation) ≡ [] ∷ []
         → may_step rs j b.run [] ≡ true → ready rs j ≡ (b.run.serial, []) ∷ [] }
     ensures rested { (rs : Records) (k : ℕ) (j : Journal) → HasEntry j → is_quiet rs j ≡ true → is_rested rs k j ≡ true }
     ensures busy { (rs : Records) (k number : ℕ) (cmd : Cmd) (j before : Journal) → j ≡ more before (Line k number cmd) → is_quiet rs j ≡ false
         → is_rested rs k j ≡ false }
 {}
 
-/// The calls' text of a right journal is the same by records that have grown: it tells of a run only its automation and its
+/// The calls' text of a right journal is the same by records that have grown: it tells of a run only its unit and its
 /// number.
 pub fn calls_of_grown_records()
     ensures { (j : Journal) (rs rs' : Records) → Right j rs → SameNumbers rs rs' → call_text j rs ≡ call_text j rs' }
 {}
 
 /// A script that is one call of literal texts, of a service and for a target outside `automation`, has the outer branch
-/// alone. At its first place it makes that call, and is done.
+/// alone. At its first place it makes that call, and is done; where scripts are configured, the service is outside `script` too.
 pub fn one_call_is_made()
     ensures branch { (service target : Text) → branches_of (one_call service target) ≡ [] ∷ [] }
-    ensures call { (j : Journal) (r : Record) (service target : EntityId) → IsCallable service → IsCallable target
-        → actions_of (automations j) r.automation ≡ one_call (entity_text service) (entity_text target) → spots j r.serial ≡ []
+    ensures call { (j : Journal) (r : Record) (service target : EntityId) → IsCallable service → IsCallable target → IsNoScript (configured_scripts j) service
+        → actions_of (units j) r.automation ≡ one_call (entity_text service) (entity_text target) → spots j r.serial ≡ []
         → ran_on j r (spots j r.serial ++ (next_spot j [] ∷ [])) ≡ Some (call_made service target) }
 {}
 

@@ -4,7 +4,7 @@ use Rattle.std.specs.Prelude.{nat_eq, if◌then◌else◌}
 use Rattle.std.proofs.lemmas.List.{append-nil}
 use Rattle.ha_config.specs.Words.{or_else}
 use Rattle.ha_journal.specs.declared.entry.Entry.{Entry}
-use Rattle.ha_journal.specs.Journal.{Journal, HasEntry, automations, last_place, more}
+use Rattle.ha_journal.specs.Journal.{Journal, HasEntry, last_place, more, units}
 use Rattle.ha_journal.specs.Attempts.{Attempt, passing}
 use Rattle.ha_model.specs.declared.record.Record.{Record}
 use Rattle.ha_model.specs.Records.{Records, Past, past_step, past_from, past_of, records_of, spots, spots_from, spot_of, own_ends_on, mode_of, is_restart_mode, lets_in_after, new_record, last_record, begin_of, calls_of}
@@ -72,11 +72,11 @@ begins-settled k back [] h = refl
 begins-settled k back (r ∷ rs) h =
     let here : nat_eq r.place (last_place k) ≡ true = equal r.place (last_place k) h.0 in
     (λ i. record r {
-      begin = if sym here i then begin_of (mode_of (automations k) r.automation) (last_record r.automation back) r
-          else or_else r.begin (begins_here (last_place k) (mode_of (automations k) r.automation) (last_record r.automation back) r.end);
+      begin = if sym here i then begin_of (mode_of (units k) r.automation) (last_record r.automation back) r
+          else or_else r.begin (begins_here (last_place k) (mode_of (units k) r.automation) (last_record r.automation back) r.end);
       calls = calls_of k r.serial;
     } ∷ with_begins k (r ∷ back) rs)
-    ∙ ap (λ t. record r { begin = begin_at (last_place k) (mode_of (automations k) r.automation) (last_record r.automation back) r; calls = calls_of k r.serial } ∷ t) (begins-settled k (r ∷ back) rs h.1)
+    ∙ ap (λ t. record r { begin = begin_at (last_place k) (mode_of (units k) r.automation) (last_record r.automation back) r; calls = calls_of k r.serial } ∷ t) (begins-settled k (r ∷ back) rs h.1)
   where
     equal : (a b : ℕ) → a ≡ b → nat_eq a b ≡ true
     equal a b e = search (rules, e)
@@ -91,14 +91,14 @@ at-snoc p (y ∷ ys) r h e = (h.0, at-snoc p ys r h.1 e)
 
 at-attempts : (k : Journal) (rs : Records) (xs : List (ℕ × Attempt)) → AllAt (last_place k) rs → AllAt (last_place k) (attempt_all k rs xs)
 at-attempts k rs [] h = h
-at-attempts k rs (x ∷ xs) h = at-attempts k (if lets_in_after (automations k) rs x.1.automation then joined (mode_of (automations k) x.1.automation) x.1.automation (last_place k) rs (new_record k rs x) else rs) xs (by (lets_in_after (automations k) rs x.1.automation))
+at-attempts k rs (x ∷ xs) h = at-attempts k (if lets_in_after (units k) rs x.1.automation then joined (mode_of (units k) x.1.automation) x.1.automation (last_place k) rs (new_record k rs x) else rs) xs (by (lets_in_after (units k) rs x.1.automation))
   where
     one : (b : Bool) → AllAt (last_place k) ((if b then replace_all x.1.automation (last_place k) rs else rs) ++ (new_record k rs x ∷ []))
     one true = at-snoc (last_place k) (replace_all x.1.automation (last_place k) rs) (new_record k rs x) (at-replaced (last_place k) x.1.automation (last_place k) rs h) refl
     one false = at-snoc (last_place k) rs (new_record k rs x) h refl
 
-    by : (b : Bool) → AllAt (last_place k) (if b then joined (mode_of (automations k) x.1.automation) x.1.automation (last_place k) rs (new_record k rs x) else rs)
-    by true = one (is_restart_mode (mode_of (automations k) x.1.automation))
+    by : (b : Bool) → AllAt (last_place k) (if b then joined (mode_of (units k) x.1.automation) x.1.automation (last_place k) rs (new_record k rs x) else rs)
+    by true = one (is_restart_mode (mode_of (units k) x.1.automation))
     by false = h
 
 -- ---- the passes

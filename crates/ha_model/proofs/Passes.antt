@@ -4,7 +4,7 @@ use Rattle.std.specs.Prelude.{ℕ, zero, suc, false, ◌&&◌, nat_eq, nat_lt, L
 use Rattle.std.specs.Option.{option_map_or}
 use Rattle.ha_config.specs.Words.{or_else}
 use Rattle.ha_journal.specs.declared.entry.Entry.{Entry}
-use Rattle.ha_journal.specs.Journal.{Journal, automations, through, last_place, more}
+use Rattle.ha_journal.specs.Journal.{Journal, through, last_place, more, units}
 use Rattle.ha_journal.specs.Attempts.{Attempt, passing}
 use Rattle.ha_model.specs.declared.record.EndCause.{EndCause}
 use Rattle.ha_model.specs.declared.record.Record.{Record}
@@ -17,7 +17,7 @@ own_end j r = if nat_lt r.place (last_place j) then own_cause j r else None
 -- in mode restart it ends at the place of the next record of its automation
 abbrev pub replaced : Journal → Record → Option ℕ → Option EndCause
 replaced j r next =
-    if is_restart_mode (mode_of (automations j) r.automation) && option_map_or (λ p. nat_eq p (last_place j)) next false
+    if is_restart_mode (mode_of (units j) r.automation) && option_map_or (λ p. nat_eq p (last_place j)) next false
     then Some EndCause.Replaced
     else None
 
@@ -39,7 +39,7 @@ with_ends j (r ∷ rs) = record r { end = end_below j r (next_place r.automation
 abbrev pub admitted : Journal → Records → List (ℕ × Attempt) → Records
 admitted j before [] = before
 admitted j before (x ∷ xs) = admitted j
-    (if lets_in_after (automations j) (with_ends j before) x.1.automation then before ++ (new_record j before x ∷ []) else before)
+    (if lets_in_after (units j) (with_ends j before) x.1.automation then before ++ (new_record j before x ∷ []) else before)
     xs
 
 -- the records of all attempts admitted at places below n, as yet without begin, end and calls
@@ -54,7 +54,7 @@ bare j = bare_below j (length j)
 abbrev pub with_begins : Journal → Records → Records → Records
 with_begins j before [] = []
 with_begins j before (r ∷ rs) =
-    record r { begin = begin_of (mode_of (automations j) r.automation) (last_record r.automation before) r; calls = calls_of j r.serial }
+    record r { begin = begin_of (mode_of (units j) r.automation) (last_record r.automation before) r; calls = calls_of j r.serial }
     ∷ with_begins j (r ∷ before) rs
 
 -- the records with their ends
@@ -75,7 +75,7 @@ end_now j (r ∷ rs) = record r { end = or_else r.end (end_here j r (next_place 
 abbrev pub admit_now : Journal → Records → List (ℕ × Attempt) → Records
 admit_now j rs [] = rs
 admit_now j rs (x ∷ xs) =
-    admit_now j (if lets_in_after (automations j) rs x.1.automation then end_now j (rs ++ (new_record j rs x ∷ [])) else rs) xs
+    admit_now j (if lets_in_after (units j) rs x.1.automation then end_now j (rs ++ (new_record j rs x ∷ [])) else rs) xs
 
 -- the records without their begins and calls
 abbrev pub no_begins : Records → Records

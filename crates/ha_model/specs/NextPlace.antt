@@ -6,8 +6,7 @@ use Rattle.ha_model.specs.declared.record.Record.{Record}
 use Rattle.ha_config.specs.Words.{last_of}
 use Rattle.ha_journal.specs.Journal.{Journal}
 use Rattle.ha_sight.specs.Scripts.{Branch}
-use Rattle.ha_model.specs.Records.{ran_on, spots, script_end}
-use Rattle.ha_journal.specs.Waits.{next_spot}
+use Rattle.ha_model.specs.Records.{next_spot, ran_on, spots, script_end}
 
 -- the item of a run's next place in this branch
 abbrev pub next_item : Journal → Record → Branch → Option Item

@@ -5,7 +5,7 @@ use Rattle.ha_journal.specs.declared.entry.Entry.{Entry}
 use Rattle.ha_config.specs.Words.{Text}
 use Rattle.ha_sight.specs.Items.{Called, call_in, is_call}
 use Rattle.ha_journal.specs.Entries.{Stepped, step_of, line_of}
-use Rattle.ha_journal.specs.Journal.{Journal, automations}
+use Rattle.ha_journal.specs.Journal.{Journal, units}
 use Rattle.ha_config.specs.Names.{name_of}
 use Rattle.ha_model.specs.Records.{Records, calls_of}
 use Rattle.ha_model.specs.Lawful.{record_of}
@@ -18,7 +18,7 @@ use Rattle.ha_config.specs.CheckText.{count_line}
 abbrev pub call_of_step : Records → Journal → Stepped → Called → Text
 call_of_step records before s call =
     option_map_or
-    (λ r. call_line (name_of (automations before) r.automation) r.number (suc (calls_of before s.serial)) call)
+    (λ r. call_line (name_of (units before) r.automation) r.number (suc (calls_of before s.serial)) call)
     (record_of records s.serial) []
 
 abbrev pub call_text_of : Records → Journal → Entry → Text

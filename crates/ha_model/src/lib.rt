@@ -7,12 +7,12 @@ mod record;
 pub use ha_clock::{Moment, Span};
 pub use ha_config::{
     Action, ActionKind, Automation, Cmd, Condition, Config, Expr, Form, Match, Mode, Op, Piece,
-    RepeatKind, SpanForm, Template, Trigger, TriggerRule, Unit, characters, first_pair, last_pair,
-    run_name, same_data, same_id, same_text,
+    RepeatKind, Script, SpanForm, Template, Trigger, TriggerRule, Unit, characters, first_pair,
+    last_pair, run_name, same_data, same_id, same_text,
 };
 pub use ha_journal::{Carry, Entry, Firing};
 pub use ha_sight::{
-    Answers, Branch, Change, Ended, Env, Item, Part, Progress, Seen, StateObject, StepOut,
+    Answers, Branch, Change, Ended, Env, Inner, Item, Part, Progress, Seen, StateObject, StepOut,
     TplFault, TriggerData, WaitAsk, WaitEnd, as_data, attribute_text, next_object, true_in,
 };
 pub use ha_value::{

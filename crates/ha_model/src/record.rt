@@ -11,9 +11,9 @@ pub enum EndCause {
     Stopped,
     /// An action's own fields failed.
     Faulted,
-    /// A newer run of its automation took its place.
+    /// A newer run of its unit took its place.
     Replaced,
-    /// Its automation was turned off.
+    /// Its automation was turned off, or its script's runs were ended.
     SwitchedOff,
     /// Everything was restarted.
     Restarted,
@@ -22,11 +22,11 @@ pub enum EndCause {
 /// An admitted attempt, and the run that it makes.
 #[derive(Drop)]
 pub struct Record {
-    /// From 1, over all automations, in the order of admission.
+    /// From 1, over all units, in the order of admission.
     pub serial: u64,
-    /// The automation's place in the configuration.
+    /// Its unit: an automation's place in the configuration, or a script's behind all automations.
     pub automation: u32,
-    /// From 1, within the automation.
+    /// From 1, within the unit.
     pub number: u64,
     /// The entry of its attempt.
     pub place: u64,

@@ -1,6 +1,6 @@
 -- The branch of an allowed place is among those that the script has.
 use Rattle.std.proofs.Common.{◌≡◌, ℕ, zero, suc, ◌+◌, ◌-◌, ◌<◌, ◌≤◌, ◌⊎◌, inl, inr, List, [], ◌∷◌, ◌++◌, length, map, filter, Bool, true, false, refl, sym, ap, subst, ◌∙◌, arith, Option, append_assoc}
-use Rattle.std.specs.Prelude.{Some, None, Ok, Err, is_some, nat_eq, nat_le, nat_lt, codes, option_map, ◌||◌, if◌then◌else◌, bytes_eq}
+use Rattle.std.specs.Prelude.{Some, None, Ok, Err, is_some, nat_eq, nat_le, nat_lt, option_map, ◌||◌, if◌then◌else◌, bytes_eq}
 use Rattle.std.specs.List.{list_any, list_all}
 use Rattle.std.specs.Option.{option_map_or}
 use Rattle.std.proofs.lemmas.Bool.{leb-true}
@@ -16,16 +16,16 @@ use Rattle.ha_config.specs.declared.config.ActionKind.TheFolds.{map-ActionKind, 
 use Rattle.ha_sight.specs.declared.item.Item.{Item}
 use Rattle.ha_model.specs.declared.record.Record.{Record}
 use Rattle.ha_config.specs.Words.{Pairs, comes_before}
-use Rattle.ha_journal.specs.Journal.{Journal, automations}
+use Rattle.ha_journal.specs.Journal.{Journal, units}
 use Rattle.ha_sight.specs.Sight.{Sight}
 use Rattle.ha_sight.specs.Conditions.{hold_all, holds}
 use Rattle.ha_sight.specs.Calls.{Checked, call_item, span_of, spans_of, count_of, forms_of, fields_of}
-use Rattle.ha_sight.specs.Scripts.{Branch, Scopes, Ask, Spot, Status, Outcome, Next, Part, Meaning, flat, prefixed, gives, ends, with_place, in_order, outer, add_inside, is_deeper, front, past_front, side, on_side, woven, Loop, all_allowed, is_open, first_halt, after_lists, each_on, joined_lists, side_by_side, after_turn, turns, looped, count_loop, each_loop, while_loop, until_loop, most_turns, failed, on_checked, repeated, goes_into, lists_from, parallel, chosen, set_all, wait_value, delayed, waited, called, kind_step, run_action}
+use Rattle.ha_sight.specs.Scripts.{Branch, Scopes, Ask, Spot, Status, Outcome, Next, Part, Meaning, flat, prefixed, gives, ends, with_place, in_order, outer, is_deeper, front, past_front, side, on_side, woven, Loop, all_allowed, is_open, first_halt, after_lists, each_on, joined_lists, side_by_side, after_turn, turns, looped, count_loop, each_loop, while_loop, until_loop, most_turns, failed, on_checked, repeated, goes_into, lists_from, parallel, chosen, set_all, delayed, waited, called, kind_step, run_action, call_ask, scopes_behind, behind_call}
 use Rattle.ha_sight.specs.Branches.{among, union, union_all, branches_from, kind_branches, action_branches, branches_of}
-use Rattle.ha_model.specs.Records.{Records, actions_of, spots, ran_on}
+use Rattle.ha_model.specs.Records.{Records, actions_of, spots, ran_on, next_spot}
 use Rattle.ha_model.specs.Lawful.{may_step}
-use Rattle.ha_journal.specs.Waits.{next_spot}
 use Rattle.ha_sight.proofs.Rolls.{run_kind, run_action-roll, run_kind-roll, below_kind, action_branches-roll, below_kind-roll}
+use Rattle.ha_sight.specs.Items.{awaits_end}
 use Rattle.ha_config.proofs.EqualLemmas.{same-refl, and_left, and_right}
 use Rattle.ha_config.proofs.ListLemmas.{none-some, true-false}
 
@@ -162,6 +162,8 @@ module _ (B : Branch → Type 0) where
     good-called (Item.Switched targets) k h = takes-gives (Item.Switched targets) k h
     good-called (Item.Triggered all skip) k h = takes-gives (Item.Triggered all skip) k h
     good-called (Item.Failed code) k h = takes-failed code
+    good-called (Item.Started scripts fields waits) k h = takes-gives (Item.Started scripts fields waits) k h
+    good-called (Item.Halted scripts) k h = takes-gives (Item.Halted scripts) k h
 
     good-delayed : (due : ℕ) → IsGood b (delayed due)
     good-delayed due next h scopes =
@@ -170,11 +172,18 @@ module _ (B : Branch → Type 0) where
 
     good-waited : (ask : Ask) (go_on : Bool) (p : ℕ) → IsGood b (waited ask go_on p)
     good-waited ask go_on p next h scopes =
-        takes-place b (λ s after. option_map_or (λ e. gives Item.Nothing (if e.done || go_on then next (add_inside (codes "wait", wait_value e) scopes) after else ends Status.Stopped after)) (s.wait_end ask p) None) own
-        (λ s. takes-option (λ e after. gives Item.Nothing (if e.done || go_on then next (add_inside (codes "wait", wait_value e) scopes) after else ends Status.Stopped after))
-        (λ e. takes-gives Item.Nothing (λ after. if e.done || go_on then next (add_inside (codes "wait", wait_value e) scopes) after else ends Status.Stopped after)
-        (takes-if (e.done || go_on) (next (add_inside (codes "wait", wait_value e) scopes)) (ends Status.Stopped) (h (add_inside (codes "wait", wait_value e) scopes)) (takes-ends Status.Stopped)))
+        takes-place b (λ s after. option_map_or (λ e. gives Item.Nothing (if e.done || go_on then next (scopes_behind ask e scopes) after else ends Status.Stopped after)) (s.wait_end ask p) None) own
+        (λ s. takes-option (λ e after. gives Item.Nothing (if e.done || go_on then next (scopes_behind ask e scopes) after else ends Status.Stopped after))
+        (λ e. takes-gives Item.Nothing (λ after. if e.done || go_on then next (scopes_behind ask e scopes) after else ends Status.Stopped after)
+        (takes-if (e.done || go_on) (next (scopes_behind ask e scopes)) (ends Status.Stopped) (h (scopes_behind ask e scopes)) (takes-ends Status.Stopped)))
         (s.wait_end ask p) (λ after. None) takes-none)
+
+    good-behind : (item : Item) (p : ℕ) → IsGood b (behind_call item p)
+    good-behind item p next h scopes = by (awaits_end item)
+      where
+        by : (t : Bool) → Takes (λ rest. if t then waited (call_ask scopes) true p next scopes b rest else next scopes rest)
+        by true = good-waited (call_ask scopes) true p next h scopes
+        by false = h scopes
 
     good-into : (part : Part) → IsGood b part → IsGood b (goes_into part)
     good-into part good next h scopes = takes-gives Item.Nothing (part (λ s p. next (outer s) p) (scopes ++ ([] ∷ [])) b) (good (λ s p. next (outer s) p) (λ s. h (outer s)) (scopes ++ ([] ∷ [])))
@@ -376,18 +385,20 @@ module _ (B : Branch → Type 0) where
   kind-good : (y : ActionKind-F KindProved ActionProved) (b : Branch) → B b
       → Behind b (kind_branches (map-ActionKind ActionKind Action (List Branch) (List Branch) below_kind action_branches (plain_kind y))) → (p : Spot)
       → IsGoodMeaning b (kind_step (map-ActionKind ActionKind Action (Spot → Meaning) Meaning run_kind run_action (plain_kind y)) p)
-  kind-good (ActionKind-F.Call service target fields) b own h p next end g t scopes = good-called b own (call_item p.sight (flat scopes) service target fields) (next scopes) (g scopes)
+  kind-good (ActionKind-F.Call service target fields) b own h p next end g t scopes =
+      (let item : Item = call_item p.sight (flat scopes) service target fields in
+      good-called b own item (behind_call item p.place next scopes b) (good-behind b own item p.place next g scopes))
   kind-good (ActionKind-F.Delay form) b own h p next end g t scopes =
       takes-checked (λ d rest. gives Item.Nothing (delayed (p.sight.now + d) next scopes b rest))
       (λ d. takes-gives Item.Nothing (delayed (p.sight.now + d) next scopes b) (good-delayed b own (p.sight.now + d) next g scopes)) (span_of p.sight (flat scopes) form)
   kind-good (ActionKind-F.WaitUntil test timeout go_on) b own h p next end g t scopes =
-      takes-checked (λ d rest. gives Item.Nothing (waited (record { test = Some test; triggers = []; timeout = d; env = flat scopes }) go_on p.place next scopes b rest))
-      (λ d. takes-gives Item.Nothing (waited (record { test = Some test; triggers = []; timeout = d; env = flat scopes }) go_on p.place next scopes b)
-      (good-waited b own (record { test = Some test; triggers = []; timeout = d; env = flat scopes }) go_on p.place next g scopes)) (spans_of p.sight (flat scopes) timeout)
+      takes-checked (λ d rest. gives Item.Nothing (waited (record { test = Some test; triggers = []; timeout = d; env = flat scopes; called = false }) go_on p.place next scopes b rest))
+      (λ d. takes-gives Item.Nothing (waited (record { test = Some test; triggers = []; timeout = d; env = flat scopes; called = false }) go_on p.place next scopes b)
+      (good-waited b own (record { test = Some test; triggers = []; timeout = d; env = flat scopes; called = false }) go_on p.place next g scopes)) (spans_of p.sight (flat scopes) timeout)
   kind-good (ActionKind-F.WaitFor triggers timeout go_on) b own h p next end g t scopes =
-      takes-checked (λ d rest. gives Item.Nothing (waited (record { test = None; triggers = triggers; timeout = d; env = flat scopes }) go_on p.place next scopes b rest))
-      (λ d. takes-gives Item.Nothing (waited (record { test = None; triggers = triggers; timeout = d; env = flat scopes }) go_on p.place next scopes b)
-      (good-waited b own (record { test = None; triggers = triggers; timeout = d; env = flat scopes }) go_on p.place next g scopes)) (spans_of p.sight (flat scopes) timeout)
+      takes-checked (λ d rest. gives Item.Nothing (waited (record { test = None; triggers = triggers; timeout = d; env = flat scopes; called = false }) go_on p.place next scopes b rest))
+      (λ d. takes-gives Item.Nothing (waited (record { test = None; triggers = triggers; timeout = d; env = flat scopes; called = false }) go_on p.place next scopes b)
+      (good-waited b own (record { test = None; triggers = triggers; timeout = d; env = flat scopes; called = false }) go_on p.place next g scopes)) (spans_of p.sight (flat scopes) timeout)
   kind-good (ActionKind-F.Choose options fallback) b own h p next end g t scopes =
       let parts = each-union (λ d. B (b ++ d)) (union_all (option_branches options)) (union_all (map action_branches (plain fallback))) h in
       good-into b own (chosen (option_parts options) (in_order (map run_action (plain fallback))) p.sight (flat scopes))
@@ -458,11 +469,11 @@ all-listed xs [] = tt
 all-listed xs (y ∷ ys) = (any-here xs y ys, subst (λ all. Each (IsListed all) ys) (append_assoc xs (y ∷ []) ys) (all-listed (xs ++ (y ∷ [])) ys))
 
 -- LAW: where a place of this branch is allowed next, the branch is listed
-pub allowed-is-listed : (all : Records) (j : Journal) (r : Record) (b : Branch) → may_step all j r b ≡ true → list_any (bytes_eq b) (branches_of (actions_of (automations j) r.automation)) ≡ true
+pub allowed-is-listed : (all : Records) (j : Journal) (r : Record) (b : Branch) → may_step all j r b ≡ true → list_any (bytes_eq b) (branches_of (actions_of (units j) r.automation)) ≡ true
 allowed-is-listed all j r b h = by (ran_on j r (spots j r.serial ++ (next_spot j b ∷ []))) refl h
   where
     actions : List Action
-    actions = actions_of (automations j) r.automation
+    actions = actions_of (units j) r.automation
 
     deeper : List Branch
     deeper = union_all (map action_branches actions)

@@ -3,7 +3,7 @@ use Rattle.std.proofs.Common.{◌≡◌, ℕ, zero, suc, ◌+◌, ◌%◌, List,
 use Rattle.std.specs.Prelude.{Option, Some, None, slice_get, if◌then◌else◌}
 use Rattle.std.specs.Option.{option_map_or}
 use Rattle.ha_model.specs.declared.record.Record.{Record}
-use Rattle.ha_journal.specs.Journal.{Journal, automations}
+use Rattle.ha_journal.specs.Journal.{Journal, units}
 use Rattle.ha_sight.specs.Scripts.{Branch}
 use Rattle.ha_sight.specs.Branches.{branches_of}
 use Rattle.ha_model.specs.Records.{Records, actions_of}
@@ -58,6 +58,6 @@ picked j rs k s b right is =
     of-run q None e = tt
     of-run q (Some r) e = by (is_running (length j) r) refl
       where
-        by : (c : Bool) → is_running (length j) r ≡ c → EachBranch (IsPicked rs j q) (if c then filter (may_step rs j r) (branches_of (actions_of (automations j) r.automation)) else [])
-        by true on = each-filter (IsPicked rs j q) (may_step rs j r) (λ b yes'. record { run = r; found = e; running = on; allowed = yes' }) (branches_of (actions_of (automations j) r.automation))
+        by : (c : Bool) → is_running (length j) r ≡ c → EachBranch (IsPicked rs j q) (if c then filter (may_step rs j r) (branches_of (actions_of (units j) r.automation)) else [])
+        by true on = each-filter (IsPicked rs j q) (may_step rs j r) (λ b yes'. record { run = r; found = e; running = on; allowed = yes' }) (branches_of (actions_of (units j) r.automation))
         by false off = tt

@@ -3,7 +3,7 @@ use Rattle.std.proofs.Common.{◌≡◌, ℕ, zero, suc, ◌+◌, ◌-◌, ◌<�
 use Rattle.std.specs.Prelude.{Some, nat_eq, nat_lt, slice_get, flat_map, if◌then◌else◌}
 use Rattle.std.specs.Option.{option_map_or}
 use Rattle.ha_model.specs.declared.record.Record.{Record}
-use Rattle.ha_journal.specs.Journal.{Journal, automations}
+use Rattle.ha_journal.specs.Journal.{Journal, units}
 use Rattle.ha_sight.specs.Scripts.{Branch}
 use Rattle.ha_sight.specs.Branches.{branches_of}
 use Rattle.ha_model.specs.Records.{Records, actions_of}
@@ -17,8 +17,8 @@ use Rattle.ha_ready.specs.ReadyPairs.{ready_branches, branches_at, pairs_of, pai
 one-run : (all : Records) (j : Journal) (r : Record) → ready_of all j r ≡ pairs_of r.serial (ready_branches all j r)
 one-run all j r = by (is_running (length j) r)
   where
-    by : (c : Bool) → (if c then map (λ b. (r.serial, b)) (filter (may_step all j r) (branches_of (actions_of (automations j) r.automation))) else [])
-        ≡ pairs_of r.serial (if c then filter (may_step all j r) (branches_of (actions_of (automations j) r.automation)) else [])
+    by : (c : Bool) → (if c then map (λ b. (r.serial, b)) (filter (may_step all j r) (branches_of (actions_of (units j) r.automation))) else [])
+        ≡ pairs_of r.serial (if c then filter (may_step all j r) (branches_of (actions_of (units j) r.automation)) else [])
     by true = refl
     by false = refl
 

@@ -5,14 +5,14 @@ use Rattle.std.specs.Option.{option_map_or}
 use Rattle.ha_config.specs.declared.config.Mode.{Mode}
 use Rattle.ha_model.specs.declared.record.EndCause.{EndCause}
 use Rattle.ha_model.specs.declared.record.Record.{Record}
-use Rattle.ha_journal.specs.Journal.{Journal, automations}
+use Rattle.ha_journal.specs.Journal.{Journal, units}
 use Rattle.ha_sight.specs.Branches.{branches_of}
-use Rattle.ha_model.specs.Records.{Records, actions_of, next_place, last_record, mode_of, begin_of, begin_behind}
+use Rattle.ha_model.specs.Records.{CallEnds, Records, actions_of, next_place, last_record, mode_of, begin_of, begin_behind}
 use Rattle.ha_model.specs.Lawful.{Right, is_running, may_step}
 use Rattle.ha_model.proofs.RecordGrowth.{AllBelow, EndBelow, below-bare, below-ends}
 use Rattle.ha_model.proofs.FoldLaws.{records-passes}
 use Rattle.ha_model.proofs.Passes.{with_begins, with_ends, bare, end_below}
-use Rattle.ha_ready.specs.ReadyPairs.{ready_branches}
+use Rattle.ha_ready.specs.ReadyPairs.{may_with, ready_branches, ready_with}
 use Rattle.ha_ready.specs.RunPast.{BeginBefore, EndBefore, IsPast, AllPast}
 
 -- ---- all that the records tell is before the next place
@@ -62,7 +62,7 @@ begins-past j k before (r ∷ rs) h below =
     let own : EndBefore (length k) e.end = end-before (length k) e.end (below-ends k r (next_place r.automation rs) (length k) (omega arith)) in (
       record {
         place = below.0;
-        begin = begin-before (length k) (mode_of (automations j) r.automation) (last_record r.automation before) e below.0 (previous-past (length k) r.automation before h);
+        begin = begin-before (length k) (mode_of (units j) r.automation) (last_record r.automation before) e below.0 (previous-past (length k) r.automation before h);
         end = own;
       },
       begins-past j k (e ∷ before) rs (own, h) below.1,
@@ -120,6 +120,9 @@ begun-runs n p r begin le end =
 
 -- ---- its branches that may step
 
--- LAW: those of a run that does not run are none
+-- LAW: those of a run that does not run are none, wherever called runs ended
+pub resting-with : (told : CallEnds) (j : Journal) (r : Record) → is_running (length j) r ≡ false → ready_with told j r ≡ []
+resting-with told j r off = (λ i. if off i then filter (may_with told j r) (branches_of (actions_of (units j) r.automation)) else [])
+
 pub resting : (all : Records) (j : Journal) (r : Record) → is_running (length j) r ≡ false → ready_branches all j r ≡ []
-resting all j r off = (λ i. if off i then filter (may_step all j r) (branches_of (actions_of (automations j) r.automation)) else [])
+resting all j r off = (λ i. if off i then filter (may_step all j r) (branches_of (actions_of (units j) r.automation)) else [])

@@ -6,17 +6,17 @@ ghost use Rattle.ha_model.specs.declared.record.EndCause.{EndCause};
 ghost use Rattle.ha_journal.specs.declared.entry.Entry.{Entry};
 ghost use Rattle.ha_model.specs.declared.record.Record.{Record};
 ghost use Rattle.ha_config.specs.declared.config.Trigger.{Trigger};
-ghost use Rattle.ha_journal.specs.Journal.{HasEntry, Journal, automations, more};
+ghost use Rattle.ha_journal.specs.Journal.{HasEntry, Journal, more, units};
 ghost use Rattle.ha_journal.specs.Holds.{fires};
 ghost use Rattle.ha_journal.specs.Triggers.{firings};
 ghost use Rattle.ha_sight.specs.Scripts.{Ask, Branch};
 ghost use Rattle.ha_sight.specs.Branches.{branches_of};
 ghost use Rattle.ha_journal.specs.Waits.{completes, end_at, is_over, wait_end};
-ghost use Rattle.ha_model.specs.Records.{Records, actions_of};
+ghost use Rattle.ha_model.specs.Records.{CallEnds, Records, actions_of};
 ghost use Rattle.ha_config.specs.Words.{or_else};
 ghost use Rattle.ha_model.specs.RecordSteps.{records_after};
 ghost use Rattle.ha_model.specs.Lawful.{Right, is_quiet, is_running, may_step, pick, ready};
-ghost use Rattle.ha_ready.specs.ReadyPairs.{branches_at, changed_at, pairs_from, with_run};
+ghost use Rattle.ha_ready.specs.ReadyPairs.{branches_at, branches_with, changed_at, pairs_from, with_run};
 ghost use Rattle.ha_ready.specs.Agree.{AgreesBut, but};
 ghost use Rattle.ha_ready.specs.RunPast.{AllPast, IsPast};
 ghost use Rattle.ha_ready.specs.RestedFlags.{IsKnown, RestedKept, flags_from, source_of};
@@ -30,13 +30,13 @@ pub fn ready_stands_run_by_run()
 
 /// Ready pairs that agree but for some runs: from the pairs before an entry to those behind it, run by run.
 pub fn pairs_agree_but_for_some()
-    ensures first { (left : ℕ → Bool) (rs : Records) (j k : Journal) → Right j rs → ((s : ℕ) → 0 < s → s ≤ length rs → left s ≡ false → branches_at rs j s ≡ branches_at rs k s)
-        → AgreesBut left rs k (ready rs j) }
-    ensures run { (s : ℕ) (left : ℕ → Bool) (rs : Records) (j : Journal) (pairs : List (ℕ × Branch)) → 0 < s → s ≤ length rs → AgreesBut left rs j pairs
-        → AgreesBut (but left s) rs j (with_run s (branches_at rs j s) pairs) }
-    ensures grown { (changed : ℕ → Bool) (rs rs' : Records) (j : Journal) (pairs : List (ℕ × Branch)) → length rs ≤ length rs' → pairs ≡ pairs_from 0 (length rs) (branches_at rs j)
-        → ((s : ℕ) → 0 < s → s ≤ length rs' → changed s ≡ false → branches_at rs j s ≡ branches_at rs' j s) → AgreesBut changed rs' j pairs }
-    ensures all { (left : ℕ → Bool) (rs : Records) (j : Journal) (pairs : List (ℕ × Branch)) → ((s : ℕ) → left s ≡ false) → AgreesBut left rs j pairs → pairs ≡ pairs_from 0 (length rs) (branches_at rs j) }
+    ensures first { (told : CallEnds) (left : ℕ → Bool) (rs : Records) (j k : Journal) → Right j rs → ((s : ℕ) → 0 < s → s ≤ length rs → left s ≡ false → branches_at rs j s ≡ branches_with told rs k s)
+        → AgreesBut told left rs k (ready rs j) }
+    ensures run { (told : CallEnds) (s : ℕ) (left : ℕ → Bool) (rs : Records) (j : Journal) (pairs : List (ℕ × Branch)) → 0 < s → s ≤ length rs → AgreesBut told left rs j pairs
+        → AgreesBut told (but left s) rs j (with_run s (branches_with told rs j s) pairs) }
+    ensures grown { (told : CallEnds) (changed : ℕ → Bool) (rs rs' : Records) (j : Journal) (pairs : List (ℕ × Branch)) → length rs ≤ length rs' → pairs ≡ pairs_from 0 (length rs) (branches_with told rs j)
+        → ((s : ℕ) → 0 < s → s ≤ length rs' → changed s ≡ false → branches_with told rs j s ≡ branches_with told rs' j s) → AgreesBut told changed rs' j pairs }
+    ensures all { (told : CallEnds) (left : ℕ → Bool) (rs : Records) (j : Journal) (pairs : List (ℕ × Branch)) → ((s : ℕ) → left s ≡ false) → AgreesBut told left rs j pairs → pairs ≡ pairs_from 0 (length rs) (branches_with told rs j) }
 {}
 
 /// The records of a journal tell of its places alone; so a run that neither begins nor ends at an entry runs behind it where it ran before.
@@ -73,5 +73,5 @@ pub fn a_firing_counts_from_one_entry()
 
 /// Where one more place of a branch is allowed, the branch is among those that the run's script has.
 pub fn allowed_branches_are_listed()
-    ensures { (rs : Records) (j : Journal) (r : Record) (b : Branch) → may_step rs j r b ≡ true → list_any (bytes_eq b) (branches_of (actions_of (automations j) r.automation)) ≡ true }
+    ensures { (rs : Records) (j : Journal) (r : Record) (b : Branch) → may_step rs j r b ≡ true → list_any (bytes_eq b) (branches_of (actions_of (units j) r.automation)) ≡ true }
 {}

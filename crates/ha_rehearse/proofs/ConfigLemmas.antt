@@ -14,13 +14,13 @@ use Rattle.yaml_tree.specs.Layout.{Answer}
 use Rattle.yaml_tree.specs.Pieces.{all_pieces}
 use Rattle.yaml_tree.specs.Tree.{faults, judged, of_pieces, tree}
 use Rattle.conf_field.specs.Readings.{bad}
-use Rattle.conf_auto.specs.Config.{config_of, config_with, of_node, of_root}
+use Rattle.conf_auto.specs.Config.{config_of, of_root}
 use Rattle.rehearsal.specs.Generated.{config_text}
 use Rattle.ha_rehearse.proofs.ConfigRows.{from1}
 use Rattle.ha_rehearse.proofs.ConfigLines.{all_found}
 use Rattle.ha_rehearse.proofs.ConfigParts.{root_read}
 use Rattle.ha_rehearse.proofs.ConfigTree.{root, node0}
-use Rattle.ha_rehearse.proofs.ReadLemmas.{IsRead, read_as, read_made}
+use Rattle.ha_rehearse.proofs.ReadLemmas.{IsRead, read_as}
 
 text_lines : lines config_text ≡ from1
 unfolding config_text lines_from spaces without_cr
@@ -46,4 +46,4 @@ tree_is =
 
 pub config_read : IsRead (config_of config_text)
 config_read =
-    read_as (ap (λ (b : Bool). if b then bad 1 code.Limit else of_root (tree config_text)) short ∙ ap of_root tree_is) (read_made config_with (of_node node0) root_read)
+    read_as (ap (λ (b : Bool). if b then bad 1 code.Limit else of_root (tree config_text)) short ∙ ap of_root tree_is) root_read

@@ -27,6 +27,7 @@ use Rattle.conf_script.proofs.Opened as opened
 use Rattle.conf_auto.specs.Automations as auto
 use Rattle.conf_auto.specs.Config as conf
 use Rattle.conf_auto.specs.Names.{add, joined}
+use Rattle.conf_auto.specs.Scripts.{scripts}
 use Rattle.ha_rehearse.proofs.ConfigTree.{node0, node1, node2, node3, node5, node6, node7, node9, node11, node13, node14, node15, node17, node18, node20, node21, node23, node24, node26, node27, node29, node31, node32, node34, node35, node36, node38, node40, node41, node42, node43, node45, node46, node47, node49, node50, node52, node54}
 use Rattle.ha_rehearse.proofs.ReadLemmas.{IsRead, list_shape, map_shape, read_absent, read_action, read_actions, read_as, read_both, read_digits, read_entities, read_fields, read_form, read_given, read_keys, read_made, read_needed, read_scalar, read_service, read_span, read_target, read_targets, read_trigger, read_triggers, read_unless, scalar_read}
 use Rattle.ha_rehearse.proofs.ShownLemmas.{shown, state_shown}
@@ -239,7 +240,10 @@ all_listed l =
 pub root_read : IsRead (conf.of_node node0)
 unfolding keys_fault
 root_read =
-    let known = keys (row key.Automation ∷ []) pairs0 in
+    let known = keys (row key.Automation ∷ row key.Script ∷ []) pairs0 in
     let all = need key.Automation 1 pairs0 conf.automations in
+    let named = get key.Script pairs0 scripts in
     read_as (ap (conf.root_by 1) (map_shape 1 pairs0))
-    (read_made conf.made_root (both known all) (read_both known all (read_keys (row key.Automation ∷ []) pairs0 refl) (read_needed conf.automations 1 (field (row key.Automation) pairs0) (codes "automation", 1, node1) refl all_listed)))
+    (read_made conf.made_root (both known (both all named))
+    (read_both known (both all named) (read_keys (row key.Automation ∷ row key.Script ∷ []) pairs0 refl)
+    (read_both all named (read_needed conf.automations 1 (field (row key.Automation) pairs0) (codes "automation", 1, node1) refl all_listed) (read_absent scripts (field (row key.Script) pairs0) refl))))

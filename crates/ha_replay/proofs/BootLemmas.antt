@@ -28,8 +28,9 @@ use Rattle.ha_config.specs.Words.{Pairs, Text}
 use Rattle.ha_config.specs.ValueFacts.{all_distinct, has_utf8_texts, is_sound_value, keys_of, utf8_step}
 use Rattle.ha_config.specs.ValueText.{deepest, depth_of, flag_text, map_text, print_value, quoted}
 use Rattle.ha_config.specs.CheckText.{as_line}
+use Rattle.ha_config.specs.StoreText.{stored_text, moments_text}
+use Rattle.ha_config.specs.Units.{units_of}
 use Rattle.ha_config.specs.Sound.{are_in_name_order}
-use Rattle.ha_config.specs.StoreText.{moments_text, stored_text}
 use Rattle.ha_journal.specs.Entries.{first_carry}
 use Rattle.ha_journal.specs.EntryText.{boot_pairs, trace_line}
 use Rattle.ha_replay.specs.Boots.{HasUtf8, IsBootLine, Moments, Reads, ReadsFrom, Switches, are_in_time, are_stored, have_utf8_names, last_of, moments_of, parts, parts_in, flag_of, stored_of, switches_of, text_of}
@@ -309,11 +310,11 @@ boot-utf8 b u = utf8-roll (Value-F.Pairs ((codes "boot", inner_value b) ∷ []))
 -- ---- lines
 
 abbrev no_automation : Config
-no_automation = record { automations = [] }
+no_automation = record { automations = []; scripts = [] }
 
 -- the line of a first entry is what is printed of its value
 line-printed : (line : Text) (b : BootLine) → IsBootLine line b → line ≡ print_value (value_of b)
-line-printed line b is = same-line line (print_value (value_of b)) (is.line_is no_automation ∙ boot-printed no_automation.automations no_automation b)
+line-printed line b is = same-line line (print_value (value_of b)) (is.line_is no_automation ∙ boot-printed (units_of no_automation) no_automation b)
 
 -- LAW: the line of a first entry is a value in the notation
 pub boot-spelled : (line : Text) (b : BootLine) → IsBootLine line b → HasUtf8 b → IsDocument line (value_of b)

@@ -15,6 +15,7 @@ use Rattle.ha_journal.specs.declared.entry.Entry.{Entry}
 use Rattle.ha_config.specs.Sound.{are_in_name_order}
 use Rattle.ha_config.specs.Words.{Pairs, Text, first_pair}
 use Rattle.ha_config.specs.CheckText.{as_line}
+use Rattle.ha_config.specs.Units.{units_of}
 use Rattle.ha_journal.specs.Entries.{first_carry}
 use Rattle.ha_journal.specs.EntryText.{trace_line}
 use Rattle.ha_replay.specs.declared.boot.BootLine.{BootLine}
@@ -41,7 +42,7 @@ are_in_time last = list_all (λ p. nat_le p.1 last_moment) last
 -- the line, with its LF, is that of a Boot with these parts, whatever its configuration
 abbrev pub IsLineOf : Text → Text → Option Switches → ℕ → Text → Moments → Type 0
 IsLineOf line text stored start zone last =
-    (config : Config) → as_line line ≡ trace_line config.automations (Entry.Boot text config stored start zone (first_carry last))
+    (config : Config) → as_line line ≡ trace_line (units_of config) (Entry.Boot text config stored start zone (first_carry last))
 
 -- the line is the first of a trace with these parts: the moments and the zone are read, and the names of switches and of moments stand in
 -- order, each once
@@ -138,9 +139,9 @@ parts_in v =
     (text_under (codes "config") boot))
     (under (codes "boot") v)
 
--- the first entry with these parts, and with no automation
+-- the first entry with these parts, and with no unit
 abbrev pub boot_of : Parts → Entry
-boot_of p = Entry.Boot p.text (record { automations = [] }) p.stored p.start p.zone (first_carry p.last)
+boot_of p = Entry.Boot p.text (record { automations = []; scripts = [] }) p.stored p.start p.zone (first_carry p.last)
 
 -- the parts, with the zone that is read
 abbrev pub IsOf : Parts → BootLine → Type 0

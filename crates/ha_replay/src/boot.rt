@@ -102,6 +102,7 @@ fn boot_entries(alloc: Global, parts: &Parts) -> Result<Vec<Entry>, AllocError>
         text,
         config: Config {
             automations: Many::make(alloc),
+            scripts: Many::make(alloc),
         },
         stored,
         start: parts.start,
@@ -120,6 +121,7 @@ fn is_line_of(alloc: Global, parts: &Parts, line: &[u8]) -> Result<bool, AllocEr
     let entries = boot_entries(alloc, parts)?;
     let config = Config {
         automations: Many::make(alloc),
+        scripts: Many::make(alloc),
     };
     let Some(entry) = entries.first() else {
         return Ok(false);

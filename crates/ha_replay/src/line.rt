@@ -5,7 +5,7 @@
 ghost use Rattle.std.specs.Prelude.{◌≡◌, ◌<◌, ◌^◌, ◌-◌, ◌++◌, ◌||◌, ◌↔◌, ℕ, codes, false, true, length, slice_get, IfOk, IfSome, OnErr, OnOk, IsTrue};
 ghost use Rattle.ha_config.specs.Words.{Text};
 ghost use Rattle.ha_journal.specs.Entries.{restarts as restarts_lem};
-ghost use Rattle.ha_journal.specs.Journal.{Journal, automations, more};
+ghost use Rattle.ha_journal.specs.Journal.{Journal, units, more};
 ghost use Rattle.ha_config.specs.CheckText.{as_line};
 ghost use Rattle.ha_journal.specs.EntryText.{trace_line as trace_line_lem};
 ghost use Rattle.ha_texts.specs.Lines.{AreDated};
@@ -153,6 +153,19 @@ fn closes<C: Core>(core: &C, worker: u32, closing: bool) -> bool
     closing || core.rested(worker)
 }
 
+/// Makes the line of an entry, by the units of the core's boot.
+fn shown_line<C: Core>(
+    alloc: Global,
+    shown: &mut Word,
+    core: &C,
+    entry: &Entry,
+) -> Result<(), AllocError>
+    requires { AreDated entry.now }
+    ensures { OnOk result (shown.new ≡ trace_line_lem (units (C.entries core.now)) entry.now) }
+{
+    trace_line(alloc, shown, entry, core.config())
+}
+
 /// Whether the line is that of the last entry, which is made in `shown`.
 fn is_last<C: Core>(
     alloc: Global,
@@ -162,12 +175,12 @@ fn is_last<C: Core>(
 ) -> Result<bool, AllocError>
     requires dated { IfSome (slice_get (C.entries core.now) (length (C.entries core.now) - 1)) AreDated }
     ensures { (j : Journal) (x : Entry) → C.entries core.now ≡ more j x
-        → IfOk result (λ same. IsTrue same ↔ (as_line line.now ≡ trace_line_lem (automations (more j x)) x)) }
+        → IfOk result (λ same. IsTrue same ↔ (as_line line.now ≡ trace_line_lem (units (more j x)) x)) }
 {
     let Some(entry) = core.journal().last() else {
         return Ok(false);
     };
-    trace_line(alloc, shown, entry, core.config())?;
+    shown_line(alloc, shown, core, entry)?;
     Ok(is_same(shown.bytes(), line))
 }
 

@@ -1,3 +1,5 @@
+pub mod BlindLemmas
 pub mod FieldLemmas
+pub mod OnceLemmas
 pub mod Rolls
 pub mod SideLemmas

@@ -1,5 +1,5 @@
 -- What the fields of an action stand for: the item that a call gives, or the code of its failure.
-use Rattle.std.specs.Prelude.{ℕ, ◌+◌, ◌*◌, Bool, true, false, not, ◌&&◌, nat_eq, nat_le, List, [], ◌∷◌, ◌++◌, map, filter_map, find, slice_get, Option, Some, None, Result, Ok, Err, ok_or, is_some, option_map, option_and_then, pos, negsuc, codes, if◌then◌else◌}
+use Rattle.std.specs.Prelude.{ℕ, ◌+◌, ◌*◌, Bool, true, false, not, ◌&&◌, nat_le, List, [], ◌∷◌, ◌++◌, map, filter_map, find, slice_get, Option, Some, None, Result, Ok, Err, ok_or, is_some, option_map, option_and_then, pos, negsuc, codes, if◌then◌else◌}
 use Rattle.std.specs.List.{enumerate_from}
 use Rattle.std.specs.Option.{option_map_or}
 use Rattle.ha_value.specs.declared.value.EntityId.{EntityId}
@@ -14,9 +14,12 @@ use Rattle.ha_config.specs.declared.template.Template.{Template}
 use Rattle.ha_config.specs.declared.config.Form.{Form}
 use Rattle.ha_config.specs.declared.config.SpanForm.{SpanForm}
 use Rattle.ha_sight.specs.declared.item.Item.{Item}
+use Rattle.ha_sight.specs.declared.steps.Inner.{Inner}
 use Rattle.ha_config.specs.Words.{Text, Pairs, same, last_pair, is_empty_text, parts_between_commas}
 use Rattle.ha_config.specs.Numbers.{read_number}
+use Rattle.ha_sight.specs.Once.{each_number_once}
 use Rattle.ha_sight.specs.Sight.{Sight}
+use Rattle.ha_sight.specs.Inner.{inner_of}
 use Rattle.ha_sight.specs.Templates.{rendered, data_of}
 
 -- ---- a value, or the code of a failure
@@ -68,15 +71,6 @@ abbrev pub automation_at : List (Text × Bool) → EntityId → Option ℕ
 automation_at all e =
     if same e.domain (codes "automation") then option_map (λ p. p.0) (find (λ p. same p.1.0 e.object) (enumerate_from 0 all)) else None
 
--- each number at its first place
-abbrev pub without_number : ℕ → List ℕ → List ℕ
-without_number n [] = []
-without_number n (x ∷ xs) = if nat_eq n x then without_number n xs else x ∷ without_number n xs
-
-abbrev pub each_number_once : List ℕ → List ℕ
-each_number_once [] = []
-each_number_once (n ∷ ns) = n ∷ without_number n (each_number_once ns)
-
 -- the automations that the targets name, each once, in the order of the targets
 abbrev pub automations_of : List (Text × Bool) → List EntityId → List ℕ
 automations_of all targets = each_number_once (filter_map (automation_at all) targets)
@@ -110,6 +104,12 @@ item_of all service targets ps =
     else if same service (codes "automation.trigger")
     then Item.Triggered (automations_of all targets) (flag_named (codes "skip_condition") ps)
     else Item.Call service targets ps
+
+-- what the core does in place of a call, else what the call gives
+abbrev pub done_by : Inner → Item → Checked Item
+done_by Inner.Outer outer = Ok outer
+done_by (Inner.Does item) outer = Ok item
+done_by (Inner.Fails code) outer = Err code
 
 -- ---- numbers and spans of rendered texts
 
@@ -165,7 +165,11 @@ module _ (sight : Sight) (env : Pairs) where
   abbrev pub checked_call : Template → List Template → List (Text × Form) → Checked Item
   checked_call service target fields =
       checked_then
-      (λ s. checked_then (λ es. checked_map (item_of sight.automations s es) (ok_or (fields_of fields) template_fault)) (targets_of target))
+      (λ s. checked_then
+      (λ es. checked_then
+      (λ ps. done_by (inner_of sight s es ps) (item_of sight.automations s es ps))
+      (ok_or (fields_of fields) template_fault))
+      (targets_of target))
       (service_of service)
 
   abbrev pub item_or_failed : Checked Item → Item

@@ -4,8 +4,10 @@ pub mod Conditions
 pub mod FilterNumbers
 pub mod Filters
 pub mod FunctionNumbers
+pub mod Inner
 pub mod ItemText
 pub mod Items
+pub mod Once
 pub mod Parts
 pub mod Rules
 pub mod Scripts

@@ -15,6 +15,7 @@ use Rattle.ha_config.specs.declared.config.ActionKind.TheOpen.{ActionKind-F, Act
 use Rattle.ha_config.specs.declared.config.ActionKind.TheFolds.{fold-Action}
 use Rattle.ha_sight.specs.declared.item.Item.{Item}
 use Rattle.ha_sight.specs.declared.waiting.WaitEnd.{WaitEnd}
+use Rattle.ha_sight.specs.Items.{awaits_end}
 use Rattle.ha_config.specs.Words.{Text, Pairs, same, has_name}
 use Rattle.ha_sight.specs.Sight.{Sight}
 use Rattle.ha_sight.specs.Templates.{data_of}
@@ -32,12 +33,13 @@ abbrev pub flat : Scopes → Pairs
 flat [] = []
 flat (block ∷ blocks) = block ++ flat blocks
 
--- what a wait asks for
+-- what a wait asks for; one of a call asks for the end of the run that the call started
 pub record Ask : Type 0 where
   pub test : Option Template
   pub triggers : List Trigger
   pub timeout : Option ℕ
   pub env : Pairs
+  pub called : Bool
 
 -- a place of a run, with its branch, and all that a script asks there: what it sees, and the end before it of a wait that began at place p
 pub record Spot : Type 0 where
@@ -315,12 +317,20 @@ delayed due next scopes b rest = with_place b rest (λ s after.
 
 -- what a wait asks for, with its timeout and the variables at its first place
 abbrev pub wait_for : Option Template → List Trigger → Option ℕ → Scopes → Ask
-wait_for test triggers timeout scopes = record { test = test; triggers = triggers; timeout = timeout; env = flat scopes }
+wait_for test triggers timeout scopes = record { test = test; triggers = triggers; timeout = timeout; env = flat scopes; called = false }
 
--- the second place of a wait that began at p
+-- what a call asks for that waits: nothing but the end of the run that it started
+abbrev pub call_ask : Scopes → Ask
+call_ask scopes = record { test = None; triggers = []; timeout = None; env = flat scopes; called = true }
+
+-- the scopes behind a wait: they have `wait`, but behind the end of a called run they are as they were
+abbrev pub scopes_behind : Ask → WaitEnd → Scopes → Scopes
+scopes_behind ask e scopes = if ask.called then scopes else add_inside (codes "wait", wait_value e) scopes
+
+-- the second place of a wait that began at p, or of a call that waits for the end of the run that it started there
 abbrev pub waited : Ask → Bool → ℕ → Part
 waited ask go_on p next scopes b rest = with_place b rest (λ s after. option_map_or (λ e.
-    gives Item.Nothing (if e.done || go_on then next (add_inside (codes "wait", wait_value e) scopes) after else ends Status.Stopped after))
+    gives Item.Nothing (if e.done || go_on then next (scopes_behind ask e scopes) after else ends Status.Stopped after))
     (s.wait_end ask p) None)
 
 abbrev pub called : Item → Option Outcome → List Spot → Option Outcome
@@ -330,11 +340,17 @@ called (Item.Call service target fields) after rest = gives (Item.Call service t
 called (Item.Fired kind pairs) after rest = gives (Item.Fired kind pairs) after
 called (Item.Switched targets) after rest = gives (Item.Switched targets) after
 called (Item.Triggered automations skip) after rest = gives (Item.Triggered automations skip) after
+called (Item.Started scripts fields waits) after rest = gives (Item.Started scripts fields waits) after
+called (Item.Halted scripts) after rest = gives (Item.Halted scripts) after
+
+-- what follows a call's item, whose step is at place p: where it waits, its second place
+abbrev pub behind_call : Item → ℕ → Part
+behind_call item p next scopes b rest = if awaits_end item then waited (call_ask scopes) true p next scopes b rest else next scopes rest
 
 -- one level, at its place p: a list of actions stands as the meanings of its actions
 abbrev pub kind_step : ActionKind-F (Spot → Meaning) Meaning → Spot → Meaning
 kind_step (ActionKind-F.Call service target fields) p next end scopes b rest =
-    called (call_item p.sight (flat scopes) service target fields) (next scopes rest) rest
+    (let item : Item = call_item p.sight (flat scopes) service target fields in called item (behind_call item p.place next scopes b rest) rest)
 kind_step (ActionKind-F.Delay form) p next end scopes b rest =
     on_checked (λ d. gives Item.Nothing (delayed (p.sight.now + d) next scopes b rest)) (span_of p.sight (flat scopes) form) rest
 kind_step (ActionKind-F.WaitUntil test timeout go_on) p next end scopes b rest =

@@ -9,6 +9,8 @@ pub record Sight : Type 0 where
   pub now : ℕ
   pub zone : Text
   pub automations : List (Text × Bool)
+  -- the names of the scripts, each with its unit's number
+  pub scripts : List (Text × ℕ)
 
 -- the switch of an automation, if there is such an automation
 abbrev pub switch_seen : Sight → ℕ → Option Bool

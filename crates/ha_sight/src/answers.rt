@@ -5,16 +5,18 @@ ghost use Rattle.ha_value.specs.declared.value.Value.{Value};
 ghost use Rattle.ha_sight.specs.declared.waiting.WaitEnd.{WaitEnd};
 ghost use Rattle.ha_sight.specs.Sight.{Sight, switch_seen};
 ghost use Rattle.ha_sight.specs.Calls.{automation_at};
+ghost use Rattle.ha_sight.specs.Inner.{inner_of};
 ghost use Rattle.ha_sight.specs.Templates.{rendered};
 ghost use Rattle.ha_sight.specs.Conditions.{holds};
 
 use crate::env::Env;
 use crate::faults::TplFault;
 use crate::item::Branch;
+use crate::steps::Inner;
 use crate::waiting::WaitEnd;
 use ha_clock::Moment;
 use ha_config::{Condition, Template};
-use ha_value::{EntityId, Value};
+use ha_value::{EntityId, Many, Value, Word};
 use std::alloc::{AllocError, Global};
 
 /// Answers on what one place of the journal sees.
@@ -44,6 +46,16 @@ pub trait Answers {
     fn is_on(&self, automation: u32) -> bool
         requires { automation < length (sight self.now).automations }
         ensures { switch_seen (sight self.now) automation ≡ Some result };
+
+    /// What the core does with a call of this service, with these targets and this data, itself.
+    fn inner(
+        &self,
+        alloc: Global,
+        service: &Word,
+        target: &Many<EntityId>,
+        fields: &Many<(Word, Value)>,
+    ) -> Result<Inner, AllocError>
+        ensures { IfOk result (λ answer. answer ≡ inner_of (sight self.now) service.now target.now fields.now) };
 }
 
 /// The ends of pending waits.

@@ -120,6 +120,16 @@ impl Env {
         }
     }
 
+    /// The variable `trigger`, and others behind it.
+    pub fn of_trigger_with(trigger: TriggerData, pairs: Many<(Word, Value)>) -> Env
+        ensures { result ≡ (codes "trigger", trigger) ∷ pairs }
+    {
+        Env {
+            trigger: Some(trigger),
+            pairs: pairs.into_vec(),
+        }
+    }
+
     pub fn copy(&self, alloc: Global) -> Result<Env, AllocError>
         ensures { IfOk result (λ made. made ≡ self.now) }
     {

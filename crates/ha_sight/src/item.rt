@@ -26,6 +26,14 @@ pub enum Item {
     },
     /// Failed, by the code's number: 1 for F1.
     Failed(u8),
+    /// Asked these scripts, by their units' numbers, for a run with these variables; with `waits`, the step's own run waits for its end.
+    Started {
+        scripts: Many<u32>,
+        fields: Many<(Word, Value)>,
+        waits: bool,
+    },
+    /// Ended all runs of these scripts, by their units' numbers.
+    Halted(Many<u32>),
 }
 
 /// Where a step stands among a script's parallel blocks: the index of the list that it is in, from the outer block to the inner.

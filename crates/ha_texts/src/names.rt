@@ -5,15 +5,16 @@ ghost use Rattle.std.specs.Str.{IsAscii};
 ghost use Rattle.ha_clock.specs.Local.{last_moment};
 ghost use Rattle.ha_clock.specs.Print.{moment_text};
 ghost use Rattle.ha_config.specs.CommandText.{automation_text, line_code};
-ghost use Rattle.ha_sight.specs.ItemText.{failure_code};
+ghost use Rattle.ha_sight.specs.ItemText.{failure_code, script_name, script_text};
 ghost use Rattle.ha_config.specs.Names.{name_of};
-ghost use Rattle.ha_config.specs.StoreText.{moments_text, switches_text};
+ghost use Rattle.ha_config.specs.StoreText.{switches_text, moments_text};
+ghost use Rattle.ha_config.specs.Units.{units_of};
 ghost use Rattle.ha_config.specs.ValueText.{escaped_byte, flag_text, list_text, quoted};
 
 use crate::parts::push_number;
 use flow_line::{push_chars, push_comma, push_quoted};
 use ha_clock::{Moment, print_moment};
-use ha_config::Automation;
+use ha_config::Config;
 use ha_value::Word;
 use std::alloc::{AllocError, Global};
 
@@ -38,16 +39,52 @@ pub(crate) fn push_automation(text: &mut Word, name: &Word) -> Result<(), AllocE
     Ok(())
 }
 
-/// Appends the name of the automation at a place in double quotes.
-pub(crate) fn push_name(
-    text: &mut Word,
-    automations: &[Automation],
-    at: u32,
-) -> Result<(), AllocError>
-    ensures { OnOk result (text.new ≡ text.old ++ quoted (name_of automations.now at)) }
+/// Appends the name of a script's runs in double quotes.
+fn push_run(text: &mut Word, name: &Word) -> Result<(), AllocError>
+    ensures { OnOk result (text.new ≡ text.old ++ quoted (codes "script." ++ name.now)) }
 {
-    match automations.get(at as usize) {
-        Some(automation) => push_quoted(text, automation.name.as_str()),
+    text.push_str("\"script.")?;
+    push_chars(text, name.as_str())?;
+    text.push_byte(b'"')?;
+    Ok(())
+}
+
+/// Appends the name of the unit at a place in double quotes.
+pub(crate) fn push_name(text: &mut Word, config: &Config, at: u32) -> Result<(), AllocError>
+    ensures { OnOk result (text.new ≡ text.old ++ quoted (name_of (units_of config.now) at)) }
+{
+    let at = at as usize;
+    let automations = config.automations.as_slice();
+    if at < automations.len() {
+        return push_quoted(text, automations[at].name.as_str());
+    }
+    match config.scripts.get(at - automations.len()) {
+        Some(script) => push_run(text, &script.name),
+        None => text.push_str("\"\""),
+    }
+}
+
+/// The name of a script, where this is that of its runs.
+fn without_script(name: &str) -> &str
+    ensures { result.now ≡ script_name name.now }
+{
+    match name.strip_prefix("script.") {
+        Some(rest) => rest,
+        None => name,
+    }
+}
+
+/// Appends the name of the script at a place in double quotes.
+pub(crate) fn push_script(text: &mut Word, config: &Config, at: u32) -> Result<(), AllocError>
+    ensures { OnOk result (text.new ≡ text.old ++ script_text (units_of config.now) at) }
+{
+    let at = at as usize;
+    let automations = config.automations.as_slice();
+    if at < automations.len() {
+        return push_quoted(text, without_script(automations[at].name.as_str()));
+    }
+    match config.scripts.get(at - automations.len()) {
+        Some(script) => push_quoted(text, script.name.as_str()),
         None => text.push_str("\"\""),
     }
 }

@@ -3,6 +3,7 @@ ghost use Rattle.std.specs.Prelude.{◌≡◌, ◌≤◌, ◌∷◌, [], ◌++�
 ghost use Rattle.std.specs.List.{list_all};
 ghost use Rattle.ha_clock.specs.Local.{last_moment};
 ghost use Rattle.ha_config.specs.CommandText.{cmd_text, one_key};
+ghost use Rattle.ha_config.specs.Units.{units_of};
 ghost use Rattle.ha_sight.specs.ItemText.{item_text};
 ghost use Rattle.ha_config.specs.StoreText.{stored_text};
 ghost use Rattle.ha_journal.specs.EntryText.{boot_pairs, trace_line as trace_line_lem};
@@ -15,7 +16,7 @@ use crate::names::{push_moment, push_moments, push_numbers, push_switches};
 use crate::parts::push_number;
 use flow_line::push_quoted;
 use ha_clock::Moment;
-use ha_config::{Automation, Cmd, Config};
+use ha_config::{Cmd, Config};
 use ha_journal::Entry;
 use ha_sight::Item;
 use ha_value::{Many, Word};
@@ -95,13 +96,13 @@ fn push_line(
 fn push_step(
     alloc: Global,
     text: &mut Word,
-    all: &[Automation],
+    config: &Config,
     worker: u32,
     serial: u64,
     branch: &[u32],
     item: &Item,
 ) -> Result<(), AllocError>
-    ensures { OnOk result (text.new ≡ text.old ++ map_text ((codes "worker", decimal worker) ∷ (codes "run", decimal serial) ∷ (codes "branch", list_text (map decimal branch.now)) ∷ (codes "item", item_text all.now item.now) ∷ [])) }
+    ensures { OnOk result (text.new ≡ text.old ++ map_text ((codes "worker", decimal worker) ∷ (codes "run", decimal serial) ∷ (codes "branch", list_text (map decimal branch.now)) ∷ (codes "item", item_text (units_of config.now) item.now) ∷ [])) }
 {
     text.push_str("{\"worker\":")?;
     push_number(text, u64::from(worker))?;
@@ -110,7 +111,7 @@ fn push_step(
     text.push_str(",\"branch\":")?;
     push_numbers(text, branch)?;
     text.push_str(",\"item\":")?;
-    push_item(alloc, text, all, item)?;
+    push_item(alloc, text, config, item)?;
     text.push_byte(b'}')?;
     Ok(())
 }
@@ -129,14 +130,14 @@ fn push_entry(
     alloc: Global,
     text: &mut Word,
     entry: &Entry,
-    all: &[Automation],
+    config: &Config,
 ) -> Result<(), AllocError>
     requires { AreDated entry.now }
-    ensures { OnOk result (text.new ≡ text.old ++ entry_text all.now entry.now) }
+    ensures { OnOk result (text.new ≡ text.old ++ entry_text (units_of config.now) entry.now) }
 {
     match entry {
         Entry::Boot {
-            text: config,
+            text: written,
             stored,
             start,
             zone,
@@ -145,7 +146,7 @@ fn push_entry(
         } => push_boot(
             alloc,
             text,
-            config,
+            written,
             stored,
             carry.get().last.as_slice(),
             *start,
@@ -161,7 +162,15 @@ fn push_entry(
             serial,
             branch,
             item,
-        } => push_step(alloc, text, all, *worker, *serial, branch.as_slice(), item),
+        } => push_step(
+            alloc,
+            text,
+            config,
+            *worker,
+            *serial,
+            branch.as_slice(),
+            item,
+        ),
         Entry::Again { number, .. } => push_again(text, *number),
     }
 }
@@ -174,10 +183,10 @@ pub fn trace_line(
     config: &Config,
 ) -> Result<(), AllocError>
     requires { AreDated entry.now }
-    ensures { OnOk result (line.new ≡ trace_line_lem config.now.automations entry.now) }
+    ensures { OnOk result (line.new ≡ trace_line_lem (units_of config.now) entry.now) }
 {
     line.clear();
-    push_entry(alloc, line, entry, config.automations.as_slice())?;
+    push_entry(alloc, line, entry, config)?;
     line.push_byte(b'\n')?;
     Ok(())
 }

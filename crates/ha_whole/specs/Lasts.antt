@@ -15,7 +15,7 @@ abbrev pub lasts_carried : Journal → List (Text × ℕ)
 lasts_carried [] = []
 lasts_carried (e ∷ es) = option_map_or (λ b. b.carry.last) (boot_of e) []
 
--- the last record of an automation
+-- the last record of a unit
 abbrev pub last_run : ℕ → Records → Option Record
 last_run a rs = last_of (filter (λ r. nat_eq r.automation a) rs)
 

@@ -10,7 +10,7 @@ use Rattle.ha_journal.specs.Journal.{Journal, more}
 
 -- ---- what a segment took over
 
--- how many runs there were before it, and how many of the automation with a name
+-- how many runs there were before it, and how many of the unit whose runs have a name
 abbrev pub carried : Journal → ℕ
 carried [] = 0
 carried (e ∷ es) = option_map_or (λ b. b.carry.serials) (boot_of e) 0

@@ -10,7 +10,7 @@ use Rattle.ha_model.specs.declared.record.Record.{Record}
 use Rattle.ha_config.specs.Words.{Text, up_to, EachAfter, EachWith}
 use Rattle.ha_whole.specs.Named.{in_name_order, are_in_name_order}
 use Rattle.ha_journal.specs.Entries.{is_again, is_restart}
-use Rattle.ha_journal.specs.Journal.{Journal, automations, now, more}
+use Rattle.ha_journal.specs.Journal.{Journal, automations, now, more, units}
 use Rattle.ha_config.specs.Equal.{same_flag}
 use Rattle.ha_journal.specs.Switches.{is_on}
 use Rattle.ha_config.specs.Names.{name_of, automation_named}
@@ -32,7 +32,7 @@ use Rattle.ha_whole.specs.Segments.{alone as counted, carried, carried_number, f
 abbrev pub placed : ℕ → Journal → Record → Record
 placed front s r = record r {
   serial = carried s + r.serial;
-  number = carried_number s (name_of (automations s) r.automation) + r.number;
+  number = carried_number s (name_of (units s) r.automation) + r.number;
   place = front + r.place;
   begin = option_map (λ p. front + p) r.begin;
   end = option_map (λ e. (front + e.0, e.1)) r.end;
@@ -54,7 +54,7 @@ records_of j = records_from 0 (segments j)
 abbrev pub taken_back : ℕ → Journal → Record → Record
 taken_back n s r = record r {
   serial = r.serial - carried s;
-  number = r.number - carried_number s (name_of (automations s) r.automation);
+  number = r.number - carried_number s (name_of (units s) r.automation);
   place = r.place - n;
   begin = option_map (λ p. p - n) r.begin;
   end = option_map (λ e. (e.0 - n, e.1)) r.end;
@@ -66,9 +66,9 @@ own j rs = map {A = Record} {B = Record} (taken_back (front j) (segment j)) (dro
 
 -- ---- what stands behind a Restart
 
--- the last number of each automation that has a run
+-- the last number of each unit that has a run, by the name of its runs
 abbrev pub numbers_of : Journal → List (Text × ℕ)
-numbers_of j = filter_map (λ p. option_map (λ r. (p.1.name, r.number)) (last_run p.0 (records_of j))) (enumerate_from 0 (automations j))
+numbers_of j = filter_map (λ p. option_map (λ r. (p.1.name, r.number)) (last_run p.0 (records_of j))) (enumerate_from 0 (units j))
 
 abbrev pub carry_of : Journal → Carry
 carry_of j = record {

@@ -2,6 +2,8 @@
 #![tactic(auto)]
 
 #[cfg(test)]
+mod called;
+#[cfg(test)]
 mod day;
 #[cfg(test)]
 mod files;

@@ -13,7 +13,8 @@ use Rattle.ha_config.specs.Words.{Text, numbers_from, up_to, one_of, or_else}
 use Rattle.ha_config.specs.Numbers.{in_bounds}
 use Rattle.ha_config.specs.Equal.{same_flag}
 use Rattle.ha_journal.specs.Entries.{event_in, is_boot, is_moment, opens_segment}
-use Rattle.ha_journal.specs.Journal.{Journal, HasEntry, now, zone_of, more}
+use Rattle.ha_config.specs.Units.{scripts_of}
+use Rattle.ha_journal.specs.Journal.{Journal, HasEntry, configured, now, zone_of, more}
 use Rattle.ha_sight.specs.Sight.{Sight}
 use Rattle.ha_journal.specs.States.{states, switches_of}
 use Rattle.ha_sight.specs.Templates.{rendered, says}
@@ -114,9 +115,9 @@ module _ (j : Journal) (x : Entry) (h : HasEntry j) (s : IsQuiet x) (same : Noth
   -- what is seen after the line is what was seen before it
   sight-still : sight k (suc p) ≡ sight k p
   sight-still =
-      (let all = through-last j x in λ i. record { states = states (all i); now = now (all i); zone = zone_of k; automations = switches_of (all i) })
-      ∙ (λ i. record { states = λ e. same.states_stay e i; now = same.now_stays i; zone = zone_of k; automations = switches-still i })
-      ∙ (let all = sym (take-before j x) in λ i. record { states = states (all i); now = now (all i); zone = zone_of k; automations = switches_of (all i) })
+      (let all = through-last j x in λ i. record { states = states (all i); now = now (all i); zone = zone_of k; automations = switches_of (all i); scripts = scripts_of (configured k) })
+      ∙ (λ i. record { states = λ e. same.states_stay e i; now = same.now_stays i; zone = zone_of k; automations = switches-still i; scripts = scripts_of (configured k) })
+      ∙ (let all = sym (take-before j x) in λ i. record { states = states (all i); now = now (all i); zone = zone_of k; automations = switches_of (all i); scripts = scripts_of (configured k) })
 
   moves-here : (t : Trigger) (e : Option EntityId) → moves k t e p ≡ false
   moves-here t e =

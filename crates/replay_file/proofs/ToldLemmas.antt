@@ -7,11 +7,11 @@ use Rattle.ha_journal.specs.declared.entry.Entry.{Entry}
 use Rattle.ha_journal.specs.declared.entry.Entry.TheVariants.{Boot, Line, Step, Again}
 use Rattle.ha_journal.specs.Entries.{is_restart}
 use Rattle.ha_journal.specs.EntryText.{error_text_of}
-use Rattle.ha_journal.specs.Journal.{HasEntry, Journal, automations, more}
+use Rattle.ha_journal.specs.Journal.{HasEntry, Journal, units, more}
 use Rattle.ha_model.specs.Records.{Records}
 use Rattle.ha_model.specs.Texts.{call_text, call_text_of}
 use Rattle.ha_config.proofs.ListLemmas.{true-false}
-use Rattle.ha_journal.proofs.MoreLemmas.{automations-more}
+use Rattle.ha_journal.proofs.MoreLemmas.{units-more}
 use Rattle.ha_whole.specs.Whole.{AreEntries, IsBehind, IsFull, IsWithin, Right, again_of, ends_segment, opened, put, records_of}
 use Rattle.whole_laws.specs.Puts.{IsPut}
 use Rattle.whole_laws.proofs.CallLemmas.{calls-same}
@@ -53,14 +53,14 @@ told_has r stands = by r.again refl
     by false e = subst HasEntry (sym (told_all r e)) (entries-have r.journal stands.lawful.right.journal.entries)
     by true e = subst HasEntry (sym (told_front r stands e)) (again_of_told r stands e).has
 
-pub told_automations : (r : Reached) → Stands r → automations r.journal ≡ automations (told r)
-told_automations r stands = by r.again refl
+pub told_units : (r : Reached) → Stands r → units r.journal ≡ units (told r)
+told_units r stands = by r.again refl
   where
-    by : (b : Bool) → r.again ≡ b → automations r.journal ≡ automations (told r)
-    by false e = ap automations (sym (told_all r e))
+    by : (b : Bool) → r.again ≡ b → units r.journal ≡ units (told r)
+    by false e = ap units (sym (told_all r e))
     by true e =
         (let last = again_of_told r stands e in
-        ap automations last.is ∙ sym (automations-more last.front (again_of last.front) last.has) ∙ ap automations (sym (told_front r stands e)))
+        ap units last.is ∙ sym (units-more last.front (again_of last.front) last.has) ∙ ap units (sym (told_front r stands e)))
 
 -- they are no more than the journal has entries
 pub told_short : (r : Reached) → length (told r) ≤ length r.journal

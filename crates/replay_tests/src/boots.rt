@@ -1,5 +1,6 @@
 //! First lines of traces: what they say of the store, in which order and form.
-use crate::traces::{FIRST, is_given};
+use crate::judged::is_given;
+use crate::traces::FIRST;
 use std::alloc::Global;
 
 const BLANK: &str =

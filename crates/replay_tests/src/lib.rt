@@ -4,6 +4,10 @@
 #[cfg(test)]
 mod boots;
 #[cfg(test)]
+mod called;
+#[cfg(test)]
+mod judged;
+#[cfg(test)]
 mod restarts;
 #[cfg(test)]
 mod traces;

@@ -1,5 +1,6 @@
 //! Traces over a restart: its `again`, and what goes on behind it.
-use crate::traces::{BOOT, HOME, SECOND, STEPS, are_fronts_refused, is_given};
+use crate::judged::{are_fronts_refused, is_given};
+use crate::traces::{BOOT, HOME, SECOND, STEPS};
 
 const RESTART: &str = "{\"source\":0,\"number\":0,\"cmd\":{\"restart\":true}}\n";
 

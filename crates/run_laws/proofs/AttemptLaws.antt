@@ -7,7 +7,7 @@ use Rattle.ha_config.specs.declared.config.Mode.{Mode}
 use Rattle.ha_config.specs.declared.config.Automation.{Automation}
 use Rattle.ha_model.specs.declared.record.EndCause.{EndCause}
 use Rattle.ha_model.specs.declared.record.Record.{Record}
-use Rattle.ha_journal.specs.Journal.{Journal, automations, last_place}
+use Rattle.ha_journal.specs.Journal.{Journal, last_place, units}
 use Rattle.ha_journal.specs.Attempts.{Attempt}
 use Rattle.ha_model.specs.Records.{Records, mode_of, max_of, last_record, begin_of, begin_behind, is_restart_mode, calls_of, lets_in, lets_in_after, live_count, new_record}
 use Rattle.ha_config.specs.Words.{or_else}
@@ -161,29 +161,29 @@ begin-alike p Mode.Queued (Some x) (Some y) r r' at begun alike ended =
 
 module _ (k : Journal) where
   abbrev settle : Records → Record → Record
-  settle back r = record r { begin = begin_at (last_place k) (mode_of (automations k) r.automation) (last_record r.automation back) r; calls = calls_of k r.serial }
+  settle back r = record r { begin = begin_at (last_place k) (mode_of (units k) r.automation) (last_record r.automation back) r; calls = calls_of k r.serial }
 
   settled-snoc : (back rs : Records) (new : Record) → settled k back (rs ++ (new ∷ [])) ≡ settled k back rs ++ (settle (pushed rs back) new ∷ [])
   settled-snoc back [] new = refl
   settled-snoc back (r ∷ rs) new = ap (λ t. settle back r ∷ t) (settled-snoc (r ∷ back) rs new)
 
-  -- two lists that tell the same of automations of mode queued
+  -- two lists that tell the same of units of mode queued
   SameQueued : Records → Records → Type 0
-  SameQueued back back' = (b : ℕ) → mode_of (automations k) b ≡ Mode.Queued → LastAlike (last_record b back) (last_record b back')
+  SameQueued back back' = (b : ℕ) → mode_of (units k) b ≡ Mode.Queued → LastAlike (last_record b back) (last_record b back')
 
-  settled-replaced : (a q : ℕ) → mode_of (automations k) a ≡ Mode.Restart → (back' back rs : Records) → SameQueued back' back → settled k back' (replace_all a q rs) ≡ replace_all a q (settled k back rs)
+  settled-replaced : (a q : ℕ) → mode_of (units k) a ≡ Mode.Restart → (back' back rs : Records) → SameQueued back' back → settled k back' (replace_all a q rs) ≡ replace_all a q (settled k back rs)
   unfolding SameQueued
   settled-replaced a q restart back' back [] alike = refl
   settled-replaced a q restart back' back (r ∷ rs) alike =
       let cause = if nat_eq r.automation a then Some EndCause.Replaced else None in
       let now = ends_for q (if nat_eq r.automation a then Some EndCause.Replaced else None) r in
-      let begin = begin-alike (last_place k) (mode_of (automations k) r.automation) (last_record r.automation back') (last_record r.automation back) r now refl refl (alike r.automation) (replaced-queued (automations k) q a restart r) in
+      let begin = begin-alike (last_place k) (mode_of (units k) r.automation) (last_record r.automation back') (last_record r.automation back) r now refl refl (alike r.automation) (replaced-queued (units k) q a restart r) in
       (λ i. record now { begin = begin i; calls = calls_of k r.serial } ∷ settled k (now ∷ back') (replace_all a q rs))
       ∙ ap (λ t. ends_for q (if nat_eq r.automation a then Some EndCause.Replaced else None) (settle back r) ∷ t) (settled-replaced a q restart (now ∷ back') (r ∷ back) rs (λ b queued. more b queued (nat_eq r.automation b) refl (alike b queued)))
     where
-      more : (b : ℕ) → mode_of (automations k) b ≡ Mode.Queued → (c : Bool) → nat_eq r.automation b ≡ c → LastAlike (last_record b back') (last_record b back)
+      more : (b : ℕ) → mode_of (units k) b ≡ Mode.Queued → (c : Bool) → nat_eq r.automation b ≡ c → LastAlike (last_record b back') (last_record b back)
           → LastAlike (if c then Some (ends_for q (if nat_eq r.automation a then Some EndCause.Replaced else None) r) else last_record b back') (if c then Some r else last_record b back)
-      more b queued true e h = replaced-queued (automations k) q a restart r (ap (mode_of (automations k)) (eqb-true r.automation b e) ∙ queued)
+      more b queued true e h = replaced-queued (units k) q a restart r (ap (mode_of (units k)) (eqb-true r.automation b e) ∙ queued)
       more b queued false e h = h
 
   nothing_before : (x : ℕ × Attempt) → SameQueued [] []
@@ -203,7 +203,7 @@ module _ (k : Journal) where
   settled-live a n back [] = refl
   settled-live a n back (r ∷ rs) = settled-live a (n + cond (is_live a r) 1 0) (r ∷ back) rs
 
-  pub settled-order : (live : ℕ → Bool) (back rs : Records) → InOrderBehind (automations k) live (settled k back rs) → InOrderBehind (automations k) live rs
+  pub settled-order : (live : ℕ → Bool) (back rs : Records) → InOrderBehind (units k) live (settled k back rs) → InOrderBehind (units k) live rs
   settled-order live back [] h = tt
   settled-order live back (r ∷ rs) h = (h.0, settled-order (λ a. is_live a r || live a) (r ∷ back) rs h.1)
 
@@ -242,33 +242,33 @@ Tried = ℕ × Attempt
 
 module _ (k : Journal) where
   abbrev mode_in : Tried → Mode
-  mode_in x = mode_of (automations k) x.1.automation
+  mode_in x = mode_of (units k) x.1.automation
 
   abbrev next : Records → Tried → Records
-  next rs x = if lets_in_after (automations k) rs x.1.automation then joined (mode_of (automations k) x.1.automation) x.1.automation (last_place k) rs (new_record k rs x) else rs
+  next rs x = if lets_in_after (units k) rs x.1.automation then joined (mode_of (units k) x.1.automation) x.1.automation (last_place k) rs (new_record k rs x) else rs
 
-  order-now : (rs : Records) (xs : List Tried) → InOrder (automations k) (attempt_all k rs xs) → InOrder (automations k) rs
+  order-now : (rs : Records) (xs : List Tried) → InOrder (units k) (attempt_all k rs xs) → InOrder (units k) rs
   order-now rs [] h = h
-  order-now rs (x ∷ xs) h = by (lets_in_after (automations k) rs x.1.automation) (order-now (next rs x) xs h)
+  order-now rs (x ∷ xs) h = by (lets_in_after (units k) rs x.1.automation) (order-now (next rs x) xs h)
     where
-      by : (b : Bool) → InOrder (automations k) (if b then joined (mode_of (automations k) x.1.automation) x.1.automation (last_place k) rs (new_record k rs x) else rs) → InOrder (automations k) rs
-      by true g = order-joined (automations k) x.1.automation (last_place k) (mode_of (automations k) x.1.automation) refl rs (new_record k rs x) g
+      by : (b : Bool) → InOrder (units k) (if b then joined (mode_of (units k) x.1.automation) x.1.automation (last_place k) rs (new_record k rs x) else rs) → InOrder (units k) rs
+      by true g = order-joined (units k) x.1.automation (last_place k) (mode_of (units k) x.1.automation) refl rs (new_record k rs x) g
       by false g = g
 
   -- the record of an admitted attempt, as it begins
-  new-settled : (rs : Records) (x : Tried) → InOrder (automations k) rs → EndsBelow (suc (last_place k)) rs → calls_of k (suc (length rs)) ≡ 0
-      → new_run (settled k [] rs) x.1.automation (mode_of (automations k) x.1.automation) (last_place k) x.0 x.1.env ≡ settle k (pushed rs []) (new_record k rs x)
+  new-settled : (rs : Records) (x : Tried) → InOrder (units k) rs → EndsBelow (suc (last_place k)) rs → calls_of k (suc (length rs)) ≡ 0
+      → new_run (settled k [] rs) x.1.automation (mode_of (units k) x.1.automation) (last_place k) x.0 x.1.env ≡ settle k (pushed rs []) (new_record k rs x)
   new-settled rs x order below calls =
       let a = x.1.automation in
-      let m = mode_of (automations k) x.1.automation in
+      let m = mode_of (units k) x.1.automation in
       let p = last_place k in
       let n = live_count x.1.automation (settled k [] rs) in
       let count : nat_eq (live_count x.1.automation (settled k [] rs)) 0 ≡ not (live_after false x.1.automation rs)
       = (λ i. nat_eq (settled-live k x.1.automation 0 [] rs i) 0) ∙ counted-live x.1.automation 0 rs in
-      let begin : begin_of (mode_of (automations k) x.1.automation) (last_record x.1.automation (pushed rs [])) (new_record k rs x) ≡ begin_now (mode_of (automations k) x.1.automation) (live_count x.1.automation (settled k [] rs)) (last_place k)
-      = begin-told (last_place k) (mode_of (automations k) x.1.automation) (last_record x.1.automation (pushed rs [])) (live_count x.1.automation (settled k [] rs)) (live_after false x.1.automation rs) (new_record k rs x) refl refl
+      let begin : begin_of (mode_of (units k) x.1.automation) (last_record x.1.automation (pushed rs [])) (new_record k rs x) ≡ begin_now (mode_of (units k) x.1.automation) (live_count x.1.automation (settled k [] rs)) (last_place k)
+      = begin-told (last_place k) (mode_of (units k) x.1.automation) (last_record x.1.automation (pushed rs [])) (live_count x.1.automation (settled k [] rs)) (live_after false x.1.automation rs) (new_record k rs x) refl refl
       (last-below (suc (last_place k)) x.1.automation (pushed rs []) (pushed-below (suc (last_place k)) rs [] below tt))
-      (λ queued. queue-tells (automations k) x.1.automation queued (λ b. false) [] rs order refl) count in
+      (λ queued. queue-tells (units k) x.1.automation queued (λ b. false) [] rs order refl) count in
       (λ i. record (new_record k rs x) {
         serial = suc (settled-length k [] rs i);
         number = suc (settled-count k x.1.automation 0 [] rs i);
@@ -276,30 +276,30 @@ module _ (k : Journal) where
         calls = sym calls i;
       })
       ∙ (λ i. record (new_record k rs x) {
-        begin = if sym (equal-self (last_place k)) i then begin_of (mode_of (automations k) x.1.automation) (last_record x.1.automation (pushed rs [])) (new_record k rs x)
-            else or_else None (begins_here (last_place k) (mode_of (automations k) x.1.automation) (last_record x.1.automation (pushed rs [])) None);
+        begin = if sym (equal-self (last_place k)) i then begin_of (mode_of (units k) x.1.automation) (last_record x.1.automation (pushed rs [])) (new_record k rs x)
+            else or_else None (begins_here (last_place k) (mode_of (units k) x.1.automation) (last_record x.1.automation (pushed rs [])) None);
         calls = calls_of k (suc (length rs));
       })
 
-  joined-settled : (m : Mode) (rs : Records) (x : Tried) → mode_of (automations k) x.1.automation ≡ m → InOrder (automations k) rs → EndsBelow (suc (last_place k)) rs → calls_of k (suc (length rs)) ≡ 0
-      → joined m x.1.automation (last_place k) (settled k [] rs) (new_run (settled k [] rs) x.1.automation (mode_of (automations k) x.1.automation) (last_place k) x.0 x.1.env)
+  joined-settled : (m : Mode) (rs : Records) (x : Tried) → mode_of (units k) x.1.automation ≡ m → InOrder (units k) rs → EndsBelow (suc (last_place k)) rs → calls_of k (suc (length rs)) ≡ 0
+      → joined m x.1.automation (last_place k) (settled k [] rs) (new_run (settled k [] rs) x.1.automation (mode_of (units k) x.1.automation) (last_place k) x.0 x.1.env)
       ≡ settled k [] (joined m x.1.automation (last_place k) rs (new_record k rs x))
   joined-settled m rs x e order below calls = by m e (new-settled rs x order below calls)
     where
       new : Record
-      new = new_run (settled k [] rs) x.1.automation (mode_of (automations k) x.1.automation) (last_place k) x.0 x.1.env
+      new = new_run (settled k [] rs) x.1.automation (mode_of (units k) x.1.automation) (last_place k) x.0 x.1.env
 
-      plain : new_run (settled k [] rs) x.1.automation (mode_of (automations k) x.1.automation) (last_place k) x.0 x.1.env ≡ settle k (pushed rs []) (new_record k rs x)
-          → settled k [] rs ++ (new_run (settled k [] rs) x.1.automation (mode_of (automations k) x.1.automation) (last_place k) x.0 x.1.env ∷ []) ≡ settled k [] (rs ++ (new_record k rs x ∷ []))
+      plain : new_run (settled k [] rs) x.1.automation (mode_of (units k) x.1.automation) (last_place k) x.0 x.1.env ≡ settle k (pushed rs []) (new_record k rs x)
+          → settled k [] rs ++ (new_run (settled k [] rs) x.1.automation (mode_of (units k) x.1.automation) (last_place k) x.0 x.1.env ∷ []) ≡ settled k [] (rs ++ (new_record k rs x ∷ []))
       plain one = (λ i. settled k [] rs ++ (one i ∷ [])) ∙ sym (settled-snoc k [] rs (new_record k rs x))
 
-      begins : mode_of (automations k) x.1.automation ≡ Mode.Restart → (back back' : Records) → settle k back (new_record k rs x) ≡ settle k back' (new_record k rs x)
+      begins : mode_of (units k) x.1.automation ≡ Mode.Restart → (back back' : Records) → settle k back (new_record k rs x) ≡ settle k back' (new_record k rs x)
       begins e back back' =
           (λ i. record (new_record k rs x) { begin = begin_at (last_place k) (e i) (last_record x.1.automation back) (new_record k rs x); calls = calls_of k (suc (length rs)) })
           ∙ (λ i. record (new_record k rs x) { begin = begin_at (last_place k) (sym e i) (last_record x.1.automation back') (new_record k rs x); calls = calls_of k (suc (length rs)) })
 
-      by : (m : Mode) → mode_of (automations k) x.1.automation ≡ m → new_run (settled k [] rs) x.1.automation (mode_of (automations k) x.1.automation) (last_place k) x.0 x.1.env ≡ settle k (pushed rs []) (new_record k rs x)
-          → joined m x.1.automation (last_place k) (settled k [] rs) (new_run (settled k [] rs) x.1.automation (mode_of (automations k) x.1.automation) (last_place k) x.0 x.1.env)
+      by : (m : Mode) → mode_of (units k) x.1.automation ≡ m → new_run (settled k [] rs) x.1.automation (mode_of (units k) x.1.automation) (last_place k) x.0 x.1.env ≡ settle k (pushed rs []) (new_record k rs x)
+          → joined m x.1.automation (last_place k) (settled k [] rs) (new_run (settled k [] rs) x.1.automation (mode_of (units k) x.1.automation) (last_place k) x.0 x.1.env)
           ≡ settled k [] (joined m x.1.automation (last_place k) rs (new_record k rs x))
       by Mode.Single e one = plain one
       by Mode.Queued e one = plain one
@@ -308,37 +308,37 @@ module _ (k : Journal) where
           (λ i. sym (settled-replaced k x.1.automation (last_place k) e [] [] rs (nothing_before k x)) i ++ ((one ∙ begins e (pushed rs []) (pushed (replace_all x.1.automation (last_place k) rs) [])) i ∷ []))
           ∙ sym (settled-snoc k [] (replace_all x.1.automation (last_place k) rs) (new_record k rs x))
 
-  next-settled : (rs : Records) (x : Tried) → InOrder (automations k) rs → EndsBelow (suc (last_place k)) rs → calls_of k (suc (length rs)) ≡ 0 → tried k (settled k [] rs) x ≡ settled k [] (next rs x)
+  next-settled : (rs : Records) (x : Tried) → InOrder (units k) rs → EndsBelow (suc (last_place k)) rs → calls_of k (suc (length rs)) ≡ 0 → tried k (settled k [] rs) x ≡ settled k [] (next rs x)
   next-settled rs x order below calls =
-      (λ i. if lets_in (mode_of (automations k) x.1.automation) (max_of (automations k) x.1.automation) (settled-live k x.1.automation 0 [] rs i)
-      then joined (mode_of (automations k) x.1.automation) x.1.automation (last_place k) (settled k [] rs) (new_run (settled k [] rs) x.1.automation (mode_of (automations k) x.1.automation) (last_place k) x.0 x.1.env)
+      (λ i. if lets_in (mode_of (units k) x.1.automation) (max_of (units k) x.1.automation) (settled-live k x.1.automation 0 [] rs i)
+      then joined (mode_of (units k) x.1.automation) x.1.automation (last_place k) (settled k [] rs) (new_run (settled k [] rs) x.1.automation (mode_of (units k) x.1.automation) (last_place k) x.0 x.1.env)
       else settled k [] rs)
-      ∙ by (lets_in_after (automations k) rs x.1.automation)
+      ∙ by (lets_in_after (units k) rs x.1.automation)
     where
-      by : (b : Bool) → (if b then joined (mode_of (automations k) x.1.automation) x.1.automation (last_place k) (settled k [] rs) (new_run (settled k [] rs) x.1.automation (mode_of (automations k) x.1.automation) (last_place k) x.0 x.1.env) else settled k [] rs)
-          ≡ settled k [] (if b then joined (mode_of (automations k) x.1.automation) x.1.automation (last_place k) rs (new_record k rs x) else rs)
-      by true = joined-settled (mode_of (automations k) x.1.automation) rs x refl order below calls
+      by : (b : Bool) → (if b then joined (mode_of (units k) x.1.automation) x.1.automation (last_place k) (settled k [] rs) (new_run (settled k [] rs) x.1.automation (mode_of (units k) x.1.automation) (last_place k) x.0 x.1.env) else settled k [] rs)
+          ≡ settled k [] (if b then joined (mode_of (units k) x.1.automation) x.1.automation (last_place k) rs (new_record k rs x) else rs)
+      by true = joined-settled (mode_of (units k) x.1.automation) rs x refl order below calls
       by false = refl
 
   -- THE LAW of the attempts
-  pub attempts-settled : (rs : Records) (xs : List Tried) → InOrder (automations k) (attempt_all k rs xs) → EndsBelow (suc (last_place k)) rs → ((s : ℕ) → length rs < s → calls_of k s ≡ 0)
+  pub attempts-settled : (rs : Records) (xs : List Tried) → InOrder (units k) (attempt_all k rs xs) → EndsBelow (suc (last_place k)) rs → ((s : ℕ) → length rs < s → calls_of k s ≡ 0)
       → all_tried k (settled k [] rs) xs ≡ settled k [] (attempt_all k rs xs)
   attempts-settled rs [] order below calls = refl
   attempts-settled rs (x ∷ xs) order below calls =
       (λ i. all_tried k (next-settled rs x (order-now rs (x ∷ xs) order) below (calls (suc (length rs)) (omega arith)) i) xs)
-      ∙ attempts-settled (next rs x) xs order (below-next (lets_in_after (automations k) rs x.1.automation)) (calls-next (lets_in_after (automations k) rs x.1.automation))
+      ∙ attempts-settled (next rs x) xs order (below-next (lets_in_after (units k) rs x.1.automation)) (calls-next (lets_in_after (units k) rs x.1.automation))
     where
-      below-next : (b : Bool) → EndsBelow (suc (last_place k)) (if b then joined (mode_of (automations k) x.1.automation) x.1.automation (last_place k) rs (new_record k rs x) else rs)
+      below-next : (b : Bool) → EndsBelow (suc (last_place k)) (if b then joined (mode_of (units k) x.1.automation) x.1.automation (last_place k) rs (new_record k rs x) else rs)
       below-next false = below
-      below-next true = joined-below (is_restart_mode (mode_of (automations k) x.1.automation))
+      below-next true = joined-below (is_restart_mode (mode_of (units k) x.1.automation))
         where
           joined-below : (b : Bool) → EndsBelow (suc (last_place k)) ((if b then replace_all x.1.automation (last_place k) rs else rs) ++ (new_record k rs x ∷ []))
           joined-below true = below-snoc (suc (last_place k)) (replace_all x.1.automation (last_place k) rs) (new_record k rs x) (below-replaced (last_place k) x.1.automation rs below) tt
           joined-below false = below-snoc (suc (last_place k)) rs (new_record k rs x) below tt
 
-      calls-next : (b : Bool) (s : ℕ) → length (if b then joined (mode_of (automations k) x.1.automation) x.1.automation (last_place k) rs (new_record k rs x) else rs) < s → calls_of k s ≡ 0
+      calls-next : (b : Bool) (s : ℕ) → length (if b then joined (mode_of (units k) x.1.automation) x.1.automation (last_place k) rs (new_record k rs x) else rs) < s → calls_of k s ≡ 0
       calls-next false s lt = calls s lt
-      calls-next true s lt = longer (is_restart_mode (mode_of (automations k) x.1.automation)) lt
+      calls-next true s lt = longer (is_restart_mode (mode_of (units k) x.1.automation)) lt
         where
           longer : (b : Bool) → length ((if b then replace_all x.1.automation (last_place k) rs else rs) ++ (new_record k rs x ∷ [])) < s → calls_of k s ≡ 0
           longer true lt = calls s (omega (arith, lt, length-append (replace_all x.1.automation (last_place k) rs) (new_record k rs x ∷ []), length-replaced x.1.automation (last_place k) rs))

@@ -14,14 +14,14 @@ use Rattle.ha_model.specs.declared.record.EndCause.{EndCause}
 use Rattle.ha_model.specs.declared.record.Record.{Record}
 use Rattle.ha_journal.specs.Entries.{step_of, is_restart}
 use Rattle.ha_sight.specs.Items.{is_call}
-use Rattle.ha_journal.specs.Journal.{Journal, automations, HasEntry, last_place, more}
+use Rattle.ha_journal.specs.Journal.{Journal, automations, HasEntry, last_place, more, units}
 use Rattle.ha_sight.specs.Scripts.{Branch}
 use Rattle.ha_model.specs.Records.{Records, mode_of, own_cause, last_record, begin_of, is_step_of, is_call_of, ended_by_script, script_end, ran, stops, calls_of}
 use Rattle.ha_config.specs.Words.{or_else}
 use Rattle.ha_model.specs.RunSteps.{ends_for, own_ends, begins_here, begin_at, settled}
 use Rattle.ha_model.specs.NextPlace.{next_end}
 use Rattle.ha_model.specs.Lawful.{record_of}
-use Rattle.ha_journal.proofs.MoreLemmas.{length-more, automations-more}
+use Rattle.ha_journal.proofs.MoreLemmas.{length-more, automations-more, units-more}
 use Rattle.ha_model.proofs.LastEntry.{last-is, calls-more}
 use Rattle.ha_model.proofs.StepLaws.{ran-step}
 use Rattle.run_modes.specs.Table.{is_live, end_one, stopped, called_on, ended_at}
@@ -42,7 +42,7 @@ never : (b : Bool) → (if b then no_cause else no_cause) ≡ no_cause
 never true = refl
 never false = refl
 
--- ---- two lists of records that agree on automations and ends
+-- ---- two lists of records that agree on units and ends
 
 abbrev pub AlikeEnds : Records → Records → Type 0
 AlikeEnds [] [] = Unit {0}
@@ -84,29 +84,29 @@ module _ (k : Journal) (p s : ℕ) (cause : Option EndCause) (stop : ℕ → Opt
   -- what the entry itself does to each of them is told by its own run and the stops
   abbrev pub AllCaused : Records → Type 0
   AllCaused [] = Unit {0}
-  AllCaused (r ∷ rs) = (own_cause k r ≡ ending (automations k) p s cause stop r) × AllCaused rs
+  AllCaused (r ∷ rs) = (own_cause k r ≡ ending (units k) p s cause stop r) × AllCaused rs
 
-  settle-one : last_place k ≡ p → (back back' : Records) → AlikeEnds back back' → (r : Record) → own_cause k r ≡ ending (automations k) p s cause stop r → OldOne (automations k) p r
+  settle-one : last_place k ≡ p → (back back' : Records) → AlikeEnds back back' → (r : Record) → own_cause k r ≡ ending (units k) p s cause stop r → OldOne (units k) p r
       → record (ends_for (last_place k) (own_cause k r) r) {
-        begin = begin_at (last_place k) (mode_of (automations k) r.automation) (last_record r.automation back) (ends_for (last_place k) (own_cause k r) r);
+        begin = begin_at (last_place k) (mode_of (units k) r.automation) (last_record r.automation back) (ends_for (last_place k) (own_cause k r) r);
         calls = calls_of k r.serial;
-      } ≡ begun_behind (automations k) p s cause stop back' (ends_for p (ending (automations k) p s cause stop r) (recounted k r))
+      } ≡ begun_behind (units k) p s cause stop back' (ends_for p (ending (units k) p s cause stop r) (recounted k r))
   settle-one at back back' alike r caused old =
-      let e = ends_for p (ending (automations k) p s cause stop r) (recounted k r) in
+      let e = ends_for p (ending (units k) p s cause stop r) (recounted k r) in
       let early : nat_eq r.place p ≡ false = not-equal r.place p old.place in
       (λ i. record (ends_for (at i) (caused i) r) {
-        begin = begin_at (at i) (mode_of (automations k) r.automation) (last_record r.automation back) (ends_for (at i) (caused i) r);
+        begin = begin_at (at i) (mode_of (units k) r.automation) (last_record r.automation back) (ends_for (at i) (caused i) r);
         calls = calls_of k r.serial;
       })
-      ∙ (λ i. record e { begin = if early i then begin_of (mode_of (automations k) r.automation) (last_record r.automation back) (ends_for p (ending (automations k) p s cause stop r) r) else or_else r.begin (begins_here p (mode_of (automations k) r.automation) (last_record r.automation back) e.end) })
-      ∙ (λ i. record e { begin = or_else r.begin (here-alike p (mode_of (automations k) r.automation) (last_record r.automation back) (last_record r.automation back') e.end (last-alike r.automation back back' alike) i) })
+      ∙ (λ i. record e { begin = if early i then begin_of (mode_of (units k) r.automation) (last_record r.automation back) (ends_for p (ending (units k) p s cause stop r) r) else or_else r.begin (begins_here p (mode_of (units k) r.automation) (last_record r.automation back) e.end) })
+      ∙ (λ i. record e { begin = or_else r.begin (here-alike p (mode_of (units k) r.automation) (last_record r.automation back) (last_record r.automation back') e.end (last-alike r.automation back back' alike) i) })
 
-  settle-lazy : last_place k ≡ p → (back back' : Records) → AlikeEnds back back' → (rs : Records) → AllCaused rs → AllOld (automations k) p rs
-      → settled k back (own_ends k rs) ≡ lazy (automations k) p s cause stop back' (map {A = Record} {B = Record} (recounted k) rs)
+  settle-lazy : last_place k ≡ p → (back back' : Records) → AlikeEnds back back' → (rs : Records) → AllCaused rs → AllOld (units k) p rs
+      → settled k back (own_ends k rs) ≡ lazy (units k) p s cause stop back' (map {A = Record} {B = Record} (recounted k) rs)
   settle-lazy at back back' alike [] caused old = refl
   settle-lazy at back back' alike (r ∷ rs) caused old =
       let one = settle-one at back back' alike r caused.0 old.0 in
-      let now = begun_behind (automations k) p s cause stop back' (ends_for p (ending (automations k) p s cause stop r) (recounted k r)) in
+      let now = begun_behind (units k) p s cause stop back' (ends_for p (ending (units k) p s cause stop r) (recounted k r)) in
       let more_alike : AlikeEnds (ends_for (last_place k) (own_cause k r) r ∷ back) (now ∷ back')
       = (refl, (λ i. or_else r.end (option_map {T = EndCause} (λ c. (at i, c)) (caused.0 i))), alike) in
       (λ i. one i ∷ settled k (ends_for (last_place k) (own_cause k r) r ∷ back) (own_ends k rs)) ∙ ap (λ t. now ∷ t) (settle-lazy at (ends_for (last_place k) (own_cause k r) r ∷ back) (now ∷ back') more_alike rs caused.1 old.1)
@@ -219,33 +219,33 @@ restart-turns-none j (Line source number Cmd.TooLong) a e = cc
 
 module _ (j : Journal) (x : Entry) (turned : List ℕ) (p s : ℕ) (cause : Option EndCause) where
   abbrev stops_one : Record → Record
-  stops_one r = stopper (automations j) p s cause (stop_for x turned) r
+  stops_one r = stopper (units j) p s cause (stop_for x turned) r
 
-  stops-all : AreTurned j x turned → is_restart x ≡ true → (rs : Records) → stopped None p EndCause.Restarted rs ≡ map {A = Record} {B = Record} (stopper (automations j) p s cause (stop_for x turned)) rs
+  stops-all : AreTurned j x turned → is_restart x ≡ true → (rs : Records) → stopped None p EndCause.Restarted rs ≡ map {A = Record} {B = Record} (stopper (units j) p s cause (stop_for x turned)) rs
   stops-all are e [] = refl
   stops-all are e (r ∷ rs) = (λ i. one i ∷ stops-all are e rs i)
     where
       none : list_any (λ b. nat_eq b r.automation) turned ≡ false
       none = sym (are r.automation) ∙ restart-turns-none j x r.automation e
 
-      one : (if is_none r.end then end_one true p EndCause.Restarted r else r) ≡ stopper (automations j) p s cause (stop_for x turned) r
+      one : (if is_none r.end then end_one true p EndCause.Restarted r else r) ≡ stopper (units j) p s cause (stop_for x turned) r
       one = (λ i. if is_none r.end then stop_by p (if sym none i then Some EndCause.SwitchedOff else if sym e i then Some EndCause.Restarted else None) r else r)
 
-  stops-some : is_restart x ≡ false → (rs : Records) → map {A = Record} {B = Record} (end_of p EndCause.SwitchedOff turned) rs ≡ map {A = Record} {B = Record} (stopper (automations j) p s cause (stop_for x turned)) rs
+  stops-some : is_restart x ≡ false → (rs : Records) → map {A = Record} {B = Record} (end_of p EndCause.SwitchedOff turned) rs ≡ map {A = Record} {B = Record} (stopper (units j) p s cause (stop_for x turned)) rs
   stops-some e [] = refl
   stops-some e (r ∷ rs) = (λ i. by (list_any (λ b. nat_eq b r.automation) turned) refl (is_none r.end) refl i ∷ stops-some e rs i)
     where
       by : (b : Bool) → list_any (λ b. nat_eq b r.automation) turned ≡ b → (c : Bool) → is_none r.end ≡ c
-          → (if b && c then end_one true p EndCause.SwitchedOff r else r) ≡ stopper (automations j) p s cause (stop_for x turned) r
+          → (if b && c then end_one true p EndCause.SwitchedOff r else r) ≡ stopper (units j) p s cause (stop_for x turned) r
       by true f true g = (λ i. if sym g i then stop_by p (if sym f i then Some EndCause.SwitchedOff else if is_restart x then Some EndCause.Restarted else None) r else r)
       by false f true g = (λ i. if sym g i then stop_by p (if sym f i then Some EndCause.SwitchedOff else if sym e i then Some EndCause.Restarted else None) r else r)
       by true f false g = (λ i. if sym g i then stop_by p (stop_for x turned r.automation) r else r)
       by false f false g = (λ i. if sym g i then stop_by p (stop_for x turned r.automation) r else r)
 
-  stops-map : AreTurned j x turned → (rs : Records) → stops_done p x turned rs ≡ map {A = Record} {B = Record} (stopper (automations j) p s cause (stop_for x turned)) rs
+  stops-map : AreTurned j x turned → (rs : Records) → stops_done p x turned rs ≡ map {A = Record} {B = Record} (stopper (units j) p s cause (stop_for x turned)) rs
   stops-map are rs = by (is_restart x) refl
     where
-      by : (b : Bool) → is_restart x ≡ b → (if b then stopped None p EndCause.Restarted rs else fold (stop_turned p) rs turned) ≡ map {A = Record} {B = Record} (stopper (automations j) p s cause (stop_for x turned)) rs
+      by : (b : Bool) → is_restart x ≡ b → (if b then stopped None p EndCause.Restarted rs else fold (stop_turned p) rs turned) ≡ map {A = Record} {B = Record} (stopper (units j) p s cause (stop_for x turned)) rs
       by true e = stops-all are e rs
       by false e = lanes-end p EndCause.SwitchedOff turned rs ∙ stops-some e rs
 
@@ -312,30 +312,30 @@ module _ (j : Journal) (x : Entry) (turned : List ℕ) (some : HasEntry j) (are 
   place : last_place (more j x) ≡ length j
   place = omega (arith, length-more j x)
 
-  same : automations j ≡ automations (more j x)
-  same = automations-more j x some
+  same : units j ≡ units (more j x)
+  same = units-more j x some
 
   -- where no run ends by itself
-  pub settled-plain : (s : ℕ) (rs counted : Records) → EachOwn (more j x) s None rs → AllOld (automations j) (length j) rs → AllOld (automations j) (length j) counted
+  pub settled-plain : (s : ℕ) (rs counted : Records) → EachOwn (more j x) s None rs → AllOld (units j) (length j) rs → AllOld (units j) (length j) counted
       → map {A = Record} {B = Record} (recounted (more j x)) rs ≡ counted → stops_done (length j) x turned counted ≡ settled (more j x) [] (own_ends (more j x) rs)
   settled-plain s rs counted own old old' is =
       let stop = stop_for x turned in
-      let old_k : AllOld (automations (more j x)) (length j) rs = subst (λ all. AllOld all (length j) rs) same old in
+      let old_k : AllOld (units (more j x)) (length j) rs = subst (λ all. AllOld all (length j) rs) same old in
       let lazily = settle-lazy (more j x) (length j) s None stop place [] [] tt rs (all-caused j x turned some are s None rs own) old_k in
       stops-map j x turned (length j) s None are counted
-      ∙ sym (plain (automations j) (length j) s None stop [] counted (ends-none (automations j) (length j) s stop counted) old' (λ a h m. refl))
+      ∙ sym (plain (units j) (length j) s None stop [] counted (ends-none (units j) (length j) s stop counted) old' (λ a h m. refl))
       ∙ (λ i. lazy (same i) (length j) s None stop [] (sym is i))
       ∙ sym lazily
 
   -- where the run with this serial does
-  pub settled-ends : (s i : ℕ) (c : EndCause) (r : Record) (rs counted : Records) → EachOwn (more j x) s (Some c) rs → AllOld (automations j) (length j) rs → AllOld (automations j) (length j) counted
-      → map {A = Record} {B = Record} (recounted (more j x)) rs ≡ counted → AreNumbered 0 counted → InOrder (automations j) counted → slice_get counted i ≡ Some r → s ≡ suc i → r.end ≡ None
+  pub settled-ends : (s i : ℕ) (c : EndCause) (r : Record) (rs counted : Records) → EachOwn (more j x) s (Some c) rs → AllOld (units j) (length j) rs → AllOld (units j) (length j) counted
+      → map {A = Record} {B = Record} (recounted (more j x)) rs ≡ counted → AreNumbered 0 counted → InOrder (units j) counted → slice_get counted i ≡ Some r → s ≡ suc i → r.end ≡ None
       → stops_done (length j) x turned (ended_at s (length j) c counted) ≡ settled (more j x) [] (own_ends (more j x) rs)
   settled-ends s i c r rs counted own old old' is numbered order found at live =
       let stop = stop_for x turned in
-      let old_k : AllOld (automations (more j x)) (length j) rs = subst (λ all. AllOld all (length j) rs) same old in
+      let old_k : AllOld (units (more j x)) (length j) rs = subst (λ all. AllOld all (length j) rs) same old in
       let lazily = settle-lazy (more j x) (length j) s (Some c) stop place [] [] tt rs (all-caused j x turned some are s (Some c) rs own) old_k in
       stops-map j x turned (length j) s (Some c) are (ended_at s (length j) c counted)
-      ∙ sym (ends-at (automations j) (length j) s (Some c) stop c refl (λ a. false) [] counted 0 i r numbered found (omega (arith, at)) live old' order (λ a h m. refl))
+      ∙ sym (ends-at (units j) (length j) s (Some c) stop c refl (λ a. false) [] counted 0 i r numbered found (omega (arith, at)) live old' order (λ a h m. refl))
       ∙ (λ i. lazy (same i) (length j) s (Some c) stop [] (sym is i))
       ∙ sym lazily

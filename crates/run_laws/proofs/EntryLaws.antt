@@ -13,7 +13,7 @@ use Rattle.ha_model.specs.declared.record.EndCause.{EndCause}
 use Rattle.ha_model.specs.declared.record.Record.{Record}
 use Rattle.ha_sight.specs.Items.{is_call}
 use Rattle.ha_journal.specs.Entries.{BeginsSegment, IsBoot}
-use Rattle.ha_journal.specs.Journal.{Journal, automations, HasEntry, last_place, more}
+use Rattle.ha_journal.specs.Journal.{Journal, HasEntry, last_place, more, units}
 use Rattle.ha_journal.specs.Attempts.{passing}
 use Rattle.ha_sight.specs.Scripts.{Branch}
 use Rattle.ha_model.specs.Records.{Records, is_call_of, calls_of, own_cause, records_of}
@@ -57,15 +57,15 @@ numbered-from n (r ∷ rs) h = (h 0 r refl ∙ here, numbered-from (suc n) rs (�
 pub record Known (j : Journal) (rs : Records) : Type 0 where
   pub some : HasEntry j
   pub numbered : AreNumbered 0 rs
-  pub old : AllOld (automations j) (length j) rs
+  pub old : AllOld (units j) (length j) rs
   pub counted : AllCounted j rs
-  pub order : InOrder (automations j) rs
+  pub order : InOrder (units j) rs
 
 known : (j : Journal) (rs : Records) → Right j rs → Known j rs
 known j rs right = record {
   some = has-entry j right.journal;
   numbered = subst (AreNumbered 0) (sym right.records_are) (numbered-from 0 (records_of j) (λ i r e. serial-at j i r e ∙ zero-less i));
-  old = subst (AllOld (automations j) (length j)) (sym right.records_are) (all-old j);
+  old = subst (AllOld (units j) (length j)) (sym right.records_are) (all-old j);
   counted = subst (AllCounted j) (sym right.records_are) (all-counted j);
   order = in-order j rs right;
 }
@@ -117,16 +117,16 @@ module _ (j : Journal) (rs : Records) (turned : List ℕ) (known : Known j rs) w
         and-false true = refl
         and-false false = refl
 
-    counted-old : (b : Bool) → AllOld (automations j) (length j) (call_counted b s rs)
-    counted-old true = called-old s (automations j) (length j) rs known.old
+    counted-old : (b : Bool) → AllOld (units j) (length j) (call_counted b s rs)
+    counted-old true = called-old s (units j) (length j) rs known.old
     counted-old false = known.old
 
     counted-numbered : (b : Bool) → AreNumbered 0 (call_counted b s rs)
     counted-numbered true = called-numbered s 0 rs known.numbered
     counted-numbered false = known.numbered
 
-    counted-order : (b : Bool) → InOrder (automations j) (call_counted b s rs)
-    counted-order true = called-order s (automations j) (λ a. false) rs known.order
+    counted-order : (b : Bool) → InOrder (units j) (call_counted b s rs)
+    counted-order true = called-order s (units j) (λ a. false) rs known.order
     counted-order false = known.order
 
     -- the run that steps, in the list with its call counted
@@ -157,7 +157,7 @@ module _ (j : Journal) (rs : Records) (turned : List ℕ) (known : Known j rs) w
         running = (λ i. is_running (sym place i) right.0) ∙ right.3.runs
 
         live : right.0.end ≡ None
-        live = running-live (automations j) (length j) right.0 (old-get (automations j) (length j) (s - 1) rs right.0 known.old right.1) running
+        live = running-live (units j) (length j) right.0 (old-get (units j) (length j) (s - 1) rs right.0 known.old right.1) running
 
         at : s ≡ suc (s - 1)
         at = (let e = serial-in 0 (s - 1) rs right.0 known.numbered right.1 in omega (arith, e, right.2))
@@ -210,11 +210,11 @@ by-calls j rs x turned right not_boot fair are =
     let place : last_place (more j x) ≡ length j = omega (arith, length-more j x) in
     let told : records_of (more j x) ≡ settled (more j x) [] (attempt_all (more j x) (own_ends (more j x) rs) (passing (more j x)))
     = records-more j x ∙ (λ i. settled (more j x) [] (attempt_all (more j x) (own_ends (more j x) (sym right.records_are i)) (passing (more j x)))) in
-    let order : InOrder (automations (more j x)) (attempt_all (more j x) (own_ends (more j x) rs) (passing (more j x)))
+    let order : InOrder (units (more j x)) (attempt_all (more j x) (own_ends (more j x) rs) (passing (more j x)))
     = settled-order (more j x) (λ a. false) [] (attempt_all (more j x) (own_ends (more j x) rs) (passing (more j x)))
-    (subst (InOrder (automations (more j x))) (after.records_are ∙ told) (in-order (more j x) (records_after j rs x) after)) in
+    (subst (InOrder (units (more j x))) (after.records_are ∙ told) (in-order (more j x) (records_after j rs x) after)) in
     (λ i. all_tried (more j x) (ends-settled j rs turned before x not_boot fair are i) (passing (more j x)))
-    ∙ attempts-settled (more j x) (own_ends (more j x) rs) (passing (more j x)) order (own-below (more j x) (length j) (automations j) place rs before.old)
+    ∙ attempts-settled (more j x) (own_ends (more j x) rs) (passing (more j x)) order (own-below (more j x) (length j) (units j) place rs before.old)
     (λ s lt. calls-more j x s ∙ (λ i. no-calls j rs right s (omega (arith, lt, own-length (more j x) rs)) i + cond (no-call j rs x right fair s (omega (arith, lt, own-length (more j x) rs)) i) 1 0))
     ∙ sym told
 
@@ -238,7 +238,7 @@ by-first-calls boot is =
     let k = boot ∷ [] in
     let told : records_of (boot ∷ []) ≡ settled (boot ∷ []) [] (attempt_all (boot ∷ []) [] (passing (boot ∷ [])))
     = first-records boot in
-    let order : InOrder (automations (boot ∷ [])) (attempt_all (boot ∷ []) [] (passing (boot ∷ [])))
+    let order : InOrder (units (boot ∷ [])) (attempt_all (boot ∷ []) [] (passing (boot ∷ [])))
     = settled-order (boot ∷ []) (λ a. false) [] (attempt_all (boot ∷ []) [] (passing (boot ∷ [])))
-    (subst (InOrder (automations (boot ∷ []))) told (in-order (boot ∷ []) (records_of (boot ∷ [])) (first-right boot is))) in
+    (subst (InOrder (units (boot ∷ []))) told (in-order (boot ∷ []) (records_of (boot ∷ [])) (first-right boot is))) in
     attempts-settled (boot ∷ []) [] (passing (boot ∷ [])) order tt (λ s lt. first-calls boot is s) ∙ sym told

@@ -10,8 +10,8 @@ ghost use Rattle.run_modes.specs.Calls.{all_tried, steps_done, stops_done, AreTu
 
 /// The calls for one entry, in their order, give the records of the journal with it: the call and
 /// the end of its own run (`called`, `ended`), the stops (`stop_all`, for the automations that it
-/// turns off with stop, or for all at a Restart), and then its passing attempts (`attempt`). Before
-/// the first entry there are no records.
+/// turns off with stop and the scripts whose runs it ends, or for all at a Restart), and then its
+/// passing attempts (`attempt`). Before the first entry there are no records.
 pub fn records_by_calls()
     ensures first { (boot : Entry) → IsBoot boot → all_tried (boot ∷ []) [] (passing (boot ∷ [])) ≡ records_of (boot ∷ []) }
     ensures more { (j : Journal) (rs : Records) (x : Entry) (turned : List ℕ) → Right j rs → (BeginsSegment x → ⊥) → IsRightEntry rs j x → AreTurned j x turned

@@ -127,7 +127,7 @@ fits-changed rs rs' ls ls' a m ss fits change numbered count live others = recor
     live_by q true e = live ∙ (λ i. live_of (eqb-true a q e i) rs')
     live_by q false e = fits.live q ∙ sym (others q e).1
 
--- the count looks at automations alone
+-- the count looks at units alone
 count-map : (f : Record → Record) → ((r : Record) → (f r).automation ≡ r.automation) → (q : ℕ) (rs : Records) → count_of q (map f rs) ≡ count_of q rs
 count-map f same q rs = go 0 rs
   where

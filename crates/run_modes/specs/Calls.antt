@@ -6,7 +6,7 @@ use Rattle.ha_model.specs.declared.record.EndCause.{EndCause}
 use Rattle.ha_journal.specs.declared.entry.Entry.{Entry}
 use Rattle.ha_journal.specs.Entries.{Stepped, step_of, is_restart}
 use Rattle.ha_sight.specs.Items.{is_call}
-use Rattle.ha_journal.specs.Journal.{Journal, automations, last_place}
+use Rattle.ha_journal.specs.Journal.{Journal, automations, last_place, units}
 use Rattle.ha_journal.specs.Attempts.{Attempt}
 use Rattle.ha_model.specs.Records.{Records, mode_of, max_of, stops, records_of}
 use Rattle.ha_model.specs.NextPlace.{next_end}
@@ -36,21 +36,21 @@ step_done j rs s = own_ended (length j) s.serial (step_end j rs s) (call_counted
 abbrev pub steps_done : Journal → Records → Entry → Records
 steps_done j rs x = option_map_or (step_done j rs) (step_of x) rs
 
--- the stops: of all at a Restart, else of these automations in turn
+-- the stops: of all at a Restart, else of these units in turn
 abbrev pub stop_turned : ℕ → Records → ℕ → Records
 stop_turned p rs a = stopped (Some a) p EndCause.SwitchedOff rs
 
 abbrev pub stops_done : ℕ → Entry → List ℕ → Records → Records
 stops_done p x turned rs = if is_restart x then stopped None p EndCause.Restarted rs else fold (stop_turned p) rs turned
 
--- these are the automations that the entry turns off so that their runs end
+-- these are the units that the entry turns off so that their runs end
 abbrev pub AreTurned : Journal → Entry → List ℕ → Type 0
 AreTurned j x turned = (a : ℕ) → stops (automations j) a x ≡ list_any (λ b. nat_eq b a) turned
 
 -- an attempt of the last entry, with its order there
 abbrev pub tried : Journal → Records → ℕ × Attempt → Records
 tried k rs x =
-    attempted x.1.automation (mode_of (automations k) x.1.automation) (max_of (automations k) x.1.automation) (last_place k) x.0 x.1.env rs
+    attempted x.1.automation (mode_of (units k) x.1.automation) (max_of (units k) x.1.automation) (last_place k) x.0 x.1.env rs
 
 abbrev pub all_tried : Journal → Records → List (ℕ × Attempt) → Records
 all_tried k rs xs = fold (tried k) rs xs

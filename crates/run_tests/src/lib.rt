@@ -6,3 +6,5 @@
 mod modes;
 #[cfg(test)]
 mod store;
+#[cfg(test)]
+mod units;

@@ -36,7 +36,10 @@ fn house(alloc: Global, initial: Option<bool>) -> Result<Config, AllocError>
     let mut automations = Many::make(alloc);
     automations.push(porch)?;
     automations.push(attic)?;
-    Ok(Config { automations })
+    Ok(Config {
+        automations,
+        scripts: Many::make(alloc),
+    })
 }
 
 /// Whether a text is refused with this code.

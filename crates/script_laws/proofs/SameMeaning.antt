@@ -1,6 +1,6 @@
 -- The two meanings of each kind of action are the same, where those of its lists are.
 use Rattle.std.proofs.Common.{◌≡◌, ℕ, zero, suc, ◌-◌, Bool, true, false, List, [], ◌∷◌, ◌++◌, length, refl, sym, ap, ◌∙◌, arith}
-use Rattle.std.specs.Prelude.{Option, Some, None, nat_le, codes, ◌||◌, if◌then◌else◌}
+use Rattle.std.specs.Prelude.{Option, Some, None, nat_le, ◌||◌, if◌then◌else◌}
 use Rattle.std.specs.Option.{option_map_or}
 use Rattle.ha_config.specs.declared.template.Template.{Template}
 use Rattle.ha_config.specs.declared.config.Trigger.{Trigger}
@@ -9,8 +9,8 @@ use Rattle.ha_config.specs.declared.config.RepeatKind.{RepeatKind}
 use Rattle.ha_sight.specs.declared.item.Item.{Item}
 use Rattle.ha_sight.specs.declared.waiting.WaitEnd.{WaitEnd}
 use Rattle.ha_sight.specs.Calls.{spans_of, count_of, forms_of}
-use Rattle.ha_sight.specs.Scripts.{Branch, Scopes, Ask, Spot, Status, Next, Part, Loop, flat, outer, gives, ends, on_checked, add_inside, after_turn, turns, looped, count_loop, each_loop, while_loop, until_loop, most_turns, repeated, goes_into, wait_value, delayed, waited}
-use Rattle.script_laws.specs.Direct.{Standing, Left, Effect, leaves, at_place, items_then, and_then, does, delays, waited_for, waits, begins_wait, in_block, turns_from, repeats}
+use Rattle.ha_sight.specs.Scripts.{Branch, Scopes, Ask, Spot, Status, Next, Part, Loop, flat, outer, gives, ends, on_checked, after_turn, turns, looped, count_loop, each_loop, while_loop, until_loop, most_turns, repeated, goes_into, delayed, wait_for, call_ask, scopes_behind, waited, called, behind_call}
+use Rattle.script_laws.specs.Direct.{Standing, Left, Effect, leaves, at_place, items_then, and_then, does, delays, waited_for, waits, begins_wait, calls, in_block, turns_from, repeats}
 use Rattle.script_laws.specs.Followed.{followed}
 use Rattle.script_laws.proofs.FollowLemmas.{one-item, item-follows, place-follows, done-follows, field-follows, option-follows, block-follows, block-then}
 use Rattle.script_laws.proofs.BesideLemmas.{SameList}
@@ -30,23 +30,23 @@ module _ (next end : Next) (scopes : Scopes) (b : Branch) where
   pub wait-same : (ask : Ask) (go_on : Bool) (p : ℕ) (rest : List Spot) → waited ask go_on p next scopes b rest ≡ followed next end (waits ask go_on p scopes b rest)
   wait-same ask go_on p =
       place-follows next end b scopes
-      (λ s after. option_map_or (λ e. gives Item.Nothing (if e.done || go_on then next (add_inside (codes "wait", wait_value e) scopes) after else ends Status.Stopped after)) (s.wait_end ask p) None)
-      (λ s after. option_map_or (λ e. waited_for e go_on scopes after) (s.wait_end ask p) None) (λ s after. by (s.wait_end ask p) after)
+      (λ s after. option_map_or (λ e. gives Item.Nothing (if e.done || go_on then next (scopes_behind ask e scopes) after else ends Status.Stopped after)) (s.wait_end ask p) None)
+      (λ s after. option_map_or (λ e. waited_for ask e go_on scopes after) (s.wait_end ask p) None) (λ s after. by (s.wait_end ask p) after)
     where
       ended : (e : WaitEnd) (c : Bool) (after : List Spot)
-          → gives Item.Nothing (if c then next (add_inside (codes "wait", wait_value e) scopes) after else ends Status.Stopped after)
-          ≡ followed next end (if c then does Item.Nothing (add_inside (codes "wait", wait_value e) scopes) after else leaves (Item.Nothing ∷ []) Standing.Stopped scopes after)
-      ended e true after = done-follows next end Item.Nothing (add_inside (codes "wait", wait_value e) scopes) after
+          → gives Item.Nothing (if c then next (scopes_behind ask e scopes) after else ends Status.Stopped after)
+          ≡ followed next end (if c then does Item.Nothing (scopes_behind ask e scopes) after else leaves (Item.Nothing ∷ []) Standing.Stopped scopes after)
+      ended e true after = done-follows next end Item.Nothing (scopes_behind ask e scopes) after
       ended e false after = one-item Item.Nothing (ends Status.Stopped after)
 
       by : (o : Option WaitEnd) (after : List Spot)
-          → option_map_or (λ e. gives Item.Nothing (if e.done || go_on then next (add_inside (codes "wait", wait_value e) scopes) after else ends Status.Stopped after)) o None
-          ≡ followed next end (option_map_or (λ e. waited_for e go_on scopes after) o None)
+          → option_map_or (λ e. gives Item.Nothing (if e.done || go_on then next (scopes_behind ask e scopes) after else ends Status.Stopped after)) o None
+          ≡ followed next end (option_map_or (λ e. waited_for ask e go_on scopes after) o None)
       by None after = refl
       by (Some e) after = ended e (e.done || go_on) after
 
   pub begins-same : (test : Option Template) (triggers : List Trigger) (timeout : Option SpanForm) (go_on : Bool) (p : Spot) (rest : List Spot)
-      → on_checked (λ d. gives Item.Nothing (waited (record { test = test; triggers = triggers; timeout = d; env = flat scopes }) go_on p.place next scopes b rest)) (spans_of p.sight (flat scopes) timeout) rest
+      → on_checked (λ d. gives Item.Nothing (waited (wait_for test triggers d scopes) go_on p.place next scopes b rest)) (spans_of p.sight (flat scopes) timeout) rest
       ≡ followed next end (begins_wait test triggers timeout go_on p scopes b rest)
   begins-same test triggers timeout go_on p rest =
       field-follows next end (λ d. gives Item.Nothing (waited (ask d) go_on p.place next scopes b rest)) (λ d. items_then (Item.Nothing ∷ []) (waits (ask d) go_on p.place scopes b rest))
@@ -54,7 +54,21 @@ module _ (next end : Next) (scopes : Scopes) (b : Branch) where
       (spans_of p.sight (flat scopes) timeout) scopes rest
     where
       ask : Option ℕ → Ask
-      ask d = record { test = test; triggers = triggers; timeout = d; env = flat scopes }
+      ask d = wait_for test triggers d scopes
+
+  -- a call that waits, or not
+  pub call-same : (item : Item) (p : ℕ) (rest : List Spot) → called item (behind_call item p next scopes b rest) rest ≡ followed next end (calls item p scopes b rest)
+  call-same (Item.Started scripts fields true) p rest =
+      ap (gives (Item.Started scripts fields true)) (wait-same (call_ask scopes) true p rest)
+      ∙ item-follows next end (Item.Started scripts fields true) (waits (call_ask scopes) true p scopes b rest)
+  call-same (Item.Started scripts fields false) p rest = done-follows next end (Item.Started scripts fields false) scopes rest
+  call-same (Item.Halted scripts) p rest = done-follows next end (Item.Halted scripts) scopes rest
+  call-same (Item.Failed code) p rest = done-follows next end (Item.Failed code) scopes rest
+  call-same Item.Nothing p rest = done-follows next end Item.Nothing scopes rest
+  call-same (Item.Call service target fields) p rest = done-follows next end (Item.Call service target fields) scopes rest
+  call-same (Item.Fired kind pairs) p rest = done-follows next end (Item.Fired kind pairs) scopes rest
+  call-same (Item.Switched targets) p rest = done-follows next end (Item.Switched targets) scopes rest
+  call-same (Item.Triggered automations skip) p rest = done-follows next end (Item.Triggered automations skip) scopes rest
 
   pub test-same : (c : Bool) (rest : List Spot) → gives Item.Nothing (if c then next scopes rest else end scopes rest)
       ≡ followed next end (leaves (Item.Nothing ∷ []) (if c then Standing.Done else Standing.ListDone) scopes rest)

@@ -1,5 +1,5 @@
 -- What a part uses, at each way in which parts are put together.
-use Rattle.std.proofs.Common.{◌≡◌, ℕ, zero, suc, ◌+◌, ◌<◌, Bool, true, false, List, [], ◌∷◌, ◌++◌, length, map, refl, sym, ap, ◌∙◌, rules, arith, append_assoc, append-nil, length-append}
+use Rattle.std.proofs.Common.{◌≡◌, ℕ, zero, suc, ◌+◌, ◌<◌, Bool, true, false, List, [], ◌∷◌, ◌++◌, length, map, refl, sym, ap, subst, ◌∙◌, rules, arith, append_assoc, append-nil, length-append}
 use Rattle.std.specs.Prelude.{Option, Some, None, Ok, Err, not, ◌&&◌, ◌||◌, nat_eq, nat_lt, option_map, option_and_then, codes, if◌then◌else◌, bytes_eq}
 use Rattle.std.specs.List.{list_any, list_all, cons_option}
 use Rattle.std.proofs.lemmas.Bool.{leb-true}
@@ -13,7 +13,9 @@ use Rattle.ha_sight.specs.Calls.{Checked}
 use Rattle.ha_sight.specs.Scripts.{Branch, Scopes, Spot, Loop, flat, outer, add_inside, add_where_named, set_name, set_all, is_deeper, front, past_front, side, on_side, take_item, woven}
 use Rattle.ha_config.proofs.EqualLemmas.{and_left, and_right}
 use Rattle.script_laws.specs.Direct.{Standing, Left, Effect, leaves, at_place, items_then, by_standing, and_then, standing_of, does, nothing_then, on_field, drop_block, in_block, turns_from, if_no_place, all_used, each_beside, stands_open, stops_or, first_stop, joined_up, beside}
+use Rattle.script_laws.specs.Stands.{EachStands}
 use Rattle.script_laws.specs.Used.{IsUsed}
+use Rattle.script_laws.proofs.StandLemmas.{IsStill, SidesStand, TakenStand, stand-append, stand-open, still-stands, taken-stand}
 
 abbrev pub Uses : Scopes → List Spot → Option Left → Type 0
 Uses scopes ps None = Unit {0}
@@ -69,12 +71,20 @@ outer-length (x ∷ y ∷ ys) n e = (let r = outer-length (y ∷ ys) (length ys)
 -- ---- one after the other
 
 -- a place and its item
-pub one-place : (scopes new : Scopes) (p : Spot) (rest : List Spot) (item : Item) (s : Standing) → stands_open s ≡ false → (0 < length scopes → length new ≡ length scopes)
+pub one-place : (scopes new : Scopes) (p : Spot) (rest : List Spot) (item : Item) (s : Standing) → stands_open s ≡ false → IsStill p item → (0 < length scopes → length new ≡ length scopes)
     → IsUsed scopes (p ∷ rest) (record { items = item ∷ []; standing = s; scopes = new; places = rest })
-one-place scopes new p rest item s closed h = record { used = p ∷ []; places = refl; items = refl; none_left = λ e. absurd (let z : false ≡ true = sym closed ∙ e in cc); blocks = h }
+one-place scopes new p rest item s closed still h =
+    record {
+      used = p ∷ [];
+      places = refl;
+      items = refl;
+      none_left = λ e. absurd (let z : false ≡ true = sym closed ∙ e in cc);
+      blocks = h;
+      stand = (still-stands (stands_open s) p item [] still, tt);
+    }
 
-pub does-uses : (item : Item) (scopes new : Scopes) (p : Spot) (rest : List Spot) → (0 < length scopes → length new ≡ length scopes) → Uses scopes (p ∷ rest) (does item new rest)
-does-uses item scopes new p rest h = one-place scopes new p rest item (standing_of item) (closed item) h
+pub does-uses : (item : Item) (scopes new : Scopes) (p : Spot) (rest : List Spot) → IsStill p item → (0 < length scopes → length new ≡ length scopes) → Uses scopes (p ∷ rest) (does item new rest)
+does-uses item scopes new p rest still h = one-place scopes new p rest item (standing_of item) (closed item) still h
   where
     closed : (item : Item) → stands_open (standing_of item) ≡ false
     closed (Item.Failed code) = refl
@@ -83,31 +93,48 @@ does-uses item scopes new p rest h = one-place scopes new p rest item (standing_
     closed (Item.Fired kind pairs) = refl
     closed (Item.Switched targets) = refl
     closed (Item.Triggered automations skip) = refl
+    closed (Item.Started scripts fields waits) = refl
+    closed (Item.Halted scripts) = refl
 
-pub place-uses : (b : Branch) (scopes : Scopes) (step : Spot → List Spot → Option Left) → ((p : Spot) (rest : List Spot) → Uses scopes (p ∷ rest) (step p rest))
+pub place-uses : (b : Branch) (scopes : Scopes) (step : Spot → List Spot → Option Left) → ((p : Spot) (rest : List Spot) → bytes_eq p.branch b ≡ true → Uses scopes (p ∷ rest) (step p rest))
     → (ps : List Spot) → Uses scopes ps (at_place b scopes ps step)
-place-uses b scopes step h [] = record { used = []; places = refl; items = refl; none_left = λ e. refl; blocks = λ e. refl }
-place-uses b scopes step h (p ∷ rest) = by (bytes_eq p.branch b)
+place-uses b scopes step h [] = record { used = []; places = refl; items = refl; none_left = λ e. refl; blocks = λ e. refl; stand = tt }
+place-uses b scopes step h (p ∷ rest) = by (bytes_eq p.branch b) refl
   where
-    by : (c : Bool) → Uses scopes (p ∷ rest) (if c then step p rest else None)
-    by true = h p rest
-    by false = tt
+    by : (c : Bool) → bytes_eq p.branch b ≡ c → Uses scopes (p ∷ rest) (if c then step p rest else None)
+    by true own = h p rest own
+    by false own = tt
+
+-- Nothing neither waits for a run nor names a script, and a failure doesn't either
+pub nothing-still : (p : Spot) → IsStill p Item.Nothing
+nothing-still p = (refl, λ e. tt)
+
+pub failed-still : (p : Spot) (code : ℕ) → IsStill p (Item.Failed code)
+failed-still p code = (refl, λ e. tt)
 
 pub nothing-uses : (scopes : Scopes) (p : Spot) (rest : List Spot) (o : Option Left) → Uses scopes rest o → Uses scopes (p ∷ rest) (nothing_then o)
 nothing-uses scopes p rest None u = tt
-nothing-uses scopes p rest (Some l) u = record { used = p ∷ u.used; places = ap (λ q. p ∷ q) u.places; items = ap suc u.items; none_left = u.none_left; blocks = u.blocks }
+nothing-uses scopes p rest (Some l) u =
+    record {
+      used = p ∷ u.used;
+      places = ap (λ q. p ∷ q) u.places;
+      items = ap suc u.items;
+      none_left = u.none_left;
+      blocks = u.blocks;
+      stand = (still-stands (stands_open l.standing) p Item.Nothing u.used (nothing-still p), u.stand);
+    }
 
 pub field-uses : {A : Type 0} (scopes : Scopes) (p : Spot) (rest : List Spot) (step : A → Option Left) (c : Checked A) → ((x : A) → c ≡ Ok x → Uses scopes (p ∷ rest) (step x))
     → Uses scopes (p ∷ rest) (on_field c scopes rest step)
 field-uses scopes p rest step (Ok x) h = h x refl
-field-uses scopes p rest step (Err code) h = does-uses (Item.Failed code) scopes scopes p rest (λ e. refl)
+field-uses scopes p rest step (Err code) h = does-uses (Item.Failed code) scopes scopes p rest (failed-still p code) (λ e. refl)
 
 pub then-uses : (scopes : Scopes) (ps : List Spot) (rest : Scopes → List Spot → Option Left) → ((s : Scopes) (q : List Spot) → Uses s q (rest s q))
     → (o : Option Left) → Uses scopes ps o → Uses scopes ps (and_then o rest)
 then-uses scopes ps rest h None u = tt
 then-uses scopes ps rest h (Some l) u = by l.standing u
   where
-    more : IsUsed scopes ps l → (o : Option Left) → Uses l.scopes l.places o → Uses scopes ps (items_then l.items o)
+    more : IsUsed scopes ps (record l { standing = Standing.Done }) → (o : Option Left) → Uses l.scopes l.places o → Uses scopes ps (items_then l.items o)
     more u None v = tt
     more u (Some m) v =
         record {
@@ -116,11 +143,12 @@ then-uses scopes ps rest h (Some l) u = by l.standing u
           items = length-append l.items m.items ∙ (λ i. u.items i + v.items i) ∙ sym (length-append u.used v.used);
           none_left = v.none_left;
           blocks = λ e. (let first = u.blocks e in v.blocks (omega (arith, e, first)) ∙ first);
+          stand = stand-append (stands_open m.standing) u.used v.used l.items m.items u.items u.stand v.stand;
         }
 
     by : (s : Standing) → IsUsed scopes ps (record l { standing = s }) → Uses scopes ps (by_standing s (record l { standing = s }) rest)
-    by Standing.Done v = more u (rest l.scopes l.places) (h l.scopes l.places)
-    by Standing.ListDone v = record { used = v.used; places = v.places; items = v.items; none_left = λ e. absurd cc; blocks = v.blocks }
+    by Standing.Done v = more v (rest l.scopes l.places) (h l.scopes l.places)
+    by Standing.ListDone v = record { used = v.used; places = v.places; items = v.items; none_left = λ e. absurd cc; blocks = v.blocks; stand = v.stand }
     by Standing.Open v = v
     by Standing.Stopped v = v
     by Standing.Faulted v = v
@@ -129,7 +157,7 @@ pub block-uses : (scopes : Scopes) (block : Pairs) (ps : List Spot) (o : Option 
 block-uses scopes block ps None u = tt
 block-uses scopes block ps (Some l) u =
     let long : length (scopes ++ (block ∷ [])) ≡ suc (length scopes) = length-append scopes (block ∷ []) ∙ omega arith in
-    record { used = u.used; places = u.places; items = u.items; none_left = u.none_left; blocks = λ e. outer-length l.scopes (length scopes) (u.blocks (omega (arith, long)) ∙ long) }
+    record { used = u.used; places = u.places; items = u.items; none_left = u.none_left; blocks = λ e. outer-length l.scopes (length scopes) (u.blocks (omega (arith, long)) ∙ long); stand = u.stand }
 
 pub either-uses : (c : Bool) (e e' : Effect) → UsesWell e → UsesWell e' → UsesWell (if c then e else e')
 either-uses true e e' h k = h
@@ -141,12 +169,12 @@ unfolding turns_from
 turns-use e h loop b zero i scopes p rest = by (loop.enters i scopes p.sight)
   where
     by : (c : Bool) → Uses scopes (p ∷ rest) (if c then does (Item.Failed 6) scopes rest else does Item.Nothing scopes rest)
-    by true = does-uses (Item.Failed 6) scopes scopes p rest (λ z. refl)
-    by false = does-uses Item.Nothing scopes scopes p rest (λ z. refl)
+    by true = does-uses (Item.Failed 6) scopes scopes p rest (failed-still p 6) (λ z. refl)
+    by false = does-uses Item.Nothing scopes scopes p rest (nothing-still p) (λ z. refl)
 turns-use e h loop b (suc more) i scopes p rest =
     by (loop.enters i scopes p.sight)
     (then-uses scopes rest (λ s after. at_place b s after (λ q later. turns_from e loop b more (suc i) s q later))
-    (λ s after. place-uses b s (λ q later. turns_from e loop b more (suc i) s q later) (λ q later. turns-use e h loop b more (suc i) s q later) after)
+    (λ s after. place-uses b s (λ q later. turns_from e loop b more (suc i) s q later) (λ q later own. turns-use e h loop b more (suc i) s q later) after)
     (in_block (loop.variables i) e scopes b rest) (block-uses scopes (loop.variables i) rest (e (scopes ++ (loop.variables i ∷ [])) b rest) (h (scopes ++ (loop.variables i ∷ [])) b rest)))
   where
     by : (c : Bool)
@@ -155,7 +183,7 @@ turns-use e h loop b (suc more) i scopes p rest =
         (if c then nothing_then (and_then (in_block (loop.variables i) e scopes b rest) (λ s after. at_place b s after (λ q later. turns_from e loop b more (suc i) s q later)))
         else does Item.Nothing scopes rest)
     by true u = nothing-uses scopes p rest (and_then (in_block (loop.variables i) e scopes b rest) (λ s after. at_place b s after (λ q later. turns_from e loop b more (suc i) s q later))) u
-    by false u = does-uses Item.Nothing scopes scopes p rest (λ z. refl)
+    by false u = does-uses Item.Nothing scopes scopes p rest (nothing-still p) (λ z. refl)
 
 -- ---- lists beside each other
 
@@ -200,12 +228,44 @@ woven-length b (s ∷ ps) lists all f =
     (λ i. length (cons_option (t.2 i).0 (woven b ps (t.2 i).1)))
     ∙ ap suc (woven-length b ps t.1 ((λ i. list_all (λ q. nat_lt (side b q) (t.4 i)) ps) ∙ others) t.3)
 
+woven-stand : (unended : Bool) (b : Branch) (ps : List Spot) (lists : List (List Item)) → list_all (λ s. nat_lt (side b s) (length lists)) ps ≡ true → Fits b 0 ps lists → SidesStand unended b 0 ps lists
+    → EachStands unended ps (woven b ps lists)
+woven-stand unended b [] lists all f h = tt
+woven-stand unended b (s ∷ ps) lists all f h =
+    let first : nat_lt (side b s) (length lists) ≡ true = and_left (nat_lt (side b s) (length lists)) (list_all (λ q. nat_lt (side b q) (length lists)) ps) all in
+    let within : side b s < length lists = leb-true (suc (side b s)) (length lists) first in
+    let t = takes b s ps 0 (side b s) lists (omega arith) within f in
+    let others = and_right (nat_lt (side b s) (length lists)) (list_all (λ q. nat_lt (side b q) (length lists)) ps) all in
+    subst (λ r. TakenStand unended b s ps 0 r → EachStands unended (s ∷ ps) (cons_option r.0 (woven b ps r.1))) (sym t.2)
+    (λ g. (g.0, woven-stand unended b ps t.1 ((λ i. list_all (λ q. nat_lt (side b q) (t.4 i)) ps) ∙ others) t.3 g.1))
+    (taken-stand unended b s ps 0 (side b s) lists (omega arith) h)
+
 abbrev items_of : List Left → List (List Item)
 items_of ls = map (λ l. l.items) ls
 
+-- and they stand among these places, by how it stands
+abbrev LeftsStand : Branch → ℕ → List Spot → List Left → Type 0
+LeftsStand b k ps [] = Unit {0}
+LeftsStand b k ps (l ∷ ls) = EachStands (stands_open l.standing) (on_side b k ps) l.items × LeftsStand b (suc k) ps ls
+
+-- by whether one of the lists is open
+sides-stand : (b : Branch) (k : ℕ) (ps : List Spot) (ls : List Left) (c : Bool) → list_any (λ l. stands_open l.standing) ls ≡ c → LeftsStand b k ps ls → SidesStand c b k ps (items_of ls)
+sides-stand b k ps [] c e h = tt
+sides-stand b k ps (l ∷ ls) true e h = (stand-open (stands_open l.standing) (on_side b k ps) l.items h.0, all-open (suc k) ls h.1)
+  where
+    all-open : (k : ℕ) (ls : List Left) → LeftsStand b k ps ls → SidesStand true b k ps (items_of ls)
+    all-open k [] h = tt
+    all-open k (l ∷ ls) h = (stand-open (stands_open l.standing) (on_side b k ps) l.items h.0, all-open (suc k) ls h.1)
+sides-stand b k ps (l ∷ ls) false e h = by (stands_open l.standing) refl e (λ z. sides-stand b (suc k) ps ls false z h.1)
+  where
+    by : (o : Bool) → stands_open l.standing ≡ o → (o || list_any (λ l. stands_open l.standing) ls) ≡ false
+        → (list_any (λ l. stands_open l.standing) ls ≡ false → SidesStand false b (suc k) ps (items_of ls)) → SidesStand false b k ps (items_of (l ∷ ls))
+    by true f e later = absurd (let z : true ≡ false = e in cc)
+    by false f e later = (subst (λ o. EachStands o (on_side b k ps) l.items) f h.0, later e)
+
 abbrev EachFits : Branch → ℕ → List Spot → ℕ → Option (List Left) → Type 0
 EachFits b k ps n None = Unit {0}
-EachFits b k ps n (Some ls) = Fits b k ps (items_of ls) × (length (items_of ls) ≡ n)
+EachFits b k ps n (Some ls) = Fits b k ps (items_of ls) × (length (items_of ls) ≡ n) × LeftsStand b k ps ls
 
 -- the effects of lists beside each other
 abbrev pub EachWell : List Effect → Type 0
@@ -221,10 +281,12 @@ one-fits b k n ps scopes (Some l) u q f = by l.places u q f
         → EachFits b k ps (suc n) (option_and_then (λ m. option_map (λ ls. m ∷ ls) q) (if_no_place places (record l { places = places })))
     by (p ∷ rest) u q f = tt
     by [] u None f = tt
-    by [] u (Some ls) f = ((u.items ∙ sym (ap length (u.places ∙ append-nil u.used)), f.0), ap suc f.1)
+    by [] u (Some ls) f =
+        let own : on_side b k ps ≡ u.used = u.places ∙ append-nil u.used in
+        ((u.items ∙ sym (ap length own), f.0), ap suc f.1, (subst (λ q. EachStands (stands_open l.standing) q l.items) (sym own) u.stand, f.2))
 
 each-fits : (b : Branch) (scopes : Scopes) (ps : List Spot) (k : ℕ) (lists : List Effect) → EachWell lists → EachFits b k ps (length lists) (each_beside k lists scopes b ps)
-each-fits b scopes ps k [] h = (tt, refl)
+each-fits b scopes ps k [] h = (tt, refl, tt)
 each-fits b scopes ps k (e ∷ es) h =
     let inside = scopes ++ ([] ∷ []) in
     let own = on_side b k ps in
@@ -250,12 +312,19 @@ stop-closed (l ∷ ls) = by l.standing (stop-closed ls)
     by Standing.Stopped e = refl
     by Standing.Faulted e = refl
 
-joined-uses : (scopes : Scopes) (rest places past : List Spot) (items : List Item) (s : Standing) → rest ≡ places ++ past → length items ≡ length places → stands_open s ≡ false → (c : Bool)
+joined-uses : (scopes : Scopes) (rest places past : List Spot) (items : List Item) (s : Standing) → rest ≡ places ++ past → length items ≡ length places → stands_open s ≡ false → (c : Bool) → EachStands c places items
     → Uses scopes rest (if c then all_used (leaves items Standing.Open scopes past) else leaves items s scopes past)
-joined-uses scopes rest places past items s e long closed false =
-    record { used = places; places = e; items = long; none_left = λ z. absurd (let y : false ≡ true = sym closed ∙ z in cc); blocks = λ z. refl }
-joined-uses scopes rest places [] items s e long closed true = record { used = places; places = e; items = long; none_left = λ z. refl; blocks = λ z. refl }
-joined-uses scopes rest places (p ∷ past) items s e long closed true = tt
+joined-uses scopes rest places past items s e long closed false st =
+    record {
+      used = places;
+      places = e;
+      items = long;
+      none_left = λ z. absurd (let y : false ≡ true = sym closed ∙ z in cc);
+      blocks = λ z. refl;
+      stand = subst (λ o. EachStands o places items) (sym closed) st;
+    }
+joined-uses scopes rest places [] items s e long closed true st = record { used = places; places = e; items = long; none_left = λ z. refl; blocks = λ z. refl; stand = st }
+joined-uses scopes rest places (p ∷ past) items s e long closed true st = tt
 
 pub beside-uses : (lists : List Effect) → EachWell lists → UsesWell (beside lists)
 beside-uses lists h scopes b rest = by (list_all (λ s. nat_lt (side b s) (length lists)) (front b rest)) refl
@@ -264,8 +333,11 @@ beside-uses lists h scopes b rest = by (list_all (λ s. nat_lt (side b s) (lengt
         → Uses scopes rest (option_and_then (joined_up b (front b rest) (past_front b rest) scopes) q)
     joined all None f = tt
     joined all (Some ls) f =
+        let within : list_all (λ s. nat_lt (side b s) (length (items_of ls))) (front b rest) ≡ true = (λ i. list_all (λ s. nat_lt (side b s) (f.1 i)) (front b rest)) ∙ all in
+        let open_one = list_any (λ l. stands_open l.standing) ls in
         joined-uses scopes rest (front b rest) (past_front b rest) (woven b (front b rest) (items_of ls)) (first_stop ls) (front-past b rest)
-        (woven-length b (front b rest) (items_of ls) ((λ i. list_all (λ s. nat_lt (side b s) (f.1 i)) (front b rest)) ∙ all) f.0) (stop-closed ls) (list_any (λ l. stands_open l.standing) ls)
+        (woven-length b (front b rest) (items_of ls) within f.0) (stop-closed ls) open_one
+        (woven-stand open_one b (front b rest) (items_of ls) within f.0 (sides-stand b 0 (front b rest) ls open_one refl f.2))
 
     by : (c : Bool) → list_all (λ s. nat_lt (side b s) (length lists)) (front b rest) ≡ c
         → Uses scopes rest (if c then option_and_then (joined_up b (front b rest) (past_front b rest) scopes) (each_beside 0 lists scopes b (front b rest)) else None)

@@ -1,7 +1,7 @@
 -- What a script means, said directly. `Scripts.exec` says it by what follows each part, as the frames of a run need it; here each part
 -- tells the items that it gives, how it then stands, and the scopes and the places that it leaves. A law says that the two agree.
 use Rattle.std.specs.Prelude.{ℕ, zero, suc, ◌+◌, Bool, true, false, ◌||◌, nat_le, nat_lt, List, [], ◌∷◌, ◌++◌, length, map, Option}
-use Rattle.std.specs.Prelude.{Some, None, Ok, Err, ok_or, codes, option_map, option_and_then, if◌then◌else◌, bytes_eq}
+use Rattle.std.specs.Prelude.{Some, None, Ok, Err, ok_or, option_map, option_and_then, if◌then◌else◌, bytes_eq}
 use Rattle.std.specs.List.{list_any, list_all}
 use Rattle.std.specs.Option.{option_map_or}
 use Rattle.ha_config.specs.declared.template.Template.{Template}
@@ -18,7 +18,8 @@ use Rattle.ha_config.specs.Words.{Pairs}
 use Rattle.ha_sight.specs.Sight.{Sight}
 use Rattle.ha_sight.specs.Conditions.{hold_all, holds}
 use Rattle.ha_sight.specs.Calls.{Checked, template_fault, call_item, span_of, spans_of, count_of, forms_of, fields_of}
-use Rattle.ha_sight.specs.Scripts.{Branch, Scopes, Ask, Spot, Status, Outcome, Loop, flat, outer, add_inside, set_all, wait_value, count_loop, each_loop, while_loop, until_loop, most_turns, front, past_front, side, on_side, woven}
+use Rattle.ha_sight.specs.Scripts.{Branch, Scopes, Ask, Spot, Status, Outcome, Loop, flat, outer, set_all, count_loop, each_loop, while_loop, until_loop, most_turns, front, past_front, side, on_side, woven, wait_for, call_ask, scopes_behind}
+use Rattle.ha_sight.specs.Items.{awaits_end}
 
 -- how a part of a script stands: what follows it in its list is next; a condition is false, so that its list is done at once; its next
 -- place is not there yet; it stopped the run, or it failed
@@ -83,6 +84,8 @@ standing_of (Item.Call service target fields) = Standing.Done
 standing_of (Item.Fired kind pairs) = Standing.Done
 standing_of (Item.Switched targets) = Standing.Done
 standing_of (Item.Triggered automations skip) = Standing.Done
+standing_of (Item.Started scripts fields waits) = Standing.Done
+standing_of (Item.Halted scripts) = Standing.Done
 
 abbrev pub does : Item → Scopes → List Spot → Option Left
 does item scopes rest = leaves (item ∷ []) (standing_of item) scopes rest
@@ -101,20 +104,25 @@ abbrev pub delays : ℕ → Effect
 delays due scopes b rest = at_place b scopes rest (λ s after. if nat_le due s.sight.now then does Item.Nothing scopes after else None)
 
 -- a wait uses a second place, which is allowed once it has an end; there it stops where it timed out and may not go on, else it adds `wait`
--- to the innermost block
-abbrev pub waited_for : WaitEnd → Bool → Scopes → List Spot → Option Left
-waited_for e go_on scopes after =
-    if e.done || go_on then does Item.Nothing (add_inside (codes "wait", wait_value e) scopes) after
+-- to the innermost block; behind the end of a called run the scopes are as they were
+abbrev pub waited_for : Ask → WaitEnd → Bool → Scopes → List Spot → Option Left
+waited_for ask e go_on scopes after =
+    if e.done || go_on then does Item.Nothing (scopes_behind ask e scopes) after
     else leaves (Item.Nothing ∷ []) Standing.Stopped scopes after
 
 abbrev pub waits : Ask → Bool → ℕ → Effect
 waits ask go_on p scopes b rest =
-    at_place b scopes rest (λ s after. option_map_or (λ e. waited_for e go_on scopes after) (s.wait_end ask p) None)
+    at_place b scopes rest (λ s after. option_map_or (λ e. waited_for ask e go_on scopes after) (s.wait_end ask p) None)
 
 -- a wait with this template or these triggers, at its place p
 abbrev pub begins_wait : Option Template → List Trigger → Option SpanForm → Bool → Spot → Effect
 begins_wait test triggers timeout go_on p scopes b rest = on_field (spans_of p.sight (flat scopes) timeout) scopes rest (λ d.
-    nothing_then (waits (record { test = test; triggers = triggers; timeout = d; env = flat scopes }) go_on p.place scopes b rest))
+    nothing_then (waits (wait_for test triggers d scopes) go_on p.place scopes b rest))
+
+-- a call gives its item; where it waits for the end of the run that it started at its place p, it uses a second place
+abbrev pub calls : Item → ℕ → Effect
+calls item p scopes b rest =
+    if awaits_end item then items_then (item ∷ []) (waits (call_ask scopes) true p scopes b rest) else does item scopes rest
 
 -- a list in the scopes with one block more, which is dropped behind it
 abbrev pub drop_block : Option Left → Option Left
@@ -207,7 +215,7 @@ beside lists scopes b rest =
 -- an action at its place p, with what it sees there, on the places behind it; lists of actions stand as what each action in them does
 abbrev pub kind_effect : ActionKind-F (Spot → Effect) Effect → Spot → Effect
 kind_effect (ActionKind-F.Call service target fields) p scopes b rest =
-    does (call_item p.sight (flat scopes) service target fields) scopes rest
+    calls (call_item p.sight (flat scopes) service target fields) p.place scopes b rest
 kind_effect (ActionKind-F.Delay form) p scopes b rest =
     on_field (span_of p.sight (flat scopes) form) scopes rest (λ d. nothing_then (delays (p.sight.now + d) scopes b rest))
 kind_effect (ActionKind-F.WaitUntil test timeout go_on) p scopes b rest = begins_wait (Some test) [] timeout go_on p scopes b rest

@@ -10,8 +10,9 @@ use Rattle.ha_config.specs.declared.config.ActionKind.TheOpen.{ActionKind-F}
 use Rattle.ha_sight.specs.declared.item.Item.{Item}
 use Rattle.ha_sight.specs.Conditions.{hold_all, holds}
 use Rattle.ha_sight.specs.Calls.{Checked, call_item, span_of, spans_of, count_of, forms_of, fields_of}
-use Rattle.ha_sight.specs.Scripts.{Branch, Spot, Scopes, Next, Outcome, Status, Loop, flat, exec, ends, gives, prefixed, outer, in_order, called, on_checked, failed, goes_into, looped, turns, after_turn, count_loop, each_loop, while_loop, until_loop, set_all, woven, all_allowed, is_open, first_halt, after_lists, each_on, joined_lists, side_by_side, lists_from}
+use Rattle.ha_sight.specs.Scripts.{Branch, Spot, Scopes, Next, Outcome, Status, Loop, flat, exec, ends, gives, prefixed, outer, in_order, called, on_checked, failed, goes_into, looped, turns, after_turn, count_loop, each_loop, while_loop, until_loop, set_all, woven, all_allowed, is_open, first_halt, after_lists, each_on, joined_lists, side_by_side, lists_from, behind_call, call_ask, waited}
 use Rattle.ha_sight.proofs.Rolls.{run_action-out}
+use Rattle.ha_sight.specs.Items.{awaits_end}
 use Rattle.ha_config.proofs.EqualLemmas.{same-refl}
 use Rattle.script_step.specs.Blocks.{Round, Block, turns_behind, at_end, goes_on}
 use Rattle.script_step.specs.Parts.{kind_of, option_list}
@@ -109,11 +110,22 @@ called-some (Item.Call service target fields) o h = gives-some (Item.Call servic
 called-some (Item.Fired kind pairs) o h = gives-some (Item.Fired kind pairs) o h
 called-some (Item.Switched rows) o h = gives-some (Item.Switched rows) o h
 called-some (Item.Triggered all skip) o h = gives-some (Item.Triggered all skip) o h
+called-some (Item.Started scripts fields waits) o h = gives-some (Item.Started scripts fields waits) o h
+called-some (Item.Halted scripts) o h = gives-some (Item.Halted scripts) o h
+
+behind-some : (item : Item) (p : ℕ) (next : Next) (scopes : Scopes) (b : Branch) → is_some (next scopes []) ≡ true → is_some (behind_call item p next scopes b []) ≡ true
+behind-some item p next scopes b h = by (awaits_end item)
+  where
+    by : (t : Bool) → is_some (if t then waited (call_ask scopes) true p next scopes b [] else next scopes []) ≡ true
+    by true = refl
+    by false = h
 
 pub kind-some : (k : ActionKind-F ActionKind Action) (s : Spot) (next end : Next) (scopes : Scopes) (b : Branch) → ((sc : Scopes) → is_some (next sc []) ≡ true)
     → ((sc : Scopes) → is_some (end sc []) ≡ true) → is_some (kind_at k s next end scopes b []) ≡ true
 unfolding mapped options_in meant lists_meant
-kind-some (ActionKind-F.Call service target fields) s next end scopes b n e = called-some (call_item s.sight (flat scopes) service target fields) (next scopes []) (n scopes)
+kind-some (ActionKind-F.Call service target fields) s next end scopes b n e =
+    (let item : Item = call_item s.sight (flat scopes) service target fields in
+    called-some item (behind_call item s.place next scopes b []) (behind-some item s.place next scopes b (n scopes)))
 kind-some (ActionKind-F.Delay form) s next end scopes b n e = checked-some _ (span_of s.sight (flat scopes) form) (λ d. refl)
 kind-some (ActionKind-F.WaitUntil test timeout go_on) s next end scopes b n e = checked-some _ (spans_of s.sight (flat scopes) timeout) (λ d. refl)
 kind-some (ActionKind-F.WaitFor triggers timeout go_on) s next end scopes b n e = checked-some _ (spans_of s.sight (flat scopes) timeout) (λ d. refl)

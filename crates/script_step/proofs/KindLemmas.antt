@@ -13,11 +13,11 @@ use Rattle.ha_config.specs.declared.config.ActionKind.TheOpen.{ActionKind-F}
 use Rattle.ha_config.specs.declared.config.ActionKind.TheViews.{out-Action}
 use Rattle.ha_config.specs.declared.config.ActionKind.TheFolds.{map-ActionKind}
 use Rattle.ha_sight.specs.declared.item.Item.{Item}
-use Rattle.ha_config.specs.Words.{Pairs}
+use Rattle.ha_config.specs.Words.{Pairs, Text}
 use Rattle.ha_sight.specs.Sight.{Sight}
 use Rattle.ha_sight.specs.Conditions.{hold_all}
-use Rattle.ha_sight.specs.Calls.{Checked, count_of, forms_of}
-use Rattle.ha_sight.specs.Scripts.{Branch, Spot, Scopes, Next, Meaning, Outcome, exec, gives, outer, flat, failed, on_checked, goes_into, chosen, in_order, looped, turns, count_loop, each_loop, while_loop, plain_turn, run_action}
+use Rattle.ha_sight.specs.Calls.{Checked, call_item, count_of, forms_of}
+use Rattle.ha_sight.specs.Scripts.{Branch, Spot, Scopes, Next, Meaning, Outcome, exec, gives, behind_call, called, outer, flat, failed, on_checked, goes_into, chosen, in_order, looped, turns, count_loop, each_loop, while_loop, plain_turn, run_action}
 use Rattle.ha_sight.proofs.Rolls.{run_action-out, run_kind-out}
 use Rattle.ha_config.proofs.EqualLemmas.{same-refl}
 use Rattle.script_step.specs.declared.fault.FieldFault.{FieldFault}
@@ -32,7 +32,7 @@ use Rattle.script_step.specs.Parts.{kind_of, option_list, part_in, tests_in, bef
 use Rattle.script_step.specs.Continuation.{Began, own_list, last_action, open_blocks, thread_next, placed}
 use Rattle.script_step.specs.Fields.{IsCause}
 use Rattle.script_step.specs.Turns.{turn_value, first_holding}
-use Rattle.script_step.specs.Step.{IsTaken, IsDone, Does, IsInto, IsFirst, IsFailure, run_kind, kind_at, at_last, stage_meaning, thread_on}
+use Rattle.script_step.specs.Step.{IsTaken, IsDone, Does, GoesBehind, IsInto, IsFirst, IsFailure, run_kind, kind_at, at_last, stage_meaning, thread_on}
 use Rattle.script_step.proofs.BlockLemmas.{turns-block, at-action}
 use Rattle.script_step.proofs.StageLemmas.{stage-ready, stage-ended}
 use Rattle.script_step.proofs.ThreadLemmas.{entered, entered-turn}
@@ -93,6 +93,7 @@ failed-field go_on FieldFault.Service checked item stage rest a next scopes b be
 failed-field go_on FieldFault.Target checked item stage rest a next scopes b began h r = rw (h, r.0, r.1) (ap (gives (Item.Failed 3)) (sym (stage-ended a next scopes b began rest End.Faulted)))
 failed-field go_on FieldFault.Duration checked item stage rest a next scopes b began h r = rw (h, r.0, r.1) (ap (gives (Item.Failed 4)) (sym (stage-ended a next scopes b began rest End.Faulted)))
 failed-field go_on FieldFault.Count checked item stage rest a next scopes b began h r = rw (h, r.0, r.1) (ap (gives (Item.Failed 5)) (sym (stage-ended a next scopes b began rest End.Faulted)))
+failed-field go_on (FieldFault.Own n) checked item stage rest a next scopes b began h r = rw (h, r.0, r.1) (ap (gives (Item.Failed n)) (sym (stage-ended a next scopes b began rest End.Faulted)))
 failed-field go_on FieldFault.Memory checked item stage rest a next scopes b began h r = absurd r
 
 -- ---- going into a list
@@ -267,3 +268,13 @@ pub first-from : (rounds : Rounds) (most : ℕ) (old same_thread new : Thread) (
     → IsFirst rounds most (record { scopes = same_thread.scopes; outer = old.outer; here = old.here }) item new stage → IsFirst rounds most old item new stage
 first-from rounds most old same_thread new item stage e first =
     subst (λ (s : Scopes). IsFirst rounds most (record { scopes = s; outer = old.outer; here = old.here }) item new stage) e first
+
+-- ---- a call
+
+-- LEMMA: the step of a call
+pub call-done : (sight : Sight) (service : Template) (target : List Template) (fields : List (Text × Form)) (t : Thread) (item : Item) (stage : Stage)
+    → item ≡ call_item sight (flat t.scopes) service target fields → GoesBehind item stage → Does sight (ActionKind-F.Call service target fields) t item t stage
+call-done sight service target fields t item stage is goes list a last kind b began p w rest =
+    (λ i. called (sym is i) (behind_call (sym is i) p (thread_next b list t.outer t.here) t.scopes b rest) rest)
+    ∙ goes a service target fields kind (thread_next b list t.outer t.here) t.scopes b (placed [] p began) rest
+    ∙ (λ i. gives item (stage_meaning stage (sym last i) (thread_next b list t.outer t.here) t.scopes b (placed [] p began) rest))

@@ -1,4 +1,5 @@
 pub mod CutLemmas
+pub mod BareLemmas
 pub mod BlockLemmas
 pub mod WalkLemmas
 pub mod ThreadLemmas

@@ -157,7 +157,7 @@ found-front (f ∷ fs) c g e = by (bytes_eq f.0 c) refl e (found-front fs c g)
     by true h k more = (let z : f.1 ≡ g = cc in inl (λ i. (same-true f.0 c h i, z i)))
     by false h k more = inr (more k)
 
-stands-in : (fs : Fronts) (c : Branch) (g : Gate) → StandsOf c g fs → In c (names fs)
+pub stands-in : (fs : Fronts) (c : Branch) (g : Gate) → StandsOf c g fs → In c (names fs)
 stands-in [] c g h = absurd h
 stands-in (f ∷ fs) c g (inl e) = inl (ap (λ (x : Branch × Gate). x.0) e)
 stands-in (f ∷ fs) c g (inr k) = inr (stands-in fs c g k)

@@ -1,6 +1,6 @@
 -- A branch of a settled strand may step exactly where one more place of it is allowed.
 use Rattle.std.proofs.Common.{◌≡◌, ℕ, zero, suc, ◌+◌, ◌<◌, ◌≤◌, Bool, true, false, not, ◌&&◌, ◌||◌, List, [], ◌∷◌, ◌++◌, length, map, take, refl, sym, ap, ◌∙◌, arith, rules, append_assoc}
-use Rattle.std.specs.Prelude.{Option, Some, None, is_some, slice_get, option_map, unwrap_or, bytes_eq, codes, nat_eq, nat_le, nat_lt, if◌then◌else◌}
+use Rattle.std.specs.Prelude.{Option, Some, None, is_some, slice_get, option_map, unwrap_or, bytes_eq, nat_eq, nat_le, nat_lt, if◌then◌else◌}
 use Rattle.std.specs.List.{list_all}
 use Rattle.std.specs.Option.{option_map_or}
 use Rattle.std.proofs.lemmas.List.{append-nil}
@@ -8,7 +8,7 @@ use Rattle.std.proofs.lemmas.Bool.{lt-ltb, le-ltb}
 use Rattle.ha_config.specs.declared.config.Action.{Action}
 use Rattle.ha_sight.specs.declared.item.Item.{Item}
 use Rattle.ha_sight.specs.declared.waiting.WaitEnd.{WaitEnd}
-use Rattle.ha_sight.specs.Scripts.{Branch, Spot, Scopes, Ask, Outcome, Status, flat, ends, gives, add_inside, wait_value, woven, all_allowed, after_lists, each_on, joined_lists, side_by_side, side, on_side, front, past_front, is_deeper}
+use Rattle.ha_sight.specs.Scripts.{Branch, Spot, Scopes, Ask, Outcome, Status, flat, ends, gives, woven, all_allowed, after_lists, each_on, joined_lists, side_by_side, side, on_side, front, past_front, is_deeper, scopes_behind}
 use Rattle.ha_config.proofs.EqualLemmas.{same-refl}
 use Rattle.script_step.specs.declared.thread.Thread.{Thread}
 use Rattle.script_step.specs.declared.strand.End.{End}
@@ -100,10 +100,10 @@ exact-wait x list b began s [] end timeout settled branch tells =
     chosen true sc = blocks-on-nothing b (open_blocks list (out-Strand x).thread.outer (out-Strand x).thread.here) sc
     chosen false sc = refl
 
-    by : (e : Option WaitEnd) → is_some (option_map_or (λ w. gives Item.Nothing (if w.done || may_go_on (last_action list (out-Strand x).thread) then next (add_inside (codes "wait", wait_value w) (out-Strand x).thread.scopes) else ends Status.Stopped [])) e None) ≡ is_some e
+    by : (e : Option WaitEnd) → is_some (option_map_or (λ w. gives Item.Nothing (if w.done || may_go_on (last_action list (out-Strand x).thread) then next (scopes_behind (ask_in (last_action list (out-Strand x).thread) timeout (flat (out-Strand x).thread.scopes)) w (out-Strand x).thread.scopes) else ends Status.Stopped [])) e None) ≡ is_some e
     by None = refl
-    by (Some w) = gives-some Item.Nothing (if w.done || may_go_on (last_action list (out-Strand x).thread) then next (add_inside (codes "wait", wait_value w) (out-Strand x).thread.scopes) else ends Status.Stopped [])
-        (chosen (w.done || may_go_on (last_action list (out-Strand x).thread)) (add_inside (codes "wait", wait_value w) (out-Strand x).thread.scopes))
+    by (Some w) = gives-some Item.Nothing (if w.done || may_go_on (last_action list (out-Strand x).thread) then next (scopes_behind (ask_in (last_action list (out-Strand x).thread) timeout (flat (out-Strand x).thread.scopes)) w (out-Strand x).thread.scopes) else ends Status.Stopped [])
+        (chosen (w.done || may_go_on (last_action list (out-Strand x).thread)) (scopes_behind (ask_in (last_action list (out-Strand x).thread) timeout (flat (out-Strand x).thread.scopes)) w (out-Strand x).thread.scopes))
 exact-wait x list b began s (i ∷ c) end timeout settled branch tells = (let off = off-below b c i s branch in rw off refl)
 
 exact-ended : (x : Strand) (list : List Action) (b : Branch) (began : Began) (s : Spot) (c : Branch) (end : Option WaitEnd) (e : End) → Exact x list b began s c end (Stage-F.Ended e)

@@ -48,7 +48,7 @@ irrefl (x ∷ xs) h = by (less-is x x xs xs h) (irrefl xs)
     by (inl lt) more = omega (arith, lt)
     by (inr p) more = more p.1
 
-trans : (a b c : Branch) → comes_before a b ≡ true → comes_before b c ≡ true → comes_before a c ≡ true
+pub trans : (a b c : Branch) → comes_before a b ≡ true → comes_before b c ≡ true → comes_before a c ≡ true
 trans [] b [] h k = absurd (no-less b k)
   where
     no-less : (b : Branch) → comes_before b [] ≡ true → ⊥

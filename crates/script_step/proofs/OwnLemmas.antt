@@ -1,19 +1,16 @@
 -- The automations that targets name, each once, and the flags of a call's data.
-use Rattle.std.proofs.Common.{◌≡◌, ◌∙◌, ap, ℕ, zero, suc, ◌+◌, ◌<◌, Bool, true, false, cond, refl, List, [], ◌∷◌, ◌++◌, length, get_or, take, sym, arith, append-nil}
-use Rattle.std.proofs.lemmas.List.{take_more}
+use Rattle.std.proofs.Common.{◌≡◌, ◌∙◌, ap, ℕ, zero, suc, ◌+◌, ◌<◌, Bool, true, false, cond, refl, List, [], ◌∷◌, ◌++◌, length, get_or, take, sym, arith}
 use Rattle.std.proofs.lemmas.Bool.Decides.{nat_tests}
-use Rattle.std.specs.Prelude.{Option, Some, None, ◌&&◌, ◌||◌, nat_eq, nat_lt, filter_map, find, slice_get, option_map, codes, if◌then◌else◌}
-use Rattle.std.specs.List.{list_all, enumerate_from, cons_option}
+use Rattle.std.specs.Prelude.{Option, Some, None, ◌&&◌, nat_lt, find, slice_get, option_map, codes, if◌then◌else◌}
+use Rattle.std.specs.List.{list_all, enumerate_from}
 use Rattle.std.specs.Option.{option_map_or}
 use Rattle.ha_value.specs.declared.value.EntityId.{EntityId}
 use Rattle.ha_value.specs.declared.value.Value.{Value}
 use Rattle.ha_value.specs.declared.value.Value.TheViews.{out-Value}
 use Rattle.ha_config.specs.Words.{Text, Pairs, same, last_pair}
-use Rattle.ha_sight.specs.Calls.{automation_at, automations_of, each_number_once, flag_or_true, flag_named, was_on, without_number}
-use Rattle.script_step.specs.Own.{among, with_number}
-
-pub front-more : {X : Type 0} (xs : List X) (i : ℕ) (x : X) → i < length xs → x ≡ get_or xs i x → take (i + 1) xs ≡ take i xs ++ (x ∷ [])
-front-more xs i x lt is = take_more xs i x lt ∙ (λ k. take i xs ++ (sym is k ∷ []))
+use Rattle.ha_sight.specs.Calls.{automation_at, flag_or_true, flag_named, was_on}
+use Rattle.ha_sight.specs.Once.{has_number, with_number}
+use Rattle.ha_sight.proofs.OnceLemmas.{front-more}
 
 -- ---- flags
 
@@ -37,94 +34,6 @@ flag-more name ps i p lt is = ap (flag_named name) (front-more ps i p lt is) ∙
     by true = refl
     by false = refl
 
--- ---- each number once
-
-among-without : (n x : ℕ) (xs : List ℕ) → nat_eq n x ≡ false → among n (without_number x xs) ≡ among n xs
-among-without n x [] e = refl
-among-without n x (y ∷ ys) e = by (nat_eq x y) refl (among-without n x ys e)
-  where
-    other : (x y : ℕ) → nat_eq x y ≡ true → nat_eq n x ≡ nat_eq n y
-    other x y h = (let z : x ≡ y = grind (arith, nat_tests) in ap (nat_eq n) z)
-
-    by : (b : Bool) → nat_eq x y ≡ b → among n (without_number x ys) ≡ among n ys → among n (without_number x (y ∷ ys)) ≡ among n (y ∷ ys)
-    by true h more = (let z : nat_eq n y ≡ false = sym (other x y h) ∙ e in rw (h, z) more)
-    by false h more = rw h (ap (λ b. nat_eq n y || b) more)
-
-once-among : (n : ℕ) (xs : List ℕ) → among n (each_number_once xs) ≡ among n xs
-once-among n [] = refl
-once-among n (x ∷ xs) = by (nat_eq n x) refl (once-among n xs)
-  where
-    by : (b : Bool) → nat_eq n x ≡ b → among n (each_number_once xs) ≡ among n xs → among n (each_number_once (x ∷ xs)) ≡ among n (x ∷ xs)
-    by true h more = rw h refl
-    by false h more = rw h (among-without n x (each_number_once xs) h ∙ more)
-
-without-append : (x : ℕ) (xs ys : List ℕ) → without_number x (xs ++ ys) ≡ without_number x xs ++ without_number x ys
-without-append x [] ys = refl
-without-append x (z ∷ xs) ys = by (nat_eq x z) refl (without-append x xs ys)
-  where
-    by : (b : Bool) → nat_eq x z ≡ b → without_number x (xs ++ ys) ≡ without_number x xs ++ without_number x ys
-        → without_number x (z ∷ (xs ++ ys)) ≡ without_number x (z ∷ xs) ++ without_number x ys
-    by true h more = rw h more
-    by false h more = rw h (ap (λ l. z ∷ l) more)
-
-abbrev tail_of : Bool → ℕ → List ℕ
-tail_of b n = if b then [] else n ∷ []
-
-flipped : (n x : ℕ) → nat_eq x n ≡ nat_eq n x
-flipped n x = grind (arith, nat_tests)
-
-without-tail : (n x : ℕ) (b : Bool) → without_number x (tail_of b n) ≡ tail_of (nat_eq n x || b) n
-without-tail n x true = by (nat_eq n x)
-  where
-    by : (b : Bool) → [] ≡ tail_of (b || true) n
-    by true = refl
-    by false = refl
-without-tail n x false = by (nat_eq n x) (flipped n x)
-  where
-    by : (b : Bool) → nat_eq x n ≡ b → without_number x (n ∷ []) ≡ tail_of (b || false) n
-    by true h = rw h refl
-    by false h = rw h refl
-
-once-more : (n : ℕ) (xs : List ℕ) → each_number_once (xs ++ (n ∷ [])) ≡ each_number_once xs ++ tail_of (among n xs) n
-once-more n [] = refl
-once-more n (x ∷ xs) =
-    (λ k. x ∷ without_number x (once-more n xs k))
-    ∙ ap (λ l. x ∷ l) (without-append x (each_number_once xs) (tail_of (among n xs) n) ∙ ap (λ l. without_number x (each_number_once xs) ++ l) (without-tail n x (among n xs)))
-
--- ---- the automations of one more target
-
-behind-none : {Y : Type 0} (a b : List Y) (o : Option Y) → a ≡ b → cons_option o a ≡ cons_option o b
-behind-none a b None h = h
-behind-none a b (Some z) h = ap (λ l. z ∷ l) h
-
-filtered-none : {X Y : Type 0} (f : X → Option Y) (xs : List X) (x : X) → f x ≡ None → filter_map f (xs ++ (x ∷ [])) ≡ filter_map f xs
-filtered-none f [] x e = rw e refl
-filtered-none f (y ∷ ys) x e = behind-none (filter_map f (ys ++ (x ∷ []))) (filter_map f ys) (f y) (filtered-none f ys x e)
-
-behind-some : {Y : Type 0} (a b c : List Y) (o : Option Y) → a ≡ b ++ c → cons_option o a ≡ cons_option o b ++ c
-behind-some a b c None h = h
-behind-some a b c (Some w) h = ap (λ l. w ∷ l) h
-
-filtered-some : {X Y : Type 0} (f : X → Option Y) (xs : List X) (x : X) (y : Y) → f x ≡ Some y → filter_map f (xs ++ (x ∷ [])) ≡ filter_map f xs ++ (y ∷ [])
-filtered-some f [] x y e = rw e refl
-filtered-some f (z ∷ zs) x y e = behind-some (filter_map f (zs ++ (x ∷ []))) (filter_map f zs) (y ∷ []) (f z) (filtered-some f zs x y e)
-
-pub named-more : (all : List (Text × Bool)) (ts : List EntityId) (i : ℕ) (t : EntityId) → i < length ts → t ≡ get_or ts i t
-    → automations_of all (take (i + 1) ts) ≡ with_number (automation_at all t) (automations_of all (take i ts))
-named-more all ts i t lt is = ap (λ l. automations_of all l) (front-more ts i t lt is) ∙ by (automation_at all t) refl
-  where
-    tail : (n : ℕ) (b : Bool) → each_number_once (filter_map (automation_at all) (take i ts)) ++ tail_of b n
-        ≡ (if b then each_number_once (filter_map (automation_at all) (take i ts)) else each_number_once (filter_map (automation_at all) (take i ts)) ++ (n ∷ []))
-    tail n true = append-nil (each_number_once (filter_map (automation_at all) (take i ts)))
-    tail n false = refl
-
-    by : (o : Option ℕ) → automation_at all t ≡ o → automations_of all (take i ts ++ (t ∷ [])) ≡ with_number o (automations_of all (take i ts))
-    by None e = ap each_number_once (filtered-none (automation_at all) (take i ts) t e)
-    by (Some a) e =
-        ap each_number_once (filtered-some (automation_at all) (take i ts) t a e) ∙ once-more a (filter_map (automation_at all) (take i ts))
-        ∙ tail a (among a (filter_map (automation_at all) (take i ts)))
-        ∙ (λ k. if sym (once-among a (filter_map (automation_at all) (take i ts))) k then automations_of all (take i ts) else automations_of all (take i ts) ++ (a ∷ []))
-
 -- ---- the automations that targets name are there
 
 abbrev pub Below : ℕ → List ℕ → Type 0
@@ -140,7 +49,7 @@ below-more n (x ∷ xs) a h lt = by (nat_lt x n) h (λ e. below-more n xs a e lt
 
 pub below-with : (n : ℕ) (xs : List ℕ) (o : Option ℕ) → Below n xs → ((a : ℕ) → o ≡ Some a → a < n) → Below n (with_number o xs)
 below-with n xs None h small = h
-below-with n xs (Some a) h small = by (among a xs)
+below-with n xs (Some a) h small = by (has_number a xs)
   where
     by : (b : Bool) → Below n (if b then xs else xs ++ (a ∷ []))
     by true = h

@@ -91,6 +91,7 @@ cause-then FieldFault.Service c f h = rw h refl
 cause-then FieldFault.Target c f h = rw h refl
 cause-then FieldFault.Duration c f h = rw h refl
 cause-then FieldFault.Count c f h = rw h refl
+cause-then (FieldFault.Own n) c f h = rw h refl
 
 pub cause-map : {X Y : Type 0} (fault : FieldFault) (c : Checked X) (f : X → Y) → IsCause fault c → IsCause fault (checked_map f c)
 cause-map FieldFault.Memory c f h = tt
@@ -99,6 +100,7 @@ cause-map FieldFault.Service c f h = rw h refl
 cause-map FieldFault.Target c f h = rw h refl
 cause-map FieldFault.Duration c f h = rw h refl
 cause-map FieldFault.Count c f h = rw h refl
+cause-map (FieldFault.Own n) c f h = rw h refl
 
 pub cause-is : {X : Type 0} (fault : FieldFault) (c d : Checked X) → c ≡ d → IsCause fault d → IsCause fault c
 cause-is fault c d e h = rw e h

@@ -10,6 +10,7 @@ use Rattle.script_step.specs.Continuation.{Began, asks, placed}
 use Rattle.script_step.specs.Frames.{asked_by}
 use Rattle.script_step.specs.Gates.{Fronts, Gate, fronts, gate_at, wait_of}
 use Rattle.script_step.specs.Told.{AreTold, EachTold, IsTold, StandsIn, Tells}
+use Rattle.script_step.proofs.BareLemmas.{asks-bare}
 use Rattle.script_step.proofs.ToldLemmas.{wait-gate}
 use Rattle.script_step.proofs.ListedLemmas.{StandsOf, found-front, front-found, fronts-ascend, same-true}
 
@@ -47,15 +48,19 @@ module _ (serial place now : ℕ) (b : Branch) (old : Fronts) (x : Strand) (list
   here-is = (λ k. if same-refl b k then place else began b)
 
   -- the wait of the branch that stepped
-  own-wait : (ask : Ask) (p : ℕ) → gate_at b new ≡ Some (Gate.Behind ask p) → (p ≡ place) × (out.wait ≡ Some (asked_by serial b now ask))
+  own-wait : (ask : Ask) (p : ℕ) → gate_at b new ≡ Some (Gate.Behind ask p) → (p ≡ place) × (out.wait ≡ Some (asked_by serial b now ask)) × (asks x list b ≡ Some ask)
   own-wait ask p e = by (asks x list b) refl (wait-gate b x list (placed b place began) ∙ ap (option_and_then wait_of) e)
     where
-      by : (o : Option Ask) → asks x list b ≡ o → option_map {U = Ask × ℕ} (λ a. (a, here)) o ≡ Some (ask, p) → (p ≡ place) × (out.wait ≡ Some (asked_by serial b now ask))
+      by : (o : Option Ask) → asks x list b ≡ o → option_map {U = Ask × ℕ} (λ a. (a, here)) o ≡ Some (ask, p)
+          → (p ≡ place) × (out.wait ≡ Some (asked_by serial b now ask)) × (asks x list b ≡ Some ask)
       by None q h = absurd (cc)
       by (Some a) q h =
           let pair : (Ask × ℕ) = (a, here) in
-          let z : pair ≡ (ask, p) = some-pair pair (ask, p) h in
-          (sym (ap (λ (y : Ask × ℕ). y.1) z) ∙ here-is, asked ∙ ap (option_map (asked_by serial b now)) q ∙ (λ k. Some (asked_by serial b now (z k).0)))
+          let z : pair ≡ (ask, p) = some-pair pair (ask, p) h in (
+            sym (ap (λ (y : Ask × ℕ). y.1) z) ∙ here-is,
+            asked ∙ ap (option_map (asked_by serial b now)) q ∙ (λ k. Some (asked_by serial b now (z k).0)),
+            q ∙ (λ k. Some (z k).0),
+          )
 
   is-told : (c : Branch) (g : Gate) → gate_at c new ≡ Some g → IsTold serial place now b old new out (c, g)
   is-told c Gate.Free e = tt
@@ -71,7 +76,7 @@ module _ (serial place now : ℕ) (b : Branch) (old : Fronts) (x : Strand) (list
       by : (c ≡ b) ⊎ (c ≢ b) → Tells b old c (Gate.Behind ask p) → IsTold serial place now b old new out (c, Gate.Behind ask p)
       by (inl own) t =
           let w = own-wait ask p ((λ k. gate_at (sym own k) new) ∙ e) in
-          inr (own, w.0, asked_by serial b now ask, w.1, refl, refl, record { test = refl; triggers = refl; env = refl; due = refl })
+          inr (own, w.0, asked_by serial b now ask, w.1, refl, refl, record { test = refl; triggers = refl; env = refl; due = refl; bare = asks-bare b x list ask w.2 })
       by (inr off) (inl free) = absurd (not-free-wait ask p free)
       by (inr off) (inr (inl own)) = absurd (off own)
       by (inr off) (inr (inr stood)) = inl (off, stands old c (Gate.Behind ask p) (found-front old c (Gate.Behind ask p) stood))

@@ -24,6 +24,7 @@ IsCause FieldFault.Service c = c ≡ Err 2
 IsCause FieldFault.Target c = c ≡ Err 3
 IsCause FieldFault.Duration c = c ≡ Err 4
 IsCause FieldFault.Count c = c ≡ Err 5
+IsCause (FieldFault.Own n) c = c ≡ Err n
 
 abbrev pub Checks : {X : Type 0} → Result X FieldFault → Checked X → Type 0
 Checks (Ok x) c = c ≡ Ok x
@@ -42,3 +43,4 @@ HasCode FieldFault.Service n = n ≡ 2
 HasCode FieldFault.Target n = n ≡ 3
 HasCode FieldFault.Duration n = n ≡ 4
 HasCode FieldFault.Count n = n ≡ 5
+HasCode (FieldFault.Own m) n = n ≡ m

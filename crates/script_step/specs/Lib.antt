@@ -3,7 +3,6 @@ pub mod Blocks
 pub mod Parts
 pub mod Continuation
 pub mod Fields
-pub mod Own
 pub mod Turns
 pub mod Step
 pub mod Sides

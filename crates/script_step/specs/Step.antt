@@ -1,13 +1,16 @@
 -- What a step has to give.
-use Rattle.std.specs.Prelude.{◌≡◌, ℕ, ◌-◌, List, [], ◌∷◌, ◌++◌, true, ◌||◌, map, codes, Option, Some, length, if◌then◌else◌}
+use Rattle.std.specs.Prelude.{◌≡◌, ℕ, ◌-◌, List, [], ◌∷◌, ◌++◌, true, ◌||◌, map, Option, Some, None, length, if◌then◌else◌}
+use Rattle.ha_config.specs.declared.template.Template.{Template}
+use Rattle.ha_config.specs.declared.config.Form.{Form}
 use Rattle.ha_config.specs.declared.config.Action.{Action}
 use Rattle.ha_config.specs.declared.config.ActionKind.{ActionKind}
 use Rattle.ha_config.specs.declared.config.ActionKind.TheOpen.{ActionKind-F}
 use Rattle.ha_config.specs.declared.config.ActionKind.TheFolds.{fold-ActionKind, map-ActionKind}
+use Rattle.ha_config.specs.Words.{Text}
 use Rattle.ha_sight.specs.declared.item.Item.{Item}
 use Rattle.ha_sight.specs.declared.waiting.WaitEnd.{WaitEnd}
 use Rattle.ha_sight.specs.Sight.{Sight}
-use Rattle.ha_sight.specs.Scripts.{Branch, Spot, Outcome, Ask, add_inside, side_by_side, wait_value, Meaning as ActionMeaning, Status, ends, exec, gives, goes_into, looped, kind_step, action_step, run_action}
+use Rattle.ha_sight.specs.Scripts.{Branch, Spot, Scopes, Next, Outcome, Ask, side_by_side, Meaning as ActionMeaning, Status, ends, exec, gives, called, behind_call, goes_into, looped, kind_step, action_step, run_action, scopes_behind}
 use Rattle.script_step.specs.declared.fault.FieldFault.{FieldFault}
 use Rattle.script_step.specs.declared.thread.Rounds.{Rounds}
 use Rattle.script_step.specs.declared.thread.Frame.{Frame}
@@ -18,7 +21,7 @@ use Rattle.script_step.specs.declared.strand.Strand.{Strand}
 use Rattle.script_step.specs.declared.strand.Stage.TheFolds.{fold-Stage}
 use Rattle.script_step.specs.Parts.{kind_of, part_in, tests_in, before, loop_by}
 use Rattle.script_step.specs.Continuation.{Began, Meaning, StageMeaning, stage_step, strand_step, continuation, last_action}
-use Rattle.script_step.specs.Continuation.{own_list, thread_next, asks, ask_side, may_go_on, sides_from, placed}
+use Rattle.script_step.specs.Continuation.{own_list, thread_next, asks, ask_side, ask_in, may_go_on, sides_from, placed}
 
 -- what a stage means: the stage's part of the fold that `continuation` is
 abbrev pub stage_meaning : Stage → StageMeaning
@@ -83,7 +86,15 @@ IsFailure FieldFault.Service item stage = (item ≡ Item.Failed 2) × (stage ≡
 IsFailure FieldFault.Target item stage = (item ≡ Item.Failed 3) × (stage ≡ Stage.Ended End.Faulted)
 IsFailure FieldFault.Duration item stage = (item ≡ Item.Failed 4) × (stage ≡ Stage.Ended End.Faulted)
 IsFailure FieldFault.Count item stage = (item ≡ Item.Failed 5) × (stage ≡ Stage.Ended End.Faulted)
+IsFailure (FieldFault.Own n) item stage = (item ≡ Item.Failed n) × (stage ≡ Stage.Ended End.Faulted)
 IsFailure FieldFault.Memory item stage = ⊥
+
+-- behind this item of a call, whose wait begins at its place, a run in the stage goes on as the call does
+abbrev pub GoesBehind : Item → Stage → Type 0
+GoesBehind item stage =
+    (a : Action) (service : Template) (target : List Template) (fields : List (Text × Form)) → kind_of a ≡ ActionKind-F.Call service target fields
+    → (next : Next) (scopes : Scopes) (b : Branch) (began : Began) (rest : List Spot)
+    → called item (behind_call item (began []) next scopes b rest) rest ≡ gives item (stage_meaning stage (Some a) next scopes b began rest)
 
 -- going into list k of the last action, in one block more
 abbrev pub IsInto : ℕ → Thread → Item → Thread → Stage → Type 0
@@ -119,7 +130,7 @@ abbrev pub IsWaited : List Action → WaitEnd → Thread → Thread → Stage �
 IsWaited list e old new stage =
     (b : Branch) (began : Began) (rest : List Spot)
     → (if e.done || may_go_on (last_action list old)
-    then thread_next b list old.outer old.here (add_inside (codes "wait", wait_value e) old.scopes) rest else ends Status.Stopped rest)
+    then thread_next b list old.outer old.here (scopes_behind (ask_in (last_action list old) None []) e old.scopes) rest else ends Status.Stopped rest)
     ≡ thread_on list new stage b began rest
 
 -- one step in one list of a parallel block

@@ -1,5 +1,5 @@
 -- What a step tells of the gates behind it.
-use Rattle.std.specs.Prelude.{◌≡◌, ◌≢◌, ℕ, ◌+◌, ◌⊎◌, [], ◌∷◌, Some, option_map}
+use Rattle.std.specs.Prelude.{◌≡◌, ◌≢◌, ℕ, ◌+◌, ◌⊎◌, true, [], ◌∷◌, None, Some, option_map}
 use Rattle.ha_sight.specs.declared.waiting.WaitAsk.{WaitAsk}
 use Rattle.ha_sight.specs.declared.steps.StepOut.{StepOut}
 use Rattle.ha_sight.specs.Scripts.{Ask, Branch}
@@ -18,12 +18,19 @@ StandsIn x (y ∷ ys) = (y ≡ x) ⊎ StandsIn x ys
 abbrev pub Stays : Branch → Fronts → Branch × Gate → Type 0
 Stays b old x = (x.0 ≢ b) × StandsIn x old
 
--- a wait that begins where it is this moment asks this
+-- it asks for nothing that an entry could bring
+pub record IsBare (ask : Ask) : Type 0 where
+  pub test : ask.test ≡ None
+  pub triggers : ask.triggers ≡ []
+  pub timeout : ask.timeout ≡ None
+
+-- a wait that begins where it is this moment asks this; where it is for a run that was called it asks nothing else
 pub record IsAsk (now : ℕ) (ask : Ask) (w : WaitAsk) : Type 0 where
   pub test : w.test ≡ ask.test
   pub triggers : w.triggers ≡ ask.triggers
   pub env : w.env ≡ ask.env
   pub due : w.due ≡ option_map (λ d. now + d) ask.timeout
+  pub bare : ask.called ≡ true → IsBare ask
 
 -- a front whose gate is shut is an old one of another branch, or that of the branch that stepped, and the step told of it
 abbrev pub IsTold : ℕ → ℕ → ℕ → Branch → Fronts → Fronts → StepOut → Branch × Gate → Type 0

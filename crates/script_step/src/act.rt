@@ -1,13 +1,12 @@
 //! One action is done: each kind by its step.
-ghost use Rattle.std.specs.Prelude.{◌≡◌, ◌≤◌, ◌<◌, List, Option, IfOk, Some, OnOk, OnErr, length, true};
+ghost use Rattle.std.specs.Prelude.{◌≡◌, ◌≤◌, ◌<◌, List, IfOk, OnOk, OnErr, length, true};
 ghost use Rattle.ha_clock.specs.Local.{last_moment};
 ghost use Rattle.ha_config.specs.declared.config.Action.{Action};
 ghost use Rattle.ha_config.specs.declared.config.ActionKind.TheOpen.{ActionKind-F};
-ghost use Rattle.ha_sight.specs.Scripts.{Branch, Next, Scopes, Spot, called, gives};
 ghost use Rattle.script_step.specs.declared.thread.Thread.{Thread};
-ghost use Rattle.script_step.specs.Continuation.{Began, own_list, thread_next};
+ghost use Rattle.script_step.specs.Continuation.{own_list, thread_next};
 ghost use Rattle.script_step.specs.Sides.{is_fresh, is_plain, is_whole};
-ghost use Rattle.script_step.specs.Step.{Does, IsDone, IsFailure, IsInto, IsTaken, stage_meaning};
+ghost use Rattle.script_step.specs.Step.{Does, GoesBehind, IsDone, IsFailure, IsInto, IsTaken};
 
 use crate::choices::{first_holding, set_all};
 use crate::fault::FieldFault;
@@ -33,15 +32,15 @@ pub fn failed(fault: FieldFault) -> Result<(Item, Stage), AllocError>
     Ok((Item::Failed(code), Stage::Ended(End::Faulted)))
 }
 
-/// How a run goes on after a call's item.
-fn after_call(item: Item) -> (Item, Stage)
-    ensures step { (a : Option Action) (next : Next) (scopes : Scopes) (b : Branch) (began : Began) (rest : List Spot)
-        → called item (next scopes rest) rest ≡ gives result.0 (stage_meaning result.1 a next scopes b began rest) }
-    ensures plain { is_plain result.1 ≡ true }
+/// How a run goes on behind a call's item: one that waits asks for the end of the run that it started, from that place on.
+fn behind_call(item: &Item) -> Stage
+    ensures step { GoesBehind item.now result }
+    ensures plain { is_plain result ≡ true }
 {
     match item {
-        Item::Failed(code) => (Item::Failed(code), Stage::Ended(End::Faulted)),
-        item => (item, Stage::Ready),
+        Item::Failed(_) => Stage::Ended(End::Faulted),
+        Item::Started { waits: true, .. } => Stage::Wait(None),
+        _ => Stage::Ready,
     }
 }
 
@@ -65,7 +64,8 @@ fn call<A: Answers>(
         target.as_slice(),
         fields.as_slice(),
     )?;
-    Ok(after_call(item))
+    let stage = behind_call(&item);
+    Ok((item, stage))
 }
 
 /// `delay` begins at its first place.

@@ -1,9 +1,9 @@
 //! What a step's wait asks for.
-ghost use Rattle.std.specs.Prelude.{◌≡◌, ◌≤◌, [], None, IfOk, option_map};
+ghost use Rattle.std.specs.Prelude.{◌≡◌, ◌≤◌, ◌+◌, [], None, IfOk, option_map};
 ghost use Rattle.std.specs.Option.{option_copied, option_map_or};
 ghost use Rattle.ha_clock.specs.Local.{last_moment};
 ghost use Rattle.ha_sight.specs.Scripts.{flat};
-ghost use Rattle.script_step.specs.Continuation.{ask_in, asks, last_action, test_in, triggers_in};
+ghost use Rattle.script_step.specs.Continuation.{ask_in, asks, last_action, test_in, timeout_in, triggers_in};
 ghost use Rattle.script_step.specs.Parts.{kind_of};
 ghost use Rattle.script_step.specs.Frames.{asked_by};
 
@@ -44,7 +44,31 @@ fn triggers_of(alloc: Global, action: Option<&Action>) -> Result<Many<Trigger>, 
     }
 }
 
-/// What a thread's last action, a wait, asks for.
+/// The timeout of a wait; a call that waits has none.
+fn timeout_of(action: Option<&Action>, timeout: Option<Span>) -> Option<Span>
+    ensures { result ≡ option_map_or (λ x. timeout_in (kind_of x) timeout) (option_copied action.entry) timeout }
+{
+    match action {
+        Some(action) => match &action.kind {
+            ActionKind::Call { .. } => None,
+            _ => timeout,
+        },
+        None => timeout,
+    }
+}
+
+/// The moment at which the wait is over without an end, if it has a timeout.
+fn due_of(action: Option<&Action>, timeout: Option<Span>, now: Moment) -> Option<Moment>
+    requires { now ≤ last_moment }
+    ensures { result ≡ option_map (λ d. now + d) (option_map_or (λ x. timeout_in (kind_of x) timeout) (option_copied action.entry) timeout) }
+{
+    match timeout_of(action, timeout) {
+        Some(span) => Some(now.plus(span)),
+        None => None,
+    }
+}
+
+/// What a thread's last action, a wait or a call that waits, asks for.
 fn ask_of(
     alloc: Global,
     thread: &Thread,
@@ -63,10 +87,7 @@ fn ask_of(
         branch: branch.copy(alloc)?,
         test: test_of(alloc, action)?,
         triggers: triggers_of(alloc, action)?,
-        due: match timeout {
-            Some(span) => Some(now.plus(span)),
-            None => None,
-        },
+        due: due_of(action, timeout, now),
         env: thread.scopes.flat().copy(alloc)?,
     })
 }

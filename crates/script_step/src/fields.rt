@@ -1,7 +1,8 @@
 //! The item of a call, and conditions.
 ghost use Rattle.std.specs.Prelude.{◌≡◌, IfOk, ok_or};
 ghost use Rattle.ha_sight.specs.Conditions.{hold_all};
-ghost use Rattle.ha_sight.specs.Calls.{call_item, checked_call, fields_of, template_fault};
+ghost use Rattle.ha_sight.specs.Calls.{call_item, checked_call, done_by, fields_of, item_of, template_fault};
+ghost use Rattle.ha_sight.specs.Inner.{inner_of};
 ghost use Rattle.script_step.specs.Fields.{Checks};
 
 use crate::fault::FieldFault;
@@ -9,7 +10,7 @@ use crate::forms::fields_of;
 use crate::own::item_of;
 use crate::targets::{service_of, targets_of};
 use ha_config::{Condition, Form, Template};
-use ha_sight::{Answers, Env, Item, TplFault};
+use ha_sight::{Answers, Env, Inner, Item, TplFault};
 use ha_value::{EntityId, Many, Value, Word};
 use std::alloc::{AllocError, Global};
 
@@ -26,6 +27,27 @@ fn data_for<A: Answers>(
         Ok(pairs) => Ok(pairs),
         Err(TplFault::Fault) => Err(FieldFault::Template),
         Err(TplFault::Memory) => Err(FieldFault::Memory),
+    }
+}
+
+/// What the core does itself, else the item of the call.
+fn done_by<A: Answers>(
+    alloc: Global,
+    answers: &A,
+    service: Word,
+    targets: Many<EntityId>,
+    pairs: Many<(Word, Value)>,
+) -> Result<Item, FieldFault>
+    ensures { Checks result (done_by (inner_of (A.sight answers.now) service targets pairs) (item_of (A.sight answers.now).automations service targets pairs)) }
+{
+    match answers.inner(alloc, &service, &targets, &pairs) {
+        Ok(Inner::Outer) => match item_of(alloc, answers, service, targets, pairs) {
+            Ok(item) => Ok(item),
+            Err(_) => Err(FieldFault::Memory),
+        },
+        Ok(Inner::Does(item)) => Ok(item),
+        Ok(Inner::Fails(code)) => Err(FieldFault::Own(code)),
+        Err(_) => Err(FieldFault::Memory),
     }
 }
 
@@ -49,10 +71,7 @@ fn checked_call<A: Answers>(
         Err(fault) => return Err(fault),
     };
     match data_for(alloc, answers, env, fields) {
-        Ok(pairs) => match item_of(alloc, answers, name, targets, pairs) {
-            Ok(item) => Ok(item),
-            Err(_) => Err(FieldFault::Memory),
-        },
+        Ok(pairs) => done_by(alloc, answers, name, targets, pairs),
         Err(fault) => Err(fault),
     }
 }

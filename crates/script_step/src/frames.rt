@@ -5,7 +5,7 @@ ghost use Rattle.script_step.specs.Few.{has_few_lists};
 ghost use Rattle.script_step.specs.Sides.{end_of, first_stage, first_thread, is_settled, progress_by};
 
 use crate::asking::asked;
-use crate::gates::{due_at, may_step};
+use crate::gates::{calls_at, due_at, may_step};
 use crate::held::Held;
 use crate::listing::add_ready;
 use crate::scopes::Scopes;
@@ -65,13 +65,14 @@ fn root_of(alloc: Global, actions: &Many<Action>, env: &Env) -> Result<Strand, A
 }
 
 impl Frames {
-    ghost use Rattle.std.specs.Prelude.{◌≤◌, ℕ, Option, option_and_then, option_map};
+    ghost use Rattle.std.specs.Prelude.{◌≤◌, ℕ, Option, false, option_and_then, option_map};
+    ghost use Rattle.std.specs.Option.{option_map_or};
     ghost use Rattle.ha_clock.specs.Local.{last_moment};
     ghost use Rattle.ha_sight.specs.declared.item.Item.{Item};
     ghost use Rattle.ha_config.specs.Words.{Pairs};
     ghost use Rattle.ha_sight.specs.Scripts.{Spot, whole};
     ghost use Rattle.script_step.specs.Continuation.{Began, asks, placed};
-    ghost use Rattle.script_step.specs.Frames.{asked_by, continues, may, progress_of, Stands, Steps};
+    ghost use Rattle.script_step.specs.Frames.{ask_of, asked_by, continues, may, progress_of, Stands, Steps};
     ghost use Rattle.script_step.specs.Gates.{due_of, first_fronts, fronts_of, gate_at};
     ghost use Rattle.script_step.specs.Ready.{ready_of};
     ghost use Rattle.script_step.specs.Taken.{out_of};
@@ -195,6 +196,13 @@ impl Frames {
         ensures { (began : Began) → result ≡ option_and_then due_of (gate_at branch.now (fronts_of self.now began)) }
     {
         due_at(&self.root, branch.as_slice())
+    }
+
+    /// Whether the branch waits for the end of a run that it called.
+    pub fn calls(&self, actions: &[Action], branch: &Branch) -> bool
+        ensures { actions.now ≡ self.now.script.value → result ≡ option_map_or (λ ask. ask.called) (ask_of self.now branch.now) false }
+    {
+        calls_at(&self.root, actions, branch.as_slice())
     }
 
     /// Whether the branch of the script may step at this moment.

@@ -1,13 +1,12 @@
 //! The services of automations, which are done by the engine itself.
-ghost use Rattle.std.specs.Prelude.{◌≡◌, ◌<◌, true, not, IfOk, OnOk, length, map, nat_lt, unwrap_or, codes, if◌then◌else◌};
+ghost use Rattle.std.specs.Prelude.{◌≡◌, ◌<◌, true, not, IfOk, length, map, nat_lt, unwrap_or, codes, if◌then◌else◌};
 ghost use Rattle.std.specs.List.{list_all};
 ghost use Rattle.ha_value.specs.declared.value.Value.TheViews.{out-Value};
 ghost use Rattle.ha_sight.specs.declared.item.Item.{Item};
 ghost use Rattle.ha_config.specs.Words.{same};
 ghost use Rattle.ha_sight.specs.Calls.{automations_of, flag_or_true, flag_named, item_of, switched_to, was_on};
-ghost use Rattle.script_step.specs.Own.{among, with_number};
 
-use ha_sight::{Answers, Item};
+use ha_sight::{Answers, Item, add_once};
 use ha_value::{EntityId, Many, Value, Word};
 use std::alloc::{AllocError, Global};
 
@@ -41,35 +40,6 @@ fn flag_named(name: &str, pairs: &[(Word, Value)]) -> bool
         flag = flag_behind(name, &pairs[i], flag);
     }
     flag
-}
-
-/// Whether the number is in the list.
-fn is_among(number: u32, found: &[u32]) -> bool
-    ensures { result ≡ among number found.now }
-{
-    for i in 0..found.len() {
-        if number == found[i] {
-            return true;
-        }
-    }
-    false
-}
-
-/// Appends a number that is not in the list yet.
-fn add_once(found: &mut Many<u32>, number: Option<u32>) -> Result<(), AllocError>
-    ensures { OnOk result (found.new ≡ with_number number found.old) }
-{
-    match number {
-        Some(number) => {
-            if is_among(number, found.as_slice()) {
-                Ok(())
-            } else {
-                found.push(number)?;
-                Ok(())
-            }
-        }
-        None => Ok(()),
-    }
 }
 
 /// The automations that the targets name, each once.

@@ -8,7 +8,7 @@ ghost use Rattle.ha_sight.specs.declared.item.Item.{Item};
 ghost use Rattle.ha_sight.specs.declared.waiting.WaitEnd.{WaitEnd};
 ghost use Rattle.ha_sight.specs.Scripts.{Branch, Spot, add_inside, wait_value};
 ghost use Rattle.script_step.specs.declared.strand.Strand.{Strand};
-ghost use Rattle.script_step.specs.Continuation.{Began, continuation, has_next, last_action, lists_of, may_go_on, may_side, may_step, nth_list, placed, thread_next};
+ghost use Rattle.script_step.specs.Continuation.{Began, continuation, has_next, is_call, last_action, lists_of, may_go_on, may_side, may_step, nth_list, placed, thread_next};
 ghost use Rattle.script_step.specs.Gates.{Gate, fronts, fronts_from, fronts_on, gate_at};
 ghost use Rattle.script_step.specs.Sides.{all_settled, is_fresh, is_plain, is_settled, is_whole, standing};
 ghost use Rattle.script_step.specs.Step.{IsSide, IsStep, IsTaken, IsWaited, thread_on};
@@ -135,7 +135,20 @@ fn may_go_on(thread: &Thread, list: &[Action]) -> bool
     }
 }
 
-/// The second place of a wait that ended so.
+/// Whether a thread's last action is a call.
+pub fn is_call(thread: &Thread, list: &[Action]) -> bool
+    ensures { result ≡ is_call (last_action list.now thread.now) }
+{
+    match before(list_in(list, thread.outer.as_slice()), thread.here.at) {
+        Some(action) => match &action.kind {
+            ActionKind::Call { .. } => true,
+            _ => false,
+        },
+        None => false,
+    }
+}
+
+/// The second place of a wait that ended so; behind the end of a called run the variables are as they were.
 fn end_wait(
     alloc: Global,
     thread: &mut Thread,
@@ -146,6 +159,9 @@ fn end_wait(
     ensures waited { IfOk result (λ stage. IsWaited list.now end thread.old thread.new stage) }
 {
     if end.done || may_go_on(thread, list) {
+        if is_call(thread, list) {
+            return Ok(Stage::Ready);
+        }
         let value = wait_value(alloc, end)?;
         thread
             .scopes

@@ -7,6 +7,7 @@ use conf_auto::read_config;
 use flow_line::read_cmd;
 use ha_clock::{Moment, Zone};
 use ha_config::{Cmd, Config};
+use script_calls::Seeing;
 use sound_laws::laws::what_is_read_is_sound;
 use state_table::StateTable;
 use std::alloc::{AllocError, Global};
@@ -22,10 +23,12 @@ pub struct Home {
     pub millis: u64,
 }
 
-/// The text of the automation `a` with these conditions and actions, each in flow on one line.
-fn text_of(alloc: Global, tests: &str, actions: &str) -> Result<String, AllocError> {
+/// The text of the automation `a` with these conditions and actions, and of these scripts, each in flow on one line.
+fn text_of(alloc: Global, tests: &str, actions: &str, scripts: &str) -> Result<String, AllocError> {
     let mut text = String::new(alloc);
-    text.push_str("[{alias: a, triggers: [], conditions: ")?;
+    text.push_str("script: ")?;
+    text.push_str(scripts)?;
+    text.push_str("\nautomation: [{alias: a, triggers: [], conditions: ")?;
     text.push_str(tests)?;
     text.push_str(", actions: ")?;
     text.push_str(actions)?;
@@ -38,7 +41,19 @@ fn text_of(alloc: Global, tests: &str, actions: &str) -> Result<String, AllocErr
 pub fn home_of(alloc: Global, tests: &str, actions: &str) -> Result<Option<Home>, AllocError>
     ensures { IfOk result (λ made. IfSome made (λ home. IsSoundConfig home.config)) }
 {
-    let text = text_of(alloc, tests, actions)?;
+    home_with(alloc, tests, actions, "{}")
+}
+
+/// The same, with these scripts.
+pub fn home_with(
+    alloc: Global,
+    tests: &str,
+    actions: &str,
+    scripts: &str,
+) -> Result<Option<Home>, AllocError>
+    ensures { IfOk result (λ made. IfSome made (λ home. IsSoundConfig home.config)) }
+{
+    let text = text_of(alloc, tests, actions, scripts)?;
     what_is_read_is_sound();
     match read_config(alloc, text.as_bytes()) {
         Ok(config) => Ok(Some(Home {
@@ -124,4 +139,16 @@ pub fn view_of<'a>(home: &'a Home, zone: &'a Zone) -> Option<View<'a>> {
         return None;
     }
     Some(View::make(&home.states, &home.config, zone, at))
+}
+
+/// The same with its scripts, of which there are few too.
+pub fn seeing_of<'a>(home: &'a Home, zone: &'a Zone) -> Option<Seeing<'a>> {
+    let at = Moment::of_millis(home.millis)?;
+    if 4 < home.config.automations.len() || 4 < home.config.scripts.len() {
+        return None;
+    }
+    let seeing = Seeing::make(&home.states, &home.config, zone, at);
+    // The borrow checker builds its plan only where a place has the type that the view holds.
+    let _ = &seeing.view;
+    Some(seeing)
 }

@@ -1,15 +1,17 @@
 //! A run of a test takes its steps.
 ghost use Rattle.std.specs.Prelude.{◌≡◌, IfOk, true};
-ghost use Rattle.ha_config.specs.Sound.{IsSoundConfig, is_sound_automation};
+ghost use Rattle.ha_config.specs.Sound.{IsSoundConfig};
+ghost use Rattle.script_step.specs.Few.{has_few_lists};
 
-use crate::home::{Home, home_of, tell, utc, view_of};
+use crate::home::{Home, home_with, seeing_of, tell, utc, view_of};
 use crate::said::is_said;
 use cond_eval::View;
-use ha_clock::Moment;
-use ha_config::{Action, Automation, Config};
+use ha_clock::{Moment, Zone};
+use ha_config::{Action, Config};
 use ha_journal::Firing;
-use ha_sight::{Branch, Ended, Env, Item, Progress, TriggerData, WaitAsk, WaitEnd};
+use ha_sight::{Answers, Branch, Ended, Env, Item, Progress, TriggerData, WaitAsk, WaitEnd};
 use ha_value::{Many, Num, Plain, Value, Word};
+use script_calls::Seeing;
 use script_step::{Frames, Held, Taken};
 use std::alloc::{AllocError, Global};
 use wait_set::Waits;
@@ -53,15 +55,15 @@ impl Script {
         alloc: Global,
         branch: &Branch,
         ends: &Ends,
-        view: &View<'_>,
+        seeing: &Seeing<'_>,
     ) -> Result<Option<Taken>, AllocError> {
         let end = ends.end.copy(alloc)?;
         let actions = self.actions.as_slice();
-        if !self.frames.ready(actions, branch, view.at, ends) {
+        if !self.frames.ready(actions, branch, seeing.view.at, ends) {
             return Ok(None);
         }
         let end = held(alloc, end)?;
-        let out = self.frames.step(alloc, actions, branch, end, view)?;
+        let out = self.frames.step(alloc, actions, branch, end, seeing)?;
         Ok(Some(out))
     }
 }
@@ -117,14 +119,17 @@ fn event_env(alloc: Global) -> Result<Env, AllocError> {
     Ok(Env::of_trigger(alloc, TriggerData::whole(alloc, trigger)?))
 }
 
-/// The script of an automation at its begin.
-fn start(alloc: Global, rule: &Automation) -> Result<Script, AllocError>
-    requires { is_sound_automation rule.now ≡ true }
+/// A script at its begin.
+fn start(alloc: Global, actions: &Many<Action>) -> Result<Script, AllocError>
+    requires { has_few_lists actions.now ≡ true }
 {
     let env = event_env(alloc)?;
-    let actions = rule.actions.copy(alloc)?;
-    let frames = Frames::start(alloc, 1, 0, &rule.actions, &env)?;
-    Ok(Script { actions, frames })
+    let lent = actions.copy(alloc)?;
+    let frames = Frames::start(alloc, 1, 0, actions, &env)?;
+    Ok(Script {
+        actions: lent,
+        frames,
+    })
 }
 
 /// The script of the first automation at its begin, where there is one.
@@ -132,8 +137,29 @@ fn begin(alloc: Global, config: &Config) -> Result<Option<Script>, AllocError>
     requires { IsSoundConfig config.now }
 {
     match config.automations.get(0) {
-        Some(rule) => Ok(Some(start(alloc, rule)?)),
+        Some(rule) => Ok(Some(start(alloc, &rule.actions)?)),
         None => Ok(None),
+    }
+}
+
+/// The first of the scripts that are configured, at its begin, where there is one.
+fn begin_called(alloc: Global, config: &Config) -> Result<Option<Script>, AllocError>
+    requires { IsSoundConfig config.now }
+{
+    match config.scripts.get(0) {
+        Some(script) => Ok(Some(start(alloc, &script.actions)?)),
+        None => Ok(None),
+    }
+}
+
+/// The one of them that is wanted.
+fn begin_wanted(alloc: Global, config: &Config, called: bool) -> Result<Option<Script>, AllocError>
+    requires { IsSoundConfig config.now }
+{
+    if called {
+        begin_called(alloc, config)
+    } else {
+        begin(alloc, config)
     }
 }
 
@@ -198,7 +224,7 @@ fn judged(alloc: Global, branch: &Branch, item: Item, said: &str) -> Result<bool
 fn take(
     alloc: Global,
     run: &mut Run,
-    view: &View<'_>,
+    seeing: &Seeing<'_>,
     branch: Branch,
     ends: &Ends,
     said: &str,
@@ -209,28 +235,41 @@ fn take(
             progress,
             wait,
         },
-    ) = run.script.step(alloc, &branch, ends, view)?
+    ) = run.script.step(alloc, &branch, ends, seeing)?
     else {
         return Ok(false);
     };
     run.progress = progress;
     let good = judged(alloc, &branch, item, said);
     ask(alloc, run, branch, wait)?;
-    note(alloc, run, &Many::make(alloc), view)?;
+    note(alloc, run, &Many::make(alloc), &seeing.view)?;
     good
 }
 
-/// Takes the first step that may be taken; whether there is one, and it is the one that is said.
-fn step(alloc: Global, home: &Home, run: &mut Run, said: &str) -> Result<bool, AllocError> {
-    let zone = utc(alloc)?;
-    let Some(view) = view_of(home, &zone) else {
+/// Takes the first step that may be taken in this zone; whether there is one, and it is the one that is said.
+fn step_in<'a>(
+    alloc: Global,
+    home: &'a Home,
+    zone: &'a Zone,
+    run: &mut Run,
+    said: &str,
+) -> Result<bool, AllocError> {
+    let Some(seeing) = seeing_of(home, zone) else {
         return Ok(false);
     };
+    // The borrow checker builds its plan only where a place has the type that the view holds.
+    let _ = &seeing.view;
     let ends = told(alloc, run)?;
-    match run.script.first(alloc, view.at, &ends)? {
-        Some(branch) => take(alloc, run, &view, branch, &ends, said),
+    match run.script.first(alloc, seeing.now(), &ends)? {
+        Some(branch) => take(alloc, run, &seeing, branch, &ends, said),
         None => Ok(false),
     }
+}
+
+/// The same in the zone of the tests.
+fn step(alloc: Global, home: &Home, run: &mut Run, said: &str) -> Result<bool, AllocError> {
+    let zone = utc(alloc)?;
+    step_in(alloc, home, &zone, run, said)
 }
 
 /// Whether a step may be taken.
@@ -293,11 +332,21 @@ fn fire(
     seen(alloc, home, run, &fired)
 }
 
-/// What comes next: a step, from its branch; a line; or `fires P` and a line, at which a trigger of the kind P fires for the wait. Whether
-/// it can come.
+/// The run that a call waits for ends at the next entry.
+fn end_call(run: &mut Run) {
+    run.waits.finish(1, &run.branch, run.place);
+    run.place = run.place.saturating_add(1);
+}
+
+/// What comes next: a step, from its branch; a line; or `fires P` and a line, at which a trigger of the kind P fires for the wait; or
+/// `ended`, where the run ended that a call waits for. Whether it can come.
 fn next(alloc: Global, home: &mut Home, run: &mut Run, said: &str) -> Result<bool, AllocError> {
     if said.starts_with('[') {
         return step(alloc, home, run, said);
+    }
+    if said == "ended" {
+        end_call(run);
+        return Ok(true);
     }
     if let Some(rest) = said.strip_prefix("fires ") {
         return match rest.split_once(' ') {
@@ -336,9 +385,11 @@ fn idle(alloc: Global, home: &Home, run: &mut Run, many: u32) -> Result<bool, Al
     Ok(true)
 }
 
-/// What a script is to do: nothing in so many steps, and then what is said, after which no step may be taken, and it is so far.
+/// What the automation's script is to do, or the first of those that are configured: nothing in so many steps, and then what is said, after
+/// which no step may be taken, and it is so far.
 #[derive(Clone, Copy)]
 struct Wanted<'a> {
+    called: bool,
     idle: u32,
     said: &'a [&'a str],
     progress: Progress,
@@ -367,19 +418,24 @@ fn played(
     does(alloc, home, &mut run_of(alloc, script), wanted)
 }
 
-/// Whether the script of the home's first automation does it. No function has both the home and the run where memory may be wanting: each
+/// Whether the script of the home that is wanted does it. No function has both the home and the run where memory may be wanting: each
 /// such place is dear to prove.
 fn played_in(alloc: Global, home: &mut Home, wanted: &Wanted<'_>) -> Result<bool, AllocError>
     requires { IsSoundConfig home.old.config }
 {
-    match begin(alloc, &home.config)? {
+    match begin_wanted(alloc, &home.config, wanted.called)? {
         Some(script) => played(alloc, home, script, wanted),
         None => Ok(false),
     }
 }
 
-fn went(alloc: Global, actions: &str, wanted: &Wanted<'_>) -> Result<bool, AllocError> {
-    let Some(mut home) = home_of(alloc, "[]", actions)? else {
+fn went(
+    alloc: Global,
+    scripts: &str,
+    actions: &str,
+    wanted: &Wanted<'_>,
+) -> Result<bool, AllocError> {
+    let Some(mut home) = home_with(alloc, "[]", actions, scripts)? else {
         return Ok(false);
     };
     played_in(alloc, &mut home, wanted)
@@ -393,11 +449,45 @@ pub fn goes(alloc: Global, actions: &str, said: &[&str], progress: Progress) -> 
 /// Whether a script does nothing in so many steps, and then goes as it is said.
 pub fn idles(alloc: Global, actions: &str, many: u32, said: &[&str], progress: Progress) -> bool {
     let wanted = Wanted {
+        called: false,
         idle: many,
         said,
         progress,
     };
-    match went(alloc, actions, &wanted) {
+    is_gone(alloc, "{}", actions, &wanted)
+}
+
+/// The same of a script that may call these others.
+pub fn goes_with(
+    alloc: Global,
+    scripts: &str,
+    actions: &str,
+    said: &[&str],
+    progress: Progress,
+) -> bool {
+    let wanted = Wanted {
+        called: false,
+        idle: 0,
+        said,
+        progress,
+    };
+    is_gone(alloc, scripts, actions, &wanted)
+}
+
+/// The same of the first of these scripts itself.
+pub fn called_goes(alloc: Global, scripts: &str, said: &[&str], progress: Progress) -> bool {
+    let wanted = Wanted {
+        called: true,
+        idle: 0,
+        said,
+        progress,
+    };
+    is_gone(alloc, scripts, "[{action: light.x}]", &wanted)
+}
+
+/// Whether it does so, where memory suffices.
+fn is_gone(alloc: Global, scripts: &str, actions: &str, wanted: &Wanted<'_>) -> bool {
+    match went(alloc, scripts, actions, wanted) {
         Ok(is) => is,
         Err(_) => false,
     }

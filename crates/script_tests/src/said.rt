@@ -72,7 +72,7 @@ fn are_switches(switches: &[(u32, bool, bool)], said: &str) -> bool {
 }
 
 /// Whether the item is the one that is said: `nothing`, a code such as `F1`, switches, `asks` or `tests and asks` for one automation,
-/// `fires` and a type of events, or a call.
+/// `fires` and a type of events, `starts`, `starts and waits` or `halts` for one script, or a call.
 fn is_item(alloc: Global, item: &Item, said: &str) -> Result<bool, AllocError> {
     match item {
         Item::Nothing => Ok(said == "nothing"),
@@ -84,6 +84,11 @@ fn is_item(alloc: Global, item: &Item, said: &str) -> Result<bool, AllocError> {
         }
         Item::Fired { kind, .. } => Ok(said.strip_prefix("fires ") == Some(kind.as_str())),
         Item::Call { .. } => is_call(alloc, item, said),
+        Item::Started { scripts, waits, .. } => {
+            let wanted = if *waits { "starts and waits" } else { "starts" };
+            Ok(scripts.len() == 1 && said == wanted)
+        }
+        Item::Halted(scripts) => Ok(scripts.len() == 1 && said == "halts"),
     }
 }
 

@@ -1,6 +1,6 @@
 //! Delays, and waits with their ends and timeouts.
 use crate::play::goes;
-use ha_sight::{Branch, Ended, Env, Progress, WaitAsk};
+use ha_sight::{Branch, Ended, Env, Progress, WaitAsk, WaitEnd};
 use ha_value::Many;
 use std::alloc::{AllocError, Global};
 use wait_set::Waits;
@@ -197,4 +197,31 @@ fn goes_with_its_run(alloc: Global) -> Result<bool, AllocError> {
 #[test]
 fn the_wait_of_a_run_goes_with_it(rt: HostRuntime) {
     assert!(rt; matches!(goes_with_its_run(rt.alloc()), Ok(true)));
+}
+
+/// Whether it is the end that was named, at entry 9.
+fn is_named(end: Option<&WaitEnd>) -> bool {
+    match end {
+        Some(end) => {
+            end.place == 9 && end.done && end.remaining.is_none() && end.trigger.is_none()
+        }
+        None => false,
+    }
+}
+
+/// Whether the wait of run 1 stays where another run's is named an end, and ends by its own.
+fn ends_as_named(alloc: Global) -> Result<bool, AllocError> {
+    let mut waits = Waits::make(alloc);
+    waits.add(asked(alloc, 1), 7, 3)?;
+    let root: Branch = Many::make(alloc);
+    let owned = waits.owner_of(1, &root) == Some(7) && waits.owner_of(2, &root).is_none();
+    waits.finish(2, &root, 9);
+    let waits_still = waits.ended(1, &root).is_none();
+    waits.finish(1, &root, 9);
+    Ok(owned && waits_still && is_named(waits.ended(1, &root)))
+}
+
+#[test]
+fn the_wait_of_a_call_ends_where_it_is_named(rt: HostRuntime) {
+    assert!(rt; matches!(ends_as_named(rt.alloc()), Ok(true)));
 }

@@ -1,7 +1,8 @@
 -- What is made of the parts that stand for a journal is its Again.
-use Rattle.std.proofs.Common.{◌≡◌, ◌∙◌, ap, refl, sym, ℕ, zero, suc, ◌+◌, ◌<◌, Bool, Option, List, [], ◌∷◌, ◌++◌, length, drop, subst, ◌||◌, arith, length-append}
+use Rattle.std.proofs.Common.{◌≡◌, ◌∙◌, ap, refl, sym, ℕ, zero, suc, ◌+◌, ◌<◌, ◌≤◌, Bool, Option, List, [], ◌∷◌, ◌++◌, length, drop, take, subst, ◌||◌, arith, length-append}
 use Rattle.std.specs.Prelude.{Result, Ok, Err, IfOk, Some, None, count_by, filter, filter_map, map, nat_eq, option_map, slice_get, slice_index, unwrap_or, ◌^◌}
 use Rattle.std.specs.List.{cons_option, enumerate_from, list_any}
+use Rattle.std.proofs.lemmas.List.{length-map}
 use Rattle.std.proofs.lemmas.List.Sums.{count_by-le-length}
 use Rattle.ha_config.specs.declared.config.Automation.{Automation}
 use Rattle.ha_config.specs.Words.{Text, numbers_from, up_to}
@@ -10,7 +11,8 @@ use Rattle.ha_journal.specs.declared.carry.Carry.{Carry}
 use Rattle.ha_journal.specs.declared.entry.Entry.{Entry}
 use Rattle.ha_journal.specs.declared.entry.Entry.TheVariants.{Again}
 use Rattle.ha_journal.specs.Entries.{BeginsSegment, is_again}
-use Rattle.ha_journal.specs.Journal.{Journal, automations}
+use Rattle.ha_config.specs.Units.{as_unit}
+use Rattle.ha_journal.specs.Journal.{Journal, automations, scripts, units}
 use Rattle.ha_journal.specs.States.{switches_of}
 use Rattle.ha_journal.specs.Switches.{is_on}
 use Rattle.ha_model.specs.Lawful.{is_line_of, shuts}
@@ -21,7 +23,7 @@ use Rattle.ha_whole.specs.Segments.{cut, segment}
 use Rattle.ha_whole.specs.Whole.{again_of, numbers_of}
 use Rattle.segment_runs.specs.Segment.{SegmentTable, all_of, runs_of}
 use Rattle.store_text.specs.Store.{Switches}
-use Rattle.switch_book.specs.Book.{flags}
+use Rattle.switch_book.specs.Book.{flags, names_of}
 use Rattle.whole_laws.proofs.CutLemmas.{is-cut}
 use Rattle.segment_carry.specs.ByName.{by_name, if_some, listed}
 use Rattle.segment_carry.specs.Closing.{Closes, again_made, carry_made}
@@ -56,6 +58,11 @@ flag-at on n [] i lt = absurd (omega (arith, lt))
 flag-at on n (x ∷ xs) zero lt = (let e : n ≡ n + 0 = omega arith in λ i. Some (on (e i)))
 flag-at on n (x ∷ xs) (suc i) lt = (let e : (n + 1) + i ≡ n + suc i = omega arith in flag-at on (n + 1) xs i (omega (arith, lt)) ∙ (λ k. Some (on (e k))))
 
+-- the names of the first are the first names
+front-names : (xs ys : List Automation) → take (length xs) (names_of (xs ++ ys)) ≡ names_of xs
+front-names [] ys = refl
+front-names (x ∷ xs) ys = (λ i. x.name ∷ front-names xs ys i)
+
 -- ---- what is made
 
 module _ (k : Journal) (front count at : ℕ) (runs : SegmentTable) (switches : Switches) (moments : List (Option ℕ)) (c : Closes k front count at runs switches moments) where
@@ -71,10 +78,10 @@ module _ (k : Journal) (front count at : ℕ) (runs : SegmentTable) (switches : 
   same-rules : automations (segment k) ≡ automations k
   same-rules = (is-cut k c.entries).automations_are
 
-  numbers-made : listed rules (λ a. if_some (runs_of rs a)) (by_name rules) ≡ in_name_order (numbers_of k)
+  numbers-made : listed (names_of (units k)) (λ a. if_some (runs_of rs a)) (by_name (names_of (units k))) ≡ in_name_order (numbers_of k)
   numbers-made =
-      listed-by-name rules (λ a. if_some (runs_of rs a))
-      ∙ (λ i. in_name_order (filter_map (given (λ a. if_some (c.runs_are.each a i))) (enumerate_from 0 rules)))
+      listed-by-name (units k) (λ a. if_some (runs_of rs a))
+      ∙ (λ i. in_name_order (filter_map (given (λ a. if_some (c.runs_are.each a i))) (enumerate_from 0 (units k))))
       ∙ (λ i. in_name_order (sym (numbers-are k (counted-whole k (is-cut k c.entries) hands)) i))
 
   last-at : (a : ℕ) → a < length rules → unwrap_or (slice_get moments a) None ≡ last_triggered (segment k) a
@@ -84,7 +91,7 @@ module _ (k : Journal) (front count at : ℕ) (runs : SegmentTable) (switches : 
       ∙ (λ i. unwrap_or (made-at (last_triggered (segment k)) 0 (length rules) a lt i) None)
       ∙ ap (last_triggered (segment k)) e
 
-  moments-made : listed rules (λ a. unwrap_or (slice_get moments a) None) (by_name rules) ≡ in_name_order (lasts (segment k))
+  moments-made : listed (names_of rules) (λ a. unwrap_or (slice_get moments a) None) (by_name (names_of rules)) ≡ in_name_order (lasts (segment k))
   moments-made =
       listed-by-name rules (λ a. unwrap_or (slice_get moments a) None)
       ∙ ap in_name_order (given-same (λ a. unwrap_or (slice_get moments a) None) (last_triggered (segment k)) 0 rules (λ i lt. last-at (0 + i) (omega (arith, lt))))
@@ -98,7 +105,7 @@ module _ (k : Journal) (front count at : ℕ) (runs : SegmentTable) (switches : 
       ∙ flag-at (is_on (segment k)) 0 rules a lt
       ∙ (λ i. Some (is_on (segment k) (e i)))
 
-  switches-made : listed rules (λ a. slice_get (flags switches) a) (by_name rules) ≡ in_name_order (switches_of (segment k))
+  switches-made : listed (names_of rules) (λ a. slice_get (flags switches) a) (by_name (names_of rules)) ≡ in_name_order (switches_of (segment k))
   switches-made =
       listed-by-name rules (λ a. slice_get (flags switches) a)
       ∙ ap in_name_order (given-same (λ a. slice_get (flags switches) a) (λ a. Some (is_on (segment k) a)) 0 rules (λ i lt. switch-at (0 + i) (omega (arith, lt))))
@@ -115,7 +122,7 @@ module _ (k : Journal) (front count at : ℕ) (runs : SegmentTable) (switches : 
   count-made = omega (arith, c.count_is, length-append (cut k).closed (segment k ∷ []), hands.agains)
 
   -- what is made of these parts is the Again of the journal
-  made-is : again_made rules (carry_in hands.opening) hands.behind count at rs switches moments ≡ again_of k
+  made-is : again_made (names_of (units k)) (names_of rules) (carry_in hands.opening) hands.behind count at rs switches moments ≡ again_of k
   made-is = λ i. Again (count-made i) (c.at_is i) (switches-made i) (record {
     serials = c.runs_are.all i;
     numbers = numbers-made i;
@@ -171,17 +178,39 @@ module _ (k : Journal) (front count at : ℕ) (runs : SegmentTable) (switches : 
         let count : length es ≡ length hands.behind = ap length own in
         omega (arith, all, most, old, count, length-is, c.small)
 
-    pub made-here : (rules_given : List Automation) → rules_given ≡ rules → again_made rules_given took es count at rs switches moments ≡ again_of k
-    made-here rules_given given_are = (λ i. again_made (given_are i) (took-over i) (own i) count at rs switches moments) ∙ made-is
+    pub made-here : (all first : List Text) → all ≡ names_of (units k) → first ≡ names_of rules → again_made all first took es count at rs switches moments ≡ again_of k
+    made-here all first all_are first_are = (λ i. again_made (all_are i) (first_are i) (took-over i) (own i) count at rs switches moments) ∙ made-is
+
+  -- the names of the automations are the first of all
+  module _ (all : List Text) (all_are : all ≡ names_of (units k)) (n : ℕ) (n_is : n ≡ length rules) where
+    pub first-are : take n all ≡ names_of rules
+    first-are = (λ i. take (n_is i) (all_are i)) ∙ front-names rules (map as_unit (scripts k))
+
+    pub all-few : length all ≤ 2_048
+    all-few = (let count = ap length all_are in let same = length-map (units k) (λ (a : Automation). a.name) in omega (arith, count, same, c.few))
+
+    pub first-fit : n ≤ length all
+    first-fit =
+        let count = ap length all_are in
+        let same = length-map (units k) (λ (a : Automation). a.name) in
+        let both = length-append rules (map as_unit (scripts k)) in
+        omega (arith, count, same, both, n_is)
+
+    pub first-few : length (take n all) ≤ 2_048
+    first-few =
+        let count = ap length first-are in
+        let same = length-map rules (λ (a : Automation). a.name) in
+        let both = length-append rules (map as_unit (scripts k)) in
+        omega (arith, count, same, both, c.few)
 
 -- what is made, or memory was wanting
 pub made-same : {A E : Type 0} (r : Result A E) (x y : A) → x ≡ y → IfOk r (λ a. a ≡ x) → IfOk r (λ a. a ≡ y)
 made-same (Ok a) x y e h = h ∙ e
 made-same (Err f) x y e h = tt
 
-pub carry-is : (all : List Automation) (order : List ℕ) (before : Carry) (entries : List Entry) (rs : Records) (moments : List (Option ℕ)) (made : Carry)
-    → made.serials ≡ length rs → made.numbers ≡ listed all (λ a. if_some (runs_of rs a)) order → made.lines ≡ lines_with before.lines entries
-    → made.shut ≡ shut_with before.shut entries → made.last ≡ listed all (λ a. unwrap_or (slice_get moments a) None) order
-    → made ≡ carry_made all order before entries rs moments
-carry-is all order before entries rs moments made serials numbers lines shut last =
+pub carry-is : (all : List Text) (by_all : List ℕ) (first : List Text) (by_first : List ℕ) (before : Carry) (entries : List Entry) (rs : Records) (moments : List (Option ℕ)) (made : Carry)
+    → made.serials ≡ length rs → made.numbers ≡ listed all (λ a. if_some (runs_of rs a)) by_all → made.lines ≡ lines_with before.lines entries
+    → made.shut ≡ shut_with before.shut entries → made.last ≡ listed first (λ a. unwrap_or (slice_get moments a) None) by_first
+    → made ≡ carry_made all by_all first by_first before entries rs moments
+carry-is all by_all first by_first before entries rs moments made serials numbers lines shut last =
     λ i. record { serials = serials i; numbers = numbers i; lines = lines i; shut = shut i; last = last i }

@@ -1,11 +1,11 @@
--- What is listed of automations by their names is in the order of the names.
-use Rattle.std.proofs.Common.{◌≡◌, ◌∙◌, ap, refl, sym, ℕ, suc, ◌+◌, ◌-◌, ◌<◌, ◌≤◌, inl, inr, Bool, true, false, cond, Option, List, [], ◌∷◌, ◌++◌, length, get_or, take, arith}
+-- What is listed by names is in the order of the names.
+use Rattle.std.proofs.Common.{◌≡◌, ◌∙◌, ap, refl, sym, ℕ, zero, suc, ◌+◌, ◌-◌, ◌<◌, ◌≤◌, inl, inr, Bool, true, false, cond, Option, List, [], ◌∷◌, ◌++◌, length, get_or, take, arith}
 use Rattle.std.specs.Prelude.{◌⊎◌, Some, None, filter_map, insert, nat_eq, nat_lt, not, option_map, position, slice_get, unwrap_or, if◌then◌else◌}
 use Rattle.std.specs.List.{cons_option, enumerate_from, position_or_len, prefix_len}
 use Rattle.std.specs.Option.{option_map_or}
 use Rattle.std.proofs.lemmas.Bool.Decides.{nat_tests}
 use Rattle.std.proofs.lemmas.Cmp.{same_from_slice_cmp_tested}
-use Rattle.std.proofs.lemmas.List.{get_or_default, take_more}
+use Rattle.std.proofs.lemmas.List.{get_or_default, length-map, take_all, take_more}
 use Rattle.std.proofs.lemmas.List.Elements.{filter_map-append}
 use Rattle.std.proofs.lemmas.Option.{slice_get-get_or}
 use Rattle.std.specs.Ordering.{nat_cmp, is_lt, is_some_and}
@@ -13,8 +13,10 @@ use Rattle.std.specs.Cmp.Lexicographic.{slice_partial_cmp}
 use Rattle.ha_config.specs.declared.config.Automation.{Automation}
 use Rattle.ha_config.specs.Words.{Text, comes_before, numbers_from, up_to}
 use Rattle.ha_config.specs.Names.{name_of}
+use Rattle.ha_config.proofs.ListLemmas.{none-some, some-same}
 use Rattle.ha_whole.specs.Named.{in_name_order, placed_by_name}
-use Rattle.segment_carry.specs.ByName.{by_name, listed, put_by_name, sorted}
+use Rattle.segment_carry.specs.ByName.{by_name, listed, name_in, put_by_name, sorted}
+use Rattle.switch_book.specs.Book.{names_of}
 
 -- ---- the order of texts
 
@@ -95,102 +97,112 @@ between (x ∷ a) (y ∷ b) (z ∷ c) h k = by (front-is x y a b h) (front-not z
 abbrev pub given : {X : Type 0} → (ℕ → Option X) → ℕ × Automation → Option (Text × X)
 given value p = option_map (λ v. (p.1.name, v)) (value p.0)
 
-module _ (all : List Automation) where
+module _ (names : List Text) where
   -- the text comes before the names of all these
   abbrev AllAfter : Text → List ℕ → Type 0
   AllAfter p [] = Unit {0}
-  AllAfter p (b ∷ bs) = (comes_before p (name_of all b) ≡ true) × AllAfter p bs
+  AllAfter p (b ∷ bs) = (comes_before p (name_in names b) ≡ true) × AllAfter p bs
 
   -- what comes before one of these by name comes before those behind it
   abbrev IsSorted : List ℕ → Type 0
   IsSorted [] = Unit {0}
-  IsSorted (b ∷ bs) = ((p : Text) → comes_before p (name_of all b) ≡ true → AllAfter p bs) × IsSorted bs
+  IsSorted (b ∷ bs) = ((p : Text) → comes_before p (name_in names b) ≡ true → AllAfter p bs) × IsSorted bs
 
-  after-put : (p : Text) (a : ℕ) (bs : List ℕ) → AllAfter p bs → comes_before p (name_of all a) ≡ true → AllAfter p (put_by_name all a bs)
+  after-put : (p : Text) (a : ℕ) (bs : List ℕ) → AllAfter p bs → comes_before p (name_in names a) ≡ true → AllAfter p (put_by_name names a bs)
   after-put p a [] h lt = (lt, tt)
-  after-put p a (b ∷ bs) h lt = by (comes_before (name_of all a) (name_of all b)) (after-put p a bs h.1 lt)
+  after-put p a (b ∷ bs) h lt = by (comes_before (name_in names a) (name_in names b)) (after-put p a bs h.1 lt)
     where
-      by : (c : Bool) → AllAfter p (put_by_name all a bs) → AllAfter p (if c then a ∷ b ∷ bs else b ∷ put_by_name all a bs)
+      by : (c : Bool) → AllAfter p (put_by_name names a bs) → AllAfter p (if c then a ∷ b ∷ bs else b ∷ put_by_name names a bs)
       by true rest = (lt, h)
       by false rest = (h.0, rest)
 
-  sorted-put : (a : ℕ) (bs : List ℕ) → IsSorted bs → IsSorted (put_by_name all a bs)
+  sorted-put : (a : ℕ) (bs : List ℕ) → IsSorted bs → IsSorted (put_by_name names a bs)
   sorted-put a [] h = ((λ p lt. tt), tt)
-  sorted-put a (b ∷ bs) h = by (comes_before (name_of all a) (name_of all b)) refl (sorted-put a bs h.1)
+  sorted-put a (b ∷ bs) h = by (comes_before (name_in names a) (name_in names b)) refl (sorted-put a bs h.1)
     where
-      by : (c : Bool) → comes_before (name_of all a) (name_of all b) ≡ c → IsSorted (put_by_name all a bs) → IsSorted (if c then a ∷ b ∷ bs else b ∷ put_by_name all a bs)
-      by true e rest = ((λ p lt. (let far = further p (name_of all a) (name_of all b) lt e in (far, h.0 p far))), h)
-      by false e rest = ((λ p lt. after-put p a bs (h.0 p lt) (between p (name_of all b) (name_of all a) lt e)), rest)
+      by : (c : Bool) → comes_before (name_in names a) (name_in names b) ≡ c → IsSorted (put_by_name names a bs) → IsSorted (if c then a ∷ b ∷ bs else b ∷ put_by_name names a bs)
+      by true e rest = ((λ p lt. (let far = further p (name_in names a) (name_in names b) lt e in (far, h.0 p far))), h)
+      by false e rest = ((λ p lt. after-put p a bs (h.0 p lt) (between p (name_in names b) (name_in names a) lt e)), rest)
 
-  sorted-all : (chosen : List ℕ) → IsSorted (sorted all chosen)
+  sorted-all : (chosen : List ℕ) → IsSorted (sorted names chosen)
   sorted-all [] = tt
-  sorted-all (a ∷ rest) = sorted-put a (sorted all rest) (sorted-all rest)
+  sorted-all (a ∷ rest) = sorted-put a (sorted names rest) (sorted-all rest)
 
   module _ {X : Type 0} (value : ℕ → Option X) where
     abbrev pair_of : ℕ → X → Text × X
-    pair_of a v = (name_of all a, v)
+    pair_of a v = (name_in names a, v)
 
     -- a pair whose name comes before all stands in front
-    placed-front : (p : Text) (v : X) (bs : List ℕ) → AllAfter p bs → placed_by_name {X = X} (p, v) (listed all value bs) ≡ (p, v) ∷ listed all value bs
+    placed-front : (p : Text) (v : X) (bs : List ℕ) → AllAfter p bs → placed_by_name {X = X} (p, v) (listed names value bs) ≡ (p, v) ∷ listed names value bs
     placed-front p v [] h = refl
     placed-front p v (b ∷ bs) h = by (value b) (placed-front p v bs h.1)
       where
-        by : (o : Option X) → placed_by_name {X = X} (p, v) (listed all value bs) ≡ (p, v) ∷ listed all value bs
-            → placed_by_name {X = X} (p, v) (cons_option (option_map (pair_of b) o) (listed all value bs)) ≡ (p, v) ∷ cons_option (option_map (pair_of b) o) (listed all value bs)
+        by : (o : Option X) → placed_by_name {X = X} (p, v) (listed names value bs) ≡ (p, v) ∷ listed names value bs
+            → placed_by_name {X = X} (p, v) (cons_option (option_map (pair_of b) o) (listed names value bs)) ≡ (p, v) ∷ cons_option (option_map (pair_of b) o) (listed names value bs)
         by None rest = rest
-        by (Some w) rest = (λ i. if h.0 i then (p, v) ∷ pair_of b w ∷ listed all value bs else pair_of b w ∷ placed_by_name {X = X} (p, v) (listed all value bs))
+        by (Some w) rest = (λ i. if h.0 i then (p, v) ∷ pair_of b w ∷ listed names value bs else pair_of b w ∷ placed_by_name {X = X} (p, v) (listed names value bs))
 
-    listed-put : (a : ℕ) (v : X) → value a ≡ Some v → (bs : List ℕ) → IsSorted bs → listed all value (put_by_name all a bs) ≡ placed_by_name {X = X} (pair_of a v) (listed all value bs)
+    listed-put : (a : ℕ) (v : X) → value a ≡ Some v → (bs : List ℕ) → IsSorted bs → listed names value (put_by_name names a bs) ≡ placed_by_name {X = X} (pair_of a v) (listed names value bs)
     listed-put a v is [] h = (λ i. cons_option (option_map (pair_of a) (is i)) [])
-    listed-put a v is (b ∷ bs) h = by (comes_before (name_of all a) (name_of all b)) refl (listed-put a v is bs h.1)
+    listed-put a v is (b ∷ bs) h = by (comes_before (name_in names a) (name_in names b)) refl (listed-put a v is bs h.1)
       where
-        behind : comes_before (name_of all a) (name_of all b) ≡ false → (o : Option X) → listed all value (put_by_name all a bs) ≡ placed_by_name {X = X} (pair_of a v) (listed all value bs)
-            → cons_option (option_map (pair_of b) o) (listed all value (put_by_name all a bs)) ≡ placed_by_name {X = X} (pair_of a v) (cons_option (option_map (pair_of b) o) (listed all value bs))
+        behind : comes_before (name_in names a) (name_in names b) ≡ false → (o : Option X) → listed names value (put_by_name names a bs) ≡ placed_by_name {X = X} (pair_of a v) (listed names value bs)
+            → cons_option (option_map (pair_of b) o) (listed names value (put_by_name names a bs)) ≡ placed_by_name {X = X} (pair_of a v) (cons_option (option_map (pair_of b) o) (listed names value bs))
         behind e None rest = rest
         behind e (Some w) rest =
             (λ i. pair_of b w ∷ rest i)
-            ∙ (λ i. if sym e i then pair_of a v ∷ pair_of b w ∷ listed all value bs else pair_of b w ∷ placed_by_name {X = X} (pair_of a v) (listed all value bs))
+            ∙ (λ i. if sym e i then pair_of a v ∷ pair_of b w ∷ listed names value bs else pair_of b w ∷ placed_by_name {X = X} (pair_of a v) (listed names value bs))
 
-        by : (c : Bool) → comes_before (name_of all a) (name_of all b) ≡ c → listed all value (put_by_name all a bs) ≡ placed_by_name {X = X} (pair_of a v) (listed all value bs)
-            → listed all value (if c then a ∷ b ∷ bs else b ∷ put_by_name all a bs) ≡ placed_by_name {X = X} (pair_of a v) (listed all value (b ∷ bs))
-        by true e rest = (λ i. cons_option (option_map (pair_of a) (is i)) (listed all value (b ∷ bs))) ∙ sym (placed-front (name_of all a) v (b ∷ bs) (e, h.0 (name_of all a) e))
+        by : (c : Bool) → comes_before (name_in names a) (name_in names b) ≡ c → listed names value (put_by_name names a bs) ≡ placed_by_name {X = X} (pair_of a v) (listed names value bs)
+            → listed names value (if c then a ∷ b ∷ bs else b ∷ put_by_name names a bs) ≡ placed_by_name {X = X} (pair_of a v) (listed names value (b ∷ bs))
+        by true e rest = (λ i. cons_option (option_map (pair_of a) (is i)) (listed names value (b ∷ bs))) ∙ sym (placed-front (name_in names a) v (b ∷ bs) (e, h.0 (name_in names a) e))
         by false e rest = behind e (value b) rest
 
-    listed-skip : (a : ℕ) → value a ≡ None → (bs : List ℕ) → listed all value (put_by_name all a bs) ≡ listed all value bs
+    listed-skip : (a : ℕ) → value a ≡ None → (bs : List ℕ) → listed names value (put_by_name names a bs) ≡ listed names value bs
     listed-skip a is [] = (λ i. cons_option (option_map (pair_of a) (is i)) [])
-    listed-skip a is (b ∷ bs) = by (comes_before (name_of all a) (name_of all b)) (listed-skip a is bs)
+    listed-skip a is (b ∷ bs) = by (comes_before (name_in names a) (name_in names b)) (listed-skip a is bs)
       where
-        by : (c : Bool) → listed all value (put_by_name all a bs) ≡ listed all value bs → listed all value (if c then a ∷ b ∷ bs else b ∷ put_by_name all a bs) ≡ listed all value (b ∷ bs)
-        by true rest = (λ i. cons_option (option_map (pair_of a) (is i)) (listed all value (b ∷ bs)))
+        by : (c : Bool) → listed names value (put_by_name names a bs) ≡ listed names value bs → listed names value (if c then a ∷ b ∷ bs else b ∷ put_by_name names a bs) ≡ listed names value (b ∷ bs)
+        by true rest = (λ i. cons_option (option_map (pair_of a) (is i)) (listed names value (b ∷ bs)))
         by false rest = (λ i. cons_option (option_map (pair_of b) (value b)) (rest i))
 
-    listed-sorted : (chosen : List ℕ) → listed all value (sorted all chosen) ≡ in_name_order {X = X} (listed all value chosen)
+    listed-sorted : (chosen : List ℕ) → listed names value (sorted names chosen) ≡ in_name_order {X = X} (listed names value chosen)
     listed-sorted [] = refl
     listed-sorted (a ∷ rest) = by (value a) refl (listed-sorted rest)
       where
-        by : (o : Option X) → value a ≡ o → listed all value (sorted all rest) ≡ in_name_order {X = X} (listed all value rest)
-            → listed all value (put_by_name all a (sorted all rest)) ≡ in_name_order {X = X} (listed all value (a ∷ rest))
-        by None is later = listed-skip a is (sorted all rest) ∙ later ∙ (λ i. in_name_order {X = X} (cons_option (option_map (pair_of a) (sym is i)) (listed all value rest)))
+        by : (o : Option X) → value a ≡ o → listed names value (sorted names rest) ≡ in_name_order {X = X} (listed names value rest)
+            → listed names value (put_by_name names a (sorted names rest)) ≡ in_name_order {X = X} (listed names value (a ∷ rest))
+        by None is later = listed-skip a is (sorted names rest) ∙ later ∙ (λ i. in_name_order {X = X} (cons_option (option_map (pair_of a) (sym is i)) (listed names value rest)))
         by (Some v) is later =
-            listed-put a v is (sorted all rest) (sorted-all rest)
+            listed-put a v is (sorted names rest) (sorted-all rest)
             ∙ ap (placed_by_name {X = X} (pair_of a v)) later
-            ∙ (λ i. in_name_order {X = X} (cons_option (option_map (pair_of a) (sym is i)) (listed all value rest)))
+            ∙ (λ i. in_name_order {X = X} (cons_option (option_map (pair_of a) (sym is i)) (listed names value rest)))
 
-    listed-from : (n : ℕ) (xs : List Automation) → ((i : ℕ) (x : Automation) → slice_get xs i ≡ Some x → slice_get all (n + i) ≡ Some x)
-        → filter_map (given value) (enumerate_from n xs) ≡ listed all value (numbers_from n (length xs))
+    listed-from : (n : ℕ) (xs : List Automation) → ((i : ℕ) (x : Automation) → slice_get xs i ≡ Some x → slice_get names (n + i) ≡ Some x.name)
+        → filter_map (given value) (enumerate_from n xs) ≡ listed names value (numbers_from n (length xs))
     listed-from n [] h = refl
     listed-from n (x ∷ xs) h =
-        let here : slice_get all n ≡ Some x = (let e : n ≡ n + 0 = omega arith in ap (slice_get all) e ∙ h 0 x refl) in
-        let later : (i : ℕ) (y : Automation) → slice_get xs i ≡ Some y → slice_get all ((n + 1) + i) ≡ Some y
-        = λ i y is. (let e : (n + 1) + i ≡ n + suc i = omega arith in ap (slice_get all) e ∙ h (suc i) y is) in
-        (λ i. cons_option (option_map (λ v. (option_map_or (λ (y : Automation). y.name) (sym here i) [], v)) (value n)) (listed-from (n + 1) xs later i))
+        let here : slice_get names n ≡ Some x.name = (let e : n ≡ n + 0 = omega arith in ap (slice_get names) e ∙ h 0 x refl) in
+        let later : (i : ℕ) (y : Automation) → slice_get xs i ≡ Some y → slice_get names ((n + 1) + i) ≡ Some y.name
+        = λ i y is. (let e : (n + 1) + i ≡ n + suc i = omega arith in ap (slice_get names) e ∙ h (suc i) y is) in
+        (λ i. cons_option (option_map (λ v. (unwrap_or (sym here i) [], v)) (value n)) (listed-from (n + 1) xs later i))
 
-    pub listed-all : filter_map (given value) (enumerate_from 0 all) ≡ listed all value (up_to (length all))
-    listed-all = listed-from 0 all (λ i x is. (let e : 0 + i ≡ i = omega arith in ap (slice_get all) e ∙ is))
+-- the name at a place is that of what stands there
+name-there : (all : List Automation) (i : ℕ) (x : Automation) → slice_get all i ≡ Some x → slice_get (names_of all) i ≡ Some x.name
+name-there [] i x is = absurd (none-some x is)
+name-there (y ∷ all) zero x is = (λ k. Some (some-same y x is k).name)
+name-there (y ∷ all) (suc i) x is = name-there all i x is
 
-    -- LAW: what is listed by name are the values of all automations, in the order of their names
-    pub listed-by-name : listed all value (by_name all) ≡ in_name_order {X = X} (filter_map (given value) (enumerate_from 0 all))
-    listed-by-name = listed-sorted (up_to (length all)) ∙ ap (in_name_order {X = X}) (sym listed-all)
+module _ (all : List Automation) {X : Type 0} (value : ℕ → Option X) where
+  listed-all : filter_map (given value) (enumerate_from 0 all) ≡ listed (names_of all) value (up_to (length all))
+  listed-all = listed-from (names_of all) value 0 all (λ i x is. (let e : 0 + i ≡ i = omega arith in ap (slice_get (names_of all)) e ∙ name-there all i x is))
+
+  -- LAW: what is listed by name are the values of all, in the order of their names
+  pub listed-by-name : listed (names_of all) value (by_name (names_of all)) ≡ in_name_order {X = X} (filter_map (given value) (enumerate_from 0 all))
+  listed-by-name =
+      listed-sorted (names_of all) value (up_to (length (names_of all)))
+      ∙ (λ i. in_name_order {X = X} (listed (names_of all) value (up_to (length-map all (λ (a : Automation). a.name) i))))
+      ∙ ap (in_name_order {X = X}) (sym listed-all)
 
 -- ---- how they are put in order
 
@@ -198,17 +210,17 @@ pub text-order : (xs ys : Text) (r : Bool) → r ≡ is_some_and is_lt (slice_pa
 text-order = same_from_slice_cmp_tested nat_cmp is_lt comes_before refl (λ _ _. refl) (λ _ _. refl) (λ x y xs ys o h. grind (arith, nat_tests))
 
 -- one that is inserted before the first that it comes before
-pub inserted : (all : List Automation) (a : ℕ) (bs : List ℕ) → insert bs (position_or_len (λ b. comes_before (name_of all a) (name_of all b)) bs) a ≡ put_by_name all a bs
-inserted all a [] = refl
-inserted all a (b ∷ bs) = by (comes_before (name_of all a) (name_of all b)) (inserted all a bs)
+pub inserted : (names : List Text) (a : ℕ) (bs : List ℕ) → insert bs (position_or_len (λ b. comes_before (name_in names a) (name_in names b)) bs) a ≡ put_by_name names a bs
+inserted names a [] = refl
+inserted names a (b ∷ bs) = by (comes_before (name_in names a) (name_in names b)) (inserted names a bs)
   where
     next : (m : ℕ) → insert (b ∷ bs) (1 + m) a ≡ b ∷ insert bs m a
     next m = (let e : 1 + m ≡ suc m = omega arith in λ i. insert (b ∷ bs) (e i) a)
 
-    by : (c : Bool) → insert bs (position_or_len (λ b. comes_before (name_of all a) (name_of all b)) bs) a ≡ put_by_name all a bs
-        → insert (b ∷ bs) (cond (not c) (1 + position_or_len (λ b. comes_before (name_of all a) (name_of all b)) bs) 0) a ≡ (if c then a ∷ b ∷ bs else b ∷ put_by_name all a bs)
+    by : (c : Bool) → insert bs (position_or_len (λ b. comes_before (name_in names a) (name_in names b)) bs) a ≡ put_by_name names a bs
+        → insert (b ∷ bs) (cond (not c) (1 + position_or_len (λ b. comes_before (name_in names a) (name_in names b)) bs) 0) a ≡ (if c then a ∷ b ∷ bs else b ∷ put_by_name names a bs)
     by true rest = refl
-    by false rest = next (position_or_len (λ b. comes_before (name_of all a) (name_of all b)) bs) ∙ ap (λ (l : List ℕ). b ∷ l) rest
+    by false rest = next (position_or_len (λ b. comes_before (name_in names a) (name_in names b)) bs) ∙ ap (λ (l : List ℕ). b ∷ l) rest
 
 prefix-most : (p : ℕ → Bool) (xs : List ℕ) → prefix_len p xs ≤ length xs
 prefix-most p [] = omega arith
@@ -226,54 +238,54 @@ place-is p xs = by (nat_lt (position_or_len p xs) (length xs)) refl (prefix-most
     by true e le = refl
     by false e le = (let ge : length xs ≤ position_or_len p xs = grind (arith, nat_tests) in omega (arith, le, ge))
 
-module _ (all : List Automation) (a : ℕ) (order seen : List ℕ) (place : ℕ) (same : seen ≡ order)
-    (is : place ≡ unwrap_or (position (λ b. comes_before (name_of all a) (name_of all b)) seen) (length seen)) where
-  place-of : place ≡ position_or_len (λ b. comes_before (name_of all a) (name_of all b)) order
-  place-of = is ∙ place-is (λ b. comes_before (name_of all a) (name_of all b)) seen ∙ (λ i. position_or_len (λ b. comes_before (name_of all a) (name_of all b)) (same i))
+module _ (names : List Text) (a : ℕ) (order seen : List ℕ) (place : ℕ) (same : seen ≡ order)
+    (is : place ≡ unwrap_or (position (λ b. comes_before (name_in names a) (name_in names b)) seen) (length seen)) where
+  place-of : place ≡ position_or_len (λ b. comes_before (name_in names a) (name_in names b)) order
+  place-of = is ∙ place-is (λ b. comes_before (name_in names a) (name_in names b)) seen ∙ (λ i. position_or_len (λ b. comes_before (name_in names a) (name_in names b)) (same i))
 
   pub place-within : place ≤ length order
-  place-within = (let le = prefix-most (λ x. not (comes_before (name_of all a) (name_of all x))) order in omega (arith, place-of, le))
+  place-within = (let le = prefix-most (λ x. not (comes_before (name_in names a) (name_in names x))) order in omega (arith, place-of, le))
 
-  pub put-there : (new : List ℕ) → new ≡ insert order place a → new ≡ put_by_name all a order
-  put-there new e = e ∙ (λ i. insert order (place-of i) a) ∙ inserted all a order
+  pub put-there : (new : List ℕ) → new ≡ insert order place a → new ≡ put_by_name names a order
+  put-there new e = e ∙ (λ i. insert order (place-of i) a) ∙ inserted names a order
 
 -- the last ones are in order, and then one more
-pub one-more : (all : List Automation) (n left : ℕ) → 0 < left → left ≤ n → put_by_name all (left - 1) (sorted all (numbers_from left (n - left))) ≡ sorted all (numbers_from (left - 1) (n - (left - 1)))
-one-more all n left more within =
+pub one-more : (names : List Text) (n left : ℕ) → 0 < left → left ≤ n → put_by_name names (left - 1) (sorted names (numbers_from left (n - left))) ≡ sorted names (numbers_from (left - 1) (n - (left - 1)))
+one-more names n left more within =
     let count : suc (n - left) ≡ n - (left - 1) = omega (arith, more, within) in
     let first : left ≡ (left - 1) + 1 = omega (arith, more) in
-    (λ i. put_by_name all (left - 1) (sorted all (numbers_from (first i) (n - left))))
-    ∙ (λ i. sorted all (numbers_from (left - 1) (count i)))
+    (λ i. put_by_name names (left - 1) (sorted names (numbers_from (first i) (n - left))))
+    ∙ (λ i. sorted names (numbers_from (left - 1) (count i)))
 
-pub none-left : (all : List Automation) (n : ℕ) → sorted all (numbers_from n (n - n)) ≡ []
-none-left all n = (let e : n - n ≡ 0 = omega arith in λ i. sorted all (numbers_from n (e i)))
+pub none-left : (names : List Text) (n : ℕ) → sorted names (numbers_from n (n - n)) ≡ []
+none-left names n = (let e : n - n ≡ 0 = omega arith in λ i. sorted names (numbers_from n (e i)))
 
-pub all-left : (all : List Automation) (n : ℕ) → sorted all (numbers_from 0 (n - 0)) ≡ sorted all (up_to n)
-all-left all n = (let e : n - 0 ≡ n = omega arith in λ i. sorted all (numbers_from 0 (e i)))
+pub all-left : (names : List Text) (n : ℕ) → sorted names (numbers_from 0 (n - 0)) ≡ sorted names (up_to n)
+all-left names n = (let e : n - 0 ≡ n = omega arith in λ i. sorted names (numbers_from 0 (e i)))
 
 -- ---- one more of them
 
 -- what is listed with one automation more
-pub listed-more : {X : Type 0} (all : List Automation) (value : ℕ → Option X) (order : List ℕ) (i a : ℕ) → i < length order → a ≡ get_or order i a
-    → listed all value (take (i + 1) order) ≡ listed all value (take i order) ++ option_map_or (λ v. (name_of all a, v) ∷ []) (value a) []
-listed-more {X} all value order i a lt is =
-    ap (listed all value) (take_more order i a lt)
-    ∙ filter_map-append (λ b. option_map {T = X} {U = Text × X} (λ v. (name_of all b, v)) (value b)) (take i order) (get_or order i a ∷ [])
-    ∙ (λ k. listed all value (take i order) ++ cons_option (option_map {T = X} {U = Text × X} (λ v. (name_of all (sym is k), v)) (value (sym is k))) [])
-    ∙ (λ k. listed all value (take i order) ++ one (value a) k)
+pub listed-more : {X : Type 0} (names : List Text) (value : ℕ → Option X) (order : List ℕ) (i a : ℕ) → i < length order → a ≡ get_or order i a
+    → listed names value (take (i + 1) order) ≡ listed names value (take i order) ++ option_map_or (λ v. (name_in names a, v) ∷ []) (value a) []
+listed-more {X} names value order i a lt is =
+    ap (listed names value) (take_more order i a lt)
+    ∙ filter_map-append (λ b. option_map {T = X} {U = Text × X} (λ v. (name_in names b, v)) (value b)) (take i order) (get_or order i a ∷ [])
+    ∙ (λ k. listed names value (take i order) ++ cons_option (option_map {T = X} {U = Text × X} (λ v. (name_in names (sym is k), v)) (value (sym is k))) [])
+    ∙ (λ k. listed names value (take i order) ++ one (value a) k)
   where
-    one : (o : Option X) → cons_option (option_map {T = X} {U = Text × X} (λ v. (name_of all a, v)) o) [] ≡ option_map_or (λ v. (name_of all a, v) ∷ []) o []
+    one : (o : Option X) → cons_option (option_map {T = X} {U = Text × X} (λ v. (name_in names a, v)) o) [] ≡ option_map_or (λ v. (name_in names a, v) ∷ []) o []
     one None = refl
     one (Some v) = refl
 
 -- so it is where the value of the next one in the order is put behind the others
-pub listed-next : {X : Type 0} (all : List Automation) (value : ℕ → Option X) (order : List ℕ) (i : ℕ) (made new : List (Text × X)) (o : Option X)
-    → i < length order → made ≡ listed all value (take i order) → o ≡ value (get_or order i 0)
-    → new ≡ made ++ option_map_or (λ v. (name_of all (get_or order i 0), v) ∷ []) o [] → new ≡ listed all value (take (i + 1) order)
-listed-next {X} all value order i made new o lt before told is =
+pub listed-next : {X : Type 0} (names : List Text) (value : ℕ → Option X) (order : List ℕ) (i : ℕ) (made new : List (Text × X)) (o : Option X)
+    → i < length order → made ≡ listed names value (take i order) → o ≡ value (get_or order i 0)
+    → new ≡ made ++ option_map_or (λ v. (name_in names (get_or order i 0), v) ∷ []) o [] → new ≡ listed names value (take (i + 1) order)
+listed-next {X} names value order i made new o lt before told is =
     is
-    ∙ (λ k. before k ++ option_map_or {T = X} {U = List (Text × X)} (λ v. (name_of all a, v) ∷ []) (told k) [])
-    ∙ sym (listed-more all value order i a lt (get_or_default order i 0 a lt))
+    ∙ (λ k. before k ++ option_map_or {T = X} {U = List (Text × X)} (λ v. (name_in names a, v) ∷ []) (told k) [])
+    ∙ sym (listed-more names value order i a lt (get_or_default order i 0 a lt))
   where
     a : ℕ
     a = get_or order i 0
@@ -281,3 +293,22 @@ listed-next {X} all value order i made new o lt before told is =
 -- the name of the automation at a place
 pub named-at : (all : List Automation) (at : ℕ) (d : Automation) → at < length all → (get_or all at d).name ≡ name_of all at
 named-at all at d lt = (λ i. option_map_or {T = Automation} {U = Text} (λ x. x.name) (sym (slice_get-get_or all at d lt) i) [])
+
+-- ---- all names in turn
+
+name-place : (all : List Automation) (n : ℕ) → get_or (names_of all) n [] ≡ name_of all n
+name-place [] n = refl
+name-place (x ∷ all) zero = refl
+name-place (x ∷ all) (suc n) = name-place all n
+
+-- one name more behind those before it
+pub names-more : (all : List Automation) (n : ℕ) (old new : List Text) (x : Text) → n < length all → old ≡ take n (names_of all) → x ≡ name_of all n → new ≡ old ++ (x ∷ []) → new ≡ take (n + 1) (names_of all)
+names-more all n old new x lt before told is =
+    let count = length-map all (λ (a : Automation). a.name) in
+    is ∙ (λ i. before i ++ ((told ∙ sym (name-place all n)) i ∷ [])) ∙ sym (take_more (names_of all) n [] (omega (arith, lt, count)))
+
+-- none is left
+pub names-done : (all : List Automation) (n : ℕ) (made : List Text) → length all ≤ n → made ≡ take n (names_of all) → made ≡ names_of all
+names-done all n made past is =
+    let count = length-map all (λ (a : Automation). a.name) in
+    is ∙ take_all n (names_of all) (omega (arith, past, count))

@@ -1,4 +1,4 @@
--- The number of each record is one more than how many of its automation stand before it; so the last one's is how many there are.
+-- The number of each record is one more than how many of its unit stand before it; so the last one's is how many there are.
 use Rattle.std.proofs.Common.{◌≡◌, ◌∙◌, ap, refl, sym, subst, ℕ, zero, suc, ◌+◌, ◌<◌, inl, inr, Bool, true, false, cond, Option, List, [], ◌∷◌, ◌++◌, arith, append_assoc}
 use Rattle.std.specs.Prelude.{Some, None, filter, length, nat_eq, option_map, unwrap_or, if◌then◌else◌}
 use Rattle.std.proofs.lemmas.Bool.Decides.{nat_tests}
@@ -7,7 +7,7 @@ use Rattle.ha_config.specs.declared.config.Automation.{Automation}
 use Rattle.ha_config.specs.Words.{last_of, or_else}
 use Rattle.ha_config.specs.Names.{name_of}
 use Rattle.ha_config.proofs.ListLemmas.{append-nil}
-use Rattle.ha_journal.specs.Journal.{Journal, automations}
+use Rattle.ha_journal.specs.Journal.{Journal, units}
 use Rattle.ha_laws.specs.Told.{HaveRecords, Tried, passing_below}
 use Rattle.ha_laws.proofs.ToldAdmitted.{records-admitted}
 use Rattle.ha_model.specs.declared.record.Record.{Record}
@@ -30,7 +30,7 @@ counted-told all before (t ∷ ts) (r ∷ rs) (inl h) = (h.1.number ∙ (λ i. s
 counted-told all before (t ∷ ts) (r ∷ rs) (inr h) = counted-told all before ts (r ∷ rs) h.1
 
 pub counted-own : (s : Journal) → Counted [] (records_of s)
-counted-own s = counted-told (automations s) [] (passing_below s (length s)) (records_of s) (records-admitted s)
+counted-own s = counted-told (units s) [] (passing_below s (length s)) (records_of s) (records-admitted s)
 
 -- ---- counts
 
@@ -56,8 +56,8 @@ placed-append n s (x ∷ xs) ys = (λ i. placed n s x ∷ placed-append n s xs y
 
 -- ---- those of a segment among all
 
-module _ (n : ℕ) (s : Journal) (c : Records) (bases : (a : ℕ) → a < length (automations s) → carried_number s (name_of (automations s) a) ≡ runs_of c a) where
-  placed-counted : (before rs : Records) → AllKnown (length (automations s)) rs → Counted before rs → Counted (c ++ placed_all n s before) (placed_all n s rs)
+module _ (n : ℕ) (s : Journal) (c : Records) (bases : (a : ℕ) → a < length (units s) → carried_number s (name_of (units s) a) ≡ runs_of c a) where
+  placed-counted : (before rs : Records) → AllKnown (length (units s)) rs → Counted before rs → Counted (c ++ placed_all n s before) (placed_all n s rs)
   placed-counted before [] known h = tt
   placed-counted before (r ∷ rs) known h =
       let a = r.automation in
@@ -65,7 +65,7 @@ module _ (n : ℕ) (s : Journal) (c : Records) (bases : (a : ℕ) → a < length
       let own = h.0 in
       let both = runs-append c (placed_all n s before) a in
       let old = runs-placed n s before a in
-      let number : carried_number s (name_of (automations s) a) + r.number ≡ suc (runs_of (c ++ placed_all n s before) a) = omega (arith, base, own, both, old) in
+      let number : carried_number s (name_of (units s) a) + r.number ≡ suc (runs_of (c ++ placed_all n s before) a) = omega (arith, base, own, both, old) in
       let more : c ++ placed_all n s (before ++ (r ∷ [])) ≡ (c ++ placed_all n s before) ++ (placed n s r ∷ [])
       = (λ i. c ++ placed-append n s before (r ∷ []) i) ∙ sym (append_assoc c (placed_all n s before) (placed n s r ∷ [])) in
       (number, subst (λ l. Counted l (placed_all n s rs)) more (placed-counted (before ++ (r ∷ [])) rs known.1 h.1))
@@ -75,8 +75,8 @@ counted-both before [] ys h k = subst (λ l. Counted l ys) (append-nil before) k
 counted-both before (x ∷ xs) ys h k = (h.0, counted-both (before ++ (x ∷ [])) xs ys h.1 (subst (λ l. Counted l ys) (sym (append_assoc before (x ∷ []) xs)) k))
 
 -- LAW: so it is of the records of closed segments and those of the next one, placed behind them
-pub counted-placed : (n : ℕ) (s : Journal) (c : Records) → ((a : ℕ) → a < length (automations s) → carried_number s (name_of (automations s) a) ≡ runs_of c a)
-    → (rs : Records) → AllKnown (length (automations s)) rs → Counted [] rs → Counted [] c → Counted [] (c ++ placed_all n s rs)
+pub counted-placed : (n : ℕ) (s : Journal) (c : Records) → ((a : ℕ) → a < length (units s) → carried_number s (name_of (units s) a) ≡ runs_of c a)
+    → (rs : Records) → AllKnown (length (units s)) rs → Counted [] rs → Counted [] c → Counted [] (c ++ placed_all n s rs)
 counted-placed n s c bases rs known own closed =
     counted-both [] c (placed_all n s rs) closed (subst (λ l. Counted l (placed_all n s rs)) (append-nil c) (placed-counted n s c bases [] rs known own))
 
@@ -145,7 +145,7 @@ else-none : {X : Type 0} (o : Option X) → or_else o None ≡ o
 else-none None = refl
 else-none (Some x) = refl
 
--- LAW: the number of an automation's last record is how many it has
+-- LAW: the number of a unit's last record is how many it has
 pub last-number : (rs : Records) (a : ℕ) → Counted [] rs → option_map (λ (r : Record). r.number) (last_run a rs) ≡ if_some (runs_of rs a)
 last-number rs a h = sym (else-none (option_map (λ (r : Record). r.number) (last_run a rs))) ∙ last-is a None rs ∙ counted-last a [] rs None refl h
 

@@ -9,14 +9,15 @@ use Rattle.std.proofs.lemmas.Bool.Decides.{nat_tests}
 use Rattle.ha_config.specs.declared.config.Automation.{Automation}
 use Rattle.ha_config.specs.Words.{Text, EachAfter, numbers_from, up_to}
 use Rattle.ha_config.specs.Names.{name_of}
+use Rattle.ha_config.specs.Units.{units_of}
 use Rattle.ha_config.specs.ValueFacts.{all_distinct}
 use Rattle.ha_config.proofs.ListLemmas.{append-nil}
 use Rattle.ha_journal.specs.declared.entry.Entry.{Entry}
 use Rattle.ha_journal.specs.declared.entry.Entry.TheVariants.{Boot, Line, Step, Again}
 use Rattle.ha_journal.specs.Entries.{Reopening, again_in, is_again}
-use Rattle.ha_journal.specs.Journal.{Journal, HasEntry, automations, more}
+use Rattle.ha_journal.specs.Journal.{Journal, HasEntry, more, units}
 use Rattle.ha_journal.specs.Journal as one
-use Rattle.ha_journal.proofs.MoreLemmas.{automations-more, has-entry}
+use Rattle.ha_journal.proofs.MoreLemmas.{has-entry, units-more}
 use Rattle.ha_laws.proofs.PrefixLaws.{has-more}
 use Rattle.ha_model.specs.declared.record.Record.{Record}
 use Rattle.ha_model.specs.Lawful.{is_line_of, shuts}
@@ -28,7 +29,7 @@ use Rattle.ha_whole.specs.Segments.{alone, carried_number, cut, entries_in, fron
 use Rattle.ha_whole.specs.Whole.{AreEntries, IsBehind, IsFirst, again_of, carry_of, numbers_of, records_from, records_of}
 use Rattle.segment_runs.specs.Segment.{runs_of}
 use Rattle.switch_book.specs.Book.{names_of}
-use Rattle.whole_laws.proofs.CutLemmas.{IsCut, closed-again, closed-on, cut-behind, cut-first, entries-snoc, records-cut, segment-again, segment-on}
+use Rattle.whole_laws.proofs.CutLemmas.{IsCut, closed-again, closed-on, cut-behind, cut-first, entries-snoc, records-cut, segment-again, segment-on, units-are}
 use Rattle.whole_laws.proofs.NamedLemmas.{named-in-order}
 use Rattle.segment_carry.specs.ByName.{if_some}
 use Rattle.segment_carry.specs.Hands.{Counted, Hands, closed_of}
@@ -124,7 +125,7 @@ hands-first (Boot text config stored start zone carry) h = record {
   shut = λ s lt. (λ i. list_any (nat_eq s) (sym h.shut i) || false);
   agains = refl;
   counted = tt;
-  numbers = λ a lt. (λ i. unwrap_or (named (name_of config.automations a) (h.numbers i)) 0);
+  numbers = λ a lt. (λ i. unwrap_or (named (name_of (units_of config) a) (h.numbers i)) 0);
 }
 hands-first (Line source number cmd) h = absurd h
 hands-first (Step worker serial branch item) h = absurd h
@@ -159,16 +160,16 @@ hands-on k x c has none h =
           count-more is_again k x ∙ (λ i. count_by is_again k + cond (is_some (none i)) 1 0) ∙ plus ∙ (λ i. length (sym closed i));
       counted = subst (Counted []) (sym records) h.counted;
       numbers = λ a lt.
-          let same : automations k ≡ automations (more k x) = automations-more k x has in
+          let same : units k ≡ units (more k x) = units-more k x has in
           (λ i. carried_number (segment-on k x none i) (name_of (sym same i) a))
-          ∙ carried-more s (alone s x) (name_of (automations k) a) (has-entry s c.alone)
+          ∙ carried-more s (alone s x) (name_of (units k) a) (has-entry s c.alone)
           ∙ h.numbers a (omega (arith, lt, ap length same))
           ∙ (λ i. runs_of (sym records i) a);
     }
 
 -- ---- behind the Again of a journal
 
--- what a segment opened so takes over of an automation's runs
+-- what a segment opened so takes over of a unit's runs
 reopened-number : (s : Journal) (a : Reopening) (name : Text) → one.IsJournal s → carried_number (reopened s a) name ≡ unwrap_or (named name a.carry.numbers) 0
 reopened-number [] a name h = absurd h
 reopened-number (Boot text config stored start zone carry ∷ es) a name h = refl
@@ -180,10 +181,10 @@ named-by : (name : Text) (o : Option Record) → option_map (λ (r : Record). (n
 named-by name None = refl
 named-by name (Some r) = refl
 
--- the numbers that are carried are how many runs each automation has had
-pub numbers-are : (k : Journal) → Counted [] (records_of k) → numbers_of k ≡ filter_map (given (λ a. if_some (runs_of (records_of k) a))) (enumerate_from 0 (automations k))
+-- the numbers that are carried are how many runs each unit has had
+pub numbers-are : (k : Journal) → Counted [] (records_of k) → numbers_of k ≡ filter_map (given (λ a. if_some (runs_of (records_of k) a))) (enumerate_from 0 (units k))
 numbers-are k h =
-    (λ i. filter_map (λ (p : ℕ × Automation). (named-by p.1.name (last_run p.0 (records_of k)) ∙ (λ j. option_map {T = ℕ} {U = Text × ℕ} (λ v. (p.1.name, v)) (last-number (records_of k) p.0 h j))) i) (enumerate_from 0 (automations k)))
+    (λ i. filter_map (λ (p : ℕ × Automation). (named-by p.1.name (last_run p.0 (records_of k)) ∙ (λ j. option_map {T = ℕ} {U = Text × ℕ} (λ v. (p.1.name, v)) (last-number (records_of k) p.0 h j))) i) (enumerate_from 0 (units k)))
 
 get-within : {X : Type 0} (xs : List X) (i : ℕ) → i < length xs → (x : X) × (slice_get xs i ≡ Some x)
 get-within [] i lt = absurd (omega (arith, lt))
@@ -204,12 +205,12 @@ found-in-order {X} value all a d lt =
 pub counted-whole : (k : Journal) → IsCut k → Hands k → Counted [] (records_of k)
 counted-whole k c h =
     let s = segment k in
-    let bases : (a : ℕ) → a < length (automations s) → carried_number s (name_of (automations s) a) ≡ runs_of (closed_of k) a
-    = λ a lt. (λ i. carried_number s (name_of (c.automations_are i) a)) ∙ h.numbers a (omega (arith, lt, ap length c.automations_are)) in
+    let bases : (a : ℕ) → a < length (units s) → carried_number s (name_of (units s) a) ≡ runs_of (closed_of k) a
+    = λ a lt. (λ i. carried_number s (name_of (units-are k c i) a)) ∙ h.numbers a (omega (arith, lt, ap length (units-are k c))) in
     subst (Counted []) (sym (records-cut k))
     (counted-placed (front k) s (closed_of k) bases (all.records_of s) (all-known s) (counted-own s) h.counted)
 
-pub hands-again : (k : Journal) → IsCut k → HasEntry k → all_distinct (names_of (automations k)) ≡ true → Hands k → Hands (more k (again_of k))
+pub hands-again : (k : Journal) → IsCut k → HasEntry k → all_distinct (names_of (units k)) ≡ true → Hands k → Hands (more k (again_of k))
 hands-again k c has distinct h =
     let x = again_of k in
     let s = segment k in
@@ -241,35 +242,35 @@ hands-again k c has distinct h =
           omega (arith, old, one, all, more_closed);
       counted = subst (Counted []) (sym records) whole;
       numbers = λ q lt.
-          let same : automations k ≡ automations (more k x) = automations-more k x has in
-          let within : q < length (automations k) = omega (arith, lt, ap length same) in
-          let name = name_of (automations k) q in
+          let same : units k ≡ units (more k x) = units-more k x has in
+          let within : q < length (units k) = omega (arith, lt, ap length same) in
+          let name = name_of (units k) q in
           (λ i. carried_number (segment-again k x a refl i) (name_of (sym same i) q))
           ∙ reopened-number s a name c.alone
           ∙ (λ i. unwrap_or (named name (in_name_order (numbers-are k whole i))) 0)
-          ∙ (λ i. unwrap_or (found-in-order (λ b. if_some (runs_of (records_of k) b)) (automations k) q distinct within i) 0)
+          ∙ (λ i. unwrap_or (found-in-order (λ b. if_some (runs_of (records_of k) b)) (units k) q distinct within i) 0)
           ∙ some-or (runs_of (records_of k) q)
           ∙ (λ i. runs_of (sym records i) q);
     }
 
 -- ---- along a journal
 
-hands-behind : (k : Journal) (x : Entry) → IsCut k → HasEntry k → all_distinct (names_of (automations k)) ≡ true → IsBehind k x → Hands k → Hands (more k x)
+hands-behind : (k : Journal) (x : Entry) → IsCut k → HasEntry k → all_distinct (names_of (units k)) ≡ true → IsBehind k x → Hands k → Hands (more k x)
 hands-behind k (Boot text config stored start zone carry) c has d b h = absurd b
 hands-behind k (Line source number cmd) c has d b h = hands-on k (Line source number cmd) c has refl h
 hands-behind k (Step worker serial branch item) c has d b h = hands-on k (Step worker serial branch item) c has refl h
 hands-behind k (Again number start stored carry) c has d b h = subst (λ y. Hands (more k y)) (sym b.1) (hands-again k c has d h)
 
-hands-from : (before xs : Journal) → IsCut before → HasEntry before → all_distinct (names_of (automations before)) ≡ true → EachAfter IsBehind before xs → Hands before → Hands (before ++ xs)
+hands-from : (before xs : Journal) → IsCut before → HasEntry before → all_distinct (names_of (units before)) ≡ true → EachAfter IsBehind before xs → Hands before → Hands (before ++ xs)
 hands-from before [] c has d b h = subst Hands (sym (append-nil before)) h
 hands-from before (x ∷ xs) c has d b h =
     subst Hands (append_assoc before (x ∷ []) xs)
     (hands-from (more before x) xs (cut-behind before x c has b.0) (has-more before x has)
-    (subst (λ l. all_distinct (names_of l) ≡ true) (automations-more before x has) d)
+    (subst (λ l. all_distinct (names_of l) ≡ true) (units-more before x has) d)
     b.1 (hands-behind before x c has d b.0 h))
 
 -- THE LAW: the opening of the last segment, and the entries behind it, tell of the whole journal
-pub hands-of : (k : Journal) → AreEntries k → all_distinct (names_of (automations k)) ≡ true → Hands k
+pub hands-of : (k : Journal) → AreEntries k → all_distinct (names_of (units k)) ≡ true → Hands k
 hands-of [] h d = absurd h
 hands-of (e ∷ es) h d = hands-from (e ∷ []) es (cut-first e h.0) tt d h.1 (hands-first e h.0)
 

@@ -6,9 +6,9 @@ use Rattle.ha_config.specs.Names.{name_of}
 use Rattle.ha_config.specs.ValueFacts.{all_distinct}
 use Rattle.ha_journal.specs.declared.entry.Entry.TheVariants.{Boot, Line, Step, Again}
 use Rattle.ha_journal.specs.Entries.{Reopening}
-use Rattle.ha_journal.specs.Journal.{Journal, automations, more}
+use Rattle.ha_journal.specs.Journal.{Journal, automations, more, units}
 use Rattle.ha_journal.specs.Journal as one
-use Rattle.ha_journal.proofs.MoreLemmas.{automations-more}
+use Rattle.ha_journal.proofs.MoreLemmas.{units-more}
 use Rattle.ha_model.specs.declared.record.EndCause.{EndCause}
 use Rattle.ha_model.specs.declared.record.Record.{Record}
 use Rattle.ha_model.specs.Records as all
@@ -22,26 +22,26 @@ use Rattle.run_modes.specs.Table.{end_one, is_stopped, stopped}
 use Rattle.segment_runs.specs.Goes.{moved_all}
 use Rattle.segment_runs.specs.Segment.{all_of, runs_of}
 use Rattle.switch_book.specs.Book.{names_of}
-use Rattle.whole_laws.proofs.CutLemmas.{closed-again, is-cut, records-cut, segment-again}
+use Rattle.whole_laws.proofs.CutLemmas.{closed-again, is-cut, records-cut, segment-again, units-are}
 use Rattle.segment_carry.specs.Closing.{AreAsMany}
 use Rattle.segment_carry.specs.Hands.{closed_of}
 use Rattle.segment_carry.proofs.HandsLemmas.{entries-have, found-in-order, hands-again, hands-of}
 
-pub closed-numbers : (k : Journal) → AreEntries k → all_distinct (names_of (automations k)) ≡ true → (a : ℕ) → a < length (automations k) → carried_number (segment k) (name_of (automations k) a) ≡ runs_of (closed_of k) a
+pub closed-numbers : (k : Journal) → AreEntries k → all_distinct (names_of (units k)) ≡ true → (a : ℕ) → a < length (units k) → carried_number (segment k) (name_of (units k) a) ≡ runs_of (closed_of k) a
 closed-numbers k h d = (hands-of k h d).numbers
 
-pub next-numbers : (k : Journal) → AreEntries k → all_distinct (names_of (automations k)) ≡ true → (a : ℕ) → a < length (automations k)
-    → carried_number (segment (more k (again_of k))) (name_of (automations k) a) ≡ runs_of (records_of k) a
+pub next-numbers : (k : Journal) → AreEntries k → all_distinct (names_of (units k)) ≡ true → (a : ℕ) → a < length (units k)
+    → carried_number (segment (more k (again_of k))) (name_of (units k) a) ≡ runs_of (records_of k) a
 next-numbers k h d a lt =
     let x = again_of k in
-    let same : automations k ≡ automations (more k x) = automations-more k x (entries-have k h) in
+    let same : units k ≡ units (more k x) = units-more k x (entries-have k h) in
     (λ i. carried_number (segment (more k x)) (name_of (same i) a))
     ∙ (hands-again k (is-cut k h) (entries-have k h) d (hands-of k h d)).numbers a (omega (arith, lt, ap length same))
     ∙ (λ i. runs_of (records_from 0 (closed-again k x _ refl i)) a)
 
 -- records that are placed among all are those that a table moves
-moved-placed : (n : ℕ) (s : Journal) (c : Records) → carried s ≡ length c → ((a : ℕ) → a < length (automations s) → carried_number s (name_of (automations s) a) ≡ runs_of c a)
-    → (rs : Records) → AllKnown (length (automations s)) rs → placed_all n s rs ≡ moved_all n (length c) (runs_of c) rs
+moved-placed : (n : ℕ) (s : Journal) (c : Records) → carried s ≡ length c → ((a : ℕ) → a < length (units s) → carried_number s (name_of (units s) a) ≡ runs_of c a)
+    → (rs : Records) → AllKnown (length (units s)) rs → placed_all n s rs ≡ moved_all n (length c) (runs_of c) rs
 moved-placed n s c serials numbers [] known = refl
 moved-placed n s c serials numbers (r ∷ rs) known =
     (λ i. record r {
@@ -52,12 +52,12 @@ moved-placed n s c serials numbers (r ∷ rs) known =
       end = option_map {T = ℕ × EndCause} (λ e. (n + e.0, e.1)) r.end;
     } ∷ moved-placed n s c serials numbers rs known.1 i)
 
-pub table-records : (k : Journal) → AreEntries k → all_distinct (names_of (automations k)) ≡ true → records_of k ≡ all_of (record { records = closed_of k; entries = front k }) (all.records_of (segment k))
+pub table-records : (k : Journal) → AreEntries k → all_distinct (names_of (units k)) ≡ true → records_of k ≡ all_of (record { records = closed_of k; entries = front k }) (all.records_of (segment k))
 table-records k h d =
     let c = is-cut k h in
     let s = segment k in
-    let bases : (a : ℕ) → a < length (automations s) → carried_number s (name_of (automations s) a) ≡ runs_of (closed_of k) a
-    = λ a lt. (λ i. carried_number s (name_of (c.automations_are i) a)) ∙ closed-numbers k h d a (omega (arith, lt, ap length c.automations_are)) in
+    let bases : (a : ℕ) → a < length (units s) → carried_number s (name_of (units s) a) ≡ runs_of (closed_of k) a
+    = λ a lt. (λ i. carried_number s (name_of (units-are k c i) a)) ∙ closed-numbers k h d a (omega (arith, lt, ap length (units-are k c))) in
     records-cut k ∙ (λ i. closed_of k ++ moved-placed (front k) s (closed_of k) c.carried_is bases (all.records_of s) (all-known s) i)
 
 -- ---- moments

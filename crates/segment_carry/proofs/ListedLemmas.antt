@@ -1,5 +1,5 @@
 -- What is listed of automations with distinct names is found under each name.
-use Rattle.std.proofs.Common.{◌≡◌, ◌∙◌, ap, refl, sym, ℕ, zero, suc, ◌+◌, Bool, true, false, Option, List, [], ◌∷◌, ◌||◌, arith, true≢false}
+use Rattle.std.proofs.Common.{◌≡◌, ◌∙◌, ap, refl, sym, ℕ, zero, suc, ◌+◌, Bool, true, false, Option, List, [], ◌∷◌, ◌++◌, ◌||◌, arith, true≢false}
 use Rattle.std.specs.Prelude.{Some, None, filter_map, option_map, not, slice_get, if◌then◌else◌, ◌&&◌}
 use Rattle.std.specs.List.{cons_option, enumerate_from, list_any}
 use Rattle.ha_config.specs.declared.config.Automation.{Automation}
@@ -88,3 +88,16 @@ module _ {X : Type 0} (value : ℕ → Option X) where
   pub listed-apart : (all : List Automation) → all_distinct (names_of all) ≡ true → AreApart {X = X} (filter_map (given value) (enumerate_from 0 all))
   unfolding pairs
   listed-apart all d = apart-from 0 all d
+
+fewer : (t : Text) (xs ys : List Automation) → list_any (same t) (names_of (xs ++ ys)) ≡ false → list_any (same t) (names_of xs) ≡ false
+fewer t [] ys h = refl
+fewer t (x ∷ xs) ys h =
+    let parts = either (same t x.name) (list_any (same t) (names_of (xs ++ ys))) h in
+    λ i. parts.0 i || fewer t xs ys parts.1 i
+
+-- LAW: where the names of all differ, those of the first ones do
+pub front-apart : (xs ys : List Automation) → all_distinct (names_of (xs ++ ys)) ≡ true → all_distinct (names_of xs) ≡ true
+front-apart [] ys d = refl
+front-apart (x ∷ xs) ys d =
+    let parts = distinct-parts (list_any (same x.name) (names_of (xs ++ ys))) (all_distinct (names_of (xs ++ ys))) d in
+    λ i. not (fewer x.name xs ys parts.0 i) && front-apart xs ys parts.1 i

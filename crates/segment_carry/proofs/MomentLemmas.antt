@@ -98,7 +98,7 @@ pairs-in-order test (p ∷ ps) = pairs-placed test p (in_name_order ps) ∙ ap (
 
 -- LAW: the moments that the engine has by automation, listed by name, are those that the store keeps
 pub moments-listed : (s : Journal) (ls : List (Option ℕ)) → ls ≡ map (last_triggered s) (up_to (length (automations s)))
-    → listed (automations s) (λ a. unwrap_or (slice_get ls a) None) (by_name (automations s)) ≡ in_name_order (lasts s)
+    → listed (names_of (automations s)) (λ a. unwrap_or (slice_get ls a) None) (by_name (names_of (automations s))) ≡ in_name_order (lasts s)
 moments-listed s ls is =
     let all : List Automation = automations s in
     let at : (a : ℕ) → a < length all → unwrap_or (slice_get ls a) None ≡ last_triggered s a

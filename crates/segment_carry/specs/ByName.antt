@@ -1,25 +1,33 @@
--- The automations in the order of their names, and what is listed of them so.
-use Rattle.std.specs.Prelude.{ℕ, List, [], ◌∷◌, length, nat_eq, Option, Some, None, option_map, filter_map, if◌then◌else◌}
+-- Numbers in the order of the names that have them, and what is listed of them so.
+use Rattle.std.specs.Prelude.{ℕ, List, [], ◌∷◌, length, nat_eq, slice_get, unwrap_or, Option, Some, None, option_map, filter_map, if◌then◌else◌}
 use Rattle.ha_config.specs.declared.config.Automation.{Automation}
 use Rattle.ha_config.specs.Words.{Text, comes_before, up_to}
-use Rattle.ha_config.specs.Names.{name_of}
+use Rattle.switch_book.specs.Book.{names_of}
+
+-- the name at a place; where there is none it is empty
+abbrev pub name_in : List Text → ℕ → Text
+name_in names a = unwrap_or (slice_get names a) []
 
 -- a number among others, in the byte order of the names
-abbrev pub put_by_name : List Automation → ℕ → List ℕ → List ℕ
-put_by_name all a [] = a ∷ []
-put_by_name all a (b ∷ bs) = if comes_before (name_of all a) (name_of all b) then a ∷ b ∷ bs else b ∷ put_by_name all a bs
+abbrev pub put_by_name : List Text → ℕ → List ℕ → List ℕ
+put_by_name names a [] = a ∷ []
+put_by_name names a (b ∷ bs) = if comes_before (name_in names a) (name_in names b) then a ∷ b ∷ bs else b ∷ put_by_name names a bs
 
-abbrev pub sorted : List Automation → List ℕ → List ℕ
-sorted all [] = []
-sorted all (a ∷ rest) = put_by_name all a (sorted all rest)
+abbrev pub sorted : List Text → List ℕ → List ℕ
+sorted names [] = []
+sorted names (a ∷ rest) = put_by_name names a (sorted names rest)
 
--- all automations
-abbrev pub by_name : List Automation → List ℕ
-by_name all = sorted all (up_to (length all))
+-- all of them
+abbrev pub by_name : List Text → List ℕ
+by_name names = sorted names (up_to (length names))
 
--- of these automations each that has a value, with its name
-abbrev pub listed : {X : Type 0} → List Automation → (ℕ → Option X) → List ℕ → List (Text × X)
-listed all value chosen = filter_map (λ a. option_map (λ v. (name_of all a, v)) (value a)) chosen
+-- all automations by theirs
+abbrev pub rule_order : List Automation → List ℕ
+rule_order rules = by_name (names_of rules)
+
+-- of these each that has a value, with its name
+abbrev pub listed : {X : Type 0} → List Text → (ℕ → Option X) → List ℕ → List (Text × X)
+listed names value chosen = filter_map (λ a. option_map (λ v. (name_in names a, v)) (value a)) chosen
 
 -- a number that is not 0
 abbrev pub if_some : ℕ → Option ℕ

@@ -1,12 +1,11 @@
 -- What stands for a journal whose last segment closes.
 use Rattle.std.specs.Prelude.{◌≡◌, ◌<◌, ◌≤◌, ◌^◌, ℕ, true, List, None, length, map, Option, slice_get, unwrap_or}
-use Rattle.ha_config.specs.declared.config.Automation.{Automation}
-use Rattle.ha_config.specs.Words.{up_to}
+use Rattle.ha_config.specs.Words.{Text, up_to}
 use Rattle.ha_config.specs.ValueFacts.{all_distinct}
 use Rattle.ha_journal.specs.declared.carry.Carry.{Carry}
 use Rattle.ha_journal.specs.declared.entry.Entry.{Entry}
 use Rattle.ha_journal.specs.declared.entry.Entry.TheVariants.{Again}
-use Rattle.ha_journal.specs.Journal.{Journal, automations, now}
+use Rattle.ha_journal.specs.Journal.{Journal, automations, now, units}
 use Rattle.ha_model.specs.Records.{Records}
 use Rattle.ha_whole.specs.Lasts.{last_triggered}
 use Rattle.ha_whole.specs.Segments as whole
@@ -28,8 +27,8 @@ pub record AreAsMany (rs others : Records) : Type 0 where
 pub record Closes (k : Journal) (front count at : ℕ) (runs : SegmentTable) (switches : Switches) (lasts : List (Option ℕ)) : Type 0 where
   pub entries : AreEntries k
   pub small : length k < 2 ^ 56
-  pub few : length (automations k) ≤ 1_024
-  pub distinct : all_distinct (names_of (automations k)) ≡ true
+  pub few : length (units k) ≤ 2_048
+  pub distinct : all_distinct (names_of (units k)) ≡ true
   pub front_is : front ≡ whole.front k
   pub count_is : count ≡ length (segments k)
   pub at_is : at ≡ now (segment k)
@@ -39,17 +38,18 @@ pub record Closes (k : Journal) (front count at : ℕ) (runs : SegmentTable) (sw
 
 -- ---- what is made of these
 
--- what the next segment takes over: of automations in this order, by what the closed one took over, its entries behind its opening, the
--- records of all runs, and the moments at which automations last triggered
-abbrev pub carry_made : List Automation → List ℕ → Carry → List Entry → Records → List (Option ℕ) → Carry
-carry_made all order before entries rs lasts = record {
+-- what the next segment takes over: of units and of automations, by their names and in these orders, by what the closed one took over,
+-- its entries behind its opening, the records of all runs, and the moments at which automations last triggered
+abbrev pub carry_made : List Text → List ℕ → List Text → List ℕ → Carry → List Entry → Records → List (Option ℕ) → Carry
+carry_made units by_unit rules by_rule before entries rs lasts = record {
   serials = length rs;
-  numbers = listed all (λ a. if_some (runs_of rs a)) order;
+  numbers = listed units (λ a. if_some (runs_of rs a)) by_unit;
   lines = lines_with before.lines entries;
   shut = shut_with before.shut entries;
-  last = listed all (λ a. unwrap_or (slice_get lasts a) None) order;
+  last = listed rules (λ a. unwrap_or (slice_get lasts a) None) by_rule;
 }
 
-abbrev pub again_made : List Automation → Carry → List Entry → ℕ → ℕ → Records → Switches → List (Option ℕ) → Entry
-again_made all before entries number at rs switches lasts =
-    Again number at (listed all (λ a. slice_get (flags switches) a) (by_name all)) (carry_made all (by_name all) before entries rs lasts)
+abbrev pub again_made : List Text → List Text → Carry → List Entry → ℕ → ℕ → Records → Switches → List (Option ℕ) → Entry
+again_made units rules before entries number at rs switches lasts =
+    Again number at (listed rules (λ a. slice_get (flags switches) a) (by_name rules))
+    (carry_made units (by_name units) rules (by_name rules) before entries rs lasts)

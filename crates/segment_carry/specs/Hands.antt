@@ -4,7 +4,7 @@ use Rattle.std.specs.List.{list_any}
 use Rattle.ha_config.specs.Names.{name_of}
 use Rattle.ha_journal.specs.declared.entry.Entry.{Entry}
 use Rattle.ha_journal.specs.Entries.{BeginsSegment, is_again}
-use Rattle.ha_journal.specs.Journal.{Journal, automations}
+use Rattle.ha_journal.specs.Journal.{Journal, units}
 use Rattle.ha_model.specs.Lawful.{is_line_of, shuts}
 use Rattle.ha_model.specs.Records.{Records}
 use Rattle.ha_whole.specs.Segments.{carried_number, cut, front, segment}
@@ -16,14 +16,14 @@ use Rattle.segment_carry.specs.Sources.{carry_in}
 abbrev pub closed_of : Journal → Records
 closed_of k = records_from 0 (cut k).closed
 
--- the number of each of these records, behind others, is one more than how many of its automation stand before it
+-- the number of each of these records, behind others, is one more than how many of its unit stand before it
 abbrev pub Counted : Records → Records → Type 0
 Counted before [] = Unit {0}
 Counted before (r ∷ rs) = (r.number ≡ suc (runs_of before r.automation)) × Counted (before ++ (r ∷ [])) rs
 
 -- the journal is what stands before its last segment, what opened that, and the entries behind the opening. What the opening took over of
--- sources, and those entries, tell how many lines each source gave and which of them have no further line; what it took over of an
--- automation's runs is how many of them closed segments have
+-- sources, and those entries, tell how many lines each source gave and which of them have no further line; what it took over of a unit's
+-- runs is how many of them closed segments have
 pub record Hands (k : Journal) : Type 0 where
   pub before : List Entry
   pub opening : Entry
@@ -35,4 +35,4 @@ pub record Hands (k : Journal) : Type 0 where
   pub shut : (s : ℕ) → s < 16 → list_any (shuts s) k ≡ (list_any (nat_eq s) (carry_in opening).shut || list_any (shuts s) behind)
   pub agains : count_by is_again k ≡ length (cut k).closed
   pub counted : Counted [] (closed_of k)
-  pub numbers : (a : ℕ) → a < length (automations k) → carried_number (segment k) (name_of (automations k) a) ≡ runs_of (closed_of k) a
+  pub numbers : (a : ℕ) → a < length (units k) → carried_number (segment k) (name_of (units k) a) ≡ runs_of (closed_of k) a

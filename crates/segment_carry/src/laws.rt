@@ -2,7 +2,7 @@
 ghost use Rattle.std.specs.Prelude.{◌≡◌, ◌<◌, ℕ, Option, true, length};
 ghost use Rattle.ha_config.specs.Names.{name_of};
 ghost use Rattle.ha_config.specs.ValueFacts.{all_distinct};
-ghost use Rattle.ha_journal.specs.Journal.{Journal, automations, more};
+ghost use Rattle.ha_journal.specs.Journal.{Journal, automations, more, units};
 ghost use Rattle.ha_model.specs.declared.record.EndCause.{EndCause};
 ghost use Rattle.ha_model.specs.Records.{Records, records_of as records_alone};
 ghost use Rattle.ha_whole.specs.Lasts.{last_triggered, lasts, lasts_carried};
@@ -17,17 +17,17 @@ ghost use Rattle.segment_carry.specs.Hands.{Hands, closed_of};
 
 /// What the opening of the last segment took over, and the entries behind it, tell of the whole journal.
 pub fn the_opening_tells()
-    ensures { (k : Journal) → AreEntries k → all_distinct (names_of (automations k)) ≡ true → Hands k }
+    ensures { (k : Journal) → AreEntries k → all_distinct (names_of (units k)) ≡ true → Hands k }
 {}
 
-/// An automation's runs are numbered on from segment to segment: what is carried for its name is how many it has had. So the records of all
+/// A unit's runs are numbered on from segment to segment: what is carried for its name is how many it has had. So the records of all
 /// segments are those of the table that goes on behind the closed ones.
 pub fn numbers_go_on()
-    ensures closed { (k : Journal) → AreEntries k → all_distinct (names_of (automations k)) ≡ true → (a : ℕ) → a < length (automations k)
-        → carried_number (segment k) (name_of (automations k) a) ≡ runs_of (closed_of k) a }
-    ensures next { (k : Journal) → AreEntries k → all_distinct (names_of (automations k)) ≡ true → (a : ℕ) → a < length (automations k)
-        → carried_number (segment (more k (again_of k))) (name_of (automations k) a) ≡ runs_of (records_of k) a }
-    ensures table { (k : Journal) → AreEntries k → all_distinct (names_of (automations k)) ≡ true
+    ensures closed { (k : Journal) → AreEntries k → all_distinct (names_of (units k)) ≡ true → (a : ℕ) → a < length (units k)
+        → carried_number (segment k) (name_of (units k) a) ≡ runs_of (closed_of k) a }
+    ensures next { (k : Journal) → AreEntries k → all_distinct (names_of (units k)) ≡ true → (a : ℕ) → a < length (units k)
+        → carried_number (segment (more k (again_of k))) (name_of (units k) a) ≡ runs_of (records_of k) a }
+    ensures table { (k : Journal) → AreEntries k → all_distinct (names_of (units k)) ≡ true
         → records_of k ≡ all_of (record { records = closed_of k; entries = front k }) (records_alone (segment k)) }
 {}
 

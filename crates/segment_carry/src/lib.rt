@@ -8,5 +8,4 @@ mod order;
 mod sources;
 
 pub use closing::{Closing, again};
-pub use lists::{lasts, moments};
-pub use order::by_name;
+pub use lists::{lasts, rule_moments, rule_order};

@@ -1,43 +1,67 @@
-//! What is listed of automations by their names.
-ghost use Rattle.std.specs.Prelude.{◌≡◌, ◌++◌, ◌∷◌, [], ℕ, IfOk, OnOk, None, Some, length, map, nat_eq, slice_get, unwrap_or, if◌then◌else◌};
+//! What is listed of units and automations by their names.
+ghost use Rattle.std.specs.Prelude.{◌≡◌, ◌++◌, ◌∷◌, [], ◌≤◌, ℕ, IfOk, OnOk, None, Some, length, map, nat_eq, slice_get, unwrap_or, if◌then◌else◌};
 ghost use Rattle.std.specs.Option.{option_map_or};
 ghost use Rattle.ha_config.specs.Names.{name_of};
+ghost use Rattle.ha_config.specs.Units.{units_of};
 ghost use Rattle.ha_config.specs.Words.{up_to};
 ghost use Rattle.ha_whole.specs.Named.{named};
 ghost use Rattle.segment_runs.specs.Segment.{all_of, runs_of};
-ghost use Rattle.switch_book.specs.Book.{flags};
-ghost use Rattle.segment_carry.specs.ByName.{if_some, listed};
+ghost use Rattle.switch_book.specs.Book.{flags, names_of};
+ghost use Rattle.segment_carry.specs.ByName.{if_some, listed, name_in, rule_order};
 
+use crate::order::by_name;
 use ha_clock::Moment;
-use ha_config::{Automation, same_text};
+use ha_config::{Automation, Config, run_name, same_text};
 use ha_value::{Many, Plain, Word};
 use segment_runs::SegmentRuns;
 use std::alloc::{AllocError, Global};
 use switch_book::Switches;
 
-/// The name of an automation; a number that names none has the empty one.
-fn name(alloc: Global, automations: &[Automation], at: u32) -> Result<Word, AllocError>
-    ensures { IfOk result (λ name. name ≡ name_of automations.now at) }
+/// How many units there are.
+fn unit_count(config: &Config) -> usize
+    requires { length (units_of config.now) ≤ 2_048 }
+    ensures { result ≡ length (units_of config.now) }
 {
-    match automations.get(at as usize) {
-        Some(automation) => automation.name.copy(alloc),
+    config.automations.len() + config.scripts.len()
+}
+
+/// The names of the units' runs, those of the automations first.
+pub fn names(alloc: Global, config: &Config) -> Result<Many<Word>, AllocError>
+    requires { length (units_of config.now) ≤ 2_048 }
+    ensures { IfOk result (λ names. names ≡ names_of (units_of config.now)) }
+{
+    let count = unit_count(config);
+    let mut names = Many::with_room(alloc, count)?;
+    'units: for at in 0..count {
+        let name = run_name(alloc, config, at as u32)?;
+        names.push(name)?;
+    }
+    Ok(names)
+}
+
+/// The name at a place; where there is none it is empty.
+fn name(alloc: Global, names: &[Word], at: u32) -> Result<Word, AllocError>
+    ensures { IfOk result (λ name. name ≡ name_in names.now at) }
+{
+    match names.get(at as usize) {
+        Some(name) => name.copy(alloc),
         None => Ok(Word::new(alloc)),
     }
 }
 
-/// Puts the value of an automation behind others, under its name, where it has one.
+/// Puts the value of a number behind others, under its name, where it has one.
 fn put<T: Drop>(
     alloc: Global,
     all: &mut Many<(Word, T)>,
-    automations: &[Automation],
+    names: &[Word],
     at: u32,
     value: Option<T>,
 ) -> Result<(), AllocError>
-    ensures { OnOk result (all.new ≡ all.old ++ option_map_or (λ v. (name_of automations.now at, v) ∷ []) value []) }
+    ensures { OnOk result (all.new ≡ all.old ++ option_map_or (λ v. (name_in names.now at, v) ∷ []) value []) }
 {
     match value {
         Some(value) => {
-            let name = name(alloc, automations, at)?;
+            let name = name(alloc, names, at)?;
             all.push((name, value))?;
             Ok(())
         }
@@ -48,16 +72,16 @@ fn put<T: Drop>(
 /// The switches of these automations, in their order.
 pub fn switches(
     alloc: Global,
-    automations: &[Automation],
+    names: &[Word],
     order: &[u32],
     switches: &Switches,
 ) -> Result<Many<(Word, bool)>, AllocError>
-    ensures { IfOk result (λ made. made ≡ listed automations.now (λ a. slice_get (flags switches.now) a) order.now) }
+    ensures { IfOk result (λ made. made ≡ listed names.now (λ a. slice_get (flags switches.now) a) order.now) }
 {
     let mut made = Many::with_room(alloc, order.len())?;
-    'automations: for at in order {
+    'chosen: for at in order {
         let on = switches.is_on(*at);
-        put(alloc, &mut made, automations, *at, on)?;
+        put(alloc, &mut made, names, *at, on)?;
     }
     Ok(made)
 }
@@ -69,19 +93,19 @@ fn some_number(number: u64) -> Option<u64>
     if number == 0 { None } else { Some(number) }
 }
 
-/// How many runs each of these automations has had, in their order; none where it had none.
+/// How many runs each of these units has had, in their order; none where it had none.
 pub fn numbers(
     alloc: Global,
-    automations: &[Automation],
+    names: &[Word],
     order: &[u32],
     runs: &SegmentRuns,
 ) -> Result<Many<(Word, u64)>, AllocError>
-    ensures { IfOk result (λ made. made ≡ listed automations.now (λ a. if_some (runs_of (all_of runs.now.closed runs.now.list) a)) order.now) }
+    ensures { IfOk result (λ made. made ≡ listed names.now (λ a. if_some (runs_of (all_of runs.now.closed runs.now.list) a)) order.now) }
 {
     let mut made = Many::make(alloc);
-    'automations: for at in order {
+    'chosen: for at in order {
         let number = some_number(runs.made(*at));
-        put(alloc, &mut made, automations, *at, number)?;
+        put(alloc, &mut made, names, *at, number)?;
     }
     Ok(made)
 }
@@ -99,16 +123,84 @@ fn moment_at(lasts: &[Option<Moment>], at: u32) -> Option<Moment>
 /// When each of these automations last triggered, in their order.
 pub fn moments(
     alloc: Global,
+    names: &[Word],
+    order: &[u32],
+    lasts: &[Option<Moment>],
+) -> Result<Many<(Word, Moment)>, AllocError>
+    ensures { IfOk result (λ made. made ≡ listed names.now (λ a. unwrap_or (slice_get lasts.now a) None) order.now) }
+{
+    let mut made = Many::make(alloc);
+    'chosen: for at in order {
+        let last = moment_at(lasts, *at);
+        put(alloc, &mut made, names, *at, last)?;
+    }
+    Ok(made)
+}
+
+/// The names of the automations.
+fn rule_names(alloc: Global, automations: &[Automation]) -> Result<Many<Word>, AllocError>
+    ensures { IfOk result (λ names. names ≡ names_of automations.now) }
+{
+    let mut names = Many::with_room(alloc, automations.len())?;
+    'automations: for at in 0..automations.len() {
+        let name = automations[at].name.copy(alloc)?;
+        names.push(name)?;
+    }
+    Ok(names)
+}
+
+/// The automations in the byte order of their names.
+pub fn rule_order(alloc: Global, automations: &[Automation]) -> Result<Many<u32>, AllocError>
+    requires { length automations.now ≤ 1_024 }
+    ensures { IfOk result (λ order. order ≡ rule_order automations.now) }
+{
+    let names = rule_names(alloc, automations)?;
+    by_name(alloc, names.as_slice())
+}
+
+/// The name of an automation; a number that names none has the empty one.
+fn rule_name(alloc: Global, automations: &[Automation], at: u32) -> Result<Word, AllocError>
+    ensures { IfOk result (λ name. name ≡ name_of automations.now at) }
+{
+    match automations.get(at as usize) {
+        Some(automation) => automation.name.copy(alloc),
+        None => Ok(Word::new(alloc)),
+    }
+}
+
+/// Puts the moment of an automation behind others, under its name, where it has one.
+fn put_moment(
+    alloc: Global,
+    all: &mut Many<(Word, Moment)>,
+    automations: &[Automation],
+    at: u32,
+    last: Option<Moment>,
+) -> Result<(), AllocError>
+    ensures { OnOk result (all.new ≡ all.old ++ option_map_or (λ v. (name_of automations.now at, v) ∷ []) last []) }
+{
+    match last {
+        Some(last) => {
+            let name = rule_name(alloc, automations, at)?;
+            all.push((name, last))?;
+            Ok(())
+        }
+        None => Ok(()),
+    }
+}
+
+/// When automations last triggered, in this order of them. It copies the names of those alone that did.
+pub fn rule_moments(
+    alloc: Global,
     automations: &[Automation],
     order: &[u32],
     lasts: &[Option<Moment>],
 ) -> Result<Many<(Word, Moment)>, AllocError>
-    ensures { IfOk result (λ made. made ≡ listed automations.now (λ a. unwrap_or (slice_get lasts.now a) None) order.now) }
+    ensures { IfOk result (λ made. made ≡ listed (names_of automations.now) (λ a. unwrap_or (slice_get lasts.now a) None) order.now) }
 {
     let mut made = Many::make(alloc);
-    'automations: for at in order {
+    'chosen: for at in order {
         let last = moment_at(lasts, *at);
-        put(alloc, &mut made, automations, *at, last)?;
+        put_moment(alloc, &mut made, automations, *at, last)?;
     }
     Ok(made)
 }

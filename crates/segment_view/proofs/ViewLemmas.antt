@@ -9,7 +9,7 @@ use Rattle.ha_journal.specs.declared.entry.Entry.{Entry}
 use Rattle.ha_journal.specs.declared.entry.Entry.TheVariants.{Boot, Line, Step, Again}
 use Rattle.ha_config.specs.Words.{Text}
 use Rattle.ha_journal.specs.Entries.{step_of, IsBoot}
-use Rattle.ha_journal.specs.Journal.{automations}
+use Rattle.ha_journal.specs.Journal.{automations, configured}
 use Rattle.ha_whole.specs.Segments.{counted_from}
 use Rattle.segment_view.specs.Views.{IsStepper, seen_behind, step_at}
 
@@ -28,6 +28,16 @@ automations-seen (Boot text config stored start zone carry) (Again number start'
 automations-seen (Line source number cmd) opening settled base c h = absurd h
 automations-seen (Step worker serial branch item) opening settled base c h = absurd h
 automations-seen (Again number start stored carry) opening settled base c h = absurd h
+
+-- its configuration is that of the boot
+pub configured-seen : (boot opening : Entry) (settled : List Entry) (base : ℕ) (c : Config) → IsBootWith boot c → configured (seen_behind boot opening settled base) ≡ c
+configured-seen (Boot text config stored start zone carry) (Boot text' config' stored' start' zone' carry') settled base c h = h
+configured-seen (Boot text config stored start zone carry) (Line source number cmd) settled base c h = h
+configured-seen (Boot text config stored start zone carry) (Step worker serial branch item) settled base c h = h
+configured-seen (Boot text config stored start zone carry) (Again number start' stored' carry') settled base c h = h
+configured-seen (Line source number cmd) opening settled base c h = absurd h
+configured-seen (Step worker serial branch item) opening settled base c h = absurd h
+configured-seen (Again number start stored carry) opening settled base c h = absurd h
 
 pub length-seen : (boot opening : Entry) (settled : List Entry) (base : ℕ) → length settled + 1 ≡ length (seen_behind boot opening settled base)
 length-seen boot opening settled base = omega (arith, length-counted settled)

@@ -1,7 +1,8 @@
 //! The entries of the last segment so far.
 ghost use Rattle.std.specs.Prelude.{◌≡◌, ◌-◌, ◌<◌, ◌^◌, length, option_map};
 ghost use Rattle.ha_journal.specs.Entries.{step_of};
-ghost use Rattle.ha_journal.specs.Journal.{HasEntry, automations};
+ghost use Rattle.ha_config.specs.Units.{units_of};
+ghost use Rattle.ha_journal.specs.Journal.{HasEntry, automations, configured, units};
 ghost use Rattle.ha_model.specs.Records.{actions_of};
 ghost use Rattle.segment_view.specs.Views.{HasBoot, IsStepper, seen_at};
 
@@ -49,12 +50,17 @@ pub fn serial_of(entry: &Entry, base: u64) -> Option<u64>
     }
 }
 
-/// The script of an automation of a configuration; a number that names none has no action.
-pub fn script_of(config: &Config, automation: u32) -> &[Action]
-    ensures { result.now ≡ actions_of config.now.automations automation }
+/// The actions of a unit of a configuration; a number that names none has no action.
+pub fn script_of(config: &Config, unit: u32) -> &[Action]
+    ensures { result.now ≡ actions_of (units_of config.now) unit }
 {
-    match config.automations.get(automation as usize) {
-        Some(rule) => rule.actions.as_slice(),
+    let at = unit as usize;
+    let automations = config.automations.as_slice();
+    if at < automations.len() {
+        return automations[at].actions.as_slice();
+    }
+    match config.scripts.get(at - automations.len()) {
+        Some(script) => script.actions.as_slice(),
         None => &[],
     }
 }
@@ -78,6 +84,7 @@ impl<'a> Behind<'a> {
     /// The configuration.
     pub fn configuration(&self) -> &Config
         ensures automations { result.now.automations ≡ automations self.now }
+        ensures configured { result.now ≡ configured self.now }
         ensures some { HasEntry self.now }
     {
         match self.boot {
@@ -86,11 +93,11 @@ impl<'a> Behind<'a> {
         }
     }
 
-    /// The script of an automation; a number that names none has no action.
-    pub fn script(&self, automation: u32) -> &[Action]
-        ensures { result.now ≡ actions_of (automations self.now) automation }
+    /// The actions of a unit; a number that names none has no action.
+    pub fn script(&self, unit: u32) -> &[Action]
+        ensures { result.now ≡ actions_of (units self.now) unit }
     {
-        script_of(self.configuration(), automation)
+        script_of(self.configuration(), unit)
     }
 
     /// How many entries there are: the place of the one that stands next.

@@ -1,7 +1,7 @@
 //! The last segment with its last entry.
 ghost use Rattle.std.specs.Prelude.{◌≡◌, ◌+◌, ◌<◌, ◌^◌, length};
 ghost use Rattle.ha_journal.specs.declared.entry.Entry.{Entry as Item};
-ghost use Rattle.ha_journal.specs.Journal.{Journal, automations, last_place, more};
+ghost use Rattle.ha_journal.specs.Journal.{Journal, automations, configured, last_place, more, units};
 ghost use Rattle.ha_model.specs.Records.{actions_of};
 ghost use Rattle.segment_view.specs.Views.{HasBoot, IsStepper, seen_at};
 
@@ -53,16 +53,17 @@ impl<'a> Segment<'a> {
 
     /// The configuration.
     pub fn configuration(&self) -> &Config
-        ensures { result.now.automations ≡ automations self.now }
+        ensures automations { result.now.automations ≡ automations self.now }
+        ensures configured { result.now ≡ configured self.now }
     {
         self.behind.configuration()
     }
 
-    /// The script of an automation; a number that names none has no action.
-    pub fn script(&self, automation: u32) -> &[Action]
-        ensures { result.now ≡ actions_of (automations self.now) automation }
+    /// The actions of a unit; a number that names none has no action.
+    pub fn script(&self, unit: u32) -> &[Action]
+        ensures { result.now ≡ actions_of (units self.now) unit }
     {
-        script_of(self.configuration(), automation)
+        script_of(self.configuration(), unit)
     }
 
     /// The last entry.

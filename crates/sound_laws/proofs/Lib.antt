@@ -1,3 +1,5 @@
 pub mod FreeNames
 pub mod SlugNames
 pub mod SoundConfigs
+pub mod SoundParts
+pub mod SoundScripts

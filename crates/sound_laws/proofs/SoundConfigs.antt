@@ -1,21 +1,19 @@
 -- The configuration that is read of a sound tree is sound.
-use Rattle.std.proofs.Common.{◌≡◌, ◌∙◌, ap, sym, subst, refl, ℕ, ◌+◌, ◌≤◌, ◌<◌, ◌^◌, Bool, true, false, cond, List, [], ◌∷◌, length, map, Option, Some, None, Ok, Err, arith, length-append, inl, inr}
-use Rattle.std.specs.Prelude.{◌&&◌, nat_le, unwrap_or, option_map, option_and_then, slice_get}
+use Rattle.std.proofs.Common.{◌≡◌, sym, subst, refl, ℕ, ◌+◌, ◌≤◌, ◌<◌, ◌^◌, Bool, true, false, cond, List, [], ◌∷◌, length, map, Option, Some, None, Ok, Err, arith, length-append, inl, inr}
+use Rattle.std.specs.Prelude.{◌&&◌, if◌then◌else◌, nat_le, unwrap_or, option_map, slice_get}
 use Rattle.std.specs.List.{list_all}
 use Rattle.std.proofs.lemmas.Bool.{and_parts, le-leb}
 use Rattle.std.proofs.lemmas.Option.{slice_get_cases}
 use Rattle.ha_value.specs.Ids.{is_name}
-use Rattle.ha_clock.specs.SpanText.{number_of}
 use Rattle.ha_config.specs.declared.config.Action.{Action}
 use Rattle.ha_config.specs.declared.config.ActionKind.TheVariants as does
-use Rattle.ha_config.specs.declared.config.ActionKind.TheOpen.{ActionKind-F}
-use Rattle.ha_config.specs.declared.config.ActionKind.TheFolds.{fold-ActionKind, fold-roll-ActionKind, fold_out-Action}
 use Rattle.ha_config.specs.declared.config.Automation.{Automation}
 use Rattle.ha_config.specs.declared.config.Condition.{Condition}
 use Rattle.ha_config.specs.declared.config.Config.{Config}
+use Rattle.ha_config.specs.declared.config.Script.{Script}
 use Rattle.ha_config.specs.declared.config.Trigger.{Trigger}
 use Rattle.ha_config.specs.ValueFacts.{all_distinct}
-use Rattle.ha_config.specs.Sound.{IsSoundConfig, are_sound_actions, are_sound_conditions, are_sound_triggers, is_sound_action, is_sound_automation, sound_kind_step}
+use Rattle.ha_config.specs.Sound.{IsSoundConfig, are_sound_automations, are_sound_scripts, is_sound_config, are_sound_actions, are_sound_conditions, are_sound_triggers, is_sound_automation}
 use Rattle.yaml_scan.specs.declared.fault.Code.TheVariants as code
 use Rattle.yaml_tree.specs.declared.node.Node.{Node}
 use Rattle.yaml_tree.specs.declared.node.NodeKind.TheOpen.{NodeKind-F}
@@ -24,44 +22,25 @@ use Rattle.conf_field.specs.declared.key.Key.TheVariants as key
 use Rattle.conf_field.specs.Holds.{Holds, Each, IfThere}
 use Rattle.conf_field.specs.Readings.{Read, bad, fault, unless}
 use Rattle.conf_field.specs.Fields.{Pair, field, get, keys, need, needed, optional, row}
-use Rattle.conf_field.specs.Kinds.{flag, text, within}
+use Rattle.conf_field.specs.Kinds.{flag, text}
 use Rattle.conf_field.specs.Sizes.{IsSoundTree}
 use Rattle.conf_laws.proofs.Joined.{one_more, pair}
 use Rattle.conf_laws.proofs.Down.{AreSoundPairs, IsSoundShape, most, sound_inside}
-use Rattle.conf_laws.proofs.Parts.{Passes, Reads, either_way, field_sound, finish, known, made_of, of_get, of_need, of_optional, of_scalar, of_wanted, unknown, weaker, with}
+use Rattle.conf_laws.proofs.Parts.{Passes, Reads, either_way, field_sound, finish, known, made_of, of_get, of_need, of_optional, of_wanted, unknown, weaker, with}
 use Rattle.conf_laws.proofs.Triggers.{triggers_sound}
 use Rattle.conf_laws.proofs.Conditions.{conditions_sound}
 use Rattle.conf_laws.proofs.Distinct.{text_distinct}
-use Rattle.action_laws.proofs.SoundActions.{actions_sound}
-use Rattle.conf_auto.specs.Automations.{Settings, action_row, actions_in, asked_name, automation, automation_by, automation_map, build, condition_row, conditions_in, made_automation, mode, most_of, most_runs, or_empty, rows, script_of, trigger_row, triggers_in}
+use Rattle.conf_auto.specs.Automations.{Settings, action_row, actions_in, asked_name, automation, automation_by, automation_map, build, condition_row, conditions_in, made_automation, mode, most_runs, or_empty, rows, script_of, trigger_row, triggers_in}
 use Rattle.conf_auto.specs.Names.{add, free_name, free_number, is_taken, joined, renamed, with_number}
 use Rattle.conf_auto.specs.Read.{IsReadOf}
-use Rattle.conf_auto.specs.Config.{at_most, automations, automations_by, automations_from, config_with, listed, made_list, made_root, of_node, of_root, root_by}
+use Rattle.conf_auto.specs.Config.{at_most, automations, automations_by, automations_from, config_with, listed, made_list, made_root, of_root, root_by}
+use Rattle.conf_auto.specs.Scripts.{scripts}
+use Rattle.sound_laws.proofs.SoundParts.{default_runs, in_most, reads_runs, reads_script, script_sound}
+use Rattle.sound_laws.proofs.SoundScripts.{SoundScripts, reads_scripts}
 use Rattle.sound_laws.proofs.SlugNames.{numbered_name, slug_name}
 use Rattle.sound_laws.proofs.FreeNames.{distinct_more, name_free, number_small}
 
 -- ---- an automation's parts
-
-abbrev in_most : ℕ → Bool
-in_most n = nat_le 1 n && nat_le n 1_000
-
-runs_sound : (t : List ℕ) (n : ℕ) → most_of t ≡ Some n → in_most n ≡ true
-runs_sound t n h = by (number_of t) h
-  where
-    kept : (m : ℕ) (b : Bool) → in_most m ≡ b → cond b (Some m) None ≡ Some n → in_most n ≡ true
-    kept m true e k = let here : m ≡ n = cc in subst (λ x. in_most x ≡ true) here e
-    kept m false e k = absurd cc
-
-    by : (o : Option ℕ) → option_and_then (within 1 1_000) o ≡ Some n → in_most n ≡ true
-    by (Some m) k = kept m (in_most m) refl k
-    by None k = absurd cc
-
-reads_runs : Reads (Passes in_most) most_runs
-reads_runs line n s = of_scalar (Passes in_most) code.Number most_of runs_sound line n
-
-default_runs : (o : Option ℕ) → IfThere (Passes in_most) o → in_most (unwrap_or o 10) ≡ true
-default_runs (Some n) h = h
-default_runs None h = refl
 
 asked_is_name : (alias id : Option (List ℕ)) → is_name (asked_name alias id) ≡ true
 asked_is_name (Some a) id = slug_name a
@@ -74,18 +53,6 @@ SoundTests cs = are_sound_conditions cs ≡ true
 tests_sound : (o : Option (List Condition)) → IfThere SoundTests o → are_sound_conditions (or_empty o) ≡ true
 tests_sound (Some cs) h = h
 tests_sound None h = refl
-
-abbrev block : Action
-block = record { kind = does.Block [] }
-
-block_sound : is_sound_action block ≡ true
-block_sound =
-    fold_out-Action Bool Bool sound_kind_step (λ a. a.kind) block
-    ∙ ap (fold-ActionKind Bool Bool sound_kind_step (λ a. a.kind)) (sym (does.rolls-Block [])) ∙ fold-roll-ActionKind Bool Bool sound_kind_step (λ a. a.kind) (ActionKind-F.Block [])
-
-script_sound : (as' : List Action) → are_sound_actions as' ≡ true → are_sound_actions (script_of as') ≡ true
-script_sound [] h = pair true (is_sound_action block && true) refl (pair (is_sound_action block) true block_sound refl)
-script_sound (a ∷ as') h = h
 
 built_sound : (name : List ℕ) (triggers : List Trigger) (tests : List Condition) (actions : List Action) (settings : Settings)
     → is_name name ≡ true → are_sound_triggers triggers ≡ true → are_sound_conditions tests ≡ true → are_sound_actions actions ≡ true → in_most (unwrap_or settings.1.0 10) ≡ true
@@ -103,9 +70,6 @@ reads_triggers line n s = triggers_sound n s
 
 reads_tests : Reads SoundTests conditions_in
 reads_tests line n s = conditions_sound n s
-
-reads_script : Reads (λ xs. are_sound_actions xs ≡ true) actions_in
-reads_script line n s = actions_sound n s
 
 map_sound : (line : ℕ) (ps : List Pair) → AreSoundPairs ps → Holds (Passes is_sound_automation) (automation_map line ps)
 map_sound line ps s =
@@ -221,20 +185,33 @@ value_sound line n (NodeKind-F.Map pairs) s k = list_sound (n ∷ []) (omega ari
 reads_value : Reads SoundAll automations
 reads_value line n s = value_sound line n (shape_of n) s (sound_inside n s)
 
-root_sound : (line : ℕ) (shape : Shape) → IsSoundShape shape → Holds SoundAll (root_by line shape)
-root_sound line (NodeKind-F.Scalar t plain) s = either_way SoundAll (plain && is_null_word t) (Ok []) (bad line code.Kind) none_sound tt
-root_sound line (NodeKind-F.List items) s = list_sound items s.few s.each
-root_sound line (NodeKind-F.Map pairs) s =
-    finish (with (unknown (keys (row key.Automation ∷ []) pairs)) (known SoundAll (need key.Automation line pairs automations) (of_need SoundAll automations reads_value key.Automation line pairs s)))
-    SoundAll made_root (λ x h. h.1)
-
-config_sound : (all : List Automation) → SoundAll all → IsSoundConfig (config_with all)
-config_sound all s =
+autos_sound : (all : List Automation) → SoundAll all → are_sound_automations all ≡ true
+autos_sound all s =
     pair (nat_le (length all) 1_024 && all_distinct (map (λ (a : Automation). a.name) all)) (list_all is_sound_automation all)
     (pair (nat_le (length all) 1_024) (all_distinct (map (λ (a : Automation). a.name) all)) (le-leb (length all) 1_024 s.few) s.distinct) s.each
 
+config_sound : (all : List Automation) → SoundAll all → IsSoundConfig (config_with all)
+config_sound all s = pair (are_sound_automations all) (are_sound_scripts []) (autos_sound all s) refl
+
+-- with scripts, if the key is there
+given_sound : (all : List Automation) (o : Option (List Script)) → SoundAll all → IfThere SoundScripts o → is_sound_config (record { automations = all; scripts = or_empty o }) ≡ true
+given_sound all (Some ss) s h = pair (are_sound_automations all) (are_sound_scripts ss) (autos_sound all s) h
+given_sound all None s h = pair (are_sound_automations all) (are_sound_scripts []) (autos_sound all s) refl
+
+root_sound : (line : ℕ) (shape : Shape) → IsSoundShape shape → Holds IsSoundConfig (root_by line shape)
+root_sound line (NodeKind-F.Scalar t plain) s =
+    made_of SoundAll IsSoundConfig config_with (if plain && is_null_word t then Ok [] else bad line code.Kind) config_sound
+    (either_way SoundAll (plain && is_null_word t) (Ok []) (bad line code.Kind) none_sound tt)
+root_sound line (NodeKind-F.List items) s = made_of SoundAll IsSoundConfig config_with (listed items) config_sound (list_sound items s.few s.each)
+root_sound line (NodeKind-F.Map pairs) s =
+    finish
+    (with (unknown (keys (row key.Automation ∷ row key.Script ∷ []) pairs))
+    (with (known SoundAll (need key.Automation line pairs automations) (of_need SoundAll automations reads_value key.Automation line pairs s))
+    (known (IfThere SoundScripts) (get key.Script pairs scripts) (of_get SoundScripts scripts reads_scripts key.Script pairs s))))
+    IsSoundConfig made_root (λ x h. given_sound x.1.0 x.1.1 h.1.0 h.1.1)
+
 of_tree : (root : Node) → IsSoundTree root → Holds IsSoundConfig (of_root (Ok root))
-of_tree root s = made_of SoundAll IsSoundConfig config_with (of_node root) config_sound (root_sound (line_of root) (shape_of root) (sound_inside root s))
+of_tree root s = root_sound (line_of root) (shape_of root) (sound_inside root s)
 
 -- LAW: what is read of a text is sound
 pub read_sound : (text : List ℕ) (config : Config) → IsReadOf text config → IsSoundConfig config

@@ -7,7 +7,8 @@ use Rattle.ha_config.specs.declared.config.Automation.{Automation}
 use Rattle.ha_config.specs.declared.config.Config.{Config}
 use Rattle.ha_sight.specs.declared.state.StateObject.{StateObject}
 use Rattle.ha_config.specs.Words.{Text}
-use Rattle.ha_journal.specs.Journal.{Journal, automations, now, zone_of}
+use Rattle.ha_config.specs.Units.{numbered_from, scripts_of}
+use Rattle.ha_journal.specs.Journal.{Journal, automations, now, scripts, zone_of}
 use Rattle.ha_journal.specs.Switches.{is_on}
 use Rattle.ha_journal.specs.States.{of_automation, states, switches_of}
 use Rattle.ha_journal.specs.Moves.{sight}
@@ -37,13 +38,21 @@ all-taken : {X : Type 0} (xs : List X) → take (length xs) xs ≡ xs
 all-taken [] = refl
 all-taken (x ∷ xs) = ap (λ ys. x ∷ ys) (all-taken xs)
 
-pub parts_see : (t : StateTable) (config : Config) (zone : Text) (moment : ℕ) (j : Journal) → IsViewOf t config zone moment j → sight_of t config zone moment ≡ sight j (length j)
+pub parts_see : (t : StateTable) (config : Config) (zone : Text) (moment : ℕ) (j : Journal) → IsViewOf t config zone moment j → sight_of t config zone moment ≡ record (sight j (length j)) { scripts = [] }
 parts_see t config zone moment j is =
     (λ i. record {
       states = fun_ext is.states_are i;
       now = is.now_is i;
       zone = is.zone_is i;
       automations = map {B = Text × Bool} (λ (a : Automation). (a.name, is_shown_on t a.name)) (is.config_is i);
+      scripts = [];
     })
-    ∙ (λ i. record { states = states j; now = now j; zone = zone_of j; automations = switches-seen t j is.states_are (each-named 0 (automations j) is.names_differ) i })
-    ∙ (λ i. record { states = states (sym (all-taken j) i); now = now (sym (all-taken j) i); zone = zone_of j; automations = switches_of (sym (all-taken j) i) })
+    ∙ (λ i. record { states = states j; now = now j; zone = zone_of j; automations = switches-seen t j is.states_are (each-named 0 (automations j) is.names_differ) i; scripts = [] })
+    ∙ (λ i. record { states = states (sym (all-taken j) i); now = now (sym (all-taken j) i); zone = zone_of j; automations = switches_of (sym (all-taken j) i); scripts = [] })
+
+-- LAW: with the scripts of the configuration they see all of it
+pub scripts_see : (t : StateTable) (config : Config) (zone : Text) (moment : ℕ) (j : Journal) → IsViewOf t config zone moment j → config.scripts ≡ scripts j
+    → record (sight_of t config zone moment) { scripts = scripts_of config } ≡ sight j (length j)
+scripts_see t config zone moment j is same =
+    (λ i. record (parts_see t config zone moment j is i) { scripts = scripts_of config })
+    ∙ (λ i. record (sight j (length j)) { scripts = numbered_from (length (is.config_is i)) (same i) })

@@ -1,12 +1,13 @@
 //! Laws of the definitions alone. Each is a function that does nothing; its contract is the law.
-ghost use Rattle.std.specs.Prelude.{◌≡◌, Bool, true, false, ℕ, None, Some, MatchOption, if◌then◌else◌};
+ghost use Rattle.std.specs.Prelude.{◌≡◌, [], Bool, true, false, ℕ, None, Some, MatchOption, if◌then◌else◌};
 ghost use Rattle.ha_value.specs.declared.value.EntityId.{EntityId};
 ghost use Rattle.ha_config.specs.declared.command.Cmd.{Cmd};
 ghost use Rattle.ha_journal.specs.declared.entry.Entry.{Entry};
 ghost use Rattle.ha_journal.specs.declared.entry.Entry.TheVariants.{Line};
 ghost use Rattle.ha_config.specs.Words.{Text, Pairs, same_entity};
 ghost use Rattle.ha_journal.specs.Entries.{report_in, gone_in, is_restart};
-ghost use Rattle.ha_journal.specs.Journal.{Journal, automations, now, more};
+ghost use Rattle.ha_config.specs.Units.{scripts_of};
+ghost use Rattle.ha_journal.specs.Journal.{Journal, automations, now, more, scripts};
 ghost use Rattle.ha_journal.specs.Switches.{is_on};
 ghost use Rattle.ha_journal.specs.States.{states};
 ghost use Rattle.ha_config.specs.Names.{automation_named};
@@ -50,7 +51,10 @@ pub fn states_of_one_more()
         → sets_anew j x e ≡ false → states (more j x) e ≡ states j e }
 {}
 
-/// A view whose parts are those of a journal sees what the journal's next entry sees.
+/// A view whose parts are those of a journal sees what the journal's next entry sees, but for its scripts; and all of it with those of its
+/// configuration.
 pub fn views_see_the_journal()
-    ensures { (v : View) (j : Journal) → IsViewOf v.states.now v.config.now v.zone.now v.at j → seen v ≡ sight j (length j) }
+    ensures parts { (v : View) (j : Journal) → IsViewOf v.states.now v.config.now v.zone.now v.at j → seen v ≡ record (sight j (length j)) { scripts = [] } }
+    ensures whole { (v : View) (j : Journal) → IsViewOf v.states.now v.config.now v.zone.now v.at j → v.config.now.scripts ≡ scripts j
+        → record (seen v) { scripts = scripts_of v.config.now } ≡ sight j (length j) }
 {}

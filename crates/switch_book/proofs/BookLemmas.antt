@@ -10,7 +10,7 @@ use Rattle.ha_config.specs.declared.config.Automation.{Automation}
 use Rattle.ha_config.specs.declared.config.Config.{Config}
 use Rattle.ha_config.specs.Words.{Text, same}
 use Rattle.ha_config.specs.ValueFacts.{all_distinct, keys_of}
-use Rattle.ha_config.specs.Sound.{IsSoundConfig, is_sound_automation, are_sound_actions}
+use Rattle.ha_config.specs.Sound.{IsSoundConfig, are_sound_automations, is_sound_automation, are_sound_actions}
 use Rattle.ha_config.specs.Names.{stored_switch}
 use Rattle.store_text.specs.Store.{Switches, AreStorable}
 use Rattle.switch_book.specs.Book.{flags, names_of, restored}
@@ -59,8 +59,8 @@ all-named (x ∷ xs) h = ap₂ ◌&&◌ (named x (first (is_sound_automation x) 
 
 pub storable-restored : (config : Config) (stored : Option Switches) → IsSoundConfig config → AreStorable (restored stored config.automations)
 storable-restored config stored h = record {
-  distinct = ap all_distinct (names-restored stored config.automations) ∙ second _ (all_distinct (names_of config.automations)) (first _ (list_all is_sound_automation config.automations) h);
-  ids = ap (list_all is_name) (names-restored stored config.automations) ∙ all-named config.automations (second _ (list_all is_sound_automation config.automations) h);
+  distinct = ap all_distinct (names-restored stored config.automations) ∙ second _ (all_distinct (names_of config.automations)) (first _ (list_all is_sound_automation config.automations) (first (are_sound_automations config.automations) _ h));
+  ids = ap (list_all is_name) (names-restored stored config.automations) ∙ all-named config.automations (second _ (list_all is_sound_automation config.automations) (first (are_sound_automations config.automations) _ h));
 }
 
 pub storable-same : (s t : Switches) → keys_of t ≡ keys_of s → AreStorable s → AreStorable t

@@ -118,4 +118,5 @@ seen_with t = record {
   now = 0;
   zone = codes "UTC";
   automations = [];
+  scripts = [];
 }

@@ -11,7 +11,7 @@ use Rattle.ha_journal.specs.declared.entry.Entry.TheVariants.{Boot, Line, Step, 
 use Rattle.ha_config.specs.CheckText.{as_line}
 use Rattle.ha_config.specs.Words.{Text}
 use Rattle.ha_journal.specs.Entries.{is_restart}
-use Rattle.ha_journal.specs.Journal.{HasEntry, Journal, automations}
+use Rattle.ha_journal.specs.Journal.{HasEntry, Journal, units}
 use Rattle.ha_journal.specs.Commands.{IsFair}
 use Rattle.ha_config.specs.CommandText.{cmd_text}
 use Rattle.ha_model.specs.Lawful.{is_line_of}
@@ -115,18 +115,18 @@ module _ (d : Journal) (all : List Automation) (rs rs' : Records) (has : HasEntr
 
 -- LAW: where the line that stands next is that of a Restart, its entry is one
 pub same_restart : (d : Journal) (line : Text) (x y : Entry) (rs rs' : Records) → HasEntry d → length d < 2 ^ 64 → Lawful (put d x) rs → Lawful (put d y) rs'
-    → as_line line ≡ trace_line (automations d) x → as_line line ≡ trace_line (automations d) y → is_restart x ≡ true → is_restart y ≡ true
+    → as_line line ≡ trace_line (units d) x → as_line line ≡ trace_line (units d) y → is_restart x ≡ true → is_restart y ≡ true
 same_restart d line (Boot text config stored start zone carry) y rs rs' has short h h' e e' holds = absurd (true-false (sym holds))
 same_restart d line (Step k s b item) y rs rs' has short h h' e e' holds = absurd (true-false (sym holds))
 same_restart d line (Again number start stored carry) y rs rs' has short h h' e e' holds = absurd (true-false (sym holds))
 same_restart d line (Line k n cmd) (Boot text config stored start zone carry) rs rs' has short h h' e e' holds =
     absurd (behind-of d (Boot text config stored start zone carry) has h'.right.journal.entries)
-same_restart d line (Line k n cmd) (Step k' s' b' item') rs rs' has short h h' e e' holds = absurd (no_mix (automations d) k' s' b' item' k n cmd (sym e' ∙ e))
-same_restart d line (Line k n cmd) (Again number start stored carry) rs rs' has short h h' e e' holds = absurd (no_again (automations d) number start stored carry k n cmd (sym e' ∙ e))
+same_restart d line (Line k n cmd) (Step k' s' b' item') rs rs' has short h h' e e' holds = absurd (no_mix (units d) k' s' b' item' k n cmd (sym e' ∙ e))
+same_restart d line (Line k n cmd) (Again number start stored carry) rs rs' has short h h' e e' holds = absurd (no_again (units d) number start stored carry k n cmd (sym e' ∙ e))
 same_restart d line (Line k n cmd) (Line k' n' cmd') rs rs' has short h h' e e' holds =
     let turn = put-first (IsTurn rs) d (Line k n cmd) h.turns in
     let turn' = put-first (IsTurn rs') d (Line k' n' cmd') h'.turns in
     let fair = put-first (IsRightEntry rs) d (Line k n cmd) h.right.entries in
     let fair' = put-first (IsRightEntry rs') d (Line k' n' cmd') h'.right.entries in
-    let same = same_source d (automations d) short k n k' n' cmd cmd' turn.0 turn'.0 turn.2 turn'.2 fair fair' (sym e ∙ e') in
+    let same = same_source d (units d) short k n k' n' cmd cmd' turn.0 turn'.0 turn.2 turn'.2 fair fair' (sym e ∙ e') in
     ap is_restart (sym same) ∙ holds

@@ -22,7 +22,7 @@ use Rattle.ha_sight.specs.declared.item.Item.{Item}
 use Rattle.ha_config.specs.Words.{Pairs, Text}
 use Rattle.ha_config.specs.Names.{name_of}
 use Rattle.ha_config.specs.ValueText.{comma_joined, escaped_byte, flag_text, list_text, map_text, pair_text, print_pairs, print_step, print_value, quoted}
-use Rattle.ha_sight.specs.ItemText.{call_pairs, failure_code, item_text, switched_text}
+use Rattle.ha_sight.specs.ItemText.{call_pairs, failure_code, item_text, switched_text, script_name, script_text}
 use Rattle.ha_config.specs.CommandText.{cmd_text, id_text, line_code, one_key}
 use Rattle.ha_config.specs.CheckText.{as_line}
 use Rattle.ha_journal.specs.EntryText.{boot_pairs, end_line, trace_line}
@@ -240,6 +240,9 @@ switched_line all s = map_line ((codes "automation", quoted (name_of all s.0)) �
 one_line_key : (key shown : Text) → IsLine shown → IsLine (one_key key shown)
 one_line_key key shown h = map_line ((key, shown) ∷ []) (h, tt)
 
+scripts_line : (all : List Automation) (scripts : List ℕ) → IsLine (list_text (map (script_text all) scripts))
+scripts_line all scripts = list_line (map (script_text all) scripts) (all_lines (script_text all) scripts (λ a. quoted_line (script_name (name_of all a))))
+
 item_line : (all : List Automation) (item : Item) → IsLine (item_text all item)
 item_line all Item.Nothing = refl
 item_line all (Item.Call service target fields) = one_line_key (codes "call") (map_text (call_pairs service target fields))
@@ -253,6 +256,10 @@ item_line all (Item.Triggered automations skip) =
     let shown : List (Text × Text) = (codes "automations", list_text names) ∷ (codes "skip_condition", flag_text skip) ∷ [] in
     one_line_key (codes "triggered") (map_text shown)
     (map_line shown (list_line names (all_lines (λ a. quoted (name_of all a)) automations (λ a. quoted_line (name_of all a))), (flag_line skip, tt)))
+item_line all (Item.Started scripts fields waits) =
+    let shown : List (Text × Text) = (codes "scripts", list_text (map (script_text all) scripts)) ∷ (codes "data", print_pairs fields) ∷ (codes "waits", flag_text waits) ∷ [] in
+    one_line_key (codes "started") (map_text shown) (map_line shown (scripts_line all scripts, (pairs_line fields, (flag_line waits, tt))))
+item_line all (Item.Halted scripts) = one_line_key (codes "halted") (list_text (map (script_text all) scripts)) (scripts_line all scripts)
 item_line all (Item.Failed code) = one_line_key (codes "failed") (quoted (failure_code code)) (quoted_line (failure_code code))
 
 -- ---- lines

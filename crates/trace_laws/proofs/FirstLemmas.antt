@@ -11,6 +11,7 @@ use Rattle.ha_config.specs.CheckText.{as_line}
 use Rattle.ha_journal.specs.Entries.{first_carry}
 use Rattle.ha_journal.specs.EntryText.{trace_line}
 use Rattle.ha_config.proofs.ListLemmas.{some-same}
+use Rattle.ha_config.specs.Units.{units_of}
 use Rattle.flow_line.proofs.Whole.{document_read, same_value}
 use Rattle.conf_auto.specs.Config.{config_of}
 use Rattle.ha_replay.specs.declared.boot.BootLine.{BootLine}
@@ -31,7 +32,7 @@ one_parts line b b' is u is' u' =
     some-same _ _ (sym (boot-parts b is.start is.last_in_time) ∙ ap parts_in same ∙ boot-parts b' is'.start is'.last_in_time)
 
 -- a configured first entry's line is that of its parts
-pub first_line : (line : Text) (b : BootLine) (config : Config) → IsConfigured b config → ((other : Config) → as_line line ≡ trace_line other.automations (Boot b.text other b.stored b.start b.zone (first_carry b.last))) → IsBootLine line b
+pub first_line : (line : Text) (b : BootLine) (config : Config) → IsConfigured b config → ((other : Config) → as_line line ≡ trace_line (units_of other) (Boot b.text other b.stored b.start b.zone (first_carry b.last))) → IsBootLine line b
 first_line line b config f is = record { line_is = is; start = f.start; zone = f.zone; ordered = f.ordered; last_ordered = f.last_ordered; last_in_time = f.last_in_time }
 
 pub ok_same : (config config' : Config) → ◌≡◌ {A = Result Config Fault} (Ok config) (Ok config') → config ≡ config'

@@ -191,7 +191,10 @@ impl Home {
         before: Before,
     ) -> Result<Many<Firing>, AllocError> {
         let automations = Many::make(alloc);
-        let config = Config { automations };
+        let config = Config {
+            automations,
+            scripts: Many::make(alloc),
+        };
         let view = View::make(&self.states, &config, &self.zone, moment(self.now));
         let place = self.place;
         self.place = place.saturating_add(1);
@@ -246,7 +249,10 @@ impl Home {
     /// Whether these triggers fire at the opening of the journal, in this order.
     fn starts(&mut self, alloc: Global, wanted: &[u32]) -> Result<bool, AllocError> {
         let automations = Many::make(alloc);
-        let config = Config { automations };
+        let config = Config {
+            automations,
+            scripts: Many::make(alloc),
+        };
         let view = View::make(&self.states, &config, &self.zone, moment(self.start));
         let fired = self.set.open_segment(alloc, &self.zone, &view)?;
         self.place = 1;

@@ -14,3 +14,5 @@ pub mod RunLemmas
 pub mod PairLemmas
 pub mod DropLemmas
 pub mod OnLemmas
+pub mod FinishLemmas
+pub mod BareLemmas

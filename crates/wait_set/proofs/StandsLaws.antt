@@ -17,7 +17,7 @@ use Rattle.ha_sight.specs.Scripts.{Ask}
 use Rattle.ha_journal.specs.Waits.{all_fired, completes, is_over, end_at, wait_end}
 use Rattle.ha_journal.proofs.MoreLemmas.{length-more}
 use Rattle.wait_set.specs.declared.asked.Asked.{Asked}
-use Rattle.wait_set.specs.Asked.{is_of, added, without_run, fired_values, is_done, is_late, end_with, end_now, noted_one, noted}
+use Rattle.wait_set.specs.Asked.{is_of, added, without_run, fired_values, is_done, is_late, end_with, end_now, noted_one, noted, is_bare}
 use Rattle.wait_set.specs.Stands.{IsAsk, StandsOne, StandsFor, AreFired, IsNext}
 use Rattle.ha_past.proofs.PastLemmas.{sight-more}
 use Rattle.wait_set.proofs.WaitLaws.{wait-more, has-length}
@@ -62,27 +62,27 @@ noted-stands-one : (j : Journal) (x : Entry) → HasEntry j → (place : ℕ) �
 noted-stands-one j x h place at seen sees fired a fires stands = record {
   begun = omega (arith, length-more j x, stands.begun);
   fresh = λ e. absurd (omega (arith, e, length-more j x, stands.begun));
-  end = λ ask is. ends ask is;
+  end = λ full ask is. ends full ask is;
 }
   where
-    before : (ask : Ask) → IsAsk (more j x) a.place a.ask ask → a.end ≡ wait_end j ask a.place
-    before ask is = by (nat_le (suc a.place) (length j)) refl
+    before : is_bare a.ask ≡ false → (ask : Ask) → IsAsk (more j x) a.place a.ask ask → a.end ≡ wait_end j ask a.place
+    before full ask is = by (nat_le (suc a.place) (length j)) refl
       where
         by : (b : Bool) → nat_le (suc a.place) (length j) ≡ b → a.end ≡ wait_end j ask a.place
         by true e =
             let lt : suc a.place ≤ length j = grind (arith, e) in
-            stands.end ask (record { test = is.test; triggers = is.triggers; env = is.env; due = is.due ∙ (λ i. option_map (λ d. (sight-more j x h (suc a.place) lt i).now + d) ask.timeout) })
+            stands.end full ask (record { test = is.test; triggers = is.triggers; env = is.env; due = is.due ∙ (λ i. option_map (λ d. (sight-more j x h (suc a.place) lt i).now + d) ask.timeout) })
         by false e =
             let same : a.place ≡ length j = grind (arith, e, stands.begun) in
             stands.fresh same ∙ sym (not-begun j h ask) ∙ (λ i. wait_end j ask (sym same i))
 
-    ends : (ask : Ask) → IsAsk (more j x) a.place a.ask ask → or_else a.end (end_now place seen (fired_values a.owner fired) a.ask) ≡ wait_end (more j x) ask a.place
-    ends ask is =
+    ends : is_bare a.ask ≡ false → (ask : Ask) → IsAsk (more j x) a.place a.ask ask → or_else a.end (end_now place seen (fired_values a.owner fired) a.ask) ≡ wait_end (more j x) ask a.place
+    ends full ask is =
         or-same a.end (end_now place seen (fired_values a.owner fired) a.ask)
         (if completes (more j x) ask a.place (length j) || is_over (more j x) ask a.place (length j) then Some (end_at (more j x) ask a.place (length j)) else None)
         (λ none. (λ i. end_now place (sees i) (fired_values a.owner fired) a.ask) ∙ end-here (more j x) place a.place ask a.ask is (fired_values a.owner fired) (fires none ask is.triggers)
         ∙ (λ i. if completes (more j x) ask a.place (at i) || is_over (more j x) ask a.place (at i) then Some (end_at (more j x) ask a.place (at i)) else None))
-        ∙ (λ i. or_else (before ask is i) (if completes (more j x) ask a.place (length j) || is_over (more j x) ask a.place (length j) then Some (end_at (more j x) ask a.place (length j)) else None))
+        ∙ (λ i. or_else (before full ask is i) (if completes (more j x) ask a.place (length j) || is_over (more j x) ask a.place (length j) then Some (end_at (more j x) ask a.place (length j)) else None))
         ∙ sym (wait-more j x h ask a.place stands.begun)
 
 -- ---- all of them
@@ -111,7 +111,7 @@ snoc-stands j (b ∷ asks) a s one = (s.0, snoc-stands j asks a s.1 one)
 pub added-stands : (j : Journal) (asks : List Asked) (a : Asked) → HasEntry j → a.place ≡ length j → a.end ≡ None → StandsFor asks j → StandsFor (added a asks) j
 added-stands j asks a h at none s =
     snoc-stands j (filter (λ b. not (is_of a.ask.serial a.ask.branch b)) asks) a (kept-stands (λ b. not (is_of a.ask.serial a.ask.branch b)) j asks s)
-    (record { begun = omega (arith, at); fresh = λ e. none; end = λ ask is. none ∙ sym (not-begun j h ask) ∙ (λ i. wait_end j ask (sym at i)) })
+    (record { begun = omega (arith, at); fresh = λ e. none; end = λ full ask is. none ∙ sym (not-begun j h ask) ∙ (λ i. wait_end j ask (sym at i)) })
 
 -- LAW: without the waits of a run the others stand
 pub dropped-stands : (j : Journal) (serial : ℕ) (asks : List Asked) → StandsFor asks j → StandsFor (without_run serial asks) j

@@ -1,8 +1,8 @@
 //! The waits of a run, found by the pairs of serials and owners that are kept of them.
 ghost use Rattle.std.specs.Option.{option_copied};
-ghost use Rattle.std.specs.Prelude.{OnOk, ◌≡◌, ◌≤◌, ◌<◌, ◌∷◌, [], ℕ, All, IfSome, MatchOption, IsNone, true, false, drop, length, nat_eq, slice_index_or};
+ghost use Rattle.std.specs.Prelude.{OnOk, ◌≡◌, ◌≤◌, ◌<◌, ◌∷◌, [], ℕ, All, IfSome, MatchOption, IsNone, true, false, drop, length, nat_eq, slice_index_or, slice_set};
 ghost use Rattle.wait_set.specs.declared.asked.Asked.{Asked as Wait};
-ghost use Rattle.wait_set.specs.Asked.{owners_of, wait_of};
+ghost use Rattle.wait_set.specs.Asked.{finished, owners_of, wait_of, with_end};
 ghost use Rattle.wait_set.specs.Concern.{Ascend};
 ghost use Rattle.wait_set.specs.Runs.{HasNone, IsOfRun, IsPaired, has_pair};
 
@@ -171,4 +171,28 @@ pub fn ask_of<'a>(
         place = next_place(asks, runs, ordered, serial, place + 1);
     }
     None
+}
+
+/// The place of the first wait of a run in a branch, looked for among the run's own; all are passed where there is none.
+pub fn place_in_branch(
+    asks: &[Asked],
+    runs: &BTreeSet<(u64, u64)>,
+    ordered: bool,
+    serial: u64,
+    branch: &Branch,
+) -> usize
+    requires paired { All (IsPaired runs.now) asks.now }
+    requires order { ordered ≡ true → Ascend asks.now }
+    ensures here { result < length asks.now → (p : ℕ) (x : Wait) → x ≡ slice_index_or asks.now result x
+        → finished serial branch.now p asks.now ≡ slice_set asks.now result (with_end p x) }
+    ensures none { length asks.now ≤ result → (p : ℕ) → finished serial branch.now p asks.now ≡ asks.now }
+{
+    let mut place = next_place(asks, runs, ordered, serial, 0);
+    'asks: while place < asks.len() {
+        if is_of(&asks[place], serial, branch) {
+            return place;
+        }
+        place = next_place(asks, runs, ordered, serial, place + 1);
+    }
+    place
 }

@@ -1,11 +1,11 @@
 //! The set of pending and ended waits.
-ghost use Rattle.std.specs.Prelude.{◌≡◌, ◌≤◌, ◌<◌, ◌-◌, suc, take, drop, filter, not, vec_capacity, [], ◌∷◌, ◌++◌, All, Bool, IfSome, IsNone, OnOk, OnErr, None, Some, true, false, length, nat_eq, is_none, is_some, ◌||◌, ◌&&◌, ℕ};
+ghost use Rattle.std.specs.Prelude.{◌≡◌, ◌≤◌, ◌<◌, ◌-◌, suc, take, drop, filter, not, vec_capacity, [], ◌∷◌, ◌++◌, All, Bool, IfSome, IsNone, OnOk, OnErr, None, Some, true, false, length, nat_eq, is_none, is_some, option_map, ◌||◌, ◌&&◌, ℕ};
 ghost use Rattle.std.specs.List.{list_any};
 ghost use Rattle.ha_journal.specs.declared.entry.Entry.{Entry};
 ghost use Rattle.ha_journal.specs.Journal.{HasEntry, Journal, more};
 ghost use Rattle.ha_sight.specs.Scripts.{Branch as Path};
 ghost use Rattle.wait_set.specs.declared.asked.Asked.{Asked as Wait};
-ghost use Rattle.wait_set.specs.Asked.{added, end_of, ended_at, is_of, noted, noted_at, owners_ended, owners_of, wait_of, without_run};
+ghost use Rattle.wait_set.specs.Asked.{added, end_of, ended_at, finished, is_bare, is_of, noted, noted_at, owners_ended, owners_of, wait_of, without_run};
 ghost use Rattle.wait_set.specs.Concern.{Ascend, IsStill, OfOthers, has};
 ghost use Rattle.wait_set.specs.Stands.{IsNext, StandsFor};
 ghost use Rattle.wait_set.specs.Runs.{AllBefore, AreUnlisted, IsPaired, has_pair};
@@ -15,7 +15,7 @@ ghost use Rattle.timer_queue.specs.Timers.{due_of};
 use crate::asked::{Asked, is_of, note_one};
 use crate::concern::concerned;
 use crate::pending::{Pending, list_ask, mark, settle};
-use crate::runs::{ask_of, next_place, owner_from, owner_in, unlist};
+use crate::runs::{ask_of, next_place, owner_from, owner_in, place_in_branch, unlist};
 use ha_clock::Moment;
 use ha_journal::Firing;
 use ha_sight::{Answers, Branch, Ended, WaitAsk, WaitEnd};
@@ -155,6 +155,41 @@ impl Waits {
         )
     }
 
+    /// The owner of the wait of a run in a branch, if there is one.
+    pub fn owner_of(&self, serial: u64, branch: &Branch) -> Option<u64>
+        ensures { result ≡ option_map (λ a. a.owner) (wait_of serial branch.now self.now.asks) }
+    {
+        let found = ask_of(
+            self.asks.as_slice(),
+            &self.pending.runs,
+            self.ordered,
+            serial,
+            branch,
+        );
+        match found {
+            Some(asked) => Some(asked.owner),
+            None => None,
+        }
+    }
+
+    /// The run that this one's call in this branch waits for has ended at a place: so has the wait, where it is pending and bare. Takes no
+    /// memory.
+    pub fn finish(&mut self, serial: u64, branch: &Branch, place: u64)
+        ensures asks { self.new.asks ≡ finished serial branch.now place self.old.asks }
+        ensures fresh { self.new.fresh ≡ self.old.fresh }
+        ensures stands { (j : Journal) (a : Wait) → wait_of serial branch.now self.old.asks ≡ Some a → is_bare a.ask ≡ true → a.place < length j
+            → StandsFor self.old.asks j → StandsFor self.new.asks j }
+    {
+        finish_one(
+            &mut self.asks,
+            &mut self.pending,
+            self.ordered,
+            serial,
+            branch,
+            place,
+        );
+    }
+
     /// The waits of the run with this serial go. Takes no memory.
     pub fn drop_run(&mut self, serial: u64)
         ensures rest { self.new.asks ≡ without_run serial self.old.asks }
@@ -181,6 +216,34 @@ impl Ended for Waits {
             None => None,
         }
     }
+}
+
+/// Ends the first wait of a run in a branch at a place.
+fn finish_one(
+    asks: &mut Vec<Asked>,
+    pending: &mut Pending,
+    ordered: bool,
+    serial: u64,
+    branch: &Branch,
+    place: u64,
+)
+    requires { AreKept asks.old.items pending.old.timers pending.old.testing pending.old.runs ordered }
+    ensures asks { asks.new.items ≡ finished serial branch.now place asks.old.items }
+    ensures kept { AreKept asks.new.items pending.new.timers pending.new.testing pending.new.runs ordered }
+{
+    let at = place_in_branch(asks.as_slice(), &pending.runs, ordered, serial, branch);
+    if at >= asks.len() {
+        return;
+    }
+    let waiting = &mut asks[at];
+    let owner = waiting.owner;
+    waiting.end = Some(WaitEnd {
+        place,
+        done: true,
+        remaining: None,
+        trigger: None,
+    });
+    settle(pending, owner);
 }
 
 /// Takes a wait in, and its due, where the ended ones of its run and branch go.

@@ -6,7 +6,8 @@ use Rattle.ha_journal.specs.declared.entry.Entry.{Entry}
 use Rattle.ha_journal.specs.declared.entry.Entry.TheVariants.{Boot, Line, Step, Again}
 use Rattle.ha_config.specs.Words.{EachAfter, EachFrom}
 use Rattle.ha_journal.specs.Entries.{Reopening, again_in, BeginsSegment, IsBoot}
-use Rattle.ha_journal.specs.Journal.{Journal, HasEntry, automations, more}
+use Rattle.ha_config.specs.Units.{units_of}
+use Rattle.ha_journal.specs.Journal.{Journal, HasEntry, automations, configured, more, units}
 use Rattle.ha_journal.specs.Journal as one
 use Rattle.ha_model.specs.Records as all
 use Rattle.ha_model.specs.Records.{Records}
@@ -14,7 +15,7 @@ use Rattle.ha_whole.specs.Segments.{Cut, alone, carried, counted_from, cut, cut_
 use Rattle.ha_whole.specs.Whole.{AreEntries, IsBehind, IsFirst, again_of, carry_of, placed_all, records_from, records_of}
 use Rattle.ha_config.proofs.ListLemmas.{append-nil, none-some}
 use Rattle.ha_laws.proofs.PrefixLaws.{has-more}
-use Rattle.ha_journal.proofs.MoreLemmas.{has-entry, length-more, automations-more}
+use Rattle.ha_journal.proofs.MoreLemmas.{has-entry, length-more, automations-more, configured-more}
 
 abbrev none_yet : Cut
 none_yet = record { closed = []; last = [] }
@@ -80,6 +81,7 @@ pub record IsCut (j : Journal) : Type 0 where
   pub alone : one.IsJournal (segment j)
   pub length_is : front j + length (segment j) ≡ length j
   pub automations_are : automations (segment j) ≡ automations j
+  pub configured_are : configured (segment j) ≡ configured j
   pub carried_is : carried (segment j) ≡ length (closed_records j)
 
 snoc : (n : ℕ) (xs : Journal) (x : Entry) → EachFrom (λ n y. ¬ BeginsSegment y) n xs → (BeginsSegment x → ⊥) → EachFrom (λ n y. ¬ BeginsSegment y) n (xs ++ (x ∷ []))
@@ -107,6 +109,8 @@ cut-on j x c has e not_boot =
           (λ i. entries_in (closed i) + length (on i)) ∙ omega (arith, c.length_is, length-more s y, length-more j x);
       automations_are =
           (λ i. automations (on i)) ∙ sym (automations-more s y (has-entry s c.alone)) ∙ c.automations_are ∙ automations-more j x has;
+      configured_are =
+          (λ i. configured (on i)) ∙ sym (configured-more s y (has-entry s c.alone)) ∙ c.configured_are ∙ configured-more j x has;
       carried_is =
           (λ i. carried (on i)) ∙ carried-on s y (has-entry s c.alone) ∙ c.carried_is ∙ (λ i. length (records_from 0 (sym closed i)));
     }
@@ -117,12 +121,13 @@ pub record Opens (s : Journal) (a : Reopening) : Type 0 where
   pub is : reopened s a ≡ boot ∷ []
   pub is_boot : IsBoot boot
   pub automations_are : automations (boot ∷ []) ≡ automations s
+  pub configured_are : configured (boot ∷ []) ≡ configured s
   pub carried_is : carried (boot ∷ []) ≡ a.carry.serials
 
 pub reopens : (s : Journal) (a : Reopening) → one.IsJournal s → Opens s a
 reopens [] a h = absurd h
 reopens (Boot text config stored start zone carry ∷ es) a h =
-    record { boot = Boot text config (Some a.stored) a.start zone a.carry; is = refl; is_boot = tt; automations_are = refl; carried_is = refl }
+    record { boot = Boot text config (Some a.stored) a.start zone a.carry; is = refl; is_boot = tt; automations_are = refl; configured_are = refl; carried_is = refl }
 reopens (Line source number cmd ∷ es) a h = absurd h.0
 reopens (Step worker serial branch item ∷ es) a h = absurd h.0
 reopens (Again number start stored carry ∷ es) a h = absurd h.0
@@ -142,6 +147,7 @@ cut-again j c has =
           (λ i. entries_in (closed i) + length (on i))
           ∙ omega (arith, entries-snoc (cut j).closed s, c.length_is, length-more j x);
       automations_are = (λ i. automations (on i)) ∙ o.automations_are ∙ c.automations_are ∙ automations-more j x has;
+      configured_are = (λ i. configured (on i)) ∙ o.configured_are ∙ c.configured_are ∙ configured-more j x has;
       carried_is = (λ i. carried (on i)) ∙ o.carried_is ∙ (λ i. length (records_from 0 (sym closed i)));
     }
 
@@ -158,13 +164,17 @@ cut-from before (x ∷ xs) c has h =
 
 pub cut-first : (e : Entry) → IsFirst e → IsCut (e ∷ [])
 cut-first (Boot text config stored start zone carry) h =
-    record { alone = (tt, tt); length_is = refl; automations_are = refl; carried_is = h.serials }
+    record { alone = (tt, tt); length_is = refl; automations_are = refl; configured_are = refl; carried_is = h.serials }
 cut-first (Line source number cmd) h = absurd h
 cut-first (Step worker serial branch item) h = absurd h
 cut-first (Again number start stored carry) h = absurd h
 
--- LAW: the last segment of a journal is itself a journal, with the entries behind those before it, of the same automations, and it
--- carries how many runs there were
+-- LAW: the last segment of a journal is itself a journal, with the entries behind those before it, of the same configuration,
+-- and it carries how many runs there were
 pub is-cut : (j : Journal) → AreEntries j → IsCut j
 is-cut [] h = absurd h
 is-cut (e ∷ es) h = cut-from (e ∷ []) es (cut-first e h.0) tt h.1
+
+-- LAW: so it is of the same units
+pub units-are : (j : Journal) → IsCut j → units (segment j) ≡ units j
+units-are j c = (λ i. units_of (c.configured_are i))

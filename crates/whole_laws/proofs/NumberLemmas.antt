@@ -1,4 +1,4 @@
--- The records of a journal with one put more have the automations and numbers that they had, and more behind them.
+-- The records of a journal with one put more have the units and numbers that they had, and more behind them.
 use Rattle.std.proofs.Common.{◌≡◌, ℕ, ◌+◌, ◌≤◌, List, [], ◌∷◌, ◌++◌, length, Bool, true, false, refl, sym, subst, ◌∙◌, arith}
 use Rattle.std.specs.Prelude.{Some, None, if◌then◌else◌}
 use Rattle.ha_journal.specs.declared.entry.Entry.{Entry}
@@ -6,7 +6,7 @@ use Rattle.ha_config.specs.Words.{Text}
 use Rattle.ha_config.specs.Names.{name_of}
 use Rattle.ha_journal.specs.Attempts.{Attempt, passing}
 use Rattle.ha_journal.specs.Entries.{Reopening, again_in}
-use Rattle.ha_journal.specs.Journal.{HasEntry, Journal, automations, last_place, more}
+use Rattle.ha_journal.specs.Journal.{HasEntry, Journal, last_place, more, units}
 use Rattle.ha_laws.specs.OneRun.{SameNumbers}
 use Rattle.ha_model.specs.Records as all
 use Rattle.ha_config.specs.declared.config.Mode.{Mode}
@@ -16,7 +16,7 @@ use Rattle.ha_model.specs.Records.{Records, is_restart_mode, lets_in_after, mode
 use Rattle.ha_model.specs.RunSteps.{attempt_all, joined, replace_all, settled}
 use Rattle.ha_model.specs.RecordSteps.{records_after}
 use Rattle.ha_laws.proofs.CallGrowth.{numbers-append, numbers-same}
-use Rattle.ha_journal.proofs.MoreLemmas.{automations-more, has-entry}
+use Rattle.ha_journal.proofs.MoreLemmas.{has-entry, units-more}
 use Rattle.ha_model.proofs.FoldLaws.{records-more}
 use Rattle.ha_whole.specs.Segments.{alone, carried_number, cut, entries_in, front, segment, segments}
 use Rattle.ha_whole.specs.Whole.{Right, again_of, placed_all, put, records_from, records_of}
@@ -58,13 +58,13 @@ with-joined mode n p a b new h = by (is_restart_mode mode)
 
 with-attempts : (k : Journal) (a b : Records) (xs : List (ℕ × Attempt)) → Keeps a b → Keeps a (attempt_all k b xs)
 with-attempts k a b [] h = h
-with-attempts k a b (x ∷ xs) h = with-attempts k a (if lets_in_after (automations k) b x.1.automation then one else b) xs (by (lets_in_after (automations k) b x.1.automation))
+with-attempts k a b (x ∷ xs) h = with-attempts k a (if lets_in_after (units k) b x.1.automation then one else b) xs (by (lets_in_after (units k) b x.1.automation))
   where
     one : Records
-    one = joined (mode_of (automations k) x.1.automation) x.1.automation (last_place k) b (new_record k b x)
+    one = joined (mode_of (units k) x.1.automation) x.1.automation (last_place k) b (new_record k b x)
 
     by : (c : Bool) → Keeps a (if c then one else b)
-    by true = with-joined (mode_of (automations k) x.1.automation) x.1.automation (last_place k) a b (new_record k b x) h
+    by true = with-joined (mode_of (units k) x.1.automation) x.1.automation (last_place k) a b (new_record k b x) h
     by false = h
 
 numbers-after : (j : Journal) (rs : Records) (x : Entry) → SameNumbers rs (records_after j rs x)
@@ -78,7 +78,7 @@ numbers-behind [] rs rs' h = h
 numbers-behind (r ∷ front) rs rs' h = (refl, refl, numbers-behind front rs rs' h)
 
 -- placed records of segments that took over the same numbers
-numbers-placed : (n n' : ℕ) (s s' : Journal) → automations s ≡ automations s' → ((name : Text) → carried_number s name ≡ carried_number s' name)
+numbers-placed : (n n' : ℕ) (s s' : Journal) → units s ≡ units s' → ((name : Text) → carried_number s name ≡ carried_number s' name)
     → (rs rs' : Records) → Keeps rs rs' → Keeps (placed_all n s rs) (placed_all n' s' rs')
 numbers-placed n n' s s' a c [] rs' h = tt
 numbers-placed n n' s s' a c (r ∷ rs) [] h = absurd h
@@ -101,7 +101,7 @@ numbers-on j x c e =
     let on : segment (more j x) ≡ more s y = segment-on j x e in
     let closed = closed-on j x e in
     let one : SameNumbers (all.records_of s) (all.records_of (more s y)) = subst (SameNumbers (all.records_of s)) (sym (records-more s y)) (numbers-after s (all.records_of s) y) in
-    let both = numbers-behind (closed_records j) _ _ (numbers-placed (front j) (front j) s (more s y) (automations-more s y has) (number-on s y has) (all.records_of s) (all.records_of (more s y)) one) in
+    let both = numbers-behind (closed_records j) _ _ (numbers-placed (front j) (front j) s (more s y) (units-more s y has) (number-on s y has) (all.records_of s) (all.records_of (more s y)) one) in
     let new : records_of (more j x) ≡ closed_records j ++ placed_all (front j) (more s y) (all.records_of (more s y))
     = records-cut (more j x) ∙ (λ i. records_from 0 (closed i) ++ placed_all (entries_in (closed i)) (on i) (all.records_of (on i))) in
     subst (SameNumbers (records_of j)) (sym new) (subst (λ rs. SameNumbers rs (closed_records j ++ placed_all (front j) (more s y) (all.records_of (more s y)))) (sym (records-cut j)) both)

@@ -10,7 +10,7 @@ use Rattle.ha_journal.specs.declared.entry.Entry.TheVariants.{Boot, Line, Step, 
 use Rattle.ha_config.specs.Words.{EachAfter, EachFrom, EachWith, Text}
 use Rattle.ha_config.specs.Names.{name_of}
 use Rattle.ha_journal.specs.Entries.{again_in, is_restart, BeginsSegment}
-use Rattle.ha_journal.specs.Journal.{Journal, HasEntry, automations, more}
+use Rattle.ha_journal.specs.Journal.{Journal, HasEntry, more, units}
 use Rattle.ha_sight.specs.Scripts.{Branch}
 use Rattle.ha_model.specs.Records.{Records}
 use Rattle.ha_model.specs.Lawful as one
@@ -46,7 +46,7 @@ alone-on d x h e a = record {
 back-zero : (n : ℕ) (s : Journal) → n ≡ 0 → CarriesNone s → (r : Record) → taken_back n s r ≡ r
 back-zero n s z c r = λ i. record r {
   serial = ((λ i. r.serial - c.serials i) ∙ less-zero r.serial) i;
-  number = ((λ i. r.number - c.numbers (name_of (automations s) r.automation) i) ∙ less-zero r.number) i;
+  number = ((λ i. r.number - c.numbers (name_of (units s) r.automation) i) ∙ less-zero r.number) i;
   place = ((λ i. r.place - z i) ∙ less-zero r.place) i;
   begin = begins r.begin i;
   end = ends r.end i;

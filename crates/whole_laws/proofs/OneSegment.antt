@@ -7,7 +7,7 @@ use Rattle.ha_journal.specs.declared.entry.Entry.TheVariants.{Boot, Line, Step, 
 use Rattle.ha_model.specs.declared.record.Record.{Record}
 use Rattle.ha_config.specs.Words.{Text}
 use Rattle.ha_whole.specs.Named.{named}
-use Rattle.ha_journal.specs.Journal.{Journal, HasEntry, automations, more}
+use Rattle.ha_journal.specs.Journal.{Journal, HasEntry, more, units}
 use Rattle.ha_config.specs.Names.{name_of}
 use Rattle.ha_model.specs.Records as all
 use Rattle.ha_model.specs.Records.{Records}
@@ -55,7 +55,7 @@ first-carries (Again number start stored carry) es h = absurd h
 placed-zero : (s : Journal) → CarriesNone s → (r : Record) → placed 0 s r ≡ r
 placed-zero s c r = λ i. record r {
   serial = ((λ i. c.serials i + r.serial) ∙ plus-zero r.serial) i;
-  number = ((λ i. c.numbers (name_of (automations s) r.automation) i + r.number) ∙ plus-zero r.number) i;
+  number = ((λ i. c.numbers (name_of (units s) r.automation) i + r.number) ∙ plus-zero r.number) i;
   place = plus-zero r.place i;
   begin = begins r.begin i;
   end = ends r.end i;

@@ -4,7 +4,7 @@ use Rattle.std.specs.Prelude.{Some, None, ◌&&◌, ◌⊎◌, nat_lt, nat_le, m
 use Rattle.std.specs.Option.{option_map_or}
 use Rattle.ha_model.specs.declared.record.EndCause.{EndCause}
 use Rattle.ha_model.specs.declared.record.Record.{Record}
-use Rattle.ha_journal.specs.Journal.{Journal, automations}
+use Rattle.ha_journal.specs.Journal.{Journal, units}
 use Rattle.ha_config.specs.Names.{name_of}
 use Rattle.ha_model.specs.Records.{Records}
 use Rattle.ha_model.specs.Lawful.{is_running}
@@ -119,7 +119,7 @@ back-end n (Some e) = (λ i. Some (cut-off n e.0 i, e.1))
 pub back-placed : (n : ℕ) (s : Journal) (r : Record) → taken_back n s (placed n s r) ≡ r
 back-placed n s r = λ i. record r {
   serial = cut-off (carried s) r.serial i;
-  number = cut-off (carried_number s (name_of (automations s) r.automation)) r.number i;
+  number = cut-off (carried_number s (name_of (units s) r.automation)) r.number i;
   place = cut-off n r.place i;
   begin = back-place n r.begin i;
   end = back-end n r.end i;

@@ -10,11 +10,11 @@ use Rattle.ha_config.specs.Fair.{no_automation}
 use Rattle.ha_sight.specs.declared.item.Item.{Item}
 use Rattle.ha_journal.specs.Commands.{has_automation, put_as}
 use Rattle.ha_journal.specs.Entries.{Reopening, again_in, is_again, is_restart, restarts}
-use Rattle.ha_journal.specs.Journal.{Journal, HasEntry, automations, more}
+use Rattle.ha_journal.specs.Journal.{Journal, HasEntry, automations, more, units}
 use Rattle.ha_model.specs.Records.{last_is}
 use Rattle.ha_whole.specs.Segments.{cut, reopened, segment}
 use Rattle.ha_whole.specs.Whole.{AreEntries, AreShort, HasRoom, IsBehind, IsFirst, IsJournal, IsWithin, again_of, appended, before_put, carry_of, ends_segment, most_in_segment, put}
-use Rattle.ha_journal.proofs.MoreLemmas.{automations-more, length-more}
+use Rattle.ha_journal.proofs.MoreLemmas.{automations-more, length-more, units-more}
 use Rattle.ha_model.proofs.LastEntry as last
 use Rattle.ha_config.proofs.ListLemmas.{true-false}
 use Rattle.ha_laws.proofs.PrefixLaws.{has-more}
@@ -92,6 +92,11 @@ pub automations-put : (j : Journal) (x : Entry) → HasEntry j → automations j
 automations-put j x h =
     by-way (λ k. automations j ≡ automations k) j x (λ e. automations-more j x h)
     (λ e. automations-more j x h ∙ automations-more (more j x) (again_of (more j x)) (has-more j x h))
+
+pub units-put : (j : Journal) (x : Entry) → HasEntry j → units j ≡ units (put j x)
+units-put j x h =
+    by-way (λ k. units j ≡ units k) j x (λ e. units-more j x h)
+    (λ e. units-more j x h ∙ units-more (more j x) (again_of (more j x)) (has-more j x h))
 
 -- what tells the same with one entry more that is no Again's tells the same with one put more
 pub same-by-put : {X : Type 0} (f : Journal → X) (j : Journal) (x : Entry) → ((k : Journal) → f (more k (again_of k)) ≡ f k) → f (put j x) ≡ f (more j x)

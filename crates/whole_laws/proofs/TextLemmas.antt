@@ -6,12 +6,12 @@ use Rattle.ha_config.specs.declared.config.Automation.{Automation}
 use Rattle.ha_journal.specs.declared.entry.Entry.{Entry}
 use Rattle.ha_journal.specs.Commands.{placed_line, lines_of}
 use Rattle.ha_journal.specs.EntryText.{error_text, error_text_of, texts_after, trace_line, trace_text}
-use Rattle.ha_journal.specs.Journal.{Journal, automations}
+use Rattle.ha_journal.specs.Journal.{Journal, units}
 use Rattle.ha_model.specs.Records.{Records}
 use Rattle.ha_model.specs.Texts.{call_text, call_text_of}
 use Rattle.ha_whole.specs.Whole.{again_of, appended, put}
 use Rattle.ha_laws.proofs.TextLemmas.{append-none, calls-more, errors-more, lines-more}
-use Rattle.whole_laws.proofs.PutLemmas.{automations-put, put-appends, same-by-put}
+use Rattle.whole_laws.proofs.PutLemmas.{put-appends, same-by-put, units-put}
 
 -- LAW: the calls and the errors of a journal with one put more, and the lines of a source: an Again gives none of them
 pub calls-put : (j : Journal) (x : Entry) (rs : Records) → call_text (put j x) rs ≡ call_text j rs ++ call_text_of rs j x
@@ -29,19 +29,19 @@ each-line : (all : List Automation) (before xs : Journal) → texts_after (λ be
 each-line all before [] = refl
 each-line all before (x ∷ xs) = (λ i. trace_line all x ++ each-line all (before ++ (x ∷ [])) xs i)
 
-pub trace-lines : (j : Journal) → trace_text j false ≡ flat_map (trace_line (automations j)) j
-trace-lines j = append-none (texts_after (λ before x. trace_line (automations j) x) [] j) ∙ each-line (automations j) [] j
+pub trace-lines : (j : Journal) → trace_text j false ≡ flat_map (trace_line (units j)) j
+trace-lines j = append-none (texts_after (λ before x. trace_line (units j) x) [] j) ∙ each-line (units j) [] j
 
 -- LAW: the trace has the lines of all entries of the put
-pub trace-put : (j : Journal) (x : Entry) → trace_text (put j x) false ≡ trace_text j false ++ flat_map (trace_line (automations (put j x))) (appended j x)
+pub trace-put : (j : Journal) (x : Entry) → trace_text (put j x) false ≡ trace_text j false ++ flat_map (trace_line (units (put j x))) (appended j x)
 trace-put [] x =
-    let all = automations (put [] x) in
+    let all = units (put [] x) in
     trace-lines (put [] x) ∙ (λ i. flat_map (trace_line all) (put-appends [] x i))
 trace-put (e ∷ es) x =
     let j : Journal = e ∷ es in
-    let all = automations (put j x) in
+    let all = units (put j x) in
     trace-lines (put j x)
     ∙ (λ i. flat_map (trace_line all) (put-appends j x i))
     ∙ flat_map-append (trace_line all) j (appended j x)
-    ∙ (λ i. flat_map (trace_line (sym (automations-put j x tt) i)) j ++ flat_map (trace_line all) (appended j x))
+    ∙ (λ i. flat_map (trace_line (sym (units-put j x tt) i)) j ++ flat_map (trace_line all) (appended j x))
     ∙ (λ i. sym (trace-lines j) i ++ flat_map (trace_line all) (appended j x))

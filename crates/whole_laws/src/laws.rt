@@ -11,7 +11,7 @@ ghost use Rattle.ha_config.specs.StoreText.{store_of};
 ghost use Rattle.ha_config.specs.Sound.{are_in_name_order};
 ghost use Rattle.ha_whole.specs.Named.{in_name_order, named};
 ghost use Rattle.whole_laws.specs.Apart.{AreApart};
-ghost use Rattle.ha_journal.specs.Journal.{Journal, HasEntry, automations, IsJournal as IsJournalAlone, more, now};
+ghost use Rattle.ha_journal.specs.Journal.{Journal, HasEntry, automations, configured, IsJournal as IsJournalAlone, more, units, now};
 ghost use Rattle.ha_journal.specs.Entries.{IsBoot, first_carry, is_again, is_restart};
 ghost use Rattle.ha_journal.specs.Commands.{ArePutFrom, lines_of, placed_line};
 ghost use Rattle.ha_journal.specs.EntryText.{error_text, error_text_of, trace_line, trace_text};
@@ -34,11 +34,12 @@ ghost use Rattle.segment_runs.specs.Goes.{moved_all};
 ghost use Rattle.whole_laws.specs.Segments.{EachRight, HasNoAgain, HasNoRestart};
 ghost use Rattle.ha_laws.specs.WorkedHall as hall;
 
-/// The last segment of a journal is a journal itself, of the same automations, behind all other entries.
+/// The last segment of a journal is a journal itself, of the same configuration, behind all other entries.
 pub fn the_last_segment_is_a_journal()
     ensures journal { (j : Journal) → AreEntries j → IsJournalAlone (segment j) }
     ensures front { (j : Journal) → AreEntries j → front j + length (segment j) ≡ length j }
     ensures automations { (j : Journal) → AreEntries j → automations (segment j) ≡ automations j }
+    ensures configured { (j : Journal) → AreEntries j → configured (segment j) ≡ configured j }
 {}
 
 /// The last segment alone tells who is ready, whether the journal is quiet and who is rested: its own records are those behind as many as
@@ -82,7 +83,7 @@ pub fn one_answer()
 
 /// The records of a segment stand among those of the whole journal as a table that goes on behind closed segments has them.
 pub fn placed_records_are_moved()
-    ensures { (n : ℕ) (s : Journal) (rs : Records) → placed_all n s rs ≡ moved_all n (carried s) (λ a. carried_number s (name_of (automations s) a)) rs }
+    ensures { (n : ℕ) (s : Journal) (rs : Records) → placed_all n s rs ≡ moved_all n (carried s) (λ a. carried_number s (name_of (units s) a)) rs }
 {}
 
 /// Each segment of a right journal is right with its own records, judged from its opening alone.
@@ -174,12 +175,12 @@ pub fn a_put_appends()
 pub fn texts_of_one_put()
     ensures calls { (j : Journal) (x : Entry) (rs : Records) → call_text (put j x) rs ≡ call_text j rs ++ call_text_of rs j x }
     ensures errors { (j : Journal) (x : Entry) → error_text (put j x) ≡ error_text j ++ error_text_of x }
-    ensures trace { (j : Journal) (x : Entry) → trace_text (put j x) false ≡ trace_text j false ++ flat_map (trace_line (automations (put j x))) (appended j x) }
+    ensures trace { (j : Journal) (x : Entry) → trace_text (put j x) false ≡ trace_text j false ++ flat_map (trace_line (units (put j x))) (appended j x) }
     ensures lines { (k : ℕ) (j : Journal) (x : Entry) → lines_of k (put j x) ≡ lines_of k j ++ placed_line k j x }
 {}
 
-/// The records of a right journal with one put more have the automations and numbers that they had, and so its calls' text is the same by
-/// them: it tells of a run only its automation and its number.
+/// The records of a right journal with one put more have the units and numbers that they had, and so its calls' text is the same by
+/// them: it tells of a run only its unit and its number.
 pub fn calls_of_grown_records()
     ensures numbers { (j : Journal) (x : Entry) (rs rs' : Records) → IsPut x → Right j rs → Right (put j x) rs' → SameNumbers rs rs' }
     ensures calls { (j : Journal) (rs rs' : Records) → Right j rs → SameNumbers rs rs' → call_text j rs ≡ call_text j rs' }

@@ -1,6 +1,6 @@
 //! Copies and comparisons of configurations.
 
-use crate::config::{Automation, Config, Mode};
+use crate::config::{Automation, Config, Mode, Script};
 use ha_value::Plain;
 use std::alloc::{AllocError, Global};
 
@@ -38,14 +38,33 @@ impl Plain for Automation {
     }
 }
 
+impl Plain for Script {
+    fn copy(&self, alloc: Global) -> Result<Script, AllocError> {
+        Ok(Script {
+            name: self.name.copy(alloc)?,
+            actions: self.actions.copy(alloc)?,
+            mode: self.mode,
+            max: self.max,
+        })
+    }
+
+    fn same(&self, other: &Script) -> bool {
+        self.name.same(&other.name)
+            && self.actions.same(&other.actions)
+            && self.mode.same(&other.mode)
+            && self.max == other.max
+    }
+}
+
 impl Plain for Config {
     fn copy(&self, alloc: Global) -> Result<Config, AllocError> {
         Ok(Config {
             automations: self.automations.copy(alloc)?,
+            scripts: self.scripts.copy(alloc)?,
         })
     }
 
     fn same(&self, other: &Config) -> bool {
-        self.automations.same(&other.automations)
+        self.automations.same(&other.automations) && self.scripts.same(&other.scripts)
     }
 }

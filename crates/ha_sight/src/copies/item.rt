@@ -27,6 +27,16 @@ impl Plain for Item {
                 skip: *skip,
             }),
             Item::Failed(code) => Ok(Item::Failed(*code)),
+            Item::Started {
+                scripts,
+                fields,
+                waits,
+            } => Ok(Item::Started {
+                scripts: scripts.copy(alloc)?,
+                fields: copy_pairs(alloc, fields.as_slice())?,
+                waits: *waits,
+            }),
+            Item::Halted(scripts) => Ok(Item::Halted(scripts.copy(alloc)?)),
         }
     }
 
@@ -69,6 +79,26 @@ impl Plain for Item {
             },
             Item::Failed(a) => match other {
                 Item::Failed(b) => *a == *b,
+                _ => false,
+            },
+            Item::Started {
+                scripts,
+                fields,
+                waits,
+            } => match other {
+                Item::Started {
+                    scripts: other_scripts,
+                    fields: other_fields,
+                    waits: other_waits,
+                } => {
+                    scripts.same(other_scripts)
+                        && fields.same(other_fields)
+                        && *waits == *other_waits
+                }
+                _ => false,
+            },
+            Item::Halted(a) => match other {
+                Item::Halted(b) => a.same(b),
                 _ => false,
             },
         }

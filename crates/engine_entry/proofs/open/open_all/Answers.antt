@@ -6,6 +6,23 @@ use Rattle.engine_entry.proofs.NamedLemmas.{read-here}
 use Rattle.engine_entry.proofs.OpenLemmas.{open-end}
 use Rattle.engine_entry.proofs.open.open_all.Goals as goal
 
+pub open_one-requires : goal.open_one-requires
+open_one-requires c =
+    let h = c.requires in
+    let here : slice_get (automations (more h.j h.x)) c.rules.at ≡ Some c.index-rules-at.result
+    = ap (λ (l : List Automation). slice_get l c.rules.at) (sym h.all_are) ∙ read-here c.args.rules.now c.rules.at c.index-rules-at.result c.index-rules-at.result c.rules-test.true c.index-rules-at.is in
+    record {
+      j = h.j;
+      x = h.x;
+      opens = h.opens;
+      sound = h.sound;
+      here = here;
+      on_is = sym (c.on_of-on.ensures (more h.j h.x) c.index-rules-at.result h.switches_stand here);
+      place_is = h.place_is;
+      at_is = h.at_is;
+      opened = c.rules.invariant h;
+    }
+
 pub rules-preserved : goal.rules-preserved
 rules-preserved c h =
     let here : slice_get (automations (more h.j h.x)) c.rules.at ≡ Some c.index-rules-at.result

@@ -3,7 +3,7 @@ use Rattle.state_laws.proofs.StandLemmas.{stands-switch}
 use Rattle.std.proofs.Common.{◌≡◌, ◌∙◌, Bool, ◌&&◌, not, refl, sym, subst, arith}
 use Rattle.std.specs.Prelude.{Some, IsNone, if◌then◌else◌}
 use Rattle.ha_value.specs.declared.value.EntityId.{EntityId}
-use Rattle.ha_journal.specs.Journal.{Journal, automations, more}
+use Rattle.ha_journal.specs.Journal.{Journal, automations, more, configured}
 use Rattle.ha_journal.specs.States.{states}
 use Rattle.ha_config.specs.Words.{same_entity}
 use Rattle.ha_past.specs.Firings.{placed}
@@ -21,7 +21,7 @@ attach_on-requires-clause-fresh c =
     subst IsNone (sym (open-none c.requires.j c.requires.x c.requires.opens c.args.automation (attached c.args.triggers.now) c.requires.opened.owners)) refl
 
 pub attach_on-requires-clause-sound : goal.attach_on-requires-clause-sound
-attach_on-requires-clause-sound c = sound-triggers c.args.rule.now (sound-at (automations (more c.requires.j c.requires.x)) c.requires.sound c.args.automation c.args.rule.now c.requires.here)
+attach_on-requires-clause-sound c = sound-triggers c.args.rule.now (sound-at (configured (more c.requires.j c.requires.x)) c.requires.sound c.args.automation c.args.rule.now c.requires.here)
 
 pub returns : goal.returns
 returns c h =

@@ -50,3 +50,15 @@ returns-in-Failed-clause-entered c wait taken =
     (let h = c.requires in
     plain c.args.journal.now c.args.parts.now c.enter_none-in-Failed.new.parts h (Item.Failed c.in-Failed.field-0) c.enter_none-in-Failed.result (sym (c.last_item.ensures h.j h.worker h.serial h.branch h.item h.journal_is) ∙ c.in-Failed.is) tt c.enter_none-in-Failed.ensures.listed
     c.enter_none-in-Failed.ensures.rest wait taken)
+
+pub returns-in-Started-clause-entered : goal.returns-in-Started-clause-entered
+returns-in-Started-clause-entered c wait taken =
+    (let h = c.requires in
+    plain c.args.journal.now c.args.parts.now c.enter_none-in-Started.new.parts h (Item.Started c.in-Started.scripts c.in-Started.fields c.in-Started.waits) c.enter_none-in-Started.result (sym (c.last_item.ensures h.j h.worker h.serial h.branch h.item h.journal_is) ∙ c.in-Started.is) tt c.enter_none-in-Started.ensures.listed
+    c.enter_none-in-Started.ensures.rest wait taken)
+
+pub returns-in-Halted-clause-entered : goal.returns-in-Halted-clause-entered
+returns-in-Halted-clause-entered c wait taken =
+    (let h = c.requires in
+    plain c.args.journal.now c.args.parts.now c.enter_none-in-Halted.new.parts h (Item.Halted c.in-Halted.field-0) c.enter_none-in-Halted.result (sym (c.last_item.ensures h.j h.worker h.serial h.branch h.item h.journal_is) ∙ c.in-Halted.is) tt c.enter_none-in-Halted.ensures.listed
+    c.enter_none-in-Halted.ensures.rest wait taken)

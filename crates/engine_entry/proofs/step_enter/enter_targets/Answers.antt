@@ -25,7 +25,7 @@ enter_switches-requires c =
     let h = c.requires.here in
     let x : Entry = Step h.worker h.serial h.branch h.item in
     let count : c.len-count.result ≡ length (automations h.j)
-    = c.len-count.ensures ∙ ap length (c.configuration.ensures ∙ ap automations h.journal_is ∙ sym (automations-more h.j x h.some)) in
+    = c.len-count.ensures ∙ ap length (c.configuration.ensures.automations ∙ ap automations h.journal_is ∙ sym (automations-more h.j x h.some)) in
     let lasts : AreLasts (length (automations h.j)) c.args.targets.now c.in_ok-last.last.items
     = subst (λ n. AreLasts n c.args.targets.now c.in_ok-last.last.items) count (subst (λ (l : List Target). AreLasts c.len-count.result l c.in_ok-last.last.items) c.as_slice.ensures c.in_ok-last.ensures) in
     let turn : IsTurn h.j x c.in_ok-last.last.items

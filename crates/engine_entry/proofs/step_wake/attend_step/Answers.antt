@@ -22,7 +22,7 @@ returns-clause-going c rs progress h =
     let rest : c.note_entry.new.parts ≡ record p { triggers = c.note_entry.new.parts.triggers; waits = c.note_entry.new.parts.waits; delays = c.take_over.new.parts.delays }
     = c.in_ok-fired.ensures.rest ∙ ap (λ (q : Parts). record q { triggers = c.note_entry.new.parts.triggers; waits = c.note_entry.new.parts.waits }) c.in_ok-take_over.ensures.rest in
     c.in_ok-wake_after.ensures.going rs p.waits c.take_over.new.parts.waits p.delays progress c.args.wait c.args.due
-    (subst (λ (q : Parts). StepRuns k rs progress c.args.wait c.args.due p.waits p.delays q.frames.items q.ready.pairs.items) (sym rest) h)
+    (subst (λ (q : Parts). StepRuns k rs progress c.args.wait c.args.due p.waits p.delays q.frames.items q.ready.pairs.items q.calls) (sym rest) h)
     c.in_ok-take_over.ensures.asks
     (ap (λ (q : Parts). q.delays) rest ∙ c.in_ok-take_over.ensures.delays)
     (subst (λ n. KeysBelow n p.delays) early c.requires.keys_early)

@@ -25,14 +25,14 @@ begun k targets p h all all_are before none place place_is = record {
 }
 
 pub turn_all-requires : goal.turn_all-requires
-turn_all-requires c = begun c.args.journal.now c.args.targets.now c.args.parts.now c.requires c.as_slice-rules.result.now (c.as_slice-rules.ensures ∙ c.configuration.ensures) c.make-before.result c.make-before.ensures c.place.result c.place.ensures.place
+turn_all-requires c = begun c.args.journal.now c.args.targets.now c.args.parts.now c.requires c.as_slice-rules.result.now (c.as_slice-rules.ensures ∙ c.configuration.ensures.automations) c.make-before.result c.make-before.ensures c.place.result c.place.ensures.place
 
 pub returns-clause-entered : goal.returns-clause-entered
 returns-clause-entered c =
     let p : Parts = c.args.parts.now in
     let q : Parts = c.turn_all.new.parts in
     let h : TurnsAll c.as_slice-rules.result.now c.args.targets.now c.place.result (record p { changed = false }) c.make-before.result
-    = begun c.args.journal.now c.args.targets.now p c.requires c.as_slice-rules.result.now (c.as_slice-rules.ensures ∙ c.configuration.ensures) c.make-before.result c.make-before.ensures c.place.result c.place.ensures.place in
+    = begun c.args.journal.now c.args.targets.now p c.requires c.as_slice-rules.result.now (c.as_slice-rules.ensures ∙ c.configuration.ensures.automations) c.make-before.result c.make-before.ensures c.place.result c.place.ensures.place in
     let rest : q ≡ record p { switches = q.switches; states = q.states; triggers = q.triggers; changed = q.changed } = c.in_ok-turn_all.ensures.rest in
     subst (λ (r : Parts). Entered c.args.journal.now r c.turn_all.new.before) (sym rest)
     (turning-ends c.args.journal.now c.args.targets.now p c.requires q.switches q.states q.triggers q.changed c.turn_all.new.before

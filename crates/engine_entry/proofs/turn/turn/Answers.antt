@@ -5,7 +5,7 @@ use Rattle.trig_set.specs.Stands.{attached}
 use Rattle.engine_parts.specs.Owners.{AreBelow}
 use Rattle.engine_parts.proofs.DetachLemmas.{below-without}
 use Rattle.engine_entry.proofs.PlaceLemmas.{below-placed}
-use Rattle.ha_journal.specs.Journal.{automations}
+use Rattle.ha_journal.specs.Journal.{automations, configured}
 use Rattle.engine_entry.proofs.NamedLemmas.{sound-at, sound-few, sound-triggers}
 use Rattle.engine_entry.proofs.TurnedParts.{fresh-on, turned-none, turned-some}
 use Rattle.engine_entry.proofs.turn.turn.Goals as goal
@@ -15,7 +15,7 @@ attach_switch-requires-clause-fresh c =
     fresh-on c.args.rule.now c.args.automation c.args.on c.args.place c.args.parts.now c.args.before.now c.requires c.if-set.ensures.changed
 
 pub attach_switch-requires-clause-sound : goal.attach_switch-requires-clause-sound
-attach_switch-requires-clause-sound c = sound-triggers c.args.rule.now (sound-at (automations c.requires.j) c.requires.sound c.args.automation c.args.rule.now c.requires.here)
+attach_switch-requires-clause-sound c = sound-triggers c.args.rule.now (sound-at (configured c.requires.j) c.requires.sound c.args.automation c.args.rule.now c.requires.here)
 
 pub returns-in_ok-attach_switch-clause-turned : goal.returns-in_ok-attach_switch-clause-turned
 returns-in_ok-attach_switch-clause-turned c h =
@@ -41,4 +41,4 @@ returns-in_ok-attach_switch-clause-below c n le h =
     let all = automations c.requires.j in
     let lt : c.args.automation < length all = within all c.args.automation c.args.rule.now c.requires.here in
     let own : Owner = record { owner = c.args.automation; triggers = c.args.rule.now.triggers; since = c.args.place } in
-    turned-below c.args.on own n (attached c.args.parts.now.triggers) (attached c.attach_switch.new.triggers) (omega (arith, lt, le, sound-few all c.requires.sound)) h c.in_ok-attach_switch.ensures.owners
+    turned-below c.args.on own n (attached c.args.parts.now.triggers) (attached c.attach_switch.new.triggers) (omega (arith, lt, le, sound-few (configured c.requires.j) c.requires.sound)) h c.in_ok-attach_switch.ensures.owners

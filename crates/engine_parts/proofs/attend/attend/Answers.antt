@@ -20,7 +20,7 @@ returns-clause-fired c =
 pub returns-clause-going : goal.returns-clause-going
 returns-clause-going c rs before =
     c.in_ok-wake_line.ensures.going rs c.args.parts.now.waits c.in_ok-fired.ensures.noted
-    (subst (λ (p : Parts). RunsBefore c.args.journal.now rs c.args.parts.now.waits p.delays p.frames.items p.ready.pairs.items) (sym c.in_ok-fired.ensures.rest) before)
+    (subst (λ (p : Parts). RunsBefore c.args.journal.now rs c.args.parts.now.waits p.delays p.frames.items p.ready.pairs.items p.calls) (sym c.in_ok-fired.ensures.rest) before)
 
 pub returns-clause-ended : goal.returns-clause-ended
 returns-clause-ended c serial =

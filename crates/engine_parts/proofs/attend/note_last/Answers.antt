@@ -1,18 +1,17 @@
-use Rattle.state_laws.proofs.SeenLemmas.{parts_see}
 use Rattle.std.proofs.Common.{◌≡◌, ◌-◌, length, sym, ap, subst, ◌∙◌}
 use Rattle.ha_journal.specs.declared.entry.Entry.{Entry}
 use Rattle.ha_journal.specs.Journal.{Journal, more}
-use Rattle.cond_eval.specs.Seen.{seen}
+use Rattle.script_calls.specs.Seen as shown
 use Rattle.trig_set.specs.Next.{IsNext}
 use Rattle.ha_past.specs.Firings.{firings}
 use Rattle.trig_set.specs.Stands as triggers
 use Rattle.wait_set.specs.Stands as waits
 use Rattle.engine_parts.proofs.NoteEntry.{untold-next, untold-told, told-by}
-use Rattle.engine_parts.proofs.ViewLemmas.{view-of}
+use Rattle.engine_parts.proofs.ViewLemmas.{place-seen, units-fit}
 use Rattle.engine_parts.proofs.attend.note_last.Goals as goal
 
 pub note-requires : goal.note-requires
-note-requires c = record { in_time = c.make-view.result.timely }
+note-requires c = record { in_time = c.make-view.ensures.timely }
 
 pub returns-clause-told : goal.returns-clause-told
 returns-clause-told c =
@@ -21,18 +20,18 @@ returns-clause-told c =
     let t = c.args.triggers.now in
     let w = c.args.waits.now in
     let same : c.last_entry.result.now ≡ h.x = c.last_entry.ensures h.j h.x h.journal_is in
-    let sees = c.make-view.ensures ∙ parts_see c.args.states.now c.configuration.result.now c.args.zone.now c.args.at k (view-of k c.args.states.now c.configuration.result.now c.args.zone.now c.args.at c.requires.looks c.requires.sound c.configuration.ensures) in
+    let sees = c.make-view.ensures.sees ∙ place-seen k c.args.states.now c.configuration.result.now c.args.zone.now c.args.at c.requires.looks c.requires.sound c.configuration.ensures.configured in
     let p = c.place.result in
     let at : length k - 1 ≡ p = sym c.place.ensures.place in
-    let next = subst (λ n. IsNext h.j n c.last_entry.result.now c.args.before (seen c.make-view.result) (triggers.attached t)) at
-    (subst (λ (y : Entry). IsNext h.j (length k - 1) y c.args.before (seen c.make-view.result) (triggers.attached t)) (sym same)
-    (untold-next k t w c.args.before h c.args.states.now c.args.zone.now c.args.at (seen c.make-view.result) c.requires.looks sees)) in
+    let next = subst (λ n. IsNext h.j n c.last_entry.result.now c.args.before (shown.sees c.make-view.result) (triggers.attached t)) at
+    (subst (λ (y : Entry). IsNext h.j (length k - 1) y c.args.before (shown.sees c.make-view.result) (triggers.attached t)) (sym same)
+    (untold-next k t w c.args.before h c.args.states.now c.args.zone.now c.args.at (shown.sees c.make-view.result) c.requires.looks sees)) in
     let told = subst (λ n. waits.AreFired (more h.j c.last_entry.result.now) n (firings (more h.j c.last_entry.result.now) n (triggers.attached t)) w.asks) at
     (subst (λ (y : Entry). waits.AreFired (more h.j y) (length k - 1) (firings (more h.j y) (length k - 1) (triggers.attached t)) w.asks) (sym same) (untold-told k t w c.args.before h)) in
     told-by k t w c.args.before h c.note.new.triggers c.note.new.waits c.in_ok-fired.ensures.attached
     (subst (λ (y : Entry). triggers.StandsFor c.note.new.triggers (more h.j y)) same (c.in_ok-fired.ensures.triggers h.j h.triggers_stand next))
     (subst (λ (y : Entry). waits.StandsFor c.note.new.waits.asks (more h.j y)) same (c.in_ok-fired.ensures.waits h.j h.some h.triggers_stand h.waits_stand next told))
-    c.in_ok-fired.ensures.asks c.in_ok-fired.ensures.grow c.in_ok-fired.ensures.owned c.in_ok-fired.ensures.told c.in_ok-fired.ensures.apart c.in_ok-fired.ensures.others c.in_ok-fired.ensures.held
+    (c.in_ok-fired.ensures.asks h.j h.some h.triggers_stand next told) c.in_ok-fired.ensures.grow c.in_ok-fired.ensures.owned c.in_ok-fired.ensures.told c.in_ok-fired.ensures.apart c.in_ok-fired.ensures.others c.in_ok-fired.ensures.held
 
 pub returns-clause-fired : goal.returns-clause-fired
 returns-clause-fired c =
@@ -41,13 +40,16 @@ returns-clause-fired c =
     let t = c.args.triggers.now in
     let w = c.args.waits.now in
     let same : c.last_entry.result.now ≡ h.x = c.last_entry.ensures h.j h.x h.journal_is in
-    let sees = c.make-view.ensures ∙ parts_see c.args.states.now c.configuration.result.now c.args.zone.now c.args.at k (view-of k c.args.states.now c.configuration.result.now c.args.zone.now c.args.at c.requires.looks c.requires.sound c.configuration.ensures) in
+    let sees = c.make-view.ensures.sees ∙ place-seen k c.args.states.now c.configuration.result.now c.args.zone.now c.args.at c.requires.looks c.requires.sound c.configuration.ensures.configured in
     let p = c.place.result in
     let at : length k - 1 ≡ p = sym c.place.ensures.place in
-    let next = subst (λ n. IsNext h.j n c.last_entry.result.now c.args.before (seen c.make-view.result) (triggers.attached t)) at
-    (subst (λ (y : Entry). IsNext h.j (length k - 1) y c.args.before (seen c.make-view.result) (triggers.attached t)) (sym same)
-    (untold-next k t w c.args.before h c.args.states.now c.args.zone.now c.args.at (seen c.make-view.result) c.requires.looks sees)) in
+    let next = subst (λ n. IsNext h.j n c.last_entry.result.now c.args.before (shown.sees c.make-view.result) (triggers.attached t)) at
+    (subst (λ (y : Entry). IsNext h.j (length k - 1) y c.args.before (shown.sees c.make-view.result) (triggers.attached t)) (sym same)
+    (untold-next k t w c.args.before h c.args.states.now c.args.zone.now c.args.at (shown.sees c.make-view.result) c.requires.looks sees)) in
     c.in_ok-fired.ensures.fired h.j h.triggers_stand next
     ∙ ap (λ n. firings (more h.j c.last_entry.result.now) n (triggers.attached t)) c.place.ensures.place
     ∙ ap (λ (y : Entry). firings (more h.j y) (length k - 1) (triggers.attached t)) same
     ∙ ap (λ (i : Journal). firings i (length k - 1) (triggers.attached t)) (sym h.journal_is)
+
+pub make-view-requires-clause-few : goal.make-view-requires-clause-few
+make-view-requires-clause-few c = units-fit c.args.journal.now c.configuration.result.now c.requires.sound c.configuration.ensures.configured

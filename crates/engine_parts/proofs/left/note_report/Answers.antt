@@ -1,15 +1,14 @@
-use Rattle.state_laws.proofs.SeenLemmas.{parts_see}
 use Rattle.std.proofs.Common.{◌∙◌}
 use Rattle.std.proofs.Common.{◌-◌, [], ◌∷◌, length, sym, subst}
 use Rattle.ha_journal.specs.declared.entry.Entry.{Entry}
 use Rattle.ha_journal.specs.Journal.{more}
 use Rattle.ha_journal.specs.Moves.{sight}
-use Rattle.cond_eval.specs.Seen.{seen}
+use Rattle.script_calls.specs.Seen as shown
 use Rattle.trig_set.specs.Stands as triggers
 use Rattle.wait_set.specs.Stands as waits
 use Rattle.engine_parts.proofs.NoteEntry.{told-by}
 use Rattle.engine_parts.proofs.NoteLeft.{left-next, left-none, left-now, left-quiet, left-waits, report}
-use Rattle.engine_parts.proofs.ViewLemmas.{view-of}
+use Rattle.engine_parts.proofs.ViewLemmas.{place-seen, units-fit}
 use Rattle.engine_parts.proofs.left.note_report.Goals as goal
 
 pub note_left-requires : goal.note_left-requires
@@ -27,15 +26,15 @@ returns-clause-told c =
     let j = h.untold.j in
     let next = left-next k t w e text attributes h c.args.states.now c.args.zone.now c.args.at c.requires.looks in
     let none = left-quiet k t w e text attributes h c.args.states.now c.args.zone.now c.args.at c.requires.looks c.note_left.ensures.fired in
-    let sees = c.make-view.ensures ∙ parts_see c.args.states.now c.configuration.result.now c.args.zone.now c.args.at k (view-of k c.args.states.now c.configuration.result.now c.args.zone.now c.args.at c.requires.looks c.requires.sound c.configuration.ensures) in
+    let sees = c.make-view.ensures.sees ∙ place-seen k c.args.states.now c.configuration.result.now c.args.zone.now c.args.at c.requires.looks c.requires.sound c.configuration.ensures.configured in
+    let waits_next = subst (λ n. waits.IsNext j n (report k t w e text attributes h) (shown.sees c.make-view.result) c.make-fired.result w.asks) (sym c.place.ensures.place)
+    (left-waits k t w e text attributes h none (shown.sees c.make-view.result) c.make-fired.result sees c.make-fired.ensures) in
     told-by k t w ((e, h.old) ∷ []) h.untold c.note_left.new.self c.note_waits.new.waits c.note_left.ensures.kept
     (subst (λ (y : Entry). triggers.StandsFor c.note_left.new.self (more j y)) (sym h.x_is)
     (c.in_ok-note_left.ensures.stands j h.source h.number (length k - 1) h.old (sight k (length k)) h.untold.triggers_stand next (left-now k t w e text attributes h c.args.states.now c.args.zone.now c.args.at c.requires.looks)))
     (subst (λ (y : Entry). waits.StandsFor c.note_waits.new.waits.asks (more j y)) (sym h.x_is)
-    (c.in_ok-note_waits.ensures.stands j (report k t w e text attributes h) h.untold.waits_stand
-    (subst (λ n. waits.IsNext j n (report k t w e text attributes h) (seen c.make-view.result) c.make-fired.result w.asks) (sym c.place.ensures.place)
-    (left-waits k t w e text attributes h none (seen c.make-view.result) c.make-fired.result sees c.make-fired.ensures))))
-    c.in_ok-note_waits.ensures.asks c.in_ok-note_waits.ensures.grow c.in_ok-note_waits.ensures.owned c.in_ok-note_waits.ensures.told c.in_ok-note_waits.ensures.apart c.in_ok-note_waits.ensures.others
+    (c.in_ok-note_waits.ensures.stands j (report k t w e text attributes h) h.untold.waits_stand waits_next))
+    (c.in_ok-note_waits.ensures.asks j (report k t w e text attributes h) waits_next) c.in_ok-note_waits.ensures.grow c.in_ok-note_waits.ensures.owned c.in_ok-note_waits.ensures.told c.in_ok-note_waits.ensures.apart c.in_ok-note_waits.ensures.others
     c.in_ok-note_waits.ensures.held
 
 pub returns-clause-fired : goal.returns-clause-fired
@@ -67,3 +66,6 @@ returns-in_err-note_waits-clause-fired c =
     let text = c.args.text.now in
     let attributes = c.args.attributes.now in
     left-none k t w e text attributes c.requires.untold (left-quiet k t w e text attributes c.requires.untold c.args.states.now c.args.zone.now c.args.at c.requires.looks c.note_left.ensures.fired)
+
+pub make-view-requires-clause-few : goal.make-view-requires-clause-few
+make-view-requires-clause-few c = units-fit c.args.journal.now c.configuration.result.now c.requires.sound c.configuration.ensures.configured

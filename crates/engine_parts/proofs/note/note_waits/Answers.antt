@@ -1,4 +1,5 @@
 use Rattle.std.proofs.Common.{ℕ, List, subst, sym}
+use Rattle.ha_journal.specs.Journal.{more}
 use Rattle.wait_set.specs.declared.asked.Asked.{Asked}
 use Rattle.wait_set.specs.Asked.{noted}
 use Rattle.wait_set.specs.Timers.{AreApart}
@@ -10,7 +11,7 @@ use Rattle.engine_parts.proofs.HeldLemmas.{held-noted}
 use Rattle.engine_parts.proofs.note.note_waits.Goals as goal
 
 pub returns-clause-asks : goal.returns-clause-asks
-returns-clause-asks g c = asks-noted c.args.place (g.A.Answers.sight c.args.answers.now) c.args.fired.now c.args.waits.now c.note.new.self c.in_ok-note.ensures.ok
+returns-clause-asks g c j x next = asks-noted (more j x) c.args.place (g.A.Answers.sight c.args.answers.now) c.args.fired.now c.args.waits.now c.note.new.self c.in_ok-note.ensures.ok next.fires
 
 pub returns-clause-grow : goal.returns-clause-grow
 returns-clause-grow g c = grow-noted c.args.waits.now c.note.new.self c.in_ok-note.ensures.told

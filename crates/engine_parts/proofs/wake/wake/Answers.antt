@@ -10,11 +10,11 @@ use Rattle.ha_ready.proofs.AgreeLemmas.{agree-all}
 use Rattle.engine_parts.proofs.wake.wake.Goals as goal
 
 pub returns-clause-pairs : goal.returns-clause-pairs
-returns-clause-pairs c rs waking h =
+returns-clause-pairs c told rs waking h =
     let places : List ℕ = wait_places (fresh c.args.waits.now) in
-    let behind : AgreesBut (touched c.args.journal.now (places ++ [])) rs c.args.journal.now c.wake_delays.new.ready.pairs.items
-    = subst (λ left. AgreesBut (touched c.args.journal.now left) rs c.args.journal.now c.wake_delays.new.ready.pairs.items) (sym (append-nil places)) (c.in_ok-wake_delays.ensures.agree rs places waking h) in
-    agree-all (touched c.args.journal.now []) rs c.args.journal.now c.wake_waits.new.ready.pairs.items (λ s. refl) (c.in_ok-wake_waits.ensures rs [] waking behind)
+    let behind : AgreesBut told (touched c.args.journal.now (places ++ [])) rs c.args.journal.now c.wake_delays.new.ready.pairs.items
+    = subst (λ left. AgreesBut told (touched c.args.journal.now left) rs c.args.journal.now c.wake_delays.new.ready.pairs.items) (sym (append-nil places)) (c.in_ok-wake_delays.ensures.agree told rs places waking h) in
+    agree-all told (touched c.args.journal.now []) rs c.args.journal.now c.wake_waits.new.ready.pairs.items (λ s. refl) (c.in_ok-wake_waits.ensures told rs [] waking behind)
 
 pub returns-clause-owned : goal.returns-clause-owned
 returns-clause-owned c j told others owned =

@@ -56,19 +56,19 @@ returns-clause-over c =
     (λ i. due_places c.args.now (c.pop.ensures.rest i)) ∙ none-after c.args.now c.due.delays (c.pop.ensures.none none)
 
 pub returns-clause-agree : goal.returns-clause-agree
-returns-clause-agree c rs left waking h =
+returns-clause-agree c told rs left waking h =
     let none : is_some c.pop.result ≡ false = ap is_some c.in_default.is in
     let empty : due_places c.args.now c.due.delays ≡ [] = none-due c.args.now c.due.delays (c.pop.ensures.none none) in
-    subst (λ places. AgreesBut (touched c.args.journal.now (places ++ left)) rs c.args.journal.now c.due.ready.pairs.items) empty (c.due.invariant.agree rs left waking h)
+    subst (λ places. AgreesBut told (touched c.args.journal.now (places ++ left)) rs c.args.journal.now c.due.ready.pairs.items) empty (c.due.invariant.agree told rs left waking h)
 
 pub due-preserved : goal.due-preserved
 due-preserved c = record {
   queue = λ p due e. kept-left c.args.now p due c.due.delays c.pop.new.delays c.pop.ensures.rest (c.due.invariant.queue p due e);
   early = λ n h. c.pop.ensures.early n (c.due.invariant.early n h);
-  agree = λ rs left waking h. c.in_ok-wake_one.ensures rs (due_places c.args.now c.pop.new.delays ++ left) waking
-      (subst (λ (l : List ℕ). AgreesBut (touched c.args.journal.now l) rs c.args.journal.now c.due.ready.pairs.items)
+  agree = λ told rs left waking h. c.in_ok-wake_one.ensures told rs (due_places c.args.now c.pop.new.delays ++ left) waking
+      (subst (λ (l : List ℕ). AgreesBut told (touched c.args.journal.now l) rs c.args.journal.now c.due.ready.pairs.items)
       (ap (λ (l : List ℕ). l ++ left) (place-first c.args.now c.in-Some.place c.due.delays (sym c.pop.ensures.first ∙ c.in-Some.is) ∙ ap (λ ts. c.in-Some.place ∷ due_places c.args.now ts) (sym c.pop.ensures.rest)))
-      (c.due.invariant.agree rs left waking h));
+      (c.due.invariant.agree told rs left waking h));
 }
 
 pub returns-clause-early : goal.returns-clause-early

@@ -33,4 +33,9 @@ returns-clause-all c k xs prepared at some table going =
     let size : vec_len c.attempts.stack ≡ 0 = (subst (λ (o : Option Prepared). MatchOption o ((vec_len c.attempts.stack ≡ 0) × (vec_len c.pop.new.self ≡ 0)) (λ _. vec_len c.pop.new.self + 1 ≡ vec_len c.attempts.stack)) c.in_default.is c.pop.ensures.cases).0 in
     let none : c.attempts.stack.items ≡ [] = no-items c.attempts.stack.items (sym c.attempts.stack.ok.0 ∙ size) in
     let ys : now.0 ≡ [] = none-prepared k now.0 (subst (λ (l : List Prepared). ArePrepared k now.0 (from_end l)) none now.1) in
-    (ap (λ (zs : List (ℕ × Attempt)). all_tried k c.attempts.runs.list zs) (sym ys) ∙ now.2, now.4)
+    (ap (λ (zs : List (ℕ × Attempt)). all_tried k c.attempts.runs.list zs) (sym ys) ∙ now.2, now.3, now.4)
+
+pub returns-clause-room : goal.returns-clause-room
+returns-clause-room c =
+    let size : vec_len c.attempts.stack ≡ 0 = (subst (λ (o : Option Prepared). MatchOption o ((vec_len c.attempts.stack ≡ 0) × (vec_len c.pop.new.self ≡ 0)) (λ _. vec_len c.pop.new.self + 1 ≡ vec_len c.attempts.stack)) c.in_default.is c.pop.ensures.cases).0 in
+    subst (λ n. HasRoom n c.attempts.parts) size c.attempts.invariant.room

@@ -1,15 +1,18 @@
-use Rattle.std.proofs.Common.{◌≡◌, ◌+◌, ◌-◌, List, [], ◌∷◌, length, filter, true, sym, ap, subst, ◌∙◌, refl, arith}
-use Rattle.std.specs.Prelude.{Option}
+use Rattle.std.proofs.Common.{◌≡◌, ℕ, ◌+◌, ◌-◌, List, [], ◌∷◌, length, filter, true, sym, ap, subst, ◌∙◌, refl, arith}
+use Rattle.std.specs.Prelude.{Option, None, Some}
 use Rattle.timer_queue.specs.Timers.{Timer}
 use Rattle.ha_journal.specs.declared.entry.Entry.{Entry}
 use Rattle.ha_journal.specs.declared.entry.Entry.TheVariants.{Boot}
 use Rattle.ha_journal.specs.Journal.{Journal}
+use Rattle.ha_sight.specs.Scripts.{Branch}
+use Rattle.script_calls.specs.Waiting.{Waiting}
 use Rattle.script_step.specs.declared.frames.Frames.{Frames}
 use Rattle.switch_book.specs.Book as switches
 use Rattle.trig_set.specs.Stands as triggers
 use Rattle.wait_set.specs.declared.asked.Asked.{Asked}
 use Rattle.wait_set.specs.Timers.{AreApart}
 use Rattle.engine_parts.specs.declared.parts.Parts.{Parts}
+use Rattle.engine_parts.specs.Called.{CallsKept, told_by}
 use Rattle.engine_parts.specs.Kept.{AreOwned, Going, KeysBelow, SlotBut, nobody}
 use Rattle.engine_parts.specs.Owners.{AreAscending, AreBelow, is_automation}
 use Rattle.engine_parts.specs.Runs.{AreHeld, SlotsWith, first_wait}
@@ -36,11 +39,16 @@ returns-clause-going c =
       switches = c.args.switches;
       triggers = t';
       waits = w;
-      frames = c.make-2.result;
-      delays = c.make-3.result;
+      calls = c.make-2.result;
+      frames = c.make-3.result;
+      delays = c.make-4.result;
       ready = record { pairs = c.new.result };
       rested = c.in_ok-rested.rested;
       changed = true;
+    } in
+    let none-kept : CallsKept (told_by nobody k []) k [] [] [] = record {
+      awaited = tt;
+      callers = λ called s b e. absurd (let bad : ◌≡◌ {A = Option (ℕ × Branch)} None (Some (s, b)) = e in cc);
     } in
     let going : Going nobody k [] p = record {
       sees = record {
@@ -58,11 +66,13 @@ returns-clause-going c =
         waits_owned = subst (λ (l : List Asked). AreOwned (length k) (triggers.attached t') l) (sym c.make.ensures.asks) tt;
         apart = subst (λ (l : List Asked). AreApart l) (sym c.make.ensures.asks) tt;
       };
-      keys_early = subst (λ (l : List Timer). KeysBelow (length k) l) (sym c.make-3.ensures) tt;
+      keys_early = subst (λ (l : List Timer). KeysBelow (length k) l) (sym c.make-4.ensures) tt;
       runs_kept = record {
-        slots = subst (λ (os : List (Option Frames)). SlotsWith (SlotBut nobody k c.make-3.result w) [] os) (sym c.make-2.ensures) tt;
+        slots = subst (λ (os : List (Option Frames)). SlotsWith (SlotBut nobody (told_by nobody k []) k c.make-4.result w) [] os) (sym c.make-3.ensures) tt;
         pairs_are = c.new.ensures.items;
-        held = subst (λ (l : List Asked). AreHeld k c.make-2.result.items l) (sym c.make.ensures.asks) tt;
+        held = subst (λ (l : List Asked). AreHeld k c.make-3.result.items l) (sym c.make.ensures.asks) tt;
       };
+      calls_kept = subst (λ (waiting : Waiting). CallsKept (told_by nobody k []) k [] waiting c.make-3.result.items) (sym c.make-2.ensures)
+          (subst (λ (os : List (Option Frames)). CallsKept (told_by nobody k []) k [] [] os) (sym c.make-3.ensures) none-kept);
     } in
     subst (λ (i : Journal). Going nobody i [] p) (sym h.journal_is) going

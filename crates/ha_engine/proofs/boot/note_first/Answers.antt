@@ -1,11 +1,10 @@
-use Rattle.state_laws.proofs.SeenLemmas.{parts_see}
 use Rattle.std.proofs.Common.{◌≡◌, ◌-◌, [], ◌∷◌, length, filter, sym, ap, subst, ◌∙◌, refl, arith}
 use Rattle.ha_journal.specs.declared.entry.Entry.{Entry}
 use Rattle.ha_journal.specs.declared.entry.Entry.TheVariants.{Boot}
 use Rattle.ha_journal.specs.Attempts.{fired}
 use Rattle.ha_journal.specs.Journal.{Journal, last_place}
 use Rattle.ha_journal.specs.Moves.{sight}
-use Rattle.cond_eval.specs.Seen.{seen}
+use Rattle.script_calls.specs.Seen as shown
 use Rattle.trig_set.specs.Opening.{Opens}
 use Rattle.trig_set.specs.Stands as triggers
 use Rattle.engine_parts.specs.Kept.{AreSound, Looks}
@@ -14,7 +13,7 @@ use Rattle.engine_parts.proofs.AttemptLemmas.{attempts-fired}
 use Rattle.ha_engine.proofs.BeginLemmas.{boot-looks}
 use Rattle.engine_entry.proofs.OpenLemmas.{opened-automations}
 use Rattle.engine_entry.proofs.TurnedOwners.{owners-whole}
-use Rattle.engine_parts.proofs.ViewLemmas.{view-of}
+use Rattle.engine_parts.proofs.ViewLemmas.{place-seen, units-fit}
 use Rattle.ha_engine.proofs.boot.note_first.Goals as goal
 
 pub returns-clause-stands : goal.returns-clause-stands
@@ -24,11 +23,11 @@ returns-clause-stands c =
     let x : Entry = Boot h.text h.config h.stored c.args.start c.args.zone.now h.carry in
     let t = c.args.triggers.now in
     let looks = boot-looks h.text h.config h.stored c.args.start c.args.zone.now h.carry h.zone_read h.in_time c.args.states.now c.requires.opened.stand in
-    let sees : seen c.make-view.result ≡ sight k (length k)
-    = c.make-view.ensures ∙ parts_see c.args.states.now c.configuration.result.now c.args.zone.now c.args.start k (view-of k c.args.states.now c.configuration.result.now c.args.zone.now c.args.start
-    (subst (λ (i : Journal). Looks i c.args.states.now c.args.zone.now c.args.start) (sym h.journal_is) looks) (subst AreSound (sym h.journal_is) h.sound) c.configuration.ensures.automations) in
-    let opens : Opens x c.args.zone.now (seen c.make-view.result)
-    = record { boot = tt; zone = refl; sees = subst (λ (i : Journal). seen c.make-view.result ≡ sight i (length i)) h.journal_is sees } in
+    let sees : shown.sees c.make-view.result ≡ sight k (length k)
+    = c.make-view.ensures.sees ∙ place-seen k c.args.states.now c.configuration.result.now c.args.zone.now c.args.start
+    (subst (λ (i : Journal). Looks i c.args.states.now c.args.zone.now c.args.start) (sym h.journal_is) looks) (subst AreSound (sym h.journal_is) h.sound) c.configuration.ensures.configured in
+    let opens : Opens x c.args.zone.now (shown.sees c.make-view.result)
+    = record { boot = tt; zone = refl; sees = subst (λ (i : Journal). shown.sees c.make-view.result ≡ sight i (length i)) h.journal_is sees } in
     subst (λ (i : Journal). triggers.StandsFor c.open_segment.new.self i) (sym h.journal_is) (c.in_ok-fired.ensures.stands x c.requires.opened.triggers_stand opens)
 
 pub returns-clause-fired : goal.returns-clause-fired
@@ -38,12 +37,15 @@ returns-clause-fired c =
     let x : Entry = Boot h.text h.config h.stored c.args.start c.args.zone.now h.carry in
     let t = c.args.triggers.now in
     let looks = boot-looks h.text h.config h.stored c.args.start c.args.zone.now h.carry h.zone_read h.in_time c.args.states.now c.requires.opened.stand in
-    let sees : seen c.make-view.result ≡ sight k (length k)
-    = c.make-view.ensures ∙ parts_see c.args.states.now c.configuration.result.now c.args.zone.now c.args.start k (view-of k c.args.states.now c.configuration.result.now c.args.zone.now c.args.start
-    (subst (λ (i : Journal). Looks i c.args.states.now c.args.zone.now c.args.start) (sym h.journal_is) looks) (subst AreSound (sym h.journal_is) h.sound) c.configuration.ensures.automations) in
-    let opens : Opens x c.args.zone.now (seen c.make-view.result)
-    = record { boot = tt; zone = refl; sees = subst (λ (i : Journal). seen c.make-view.result ≡ sight i (length i)) h.journal_is sees } in
+    let sees : shown.sees c.make-view.result ≡ sight k (length k)
+    = c.make-view.ensures.sees ∙ place-seen k c.args.states.now c.configuration.result.now c.args.zone.now c.args.start
+    (subst (λ (i : Journal). Looks i c.args.states.now c.args.zone.now c.args.start) (sym h.journal_is) looks) (subst AreSound (sym h.journal_is) h.sound) c.configuration.ensures.configured in
+    let opens : Opens x c.args.zone.now (shown.sees c.make-view.result)
+    = record { boot = tt; zone = refl; sees = subst (λ (i : Journal). shown.sees c.make-view.result ≡ sight i (length i)) h.journal_is sees } in
     let on : filter is_automation (triggers.attached t) ≡ owners_on (x ∷ []) 0
     = opened-automations [] x refl h.sound c.args.states.now t c.requires.opened ∙ sym (owners-whole (x ∷ []) (omega arith)) in
     subst (λ (i : Journal). attempts_by c.in_ok-fired.fired ≡ fired i (last_place i)) (sym h.journal_is)
     (ap attempts_by (c.in_ok-fired.ensures.fired x c.requires.opened.triggers_stand opens) ∙ attempts-fired (x ∷ []) 0 (triggers.attached t) on)
+
+pub make-view-requires-clause-few : goal.make-view-requires-clause-few
+make-view-requires-clause-few c = units-fit c.args.journal.now c.configuration.result.now (let h = c.requires.begun in subst AreSound (sym h.journal_is) h.sound) c.configuration.ensures.configured

@@ -15,8 +15,8 @@ attend-requires c =
 pub conclude-requires : goal.conclude-requires
 conclude-requires c =
     let h = c.requires.pushed.pushed in
-    let before : RunsBefore c.args.journal.now c.args.runs.now.list c.args.parts.now.waits c.args.parts.now.delays c.args.parts.now.frames.items c.args.parts.now.ready.pairs.items
-    = record { j = h.j; source = h.source; number = h.number; cmd = h.cmd; journal_is = h.journal_is; right = h.right; waits_stand = h.kept.going.waits_stand; runs_kept = h.kept.going.runs_kept } in
+    let before : RunsBefore c.args.journal.now c.args.runs.now.list c.args.parts.now.waits c.args.parts.now.delays c.args.parts.now.frames.items c.args.parts.now.ready.pairs.items c.args.parts.now.calls
+    = record { j = h.j; source = h.source; number = h.number; cmd = h.cmd; journal_is = h.journal_is; right = h.right; waits_stand = h.kept.going.waits_stand; runs_kept = h.kept.going.runs_kept; calls_kept = h.kept.going.calls_kept } in
     record {
       told = record {
         j = h.j;

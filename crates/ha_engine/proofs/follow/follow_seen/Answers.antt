@@ -19,8 +19,8 @@ conclude-requires c =
     let k = c.args.journal.now in
     let rs = c.args.runs.now.list in
     let old = c.args.parts.now in
-    let before : RunsBefore k rs old.waits old.delays old.frames.items old.ready.pairs.items
-    = record { j = h.j; source = h.source; number = h.number; cmd = h.cmd; journal_is = h.journal_is; right = h.right; waits_stand = h.kept.going.waits_stand; runs_kept = h.kept.going.runs_kept } in
+    let before : RunsBefore k rs old.waits old.delays old.frames.items old.ready.pairs.items old.calls
+    = record { j = h.j; source = h.source; number = h.number; cmd = h.cmd; journal_is = h.journal_is; right = h.right; waits_stand = h.kept.going.waits_stand; runs_kept = h.kept.going.runs_kept; calls_kept = h.kept.going.calls_kept } in
     let rest = c.in_ok-before.ensures.rest in
     record {
       told = record {
@@ -33,7 +33,7 @@ conclude-requires c =
         fair = h.fair;
         plain = subst IsPlain (sym c.requires.cmd_is) tt;
         right = h.right;
-        going = c.in_ok-fired.ensures.going rs (subst (λ (p : Parts). RunsBefore k rs p.waits p.delays p.frames.items p.ready.pairs.items) (sym rest) before);
+        going = c.in_ok-fired.ensures.going rs (subst (λ (p : Parts). RunsBefore k rs p.waits p.delays p.frames.items p.ready.pairs.items p.calls) (sym rest) before);
         rested_is = subst (λ (v : Vec Bool). RestedKept h.j rs v.items) (sym (c.in_ok-fired.ensures.rested ∙ ap (λ (p : Parts). p.rested) rest)) h.kept.rested_is;
       };
       fired = c.in_ok-fired.ensures.fired;

@@ -27,12 +27,12 @@ config_in-requires c = subst HasBoot (sym c.as_slice.ensures.value) (starting-bo
 
 pub reset_switches-reset-requires-clause-few : goal.reset_switches-reset-requires-clause-few
 reset_switches-reset-requires-clause-few c =
-    subst (λ (l : List Automation). length l ≤ 1024) (sym (c.config_in.ensures ∙ ap automations c.as_slice.ensures.value))
+    subst (λ (l : List Automation). length l ≤ 1024) (sym (c.config_in.ensures.automations ∙ ap automations c.as_slice.ensures.value))
     (starting-rules c.args.journal.now.items c.args.bounds.now c.args.runs.now c.args.parts.now c.args.lasts.now.items c.requires.restarting)
 
 pub reset_switches-reset-requires-clause-length : goal.reset_switches-reset-requires-clause-length
 reset_switches-reset-requires-clause-length c =
-    ap length (c.config_in.ensures ∙ ap automations c.as_slice.ensures.value)
+    ap length (c.config_in.ensures.automations ∙ ap automations c.as_slice.ensures.value)
     ∙ starting-switches c.args.journal.now.items c.args.bounds.now c.args.runs.now c.args.parts.now c.args.lasts.now.items c.requires.restarting
 
 pub push_again-requires-clause-stands : goal.push_again-requires-clause-stands
@@ -40,7 +40,7 @@ push_again-requires-clause-stands c =
     let k : Journal = c.args.journal.now.items in
     let h = c.requires.restarting in
     let p : Parts = c.args.parts.now in
-    let config = c.config_in.ensures ∙ ap automations c.as_slice.ensures.value ∙ starting-automations k c.args.bounds.now c.args.runs.now p c.args.lasts.now.items h in
+    let config = c.config_in.ensures.automations ∙ ap automations c.as_slice.ensures.value ∙ starting-automations k c.args.bounds.now c.args.runs.now p c.args.lasts.now.items h in
     let stand = c.reset_switches-reset.ensures.stands (segment h.j) h.source h.number (has-entry (segment h.j) h.told.own_right.journal) (sym config) h.kept.going.sees.switches_stand in
     let closes = starting-closes k c.args.bounds.now c.args.runs.now p c.args.lasts.now.items h c.reset_switches-reset.new.parts.switches stand in
     let rest = c.reset_switches-reset.ensures.rest in
@@ -155,7 +155,7 @@ returns-clause-followed c =
     let place : c.len-front.result - 1 - 1 - b.front ≡ length (segment h.j) = omega (arith, front, starting-place k b t p ls h) in
     let closed : c.turn_over.new.runs.closed ≡ record { records = all_of t.closed (stopped None (length (segment h.j)) EndCause.Restarted t.list); entries = length k }
     = c.turn_over.ensures.closed ∙ (λ i. record { records = all_of (c.open_next.ensures.closed i) (stopped None (place i) EndCause.Restarted (c.open_next.ensures.list i)); entries = front i }) in
-    let config = c.config_in.ensures ∙ ap automations c.as_slice.ensures.value ∙ starting-automations k b t p ls h in
+    let config = c.config_in.ensures.automations ∙ ap automations c.as_slice.ensures.value ∙ starting-automations k b t p ls h in
     starting-followed k b t p ls h n c.next-next.result put next_is c.turn_over.new.runs c.turn_over.result c.turn_over.new.lasts.items made.0 made.1 made.2 closed c.turn_over.ensures.lasts
     c.reset_switches-reset.result (c.reset_switches-reset.ensures.changed (segment h.j) h.kept.going.sees.switches_stand config)
 

@@ -5,7 +5,7 @@ use Rattle.ha_config.specs.Sound.{is_sound_config}
 use Rattle.ha_config.specs.Words.{Text}
 use Rattle.ha_journal.specs.Attempts.{passing}
 use Rattle.ha_journal.specs.declared.entry.Entry.TheVariants.{Boot}
-use Rattle.ha_journal.specs.Journal.{Journal, automations}
+use Rattle.ha_journal.specs.Journal.{Journal, configured}
 use Rattle.ha_whole.specs.Segments.{reopened, segment}
 use Rattle.switch_book.specs.Book.{StandsFor}
 use Rattle.engine_parts.specs.Kept.{Going, nobody}
@@ -13,7 +13,7 @@ use Rattle.ha_engine.specs.Admits.{ArePrepared, from_end}
 use Rattle.ha_engine.specs.Begun.{Begun}
 use Rattle.ha_engine.specs.Restarts.{reopening}
 use Rattle.ha_engine.proofs.LieLemmas.{lies-boot, lies-few, lies-front, lies-seen}
-use Rattle.ha_engine.proofs.ReopenLemmas.{opening-begun, reopened-automations}
+use Rattle.ha_engine.proofs.ReopenLemmas.{opening-begun, reopened-configured}
 use Rattle.ha_engine.proofs.restart.open_next.Goals as goal
 
 pub make-segment-requires-clause-boot : goal.make-segment-requires-clause-boot
@@ -35,17 +35,17 @@ pub restore-requires : goal.restore-requires
 restore-requires c =
     let h = c.requires in
     let is : c.make-segment.result ≡ reopened (segment h.closed) (reopening h.closed) = c.make-segment.ensures ∙ lies-seen c.args.journal.now c.args.bounds h.lies ∙ h.segment_is in
-    let same : c.configuration.result.now.automations ≡ automations (segment h.closed)
-    = c.configuration.ensures.automations ∙ (λ i. automations (is i)) ∙ reopened-automations (segment h.closed) (reopening h.closed) h.journal in
-    subst (λ all. IsTrue (is_sound_config (record { automations = all }))) (sym same) h.sound
+    let same : c.configuration.result.now ≡ configured (segment h.closed)
+    = c.configuration.ensures.configured ∙ (λ i. configured (is i)) ∙ reopened-configured (segment h.closed) (reopening h.closed) h.journal in
+    subst (λ d. IsTrue (is_sound_config d)) (sym same) h.sound
 
 pub begin_parts-requires : goal.begin_parts-requires
 begin_parts-requires c =
     let h = c.requires in
     let a = reopening h.closed in
     let is : c.make-segment.result ≡ reopened (segment h.closed) a = c.make-segment.ensures ∙ lies-seen c.args.journal.now c.args.bounds h.lies ∙ h.segment_is in
-    let same : c.configuration.result.now.automations ≡ automations (segment h.closed)
-    = c.configuration.ensures.automations ∙ (λ i. automations (is i)) ∙ reopened-automations (segment h.closed) a h.journal in
+    let same : c.configuration.result.now ≡ configured (segment h.closed)
+    = c.configuration.ensures.configured ∙ (λ i. configured (is i)) ∙ reopened-configured (segment h.closed) a h.journal in
     let stored : c.stored_in.result.now ≡ a.stored = c.stored_in.ensures h.closed a.number a.start a.stored a.carry h.journal_is in
     let zone : c.in_ok-zone.zone ≡ c.args.parts.now.zone = c.in_ok-zone.ensures in
     subst (λ (i : Journal). Begun i c.in_ok-switches.switches c.in_ok-zone.zone c.args.parts.now.at) (sym is)

@@ -1,4 +1,4 @@
-use Rattle.std.proofs.Common.{◌≡◌, ◌-◌, ◌<◌, length, sym, ap, subst, ◌∙◌, arith}
+use Rattle.std.proofs.Common.{◌≡◌, ◌-◌, length, sym, ap, subst, ◌∙◌}
 use Rattle.std.specs.Prelude.{Bool, None, Some}
 use Rattle.std.specs.Global.{Vec}
 use Rattle.ha_model.specs.declared.record.Record.{Record}
@@ -42,8 +42,7 @@ returns-clause-stopped c =
     let going : Going nobody k c.count_call.new.runs.list p = subst (λ (l : Records). Going nobody k l p) (sym counted) (going-counted k rs p c.args.progress s item told (is_call item)) in
     let ended = c.end_if.ensures.kept ends going in
     let at : c.place.result ≡ length k - 1 = c.place.ensures.place in
-    let lt : c.place.result < length k = omega (arith, ends.some, at) in
-    let stopped = c.stop_switched.ensures.kept k lt ended.0 ended.1 in
+    let stopped = c.stop_switched.ensures.kept k at ends.some ended.0 ended.1 in
     told-stopped k rs p c.args.progress s item told c.stop_switched.new.runs.list c.stop_switched.new.parts
     (c.stop_switched.ensures.list ∙ (λ i. stops_by (at i) item c.end_if.new.runs.list) ∙ ap (stops_by (length k - 1) item) (c.end_if.ensures.list ∙ (λ i. own_ended (length k - 1) s (c.cause_of.ensures i) (counted i))))
     stopped.0 stopped.1
@@ -51,3 +50,6 @@ returns-clause-stopped c =
 
 pub returns-clause-room : goal.returns-clause-room
 returns-clause-room c n h = c.stop_switched.ensures.room n (c.end_if.ensures.room n h)
+
+pub stop_switched-requires-clause-room : goal.stop_switched-requires-clause-room
+stop_switched-requires-clause-room c = c.end_if.ensures.room 0 c.requires.room

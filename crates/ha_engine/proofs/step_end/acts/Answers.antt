@@ -1,6 +1,6 @@
 use Rattle.std.proofs.Common.{◌≡◌, ℕ, sym, ap, ◌∙◌}
 use Rattle.std.specs.Prelude.{Option, Some, None, option_map}
-use Rattle.ha_journal.specs.Journal.{automations}
+use Rattle.ha_journal.specs.Journal.{units}
 use Rattle.ha_model.specs.declared.record.Record.{Record}
 use Rattle.ha_model.specs.Records.{actions_of}
 use Rattle.ha_engine.specs.Admits.{has_action}
@@ -11,7 +11,7 @@ returns-in-Some c r is =
     let k = c.args.journal.now in
     let found : Some c.in-Some.automation ≡ Some r.automation = sym c.in-Some.is ∙ c.automation.ensures ∙ ap (option_map (λ (q : Record). q.automation)) is in
     let same : c.in-Some.automation ≡ r.automation = cc in
-    c.has_some.ensures ∙ ap has_action c.script.ensures ∙ (λ i. has_action (actions_of (automations k) (same i)))
+    c.has_some.ensures ∙ ap has_action c.script.ensures ∙ (λ i. has_action (actions_of (units k) (same i)))
 
 pub returns-in-None : goal.returns-in-None
 returns-in-None c r is =

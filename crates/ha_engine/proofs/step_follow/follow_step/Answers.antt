@@ -19,8 +19,8 @@ conclude_step-requires c =
     let r = h.runs in
     let k = c.args.journal.now in
     let rs = c.args.runs.now.list in
-    let runs : StepRuns k rs c.args.progress c.args.wait c.args.due c.enter_step.new.parts.waits c.enter_step.new.parts.delays c.enter_step.new.parts.frames.items c.enter_step.new.parts.ready.pairs.items
-    = subst (λ (q : Parts). StepRuns k rs c.args.progress c.args.wait c.args.due q.waits q.delays q.frames.items q.ready.pairs.items) (sym c.in_ok-before.ensures.rest) r in
+    let runs : StepRuns k rs c.args.progress c.args.wait c.args.due c.enter_step.new.parts.waits c.enter_step.new.parts.delays c.enter_step.new.parts.frames.items c.enter_step.new.parts.ready.pairs.items c.enter_step.new.parts.calls
+    = subst (λ (q : Parts). StepRuns k rs c.args.progress c.args.wait c.args.due q.waits q.delays q.frames.items q.ready.pairs.items q.calls) (sym c.in_ok-before.ensures.rest) r in
     record {
       told = record {
         j = r.j;

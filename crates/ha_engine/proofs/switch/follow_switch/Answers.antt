@@ -33,8 +33,8 @@ pub prepare-requires-clause-sees : goal.prepare-requires-clause-sees
 prepare-requires-clause-sees c =
     let k : Journal = c.args.journal.now in
     let rs : Records = c.args.runs.now.list in
-    let before : RunsBefore k rs c.enter_switches.new.parts.waits c.enter_switches.new.parts.delays c.enter_switches.new.parts.frames.items c.enter_switches.new.parts.ready.pairs.items
-    = subst (λ (q : Parts). RunsBefore k rs q.waits q.delays q.frames.items q.ready.pairs.items) (sym c.in_ok-before.ensures.rest) (pushed-before c.args.name.now c.args.on c.args.stop k rs c.args.parts.now c.requires) in
+    let before : RunsBefore k rs c.enter_switches.new.parts.waits c.enter_switches.new.parts.delays c.enter_switches.new.parts.frames.items c.enter_switches.new.parts.ready.pairs.items c.enter_switches.new.parts.calls
+    = subst (λ (q : Parts). RunsBefore k rs q.waits q.delays q.frames.items q.ready.pairs.items q.calls) (sym c.in_ok-before.ensures.rest) (pushed-before c.args.name.now c.args.on c.args.stop k rs c.args.parts.now c.requires) in
     (c.in_ok-fired.ensures.going rs before).sees
 
 pub settle-requires-clause-stopped : goal.settle-requires-clause-stopped
@@ -43,16 +43,15 @@ settle-requires-clause-stopped c =
     let p : Parts = c.args.parts.now in
     let rs : Records = c.args.runs.now.list in
     let a = c.number_of-automation.result in
-    let before : RunsBefore k rs c.enter_switches.new.parts.waits c.enter_switches.new.parts.delays c.enter_switches.new.parts.frames.items c.enter_switches.new.parts.ready.pairs.items
-    = subst (λ (q : Parts). RunsBefore k rs q.waits q.delays q.frames.items q.ready.pairs.items) (sym c.in_ok-before.ensures.rest) (pushed-before c.args.name.now c.args.on c.args.stop k rs p c.requires) in
+    let before : RunsBefore k rs c.enter_switches.new.parts.waits c.enter_switches.new.parts.delays c.enter_switches.new.parts.frames.items c.enter_switches.new.parts.ready.pairs.items c.enter_switches.new.parts.calls
+    = subst (λ (q : Parts). RunsBefore k rs q.waits q.delays q.frames.items q.ready.pairs.items q.calls) (sym c.in_ok-before.ensures.rest) (pushed-before c.args.name.now c.args.on c.args.stop k rs p c.requires) in
     let old : c.make_room.new.runs.list ≡ rs = c.make_room.ensures.list in
     let going : Going nobody k c.make_room.new.runs.list c.make_room.new.parts
     = subst (λ (l : Records). Going nobody k l c.make_room.new.parts) (sym old) (c.in_ok-make_room.ensures.going k rs (c.in_ok-fired.ensures.going rs before)) in
     let table : IsTable k c.make_room.new.runs.list = subst (λ (l : Records). IsTable k l) (sym old) (pushed-table c.args.name.now c.args.on c.args.stop k rs p c.requires) in
     let at : c.place.result ≡ length k - 1 = c.place.ensures.place in
     let within : length k - 1 < length k = pushed-within c.args.name.now c.args.on c.args.stop k rs p c.requires in
-    let lt : c.place.result < length k = omega (arith, within, at) in
-    let kept = c.stop_if.ensures.kept k lt table going in
+    let kept = c.stop_if.ensures.kept k at (omega (arith, within)) table going in
     let rested = c.stop_if.ensures.rested ∙ c.in_ok-make_room.ensures.rested ∙ c.in_ok-fired.ensures.rested ∙ ap (λ (q : Parts). q.rested) c.in_ok-before.ensures.rest in
     pushed-stopped c.args.name.now c.args.on c.args.stop k rs p c.requires a c.number_of-automation.ensures c.stop_if.new.runs.list c.stop_if.new.parts
     (c.stop_if.ensures.list ∙ (λ i. if c.ends_runs-stops.ensures i then stopped (Some a) (at i) EndCause.SwitchedOff (old i) else old i))
@@ -60,3 +59,6 @@ settle-requires-clause-stopped c =
 
 pub settle-requires-clause-room : goal.settle-requires-clause-room
 settle-requires-clause-room c = c.stop_if.ensures.room (vec_len c.in_ok-stack.stack) (subst (λ n. HasRoom n c.make_room.new.parts) c.len.ensures c.in_ok-make_room.ensures.room)
+
+pub stop_if-requires-clause-room : goal.stop_if-requires-clause-room
+stop_if-requires-clause-room c = (omega arith, omega (arith, c.in_ok-make_room.ensures.room.1))

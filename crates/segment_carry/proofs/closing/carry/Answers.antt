@@ -11,5 +11,5 @@ returns c =
     let entries = c.args.entries.now in
     let lines = c.lines.view_is ∙ c.in_ok-lines.ensures.lines ∙ (λ k. lines_with (c.as_slice.ensures k) entries) in
     let shut = c.shut.view_is ∙ c.in_ok-lines.ensures.shut ∙ (λ k. shut_with (c.as_slice-2.ensures k) entries) in
-    let is = carry-is c.args.automations.now c.args.order.now c.args.before.now entries rs c.args.lasts.now _ (λ k. length (c.all.ensures k)) c.in_ok-numbers.ensures lines shut c.in_ok-moments.ensures in
-    made-same c.new.result _ (carry_made c.args.automations.now c.args.order.now c.args.before.now entries rs c.args.lasts.now) is c.new.ensures
+    let is = carry-is c.args.units.now c.args.by_unit.now c.args.rules.now c.args.by_rule.now c.args.before.now entries rs c.args.lasts.now _ (λ k. length (c.all.ensures k)) c.in_ok-numbers.ensures lines shut c.in_ok-moments.ensures in
+    made-same c.new.result _ (carry_made c.args.units.now c.args.by_unit.now c.args.rules.now c.args.by_rule.now c.args.before.now entries rs c.args.lasts.now) is c.new.ensures

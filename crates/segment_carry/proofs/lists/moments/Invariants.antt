@@ -3,5 +3,5 @@ use Rattle.std.specs.Prelude.{slice_get, unwrap_or}
 use Rattle.segment_carry.specs.ByName.{listed}
 use Rattle.segment_carry.proofs.lists.moments.Given as goal
 
-abbrev pub invariant-automations : goal.invariant-automations
-invariant-automations l = l.made ≡ listed l.automations (λ a. unwrap_or (slice_get l.lasts a) None) (take l.at-index l.order)
+abbrev pub invariant-chosen : goal.invariant-chosen
+invariant-chosen l = l.made ≡ listed l.names (λ a. unwrap_or (slice_get l.lasts a) None) (take l.at-index l.order)

@@ -4,8 +4,8 @@ use Rattle.segment_carry.specs.ByName.{if_some}
 use Rattle.segment_carry.proofs.ByNameLemmas.{listed-next}
 use Rattle.segment_carry.proofs.lists.numbers.Goals as goal
 
-pub automations-preserved : goal.automations-preserved
-automations-preserved c =
-    listed-next c.args.automations.now (λ a. if_some (runs_of (all_of c.args.runs.now.closed c.args.runs.now.list) a)) c.args.order.now
-    c.automations.at-index _ _ _ c.automations-test.true c.automations.invariant (c.some_number-number.ensures ∙ ap if_some c.made.ensures)
+pub chosen-preserved : goal.chosen-preserved
+chosen-preserved c =
+    listed-next c.args.names.now (λ a. if_some (runs_of (all_of c.args.runs.now.closed c.args.runs.now.list) a)) c.args.order.now
+    c.chosen.at-index _ _ _ c.chosen-test.true c.chosen.invariant (c.some_number-number.ensures ∙ ap if_some c.made.ensures)
     c.in_ok-put.ensures

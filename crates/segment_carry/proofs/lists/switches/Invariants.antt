@@ -4,5 +4,5 @@ use Rattle.switch_book.specs.Book.{flags}
 use Rattle.segment_carry.specs.ByName.{listed}
 use Rattle.segment_carry.proofs.lists.switches.Given as goal
 
-abbrev pub invariant-automations : goal.invariant-automations
-invariant-automations l = l.made ≡ listed l.automations (λ a. slice_get (flags l.switches) a) (take l.at-index l.order)
+abbrev pub invariant-chosen : goal.invariant-chosen
+invariant-chosen l = l.made ≡ listed l.names (λ a. slice_get (flags l.switches) a) (take l.at-index l.order)

@@ -1,5 +1,8 @@
-use Rattle.state_laws.proofs.SeenLemmas.{parts_see}
+use Rattle.state_laws.proofs.SeenLemmas.{parts_see, scripts_see}
 use Rattle.state_laws.proofs.laws.views_see_the_journal.Goals as goal
 
-pub returns : goal.returns
-returns c = λ v j is. parts_see v.states.now v.config.now v.zone.now v.at j is
+pub returns-clause-parts : goal.returns-clause-parts
+returns-clause-parts c = λ v j is. parts_see v.states.now v.config.now v.zone.now v.at j is
+
+pub returns-clause-whole : goal.returns-clause-whole
+returns-clause-whole c = λ v j is same. scripts_see v.states.now v.config.now v.zone.now v.at j is same

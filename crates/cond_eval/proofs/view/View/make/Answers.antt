@@ -1,5 +1,8 @@
 use Rattle.std.proofs.Common.{refl}
 use Rattle.cond_eval.proofs.view.View.make.Goals as goal
 
-pub returns : goal.returns
-returns c = refl
+pub returns-clause-seen : goal.returns-clause-seen
+returns-clause-seen c = refl
+
+pub returns-clause-config : goal.returns-clause-config
+returns-clause-config c = refl

@@ -8,7 +8,7 @@ use Rattle.ha_model.specs.Lawful as one
 use Rattle.ha_model.specs.Lawful.{Right, pick}
 use Rattle.ha_whole.specs.Segments.{alone, segment}
 use Rattle.ha_whole.specs.Whole.{HasRoom, Right as RightWhole, is_quiet, ready}
-use Rattle.segment_carry.specs.ByName.{by_name}
+use Rattle.segment_carry.specs.ByName.{rule_order}
 use Rattle.segment_runs.specs.Segment.{all_of}
 use Rattle.whole_laws.proofs.LiftLemmas.{entries-have}
 use Rattle.whole_laws.proofs.PutLemmas.{step-is-put}
@@ -85,7 +85,7 @@ invariant_of-self-in-Ok c =
           (c.self.invariant.noted usable).in_time c.note_lasts-self-inside.new.lasts.items c.note_lasts-self-inside.result
           (c.note_lasts-self-inside.ensures.lasts ∙ (λ i. noted c.advance.new.parts.at (drop (c.len-before.ensures i) c.advance.new.runs.list) c.self.inside.lasts.items))
           (c.note_lasts-self-inside.ensures.moved ∙ (λ i. moved_by c.advance.new.parts.at (drop (c.len-before.ensures i) c.advance.new.runs.list) c.self.inside.lasts.items)));
-      ordered = λ e. c.self.invariant.ordered usable ∙ ap by_name (automations-more j x (entries-have j told.lies.entries) ∙ ap automations (sym is));
+      ordered = λ e. c.self.invariant.ordered usable ∙ ap rule_order (automations-more j x (entries-have j told.lies.entries) ∙ ap automations (sym is));
     }
 
 pub returns-in-Ok-clause-put : goal.returns-in-Ok-clause-put

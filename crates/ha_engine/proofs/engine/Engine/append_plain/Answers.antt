@@ -12,7 +12,7 @@ use Rattle.ha_journal.specs.Journal.{Journal, automations, more}
 use Rattle.ha_journal.proofs.MoreLemmas.{automations-more}
 use Rattle.ha_whole.specs.Segments.{segment}
 use Rattle.ha_whole.specs.Whole.{HasRoom, Right, put}
-use Rattle.segment_carry.specs.ByName.{by_name}
+use Rattle.segment_carry.specs.ByName.{rule_order}
 use Rattle.segment_runs.specs.Segment.{all_of}
 use Rattle.whole_laws.proofs.CutLemmas.{is-cut}
 use Rattle.whole_laws.proofs.LiftLemmas.{entries-have}
@@ -89,7 +89,7 @@ invariant_of-self-in-Ok c =
           (c.self.invariant.noted usable).in_time c.note_lasts-self-inside.new.lasts.items c.note_lasts-self-inside.result
           (c.note_lasts-self-inside.ensures.lasts ∙ (λ i. noted c.follow_pushed.new.parts.at (drop (c.len-before.ensures i) c.follow_pushed.new.runs.list) c.self.inside.lasts.items))
           (c.note_lasts-self-inside.ensures.moved ∙ (λ i. moved_by c.follow_pushed.new.parts.at (drop (c.len-before.ensures i) c.follow_pushed.new.runs.list) c.self.inside.lasts.items)));
-      ordered = λ e. c.self.invariant.ordered usable ∙ ap by_name (automations-more j x (entries-have j told.lies.entries) ∙ ap automations (sym there));
+      ordered = λ e. c.self.invariant.ordered usable ∙ ap rule_order (automations-more j x (entries-have j told.lies.entries) ∙ ap automations (sym there));
     }
 
 pub returns-in-Ok-clause-put : goal.returns-in-Ok-clause-put

@@ -4,7 +4,7 @@ use Rattle.ha_journal.specs.declared.entry.Entry.{Entry}
 use Rattle.ha_journal.specs.declared.entry.Entry.TheVariants.{Line}
 use Rattle.ha_journal.specs.Journal.{Journal, automations, more}
 use Rattle.ha_whole.specs.Whole.{HasRoom, again_of, put}
-use Rattle.segment_carry.specs.ByName.{by_name}
+use Rattle.segment_carry.specs.ByName.{rule_order}
 use Rattle.segment_runs.specs.Segment.{all_of}
 use Rattle.whole_laws.proofs.LiftLemmas.{entries-have}
 use Rattle.whole_laws.proofs.PutLemmas.{put-restart}
@@ -54,7 +54,7 @@ invariant_of-self-in-Ok c =
       followed = λ e. c.in-Ok.ensures.followed;
       noted = λ e. c.in-Ok.ensures.noted;
       ordered = λ e. c.self.invariant.ordered (ap (λ (v : Core). v.is_spent) c.self.view_is ∙ c.requires.usable)
-          ∙ ap by_name (automations-behind j x (again_of (more j x)) (entries-have j c.self.invariant.told.lies.entries) ∙ ap automations (sym (c.in-Ok.ensures.put ∙ (λ i. more (is i) (again_of (is i))))));
+          ∙ ap rule_order (automations-behind j x (again_of (more j x)) (entries-have j c.self.invariant.told.lies.entries) ∙ ap automations (sym (c.in-Ok.ensures.put ∙ (λ i. more (is i) (again_of (is i))))));
     }
 
 pub returns-in-Ok-clause-put : goal.returns-in-Ok-clause-put

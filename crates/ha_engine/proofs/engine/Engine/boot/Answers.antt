@@ -12,15 +12,15 @@ use Rattle.switch_book.specs.Book.{StandsFor}
 use Rattle.ha_model.specs.Records.{records_of}
 use Rattle.engine_parts.specs.Kept.{Kept}
 use Rattle.ha_whole.specs.Named.{named}
-use Rattle.segment_carry.specs.ByName.{by_name}
+use Rattle.segment_carry.specs.ByName.{rule_order}
 use Rattle.engine_entry.proofs.NamedLemmas.{sound-few}
 use Rattle.ha_engine.specs.Noted.{AreNoted}
 use Rattle.ha_engine.specs.Told.{IsFollowed, IsTold}
 use Rattle.ha_engine.proofs.BootLemmas.{booted, followed-boot, noted-boot, told-boot}
 use Rattle.ha_engine.proofs.engine.Engine.boot.Goals as goal
 
-pub by_name-requires : goal.by_name-requires
-by_name-requires c = subst (λ (all : List Automation). length all ≤ 1_024) (sym c.as_slice-automations.ensures) (sound-few c.args.config.automations c.requires.config)
+pub rule_order-requires : goal.rule_order-requires
+rule_order-requires c = subst (λ (all : List Automation). length all ≤ 1_024) (sym c.as_slice-automations.ensures) (sound-few c.args.config c.requires.config)
 
 pub begin_first-requires : goal.begin_first-requires
 begin_first-requires c =
@@ -65,7 +65,7 @@ invariant_of-result c =
       noted = λ e. subst (λ (i : Journal). AreNoted i c.note_lasts-moved.new.lasts.items c.note_lasts-moved.result) (sym is)
           (noted-boot c.args.text c.args.config c.args.stored c.args.start c.args.zone c.requires.config c.args.last c.requires.last c.in_ok-runs.runs c.first-2.result own c.in_ok-runs.ensures.closed c.first-2.ensures
           c.in_ok-lasts.lasts.items c.note_lasts-moved.new.lasts.items c.note_lasts-moved.result c.requires.start made c.note_lasts-moved.ensures.lasts);
-      ordered = λ e. c.in_ok-order.ensures ∙ (λ i. by_name (c.as_slice-automations.ensures i)) ∙ ap (λ (j : Journal). by_name (automations j)) (sym is);
+      ordered = λ e. c.in_ok-order.ensures ∙ (λ i. rule_order (c.as_slice-automations.ensures i)) ∙ ap (λ (j : Journal). rule_order (automations j)) (sym is);
     }
 
 pub returns-clause-runs : goal.returns-clause-runs

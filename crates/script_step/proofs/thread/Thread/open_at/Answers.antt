@@ -4,7 +4,7 @@ use Rattle.script_step.specs.OpenBlocks.{is_left, last_left}
 use Rattle.script_step.specs.Parts.{inner_list, list_in}
 use Rattle.script_step.proofs.CutLemmas.{length-take, take-all}
 use Rattle.script_step.proofs.LeftLemmas.{left-snoc}
-use Rattle.script_step.proofs.OwnLemmas.{front-more}
+use Rattle.ha_sight.proofs.OnceLemmas.{front-more}
 use Rattle.script_step.proofs.WalkLemmas.{list-snoc}
 use Rattle.script_step.proofs.thread.Thread.open_at.Goals as goal
 

@@ -1,0 +1,4 @@
+pub mod AttemptLemmas
+pub mod PlaceLemmas
+pub mod AloneLemmas
+pub mod PlainRuns

@@ -1,8 +1,0 @@
-use Rattle.std.proofs.Common.{length}
-use Rattle.ha_journal.specs.Journal.{automations}
-use Rattle.ha_model.specs.Records.{records_of}
-use Rattle.ha_model.proofs.KnownLaws.{all-known, known-at}
-use Rattle.ha_laws.proofs.laws.each_record_has_an_automation.Goals as goal
-
-pub returns : goal.returns
-returns c = λ j n. known-at (length (automations j)) (records_of j) n (all-known j)

@@ -1,0 +1,8 @@
+use Rattle.std.proofs.Common.{◌∙◌, sym, length}
+use Rattle.script_calls.proofs.ResolveLemmas.{item-own}
+use Rattle.script_calls.proofs.services.own_item.Goals as goal
+
+pub returns : goal.returns
+returns c =
+    c.in_ok-item.ensures
+    ∙ item-own c.args.first c.args.scripts.now c.args.service.now c.args.target.now c.args.fields.now (sym c.is_empty.ensures ∙ c.if-is_empty.false)

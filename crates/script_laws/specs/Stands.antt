@@ -1,0 +1,42 @@
+-- How each item of a script stands among its places: what it has to do with scripts that are called.
+use Rattle.std.specs.Prelude.{ℕ, ◌≡◌, Bool, true, List, [], ◌∷◌, Option, Some, None, find, bytes_eq}
+use Rattle.ha_sight.specs.declared.item.Item.{Item}
+use Rattle.ha_sight.specs.declared.waiting.WaitEnd.{WaitEnd}
+use Rattle.ha_sight.specs.Items.{awaits_end}
+use Rattle.ha_sight.specs.Scripts.{Branch, Scopes, Spot, call_ask}
+
+-- by what place s says, the run has ended that was started at place p
+abbrev pub HasEnded : ℕ → Spot → Type 0
+HasEnded p s = (scopes : Scopes) × (e : WaitEnd) × (s.wait_end (call_ask scopes) p ≡ Some e)
+
+-- the first of these places that is of this branch
+abbrev pub next_in : Branch → List Spot → Option Spot
+next_in b ps = find (λ s. bytes_eq s.branch b) ps
+
+-- at the caller's next place the run has ended that it started at place p; only an open script may have no such place yet
+abbrev pub GoesOn : Bool → ℕ → Option Spot → Type 0
+GoesOn unended p None = unended ≡ true
+GoesOn unended p (Some s) = HasEnded p s
+
+-- an item that neither starts nor ends runs of scripts
+abbrev pub NamesNoScript : Item → Type 0
+NamesNoScript (Item.Started scripts fields waits) = ⊥
+NamesNoScript (Item.Halted scripts) = ⊥
+NamesNoScript Item.Nothing = Unit {0}
+NamesNoScript (Item.Call service target fields) = Unit {0}
+NamesNoScript (Item.Fired kind pairs) = Unit {0}
+NamesNoScript (Item.Switched targets) = Unit {0}
+NamesNoScript (Item.Triggered automations skip) = Unit {0}
+NamesNoScript (Item.Failed code) = Unit {0}
+
+-- the item of a place before these
+pub record Stands (unended : Bool) (p : Spot) (item : Item) (behind : List Spot) : Type 0 where
+  -- behind a call that waits the branch goes on where the run that it started has ended
+  pub waits : awaits_end item ≡ true → GoesOn unended p.place (next_in p.branch behind)
+  -- where the place sees no script, the item names none
+  pub names : p.sight.scripts ≡ [] → NamesNoScript item
+
+abbrev pub EachStands : Bool → List Spot → List Item → Type 0
+EachStands unended [] items = Unit {0}
+EachStands unended (p ∷ ps) [] = Unit {0}
+EachStands unended (p ∷ ps) (item ∷ items) = Stands unended p item ps × EachStands unended ps items

@@ -1,0 +1,6 @@
+use Rattle.std.proofs.Common.{◌≡◌, take}
+use Rattle.switch_book.specs.Book.{names_of}
+use Rattle.segment_carry.proofs.lists.rule_names.Given as goal
+
+abbrev pub invariant-automations : goal.invariant-automations
+invariant-automations l = l.names ≡ take l.at (names_of l.automations)
