@@ -1,11 +1,13 @@
--- Two automations are the same where they are equal, and only there.
+-- Two units of a kind are the same where they are equal, and only there.
 use Rattle.std.proofs.Common.{◌≡◌, ℕ, Bool, true, false, refl, sym, ap, subst, ◌∙◌, rules}
 use Rattle.std.specs.Prelude.{nat_eq, ◌&&◌, IsTrue, ◌↔◌}
 use Rattle.std.proofs.lemmas.Bool.{eqb-true}
 use base.Stored.{Gv, gnil, gnum, gcons}
 use Rattle.ha_config.specs.declared.config.Automation.{Automation}
-use Rattle.ha_config.specs.contracts.config.Automation.{the_row}
-use Rattle.conf_reload.specs.Equality.{same_code, same_automation}
+use Rattle.ha_config.specs.declared.config.Script.{Script}
+use Rattle.ha_config.specs.contracts.config.Automation as rule
+use Rattle.ha_config.specs.contracts.config.Script as script
+use Rattle.conf_reload.specs.Equality.{same_code, same_automation, same_script}
 
 code-sound : (a b : Gv) → same_code a b ≡ true → a ≡ b
 code-sound gnil gnil h = refl
@@ -36,17 +38,26 @@ code-refl (gcons a b) = (λ i. code-refl a i && same_code b b) ∙ code-refl b
 
 pub same-sound : (x y : Automation) → same_automation x y ≡ true → x ≡ y
 unfolding same_automation
-same-sound x y h = (the_row).coded.inj x y (code-sound ((the_row).coded.code x) ((the_row).coded.code y) h)
+same-sound x y h = (rule.the_row).coded.inj x y (code-sound ((rule.the_row).coded.code x) ((rule.the_row).coded.code y) h)
 
 pub same-refl : (x : Automation) → same_automation x x ≡ true
 unfolding same_automation
-same-refl x = code-refl ((the_row).coded.code x)
+same-refl x = code-refl ((rule.the_row).coded.code x)
+
+pub script-sound : (x y : Script) → same_script x y ≡ true → x ≡ y
+unfolding same_script
+script-sound x y h = (script.the_row).coded.inj x y (code-sound ((script.the_row).coded.code x) ((script.the_row).coded.code y) h)
+
+pub script-refl : (x : Script) → same_script x x ≡ true
+unfolding same_script
+script-refl x = code-refl ((script.the_row).coded.code x)
 
 -- LAW: a test of equality is the definition's
-pub decided : (b : Bool) (x y : Automation) → (IsTrue b ↔ (x ≡ y)) → b ≡ same_automation x y
-decided true x y h = sym (subst (λ z. same_automation x z ≡ true) (h.0 refl) (same-refl x))
-decided false x y h = by (same_automation x y) refl
+pub decided : {A : Type 0} (equal : A → A → Bool) (sound : (x y : A) → equal x y ≡ true → x ≡ y) (itself : (x : A) → equal x x ≡ true)
+    → (b : Bool) (x y : A) → (IsTrue b ↔ (x ≡ y)) → b ≡ equal x y
+decided equal sound itself true x y h = sym (subst (λ z. equal x z ≡ true) (h.0 refl) (itself x))
+decided equal sound itself false x y h = by (equal x y) refl
   where
-    by : (c : Bool) → same_automation x y ≡ c → false ≡ same_automation x y
-    by true e = absurd (let bad : ◌≡◌ {A = Bool} false true = h.1 (same-sound x y e) in cc)
+    by : (c : Bool) → equal x y ≡ c → false ≡ equal x y
+    by true e = absurd (let bad : ◌≡◌ {A = Bool} false true = h.1 (sound x y e) in cc)
     by false e = sym e

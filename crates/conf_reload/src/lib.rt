@@ -1,6 +1,7 @@
-//! What a reload does to the numbers of automations: which are kept, which go, and which the new ones get.
+//! What a reload does to the numbers of units: which are kept, which go, and which the new ones get.
 #![tactic(auto)]
 
+mod kinds;
 pub mod laws;
 mod numbers;
 mod outcome;

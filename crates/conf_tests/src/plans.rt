@@ -1,20 +1,22 @@
-//! Which numbers automations have behind a reload: what is equal in every field keeps its number, and no number is given twice.
+//! Which numbers units have behind a reload: what is equal in every field keeps its number, and no number is given twice.
 ghost use Rattle.std.specs.List.{list_all};
-ghost use Rattle.std.specs.Prelude.{◌≡◌, nat_lt};
+ghost use Rattle.std.specs.Prelude.{◌≡◌, ◌+◌, length, nat_lt, true};
 
 use conf_reload::plan;
-use ha_config::{Automation, Config, Mode};
+use ha_config::{Automation, Config, Mode, Script};
 use ha_value::{Many, Word};
 use std::alloc::{AllocError, Global};
 
-/// What is in force with which numbers, what comes into force, and the plan that is wanted. Of an automation there are the name and the
-/// greatest number of runs.
+/// What is in force with which numbers, what comes into force, and the plan that is wanted. Of a unit there are the name and the greatest
+/// number of runs.
 #[derive(Drop)]
 struct Row<'a> {
     old: &'a [(&'a str, u32)],
+    old_scripts: &'a [(&'a str, u32)],
     numbers: &'a [u32],
     free: u32,
     new: &'a [(&'a str, u32)],
+    new_scripts: &'a [(&'a str, u32)],
     given: &'a [u32],
     kept: &'a [u32],
     gone: &'a [u32],
@@ -33,14 +35,31 @@ fn automation(alloc: Global, name: &str, max: u32) -> Result<Automation, AllocEr
     })
 }
 
-fn config(alloc: Global, rows: &[(&str, u32)]) -> Result<Config, AllocError> {
-    let mut automations = Many::make(alloc);
-    for row in rows {
-        automations.push(automation(alloc, row.0, row.1)?)?;
+fn script(alloc: Global, name: &str, max: u32) -> Result<Script, AllocError> {
+    Ok(Script {
+        name: Word::from_str(alloc, name)?,
+        actions: Many::make(alloc),
+        mode: Mode::Queued,
+        max,
+    })
+}
+
+fn config(
+    alloc: Global,
+    automations: &[(&str, u32)],
+    scripts: &[(&str, u32)],
+) -> Result<Config, AllocError> {
+    let mut rules = Many::make(alloc);
+    for row in automations {
+        rules.push(automation(alloc, row.0, row.1)?)?;
+    }
+    let mut called = Many::make(alloc);
+    for row in scripts {
+        called.push(script(alloc, row.0, row.1)?)?;
     }
     Ok(Config {
-        automations,
-        scripts: Many::make(alloc),
+        automations: rules,
+        scripts: called,
     })
 }
 
@@ -58,15 +77,25 @@ fn are_below(numbers: &[u32], free: u32) -> bool
     numbers.iter().all(|number| *number < free)
 }
 
+fn are_whole(old: &Config, numbers: &Many<u32>) -> bool
+    ensures { result ≡ true → length numbers.now ≡ length old.now.automations + length old.now.scripts }
+{
+    let count = old.automations.len();
+    if numbers.len() < count {
+        return false;
+    }
+    numbers.len() - count == old.scripts.len()
+}
+
 fn planned(alloc: Global, row: &Row<'_>) -> Result<bool, AllocError> {
-    let old = config(alloc, row.old)?;
-    let new = config(alloc, row.new)?;
+    let old = config(alloc, row.old, row.old_scripts)?;
+    let new = config(alloc, row.new, row.new_scripts)?;
     let numbers = listed(alloc, row.numbers)?;
     let free = row.free;
-    if numbers.len() != old.automations.len() || !are_below(numbers.as_slice(), free) {
+    if !are_whole(&old, &numbers) || !are_below(numbers.as_slice(), free) {
         return Ok(false);
     }
-    if free > 1_000 || new.automations.len() > 1_000 {
+    if free > 1_000 || new.automations.len() > 1_000 || new.scripts.len() > 1_000 {
         return Ok(false);
     }
     let made = plan(alloc, &old, &new, &numbers, free)?;
@@ -93,9 +122,11 @@ fn what_is_equal_keeps_its_number(rt: HostRuntime) {
     let rows = [
         Row {
             old: &[("a", 1), ("b", 1)],
+            old_scripts: &[],
             numbers: &[0, 1],
             free: 2,
             new: &[("a", 1), ("b", 1)],
+            new_scripts: &[],
             given: &[0, 1],
             kept: &[0, 1],
             gone: &[],
@@ -103,9 +134,11 @@ fn what_is_equal_keeps_its_number(rt: HostRuntime) {
         },
         Row {
             old: &[("a", 1), ("b", 1)],
+            old_scripts: &[],
             numbers: &[0, 1],
             free: 2,
             new: &[("a", 1), ("b", 2)],
+            new_scripts: &[],
             given: &[0, 2],
             kept: &[0],
             gone: &[1],
@@ -113,9 +146,11 @@ fn what_is_equal_keeps_its_number(rt: HostRuntime) {
         },
         Row {
             old: &[("a", 1), ("b", 2)],
+            old_scripts: &[],
             numbers: &[0, 2],
             free: 3,
             new: &[("a", 1), ("b", 1)],
+            new_scripts: &[],
             given: &[0, 3],
             kept: &[0],
             gone: &[2],
@@ -123,9 +158,11 @@ fn what_is_equal_keeps_its_number(rt: HostRuntime) {
         },
         Row {
             old: &[("a", 1), ("b", 1)],
+            old_scripts: &[],
             numbers: &[0, 1],
             free: 2,
             new: &[("c", 1), ("b", 1), ("a", 1)],
+            new_scripts: &[],
             given: &[2, 1, 0],
             kept: &[0, 1],
             gone: &[],
@@ -133,13 +170,47 @@ fn what_is_equal_keeps_its_number(rt: HostRuntime) {
         },
         Row {
             old: &[("a", 1), ("b", 1)],
+            old_scripts: &[],
             numbers: &[4, 2],
             free: 5,
             new: &[],
+            new_scripts: &[],
             given: &[],
             kept: &[],
             gone: &[4, 2],
             next: 5,
+        },
+    ];
+    assert!(rt; are_planned(rt.alloc(), &rows));
+}
+
+/// Scripts stand behind the automations; a script in the place of an automation of its name is another unit.
+#[test]
+fn a_script_is_equal_to_a_script_alone(rt: HostRuntime) {
+    let rows = [
+        Row {
+            old: &[("a", 1)],
+            old_scripts: &[("s", 1), ("t", 1)],
+            numbers: &[0, 1, 2],
+            free: 3,
+            new: &[("a", 1), ("b", 1)],
+            new_scripts: &[("t", 1), ("s", 2)],
+            given: &[0, 3, 2, 4],
+            kept: &[0, 2],
+            gone: &[1],
+            next: 5,
+        },
+        Row {
+            old: &[("a", 1)],
+            old_scripts: &[],
+            numbers: &[0],
+            free: 1,
+            new: &[],
+            new_scripts: &[("a", 1)],
+            given: &[1],
+            kept: &[],
+            gone: &[0],
+            next: 2,
         },
     ];
     assert!(rt; are_planned(rt.alloc(), &rows));

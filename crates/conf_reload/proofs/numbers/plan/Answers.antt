@@ -1,16 +1,27 @@
-use Rattle.std.proofs.Common.{◌∙◌}
-use Rattle.std.specs.Prelude.{zip}
-use Rattle.conf_reload.proofs.PlanLemmas.{kept-part, gone-part}
+use Rattle.std.proofs.Common.{◌+◌, ◌++◌, ◌∙◌, arith, length}
+use Rattle.conf_reload.specs.Equality.{same_automation, same_script}
+use Rattle.conf_reload.specs.Force.{fresh, numbered}
+use Rattle.conf_reload.specs.Plan.{numbers_of, rules_in, scripts_in}
+use Rattle.conf_reload.proofs.PlanLemmas.{below-later, fresh-few}
 use Rattle.conf_reload.proofs.numbers.plan.Goals as goal
+
+pub plan_scripts-requires-clause-below : goal.plan_scripts-requires-clause-below
+plan_scripts-requires-clause-below c = below-later c.args.free c.in_ok-rules.rules.free c.args.numbers.now (omega (arith, c.in_ok-rules.ensures.free_is)) c.requires.below
+
+pub plan_scripts-requires-clause-room : goal.plan_scripts-requires-clause-room
+plan_scripts-requires-clause-room c =
+    let few = fresh-few same_automation (rules_in c.args.old.now c.args.numbers.now) c.args.new.now.automations in
+    omega (arith, c.requires.room, c.in_ok-rules.ensures.free_is, few)
 
 pub returns : goal.returns
 returns c =
-    let numbers = rw (c.as_slice.ensures, c.as_slice-2.ensures, c.as_slice-3.ensures) at c.in_ok-made.ensures.numbers in
-    let ns = c.args.numbers.now in
-    let old = zip ns c.args.old.now.automations in
-    let new = c.args.new.now.automations in record {
-      numbers_are = numbers;
-      kept_are = (rw (c.as_slice-4.ensures, c.as_slice-5.ensures) at c.in_ok-kept.ensures) ∙ kept-part old c.args.free new c.in_ok-made.made.0 ns numbers c.requires.below;
-      gone_are = (rw (c.as_slice-6.ensures, c.as_slice-7.ensures) at c.in_ok-gone.ensures) ∙ gone-part old c.args.free new c.in_ok-made.made.0 ns numbers c.requires.below;
-      free_is = rw (c.as_slice.ensures, c.as_slice-2.ensures, c.as_slice-3.ensures) at c.in_ok-made.ensures.free;
+    let rules = c.in_ok-rules.ensures in
+    let scripts = c.in_ok-scripts.ensures in
+    let made = c.in_ok-made.ensures in
+    let old = scripts_in c.args.old.now c.args.numbers.now in
+    let new = c.args.new.now.scripts in record {
+      numbers_are = made.numbers ∙ (λ i. rules.numbers_are i ++ (scripts.numbers_are ∙ (λ k. numbers_of (numbered same_script old (rules.free_is k) new))) i);
+      kept_are = made.kept ∙ (λ i. rules.kept_are i ++ scripts.kept_are i);
+      gone_are = made.gone ∙ (λ i. rules.gone_are i ++ scripts.gone_are i);
+      free_is = made.free ∙ scripts.free_is ∙ (λ i. rules.free_is i + length (fresh same_script old new));
     }
