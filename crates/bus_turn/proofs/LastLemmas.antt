@@ -3,14 +3,14 @@ use Rattle.std.proofs.Common.{◌≡◌, ◌∙◌, ◌⊎◌, inl, inr, ap, ref
 use Rattle.std.proofs.lemmas.List.{append-nil}
 use Rattle.std.specs.Prelude.{Option, Some, None, Result, Ok, Err, IfSome, OnOk, flat_map, option_map, slice_get, if◌then◌else◌}
 use Rattle.ha_config.specs.declared.command.Cmd.{Cmd}
-use Rattle.ha_config.specs.declared.config.Automation.{Automation}
+use Rattle.ha_config.specs.Words.{Text}
 use Rattle.ha_journal.specs.declared.entry.Entry.{Entry}
 use Rattle.ha_journal.specs.declared.entry.Entry.TheVariants.{Boot, Line, Step, Again}
 use Rattle.ha_sight.specs.declared.item.Item.{Item}
 use Rattle.ha_journal.specs.Commands.{IsFair}
 use Rattle.ha_journal.specs.Entries.{is_again, is_restart}
 use Rattle.ha_journal.specs.EntryText.{error_text_of, trace_line}
-use Rattle.ha_journal.specs.Journal.{Journal, units, more}
+use Rattle.ha_journal.specs.Journal.{Journal, names, more}
 use Rattle.ha_model.specs.Records.{Records}
 use Rattle.ha_model.specs.Texts.{call_text_of}
 use Rattle.ha_whole.specs.Whole as whole
@@ -203,14 +203,14 @@ module _ (k seen before : Journal) (x : Entry) (is : k ≡ put before x) (single
           none-some x (none ∙ (λ i. slice_get ((same ∙ whole) i) (length ((same ∙ whole) i) - 2)) ∙ (λ i. slice_get (more (more before x) here) (n i)) ∙ there)
 
   module _ (rs : Records) (out out' : Outside) (fault : Option BusFault) where
-    abbrev all : List Automation
-    all = units k
+    abbrev all : List Text
+    all = names k
 
     -- the texts of a put of one entry
     one-texts : is_restart x ≡ false → k ≡ more before x → entry_texts (call_text_of rs before x) (error_text_of x) (trace_line all x) (saved_text k) ≡ texts_of rs before x
     one-texts e on =
-        let line : trace_line all x ≡ flat_map (trace_line (units (put before x))) (appended before x) =
-        sym (append-nil (trace_line all x)) ∙ (λ i. flat_map (trace_line (units (is i))) (if sym e i then x ∷ again_of (more before x) ∷ [] else x ∷ [])) in
+        let line : trace_line all x ≡ flat_map (trace_line (names (put before x))) (appended before x) =
+        sym (append-nil (trace_line all x)) ∙ (λ i. flat_map (trace_line (names (is i))) (if sym e i then x ∷ again_of (more before x) ∷ [] else x ∷ [])) in
         λ i. entry_texts (call_text_of rs before x) (error_text_of x) (line i) (saved_text (is i))
 
     pub shown-one : (entry : Entry) → Some entry ≡ slice_get seen (length seen - 1) → is_again entry ≡ false
@@ -236,8 +236,8 @@ module _ (k seen before : Journal) (x : Entry) (is : k ≡ put before x) (single
     two-texts e =
         let quiet = restart-quiet rs before x e in
         let again : Entry = again_of (more before x) in
-        let line : trace_line all x ++ trace_line all again ≡ flat_map (trace_line (units (put before x))) (appended before x) =
-        (λ i. trace_line all x ++ sym (append-nil (trace_line all again)) i) ∙ (λ i. flat_map (trace_line (units (is i))) (if sym e i then x ∷ again ∷ [] else x ∷ [])) in
+        let line : trace_line all x ++ trace_line all again ≡ flat_map (trace_line (names (put before x))) (appended before x) =
+        (λ i. trace_line all x ++ sym (append-nil (trace_line all again)) i) ∙ (λ i. flat_map (trace_line (names (is i))) (if sym e i then x ∷ again ∷ [] else x ∷ [])) in
         λ i. entry_texts (sym quiet.0 i) (sym quiet.1 i) (line i) (saved_text (is i))
 
     pub shown-two : (again restart : Entry) → Some again ≡ slice_get seen (length seen - 1) → is_again again ≡ true → Some restart ≡ slice_get seen (length seen - 2)

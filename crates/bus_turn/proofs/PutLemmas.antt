@@ -4,7 +4,7 @@ use Rattle.std.specs.Prelude.{◌↔◌, Option, Some, None, flat_map, is_some, 
 use Rattle.ha_whole.specs.declared.faults.CoreFault.{CoreFault}
 use Rattle.ha_journal.specs.declared.entry.Entry.{Entry}
 use Rattle.ha_journal.specs.Entries.{is_again, is_restart}
-use Rattle.ha_journal.specs.Journal.{Journal, units}
+use Rattle.ha_journal.specs.Journal.{Journal, names}
 use Rattle.ha_model.specs.Records.{Records}
 use Rattle.ha_model.specs.Texts.{call_text, call_text_of}
 use Rattle.ha_journal.specs.EntryText.{error_text, error_text_of, trace_line, trace_text}
@@ -38,7 +38,7 @@ uncut b last w = record {
       subst (λ t. HasTakenFront (error_text last.before) t b.out.errors) (sym e) (taken-front (error_text last.before) (error_text_of last.entry) b.out.errors (subst (λ t. HasTaken t b.out.errors) e w.errors)));
   trace = (let e = ap (λ j. trace_text j false) last.is ∙ trace-put last.before last.entry in
       subst (λ t. IfSome b.out.trace (HasTakenFront (trace_text last.before false) t)) (sym e)
-      (taken-in-front (trace_text last.before false) (flat_map (trace_line (units (put last.before last.entry))) (appended last.before last.entry)) b.out.trace (subst (λ t. IfSome b.out.trace (HasTaken t)) e w.trace)));
+      (taken-in-front (trace_text last.before false) (flat_map (trace_line (names (put last.before last.entry))) (appended last.before last.entry)) b.out.trace (subst (λ t. IfSome b.out.trace (HasTaken t)) e w.trace)));
   keep = inr (inr w.keep);
 }
 

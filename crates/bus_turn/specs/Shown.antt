@@ -2,7 +2,7 @@
 use Rattle.std.specs.Prelude.{Bool, flat_map, Option, Some, None, if◌then◌else◌}
 use Rattle.ha_journal.specs.declared.entry.Entry.{Entry}
 use Rattle.ha_config.specs.Words.{Text}
-use Rattle.ha_journal.specs.Journal.{Journal, units}
+use Rattle.ha_journal.specs.Journal.{Journal, names}
 use Rattle.ha_model.specs.Records.{Records}
 use Rattle.ha_model.specs.Texts.{call_text_of}
 use Rattle.ha_journal.specs.EntryText.{error_text_of, trace_line}
@@ -29,4 +29,4 @@ saved_text j = if changes_store j then Some (store_text j) else None
 abbrev pub texts_of : Records → Journal → Entry → EntryTexts
 texts_of records before x =
     entry_texts (call_text_of records before x) (error_text_of x)
-    (flat_map (trace_line (units (put before x))) (appended before x)) (saved_text (put before x))
+    (flat_map (trace_line (names (put before x))) (appended before x)) (saved_text (put before x))

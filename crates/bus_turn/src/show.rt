@@ -3,7 +3,7 @@ ghost use Rattle.std.specs.Prelude.{◌≡◌, ◌++◌, ◌-◌, [], IfErr, OnO
 ghost use Rattle.std.specs.Option.{option_copied};
 ghost use Rattle.ha_journal.specs.declared.entry.Entry.{Entry};
 ghost use Rattle.ha_journal.specs.Entries.{is_again as is_again_lem};
-ghost use Rattle.ha_journal.specs.Journal.{Journal, units, more};
+ghost use Rattle.ha_journal.specs.Journal.{Journal, names, more};
 ghost use Rattle.ha_journal.specs.EntryText.{error_text_of, trace_line as trace_line_lem};
 ghost use Rattle.ha_model.specs.Texts.{call_text_of};
 ghost use Rattle.ha_texts.specs.Lines.{AreDated};
@@ -12,14 +12,12 @@ ghost use Rattle.bus_turn.specs.Dated.{IsLastDated};
 ghost use Rattle.bus_turn.specs.Shown.{saved_text, texts_of};
 ghost use Rattle.bus_turn.specs.States.{SinkState, keeper_of, outside, outside_of, sink_of};
 ghost use Rattle.bus_turn.specs.Writes.{Saves, Shows, WritesIn, entry_texts, fault_of, refusal};
-ghost use Rattle.ha_config.specs.Units.{units_of};
 
 use crate::fault::BusFault;
 use crate::write::{write_call, write_error, write_trace};
-use ha_config::Config;
 use ha_io::{IoFault, Keeper, Sink};
 use ha_journal::Entry;
-use ha_value::Word;
+use ha_value::{Many, Word};
 use ha_whole::{Core, CoreFault};
 use std::alloc::Global;
 
@@ -59,7 +57,7 @@ fn save<C: Core, Q: Keeper>(alloc: Global, core: &C, keep: &mut Q) -> Result<(),
     save_switches(alloc, core, keep)
 }
 
-/// Writes the line of an entry to the trace as `write_trace` does, by the units of the core's boot.
+/// Writes the line of an entry to the trace as `write_trace` does, by the names of the core's units.
 fn show_line<C: Core, K: Sink>(
     alloc: Global,
     shown: &mut Word,
@@ -70,9 +68,9 @@ fn show_line<C: Core, K: Sink>(
 ) -> Result<(), BusFault>
     requires { AreDated entry.now }
     ensures { let s = sink_of K.written K.faults K.zeros K.name in
-        WritesIn (trace_line_lem (units (C.entries core.now)) entry.now) (option_map s trace.old) (fault_of result) (option_map s trace.new) }
+        WritesIn (trace_line_lem (names (C.entries core.now)) entry.now) (option_map s trace.old) (fault_of result) (option_map s trace.new) }
 {
-    write_trace(alloc, shown, entry, core.config(), trace, goes_on)
+    write_trace(alloc, shown, entry, core.units(), trace, goes_on)
 }
 
 /// Writes what a put of one entry gives, and saves the switches where it changed what the store keeps: first the call, then the error,
@@ -95,7 +93,7 @@ fn show<C: Core, K: Sink, Q: Keeper>(
         (before : Journal)
         → C.entries core.now ≡ more before entry.now
         → Shows (entry_texts (call_text_of (C.runs core.now) before entry.now) (error_text_of entry.now)
-        (trace_line_lem (units (C.entries core.now)) entry.now) (saved_text (C.entries core.now)))
+        (trace_line_lem (names (C.entries core.now)) entry.now) (saved_text (C.entries core.now)))
         (outside_of s q calls.old errors.old trace.old keep.old)
         (fault_of result)
         (outside_of s q calls.new errors.new trace.new keep.new) }
@@ -121,23 +119,23 @@ fn write_both<K: Sink>(
     shown: &mut Word,
     first: &Entry,
     second: &Entry,
-    config: &Config,
+    units: &Many<Word>,
     trace: &mut Option<K>,
     goes_on: bool,
 ) -> Result<(), BusFault>
     requires first { AreDated first.now }
     requires second { AreDated second.now }
     ensures { let s = sink_of K.written K.faults K.zeros K.name in
-        WritesIn (trace_line_lem (units_of config.now) first.now ++ trace_line_lem (units_of config.now) second.now)
+        WritesIn (trace_line_lem units.now first.now ++ trace_line_lem units.now second.now)
         (option_map s trace.old)
         (fault_of result)
         (option_map s trace.new) }
 {
-    match write_trace(alloc, shown, first, config, trace, true) {
+    match write_trace(alloc, shown, first, units, trace, true) {
         Ok(()) => {}
         Err(fault) => return Err(fault),
     }
-    write_trace(alloc, shown, second, config, trace, goes_on)
+    write_trace(alloc, shown, second, units, trace, goes_on)
 }
 
 /// Writes what a restart gives, with the entry behind it that opens the next segment: a line in the trace for each, and the store. It has
@@ -158,13 +156,13 @@ fn show_restart<C: Core, K: Sink, Q: Keeper>(
     ensures { let s = sink_of K.written K.faults K.zeros K.name in
         let q = keeper_of Q.kept Q.faults in
         (calls errors : SinkState)
-        → Shows (entry_texts [] [] (trace_line_lem (units (C.entries core.now)) restart.now ++ trace_line_lem (units (C.entries core.now)) again.now)
+        → Shows (entry_texts [] [] (trace_line_lem (names (C.entries core.now)) restart.now ++ trace_line_lem (names (C.entries core.now)) again.now)
         (saved_text (C.entries core.now)))
         (outside calls errors (option_map s trace.old) (q keep.old))
         (fault_of result)
         (outside calls errors (option_map s trace.new) (q keep.new)) }
 {
-    match write_both(alloc, shown, restart, again, core.config(), trace, goes_on) {
+    match write_both(alloc, shown, restart, again, core.units(), trace, goes_on) {
         Ok(()) => {}
         Err(fault) => return Err(fault),
     }

@@ -1,12 +1,11 @@
 //! The lines of one entry: its call, its error, and its line in the trace.
-ghost use Rattle.std.specs.Prelude.{◌≡◌, ◌≤◌, IfSome, OnOk, is_some, length, option_map, true, false};
+ghost use Rattle.std.specs.Prelude.{◌≡◌, IfSome, OnOk, is_some, option_map, false};
 ghost use Rattle.std.specs.Option.{option_copied};
-ghost use Rattle.ha_sight.specs.Items.{call_in, is_call};
+ghost use Rattle.ha_sight.specs.Items.{call_in};
 ghost use Rattle.ha_journal.specs.Entries.{step_of};
 ghost use Rattle.ha_journal.specs.Journal.{Journal, more};
 ghost use Rattle.ha_model.specs.Lawful.{record_of as record_of_lem};
-ghost use Rattle.ha_config.specs.Names.{name_of};
-ghost use Rattle.ha_config.specs.Units.{units_of};
+ghost use Rattle.ha_config.specs.Names.{name_in};
 ghost use Rattle.ha_journal.specs.EntryText.{call_line as call_line_lem, error_line, error_text_of, trace_line as trace_line_lem};
 ghost use Rattle.ha_model.specs.Texts.{call_text_of};
 ghost use Rattle.ha_config.specs.Words.{Text};
@@ -16,13 +15,13 @@ ghost use Rattle.bus_turn.specs.Lines.{called_line, text_in};
 ghost use Rattle.bus_turn.specs.Writes.{Hands, Writes, WritesIn, fault_of};
 
 use crate::fault::BusFault;
-use ha_config::{Cmd, Config, run_name};
+use ha_config::Cmd;
 use ha_io::{Sink, Unwritten, write_whole};
 use ha_journal::Entry;
 use ha_model::Record;
 use ha_sight::Item;
 use ha_texts::{call_line, err_line, trace_line};
-use ha_value::Word;
+use ha_value::{Many, Word};
 use ha_whole::Core;
 use std::alloc::{AllocError, Global};
 
@@ -87,16 +86,16 @@ fn write_traced<K: Sink>(
     alloc: Global,
     shown: &mut Word,
     entry: &Entry,
-    config: &Config,
+    units: &Many<Word>,
     sink: &mut K,
     goes_on: bool,
 ) -> Result<(), BusFault>
     requires { AreDated entry.now }
     ensures writes { let s = sink_of K.written K.faults K.zeros K.name in
-        Writes (trace_line_lem (units_of config.now) entry.now) (s sink.old) (fault_of result) (s sink.new) }
+        Writes (trace_line_lem units.now entry.now) (s sink.old) (fault_of result) (s sink.new) }
     ensures handed { goes_on ≡ false → OnOk result (K.kept sink.new ≡ 0) }
 {
-    match trace_line(alloc, shown, entry, config) {
+    match trace_line(alloc, shown, entry, units) {
         Ok(()) => write_kept(sink, shown.bytes(), goes_on),
         Err(_) => Err(BusFault::Memory),
     }
@@ -109,70 +108,43 @@ fn record_of(records: &[Record], serial: u64) -> Option<&Record>
     records.get(serial.saturating_sub(1) as usize)
 }
 
-/// Makes the line of a call that a run of a script made, or of a unit that is not there.
-fn line_of_script(
-    alloc: Global,
-    shown: &mut Word,
-    config: &Config,
-    run: &Record,
-    item: &Item,
-) -> Result<(), AllocError>
-    requires unit { length config.now.automations ≤ run.now.automation }
-    requires call { is_call item.now ≡ true }
-    ensures { OnOk result (shown.new ≡ text_in (option_map (call_line_lem (name_of (units_of config.now) run.now.automation) run.now.number run.now.calls) (call_in item.now))) }
-{
-    let at = run.automation as usize - config.automations.len();
-    if at < config.scripts.len() {
-        let name = run_name(alloc, config, run.automation)?;
-        return call_line(alloc, shown, &name, run.number, run.calls, item);
-    }
-    let nameless = Word::new(alloc);
-    call_line(alloc, shown, &nameless, run.number, run.calls, item)
-}
-
 /// Makes the line of a call that a run made last, by what it did. For another item nothing is shown.
 fn line_of_call(
     alloc: Global,
     shown: &mut Word,
-    config: &Config,
+    units: &Many<Word>,
     run: &Record,
     item: &Item,
 ) -> Result<(), AllocError>
-    ensures { OnOk result (shown.new ≡ text_in (option_map (call_line_lem (name_of (units_of config.now) run.now.automation) run.now.number run.now.calls) (call_in item.now))) }
+    ensures { OnOk result (shown.new ≡ text_in (option_map (call_line_lem (name_in units.now run.now.automation) run.now.number run.now.calls) (call_in item.now))) }
 {
     if !matches!(item, Item::Call { .. }) {
         shown.clear();
         return Ok(());
     }
-    let at = run.automation as usize;
-    let automations = config.automations.as_slice();
-    if at < automations.len() {
-        return call_line(
-            alloc,
-            shown,
-            &automations[at].name,
-            run.number,
-            run.calls,
-            item,
-        );
+    match units.get(run.automation as usize) {
+        Some(name) => call_line(alloc, shown, name, run.number, run.calls, item),
+        None => {
+            let nameless = Word::new(alloc);
+            call_line(alloc, shown, &nameless, run.number, run.calls, item)
+        }
     }
-    line_of_script(alloc, shown, config, run, item)
 }
 
 /// Makes the line of an entry that calls. For another entry nothing is shown.
 fn line_of_step(
     alloc: Global,
     shown: &mut Word,
-    config: &Config,
+    units: &Many<Word>,
     records: &[Record],
     entry: &Entry,
 ) -> Result<(), AllocError>
-    ensures { OnOk result (shown.new ≡ text_in (called_line (units_of config.now) records.now entry.now)) }
+    ensures { OnOk result (shown.new ≡ text_in (called_line units.now records.now entry.now)) }
 {
     shown.clear();
     match entry {
         Entry::Step { serial, item, .. } => match record_of(records, *serial) {
-            Some(run) => line_of_call(alloc, shown, config, run, item),
+            Some(run) => line_of_call(alloc, shown, units, run, item),
             None => Ok(()),
         },
         Entry::Boot { .. } | Entry::Line { .. } | Entry::Again { .. } => Ok(()),
@@ -200,7 +172,7 @@ fn write_called<C: Core, K: Sink>(
         → C.entries core.now ≡ more before entry.now
         → Writes (call_text_of (C.runs core.now) before entry.now) (s sink.old) (fault_of result) (s sink.new) }
 {
-    let made = line_of_step(alloc, shown, core.config(), core.records(), entry);
+    let made = line_of_step(alloc, shown, core.units(), core.records(), entry);
     write_line(sink, made, shown)
 }
 
@@ -273,17 +245,17 @@ pub(crate) fn write_trace<K: Sink>(
     alloc: Global,
     shown: &mut Word,
     entry: &Entry,
-    config: &Config,
+    units: &Many<Word>,
     trace: &mut Option<K>,
     goes_on: bool,
 ) -> Result<(), BusFault>
     requires { AreDated entry.now }
     ensures writes { let s = sink_of K.written K.faults K.zeros K.name in
-        WritesIn (trace_line_lem (units_of config.now) entry.now) (option_map s trace.old) (fault_of result) (option_map s trace.new) }
+        WritesIn (trace_line_lem units.now entry.now) (option_map s trace.old) (fault_of result) (option_map s trace.new) }
     ensures handed { goes_on ≡ false → OnOk result (IfSome trace.new (λ k. K.kept k ≡ 0)) }
 {
     match trace {
-        Some(sink) => write_traced(alloc, shown, entry, config, sink, goes_on),
+        Some(sink) => write_traced(alloc, shown, entry, units, sink, goes_on),
         None => Ok(()),
     }
 }

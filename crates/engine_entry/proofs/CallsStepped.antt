@@ -38,7 +38,8 @@ use Rattle.engine_parts.specs.Fronts.{fronts}
 use Rattle.engine_parts.specs.Kept.{nobody}
 use Rattle.engine_parts.specs.Runs.{GateKept, GatesKept, IsWait, LiveKept, SlotsKept}
 use Rattle.engine_parts.specs.Waiting.{Asked, asked, ends}
-use Rattle.engine_parts.proofs.CalledLemmas.{caller-moved, called-last, each-at, each-slots, found-within, fronts-awaited, live-gates, live-slot, right-numbered, told-first, told-last}
+use Rattle.engine_parts.proofs.ToldLemmas.{called-last, found-within, told-first, told-last}
+use Rattle.engine_parts.proofs.CalledLemmas.{caller-moved, each-at, each-slots, fronts-awaited, live-gates, live-slot, right-numbered}
 use Rattle.engine_parts.proofs.GateLemmas.{begins-bare, called-bare, named-end}
 use Rattle.engine_parts.proofs.HeldLemmas.{get-set-other}
 use Rattle.engine_parts.proofs.StepRight.{gate-known}

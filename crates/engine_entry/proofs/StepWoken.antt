@@ -40,7 +40,7 @@ use Rattle.engine_parts.specs.Touched.{QueueKept, due_places, wait_places}
 use Rattle.engine_parts.specs.Waiting.{TellsEnds, fresh}
 use Rattle.engine_entry.proofs.DelayLemmas.{due-added, places-added, queue-added, queue-both}
 use Rattle.engine_entry.proofs.CallsStepped.{calls-stepped}
-use Rattle.engine_parts.proofs.CalledLemmas.{told-first, told-last}
+use Rattle.engine_parts.proofs.ToldLemmas.{told-first, told-last}
 use Rattle.engine_parts.proofs.ForgetLemmas.{slots-length}
 use Rattle.engine_parts.proofs.StepKept.{stepped-kept}
 use Rattle.engine_parts.proofs.StepWakes.{step-agrees, step-slots, step-waking}

@@ -14,7 +14,8 @@ use Rattle.ha_config.specs.Words.{numbers_from, up_to}
 use Rattle.ha_journal.proofs.MoreLemmas.{automations-more, length-more}
 use Rattle.ha_journal.proofs.SinceLaws.{take-before}
 use Rattle.store_text.specs.Store.{Switches}
-use Rattle.switch_book.specs.Book.{StandsFor, flags, names_of}
+use Rattle.switch_book.specs.Book.{StandsFor, flags}
+use Rattle.ha_config.specs.Names.{names_of}
 use Rattle.switch_book.proofs.SwitchLaws.{flags-of-journal, get-set, names-of-journal, stands-by-place}
 use Rattle.engine_entry.specs.Turned.{FlagsBetween, is_target, less, stage}
 use Rattle.engine_entry.proofs.PlaceLemmas.{apart-of, eq-of, eq-self}

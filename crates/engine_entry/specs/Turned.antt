@@ -11,7 +11,7 @@ use Rattle.ha_journal.specs.Entries.{gone_in, is_restart, opens_segment, report_
 use Rattle.ha_config.specs.Equal.{same_flag}
 use Rattle.ha_journal.specs.Journal.{Journal, HasEntry, automations, brings, more}
 use Rattle.ha_journal.specs.Sights.{switch_of}
-use Rattle.ha_config.specs.Names.{automation_named}
+use Rattle.ha_config.specs.Names.{automation_named, names_of}
 use Rattle.ha_journal.specs.States.{states}
 use Rattle.ha_journal.specs.Switches.{is_on, since}
 use Rattle.ha_config.specs.Words.{Text, up_to}
@@ -19,7 +19,7 @@ use Rattle.state_table.specs.Anew.{is_automation as is_of_automation}
 use Rattle.state_table.specs.Table.{at}
 use Rattle.state_table.specs.declared.table.StateTable.{StateTable}
 use Rattle.store_text.specs.Store.{Switches}
-use Rattle.switch_book.specs.Book.{flags, names_of}
+use Rattle.switch_book.specs.Book.{flags}
 use Rattle.ha_past.specs.Firings.{Owner}
 use Rattle.trig_set.specs.Next.{Listed, state_listed}
 use Rattle.engine_parts.specs.Owners.{is_automation}

@@ -30,6 +30,9 @@ pub mod PutLemmas
 pub mod LowerLemmas
 pub mod OverLemmas
 pub mod SlotTables
+pub mod ToldLemmas
 pub mod CalledLemmas
 pub mod PlacedLemmas
+pub mod EndedCallLemmas
+pub mod FinishedLemmas
 pub mod WokenLemmas

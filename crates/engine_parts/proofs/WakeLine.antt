@@ -26,7 +26,8 @@ use Rattle.engine_parts.proofs.SteppersRun.{line-agrees, line-slots, line-waking
 use Rattle.engine_parts.proofs.WaitWords.{stands-tells}
 use Rattle.engine_parts.proofs.HeldLemmas.{line-held}
 use Rattle.engine_parts.specs.Called.{CallsKept, told_by}
-use Rattle.engine_parts.proofs.CalledLemmas.{calls-line, told-first}
+use Rattle.engine_parts.proofs.ToldLemmas.{told-first}
+use Rattle.engine_parts.proofs.CalledLemmas.{calls-line}
 
 module _ (rs : Records) (w : WaitTable) (p : Parts) (delays' : List Timer) (t' : TrigSet) (ready' : Ready) where
   -- what the work on a journal k says

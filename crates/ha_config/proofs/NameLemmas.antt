@@ -1,8 +1,10 @@
--- The last pair of a name.
-use Rattle.std.proofs.Common.{◌≡◌, ◌∙◌, ap, ℕ, ◌+◌, ◌-◌, ◌<◌, ◌≤◌, true, false, refl, [], ◌∷◌, ◌++◌, length, get_or, take, sym, arith}
+-- The last pair of a name, and names by their numbers.
+use Rattle.std.proofs.Common.{◌≡◌, ◌∙◌, ap, ℕ, zero, suc, List, ◌+◌, ◌-◌, ◌<◌, ◌≤◌, true, false, refl, [], ◌∷◌, ◌++◌, length, get_or, take, sym, arith}
 use Rattle.std.proofs.lemmas.List.{take_more}
 use Rattle.std.specs.Prelude.{Some, None}
 use Rattle.ha_value.specs.declared.value.Value.{Value}
+use Rattle.ha_config.specs.declared.config.Automation.{Automation}
+use Rattle.ha_config.specs.Names.{name_in, name_of, names_of}
 use Rattle.ha_config.specs.Words.{Text, Pairs, same, last_pair}
 
 module _ (key : Text) where
@@ -35,3 +37,9 @@ module _ (key : Text) where
 
     pub last-passed : same p.0 key ≡ false → last_pair key ps ≡ last_pair key (take (i - 1) ps)
     last-passed h = known ∙ ap (last_pair key) front ∙ last-before (take (i - 1) ps) p h
+
+-- the name of a number, among the names of all
+pub name-in-of : (all : List Automation) (a : ℕ) → name_in (names_of all) a ≡ name_of all a
+name-in-of [] a = refl
+name-in-of (x ∷ all) zero = refl
+name-in-of (x ∷ all) (suc a) = name-in-of all a

@@ -1,5 +1,5 @@
 -- The automations of a list by their places, and by their names.
-use Rattle.std.specs.Prelude.{ℕ, List, [], ◌∷◌, Option, slice_get, Bool, Some, None, filter, find, is_some, option_map, if◌then◌else◌}
+use Rattle.std.specs.Prelude.{ℕ, List, [], ◌∷◌, Option, slice_get, Bool, Some, None, filter, find, map, is_some, option_map, unwrap_or, if◌then◌else◌}
 use Rattle.std.specs.Option.{option_map_or}
 use Rattle.ha_config.specs.declared.config.Automation.{Automation}
 use Rattle.ha_config.specs.Words.{Text, same}
@@ -15,6 +15,14 @@ automation_named all name = option_map (λ p. p.0) (find (λ p. same p.1.name na
 -- the name of automation a, and its initial state, if it has one
 abbrev pub name_of : List Automation → ℕ → Text
 name_of all a = option_map_or (λ x. x.name) (unit_of all a) []
+
+-- the names of units, each at its number
+abbrev pub names_of : List Automation → List Text
+names_of all = map {A = Automation} {B = Text} (λ x. x.name) all
+
+-- the name at a number; where there is none it is empty
+abbrev pub name_in : List Text → ℕ → Text
+name_in names a = unwrap_or (slice_get names a) []
 
 abbrev pub initial_of : List Automation → ℕ → Option Bool
 initial_of all a = option_map_or (λ x. x.initial) (unit_of all a) None

@@ -31,7 +31,8 @@ use Rattle.engine_parts.specs.Kept.{Gone, RunsKept, SlotBut, nobody}
 use Rattle.ha_ready.specs.RunPast.{AllPast, BeginBefore, IsPast}
 use Rattle.ha_ready.specs.ReadyPairs.{ready_with, pairs_of}
 use Rattle.engine_parts.specs.Records.{AreEnded, IsTable, first_branches}
-use Rattle.engine_parts.proofs.CalledLemmas.{calls-alike, calls-joined, ended-alike, told-alike, told-joined}
+use Rattle.engine_parts.proofs.ToldLemmas.{ended-alike, told-alike, told-joined}
+use Rattle.engine_parts.proofs.CalledLemmas.{calls-alike, calls-joined}
 use Rattle.engine_parts.proofs.ForgetLemmas.{slots-length}
 use Rattle.engine_parts.proofs.FreshLemmas.{fresh-branches, fresh-live, nowhere, run-added}
 use Rattle.engine_parts.proofs.GoneLemmas.{gone-ended}

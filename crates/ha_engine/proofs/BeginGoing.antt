@@ -22,7 +22,8 @@ use Rattle.engine_parts.specs.Called.{AreAlike, CallsKept, told_by}
 use Rattle.engine_parts.specs.Kept.{AreSound, Going, RunsKept, left_branches, nobody}
 use Rattle.engine_parts.specs.Records.{also, first_branches}
 use Rattle.engine_entry.specs.Stepping.{StepEnds}
-use Rattle.engine_parts.proofs.CalledLemmas.{calls-alike, told-alike}
+use Rattle.engine_parts.proofs.ToldLemmas.{told-alike}
+use Rattle.engine_parts.proofs.CalledLemmas.{calls-alike}
 use Rattle.engine_entry.proofs.EndLemmas.{called-length, called-table, end-alike, none-before, none-begun, one-begun}
 use Rattle.ha_engine.proofs.PrepareLemmas.{unit-sound}
 use Rattle.engine_entry.proofs.QueuedLemmas.{Queued, begun-found, first-ready}

@@ -3,7 +3,7 @@ use Rattle.std.proofs.Common.{◌≡◌, ℕ, ◌+◌, ◌≤◌, inl, inr, List
 use Rattle.std.specs.Prelude.{Option, ◌⊎◌}
 use Rattle.ha_clock.specs.Local.{last_moment}
 use Rattle.ha_config.specs.declared.config.Config.{Config}
-use Rattle.ha_config.specs.Names.{name_of, of_automations}
+use Rattle.ha_config.specs.Names.{name_of, names_of, of_automations}
 use Rattle.ha_config.specs.Sound.{AreSoundMoments, IsSoundConfig}
 use Rattle.ha_config.specs.ValueFacts.{all_distinct}
 use Rattle.ha_config.specs.Words.{Text, up_to}
@@ -19,7 +19,6 @@ use Rattle.ha_whole.specs.Whole.{AreEntries, IsFirst, Right, most_entries, most_
 use Rattle.segment_runs.specs.Segment.{SegmentTable, all_of}
 use Rattle.segment_carry.proofs.LawLemmas.{table-records}
 use Rattle.store_text.specs.Store.{Moments, Switches}
-use Rattle.switch_book.specs.Book.{names_of}
 use Rattle.engine_parts.specs.declared.parts.Parts.{Parts}
 use Rattle.engine_parts.specs.Kept.{Kept}
 use Rattle.ha_engine.specs.declared.bounds.Bounds.{Bounds}

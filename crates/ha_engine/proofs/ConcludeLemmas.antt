@@ -31,8 +31,10 @@ use Rattle.engine_parts.specs.declared.parts.Parts.{Parts}
 use Rattle.engine_parts.specs.Called.{told_after, told_by}
 use Rattle.engine_parts.specs.Kept.{Going, GoingWith, nobody}
 use Rattle.engine_parts.specs.Records.{IsTable}
-use Rattle.engine_parts.proofs.CalledLemmas.{none-waits, told-whole}
-use Rattle.engine_parts.proofs.WokenLemmas.{calls-after, unwoken-runs}
+use Rattle.engine_parts.proofs.ToldLemmas.{told-whole}
+use Rattle.engine_parts.proofs.CalledLemmas.{none-waits}
+use Rattle.engine_parts.proofs.EndedCallLemmas.{calls-after}
+use Rattle.engine_parts.proofs.WokenLemmas.{unwoken-runs}
 use Rattle.ha_ready.specs.Agree.{step_at}
 use Rattle.engine_entry.proofs.EnterLemmas.{plain-leaves}
 use Rattle.ha_ready.proofs.RunPast.{all-past}

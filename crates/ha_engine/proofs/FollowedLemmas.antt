@@ -20,7 +20,7 @@ use Rattle.ha_whole.specs.Segments.{alone, carried, segment}
 use Rattle.ha_whole.specs.Whole.{HasRoom, Right, is_quiet, is_rested, ready, records_of}
 use Rattle.segment_runs.specs.Segment.{SegmentTable, all_of}
 use Rattle.segment_carry.proofs.LawLemmas.{table-records}
-use Rattle.switch_book.specs.Book.{names_of}
+use Rattle.ha_config.specs.Names.{names_of}
 use Rattle.whole_laws.specs.Puts.{IsPut}
 use Rattle.whole_laws.proofs.CutLemmas.{IsCut, is-cut, units-are}
 use Rattle.whole_laws.proofs.LiftLemmas.{entries-have, quiet-is, ready-is, rested-is}

@@ -5,7 +5,7 @@ use Rattle.std.specs.List.{list_any}
 use Rattle.ha_config.specs.declared.command.Cmd.{Cmd}
 use Rattle.ha_config.specs.declared.config.Automation.{Automation}
 use Rattle.ha_config.specs.Equal.{same_flag}
-use Rattle.ha_config.specs.Names.{initial_of, name_of}
+use Rattle.ha_config.specs.Names.{initial_of, name_of, names_of}
 use Rattle.ha_config.specs.StoreText.{in_name_order}
 use Rattle.ha_config.specs.ValueFacts.{all_distinct}
 use Rattle.ha_config.specs.Words.{up_to}
@@ -38,7 +38,6 @@ use Rattle.segment_carry.proofs.AgainLemmas.{made-at}
 use Rattle.segment_carry.proofs.LawLemmas.{carried-moments, found-moments, stopped-counts, table-records}
 use Rattle.store_text.specs.Store.{Switches}
 use Rattle.switch_book.specs.Book as switches
-use Rattle.switch_book.specs.Book.{names_of}
 use Rattle.engine_parts.specs.declared.parts.Parts.{Parts}
 use Rattle.engine_parts.specs.Kept.{AreSound, Kept}
 use Rattle.ha_engine.specs.declared.bounds.Bounds.{Bounds}

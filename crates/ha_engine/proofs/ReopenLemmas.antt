@@ -9,7 +9,7 @@ use Rattle.ha_clock.specs.Local.{last_moment}
 use Rattle.ha_config.specs.declared.command.Cmd.{Cmd}
 use Rattle.ha_config.specs.declared.config.Automation.{Automation}
 use Rattle.ha_config.specs.declared.config.Config.{Config}
-use Rattle.ha_config.specs.Names.{initial_of, name_of, stored_switch}
+use Rattle.ha_config.specs.Names.{initial_of, name_of, names_of, stored_switch}
 use Rattle.ha_config.specs.StoreText.{in_name_order}
 use Rattle.ha_config.specs.ValueFacts.{all_distinct, keys_of}
 use Rattle.ha_config.proofs.EqualLemmas.{same-refl}
@@ -31,7 +31,6 @@ use Rattle.segment_runs.specs.Goes.{moved, moved_all}
 use Rattle.segment_carry.specs.Closing.{AreAsMany}
 use Rattle.store_text.specs.Store.{Switches}
 use Rattle.switch_book.specs.Book as switches
-use Rattle.switch_book.specs.Book.{names_of}
 use Rattle.switch_book.proofs.StoredLaws.{found-in_name_order}
 use Rattle.engine_parts.specs.Kept.{AreSound}
 use Rattle.ha_engine.specs.Begun.{Begun, IsBegun}

@@ -17,7 +17,7 @@ use Rattle.ha_model.specs.Lawful.{Right}
 use Rattle.ha_model.specs.RecordSteps.{records_after}
 use Rattle.ha_model.specs.Records.{Records}
 use Rattle.ha_journal.specs.Attempts.{passing}
-use Rattle.ha_config.specs.Names.{initial_of}
+use Rattle.ha_config.specs.Names.{initial_of, names_of}
 use Rattle.ha_config.specs.Words.{Text, numbers_from, up_to}
 use Rattle.ha_journal.proofs.MoreLemmas.{has-entry, automations-more, units-more}
 use Rattle.ha_model.proofs.LawfulLaws.{right-more}
@@ -27,7 +27,6 @@ use Rattle.run_modes.specs.Calls.{all_tried}
 use Rattle.run_modes.specs.Table.{stopped}
 use Rattle.store_text.specs.Store.{Switches}
 use Rattle.switch_book.specs.Book as switches
-use Rattle.switch_book.specs.Book.{names_of}
 use Rattle.switch_book.proofs.SwitchLaws.{names-of-journal}
 use Rattle.engine_parts.specs.declared.parts.Parts.{Parts}
 use Rattle.engine_parts.specs.Kept.{AreSound, Kept}

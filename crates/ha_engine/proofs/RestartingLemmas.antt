@@ -5,7 +5,7 @@ use Rattle.std.specs.List.{list_any}
 use Rattle.ha_config.specs.declared.command.Cmd.{Cmd}
 use Rattle.ha_config.specs.declared.config.Automation.{Automation}
 use Rattle.ha_config.specs.Equal.{same_flag}
-use Rattle.ha_config.specs.Names.{initial_of}
+use Rattle.ha_config.specs.Names.{initial_of, names_of}
 use Rattle.ha_config.specs.ValueFacts.{all_distinct}
 use Rattle.ha_config.specs.Words.{up_to}
 use Rattle.ha_journal.specs.declared.entry.Entry.TheVariants.{Line}
@@ -27,7 +27,6 @@ use Rattle.segment_carry.specs.Closing.{Closes}
 use Rattle.segment_view.specs.Views.{HasBoot}
 use Rattle.store_text.specs.Store.{Switches}
 use Rattle.switch_book.specs.Book as switches
-use Rattle.switch_book.specs.Book.{names_of}
 use Rattle.engine_parts.specs.declared.parts.Parts.{Parts}
 use Rattle.engine_parts.specs.Kept.{Kept}
 use Rattle.ha_engine.specs.declared.bounds.Bounds.{Bounds}

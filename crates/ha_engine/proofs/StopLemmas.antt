@@ -17,7 +17,8 @@ use Rattle.engine_parts.specs.Changes.{SameRun}
 use Rattle.engine_parts.specs.Called.{place_of, told_by}
 use Rattle.engine_parts.specs.Kept.{Going, Gone, RunsKept, nobody}
 use Rattle.engine_parts.specs.Records.{AreEnded, EndsIf, IsTable}
-use Rattle.engine_parts.proofs.CalledLemmas.{calls-alike, ended-alike, told-alike}
+use Rattle.engine_parts.proofs.ToldLemmas.{ended-alike, told-alike}
+use Rattle.engine_parts.proofs.CalledLemmas.{calls-alike}
 use Rattle.engine_parts.proofs.GoneLemmas.{gone-ended}
 use Rattle.ha_engine.proofs.LiveLemmas.{AreLive, all-live}
 

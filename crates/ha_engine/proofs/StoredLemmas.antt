@@ -6,7 +6,7 @@ use Rattle.std.specs.Option.{option_map_or}
 use Rattle.ha_clock.specs.Local.{last_moment}
 use Rattle.ha_config.specs.declared.config.Automation.{Automation}
 use Rattle.ha_config.specs.Equal.{same_flag}
-use Rattle.ha_config.specs.Names.{name_of}
+use Rattle.ha_config.specs.Names.{name_of, names_of}
 use Rattle.ha_config.specs.Sound.{are_sound_automations, are_sound_scripts, is_sound_automation}
 use Rattle.ha_config.specs.StoreText.{in_name_order}
 use Rattle.ha_config.specs.ValueFacts.{all_distinct}
@@ -14,9 +14,9 @@ use Rattle.ha_config.specs.Words.{Text, numbers_from, same, up_to}
 use Rattle.ha_config.proofs.EqualLemmas.{and_left, and_right}
 use Rattle.ha_journal.specs.declared.entry.Entry.{Entry}
 use Rattle.ha_journal.specs.Entries.{is_again, is_restart}
-use Rattle.ha_journal.specs.Journal.{HasEntry, Journal, automations, configured, more, now, scripts}
+use Rattle.ha_journal.specs.Journal.{HasEntry, Journal, automations, configured, more, names, now, scripts}
 use Rattle.ha_journal.specs.Switches.{is_on}
-use Rattle.ha_journal.proofs.MoreLemmas.{automations-more}
+use Rattle.ha_journal.proofs.MoreLemmas.{automations-more, names-more}
 use Rattle.ha_model.specs.Lawful as one
 use Rattle.ha_model.specs.Records as all
 use Rattle.ha_model.specs.Records.{Records, last_is}
@@ -26,7 +26,6 @@ use Rattle.ha_whole.specs.Named.{named}
 use Rattle.ha_whole.specs.Segments.{alone, segment}
 use Rattle.ha_whole.specs.Whole.{HasRoom, before_put, changes_store, same_moment}
 use Rattle.store_text.specs.Store.{AreMoments}
-use Rattle.switch_book.specs.Book.{names_of}
 use Rattle.switch_book.proofs.BookLemmas.{all-named}
 use Rattle.segment_runs.specs.Segment.{SegmentTable}
 use Rattle.segment_carry.specs.ByName.{rule_order, listed}
@@ -129,6 +128,10 @@ module _ (j : Journal) (x : Entry) (b : Bounds) (t t' : SegmentTable) (p p' : Pa
 pub automations-behind : (j : Journal) (x y : Entry) → HasEntry j → automations j ≡ automations (more (more j x) y)
 automations-behind [] x y some = absurd some
 automations-behind (e ∷ es) x y some = automations-more (e ∷ es) x some ∙ automations-more (more (e ∷ es) x) y tt
+
+pub names-behind : (j : Journal) (x y : Entry) → HasEntry j → names j ≡ names (more (more j x) y)
+names-behind [] x y some = absurd some
+names-behind (e ∷ es) x y some = names-more (e ∷ es) x some ∙ names-more (more (e ∷ es) x) y tt
 
 -- ---- at the boot
 

@@ -43,7 +43,8 @@ use Rattle.engine_entry.specs.Stepping.{StepEnds, StepTelling, StepTold, cause_o
 use Rattle.ha_engine.proofs.BeginGoing.{ends-called}
 use Rattle.ha_engine.proofs.ConcludeLemmas.{past-more}
 use Rattle.engine_entry.proofs.EndLemmas.{called-ended, called-table}
-use Rattle.engine_parts.proofs.CalledLemmas.{calls-alike, ended-alike, told-alike}
+use Rattle.engine_parts.proofs.ToldLemmas.{ended-alike, told-alike}
+use Rattle.engine_parts.proofs.CalledLemmas.{calls-alike}
 use Rattle.engine_parts.proofs.GoneLemmas.{gone-ended}
 use Rattle.engine_entry.proofs.QueuedLemmas.{queued-nowhere, step-where}
 use Rattle.engine_parts.proofs.SlotLemmas.{ended-off}

@@ -1,6 +1,6 @@
 -- The fields of an engine.
 use Rattle.std.specs.Prelude.{◌≡◌, false}
-use Rattle.ha_journal.specs.Journal.{automations}
+use Rattle.ha_journal.specs.Journal.{automations, names}
 use Rattle.segment_carry.specs.ByName.{rule_order}
 use Rattle.segment_runs.specs.Segment.{all_of}
 use Rattle.ha_engine.specs.Core.{Core}
@@ -17,3 +17,4 @@ pub record IsKept (e : Inside) : Type 0 where
   pub followed : e.spent ≡ false → IsFollowed e.journal.items e.runs.list e.parts e.lasts.items e.reset
   pub noted : e.spent ≡ false → AreNoted e.journal.items e.lasts.items e.moved
   pub ordered : e.spent ≡ false → e.order ≡ rule_order (automations e.journal.items)
+  pub named : e.names ≡ names e.journal.items

@@ -33,7 +33,7 @@ use ha_config::Config;
 use ha_journal::{Carry, Entry, Firing};
 use ha_value::{Boxed, Many, Word};
 use script_calls::{Calls, Seeing};
-use segment_carry::{lasts, rule_order};
+use segment_carry::{lasts, names, rule_order};
 use segment_runs::SegmentRuns;
 use segment_view::Behind;
 use state_table::StateTable;
@@ -283,6 +283,7 @@ impl Engine {
         let known = known_moments(alloc, automations, last.as_slice())?;
         let mut lasts = lasts(alloc, automations, known.as_slice())?;
         let order = rule_order(alloc, automations)?;
+        let names = names(alloc, &config)?;
         let carry = Carry::first(alloc, known)?;
         let journal = first_journal(alloc, text, config, stored, start, zone, carry)?;
         let (runs, parts) = begin_first(alloc, journal.as_slice(), switches, read, start)?;
@@ -294,6 +295,7 @@ impl Engine {
             parts,
             lasts,
             order,
+            names,
             bounds: Bounds::first(),
             reset: true,
             moved,

@@ -4,7 +4,7 @@ ghost use Rattle.ha_config.specs.declared.command.Cmd.TheVariants.{Restart};
 ghost use Rattle.ha_journal.specs.declared.entry.Entry.{Entry as Put};
 ghost use Rattle.ha_journal.specs.declared.entry.Entry.TheVariants.{Line};
 ghost use Rattle.ha_journal.specs.Entries.{restarts as restarts_lem};
-ghost use Rattle.ha_journal.specs.Journal.{more, Journal, automations, configured};
+ghost use Rattle.ha_journal.specs.Journal.{more, Journal, automations, configured, names};
 ghost use Rattle.ha_journal.specs.Commands.{put_as as put_as_lem, IsFair};
 ghost use Rattle.ha_sight.specs.declared.item.Item as item_lem;
 ghost use Rattle.ha_journal.specs.declared.entry.Entry.{Entry as Item};
@@ -52,6 +52,8 @@ pub struct Engine {
     pub(crate) lasts: Vec<Option<Moment>>,
     /// The automations in the byte order of their names.
     pub(crate) order: Many<u32>,
+    /// The names that the runs of all units have, by the units' numbers.
+    pub(crate) names: Many<Word>,
     pub(crate) bounds: Bounds,
     /// Whether the opening of the last segment changed a switch.
     pub(crate) reset: bool,
@@ -366,6 +368,13 @@ impl Engine {
         config_in(self.journal.as_slice())
     }
 
+    /// The names that the runs of all units have, by the units' numbers.
+    pub(crate) fn unit_names(&self) -> &Many<Word>
+        ensures { result.now ≡ names self.now.entries }
+    {
+        &self.names
+    }
+
     /// The records of its runs.
     pub(crate) fn runs(&self) -> &[Record]
         ensures value { result.now ≡ self.now.runs }
@@ -445,11 +454,13 @@ impl Engine {
             parts,
             lasts,
             order,
+            names,
             ..
         } = self;
         drop(parts);
         drop(lasts);
         drop(order);
+        drop(names);
         (Many::from_vec(journal), runs.into_all())
     }
 }

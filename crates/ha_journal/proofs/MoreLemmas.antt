@@ -2,8 +2,9 @@
 use Rattle.std.proofs.Common.{◌≡◌, ℕ, suc, ◌-◌, ◌<◌, [], ◌∷◌, length, refl, arith, length-append}
 use Rattle.ha_journal.specs.declared.entry.Entry.{Entry}
 use Rattle.ha_journal.specs.declared.entry.Entry.TheVariants.{Boot, Line, Step, Again}
+use Rattle.ha_config.specs.Names.{names_of}
 use Rattle.ha_config.specs.Units.{units_of}
-use Rattle.ha_journal.specs.Journal.{Journal, IsJournal, automations, configured, scripts, units, more, HasEntry, through}
+use Rattle.ha_journal.specs.Journal.{Journal, IsJournal, automations, configured, scripts, units, names, more, HasEntry, through}
 use Rattle.std.proofs.lemmas.List.{take-append-le, take_all}
 
 pub has-entry : (j : Journal) → IsJournal j → HasEntry j
@@ -29,6 +30,9 @@ configured-more j x h = (λ i. record { automations = automations-more j x h i; 
 
 pub units-more : (j : Journal) (x : Entry) → HasEntry j → units j ≡ units (more j x)
 units-more j x h = (λ i. units_of (configured-more j x h i))
+
+pub names-more : (j : Journal) (x : Entry) → HasEntry j → names j ≡ names (more j x)
+names-more j x h = (λ i. names_of (units-more j x h i))
 
 pub length-more : (j : Journal) (x : Entry) → length (more j x) ≡ suc (length j)
 length-more j x = omega (arith, length-append j (x ∷ []))

@@ -2,13 +2,12 @@
 use Rattle.std.specs.Prelude.{ℕ, Bool, List, [], ◌∷◌, ◌++◌, length, map, Option, Some, None, option_map, decimal, codes, if◌then◌else◌}
 use Rattle.std.specs.Option.{option_map_or}
 use Rattle.ha_clock.specs.Print.{moment_text}
-use Rattle.ha_config.specs.declared.config.Automation.{Automation}
 use Rattle.ha_config.specs.declared.command.Cmd.{Cmd}
 use Rattle.ha_journal.specs.declared.entry.Entry.{Entry}
 use Rattle.ha_journal.specs.declared.entry.Entry.TheVariants.{Boot, Line, Step, Again}
 use Rattle.ha_config.specs.Words.{Text}
 use Rattle.ha_sight.specs.Items.{Called, failure_in}
-use Rattle.ha_journal.specs.Journal.{Journal, units}
+use Rattle.ha_journal.specs.Journal.{Journal, names}
 use Rattle.ha_config.specs.ValueText.{quoted, list_text, map_text}
 use Rattle.ha_config.specs.CommandText.{one_key, cmd_text, line_code}
 use Rattle.ha_sight.specs.ItemText.{call_pairs, item_text, failure_code}
@@ -73,8 +72,8 @@ boot_pairs text stored last start zone =
     (codes "config", quoted text) ∷ (codes "stored", stored_text stored)
     ∷ last_pairs last ++ (codes "start", quoted (moment_text start)) ∷ (codes "zone", quoted zone) ∷ []
 
--- the trace line of an entry
-abbrev pub trace_line : List Automation → Entry → Text
+-- the trace line of an entry, where units have these names by their numbers
+abbrev pub trace_line : List Text → Entry → Text
 trace_line all (Boot text config stored start zone carry) =
     as_line (one_key (codes "boot") (map_text (boot_pairs text stored carry.last start zone)))
 trace_line all (Line source number cmd) =
@@ -89,4 +88,4 @@ end_line n = as_line (one_key (codes "end") (decimal n))
 
 -- the trace of a journal, with its end line where it has ended
 abbrev pub trace_text : Journal → Bool → Text
-trace_text j ended = texts_after (λ before x. trace_line (units j) x) [] j ++ (if ended then end_line (length j) else [])
+trace_text j ended = texts_after (λ before x. trace_line (names j) x) [] j ++ (if ended then end_line (length j) else [])

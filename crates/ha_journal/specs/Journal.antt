@@ -5,6 +5,7 @@ use Rattle.ha_config.specs.declared.config.Automation.{Automation}
 use Rattle.ha_config.specs.declared.config.Config.{Config}
 use Rattle.ha_config.specs.declared.config.Script.{Script}
 use Rattle.ha_journal.specs.declared.entry.Entry.{Entry}
+use Rattle.ha_config.specs.Names.{names_of}
 use Rattle.ha_config.specs.Units.{units_of}
 use Rattle.ha_config.specs.Words.{Text, EachFrom}
 use Rattle.ha_journal.specs.Entries.{boot_of, moment_in, IsBoot, BeginsSegment}
@@ -37,6 +38,10 @@ configured j = record { automations = automations j; scripts = scripts j }
 -- what has runs: the automations, and behind them the scripts
 abbrev pub units : Journal → List Automation
 units j = units_of (configured j)
+
+-- their names, each at its number
+abbrev pub names : Journal → List Text
+names j = names_of (units j)
 
 abbrev pub zone_of : Journal → Text
 zone_of [] = []

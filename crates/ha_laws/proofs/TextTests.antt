@@ -4,9 +4,6 @@ use Rattle.std.specs.Prelude.{codes}
 use Rattle.std.specs.Fmt.{digits}
 use Rattle.ha_value.specs.Numbers.{print_number}
 use Rattle.ha_config.specs.declared.command.Cmd.{Cmd}
-use Rattle.ha_config.specs.declared.config.Automation.{Automation}
-use Rattle.ha_config.specs.declared.config.Mode.{Mode}
-use Rattle.ha_config.specs.Units.{as_unit}
 use Rattle.ha_sight.specs.declared.item.Item.{Item}
 use Rattle.ha_journal.specs.declared.entry.Entry.{Entry}
 use Rattle.ha_journal.specs.Commands.{put_as}
@@ -46,20 +43,17 @@ counted = refl
 switch_printed : cmd_text (Cmd.Switch (codes "a") false true) ≡ codes "{\"switch\":\"automation.a\",\"to\":\"off\",\"stop_actions\":true}"
 switch_printed = refl
 
-switched_printed : item_text (hall_light ∷ []) (Item.Switched ((0, true, false) ∷ [])) ≡ codes "{\"switched\":[{\"automation\":\"hall_light\",\"on\":true,\"stop\":false}]}"
+switched_printed : item_text (codes "hall_light" ∷ []) (Item.Switched ((0, true, false) ∷ [])) ≡ codes "{\"switched\":[{\"automation\":\"hall_light\",\"on\":true,\"stop\":false}]}"
 switched_printed = refl
 
-triggered_printed : item_text (hall_light ∷ []) (Item.Triggered (0 ∷ []) true) ≡ codes "{\"triggered\":{\"automations\":[\"hall_light\"],\"skip_condition\":true}}"
+triggered_printed : item_text (codes "hall_light" ∷ []) (Item.Triggered (0 ∷ []) true) ≡ codes "{\"triggered\":{\"automations\":[\"hall_light\"],\"skip_condition\":true}}"
 triggered_printed = refl
 
 -- a script by its own name, without that of its runs' domain
-abbrev greet : Automation
-greet = as_unit (record { name = codes "greet"; actions = []; mode = Mode.Single; max = 10 })
-
-started_printed : item_text (hall_light ∷ greet ∷ []) (Item.Started (1 ∷ []) [] true) ≡ codes "{\"started\":{\"scripts\":[\"greet\"],\"data\":{},\"waits\":true}}"
+started_printed : item_text (codes "hall_light" ∷ codes "script.greet" ∷ []) (Item.Started (1 ∷ []) [] true) ≡ codes "{\"started\":{\"scripts\":[\"greet\"],\"data\":{},\"waits\":true}}"
 started_printed = refl
 
-halted_printed : item_text (hall_light ∷ greet ∷ []) (Item.Halted (1 ∷ [])) ≡ codes "{\"halted\":[\"greet\"]}"
+halted_printed : item_text (codes "hall_light" ∷ codes "script.greet" ∷ []) (Item.Halted (1 ∷ [])) ≡ codes "{\"halted\":[\"greet\"]}"
 halted_printed = refl
 
 not_named : put_as journal (Cmd.Trigger (codes "none") true) ≡ Cmd.Refused 9

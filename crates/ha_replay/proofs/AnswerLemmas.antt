@@ -11,7 +11,7 @@ use Rattle.ha_sight.specs.declared.item.Item.{Item}
 use Rattle.ha_journal.specs.declared.entry.Entry.{Entry}
 use Rattle.ha_journal.specs.declared.entry.Entry.TheVariants.{Line, Step}
 use Rattle.ha_config.specs.Words.{Text, same}
-use Rattle.ha_journal.specs.Journal.{Journal, units, more, HasEntry}
+use Rattle.ha_journal.specs.Journal.{Journal, names, more, HasEntry}
 use Rattle.ha_journal.specs.Commands.{IsFair, put_as}
 use Rattle.ha_journal.specs.Entries.{is_restart, restarts}
 use Rattle.ha_sight.specs.Scripts.{Branch}
@@ -109,9 +109,9 @@ last-is j x = (let e : length (more j x) - 1 ≡ length j = omega (arith, length
 pub step-dated : (k j : Journal) (worker serial : ℕ) (branch : Branch) (item : Item) → k ≡ more j (Step worker serial branch item) → IfSome (slice_get k (length k - 1)) AreDated
 step-dated k j worker serial branch item is = subst (λ l. IfSome (slice_get l (length l - 1)) AreDated) (sym is) (subst (λ o. IfSome o AreDated) (sym (last-is j (Step worker serial branch item))) tt)
 
-pub units-more : (j : Journal) (x : Entry) → HasEntry j → units (more j x) ≡ units j
-units-more [] x h = absurd h
-units-more (e ∷ es) x h = refl
+pub names-more : (j : Journal) (x : Entry) → HasEntry j → names (more j x) ≡ names j
+names-more [] x h = absurd h
+names-more (e ∷ es) x h = refl
 
 -- ---- no line that may stand next
 
@@ -210,7 +210,7 @@ module _ (r : Reached) (line : Text) (worker : ℕ) (stands : Stands r) (begins 
   no-worker refused = nothing-next r line stands no-lines (λ k serial branch item rs' next f. refused (subst (IsAllowed r) (whose k f.known f.line_is) f.allowed))
 
   pub other-step : (serial : ℕ) (branch : Branch) (item : Item) (rs' : Records) (closed : Bool) → Stands (reached (more r.journal (Step worker serial branch item)) rs' closed false)
-      → (as_line line ≡ trace_line (units r.journal) (Step worker serial branch item) → ⊥) → IsNoNext r.journal line
+      → (as_line line ≡ trace_line (names r.journal) (Step worker serial branch item) → ⊥) → IsNoNext r.journal line
   other-step serial branch item rs' closed stood other = nothing-next r line stands no-lines steps
     where
       steps : (k s : ℕ) (b : Branch) (i : Item) (rs : Records) → IsNext r.journal line (Step k s b i) rs → StepFacts r line k s b → ⊥
@@ -218,7 +218,7 @@ module _ (r : Reached) (line : Text) (worker : ℕ) (stands : Stands r) (begins 
           let put_is : put r.journal (Step k s b i) ≡ more r.journal (Step k s b i) = put-step r.journal k s b i in
           let mine : Lawful (more r.journal (Step worker s b i)) rs = subst (λ q. Lawful (more r.journal (Step q s b i)) rs) (whose k f.known f.line_is) (subst (λ l. Lawful l rs) put_is next.lawful) in
           let same = one-step r.journal rs' rs worker serial s branch b item i stands.lawful.right.journal stood.lawful mine in
-          other (next.line_is ∙ (λ h. trace_line (units r.journal) (Step (whose k f.known f.line_is h) s b i)) ∙ (λ h. trace_line (units r.journal) (sym same h)))
+          other (next.line_is ∙ (λ h. trace_line (names r.journal) (Step (whose k f.known f.line_is h) s b i)) ∙ (λ h. trace_line (names r.journal) (sym same h)))
 
 -- what the core made of the worker's turn
 pub record Made (r : Reached) (worker : ℕ) (k : Journal) (rs' : Records) (closed : Bool) : Type 0 where
@@ -241,12 +241,12 @@ made-step r worker k rs' closed stands allowed put right e = record {
 
 pub step-taken : (j : Journal) (rs : Records) (c : Bool) (line : Text) (worker : ℕ) (k : Journal) (rs' : Records) (closed : Bool) (m : Made (reached j rs c false) worker k rs' closed)
     → Stands (reached j rs c false) → HasRoom j false
-    → as_line line ≡ trace_line (units (more j (Step worker m.serial m.branch m.item))) (Step worker m.serial m.branch m.item) → Takes line (reached j rs c false) (reached k rs' closed false)
+    → as_line line ≡ trace_line (names (more j (Step worker m.serial m.branch m.item))) (Step worker m.serial m.branch m.item) → Takes line (reached j rs c false) (reached k rs' closed false)
 step-taken j rs c line worker k rs' closed m stands room is = record {
   entry = Step worker m.serial m.branch m.item;
   room = inr room;
   journal = m.journal;
-  line_is = is ∙ (λ i. trace_line (units-more j (Step worker m.serial m.branch m.item) (entries-have j stands.lawful.right.journal.entries) i) (Step worker m.serial m.branch m.item));
+  line_is = is ∙ (λ i. trace_line (names-more j (Step worker m.serial m.branch m.item) (entries-have j stands.lawful.right.journal.entries) i) (Step worker m.serial m.branch m.item));
   stands = subst (λ (l : Journal). Stands (reached l rs' closed false)) (sym m.journal) m.stands;
 }
 
@@ -287,7 +287,7 @@ again-dated j rs c a stands due =
     subst (λ l. IfSome (slice_get l (length l - 1)) AreDated) (sym last.is) (subst (λ o. IfSome o AreDated) (sym (last-is last.front (again_of last.front))) tt)
 
 module _ (j : Journal) (rs : Records) (c : Bool) (line : Text) (same : Bool) (stands : Stands (reached j rs c true))
-    (shown : (d : Journal) (x : Entry) → j ≡ more d x → (IsTrue same → as_line line ≡ trace_line (units (more d x)) x) × (as_line line ≡ trace_line (units (more d x)) x → IsTrue same)) where
+    (shown : (d : Journal) (x : Entry) → j ≡ more d x → (IsTrue same → as_line line ≡ trace_line (names (more d x)) x) × (as_line line ≡ trace_line (names (more d x)) x → IsTrue same)) where
   abbrev last : AgainLast j
   last = again-last j stands.lawful.right.journal.entries (stands.again refl)
 
@@ -305,7 +305,7 @@ module _ (j : Journal) (rs : Records) (c : Bool) (line : Text) (same : Bool) (st
     entry = due;
     room = inl refl;
     journal = is-more;
-    line_is = (shown last.front due last.is).0 holds ∙ (λ i. trace_line (units (sym last.is i)) due);
+    line_is = (shown last.front due last.is).0 holds ∙ (λ i. trace_line (names (sym last.is i)) due);
     stands = record { lawful = stands.lawful; closing = stands.closing; again = λ bad. absurd (true-false (sym bad)) };
   }
 
@@ -313,8 +313,8 @@ module _ (j : Journal) (rs : Records) (c : Bool) (line : Text) (same : Bool) (st
   only-due : (y : Entry) (rs' : Records) → Lawful (put last.front y) rs' → y ≡ due
   only-due y rs' lawful = again-behind last.front y last.ends (behind-of last.front y last.has lawful.right.journal.entries)
 
-  not-shown : (IsTrue same → ⊥) → (y : Entry) → y ≡ due → as_line line ≡ trace_line (units last.front) y → ⊥
-  not-shown fails y is e = fails ((shown last.front due last.is).1 (e ∙ (λ i. trace_line (sym (units-more last.front due last.has) i) (is i))))
+  not-shown : (IsTrue same → ⊥) → (y : Entry) → y ≡ due → as_line line ≡ trace_line (names last.front) y → ⊥
+  not-shown fails y is e = fails ((shown last.front due last.is).1 (e ∙ (λ i. trace_line (sym (names-more last.front due last.has) i) (is i))))
 
   pub again-refused : (IsTrue same → ⊥) → (after : Reached) (fault : TraceFault) → IsUnfit j fault → Answers line (reached j rs c true) after (Err fault)
   again-refused fails after fault unfit = unfit-answer (reached j rs c true) after line fault unfit no_end no_next no_again
@@ -323,7 +323,7 @@ module _ (j : Journal) (rs : Records) (c : Bool) (line : Text) (same : Bool) (st
       no_end end = true-false (sym last.ends ∙ (λ i. ends_segment (sym told-is i)) ∙ end.opened)
 
       at_front : (d : Journal) → d ≡ last.front → IsNoNext d line
-      at_front d e y rs' next = not-shown fails y (only-due y rs' (subst (λ l. Lawful (put l y) rs') e next.lawful)) (next.line_is ∙ (λ i. trace_line (units (e i)) y))
+      at_front d e y rs' next = not-shown fails y (only-due y rs' (subst (λ l. Lawful (put l y) rs') e next.lawful)) (next.line_is ∙ (λ i. trace_line (names (e i)) y))
 
       no_next : IsNoNext (told (reached j rs c true)) line
       no_next = at_front (told (reached j rs c true)) told-is
@@ -332,4 +332,4 @@ module _ (j : Journal) (rs : Records) (c : Bool) (line : Text) (same : Bool) (st
       no_again d =
           let is : more (told (reached j rs c true)) d.entry ≡ more (told (reached j rs c true)) due = sym d.is ∙ is-more in
           not-shown fails d.entry (last-same (told (reached j rs c true)) d.entry due is)
-          (d.line_is ∙ (λ i. trace_line (units (last.is i)) d.entry) ∙ (λ i. trace_line (units-more last.front due last.has i) d.entry))
+          (d.line_is ∙ (λ i. trace_line (names (last.is i)) d.entry) ∙ (λ i. trace_line (names-more last.front due last.has i) d.entry))

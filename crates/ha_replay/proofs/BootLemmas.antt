@@ -21,7 +21,6 @@ use Rattle.ha_clock.specs.Local.{last_moment}
 use Rattle.ha_clock.specs.MomentText.{moment_of}
 use Rattle.ha_clock.specs.Print.{moment_text}
 use Rattle.ha_clock.proofs.RoundTrip.{moment_read}
-use Rattle.ha_config.specs.declared.config.Automation.{Automation}
 use Rattle.ha_config.specs.declared.config.Config.{Config}
 use Rattle.ha_journal.specs.declared.entry.Entry.{Entry}
 use Rattle.ha_config.specs.Words.{Pairs, Text}
@@ -29,7 +28,6 @@ use Rattle.ha_config.specs.ValueFacts.{all_distinct, has_utf8_texts, is_sound_va
 use Rattle.ha_config.specs.ValueText.{deepest, depth_of, flag_text, map_text, print_value, quoted}
 use Rattle.ha_config.specs.CheckText.{as_line}
 use Rattle.ha_config.specs.StoreText.{stored_text, moments_text}
-use Rattle.ha_config.specs.Units.{units_of}
 use Rattle.ha_config.specs.Sound.{are_in_name_order}
 use Rattle.ha_journal.specs.Entries.{first_carry}
 use Rattle.ha_journal.specs.EntryText.{boot_pairs, trace_line}
@@ -103,7 +101,7 @@ inner-printed text stored start zone (m ∷ ms) =
     ∷ (codes "zone", text-printed zone i) ∷ []))
 
 -- the line of a Boot is what is printed of its value
-pub boot-printed : (all : List Automation) (config : Config) (b : BootLine)
+pub boot-printed : (all : List Text) (config : Config) (b : BootLine)
     → trace_line all (Entry.Boot b.text config b.stored b.start b.zone (first_carry b.last)) ≡ as_line (print_value (value_of b))
 boot-printed all config b =
     sym (ap as_line (print_value-roll (Value-F.Pairs ((codes "boot", inner_value b) ∷ [])) ∙ (λ i. map_text ((codes "boot", inner-printed b.text b.stored b.start b.zone b.last i) ∷ []))))
@@ -314,7 +312,7 @@ no_automation = record { automations = []; scripts = [] }
 
 -- the line of a first entry is what is printed of its value
 line-printed : (line : Text) (b : BootLine) → IsBootLine line b → line ≡ print_value (value_of b)
-line-printed line b is = same-line line (print_value (value_of b)) (is.line_is no_automation ∙ boot-printed (units_of no_automation) no_automation b)
+line-printed line b is = same-line line (print_value (value_of b)) (is.line_is no_automation ∙ boot-printed [] no_automation b)
 
 -- LAW: the line of a first entry is a value in the notation
 pub boot-spelled : (line : Text) (b : BootLine) → IsBootLine line b → HasUtf8 b → IsDocument line (value_of b)

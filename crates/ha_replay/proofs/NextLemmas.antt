@@ -12,7 +12,7 @@ use Rattle.ha_journal.specs.declared.entry.Entry.TheVariants.{Boot, Line, Step, 
 use Rattle.ha_config.specs.Words.{Text, EachAfter, EachWith, last_below}
 use Rattle.ha_config.specs.Fair.{IsFairAmong}
 use Rattle.ha_config.specs.Names.{automation_named}
-use Rattle.ha_journal.specs.Journal.{Journal, automations, units, more}
+use Rattle.ha_journal.specs.Journal.{Journal, automations, names, more}
 use Rattle.ha_journal.specs.Entries.{Reopening, is_restart, restarts}
 use Rattle.ha_journal.specs.Commands.{IsFair}
 use Rattle.ha_config.specs.CommandText.{cmd_text}
@@ -166,7 +166,7 @@ line-facts r line k n cmd rs' stands next =
       next = turn.2;
       unshut = turn.3;
       fair = fair-whole r.journal cmd (is-cut r.journal stands.lawful.right.journal.entries) (put-first (IsRightEntry rs') r.journal x next.lawful.right.entries);
-      line_is = line-text (units r.journal) line k n cmd next.line_is;
+      line_is = line-text (names r.journal) line k n cmd next.line_is;
     }
   where
     by : (r.closing ≡ false) ⊎ (is_by_worker_0 (Line k n cmd) ≡ true) → r.closing ≡ false
@@ -282,7 +282,7 @@ step-facts r line k serial branch item rs' stands next =
       allowed = record { busy = busy-whole r.journal r.records (subst (λ l. 0 < length l) (sym readies) turn.0); due = due };
       known = known-by due;
       picked = (λ i. pick k (readies i)) ∙ turn.1;
-      line_is = step-is-of (units r.journal) line k serial branch item next.line_is;
+      line_is = step-is-of (names r.journal) line k serial branch item next.line_is;
     }
   where
     rested-back : is_rested rs' k r.journal ≡ false → is_rested r.records k r.journal ≡ false

@@ -15,6 +15,7 @@ use Rattle.ha_journal.specs.declared.entry.Entry.{Entry}
 use Rattle.ha_config.specs.Sound.{are_in_name_order}
 use Rattle.ha_config.specs.Words.{Pairs, Text, first_pair}
 use Rattle.ha_config.specs.CheckText.{as_line}
+use Rattle.ha_config.specs.Names.{names_of}
 use Rattle.ha_config.specs.Units.{units_of}
 use Rattle.ha_journal.specs.Entries.{first_carry}
 use Rattle.ha_journal.specs.EntryText.{trace_line}
@@ -42,7 +43,7 @@ are_in_time last = list_all (λ p. nat_le p.1 last_moment) last
 -- the line, with its LF, is that of a Boot with these parts, whatever its configuration
 abbrev pub IsLineOf : Text → Text → Option Switches → ℕ → Text → Moments → Type 0
 IsLineOf line text stored start zone last =
-    (config : Config) → as_line line ≡ trace_line (units_of config) (Entry.Boot text config stored start zone (first_carry last))
+    (config : Config) → as_line line ≡ trace_line (names_of (units_of config)) (Entry.Boot text config stored start zone (first_carry last))
 
 -- the line is the first of a trace with these parts: the moments and the zone are read, and the names of switches and of moments stand in
 -- order, each once

@@ -3,7 +3,7 @@ use Rattle.std.specs.Prelude.{◌-◌, ◌≡◌, ◌⊎◌, Bool, true, false, 
 use Rattle.ha_journal.specs.declared.entry.Entry.{Entry}
 use Rattle.ha_config.specs.Words.{Text}
 use Rattle.ha_journal.specs.Entries.{is_again, is_restart}
-use Rattle.ha_journal.specs.Journal.{Journal, units, more}
+use Rattle.ha_journal.specs.Journal.{Journal, names, more}
 use Rattle.ha_model.specs.Records.{Records, last_is}
 use Rattle.ha_config.specs.CheckText.{as_line}
 use Rattle.ha_journal.specs.EntryText.{end_line, trace_line}
@@ -14,7 +14,7 @@ use Rattle.ha_replay.specs.declared.fault.TraceFault.{TraceFault}
 -- the entry can be its Again alone
 pub record IsNext (j : Journal) (line : Text) (x : Entry) (rs : Records) : Type 0 where
   pub lawful : Lawful (opened (more j x)) rs
-  pub line_is : as_line line ≡ trace_line (units j) x
+  pub line_is : as_line line ≡ trace_line (names j) x
 
 abbrev pub IsNoNext : Journal → Text → Type 0
 IsNoNext j line = (x : Entry) (rs : Records) → IsNext j line x rs → ⊥
@@ -57,7 +57,7 @@ pub record Takes (line : Text) (before after : Reached) : Type 0 where
   pub entry : Entry
   pub room : (before.again ≡ true) ⊎ HasRoom before.journal (is_restart entry)
   pub journal : told after ≡ more (told before) entry
-  pub line_is : as_line line ≡ trace_line (units before.journal) entry
+  pub line_is : as_line line ≡ trace_line (names before.journal) entry
   pub stands : Stands after
 
 -- the line is that of the Again that is due
@@ -65,7 +65,7 @@ pub record IsAgainDue (r : Reached) (line : Text) : Type 0 where
   pub due : r.again ≡ true
   pub entry : Entry
   pub is : r.journal ≡ more (told r) entry
-  pub line_is : as_line line ≡ trace_line (units r.journal) entry
+  pub line_is : as_line line ≡ trace_line (names r.journal) entry
 
 -- the line is that of the next lawful Restart
 pub record IsRestartNext (r : Reached) (line : Text) : Type 0 where

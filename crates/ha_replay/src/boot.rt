@@ -119,15 +119,12 @@ fn is_line_of(alloc: Global, parts: &Parts, line: &[u8]) -> Result<bool, AllocEr
     ensures { IfOk result (λ same. IsTrue same ↔ (as_line line.now ≡ trace_line_lem [] (boot_of parts.now))) }
 {
     let entries = boot_entries(alloc, parts)?;
-    let config = Config {
-        automations: Many::make(alloc),
-        scripts: Many::make(alloc),
-    };
+    let units = Many::make(alloc);
     let Some(entry) = entries.first() else {
         return Ok(false);
     };
     let mut shown = empty_line(alloc)?;
-    trace_line(alloc, &mut shown, entry, &config)?;
+    trace_line(alloc, &mut shown, entry, &units)?;
     Ok(is_same(shown.bytes(), line))
 }
 

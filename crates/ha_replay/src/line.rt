@@ -5,7 +5,7 @@
 ghost use Rattle.std.specs.Prelude.{◌≡◌, ◌<◌, ◌^◌, ◌-◌, ◌++◌, ◌||◌, ◌↔◌, ℕ, codes, false, true, length, slice_get, IfOk, IfSome, OnErr, OnOk, IsTrue};
 ghost use Rattle.ha_config.specs.Words.{Text};
 ghost use Rattle.ha_journal.specs.Entries.{restarts as restarts_lem};
-ghost use Rattle.ha_journal.specs.Journal.{Journal, units, more};
+ghost use Rattle.ha_journal.specs.Journal.{Journal, names, more};
 ghost use Rattle.ha_config.specs.CheckText.{as_line};
 ghost use Rattle.ha_journal.specs.EntryText.{trace_line as trace_line_lem};
 ghost use Rattle.ha_texts.specs.Lines.{AreDated};
@@ -153,7 +153,7 @@ fn closes<C: Core>(core: &C, worker: u32, closing: bool) -> bool
     closing || core.rested(worker)
 }
 
-/// Makes the line of an entry, by the units of the core's boot.
+/// Makes the line of an entry, by the names of the core's units.
 fn shown_line<C: Core>(
     alloc: Global,
     shown: &mut Word,
@@ -161,9 +161,9 @@ fn shown_line<C: Core>(
     entry: &Entry,
 ) -> Result<(), AllocError>
     requires { AreDated entry.now }
-    ensures { OnOk result (shown.new ≡ trace_line_lem (units (C.entries core.now)) entry.now) }
+    ensures { OnOk result (shown.new ≡ trace_line_lem (names (C.entries core.now)) entry.now) }
 {
-    trace_line(alloc, shown, entry, core.config())
+    trace_line(alloc, shown, entry, core.units())
 }
 
 /// Whether the line is that of the last entry, which is made in `shown`.
@@ -175,7 +175,7 @@ fn is_last<C: Core>(
 ) -> Result<bool, AllocError>
     requires dated { IfSome (slice_get (C.entries core.now) (length (C.entries core.now) - 1)) AreDated }
     ensures { (j : Journal) (x : Entry) → C.entries core.now ≡ more j x
-        → IfOk result (λ same. IsTrue same ↔ (as_line line.now ≡ trace_line_lem (units (more j x)) x)) }
+        → IfOk result (λ same. IsTrue same ↔ (as_line line.now ≡ trace_line_lem (names (more j x)) x)) }
 {
     let Some(entry) = core.journal().last() else {
         return Ok(false);

@@ -5,7 +5,7 @@ use Rattle.std.proofs.lemmas.Option.{IfSome_then, none-some, same_Some}
 use Rattle.std.specs.Prelude.{is_some}
 use Rattle.std.specs.Option.{option_map}
 use Rattle.ha_io.specs.Told.{Takes}
-use Rattle.ha_journal.specs.Journal.{Journal, units}
+use Rattle.ha_journal.specs.Journal.{Journal, names}
 use Rattle.ha_journal.specs.EntryText.{end_line, texts_after, trace_line, trace_text}
 use Rattle.ha_config.specs.Words.{Text}
 use Rattle.bus_turn.specs.declared.fault.BusFault.{BusFault}
@@ -23,7 +23,7 @@ use Rattle.ha_run.specs.Core.{IsEndCut, IsEndWritten, SameOutside, SameSink, Sam
 -- ---- the end of the trace
 
 trace_whole : (j : Journal) → trace_text j true ≡ trace_text j false ++ end_line (length j)
-trace_whole j = sym (ap (λ (z : Text). z ++ end_line (length j)) (append-nil (texts_after (λ before x. trace_line (units j) x) [] j)))
+trace_whole j = sym (ap (λ (z : Text). z ++ end_line (length j)) (append-nil (texts_after (λ before x. trace_line (names j) x) [] j)))
 
 between_whole : (done whole more t : Text) → whole ≡ done ++ more → t ≡ whole → IsBetween done t whole
 between_whole done whole more t e f = record { more_done = more; missing = []; begins = f ∙ e; ends = sym f ∙ sym (append-nil t) }

@@ -1,12 +1,11 @@
--- Items as they are printed in a trace, with all keys in their order.
+-- Items as they are printed in a trace, with all keys in their order, where units have these names by their numbers.
 use Rattle.std.specs.Prelude.{ℕ, Bool, true, List, [], ◌∷◌, ◌++◌, map, decimal, codes, drop, nat_eq, if◌then◌else◌}
 use Rattle.std.specs.List.{starts_with}
 use Rattle.ha_value.specs.declared.value.EntityId.{EntityId}
-use Rattle.ha_config.specs.declared.config.Automation.{Automation}
 use Rattle.ha_sight.specs.declared.item.Item.{Item}
 use Rattle.ha_config.specs.Words.{Text, Pairs}
 use Rattle.ha_config.specs.ValueText.{quoted, list_text, map_text, flag_text, print_pairs}
-use Rattle.ha_config.specs.Names.{name_of}
+use Rattle.ha_config.specs.Names.{name_in}
 use Rattle.ha_config.specs.CommandText.{id_text, one_key}
 
 abbrev pub failure_code : ℕ → Text
@@ -18,28 +17,28 @@ call_pairs service target fields =
     (codes "service", quoted service) ∷ (codes "target", list_text (map id_text target)) ∷ (codes "data", print_pairs fields) ∷ []
 
 -- one automation that was switched, by its name
-abbrev pub switched_text : List Automation → ℕ × Bool × Bool → Text
-switched_text all s =
-    map_text ((codes "automation", quoted (name_of all s.0)) ∷ (codes "on", flag_text s.1) ∷ (codes "stop", flag_text s.2) ∷ [])
+abbrev pub switched_text : List Text → ℕ × Bool × Bool → Text
+switched_text names s =
+    map_text ((codes "automation", quoted (name_in names s.0)) ∷ (codes "on", flag_text s.1) ∷ (codes "stop", flag_text s.2) ∷ [])
 
 -- a script by its name, which is that of its runs without `script.`
 abbrev pub script_name : Text → Text
 script_name run = if starts_with nat_eq run (codes "script.") then drop 7 run else run
 
-abbrev pub script_text : List Automation → ℕ → Text
-script_text all n = quoted (script_name (name_of all n))
+abbrev pub script_text : List Text → ℕ → Text
+script_text names n = quoted (script_name (name_in names n))
 
-abbrev pub item_text : List Automation → Item → Text
-item_text all Item.Nothing = one_key (codes "nothing") (flag_text true)
-item_text all (Item.Call service target fields) = one_key (codes "call") (map_text (call_pairs service target fields))
-item_text all (Item.Fired kind pairs) =
+abbrev pub item_text : List Text → Item → Text
+item_text names Item.Nothing = one_key (codes "nothing") (flag_text true)
+item_text names (Item.Call service target fields) = one_key (codes "call") (map_text (call_pairs service target fields))
+item_text names (Item.Fired kind pairs) =
     one_key (codes "fired") (map_text ((codes "event", quoted kind) ∷ (codes "data", print_pairs pairs) ∷ []))
-item_text all (Item.Switched targets) = one_key (codes "switched") (list_text (map (switched_text all) targets))
-item_text all (Item.Triggered automations skip) =
-    one_key (codes "triggered") (map_text ((codes "automations", list_text (map (λ a. quoted (name_of all a)) automations))
+item_text names (Item.Switched targets) = one_key (codes "switched") (list_text (map (switched_text names) targets))
+item_text names (Item.Triggered automations skip) =
+    one_key (codes "triggered") (map_text ((codes "automations", list_text (map (λ a. quoted (name_in names a)) automations))
     ∷ (codes "skip_condition", flag_text skip) ∷ []))
-item_text all (Item.Failed code) = one_key (codes "failed") (quoted (failure_code code))
-item_text all (Item.Started scripts fields waits) =
-    one_key (codes "started") (map_text ((codes "scripts", list_text (map (script_text all) scripts))
+item_text names (Item.Failed code) = one_key (codes "failed") (quoted (failure_code code))
+item_text names (Item.Started scripts fields waits) =
+    one_key (codes "started") (map_text ((codes "scripts", list_text (map (script_text names) scripts))
     ∷ (codes "data", print_pairs fields) ∷ (codes "waits", flag_text waits) ∷ []))
-item_text all (Item.Halted scripts) = one_key (codes "halted") (list_text (map (script_text all) scripts))
+item_text names (Item.Halted scripts) = one_key (codes "halted") (list_text (map (script_text names) scripts))

@@ -1,28 +1,26 @@
 //! Items in the trace.
 ghost use Rattle.std.specs.Prelude.{◌≡◌, ◌++◌, map, OnOk};
 ghost use Rattle.ha_sight.specs.ItemText.{item_text, script_text, switched_text};
-ghost use Rattle.ha_config.specs.Names.{name_of};
-ghost use Rattle.ha_config.specs.Units.{units_of};
+ghost use Rattle.ha_config.specs.Names.{name_in};
 ghost use Rattle.ha_config.specs.ValueText.{list_text, quoted};
 ghost use Rattle.ha_sight.specs.declared.item.Item.TheVariants.{Call, Failed, Fired, Halted, Started, Switched, Triggered};
 
 use crate::call::push_call;
 use crate::names::{push_failure_code, push_flag, push_name, push_script};
 use flow_line::{push_comma, push_pairs, push_quoted};
-use ha_config::Config;
 use ha_sight::Item;
-use ha_value::{EntityId, Value, Word};
+use ha_value::{EntityId, Many, Value, Word};
 use std::alloc::{AllocError, Global};
 
 fn push_called(
     alloc: Global,
     text: &mut Word,
-    config: &Config,
+    units: &Many<Word>,
     service: &Word,
     target: &[EntityId],
     fields: &[(Word, Value)],
 ) -> Result<(), AllocError>
-    ensures { OnOk result (text.new ≡ text.old ++ item_text (units_of config.now) (Call service.now target.now fields.now)) }
+    ensures { OnOk result (text.new ≡ text.old ++ item_text units.now (Call service.now target.now fields.now)) }
 {
     text.push_str("{\"call\":")?;
     text.push_byte(b'{')?;
@@ -35,11 +33,11 @@ fn push_called(
 fn push_fired(
     alloc: Global,
     text: &mut Word,
-    config: &Config,
+    units: &Many<Word>,
     kind: &Word,
     pairs: &[(Word, Value)],
 ) -> Result<(), AllocError>
-    ensures { OnOk result (text.new ≡ text.old ++ item_text (units_of config.now) (Fired kind.now pairs.now)) }
+    ensures { OnOk result (text.new ≡ text.old ++ item_text units.now (Fired kind.now pairs.now)) }
 {
     text.push_str("{\"fired\":")?;
     text.push_str("{\"event\":")?;
@@ -52,11 +50,15 @@ fn push_fired(
 }
 
 /// Appends an automation that was switched.
-fn push_turn(text: &mut Word, config: &Config, target: (u32, bool, bool)) -> Result<(), AllocError>
-    ensures { OnOk result (text.new ≡ text.old ++ switched_text (units_of config.now) target) }
+fn push_turn(
+    text: &mut Word,
+    units: &Many<Word>,
+    target: (u32, bool, bool),
+) -> Result<(), AllocError>
+    ensures { OnOk result (text.new ≡ text.old ++ switched_text units.now target) }
 {
     text.push_str("{\"automation\":")?;
-    push_name(text, config, target.0)?;
+    push_name(text, units, target.0)?;
     text.push_str(",\"on\":")?;
     push_flag(text, target.1)?;
     text.push_str(",\"stop\":")?;
@@ -67,56 +69,56 @@ fn push_turn(text: &mut Word, config: &Config, target: (u32, bool, bool)) -> Res
 
 fn push_turns(
     text: &mut Word,
-    config: &Config,
+    units: &Many<Word>,
     targets: &[(u32, bool, bool)],
 ) -> Result<(), AllocError>
-    ensures { OnOk result (text.new ≡ text.old ++ list_text (map (switched_text (units_of config.now)) targets.now)) }
+    ensures { OnOk result (text.new ≡ text.old ++ list_text (map (switched_text units.now) targets.now)) }
 {
     text.push_byte(b'[')?;
     for i in 0..targets.len() {
         push_comma(text, i)?;
         let target = &targets[i];
-        push_turn(text, config, *target)?;
+        push_turn(text, units, *target)?;
     }
     text.push_byte(b']')
 }
 
 fn push_switched(
     text: &mut Word,
-    config: &Config,
+    units: &Many<Word>,
     targets: &[(u32, bool, bool)],
 ) -> Result<(), AllocError>
-    ensures { OnOk result (text.new ≡ text.old ++ item_text (units_of config.now) (Switched targets.now)) }
+    ensures { OnOk result (text.new ≡ text.old ++ item_text units.now (Switched targets.now)) }
 {
     text.push_str("{\"switched\":")?;
-    push_turns(text, config, targets)?;
+    push_turns(text, units, targets)?;
     text.push_byte(b'}')?;
     Ok(())
 }
 
-fn push_asked(text: &mut Word, config: &Config, asked: &[u32]) -> Result<(), AllocError>
-    ensures { OnOk result (text.new ≡ text.old ++ list_text (map (λ a. quoted (name_of (units_of config.now) a)) asked.now)) }
+fn push_asked(text: &mut Word, units: &Many<Word>, asked: &[u32]) -> Result<(), AllocError>
+    ensures { OnOk result (text.new ≡ text.old ++ list_text (map (λ a. quoted (name_in units.now a)) asked.now)) }
 {
     text.push_byte(b'[')?;
     for i in 0..asked.len() {
         push_comma(text, i)?;
         let at = &asked[i];
-        push_name(text, config, *at)?;
+        push_name(text, units, *at)?;
     }
     text.push_byte(b']')
 }
 
 fn push_triggered(
     text: &mut Word,
-    config: &Config,
+    units: &Many<Word>,
     asked: &[u32],
     skip: bool,
 ) -> Result<(), AllocError>
-    ensures { OnOk result (text.new ≡ text.old ++ item_text (units_of config.now) (Triggered asked.now skip)) }
+    ensures { OnOk result (text.new ≡ text.old ++ item_text units.now (Triggered asked.now skip)) }
 {
     text.push_str("{\"triggered\":")?;
     text.push_str("{\"automations\":")?;
-    push_asked(text, config, asked)?;
+    push_asked(text, units, asked)?;
     text.push_str(",\"skip_condition\":")?;
     push_flag(text, skip)?;
     text.push_byte(b'}')?;
@@ -124,8 +126,13 @@ fn push_triggered(
     Ok(())
 }
 
-fn push_failed(alloc: Global, text: &mut Word, config: &Config, code: u8) -> Result<(), AllocError>
-    ensures { OnOk result (text.new ≡ text.old ++ item_text (units_of config.now) (Failed code)) }
+fn push_failed(
+    alloc: Global,
+    text: &mut Word,
+    units: &Many<Word>,
+    code: u8,
+) -> Result<(), AllocError>
+    ensures { OnOk result (text.new ≡ text.old ++ item_text units.now (Failed code)) }
 {
     text.push_str("{\"failed\":")?;
     push_failure_code(alloc, text, code)?;
@@ -133,14 +140,14 @@ fn push_failed(alloc: Global, text: &mut Word, config: &Config, code: u8) -> Res
     Ok(())
 }
 
-fn push_scripts(text: &mut Word, config: &Config, scripts: &[u32]) -> Result<(), AllocError>
-    ensures { OnOk result (text.new ≡ text.old ++ list_text (map (script_text (units_of config.now)) scripts.now)) }
+fn push_scripts(text: &mut Word, units: &Many<Word>, scripts: &[u32]) -> Result<(), AllocError>
+    ensures { OnOk result (text.new ≡ text.old ++ list_text (map (script_text units.now) scripts.now)) }
 {
     text.push_byte(b'[')?;
     for i in 0..scripts.len() {
         push_comma(text, i)?;
         let at = &scripts[i];
-        push_script(text, config, *at)?;
+        push_script(text, units, *at)?;
     }
     text.push_byte(b']')
 }
@@ -148,16 +155,16 @@ fn push_scripts(text: &mut Word, config: &Config, scripts: &[u32]) -> Result<(),
 fn push_started(
     alloc: Global,
     text: &mut Word,
-    config: &Config,
+    units: &Many<Word>,
     scripts: &[u32],
     fields: &[(Word, Value)],
     waits: bool,
 ) -> Result<(), AllocError>
-    ensures { OnOk result (text.new ≡ text.old ++ item_text (units_of config.now) (Started scripts.now fields.now waits)) }
+    ensures { OnOk result (text.new ≡ text.old ++ item_text units.now (Started scripts.now fields.now waits)) }
 {
     text.push_str("{\"started\":")?;
     text.push_str("{\"scripts\":")?;
-    push_scripts(text, config, scripts)?;
+    push_scripts(text, units, scripts)?;
     text.push_str(",\"data\":")?;
     push_pairs(alloc, text, fields)?;
     text.push_str(",\"waits\":")?;
@@ -167,11 +174,11 @@ fn push_started(
     Ok(())
 }
 
-fn push_halted(text: &mut Word, config: &Config, scripts: &[u32]) -> Result<(), AllocError>
-    ensures { OnOk result (text.new ≡ text.old ++ item_text (units_of config.now) (Halted scripts.now)) }
+fn push_halted(text: &mut Word, units: &Many<Word>, scripts: &[u32]) -> Result<(), AllocError>
+    ensures { OnOk result (text.new ≡ text.old ++ item_text units.now (Halted scripts.now)) }
 {
     text.push_str("{\"halted\":")?;
-    push_scripts(text, config, scripts)?;
+    push_scripts(text, units, scripts)?;
     text.push_byte(b'}')?;
     Ok(())
 }
@@ -180,10 +187,10 @@ fn push_halted(text: &mut Word, config: &Config, scripts: &[u32]) -> Result<(), 
 pub(crate) fn push_item(
     alloc: Global,
     text: &mut Word,
-    config: &Config,
+    units: &Many<Word>,
     item: &Item,
 ) -> Result<(), AllocError>
-    ensures { OnOk result (text.new ≡ text.old ++ item_text (units_of config.now) item.now) }
+    ensures { OnOk result (text.new ≡ text.old ++ item_text units.now item.now) }
 {
     match item {
         Item::Nothing => text.push_str("{\"nothing\":true}"),
@@ -194,17 +201,17 @@ pub(crate) fn push_item(
         } => push_called(
             alloc,
             text,
-            config,
+            units,
             service,
             target.as_slice(),
             fields.as_slice(),
         ),
-        Item::Fired { kind, pairs } => push_fired(alloc, text, config, kind, pairs.as_slice()),
-        Item::Switched(targets) => push_switched(text, config, targets.as_slice()),
+        Item::Fired { kind, pairs } => push_fired(alloc, text, units, kind, pairs.as_slice()),
+        Item::Switched(targets) => push_switched(text, units, targets.as_slice()),
         Item::Triggered { automations, skip } => {
-            push_triggered(text, config, automations.as_slice(), *skip)
+            push_triggered(text, units, automations.as_slice(), *skip)
         }
-        Item::Failed(code) => push_failed(alloc, text, config, *code),
+        Item::Failed(code) => push_failed(alloc, text, units, *code),
         Item::Started {
             scripts,
             fields,
@@ -212,11 +219,11 @@ pub(crate) fn push_item(
         } => push_started(
             alloc,
             text,
-            config,
+            units,
             scripts.as_slice(),
             fields.as_slice(),
             *waits,
         ),
-        Item::Halted(scripts) => push_halted(text, config, scripts.as_slice()),
+        Item::Halted(scripts) => push_halted(text, units, scripts.as_slice()),
     }
 }

@@ -1,21 +1,19 @@
 //! Further parts of a trace's lines: switches, moments, names, and lists and maps of them.
-ghost use Rattle.std.specs.Prelude.{◌≡◌, ◌≤◌, ◌++◌, codes, decimal, flat_map, map, nat_le, true, OnOk};
+ghost use Rattle.std.specs.Prelude.{◌≡◌, ◌≤◌, ◌++◌, decimal, flat_map, map, nat_le, true, OnOk};
 ghost use Rattle.std.specs.List.{list_all};
 ghost use Rattle.std.specs.Str.{IsAscii};
 ghost use Rattle.ha_clock.specs.Local.{last_moment};
 ghost use Rattle.ha_clock.specs.Print.{moment_text};
 ghost use Rattle.ha_config.specs.CommandText.{automation_text, line_code};
 ghost use Rattle.ha_sight.specs.ItemText.{failure_code, script_name, script_text};
-ghost use Rattle.ha_config.specs.Names.{name_of};
+ghost use Rattle.ha_config.specs.Names.{name_in};
 ghost use Rattle.ha_config.specs.StoreText.{switches_text, moments_text};
-ghost use Rattle.ha_config.specs.Units.{units_of};
 ghost use Rattle.ha_config.specs.ValueText.{escaped_byte, flag_text, list_text, quoted};
 
 use crate::parts::push_number;
 use flow_line::{push_chars, push_comma, push_quoted};
 use ha_clock::{Moment, print_moment};
-use ha_config::Config;
-use ha_value::Word;
+use ha_value::{Many, Word};
 use std::alloc::{AllocError, Global};
 
 /// Appends a switch.
@@ -39,27 +37,12 @@ pub(crate) fn push_automation(text: &mut Word, name: &Word) -> Result<(), AllocE
     Ok(())
 }
 
-/// Appends the name of a script's runs in double quotes.
-fn push_run(text: &mut Word, name: &Word) -> Result<(), AllocError>
-    ensures { OnOk result (text.new ≡ text.old ++ quoted (codes "script." ++ name.now)) }
+/// Appends the name of the unit of a number in double quotes.
+pub(crate) fn push_name(text: &mut Word, units: &Many<Word>, at: u32) -> Result<(), AllocError>
+    ensures { OnOk result (text.new ≡ text.old ++ quoted (name_in units.now at)) }
 {
-    text.push_str("\"script.")?;
-    push_chars(text, name.as_str())?;
-    text.push_byte(b'"')?;
-    Ok(())
-}
-
-/// Appends the name of the unit at a place in double quotes.
-pub(crate) fn push_name(text: &mut Word, config: &Config, at: u32) -> Result<(), AllocError>
-    ensures { OnOk result (text.new ≡ text.old ++ quoted (name_of (units_of config.now) at)) }
-{
-    let at = at as usize;
-    let automations = config.automations.as_slice();
-    if at < automations.len() {
-        return push_quoted(text, automations[at].name.as_str());
-    }
-    match config.scripts.get(at - automations.len()) {
-        Some(script) => push_run(text, &script.name),
+    match units.get(at as usize) {
+        Some(name) => push_quoted(text, name.as_str()),
         None => text.push_str("\"\""),
     }
 }
@@ -74,17 +57,12 @@ fn without_script(name: &str) -> &str
     }
 }
 
-/// Appends the name of the script at a place in double quotes.
-pub(crate) fn push_script(text: &mut Word, config: &Config, at: u32) -> Result<(), AllocError>
-    ensures { OnOk result (text.new ≡ text.old ++ script_text (units_of config.now) at) }
+/// Appends the name of the script of a number in double quotes.
+pub(crate) fn push_script(text: &mut Word, units: &Many<Word>, at: u32) -> Result<(), AllocError>
+    ensures { OnOk result (text.new ≡ text.old ++ script_text units.now at) }
 {
-    let at = at as usize;
-    let automations = config.automations.as_slice();
-    if at < automations.len() {
-        return push_quoted(text, without_script(automations[at].name.as_str()));
-    }
-    match config.scripts.get(at - automations.len()) {
-        Some(script) => push_quoted(text, script.name.as_str()),
+    match units.get(at as usize) {
+        Some(name) => push_quoted(text, without_script(name.as_str())),
         None => text.push_str("\"\""),
     }
 }

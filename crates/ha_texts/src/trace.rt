@@ -3,7 +3,6 @@ ghost use Rattle.std.specs.Prelude.{◌≡◌, ◌≤◌, ◌∷◌, [], ◌++�
 ghost use Rattle.std.specs.List.{list_all};
 ghost use Rattle.ha_clock.specs.Local.{last_moment};
 ghost use Rattle.ha_config.specs.CommandText.{cmd_text, one_key};
-ghost use Rattle.ha_config.specs.Units.{units_of};
 ghost use Rattle.ha_sight.specs.ItemText.{item_text};
 ghost use Rattle.ha_config.specs.StoreText.{stored_text};
 ghost use Rattle.ha_journal.specs.EntryText.{boot_pairs, trace_line as trace_line_lem};
@@ -16,7 +15,7 @@ use crate::names::{push_moment, push_moments, push_numbers, push_switches};
 use crate::parts::push_number;
 use flow_line::push_quoted;
 use ha_clock::Moment;
-use ha_config::{Cmd, Config};
+use ha_config::Cmd;
 use ha_journal::Entry;
 use ha_sight::Item;
 use ha_value::{Many, Word};
@@ -96,13 +95,13 @@ fn push_line(
 fn push_step(
     alloc: Global,
     text: &mut Word,
-    config: &Config,
+    units: &Many<Word>,
     worker: u32,
     serial: u64,
     branch: &[u32],
     item: &Item,
 ) -> Result<(), AllocError>
-    ensures { OnOk result (text.new ≡ text.old ++ map_text ((codes "worker", decimal worker) ∷ (codes "run", decimal serial) ∷ (codes "branch", list_text (map decimal branch.now)) ∷ (codes "item", item_text (units_of config.now) item.now) ∷ [])) }
+    ensures { OnOk result (text.new ≡ text.old ++ map_text ((codes "worker", decimal worker) ∷ (codes "run", decimal serial) ∷ (codes "branch", list_text (map decimal branch.now)) ∷ (codes "item", item_text units.now item.now) ∷ [])) }
 {
     text.push_str("{\"worker\":")?;
     push_number(text, u64::from(worker))?;
@@ -111,7 +110,7 @@ fn push_step(
     text.push_str(",\"branch\":")?;
     push_numbers(text, branch)?;
     text.push_str(",\"item\":")?;
-    push_item(alloc, text, config, item)?;
+    push_item(alloc, text, units, item)?;
     text.push_byte(b'}')?;
     Ok(())
 }
@@ -130,10 +129,10 @@ fn push_entry(
     alloc: Global,
     text: &mut Word,
     entry: &Entry,
-    config: &Config,
+    units: &Many<Word>,
 ) -> Result<(), AllocError>
     requires { AreDated entry.now }
-    ensures { OnOk result (text.new ≡ text.old ++ entry_text (units_of config.now) entry.now) }
+    ensures { OnOk result (text.new ≡ text.old ++ entry_text units.now entry.now) }
 {
     match entry {
         Entry::Boot {
@@ -165,7 +164,7 @@ fn push_entry(
         } => push_step(
             alloc,
             text,
-            config,
+            units,
             *worker,
             *serial,
             branch.as_slice(),
@@ -175,18 +174,18 @@ fn push_entry(
     }
 }
 
-/// Writes the line of an entry in the trace in the place of a text.
+/// Writes the line of an entry in the trace in the place of a text, where the units have these names by their numbers.
 pub fn trace_line(
     alloc: Global,
     line: &mut Word,
     entry: &Entry,
-    config: &Config,
+    units: &Many<Word>,
 ) -> Result<(), AllocError>
     requires { AreDated entry.now }
-    ensures { OnOk result (line.new ≡ trace_line_lem (units_of config.now) entry.now) }
+    ensures { OnOk result (line.new ≡ trace_line_lem units.now entry.now) }
 {
     line.clear();
-    push_entry(alloc, line, entry, config)?;
+    push_entry(alloc, line, entry, units)?;
     line.push_byte(b'\n')?;
     Ok(())
 }

@@ -4,7 +4,7 @@ ghost use Rattle.std.specs.List.{list_any};
 ghost use Rattle.ha_journal.specs.declared.entry.Entry.{Entry};
 ghost use Rattle.ha_sight.specs.declared.item.Item.{Item};
 ghost use Rattle.ha_model.specs.declared.record.Record.{Record};
-ghost use Rattle.ha_journal.specs.Journal.{automations, configured};
+ghost use Rattle.ha_journal.specs.Journal.{automations, configured, names};
 ghost use Rattle.ha_journal.specs.Commands.{put_as, IsFair};
 ghost use Rattle.ha_journal.specs.Entries.{restarts};
 ghost use Rattle.ha_model.specs.Lawful.{is_line_of, shuts, pick};
@@ -86,6 +86,10 @@ pub trait Core: Sized {
     fn config(&self) -> &Config
         ensures automations { result.now.automations ≡ automations (entries self.now) }
         ensures configured { result.now ≡ configured (entries self.now) };
+
+    /// The names that the runs of all units have, by the units' numbers.
+    fn units(&self) -> &Many<Word>
+        ensures { result.now ≡ names (entries self.now) };
 
     /// Whether the automation is on; none exactly where there is none.
     fn on(&self, automation: u32) -> Option<bool>

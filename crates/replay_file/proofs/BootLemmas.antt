@@ -14,6 +14,7 @@ use Rattle.ha_journal.specs.declared.entry.Entry.TheVariants.{Boot, Line, Step, 
 use Rattle.ha_config.specs.Names.{automation_named, of_automations}
 use Rattle.ha_config.specs.Sound.{AreSoundMoments, are_in_name_order}
 use Rattle.ha_config.specs.Words.{Text}
+use Rattle.ha_config.specs.Names.{names_of}
 use Rattle.ha_config.specs.Units.{units_of}
 use Rattle.ha_config.proofs.ListLemmas.{true-false}
 use Rattle.ha_config.proofs.OrderLemmas.{moments-all-named}
@@ -71,7 +72,7 @@ are_utf8 text stored start zone last t n z l = record { text = t; names = n; zon
 -- the zone is held by another name
 pub with_zone : (line : Text) (b : BootLine) (zone : Text) → zone ≡ b.zone → IsBootLine line b → IsBootLine line (boot_line b.text b.stored b.start zone b.last)
 with_zone line b zone e is = record {
-  line_is = λ config. is.line_is config ∙ (λ i. trace_line (units_of config) (Boot b.text config b.stored b.start (sym e i) (first_carry b.last)));
+  line_is = λ config. is.line_is config ∙ (λ i. trace_line (names_of (units_of config)) (Boot b.text config b.stored b.start (sym e i) (first_carry b.last)));
   start = is.start;
   zone = subst (λ z. IsSome (zone_of z)) (sym e) is.zone;
   ordered = is.ordered;

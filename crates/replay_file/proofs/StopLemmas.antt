@@ -14,7 +14,7 @@ use Rattle.ha_journal.specs.Journal.{HasEntry, Journal, more}
 use Rattle.ha_model.specs.Records.{Records}
 use Rattle.ha_model.specs.Texts.{call_text}
 use Rattle.ha_journal.specs.EntryText.{error_text, trace_line, trace_text}
-use Rattle.ha_journal.proofs.MoreLemmas.{units-more}
+use Rattle.ha_journal.proofs.MoreLemmas.{names-more}
 use Rattle.ha_config.proofs.ListLemmas.{true-false}
 use Rattle.ha_whole.specs.Whole.{IsFull as IsFullJournal, IsWithin, Lawful, ends_segment, opened, put}
 use Rattle.ha_status.specs.declared.status.Status.{Status}
@@ -68,12 +68,12 @@ lawful_next (first ∷ behind) x rs h run = run.1
 
 -- a run goes on with the entry of a line that is the next one
 pub is_next : (j : Journal) (line : Text) (x : Entry) (rs : Records) → HasEntry j → GoesOn j line x rs → IsNext j line x rs
-is_next j line x rs h g = record { lawful = lawful_next j x rs h g.run; line_is = g.line_is ∙ (λ i. trace_line (sym (units-more j x h) i) x) }
+is_next j line x rs h g = record { lawful = lawful_next j x rs h g.run; line_is = g.line_is ∙ (λ i. trace_line (sym (names-more j x h) i) x) }
 
 pub goes_next : (j : Journal) (line : Text) (rs : Records) (x : Entry) (rs' : Records) → HasEntry j → IsRun j rs → IsNext j line x rs' → GoesOn j line x rs'
 goes_next j line rs x rs' h run next = record {
   run = run_more j (more j x) rs rs' x h refl run next.lawful;
-  line_is = next.line_is ∙ (λ i. trace_line (units-more j x h i) x);
+  line_is = next.line_is ∙ (λ i. trace_line (names-more j x h i) x);
 }
 
 -- a line that may follow is the next lawful entry's, or the end

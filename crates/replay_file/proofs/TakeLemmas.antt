@@ -8,7 +8,8 @@ use Rattle.ha_journal.specs.declared.entry.Entry.{Entry}
 use Rattle.ha_journal.specs.declared.entry.Entry.TheVariants.{Boot, Line, Step, Again}
 use Rattle.ha_config.specs.Words.{Text}
 use Rattle.ha_journal.specs.Entries.{is_restart}
-use Rattle.ha_journal.specs.Journal.{HasEntry, Journal, units, more}
+use Rattle.ha_config.specs.Names.{names_of}
+use Rattle.ha_journal.specs.Journal.{HasEntry, Journal, names, more}
 use Rattle.ha_model.specs.Records.{Records}
 use Rattle.ha_config.specs.CheckText.{as_line}
 use Rattle.ha_model.specs.Texts.{call_text, call_text_of}
@@ -50,7 +51,7 @@ end_taken text line behind j rs o o' e e' has end at = record {
     room = at.begins.room;
     ends = λ _. (has, end.opened, end.quiet);
     text_is = behind_trace text (trace_text j false) line behind (end_line (length j)) at.begins.text_is end.line_is
-        ∙ (λ i. (append-nil (texts_after (λ before x. trace_line (units j) x) [] j) i ++ end_line (length j)) ++ behind);
+        ∙ (λ i. (append-nil (texts_after (λ before x. trace_line (names j) x) [] j) i ++ end_line (length j)) ++ behind);
   };
   calls_taken = at.calls_taken;
   errors_taken = at.errors_taken;
@@ -83,7 +84,7 @@ module _ (text line behind : Text) (r r' : Reached) (t : TakesEntry line r r') (
     run = run_more (told r) (told r') r.records r'.records t.entry (told_has r stands) t.journal b.run (subst (λ l. Lawful l r'.records) (sym (opened_told r' t.stands)) t.stands.lawful);
     room = subst IsWithin (sym (opened_told r' t.stands)) (within_now (subst IsWithin (opened_told r stands) b.room));
     ends = λ bad. absurd (true-false (sym bad));
-    text_is = behind_trace text (trace_text (told r) false) line behind (trace_line (units (told r)) t.entry) b.text_is (t.line_is ∙ (λ i. trace_line (told_units r stands i) t.entry))
+    text_is = behind_trace text (trace_text (told r) false) line behind (trace_line (names (told r)) t.entry) b.text_is (t.line_is ∙ (λ i. trace_line (names_of (told_units r stands i)) t.entry))
         ∙ (λ i. sym (trace-more (told r) t.entry (told_has r stands)) i ++ behind) ∙ (λ i. trace_text (sym t.journal i) false ++ behind);
   }
 
@@ -151,7 +152,7 @@ again_due r line x rs' stands ends goes =
       due = due;
       entry = x;
       is = last.is ∙ (λ i. more (sym front i) (again_of (sym front i))) ∙ (λ i. more (told r) (sym again i));
-      line_is = next.line_is ∙ (λ i. trace_line (sym (told_units r stands) i) x);
+      line_is = next.line_is ∙ (λ i. trace_line (names_of (sym (told_units r stands) i)) x);
     }
 
 -- and the other way round
@@ -161,7 +162,7 @@ due_next r line stands d = (
   r.records,
   record {
     lawful = subst (λ l. Lawful l r.records) (sym (opened_on r.journal stands.lawful.right.journal.opened) ∙ ap opened d.is) stands.lawful;
-    line_is = d.line_is ∙ (λ i. trace_line (told_units r stands i) d.entry);
+    line_is = d.line_is ∙ (λ i. trace_line (names_of (told_units r stands i)) d.entry);
   },
 )
 
@@ -195,7 +196,7 @@ module _ (line behind : Text) (r : Reached) (stands : Stands r) (one : is_one_li
 
   no_end_there : HasNoRoomFor line r → IsEnd (told r) r.records line → ⊥
   no_end_there (inl full) end = full.1 end
-  no_end_there (inr cannot) end = no_end (units (told r)) cannot.1.entry (length (told r)) (sym cannot.1.next.line_is ∙ end.line_is)
+  no_end_there (inr cannot) end = no_end (names (told r)) cannot.1.entry (length (told r)) (sym cannot.1.next.line_is ∙ end.line_is)
 
   no_again_there : HasNoRoomFor line r → (x : Entry) (rs' : Records) → ends_segment (told r) ≡ true → GoesOn (told r) line x rs' → ⊥
   no_again_there (inl full) x rs' ends goes = full.2 (again_due r line x rs' stands ends goes)
@@ -267,9 +268,9 @@ booted_at text line behind j rs o e b cuts =
         run = (b.is_first, subst (λ l. Lawful l rs) (sym one) (first_stands first rs b.is_first right).lawful);
         room = subst IsWithin (sym one) (first_within first b.is_first);
         ends = λ bad. absurd (true-false (sym bad));
-        text_is = behind_trace text [] line behind (trace_line (units j) first) cuts.text_is b.line_is
-            ∙ (λ i. trace_line (units (b.journal i)) first ++ behind)
-            ∙ ap (λ z. z ++ behind) (sym (append-nil (trace_line (units (first ∷ [])) first)) ∙ sym (append-nil (trace_line (units (first ∷ [])) first ++ [])));
+        text_is = behind_trace text [] line behind (trace_line (names j) first) cuts.text_is b.line_is
+            ∙ (λ i. trace_line (names (b.journal i)) first ++ behind)
+            ∙ ap (λ z. z ++ behind) (sym (append-nil (trace_line (names (first ∷ [])) first)) ∙ sym (append-nil (trace_line (names (first ∷ [])) first ++ [])));
       };
       calls_taken = subst (λ t. Takes o t o) (sym (no_calls first rs b.is_first)) (Takes-nothing o);
       errors_taken = subst (λ t. Takes e t e) (sym (no_errors first b.is_first)) (Takes-nothing e);

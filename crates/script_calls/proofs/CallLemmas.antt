@@ -1,5 +1,5 @@
 -- Who waits for a run, by the map of callers, and what one that comes or goes leaves.
-use Rattle.std.proofs.Common.{◌≡◌, ℕ, [], ◌∷◌, Bool, true, false, refl, sym, ap, subst, ◌∙◌, arith}
+use Rattle.std.proofs.Common.{◌≡◌, ℕ, [], ◌∷◌, Bool, true, false, refl, sym, ap, ◌∙◌, arith, rules}
 use Rattle.std.specs.Prelude.{Option, Some, None, nat_eq, if◌then◌else◌}
 use Rattle.std.specs.BTreeMap.{BTreeMap, Updates, is_at}
 use Rattle.std.specs.BTreeSet.{BTreeSet}
@@ -8,7 +8,7 @@ use Rattle.std.specs.Ordering.{is_eq, nat_cmp}
 use Rattle.std.proofs.lemmas.Bool.{eqb-true}
 use Rattle.std.proofs.lemmas.Bool.Decides.{nat_tests}
 use Rattle.wait_set.specs.Runs.{Pair, has_pair}
-use Rattle.script_calls.specs.Waiting.{AreListed, Caller, Waiting, caller_in, caller_of, unless_by}
+use Rattle.script_calls.specs.Waiting.{AreListed, Caller, Waiting, caller_in, caller_of, is_by, unless_by}
 
 -- ---- the list of calls, and the map
 
@@ -34,50 +34,45 @@ updated-list old new k w u c =
 
 -- ---- callers that are listed
 
-IsNothing : Option Caller → Type 0
-IsNothing None = Unit {0}
-IsNothing (Some x) = ⊥
-
-no-caller : (x : Caller) → None ≡ Some x → ⊥
-unfolding IsNothing
-no-caller x e = subst IsNothing e tt
-
-same-caller : (x y : Caller) → Some x ≡ Some y → x ≡ y
-same-caller x y e = ap (λ o. of o) e
-  where
-    of : Option Caller → Caller
-    of None = x
-    of (Some z) = z
-
-kept-is : (caller : ℕ) (o : Option Caller) (w : Caller) → unless_by caller o ≡ Some w → (o ≡ Some w) × (nat_eq caller w.0 ≡ false)
-kept-is caller None w e = absurd (no-caller w e)
-kept-is caller (Some v) w e = by (nat_eq caller v.0) refl e
-  where
-    by : (t : Bool) → nat_eq caller v.0 ≡ t → (if t then None else Some v) ≡ Some w → (Some v ≡ Some w) × (nat_eq caller w.0 ≡ false)
-    by true is e = absurd (no-caller w e)
-    by false is e = (e, (λ i. nat_eq caller (sym (same-caller v w e) i).0) ∙ is)
+turned : (m n : ℕ) → nat_eq m n ≡ false → nat_eq n m ≡ false
+turned m n e = search (rules, e)
 
 -- LEMMA: the others stay listed, where a caller's call goes with its pair
 pub dropped : (old new : BTreeMap ℕ Caller) (pairs pairs' : BTreeSet Pair) (caller k : ℕ)
     → ((c : ℕ) → caller_in new c ≡ (if nat_eq k c then unless_by caller (caller_in old c) else caller_in old c))
+    → has_pair pairs' caller k ≡ false
     → ((s o : ℕ) → nat_eq k o ≡ false → has_pair pairs' s o ≡ has_pair pairs s o)
     → ((s o : ℕ) → nat_eq caller s ≡ false → has_pair pairs' s o ≡ has_pair pairs s o) → AreListed old pairs → AreListed new pairs'
-dropped old new pairs pairs' caller k u others apart h c w e = by (nat_eq k c) refl
+dropped old new pairs pairs' caller k u gone others apart h s c = by (nat_eq k c) refl
   where
-    by : (t : Bool) → nat_eq k c ≡ t → has_pair pairs' w.0 c ≡ true
-    by true is =
-        let kept = kept-is caller (caller_in old c) w (sym (u c ∙ (λ i. if is i then unless_by caller (caller_in old c) else caller_in old c)) ∙ e) in
-        apart w.0 c kept.1 ∙ h c w kept.0
-    by false is = others w.0 c is ∙ h c w (sym (u c ∙ (λ i. if is i then unless_by caller (caller_in old c) else caller_in old c)) ∙ e)
+    never : (o : Option Caller) → nat_eq caller s ≡ true → is_by s (unless_by caller o) ≡ false
+    never None same = refl
+    never (Some w) same = one (nat_eq caller w.0) refl
+      where
+        one : (t : Bool) → nat_eq caller w.0 ≡ t → is_by s (if t then None else Some w) ≡ false
+        one true e = refl
+        one false e = (λ i. nat_eq (sym (eqb-true caller s same) i) w.0) ∙ e
+
+    stays : (o : Option Caller) → nat_eq caller s ≡ false → is_by s o ≡ is_by s (unless_by caller o)
+    stays None off = refl
+    stays (Some w) off = one (nat_eq caller w.0) refl
+      where
+        one : (t : Bool) → nat_eq caller w.0 ≡ t → nat_eq s w.0 ≡ is_by s (if t then None else Some w)
+        one true e = (λ i. nat_eq s (sym (eqb-true caller w.0 e) i)) ∙ turned caller s off
+        one false e = refl
+
+    here : (t : Bool) → nat_eq caller s ≡ t → nat_eq k c ≡ true → has_pair pairs' s c ≡ is_by s (unless_by caller (caller_in old c))
+    here true same is = (λ i. has_pair pairs' (sym (eqb-true caller s same) i) (sym (eqb-true k c is) i)) ∙ gone ∙ sym (never (caller_in old c) same)
+    here false off is = apart s c off ∙ h s c ∙ stays (caller_in old c) off
+
+    by : (t : Bool) → nat_eq k c ≡ t → has_pair pairs' s c ≡ is_by s (caller_in new c)
+    by true is = here (nat_eq caller s) refl is ∙ ap (is_by s) (sym (u c ∙ (λ i. if is i then unless_by caller (caller_in old c) else caller_in old c)))
+    by false is = others s c is ∙ h s c ∙ ap (is_by s) (sym (u c ∙ (λ i. if is i then unless_by caller (caller_in old c) else caller_in old c)))
 
 -- LEMMA: where no pair of a caller is listed, it waits for no run
 pub none-left : (m : BTreeMap ℕ Caller) (pairs : BTreeSet Pair) (caller : ℕ) → AreListed m pairs → ((c : ℕ) → has_pair pairs caller c ≡ false) → (c : ℕ) → caller_in m c ≡ unless_by caller (caller_in m c)
-none-left m pairs caller h none c = by (caller_in m c) refl
+none-left m pairs caller h none c = by (caller_in m c) (sym (h caller c) ∙ none c)
   where
-    by : (o : Option Caller) → caller_in m c ≡ o → o ≡ unless_by caller o
+    by : (o : Option Caller) → is_by caller o ≡ false → o ≡ unless_by caller o
     by None e = refl
-    by (Some w) e = one (nat_eq caller w.0) refl
-      where
-        one : (t : Bool) → nat_eq caller w.0 ≡ t → Some w ≡ (if t then None else Some w)
-        one true is = absurd (let bad : ◌≡◌ {A = Bool} true false = sym (h c w e) ∙ (λ i. has_pair pairs (sym (eqb-true caller w.0 is) i) c) ∙ none c in cc)
-        one false is = refl
+    by (Some w) e = (λ i. if sym e i then None else Some w)

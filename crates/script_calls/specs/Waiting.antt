@@ -1,5 +1,5 @@
 -- Who waits for which run.
-use Rattle.std.specs.Prelude.{◌≡◌, ℕ, true, nat_eq, List, [], ◌∷◌, Option, Some, None, if◌then◌else◌}
+use Rattle.std.specs.Prelude.{◌≡◌, ℕ, Bool, false, nat_eq, List, [], ◌∷◌, Option, Some, None, if◌then◌else◌}
 use Rattle.std.specs.BTreeMap.{BTreeMap, get}
 use Rattle.std.specs.BTreeSet.{BTreeSet}
 use Rattle.std.specs.Ordering.{nat_cmp}
@@ -30,6 +30,11 @@ unless_by caller (Some w) = if nat_eq caller w.0 then None else Some w
 abbrev pub caller_in : BTreeMap ℕ Caller → ℕ → Option Caller
 caller_in callers called = get nat_cmp callers called
 
--- each caller is listed with the run that it waits for
+-- the run is this caller
+abbrev pub is_by : ℕ → Option Caller → Bool
+is_by caller None = false
+is_by caller (Some w) = nat_eq caller w.0
+
+-- a caller and a run are listed exactly where the one waits for the other
 abbrev pub AreListed : BTreeMap ℕ Caller → BTreeSet Pair → Type 0
-AreListed callers pairs = (called : ℕ) (w : Caller) → caller_in callers called ≡ Some w → has_pair pairs w.0 called ≡ true
+AreListed callers pairs = (caller called : ℕ) → has_pair pairs caller called ≡ is_by caller (caller_in callers called)

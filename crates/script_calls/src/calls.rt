@@ -1,6 +1,6 @@
 //! The calls that wait for the runs that they started.
 ghost use Rattle.std.specs.Prelude.{◌≡◌, ◌<◌, ◌≤◌, ◌+◌, ℕ, OnOk, OnErr, [], Some, None, false, is_some, length, nat_eq, true, if◌then◌else◌};
-ghost use Rattle.script_calls.specs.Waiting.{AreListed, caller_in, caller_of, unless_by};
+ghost use Rattle.script_calls.specs.Waiting.{AreListed, caller_in, caller_of, is_by, unless_by};
 ghost use Rattle.wait_set.specs.Runs.{has_pair};
 
 use crate::pairs::{list_call, next_called, unlist};
@@ -45,8 +45,14 @@ impl Calls {
     {
         list_call(&mut self.pairs, caller, called)?;
         match self.callers.insert(called, (caller, branch)) {
-            Ok(_) => Ok(()),
-            Err(_) => Err(AllocError),
+            Ok(former) => {
+                unlist_former(&mut self.pairs, former, caller, called);
+                Ok(())
+            }
+            Err(_) => {
+                unlist(&mut self.pairs, caller, called);
+                Err(AllocError)
+            }
         }
     }
 
@@ -86,6 +92,25 @@ impl Calls {
         ensures { result ≡ length self.now }
     {
         self.callers.len()
+    }
+}
+
+/// The caller that waited for a run before is listed with it no more, where another one waits for it now.
+fn unlist_former(
+    pairs: &mut BTreeSet<(u64, u64)>,
+    former: Option<(u64, Branch)>,
+    caller: u64,
+    called: u64,
+)
+    ensures here { has_pair pairs.old caller called ≡ true → has_pair pairs.new caller called ≡ true }
+    ensures gone { (s : ℕ) → nat_eq caller s ≡ false → has_pair pairs.old s called ≡ is_by s former → has_pair pairs.new s called ≡ false }
+    ensures others { (s o : ℕ) → nat_eq called o ≡ false → has_pair pairs.new s o ≡ has_pair pairs.old s o }
+{
+    let Some(former) = former else {
+        return;
+    };
+    if former.0 != caller {
+        unlist(pairs, former.0, called);
     }
 }
 

@@ -1,18 +1,20 @@
 //! The runs that a caller waits for, found by the pairs of serials that are kept of them.
-ghost use Rattle.std.specs.Prelude.{◌≡◌, ◌<◌, ℕ, IfSome, IsNone, OnOk, false, length, nat_eq, true};
+ghost use Rattle.std.specs.Prelude.{◌≡◌, ◌<◌, ℕ, IfSome, IsNone, OnErr, OnOk, false, length, nat_eq, true};
 ghost use Rattle.wait_set.specs.Runs.{has_pair};
 
 use std::alloc::AllocError;
 use std::collections::BTreeSet;
 
-/// The pair is listed. Takes memory for one.
+/// The pair is listed. Takes memory for one, and after an error all is as before.
 pub fn list_call(
     pairs: &mut BTreeSet<(u64, u64)>,
     caller: u64,
     called: u64,
 ) -> Result<(), AllocError>
     ensures here { OnOk result (has_pair pairs.new caller called ≡ true) }
-    ensures kept { (s o : ℕ) → has_pair pairs.old s o ≡ true → has_pair pairs.new s o ≡ true }
+    ensures others { OnOk result ((s o : ℕ) → nat_eq called o ≡ false → has_pair pairs.new s o ≡ has_pair pairs.old s o) }
+    ensures apart { OnOk result ((s o : ℕ) → nat_eq caller s ≡ false → has_pair pairs.new s o ≡ has_pair pairs.old s o) }
+    ensures err { OnErr result ((s o : ℕ) → has_pair pairs.new s o ≡ has_pair pairs.old s o) }
 {
     pairs.insert((caller, called))?;
     Ok(())

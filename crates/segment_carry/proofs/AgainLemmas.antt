@@ -23,7 +23,8 @@ use Rattle.ha_whole.specs.Segments.{cut, segment}
 use Rattle.ha_whole.specs.Whole.{again_of, numbers_of}
 use Rattle.segment_runs.specs.Segment.{SegmentTable, all_of, runs_of}
 use Rattle.store_text.specs.Store.{Switches}
-use Rattle.switch_book.specs.Book.{flags, names_of}
+use Rattle.switch_book.specs.Book.{flags}
+use Rattle.ha_config.specs.Names.{names_of}
 use Rattle.whole_laws.proofs.CutLemmas.{is-cut}
 use Rattle.segment_carry.specs.ByName.{by_name, if_some, listed}
 use Rattle.segment_carry.specs.Closing.{Closes, again_made, carry_made}

@@ -12,11 +12,10 @@ use Rattle.std.specs.Ordering.{nat_cmp, is_lt, is_some_and}
 use Rattle.std.specs.Cmp.Lexicographic.{slice_partial_cmp}
 use Rattle.ha_config.specs.declared.config.Automation.{Automation}
 use Rattle.ha_config.specs.Words.{Text, comes_before, numbers_from, up_to}
-use Rattle.ha_config.specs.Names.{name_of}
+use Rattle.ha_config.specs.Names.{name_in, name_of, names_of}
 use Rattle.ha_config.proofs.ListLemmas.{none-some, some-same}
 use Rattle.ha_whole.specs.Named.{in_name_order, placed_by_name}
-use Rattle.segment_carry.specs.ByName.{by_name, listed, name_in, put_by_name, sorted}
-use Rattle.switch_book.specs.Book.{names_of}
+use Rattle.segment_carry.specs.ByName.{by_name, listed, put_by_name, sorted}
 
 -- ---- the order of texts
 

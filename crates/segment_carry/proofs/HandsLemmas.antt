@@ -8,7 +8,7 @@ use Rattle.std.proofs.lemmas.List.Folds.{list_any-append}
 use Rattle.std.proofs.lemmas.Bool.Decides.{nat_tests}
 use Rattle.ha_config.specs.declared.config.Automation.{Automation}
 use Rattle.ha_config.specs.Words.{Text, EachAfter, numbers_from, up_to}
-use Rattle.ha_config.specs.Names.{name_of}
+use Rattle.ha_config.specs.Names.{name_of, names_of}
 use Rattle.ha_config.specs.Units.{units_of}
 use Rattle.ha_config.specs.ValueFacts.{all_distinct}
 use Rattle.ha_config.proofs.ListLemmas.{append-nil}
@@ -28,7 +28,6 @@ use Rattle.ha_whole.specs.Named.{in_name_order, named}
 use Rattle.ha_whole.specs.Segments.{alone, carried_number, cut, entries_in, front, reopened, segment, segments}
 use Rattle.ha_whole.specs.Whole.{AreEntries, IsBehind, IsFirst, again_of, carry_of, numbers_of, records_from, records_of}
 use Rattle.segment_runs.specs.Segment.{runs_of}
-use Rattle.switch_book.specs.Book.{names_of}
 use Rattle.whole_laws.proofs.CutLemmas.{IsCut, closed-again, closed-on, cut-behind, cut-first, entries-snoc, records-cut, segment-again, segment-on, units-are}
 use Rattle.whole_laws.proofs.NamedLemmas.{named-in-order}
 use Rattle.segment_carry.specs.ByName.{if_some}

@@ -2,7 +2,7 @@
 use Rattle.std.proofs.Common.{◌≡◌, ◌∙◌, ap, refl, sym, ℕ, ◌+◌, ◌<◌, Bool, true, false, cond, Option, [], ◌∷◌, ◌++◌, length, arith}
 use Rattle.std.specs.Prelude.{map, nat_eq, option_map, if◌then◌else◌}
 use Rattle.std.proofs.lemmas.List.Sums.{sum_by-cons}
-use Rattle.ha_config.specs.Names.{name_of}
+use Rattle.ha_config.specs.Names.{name_of, names_of}
 use Rattle.ha_config.specs.ValueFacts.{all_distinct}
 use Rattle.ha_journal.specs.declared.entry.Entry.TheVariants.{Boot, Line, Step, Again}
 use Rattle.ha_journal.specs.Entries.{Reopening}
@@ -21,7 +21,6 @@ use Rattle.ha_whole.specs.Whole.{AreEntries, again_of, carry_of, placed_all, rec
 use Rattle.run_modes.specs.Table.{end_one, is_stopped, stopped}
 use Rattle.segment_runs.specs.Goes.{moved_all}
 use Rattle.segment_runs.specs.Segment.{all_of, runs_of}
-use Rattle.switch_book.specs.Book.{names_of}
 use Rattle.whole_laws.proofs.CutLemmas.{closed-again, is-cut, records-cut, segment-again, units-are}
 use Rattle.segment_carry.specs.Closing.{AreAsMany}
 use Rattle.segment_carry.specs.Hands.{closed_of}

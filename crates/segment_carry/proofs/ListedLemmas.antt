@@ -8,7 +8,7 @@ use Rattle.ha_config.specs.ValueFacts.{all_distinct}
 use Rattle.ha_config.proofs.EqualLemmas.{same-refl, same-sound}
 use Rattle.ha_config.proofs.ListLemmas.{none-some, some-same}
 use Rattle.ha_whole.specs.Named.{named}
-use Rattle.switch_book.specs.Book.{names_of}
+use Rattle.ha_config.specs.Names.{names_of}
 use Rattle.whole_laws.specs.Apart.{AreApart}
 use Rattle.segment_carry.proofs.ByNameLemmas.{given}
 

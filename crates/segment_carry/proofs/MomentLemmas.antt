@@ -14,7 +14,7 @@ use Rattle.ha_journal.specs.Journal.{Journal, automations}
 use Rattle.ha_whole.specs.Lasts.{last_triggered, lasts}
 use Rattle.store_text.specs.Store.{AreMoments}
 use Rattle.store_text.proofs.OrderLemmas.{all-in_name_order}
-use Rattle.switch_book.specs.Book.{names_of}
+use Rattle.ha_config.specs.Names.{names_of}
 use Rattle.switch_book.proofs.StoredLaws.{ordered-in_name_order}
 use Rattle.segment_carry.specs.ByName.{by_name, listed}
 use Rattle.segment_carry.proofs.AgainLemmas.{given-same, made-at}

@@ -1,12 +1,8 @@
 -- Numbers in the order of the names that have them, and what is listed of them so.
-use Rattle.std.specs.Prelude.{ℕ, List, [], ◌∷◌, length, nat_eq, slice_get, unwrap_or, Option, Some, None, option_map, filter_map, if◌then◌else◌}
+use Rattle.std.specs.Prelude.{ℕ, List, [], ◌∷◌, length, nat_eq, Option, Some, None, option_map, filter_map, if◌then◌else◌}
 use Rattle.ha_config.specs.declared.config.Automation.{Automation}
 use Rattle.ha_config.specs.Words.{Text, comes_before, up_to}
-use Rattle.switch_book.specs.Book.{names_of}
-
--- the name at a place; where there is none it is empty
-abbrev pub name_in : List Text → ℕ → Text
-name_in names a = unwrap_or (slice_get names a) []
+use Rattle.ha_config.specs.Names.{name_in, names_of}
 
 -- a number among others, in the byte order of the names
 abbrev pub put_by_name : List Text → ℕ → List ℕ → List ℕ

@@ -13,7 +13,8 @@ use Rattle.ha_whole.specs.Segments.{segment, segments}
 use Rattle.ha_whole.specs.Whole.{AreEntries, records_of}
 use Rattle.segment_runs.specs.Segment.{SegmentTable, all_of, runs_of}
 use Rattle.store_text.specs.Store.{Switches}
-use Rattle.switch_book.specs.Book.{StandsFor, flags, names_of}
+use Rattle.switch_book.specs.Book.{StandsFor, flags}
+use Rattle.ha_config.specs.Names.{names_of}
 use Rattle.segment_carry.specs.ByName.{by_name, if_some, listed}
 use Rattle.segment_carry.specs.Sources.{lines_with, shut_with}
 

@@ -2,7 +2,7 @@
 ghost use Rattle.std.specs.Prelude.{◌≡◌, ◌+◌, ◌<◌, ◌≤◌, ◌^◌, ℕ, IfOk, Some, drop, length, slice_get, slice_index, take};
 ghost use Rattle.ha_journal.specs.Entries.{BeginsSegment};
 ghost use Rattle.ha_journal.specs.Journal.{automations, units};
-ghost use Rattle.switch_book.specs.Book.{names_of};
+ghost use Rattle.ha_config.specs.Names.{names_of};
 ghost use Rattle.ha_whole.specs.Whole.{again_of};
 ghost use Rattle.segment_runs.specs.Segment.{all_of};
 ghost use Rattle.segment_carry.specs.Closing.{Closes, again_made, carry_made};

@@ -1,6 +1,6 @@
 //! Laws of what segments hand on. Each is a function that does nothing; its contract is the law.
 ghost use Rattle.std.specs.Prelude.{◌≡◌, ◌<◌, ℕ, Option, true, length};
-ghost use Rattle.ha_config.specs.Names.{name_of};
+ghost use Rattle.ha_config.specs.Names.{name_of, names_of};
 ghost use Rattle.ha_config.specs.ValueFacts.{all_distinct};
 ghost use Rattle.ha_journal.specs.Journal.{Journal, automations, more, units};
 ghost use Rattle.ha_model.specs.declared.record.EndCause.{EndCause};
@@ -11,7 +11,6 @@ ghost use Rattle.ha_whole.specs.Segments.{carried_number, front, segment};
 ghost use Rattle.ha_whole.specs.Whole.{AreEntries, again_of, records_of};
 ghost use Rattle.run_modes.specs.Table.{stopped};
 ghost use Rattle.segment_runs.specs.Segment.{all_of, runs_of};
-ghost use Rattle.switch_book.specs.Book.{names_of};
 ghost use Rattle.segment_carry.specs.Closing.{AreAsMany};
 ghost use Rattle.segment_carry.specs.Hands.{Hands, closed_of};
 

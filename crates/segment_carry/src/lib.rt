@@ -8,4 +8,4 @@ mod order;
 mod sources;
 
 pub use closing::{Closing, again};
-pub use lists::{lasts, rule_moments, rule_order};
+pub use lists::{lasts, names, rule_moments, rule_order};

@@ -1,13 +1,13 @@
 //! What is listed of units and automations by their names.
 ghost use Rattle.std.specs.Prelude.{◌≡◌, ◌++◌, ◌∷◌, [], ◌≤◌, ℕ, IfOk, OnOk, None, Some, length, map, nat_eq, slice_get, unwrap_or, if◌then◌else◌};
 ghost use Rattle.std.specs.Option.{option_map_or};
-ghost use Rattle.ha_config.specs.Names.{name_of};
+ghost use Rattle.ha_config.specs.Names.{name_in, name_of, names_of};
 ghost use Rattle.ha_config.specs.Units.{units_of};
 ghost use Rattle.ha_config.specs.Words.{up_to};
 ghost use Rattle.ha_whole.specs.Named.{named};
 ghost use Rattle.segment_runs.specs.Segment.{all_of, runs_of};
-ghost use Rattle.switch_book.specs.Book.{flags, names_of};
-ghost use Rattle.segment_carry.specs.ByName.{if_some, listed, name_in, rule_order};
+ghost use Rattle.switch_book.specs.Book.{flags};
+ghost use Rattle.segment_carry.specs.ByName.{if_some, listed, rule_order};
 
 use crate::order::by_name;
 use ha_clock::Moment;

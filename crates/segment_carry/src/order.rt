@@ -1,7 +1,8 @@
 //! Numbers in the order of the names that have them.
 ghost use Rattle.std.specs.Prelude.{◌≡◌, ◌≤◌, IfOk, OnOk, length, position, unwrap_or};
 ghost use Rattle.ha_config.specs.Words.{comes_before as comes_lem};
-ghost use Rattle.segment_carry.specs.ByName.{by_name, name_in, put_by_name};
+ghost use Rattle.segment_carry.specs.ByName.{by_name, put_by_name};
+ghost use Rattle.ha_config.specs.Names.{name_in};
 
 use ha_value::{Many, Word};
 use std::alloc::{AllocError, Global};

@@ -11,9 +11,9 @@ use Rattle.ha_config.specs.declared.config.Config.{Config}
 use Rattle.ha_config.specs.Words.{Text, same}
 use Rattle.ha_config.specs.ValueFacts.{all_distinct, keys_of}
 use Rattle.ha_config.specs.Sound.{IsSoundConfig, are_sound_automations, is_sound_automation, are_sound_actions}
-use Rattle.ha_config.specs.Names.{stored_switch}
+use Rattle.ha_config.specs.Names.{names_of, stored_switch}
 use Rattle.store_text.specs.Store.{Switches, AreStorable}
-use Rattle.switch_book.specs.Book.{flags, names_of, restored}
+use Rattle.switch_book.specs.Book.{flags, restored}
 use Rattle.switch_book.proofs.SwitchLaws.{names-restored}
 
 -- ---- the stored switch of a name, pair by pair

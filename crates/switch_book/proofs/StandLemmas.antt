@@ -9,11 +9,11 @@ use Rattle.ha_journal.specs.declared.entry.Entry.TheVariants.{Boot, Line}
 use Rattle.ha_config.specs.Words.{Text}
 use Rattle.ha_config.specs.ValueFacts.{all_distinct, keys_of}
 use Rattle.ha_journal.specs.Journal.{Journal, HasEntry, automations, more}
-use Rattle.ha_config.specs.Names.{initial_of}
+use Rattle.ha_config.specs.Names.{initial_of, names_of}
 use Rattle.ha_journal.specs.Switches.{is_on, on_after}
 use Rattle.ha_journal.specs.Sights.{switch_of}
 use Rattle.store_text.specs.Store.{AreStorable, Switches}
-use Rattle.switch_book.specs.Book.{flags, names_of, restored, StandsFor}
+use Rattle.switch_book.specs.Book.{flags, restored, StandsFor}
 use Rattle.switch_book.proofs.SwitchLaws.{boot-stands, more-stands, flags-of-journal, names-of-journal, get-set, named-one}
 
 pub restored-stands : (s : Switches) (config : Config) (stored : Option Switches) → s ≡ restored stored config.automations → (text : Text) (start : ℕ) (zone : Text) (carry : Carry) → StandsFor s (Boot text config stored start zone carry ∷ [])

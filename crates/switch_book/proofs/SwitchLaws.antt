@@ -16,12 +16,12 @@ use Rattle.ha_config.specs.ValueFacts.{all_distinct, keys_of}
 use Rattle.ha_journal.specs.Journal.{Journal, HasEntry, automations, more}
 use Rattle.ha_journal.specs.States.{switches_of}
 use Rattle.ha_journal.specs.Sights.{switch_of}
-use Rattle.ha_config.specs.Names.{stored_switch, name_of}
+use Rattle.ha_config.specs.Names.{name_of, names_of, stored_switch}
 use Rattle.ha_journal.specs.Switches.{switched, is_on, on_after}
 use Rattle.ha_journal.proofs.MoreLemmas.{automations-more}
 use Rattle.ha_journal.proofs.SwitchLemmas.{on-more}
 use Rattle.store_text.specs.Store.{Switches}
-use Rattle.switch_book.specs.Book.{flags, names_of, opening, restored, StandsFor, set_each}
+use Rattle.switch_book.specs.Book.{flags, opening, restored, StandsFor, set_each}
 
 -- ---- a list of switches by its names and flags
 

@@ -10,9 +10,6 @@ use Rattle.store_text.specs.Store.{Switches}
 abbrev pub flags : Switches → List Bool
 flags s = map (λ p. p.1) s
 
-abbrev pub names_of : List Automation → List Text
-names_of all = map {A = Automation} {B = Text} (λ a. a.name) all
-
 -- a switch at the Boot: its initial state, else the stored one, else on
 abbrev pub opening : Option Switches → Automation → Bool
 opening stored a = unwrap_or a.initial (unwrap_or (stored_switch a.name (unwrap_or stored [])) true)

@@ -11,11 +11,11 @@ ghost use Rattle.ha_config.specs.ValueFacts.{all_distinct, keys_of};
 ghost use Rattle.ha_journal.specs.Journal.{Journal, HasEntry, automations, more};
 ghost use Rattle.ha_journal.specs.Sights.{switch_of};
 ghost use Rattle.ha_journal.specs.Switches.{on_after, switched};
-ghost use Rattle.ha_config.specs.Names.{stored_switch};
+ghost use Rattle.ha_config.specs.Names.{names_of, stored_switch};
 ghost use Rattle.ha_config.specs.Sound.{are_in_name_order};
 ghost use Rattle.ha_config.specs.StoreText.{in_name_order};
 ghost use Rattle.store_text.specs.Store.{Switches};
-ghost use Rattle.switch_book.specs.Book.{StandsFor, flags, names_of, restored, set_each};
+ghost use Rattle.switch_book.specs.Book.{StandsFor, flags, restored, set_each};
 
 /// What is restored stands for the journal of the Boot alone. Where each switch is what the entry
 /// makes of the one before, the switches stand for the journal with the entry. For a switch

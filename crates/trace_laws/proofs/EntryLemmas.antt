@@ -2,7 +2,6 @@
 use Rattle.std.proofs.Common.{◌≡◌, ◌∙◌, ap, sym, refl, ℕ, ◌<◌, ◌^◌, List, ◌∷◌, Bool, true, drop, get_or, length, arith}
 use Rattle.std.proofs.lemmas.List.Sums.{count_by-le-length}
 use Rattle.std.specs.Prelude.{count_by}
-use Rattle.ha_config.specs.declared.config.Automation.{Automation}
 use Rattle.ha_config.specs.declared.command.Cmd.{Cmd}
 use Rattle.ha_sight.specs.declared.item.Item.{Item}
 use Rattle.ha_journal.specs.declared.carry.Carry.{Carry}
@@ -11,7 +10,7 @@ use Rattle.ha_journal.specs.declared.entry.Entry.TheVariants.{Boot, Line, Step, 
 use Rattle.ha_config.specs.CheckText.{as_line}
 use Rattle.ha_config.specs.Words.{Text}
 use Rattle.ha_journal.specs.Entries.{is_restart}
-use Rattle.ha_journal.specs.Journal.{HasEntry, Journal, units}
+use Rattle.ha_journal.specs.Journal.{HasEntry, Journal, names}
 use Rattle.ha_journal.specs.Commands.{IsFair}
 use Rattle.ha_config.specs.CommandText.{cmd_text}
 use Rattle.ha_model.specs.Lawful.{is_line_of}
@@ -40,18 +39,18 @@ abbrev third : Text → ℕ
 third t = get_or t 2 0
 
 -- the end line is that of no entry
-pub no_end : (all : List Automation) (x : Entry) (n : ℕ) → trace_line all x ≡ end_line n → ⊥
+pub no_end : (all : List Text) (x : Entry) (n : ℕ) → trace_line all x ≡ end_line n → ⊥
 no_end all (Boot text config stored start zone carry) n e = (let same : 98 ≡ 101 = ap third e in omega (arith, same))
 no_end all (Again number start stored carry) n e = (let same : 97 ≡ 101 = ap third e in omega (arith, same))
 no_end all (Line source number cmd) n e = (let same : 115 ≡ 101 = ap third e in omega (arith, same))
 no_end all (Step worker serial branch item) n e = (let same : 119 ≡ 101 = ap third e in omega (arith, same))
 
-no_mix : (all : List Automation) (worker serial : ℕ) (branch : Branch) (item : Item) (source number : ℕ) (cmd : Cmd) → trace_line all (Step worker serial branch item) ≡ trace_line all (Line source number cmd) → ⊥
+no_mix : (all : List Text) (worker serial : ℕ) (branch : Branch) (item : Item) (source number : ℕ) (cmd : Cmd) → trace_line all (Step worker serial branch item) ≡ trace_line all (Line source number cmd) → ⊥
 no_mix all worker serial branch item source number cmd e = (let same : 119 ≡ 115 = ap third e in omega (arith, same))
 
 -- ---- lines of sources
 
-module _ (d : Journal) (all : List Automation) (short : length d < 2 ^ 64) where
+module _ (d : Journal) (all : List Text) (short : length d < 2 ^ 64) where
   counted : (k n : ℕ) → n ≡ count_by (is_line_of k) d → n < 2 ^ 64
   counted k n e = (let most = count_by-le-length (is_line_of k) d in omega (arith, e, most, short))
 
@@ -67,7 +66,7 @@ module _ (d : Journal) (all : List Automation) (short : length d < 2 ^ 64) where
 
 -- ---- steps
 
-same_worker : (all : List Automation) (k s : ℕ) (b : Branch) (item : Item) (k' s' : ℕ) (b' : Branch) (item' : Item) → k < 16 → k' < 16
+same_worker : (all : List Text) (k s : ℕ) (b : Branch) (item : Item) (k' s' : ℕ) (b' : Branch) (item' : Item) → k < 16 → k' < 16
     → trace_line all (Step k s b item) ≡ trace_line all (Step k' s' b' item') → k ≡ k'
 same_worker all k s b item k' s' b' item' known known' e =
     let feed = entry_feed all (Step k s b item) in
@@ -83,14 +82,14 @@ known_tail (Again number start stored carry) xs h = h
 known_tail (Line source number cmd) xs h = h
 known_tail (Step worker serial branch item) xs h = h.1
 
-no_again : (all : List Automation) (number start : ℕ) (stored : List (Text × Bool)) (carry : Carry) (source n : ℕ) (cmd : Cmd) → trace_line all (Again number start stored carry) ≡ trace_line all (Line source n cmd) → ⊥
+no_again : (all : List Text) (number start : ℕ) (stored : List (Text × Bool)) (carry : Carry) (source n : ℕ) (cmd : Cmd) → trace_line all (Again number start stored carry) ≡ trace_line all (Line source n cmd) → ⊥
 no_again all number start stored carry source n cmd e = (let same : 97 ≡ 115 = ap third e in omega (arith, same))
 
-no_again_step : (all : List Automation) (number start : ℕ) (stored : List (Text × Bool)) (carry : Carry) (worker serial : ℕ) (branch : Branch) (item : Item)
+no_again_step : (all : List Text) (number start : ℕ) (stored : List (Text × Bool)) (carry : Carry) (worker serial : ℕ) (branch : Branch) (item : Item)
     → trace_line all (Again number start stored carry) ≡ trace_line all (Step worker serial branch item) → ⊥
 no_again_step all number start stored carry worker serial branch item e = (let same : 97 ≡ 119 = ap third e in omega (arith, same))
 
-module _ (d : Journal) (all : List Automation) (rs rs' : Records) (has : HasEntry d) (c : IsCut d) (short : length d < 2 ^ 64) where
+module _ (d : Journal) (all : List Text) (rs rs' : Records) (has : HasEntry d) (c : IsCut d) (short : length d < 2 ^ 64) where
   -- LAW: entries behind the same ones that have the same line are the same: an Again is told by these alone
   pub same_entry : (x y : Entry) (xs ys : Journal) → Rest d (x ∷ xs) rs → Rest d (y ∷ ys) rs' → AllKnown (x ∷ xs) → AllKnown (y ∷ ys) → trace_line all x ≡ trace_line all y → x ≡ y
   same_entry (Boot text config stored start zone carry) y xs ys r r' known known' e = absurd r.behind.0
@@ -115,18 +114,18 @@ module _ (d : Journal) (all : List Automation) (rs rs' : Records) (has : HasEntr
 
 -- LAW: where the line that stands next is that of a Restart, its entry is one
 pub same_restart : (d : Journal) (line : Text) (x y : Entry) (rs rs' : Records) → HasEntry d → length d < 2 ^ 64 → Lawful (put d x) rs → Lawful (put d y) rs'
-    → as_line line ≡ trace_line (units d) x → as_line line ≡ trace_line (units d) y → is_restart x ≡ true → is_restart y ≡ true
+    → as_line line ≡ trace_line (names d) x → as_line line ≡ trace_line (names d) y → is_restart x ≡ true → is_restart y ≡ true
 same_restart d line (Boot text config stored start zone carry) y rs rs' has short h h' e e' holds = absurd (true-false (sym holds))
 same_restart d line (Step k s b item) y rs rs' has short h h' e e' holds = absurd (true-false (sym holds))
 same_restart d line (Again number start stored carry) y rs rs' has short h h' e e' holds = absurd (true-false (sym holds))
 same_restart d line (Line k n cmd) (Boot text config stored start zone carry) rs rs' has short h h' e e' holds =
     absurd (behind-of d (Boot text config stored start zone carry) has h'.right.journal.entries)
-same_restart d line (Line k n cmd) (Step k' s' b' item') rs rs' has short h h' e e' holds = absurd (no_mix (units d) k' s' b' item' k n cmd (sym e' ∙ e))
-same_restart d line (Line k n cmd) (Again number start stored carry) rs rs' has short h h' e e' holds = absurd (no_again (units d) number start stored carry k n cmd (sym e' ∙ e))
+same_restart d line (Line k n cmd) (Step k' s' b' item') rs rs' has short h h' e e' holds = absurd (no_mix (names d) k' s' b' item' k n cmd (sym e' ∙ e))
+same_restart d line (Line k n cmd) (Again number start stored carry) rs rs' has short h h' e e' holds = absurd (no_again (names d) number start stored carry k n cmd (sym e' ∙ e))
 same_restart d line (Line k n cmd) (Line k' n' cmd') rs rs' has short h h' e e' holds =
     let turn = put-first (IsTurn rs) d (Line k n cmd) h.turns in
     let turn' = put-first (IsTurn rs') d (Line k' n' cmd') h'.turns in
     let fair = put-first (IsRightEntry rs) d (Line k n cmd) h.right.entries in
     let fair' = put-first (IsRightEntry rs') d (Line k' n' cmd') h'.right.entries in
-    let same = same_source d (units d) short k n k' n' cmd cmd' turn.0 turn'.0 turn.2 turn'.2 fair fair' (sym e ∙ e') in
+    let same = same_source d (names d) short k n k' n' cmd cmd' turn.0 turn'.0 turn.2 turn'.2 fair fair' (sym e ∙ e') in
     ap is_restart (sym same) ∙ holds

@@ -14,13 +14,12 @@ use Rattle.ha_value.specs.Ids.{entity_text}
 use Rattle.ha_value.specs.Lists.{before_end}
 use Rattle.ha_value.specs.Numbers.{digit, is_digit_zero, places_text, print_number, sign_text}
 use Rattle.ha_clock.specs.Print.{moment_text}
-use Rattle.ha_config.specs.declared.config.Automation.{Automation}
 use Rattle.ha_config.specs.declared.command.Cmd.{Cmd}
 use Rattle.ha_journal.specs.declared.entry.Entry.{Entry}
 use Rattle.ha_journal.specs.declared.entry.Entry.TheVariants.{Boot, Line, Step, Again}
 use Rattle.ha_sight.specs.declared.item.Item.{Item}
 use Rattle.ha_config.specs.Words.{Pairs, Text}
-use Rattle.ha_config.specs.Names.{name_of}
+use Rattle.ha_config.specs.Names.{name_in}
 use Rattle.ha_config.specs.ValueText.{comma_joined, escaped_byte, flag_text, list_text, map_text, pair_text, print_pairs, print_step, print_value, quoted}
 use Rattle.ha_sight.specs.ItemText.{call_pairs, failure_code, item_text, switched_text, script_name, script_text}
 use Rattle.ha_config.specs.CommandText.{cmd_text, id_text, line_code, one_key}
@@ -233,17 +232,17 @@ cmd_line (Cmd.Refused code) = map_line ((codes "refused", quoted (line_code code
 cmd_line Cmd.Lost = refl
 cmd_line Cmd.TooLong = refl
 
-switched_line : (all : List Automation) (s : ℕ × Bool × Bool) → IsLine (switched_text all s)
-switched_line all s = map_line ((codes "automation", quoted (name_of all s.0)) ∷ (codes "on", flag_text s.1) ∷ (codes "stop", flag_text s.2) ∷ [])
-    (quoted_line (name_of all s.0), (flag_line s.1, (flag_line s.2, tt)))
+switched_line : (all : List Text) (s : ℕ × Bool × Bool) → IsLine (switched_text all s)
+switched_line all s = map_line ((codes "automation", quoted (name_in all s.0)) ∷ (codes "on", flag_text s.1) ∷ (codes "stop", flag_text s.2) ∷ [])
+    (quoted_line (name_in all s.0), (flag_line s.1, (flag_line s.2, tt)))
 
 one_line_key : (key shown : Text) → IsLine shown → IsLine (one_key key shown)
 one_line_key key shown h = map_line ((key, shown) ∷ []) (h, tt)
 
-scripts_line : (all : List Automation) (scripts : List ℕ) → IsLine (list_text (map (script_text all) scripts))
-scripts_line all scripts = list_line (map (script_text all) scripts) (all_lines (script_text all) scripts (λ a. quoted_line (script_name (name_of all a))))
+scripts_line : (all : List Text) (scripts : List ℕ) → IsLine (list_text (map (script_text all) scripts))
+scripts_line all scripts = list_line (map (script_text all) scripts) (all_lines (script_text all) scripts (λ a. quoted_line (script_name (name_in all a))))
 
-item_line : (all : List Automation) (item : Item) → IsLine (item_text all item)
+item_line : (all : List Text) (item : Item) → IsLine (item_text all item)
 item_line all Item.Nothing = refl
 item_line all (Item.Call service target fields) = one_line_key (codes "call") (map_text (call_pairs service target fields))
     (map_line (call_pairs service target fields) (quoted_line service, (list_line (map id_text target) (all_lines id_text target (λ e. quoted_line (entity_text e))), (pairs_line fields, tt))))
@@ -252,10 +251,10 @@ item_line all (Item.Fired kind pairs) = one_line_key (codes "fired") (map_text (
 item_line all (Item.Switched targets) = one_line_key (codes "switched") (list_text (map (switched_text all) targets))
     (list_line (map (switched_text all) targets) (all_lines (switched_text all) targets (switched_line all)))
 item_line all (Item.Triggered automations skip) =
-    let names : List Text = map (λ a. quoted (name_of all a)) automations in
+    let names : List Text = map (λ a. quoted (name_in all a)) automations in
     let shown : List (Text × Text) = (codes "automations", list_text names) ∷ (codes "skip_condition", flag_text skip) ∷ [] in
     one_line_key (codes "triggered") (map_text shown)
-    (map_line shown (list_line names (all_lines (λ a. quoted (name_of all a)) automations (λ a. quoted_line (name_of all a))), (flag_line skip, tt)))
+    (map_line shown (list_line names (all_lines (λ a. quoted (name_in all a)) automations (λ a. quoted_line (name_in all a))), (flag_line skip, tt)))
 item_line all (Item.Started scripts fields waits) =
     let shown : List (Text × Text) = (codes "scripts", list_text (map (script_text all) scripts)) ∷ (codes "data", print_pairs fields) ∷ (codes "waits", flag_text waits) ∷ [] in
     one_line_key (codes "started") (map_text shown) (map_line shown (scripts_line all scripts, (pairs_line fields, (flag_line waits, tt))))
@@ -296,7 +295,7 @@ boot_line text stored (p ∷ ps) start zone = (
 )
 
 -- LAW: the line of an entry has one LF, its end
-pub entry_feed : (all : List Automation) (x : Entry) → HasOneFeed (trace_line all x)
+pub entry_feed : (all : List Text) (x : Entry) → HasOneFeed (trace_line all x)
 entry_feed all (Boot text config stored start zone carry) =
     let inner : List (Text × Text) = boot_pairs text stored carry.last start zone in
     record {

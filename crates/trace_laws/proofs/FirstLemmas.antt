@@ -2,7 +2,6 @@
 use Rattle.std.proofs.Common.{◌≡◌, ◌∙◌, ap, sym, List}
 use Rattle.std.specs.Prelude.{Ok, Result}
 use Rattle.yaml_scan.specs.declared.fault.Fault.{Fault}
-use Rattle.ha_config.specs.declared.config.Automation.{Automation}
 use Rattle.ha_config.specs.declared.config.Config.{Config}
 use Rattle.ha_journal.specs.declared.entry.Entry.{Entry}
 use Rattle.ha_journal.specs.declared.entry.Entry.TheVariants.{Boot, Line, Step, Again}
@@ -11,6 +10,7 @@ use Rattle.ha_config.specs.CheckText.{as_line}
 use Rattle.ha_journal.specs.Entries.{first_carry}
 use Rattle.ha_journal.specs.EntryText.{trace_line}
 use Rattle.ha_config.proofs.ListLemmas.{some-same}
+use Rattle.ha_config.specs.Names.{names_of}
 use Rattle.ha_config.specs.Units.{units_of}
 use Rattle.flow_line.proofs.Whole.{document_read, same_value}
 use Rattle.conf_auto.specs.Config.{config_of}
@@ -32,14 +32,14 @@ one_parts line b b' is u is' u' =
     some-same _ _ (sym (boot-parts b is.start is.last_in_time) ∙ ap parts_in same ∙ boot-parts b' is'.start is'.last_in_time)
 
 -- a configured first entry's line is that of its parts
-pub first_line : (line : Text) (b : BootLine) (config : Config) → IsConfigured b config → ((other : Config) → as_line line ≡ trace_line (units_of other) (Boot b.text other b.stored b.start b.zone (first_carry b.last))) → IsBootLine line b
+pub first_line : (line : Text) (b : BootLine) (config : Config) → IsConfigured b config → ((other : Config) → as_line line ≡ trace_line (names_of (units_of other)) (Boot b.text other b.stored b.start b.zone (first_carry b.last))) → IsBootLine line b
 first_line line b config f is = record { line_is = is; start = f.start; zone = f.zone; ordered = f.ordered; last_ordered = f.last_ordered; last_in_time = f.last_in_time }
 
 pub ok_same : (config config' : Config) → ◌≡◌ {A = Result Config Fault} (Ok config) (Ok config') → config ≡ config'
 ok_same config config' e = cc
 
 -- LAW: two first entries with one line are the same
-pub one_first : (all all' : List Automation) (x y : Entry) → IsFirst x → IsFirst y → trace_line all x ≡ trace_line all' y → x ≡ y
+pub one_first : (all all' : List Text) (x y : Entry) → IsFirst x → IsFirst y → trace_line all x ≡ trace_line all' y → x ≡ y
 one_first all all' (Line source number cmd) y f g e = absurd f
 one_first all all' (Step worker serial branch item) y f g e = absurd f
 one_first all all' (Again number start stored carry) y f g e = absurd f

@@ -1,7 +1,6 @@
 -- Two lawful runs, whose traces go on with the same bytes behind the same entries: one goes on as the other begins.
 use Rattle.std.proofs.Common.{◌≡◌, ◌∙◌, ap, sym, subst, refl, ℕ, suc, ◌+◌, ◌<◌, ◌^◌, inl, inr, List, [], ◌∷◌, ◌++◌, length, Bool, true, false, arith, append_assoc, length-append}
 use Rattle.std.specs.Prelude.{◌⊎◌, if◌then◌else◌}
-use Rattle.ha_config.specs.declared.config.Automation.{Automation}
 use Rattle.ha_journal.specs.declared.entry.Entry.{Entry}
 use Rattle.ha_config.specs.Words.{Text}
 use Rattle.ha_journal.specs.Journal.{HasEntry, Journal, more}
@@ -18,17 +17,17 @@ use Rattle.trace_laws.proofs.FrontLemmas.{AllKnown}
 
 -- ---- the text behind n entries: the lines of more of them, perhaps the end line, and what is left
 
-abbrev pub told : List Automation → ℕ → Journal → Bool → Text → Text
+abbrev pub told : List Text → ℕ → Journal → Bool → Text → Text
 told all n [] ended left = (if ended then end_line n else []) ++ left
 told all n (x ∷ xs) ended left = trace_line all x ++ told all (suc n) xs ended left
 
-abbrev lines_of : List Automation → Journal → Journal → Text
+abbrev lines_of : List Text → Journal → Journal → Text
 lines_of all d xs = texts_after (λ before x. trace_line all x) d xs
 
 abbrev end_of : ℕ → Bool → Text
 end_of n ended = if ended then end_line n else []
 
-pub told_is : (all : List Automation) (d xs : Journal) (ended : Bool) (left : Text)
+pub told_is : (all : List Text) (d xs : Journal) (ended : Bool) (left : Text)
     → (texts_after (λ before x. trace_line all x) d xs ++ (if ended then end_line (length (d ++ xs)) else [])) ++ left ≡ told all (length d) xs ended left
 told_is all d [] ended left = (λ i. end_of (length (append-nil d i)) ended ++ left)
 told_is all d (x ∷ xs) ended left =
@@ -42,33 +41,33 @@ told_is all d (x ∷ xs) ended left =
 -- ---- one goes on as the other begins
 
 -- the first entries, with their end or without, and what is left, are what the second begin with
-abbrev pub IsFront : List Automation → ℕ → Journal → Bool → Text → Journal → Bool → Text → Type 0
+abbrev pub IsFront : List Text → ℕ → Journal → Bool → Text → Journal → Bool → Text → Type 0
 IsFront all n xs ended left ys ended' left' =
     ((ended ≡ true) × (ended' ≡ true) × (ys ≡ xs) × (left ≡ left'))
     ⊎ ((ended ≡ false) × ((behind : Journal) × (ys ≡ xs ++ behind) × (left ≡ told all (n + length xs) behind ended' left')))
 
-pub head_on : (all : List Automation) (n : ℕ) (x y : Entry) (xs ys : Journal) (ended ended' : Bool) (left left' : Text) → x ≡ y → IsFront all (suc n) xs ended left ys ended' left'
+pub head_on : (all : List Text) (n : ℕ) (x y : Entry) (xs ys : Journal) (ended ended' : Bool) (left left' : Text) → x ≡ y → IsFront all (suc n) xs ended left ys ended' left'
     → IsFront all n (x ∷ xs) ended left (y ∷ ys) ended' left'
 head_on all n x y xs ys ended ended' left left' same (inl f) = inl (f.0, f.1, (λ i. sym same i ∷ f.2 i), f.3)
 head_on all n x y xs ys ended ended' left left' same (inr f) =
     let count : suc n + length xs ≡ n + length (x ∷ xs) = omega arith in
     inr (f.0, (f.1.0, (λ i. sym same i ∷ f.1.1 i), f.1.2 ∙ (λ i. told all (count i) f.1.0 ended' left')))
 
-pub either_way : (all : List Automation) (n : ℕ) (x y : Entry) (xs ys : Journal) (ended ended' : Bool) (left left' : Text) → x ≡ y
+pub either_way : (all : List Text) (n : ℕ) (x y : Entry) (xs ys : Journal) (ended ended' : Bool) (left left' : Text) → x ≡ y
     → IsFront all (suc n) xs ended left ys ended' left' ⊎ IsFront all (suc n) ys ended' left' xs ended left
     → IsFront all n (x ∷ xs) ended left (y ∷ ys) ended' left' ⊎ IsFront all n (y ∷ ys) ended' left' (x ∷ xs) ended left
 either_way all n x y xs ys ended ended' left left' same (inl f) = inl (head_on all n x y xs ys ended ended' left left' same f)
 either_way all n x y xs ys ended ended' left left' same (inr f) = inr (head_on all n y x ys xs ended' ended left' left (sym same) f)
 
 -- where the first entries are none, and not ended, the rest is what is left
-begins_so : (all : List Automation) (n : ℕ) (ys : Journal) (ended' : Bool) (left left' : Text) → left ≡ told all n ys ended' left' → IsFront all n [] false left ys ended' left'
+begins_so : (all : List Text) (n : ℕ) (ys : Journal) (ended' : Bool) (left left' : Text) → left ≡ told all n ys ended' left' → IsFront all n [] false left ys ended' left'
 begins_so all n ys ended' left left' e =
     let count : n ≡ n + 0 = omega arith in
     inr (refl, (ys, refl, e ∙ (λ i. told all (count i) ys ended' left')))
 
 -- LAW: entries that go on behind the same ones with the same bytes are the same, as far as both go. Behind each an Again may stand whose
 -- line is not there.
-pub walk : (xs : Journal) (ended : Bool) (ys : Journal) (ended' : Bool) (all : List Automation) (d : Journal) (n : ℕ) (rs rs' : Records) (left left' : Text) (ts us : Journal) → HasEntry d → IsCut d → length d + length xs < 2 ^ 64
+pub walk : (xs : Journal) (ended : Bool) (ys : Journal) (ended' : Bool) (all : List Text) (d : Journal) (n : ℕ) (rs rs' : Records) (left left' : Text) (ts us : Journal) → HasEntry d → IsCut d → length d + length xs < 2 ^ 64
     → Rest d (xs ++ ts) rs → Rest d (ys ++ us) rs' → AllKnown (xs ++ ts) → AllKnown (ys ++ us) → told all n xs ended left ≡ told all n ys ended' left'
     → IsFront all n xs ended left ys ended' left' ⊎ IsFront all n ys ended' left' xs ended left
 walk [] false ys ended' all d n rs rs' left left' ts us has c short r r' known known' e = inl (begins_so all n ys ended' left left' e)

@@ -9,7 +9,7 @@ use Rattle.ha_journal.specs.declared.entry.Entry.TheVariants.{Boot, Line, Step, 
 use Rattle.ha_config.specs.Names.{automation_named}
 use Rattle.ha_config.specs.Sound.{are_in_name_order}
 use Rattle.ha_config.specs.Words.{Text}
-use Rattle.ha_journal.specs.Journal.{HasEntry, Journal, units, more}
+use Rattle.ha_journal.specs.Journal.{HasEntry, Journal, names, more}
 use Rattle.ha_model.specs.Records.{Records}
 use Rattle.ha_whole.specs.Whole.{IsWithin, Lawful, ends_segment, is_quiet, opened}
 use Rattle.ha_config.specs.CheckText.{as_line}
@@ -68,7 +68,7 @@ line_count j ended = length j + (if ended then 1 else 0)
 -- the line, with its LF, is that of an entry with which the run goes on
 pub record GoesOn (j : Journal) (line : Text) (x : Entry) (rs : Records) : Type 0 where
   pub run : IsRun (more j x) rs
-  pub line_is : as_line line ≡ trace_line (units (more j x)) x
+  pub line_is : as_line line ≡ trace_line (names (more j x)) x
 
 -- the line may stand next: it is that of an entry, or the end line
 abbrev pub MayFollow : Journal → Records → Text → Type 0

@@ -1,6 +1,6 @@
 -- What an opening makes of spots and owners.
-use Rattle.std.proofs.Common.{◌≡◌, ℕ, ◌+◌, List, [], ◌∷◌, ◌++◌, length, map, Bool, true, false, refl, sym, ap, ◌∙◌, arith, rules}
-use Rattle.std.specs.Prelude.{Option, Some, None, codes, is_none, is_some, nat_lt, option_and_then, option_map, ◌&&◌, if◌then◌else◌}
+use Rattle.std.proofs.Common.{◌≡◌, ℕ, List, [], ◌∷◌, map, Bool, true, false, refl, sym, ◌∙◌, arith, rules}
+use Rattle.std.specs.Prelude.{Option, Some, None, codes, is_none, is_some, nat_lt, option_and_then, ◌&&◌, if◌then◌else◌}
 use Rattle.ha_value.specs.declared.value.EntityId.{EntityId}
 use Rattle.ha_value.specs.declared.value.Value.{Value}
 use Rattle.ha_value.specs.declared.value.Value.TheVariants.{Pairs as Map}
@@ -10,7 +10,7 @@ use Rattle.ha_journal.specs.declared.entry.Entry.TheVariants.{Boot, Line, Step, 
 use Rattle.ha_journal.specs.Entries.{IsBoot, is_boot, is_moment, opens_segment}
 use Rattle.ha_journal.specs.Moves.{moves, sight}
 use Rattle.ha_sight.specs.Rules.{head_pairs, starts}
-use Rattle.ha_past.specs.Looks.{Holding, arrived, at_once, holding_of, moves_with, or_else, standing, stays_watched}
+use Rattle.ha_past.specs.Looks.{Holding, arrived, holding_of, or_else, standing, stays_watched}
 use Rattle.ha_past.proofs.EntryLaws.{standing-fresh}
 use Rattle.trig_set.specs.declared.spot.Spot.{Spot}
 use Rattle.trig_set.specs.Kept.{Keeps, Moved, is_true, ripened, ripened_if}

@@ -1,20 +1,20 @@
 //! The set of pending and ended waits.
-ghost use Rattle.std.specs.Prelude.{◌≡◌, ◌≤◌, ◌<◌, ◌-◌, suc, take, drop, filter, not, vec_capacity, [], ◌∷◌, ◌++◌, All, Bool, IfSome, IsNone, OnOk, OnErr, None, Some, true, false, length, nat_eq, is_none, is_some, option_map, ◌||◌, ◌&&◌, ℕ};
+ghost use Rattle.std.specs.Prelude.{◌≡◌, ◌≤◌, ◌<◌, ◌-◌, suc, take, drop, filter, not, vec_capacity, [], ◌∷◌, ◌++◌, All, IfSome, IsNone, OnOk, OnErr, None, Some, true, false, length, nat_eq, is_none, is_some, option_map, ◌||◌, ◌&&◌, ℕ};
 ghost use Rattle.std.specs.List.{list_any};
 ghost use Rattle.ha_journal.specs.declared.entry.Entry.{Entry};
 ghost use Rattle.ha_journal.specs.Journal.{HasEntry, Journal, more};
 ghost use Rattle.ha_sight.specs.Scripts.{Branch as Path};
 ghost use Rattle.wait_set.specs.declared.asked.Asked.{Asked as Wait};
-ghost use Rattle.wait_set.specs.Asked.{added, end_of, ended_at, finished, is_bare, is_of, noted, noted_at, owners_ended, owners_of, wait_of, without_run};
-ghost use Rattle.wait_set.specs.Concern.{Ascend, IsStill, OfOthers, has};
+ghost use Rattle.wait_set.specs.Asked.{added, end_of, finished, is_bare, is_of, noted, owners_ended, owners_of, wait_of, without_run};
+ghost use Rattle.wait_set.specs.Concern.{Ascend, has};
 ghost use Rattle.wait_set.specs.Stands.{IsNext, StandsFor};
 ghost use Rattle.wait_set.specs.Runs.{AllBefore, AreUnlisted, IsPaired, has_pair};
 ghost use Rattle.wait_set.specs.Timers.{AreFound, AreKept, AreTimed, timer_added};
 ghost use Rattle.timer_queue.specs.Timers.{due_of};
 
-use crate::asked::{Asked, is_of, note_one};
-use crate::concern::concerned;
-use crate::pending::{Pending, list_ask, mark, settle};
+use crate::asked::{Asked, is_of};
+use crate::note::note_entry;
+use crate::pending::{Pending, list_ask, settle};
 use crate::runs::{ask_of, next_place, owner_from, owner_in, place_in_branch, unlist};
 use ha_clock::Moment;
 use ha_journal::Firing;
@@ -365,110 +365,6 @@ fn drop_next_ended(
     unlist(runs, asked.ask.serial, owner_in(asks.as_slice(), at));
     cut(asks, at);
     at
-}
-
-/// Notes an entry with the wait at a place, if there is one.
-fn note_at<A: Answers>(
-    alloc: Global,
-    at: usize,
-    asks: &mut Vec<Asked>,
-    fresh: &mut Vec<u64>,
-    pending: &mut Pending,
-    place: u64,
-    fired: &Many<Firing>,
-    answers: &A,
-) -> Result<(), AllocError>
-    ensures ok { OnOk result (asks.new.items ≡ noted_at place (A.sight answers.now) fired.now at asks.old.items) }
-    ensures fresh { OnOk result (fresh.new.items ≡ fresh.old.items ++ ended_at place (A.sight answers.now) fired.now at asks.old.items) }
-    ensures kept { (ordered : Bool) → AreKept asks.old.items pending.old.timers pending.old.testing pending.old.runs ordered
-        → AreKept asks.new.items pending.new.timers pending.new.testing pending.new.runs ordered }
-{
-    if at >= asks.len() {
-        return Ok(());
-    }
-    let asked = &mut asks[at];
-    let owner = asked.owner;
-    let ends = note_one(alloc, asked, place, fired, answers)?;
-    if !ends {
-        return Ok(());
-    }
-    mark(pending, fresh, owner)
-}
-
-/// Notes an entry with each wait in turn.
-fn note_all<A: Answers>(
-    alloc: Global,
-    asks: &mut Vec<Asked>,
-    fresh: &mut Vec<u64>,
-    pending: &mut Pending,
-    place: u64,
-    fired: &Many<Firing>,
-    answers: &A,
-) -> Result<(), AllocError>
-    ensures ok { OnOk result (asks.new.items ≡ noted place (A.sight answers.now) fired.now asks.old.items) }
-    ensures fresh { OnOk result (fresh.new.items ≡ fresh.old.items ++ owners_ended place (A.sight answers.now) fired.now asks.old.items) }
-    ensures kept { (ordered : Bool) → AreKept asks.old.items pending.old.timers pending.old.testing pending.old.runs ordered
-        → AreKept asks.new.items pending.new.timers pending.new.testing pending.new.runs ordered }
-{
-    for at in 0..asks.len() {
-        note_at(alloc, at, asks, fresh, pending, place, fired, answers)?;
-    }
-    Ok(())
-}
-
-/// Notes an entry with the waits at these places, where it leaves the others as they are.
-fn note_some<A: Answers>(
-    alloc: Global,
-    places: BTreeSet<usize>,
-    asks: &mut Vec<Asked>,
-    fresh: &mut Vec<u64>,
-    pending: &mut Pending,
-    place: u64,
-    fired: &Many<Firing>,
-    answers: &A,
-) -> Result<(), AllocError>
-    requires { OfOthers (IsStill place (A.sight answers.now) fired.now) places asks.old.items }
-    ensures ok { OnOk result (asks.new.items ≡ noted place (A.sight answers.now) fired.now asks.old.items) }
-    ensures fresh { OnOk result (fresh.new.items ≡ fresh.old.items ++ owners_ended place (A.sight answers.now) fired.now asks.old.items) }
-    ensures kept { (ordered : Bool) → AreKept asks.old.items pending.old.timers pending.old.testing pending.old.runs ordered
-        → AreKept asks.new.items pending.new.timers pending.new.testing pending.new.runs ordered }
-{
-    let mut left = places;
-    'places: while let Some(at) = left.pop_first() {
-        note_at(alloc, at, asks, fresh, pending, place, fired, answers)?;
-    }
-    Ok(())
-}
-
-/// Notes the next entry: with the waits that it concerns, or with all where the owners are not
-/// known to ascend.
-fn note_entry<A: Answers>(
-    alloc: Global,
-    asks: &mut Vec<Asked>,
-    fresh: &mut Vec<u64>,
-    pending: &mut Pending,
-    ordered: bool,
-    place: u64,
-    fired: &Many<Firing>,
-    answers: &A,
-) -> Result<(), AllocError>
-    requires { AreKept asks.old.items pending.old.timers pending.old.testing pending.old.runs ordered }
-    ensures ok { OnOk result (asks.new.items ≡ noted place (A.sight answers.now) fired.now asks.old.items) }
-    ensures fresh { OnOk result (fresh.new.items ≡ fresh.old.items ++ owners_ended place (A.sight answers.now) fired.now asks.old.items) }
-    ensures kept { AreKept asks.new.items pending.new.timers pending.new.testing pending.new.runs ordered }
-{
-    if asks.is_empty() || !ordered {
-        return note_all(alloc, asks, fresh, pending, place, fired, answers);
-    }
-    let places = concerned(
-        alloc,
-        asks.as_slice(),
-        &pending.timers,
-        &pending.testing,
-        fired.as_slice(),
-        answers.now(),
-    )?;
-    note_some(alloc, places, asks, fresh, pending, place, fired, answers)
 }
 
 /// Whether the owners still ascend, with one more wait.

@@ -2,11 +2,12 @@
 use Rattle.std.proofs.Common.{◌≡◌, ℕ, List, [], ◌∷◌, ◌++◌, false, refl, sym, ◌∙◌}
 use Rattle.std.specs.Prelude.{flat_map}
 use Rattle.std.proofs.lemmas.Grind.{flat_map-append}
-use Rattle.ha_config.specs.declared.config.Automation.{Automation}
 use Rattle.ha_journal.specs.declared.entry.Entry.{Entry}
 use Rattle.ha_journal.specs.Commands.{placed_line, lines_of}
 use Rattle.ha_journal.specs.EntryText.{error_text, error_text_of, texts_after, trace_line, trace_text}
-use Rattle.ha_journal.specs.Journal.{Journal, units}
+use Rattle.ha_config.specs.Names.{names_of}
+use Rattle.ha_config.specs.Words.{Text}
+use Rattle.ha_journal.specs.Journal.{Journal, names}
 use Rattle.ha_model.specs.Records.{Records}
 use Rattle.ha_model.specs.Texts.{call_text, call_text_of}
 use Rattle.ha_whole.specs.Whole.{again_of, appended, put}
@@ -25,23 +26,23 @@ lines-put k j x = same-by-put (lines_of k) j x (λ d. lines-more k d (again_of d
 
 -- ---- the trace
 
-each-line : (all : List Automation) (before xs : Journal) → texts_after (λ before x. trace_line all x) before xs ≡ flat_map (trace_line all) xs
+each-line : (all : List Text) (before xs : Journal) → texts_after (λ before x. trace_line all x) before xs ≡ flat_map (trace_line all) xs
 each-line all before [] = refl
 each-line all before (x ∷ xs) = (λ i. trace_line all x ++ each-line all (before ++ (x ∷ [])) xs i)
 
-pub trace-lines : (j : Journal) → trace_text j false ≡ flat_map (trace_line (units j)) j
-trace-lines j = append-none (texts_after (λ before x. trace_line (units j) x) [] j) ∙ each-line (units j) [] j
+pub trace-lines : (j : Journal) → trace_text j false ≡ flat_map (trace_line (names j)) j
+trace-lines j = append-none (texts_after (λ before x. trace_line (names j) x) [] j) ∙ each-line (names j) [] j
 
 -- LAW: the trace has the lines of all entries of the put
-pub trace-put : (j : Journal) (x : Entry) → trace_text (put j x) false ≡ trace_text j false ++ flat_map (trace_line (units (put j x))) (appended j x)
+pub trace-put : (j : Journal) (x : Entry) → trace_text (put j x) false ≡ trace_text j false ++ flat_map (trace_line (names (put j x))) (appended j x)
 trace-put [] x =
-    let all = units (put [] x) in
+    let all = names (put [] x) in
     trace-lines (put [] x) ∙ (λ i. flat_map (trace_line all) (put-appends [] x i))
 trace-put (e ∷ es) x =
     let j : Journal = e ∷ es in
-    let all = units (put j x) in
+    let all = names (put j x) in
     trace-lines (put j x)
     ∙ (λ i. flat_map (trace_line all) (put-appends j x i))
     ∙ flat_map-append (trace_line all) j (appended j x)
-    ∙ (λ i. flat_map (trace_line (sym (units-put j x tt) i)) j ++ flat_map (trace_line all) (appended j x))
+    ∙ (λ i. flat_map (trace_line (names_of (sym (units-put j x tt) i))) j ++ flat_map (trace_line all) (appended j x))
     ∙ (λ i. sym (trace-lines j) i ++ flat_map (trace_line all) (appended j x))

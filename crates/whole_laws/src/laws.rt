@@ -11,7 +11,7 @@ ghost use Rattle.ha_config.specs.StoreText.{store_of};
 ghost use Rattle.ha_config.specs.Sound.{are_in_name_order};
 ghost use Rattle.ha_whole.specs.Named.{in_name_order, named};
 ghost use Rattle.whole_laws.specs.Apart.{AreApart};
-ghost use Rattle.ha_journal.specs.Journal.{Journal, HasEntry, automations, configured, IsJournal as IsJournalAlone, more, units, now};
+ghost use Rattle.ha_journal.specs.Journal.{Journal, HasEntry, automations, configured, IsJournal as IsJournalAlone, more, names, units, now};
 ghost use Rattle.ha_journal.specs.Entries.{IsBoot, first_carry, is_again, is_restart};
 ghost use Rattle.ha_journal.specs.Commands.{ArePutFrom, lines_of, placed_line};
 ghost use Rattle.ha_journal.specs.EntryText.{error_text, error_text_of, trace_line, trace_text};
@@ -175,7 +175,7 @@ pub fn a_put_appends()
 pub fn texts_of_one_put()
     ensures calls { (j : Journal) (x : Entry) (rs : Records) → call_text (put j x) rs ≡ call_text j rs ++ call_text_of rs j x }
     ensures errors { (j : Journal) (x : Entry) → error_text (put j x) ≡ error_text j ++ error_text_of x }
-    ensures trace { (j : Journal) (x : Entry) → trace_text (put j x) false ≡ trace_text j false ++ flat_map (trace_line (units (put j x))) (appended j x) }
+    ensures trace { (j : Journal) (x : Entry) → trace_text (put j x) false ≡ trace_text j false ++ flat_map (trace_line (names (put j x))) (appended j x) }
     ensures lines { (k : ℕ) (j : Journal) (x : Entry) → lines_of k (put j x) ≡ lines_of k j ++ placed_line k j x }
 {}
 

@@ -1,8 +1,7 @@
-use Rattle.std.proofs.Common.{List, ◌++◌, subst, ap}
+use Rattle.std.proofs.Common.{List, ◌++◌, subst}
 use Rattle.std.specs.Prelude.{None, Some, option_map}
-use Rattle.ha_config.specs.declared.config.Automation.{Automation}
-use Rattle.ha_config.specs.Units.{units_of}
-use Rattle.ha_journal.specs.Journal.{units}
+use Rattle.ha_config.specs.Words.{Text}
+use Rattle.ha_journal.specs.Journal.{names}
 use Rattle.ha_journal.specs.EntryText.{trace_line}
 use Rattle.bus_turn.specs.Shown.{saved_text}
 use Rattle.bus_turn.specs.States.{keeper_of, sink_of}
@@ -18,8 +17,8 @@ returns-in-Err g c =
     let o = option_map s c.args.trace.now in
     let o' = option_map s c.write_both.new.trace in
     λ calls errors.
-    lines-cut (trace_line (units j) c.args.restart.now ++ trace_line (units j) c.args.again.now) (saved_text j) calls errors o o' (q c.args.keep.now) (q c.args.keep.now) c.in-Err.fault
-    (subst (λ (all : List Automation). WritesIn (trace_line all c.args.restart.now ++ trace_line all c.args.again.now) o (Some c.in-Err.fault) o') (ap units_of c.config.ensures.configured) (rw c.in-Err.is at c.write_both.ensures))
+    lines-cut (trace_line (names j) c.args.restart.now ++ trace_line (names j) c.args.again.now) (saved_text j) calls errors o o' (q c.args.keep.now) (q c.args.keep.now) c.in-Err.fault
+    (subst (λ (all : List Text). WritesIn (trace_line all c.args.restart.now ++ trace_line all c.args.again.now) o (Some c.in-Err.fault) o') c.units.ensures (rw c.in-Err.is at c.write_both.ensures))
 
 pub returns : goal.returns
 returns g c =
@@ -29,5 +28,5 @@ returns g c =
     let o = option_map s c.args.trace.now in
     let o' = option_map s c.write_both.new.trace in
     λ calls errors.
-    lines-then (trace_line (units j) c.args.restart.now ++ trace_line (units j) c.args.again.now) (saved_text j) calls errors o o' (q c.args.keep.now) (q c.save.new.keep) (fault_of c.save.result)
-    (subst (λ (all : List Automation). WritesIn (trace_line all c.args.restart.now ++ trace_line all c.args.again.now) o None o') (ap units_of c.config.ensures.configured) (rw c.in-Ok.is at c.write_both.ensures)) c.save.ensures
+    lines-then (trace_line (names j) c.args.restart.now ++ trace_line (names j) c.args.again.now) (saved_text j) calls errors o o' (q c.args.keep.now) (q c.save.new.keep) (fault_of c.save.result)
+    (subst (λ (all : List Text). WritesIn (trace_line all c.args.restart.now ++ trace_line all c.args.again.now) o None o') c.units.ensures (rw c.in-Ok.is at c.write_both.ensures)) c.save.ensures

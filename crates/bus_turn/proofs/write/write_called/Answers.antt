@@ -1,13 +1,11 @@
-use Rattle.std.proofs.Common.{ap}
 use Rattle.std.proofs.lemmas.Result.{on_ok_weaker}
 use Rattle.ha_model.specs.Texts.{call_text_of}
 use Rattle.bus_turn.proofs.CallLemmas.{called-here}
-use Rattle.ha_config.specs.Units.{units_of}
 use Rattle.bus_turn.proofs.write.write_called.Goals as goal
 
 pub returns : goal.returns
 returns g c = λ before is.
     c.write_line.ensures (call_text_of (g.C.Core.runs c.args.core.now) before c.args.entry.now)
     (on_ok_weaker c.line_of_step-made.result
-    (called-here (g.C.Core.entries c.args.core.now) before c.args.entry.now (g.C.Core.runs c.args.core.now) c.records.result.now (units_of c.config.result.now) c.records.ensures.right is c.records.ensures.value (ap units_of c.config.ensures.configured) _)
+    (called-here (g.C.Core.entries c.args.core.now) before c.args.entry.now (g.C.Core.runs c.args.core.now) c.records.result.now c.units.result.now c.records.ensures.right is c.records.ensures.value c.units.ensures _)
     c.line_of_step-made.ensures)

@@ -1,5 +1,5 @@
 use Rattle.std.proofs.Common.{◌≡◌, ◌∙◌, ◌≤◌, ◌∷◌, [], ℕ, ap, subst, sym}
-use Rattle.std.specs.Prelude.{Option, List, None, Some, option_map, option_to_list}
+use Rattle.std.specs.Prelude.{Option, None, Some, option_map, option_to_list}
 use Rattle.wait_set.specs.declared.asked.Asked.{Asked}
 use Rattle.trig_set.specs.Stands.{attached}
 use Rattle.engine_parts.specs.Pending.{AreOthers}

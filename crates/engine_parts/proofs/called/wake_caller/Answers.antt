@@ -10,7 +10,9 @@ use Rattle.engine_parts.specs.Called.{owner_at}
 use Rattle.engine_parts.specs.Without.{without_owners}
 use Rattle.engine_parts.specs.declared.parts.Parts.{Parts}
 use Rattle.engine_parts.specs.Kept.{GoingWith, left_branches}
-use Rattle.engine_parts.proofs.WokenLemmas.{calls-after, others-finished, owned-woken, pending, so, unwoken-runs, woken-runs, within}
+use Rattle.engine_parts.proofs.EndedCallLemmas.{calls-after, so}
+use Rattle.engine_parts.proofs.FinishedLemmas.{others-finished, owned-woken}
+use Rattle.engine_parts.proofs.WokenLemmas.{pending, unwoken-runs, woken-runs, within}
 use Rattle.engine_parts.proofs.called.wake_caller.Goals as goal
 
 pub resume-requires : goal.resume-requires

@@ -6,8 +6,8 @@ use Rattle.engine_parts.specs.Called.{told_after, told_by, woken_owners}
 use Rattle.engine_parts.specs.Kept.{GoingWith}
 use Rattle.engine_parts.specs.Records.{also}
 use Rattle.engine_parts.specs.Without.{without_owners}
-use Rattle.engine_parts.proofs.CalledLemmas.{told-also}
-use Rattle.engine_parts.proofs.WokenLemmas.{owners-woken}
+use Rattle.engine_parts.proofs.ToldLemmas.{told-also}
+use Rattle.engine_parts.proofs.FinishedLemmas.{owners-woken}
 use Rattle.engine_parts.proofs.forget.forget.Goals as goal
 
 pub returns-clause-going : goal.returns-clause-going

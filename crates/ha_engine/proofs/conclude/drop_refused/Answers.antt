@@ -2,7 +2,7 @@ use Rattle.std.proofs.Common.{◌≡◌, suc, length, ap, subst, ◌∙◌}
 use Rattle.ha_model.specs.Records.{CallEnds, call_end}
 use Rattle.engine_parts.specs.Called.{told_after, told_by}
 use Rattle.engine_parts.specs.Kept.{GoingWith, SlotBut, nobody}
-use Rattle.engine_parts.proofs.CalledLemmas.{told-whole}
+use Rattle.engine_parts.proofs.ToldLemmas.{told-whole}
 use Rattle.engine_parts.proofs.ForgetLemmas.{slots-length}
 use Rattle.ha_engine.proofs.conclude.drop_refused.Goals as goal
 

@@ -3,7 +3,7 @@ use Rattle.ha_journal.specs.declared.entry.Entry.TheVariants.{Step}
 use Rattle.ha_journal.specs.EntryText.{trace_line}
 use Rattle.whole_laws.proofs.LiftLemmas.{entries-have}
 use Rattle.ha_replay.specs.Traces.{reached}
-use Rattle.ha_replay.proofs.AnswerLemmas.{units-more, made-step, no-worker, none-due, not-full, other-step, refused, step-dated, step-lacks, step-taken, unfit-answer}
+use Rattle.ha_replay.proofs.AnswerLemmas.{names-more, made-step, no-worker, none-due, not-full, other-step, refused, step-dated, step-lacks, step-taken, unfit-answer}
 use Rattle.ha_replay.proofs.line.put_worker.Goals as goal
 
 pub returns-then-not-may_step-clause-answer : goal.returns-then-not-may_step-clause-answer
@@ -41,5 +41,5 @@ returns-in-Ok-false-clause-answer g c =
     (c.may_step.ensures.0 (search (rules, c.if-not-may_step.false))) c.in-Ok.ensures.put c.in-Ok.ensures.right c.closes-closed.ensures in
     let x = Step c.args.worker m.serial m.branch m.item in
     let no_next = other-step r c.args.line.now c.args.worker c.requires.stands c.requires.begins c.requires.whose m.serial m.branch m.item (g.C.Core.runs c.put_step.new.self) c.closes-closed.result m.stands
-    (λ e. search (rules, c.in-Ok-false.field-0-test, (c.in-Ok-false.ensures j x m.journal).1 (e ∙ (λ i. trace_line (sym (units-more j x (entries-have j c.requires.stands.lawful.right.journal.entries)) i) x)))) in
+    (λ e. search (rules, c.in-Ok-false.field-0-test, (c.in-Ok-false.ensures j x m.journal).1 (e ∙ (λ i. trace_line (sym (names-more j x (entries-have j c.requires.stands.lawful.right.journal.entries)) i) x)))) in
     (refused r c.args.line.now (not-full j false c.in-Ok.ensures.room) no_next, c.requires.unended, no_next)

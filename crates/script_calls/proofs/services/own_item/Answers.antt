@@ -1,4 +1,4 @@
-use Rattle.std.proofs.Common.{◌∙◌, sym, length}
+use Rattle.std.proofs.Common.{◌∙◌, sym}
 use Rattle.script_calls.proofs.ResolveLemmas.{item-own}
 use Rattle.script_calls.proofs.services.own_item.Goals as goal
 

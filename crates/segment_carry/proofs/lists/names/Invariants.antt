@@ -1,6 +1,6 @@
 use Rattle.std.proofs.Common.{◌≡◌, take}
 use Rattle.ha_config.specs.Units.{units_of}
-use Rattle.switch_book.specs.Book.{names_of}
+use Rattle.ha_config.specs.Names.{names_of}
 use Rattle.segment_carry.proofs.lists.names.Given as goal
 
 abbrev pub invariant-units : goal.invariant-units

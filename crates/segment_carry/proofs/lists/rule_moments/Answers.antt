@@ -2,10 +2,8 @@ use Rattle.std.proofs.Common.{◌≡◌, ◌∙◌, ℕ, zero, suc, List, [], �
 use Rattle.std.specs.Prelude.{None, slice_get, unwrap_or}
 use Rattle.std.specs.Option.{option_map_or}
 use Rattle.ha_config.specs.declared.config.Automation.{Automation}
-use Rattle.ha_config.specs.Names.{name_of}
+use Rattle.ha_config.specs.Names.{name_in, name_of, names_of}
 use Rattle.ha_config.specs.Words.{Text}
-use Rattle.switch_book.specs.Book.{names_of}
-use Rattle.segment_carry.specs.ByName.{name_in}
 use Rattle.segment_carry.proofs.ByNameLemmas.{listed-next}
 use Rattle.segment_carry.proofs.lists.rule_moments.Goals as goal
 

@@ -1,7 +1,7 @@
 use Rattle.std.proofs.Common.{◌≡◌, take, None}
 use Rattle.std.specs.Prelude.{slice_get, unwrap_or}
 use Rattle.segment_carry.specs.ByName.{listed}
-use Rattle.switch_book.specs.Book.{names_of}
+use Rattle.ha_config.specs.Names.{names_of}
 use Rattle.segment_carry.proofs.lists.rule_moments.Given as goal
 
 abbrev pub invariant-chosen : goal.invariant-chosen

@@ -1,5 +1,5 @@
 use Rattle.std.proofs.Common.{◌≡◌, take}
-use Rattle.switch_book.specs.Book.{names_of}
+use Rattle.ha_config.specs.Names.{names_of}
 use Rattle.segment_carry.proofs.lists.rule_names.Given as goal
 
 abbrev pub invariant-automations : goal.invariant-automations

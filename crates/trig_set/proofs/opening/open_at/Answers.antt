@@ -1,4 +1,4 @@
-use Rattle.std.proofs.Common.{get_or, ap, ◌∙◌}
+use Rattle.std.proofs.Common.{get_or, ap}
 use Rattle.trig_set.specs.Kept.{due_in, place_of}
 use Rattle.trig_set.proofs.OnLemmas.{on-then}
 use Rattle.trig_set.proofs.SpotLemmas.{get-at, map-set, timed-same}

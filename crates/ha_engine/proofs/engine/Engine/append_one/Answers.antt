@@ -2,8 +2,8 @@ use Rattle.std.proofs.Common.{◌≡◌, ◌+◌, false, drop, length, refl, sym
 use Rattle.std.specs.Prelude.{Some}
 use Rattle.ha_journal.specs.declared.entry.Entry.{Entry}
 use Rattle.ha_journal.specs.declared.entry.Entry.TheVariants.{Step}
-use Rattle.ha_journal.specs.Journal.{Journal, automations, more}
-use Rattle.ha_journal.proofs.MoreLemmas.{automations-more}
+use Rattle.ha_journal.specs.Journal.{Journal, automations, more, names}
+use Rattle.ha_journal.proofs.MoreLemmas.{automations-more, names-more}
 use Rattle.ha_model.specs.Lawful as one
 use Rattle.ha_model.specs.Lawful.{Right, pick}
 use Rattle.ha_whole.specs.Segments.{alone, segment}
@@ -53,6 +53,7 @@ invariant_of-self c = record {
   followed = true-not;
   noted = true-not;
   ordered = true-not;
+  named = c.self.invariant.named ∙ ap names (sym c.reserve.ensures.items);
 }
 
 pub invariant_of-self-in-Ok : goal.invariant_of-self-in-Ok
@@ -86,6 +87,7 @@ invariant_of-self-in-Ok c =
           (c.note_lasts-self-inside.ensures.lasts ∙ (λ i. noted c.advance.new.parts.at (drop (c.len-before.ensures i) c.advance.new.runs.list) c.self.inside.lasts.items))
           (c.note_lasts-self-inside.ensures.moved ∙ (λ i. moved_by c.advance.new.parts.at (drop (c.len-before.ensures i) c.advance.new.runs.list) c.self.inside.lasts.items)));
       ordered = λ e. c.self.invariant.ordered usable ∙ ap rule_order (automations-more j x (entries-have j told.lies.entries) ∙ ap automations (sym is));
+      named = c.self.invariant.named ∙ names-more j x (entries-have j told.lies.entries) ∙ ap names (sym is);
     }
 
 pub returns-in-Ok-clause-put : goal.returns-in-Ok-clause-put
@@ -140,6 +142,7 @@ invariant_of-self-in-Err c = record {
   followed = true-not;
   noted = true-not;
   ordered = true-not;
+  named = c.self.invariant.named ∙ ap names (sym (c.in-Err.ensures.journal ∙ c.reserve.ensures.items));
 }
 
 pub returns-in-Err-clause-stays : goal.returns-in-Err-clause-stays

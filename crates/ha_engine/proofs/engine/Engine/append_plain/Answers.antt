@@ -8,8 +8,8 @@ use Rattle.std.specs.Prelude.{List}
 use Rattle.ha_journal.specs.declared.entry.Entry.{Entry}
 use Rattle.ha_journal.specs.declared.entry.Entry.TheVariants.{Line}
 use Rattle.ha_journal.specs.Commands.{IsFair, put_as}
-use Rattle.ha_journal.specs.Journal.{Journal, automations, more}
-use Rattle.ha_journal.proofs.MoreLemmas.{automations-more}
+use Rattle.ha_journal.specs.Journal.{Journal, automations, more, names}
+use Rattle.ha_journal.proofs.MoreLemmas.{automations-more, names-more}
 use Rattle.ha_whole.specs.Segments.{segment}
 use Rattle.ha_whole.specs.Whole.{HasRoom, Right, put}
 use Rattle.segment_carry.specs.ByName.{rule_order}
@@ -60,6 +60,7 @@ invariant_of-self c = record {
   followed = true-not;
   noted = true-not;
   ordered = true-not;
+  named = c.self.invariant.named ∙ ap names (sym c.reserve.ensures.items);
 }
 
 pub invariant_of-self-in-Ok : goal.invariant_of-self-in-Ok
@@ -90,6 +91,7 @@ invariant_of-self-in-Ok c =
           (c.note_lasts-self-inside.ensures.lasts ∙ (λ i. noted c.follow_pushed.new.parts.at (drop (c.len-before.ensures i) c.follow_pushed.new.runs.list) c.self.inside.lasts.items))
           (c.note_lasts-self-inside.ensures.moved ∙ (λ i. moved_by c.follow_pushed.new.parts.at (drop (c.len-before.ensures i) c.follow_pushed.new.runs.list) c.self.inside.lasts.items)));
       ordered = λ e. c.self.invariant.ordered usable ∙ ap rule_order (automations-more j x (entries-have j told.lies.entries) ∙ ap automations (sym there));
+      named = c.self.invariant.named ∙ names-more j x (entries-have j told.lies.entries) ∙ ap names (sym there);
     }
 
 pub returns-in-Ok-clause-put : goal.returns-in-Ok-clause-put
@@ -141,6 +143,7 @@ invariant_of-self-in-Err c =
       followed = true-not;
       noted = true-not;
       ordered = true-not;
+      named = c.self.invariant.named ∙ ap names (sym back);
     }
 
 pub returns-in-Err-clause-stays : goal.returns-in-Err-clause-stays

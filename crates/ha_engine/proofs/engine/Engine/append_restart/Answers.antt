@@ -2,7 +2,7 @@ use Rattle.std.proofs.Common.{◌≡◌, ◌-◌, true, take, length, refl, sym,
 use Rattle.ha_config.specs.declared.command.Cmd.{Cmd}
 use Rattle.ha_journal.specs.declared.entry.Entry.{Entry}
 use Rattle.ha_journal.specs.declared.entry.Entry.TheVariants.{Line}
-use Rattle.ha_journal.specs.Journal.{Journal, automations, more}
+use Rattle.ha_journal.specs.Journal.{Journal, automations, more, names}
 use Rattle.ha_whole.specs.Whole.{HasRoom, again_of, put}
 use Rattle.segment_carry.specs.ByName.{rule_order}
 use Rattle.segment_runs.specs.Segment.{all_of}
@@ -13,7 +13,7 @@ use Rattle.ha_engine.specs.declared.bounds.Bounds.{Bounds}
 use Rattle.ha_engine.specs.Told.{IsTold}
 use Rattle.ha_engine.proofs.ChangeLemmas.{take-less}
 use Rattle.ha_engine.proofs.FollowedLemmas.{told-same, true-not}
-use Rattle.ha_engine.proofs.StoredLemmas.{automations-behind}
+use Rattle.ha_engine.proofs.StoredLemmas.{automations-behind, names-behind}
 use Rattle.ha_engine.proofs.engine.Engine.append_restart.Goals as goal
 
 pub follow_restart-requires-clause-restarting : goal.follow_restart-requires-clause-restarting
@@ -42,6 +42,7 @@ invariant_of-self c = record {
   followed = true-not;
   noted = true-not;
   ordered = true-not;
+  named = c.self.invariant.named ∙ ap names (sym c.reserve.ensures.items);
 }
 
 pub invariant_of-self-in-Ok : goal.invariant_of-self-in-Ok
@@ -55,6 +56,7 @@ invariant_of-self-in-Ok c =
       noted = λ e. c.in-Ok.ensures.noted;
       ordered = λ e. c.self.invariant.ordered (ap (λ (v : Core). v.is_spent) c.self.view_is ∙ c.requires.usable)
           ∙ ap rule_order (automations-behind j x (again_of (more j x)) (entries-have j c.self.invariant.told.lies.entries) ∙ ap automations (sym (c.in-Ok.ensures.put ∙ (λ i. more (is i) (again_of (is i))))));
+      named = c.self.invariant.named ∙ names-behind j x (again_of (more j x)) (entries-have j c.self.invariant.told.lies.entries) ∙ ap names (sym (c.in-Ok.ensures.put ∙ (λ i. more (is i) (again_of (is i)))));
     }
 
 pub returns-in-Ok-clause-put : goal.returns-in-Ok-clause-put
@@ -84,6 +86,7 @@ invariant_of-self-in-Err c =
       followed = true-not;
       noted = true-not;
       ordered = true-not;
+      named = c.self.invariant.named ∙ ap names (sym back);
     }
 
 pub returns-in-Err-clause-stays : goal.returns-in-Err-clause-stays

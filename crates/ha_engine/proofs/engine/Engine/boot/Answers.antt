@@ -3,10 +3,13 @@ use Rattle.std.specs.Prelude.{IsSome, Option}
 use Rattle.ha_clock.specs.Zone.{zone_of}
 use Rattle.ha_journal.specs.declared.entry.Entry.TheVariants.{Boot}
 use Rattle.ha_journal.specs.Entries.{first_carry}
-use Rattle.ha_journal.specs.Journal.{Journal, automations}
+use Rattle.ha_journal.specs.Journal.{Journal, automations, names}
 use Rattle.ha_config.specs.declared.config.Automation.{Automation}
 use Rattle.ha_config.specs.Names.{name_of, of_automations}
 use Rattle.ha_config.specs.Words.{Text, up_to}
+use Rattle.ha_config.specs.Sound.{is_sound_config}
+use Rattle.ha_config.proofs.UnitLemmas.{units-few}
+use Rattle.engine_parts.proofs.ViewLemmas.{true-of}
 use Rattle.store_text.specs.Store.{Switches}
 use Rattle.switch_book.specs.Book.{StandsFor}
 use Rattle.ha_model.specs.Records.{records_of}
@@ -21,6 +24,9 @@ use Rattle.ha_engine.proofs.engine.Engine.boot.Goals as goal
 
 pub rule_order-requires : goal.rule_order-requires
 rule_order-requires c = subst (λ (all : List Automation). length all ≤ 1_024) (sym c.as_slice-automations.ensures) (sound-few c.args.config c.requires.config)
+
+pub names-requires : goal.names-requires
+names-requires c = units-few c.args.config (true-of (is_sound_config c.args.config) c.requires.config)
 
 pub begin_first-requires : goal.begin_first-requires
 begin_first-requires c =
@@ -66,6 +72,7 @@ invariant_of-result c =
           (noted-boot c.args.text c.args.config c.args.stored c.args.start c.args.zone c.requires.config c.args.last c.requires.last c.in_ok-runs.runs c.first-2.result own c.in_ok-runs.ensures.closed c.first-2.ensures
           c.in_ok-lasts.lasts.items c.note_lasts-moved.new.lasts.items c.note_lasts-moved.result c.requires.start made c.note_lasts-moved.ensures.lasts);
       ordered = λ e. c.in_ok-order.ensures ∙ (λ i. rule_order (c.as_slice-automations.ensures i)) ∙ ap (λ (j : Journal). rule_order (automations j)) (sym is);
+      named = c.in_ok-names.ensures ∙ ap names (sym is);
     }
 
 pub returns-clause-runs : goal.returns-clause-runs

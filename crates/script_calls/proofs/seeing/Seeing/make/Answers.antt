@@ -1,4 +1,4 @@
-use Rattle.std.proofs.Common.{◌≡◌, ◌≤◌, ap, subst, sym, arith}
+use Rattle.std.proofs.Common.{◌≤◌, ap, subst, sym, arith}
 use Rattle.ha_clock.specs.Local.{last_moment}
 use Rattle.ha_config.specs.Units.{scripts_of}
 use Rattle.ha_sight.specs.Sight.{Sight}

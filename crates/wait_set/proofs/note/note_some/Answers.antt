@@ -3,7 +3,7 @@ use Rattle.wait_set.specs.Asked.{noted, owners_ended}
 use Rattle.wait_set.specs.Concern.{IsStill}
 use Rattle.wait_set.proofs.ConcernLemmas.{apart, left-before, left-from, none-left, updates-else}
 use Rattle.wait_set.proofs.NotedLemmas.{Still, behind-noted, ended-done, ended-next, ended-skip, length-noted, noted-done, noted-next, noted-skip}
-use Rattle.wait_set.proofs.waits.note_some.Goals as goal
+use Rattle.wait_set.proofs.note.note_some.Goals as goal
 
 pub places-init : goal.places-init
 places-init g c = record {

@@ -3,7 +3,7 @@ use Rattle.wait_set.specs.declared.asked.Asked.{Asked}
 use Rattle.wait_set.specs.Asked.{noted, owners_ended}
 use Rattle.wait_set.specs.Concern.{IsStill, has}
 use Rattle.wait_set.specs.Timers.{AreKept}
-use Rattle.wait_set.proofs.waits.note_some.Given as goal
+use Rattle.wait_set.proofs.note.note_some.Given as goal
 
 abbrev pub decreases-places : goal.decreases-places
 decreases-places g l = length l.left.keys

@@ -4,7 +4,7 @@ use Rattle.wait_set.proofs.KeptLemmas.{asking-kept, kept-ended, kept-noted, set-
 use Rattle.wait_set.proofs.NotedLemmas.{none-ends, none-noted, one-ends, set-noted}
 use Rattle.wait_set.proofs.OnLemmas.{on-any, on-then}
 use Rattle.wait_set.proofs.TimedLemmas.{due-kept, ends-none, ends-some, stays-some}
-use Rattle.wait_set.proofs.waits.note_at.Goals as goal
+use Rattle.wait_set.proofs.note.note_at.Goals as goal
 
 pub returns-then-at-len-clause-ok : goal.returns-then-at-len-clause-ok
 returns-then-at-len-clause-ok g c =

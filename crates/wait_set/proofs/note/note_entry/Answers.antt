@@ -2,7 +2,7 @@ use Rattle.std.proofs.Common.{◌≡◌, ◌∙◌, false, get_or, subst, sym}
 use Rattle.wait_set.specs.Concern.{OfOthers, fires_for, has}
 use Rattle.wait_set.specs.Timers.{IsLater}
 use Rattle.wait_set.proofs.CalmLemmas.{still-aside}
-use Rattle.wait_set.proofs.waits.note_entry.Goals as goal
+use Rattle.wait_set.proofs.note.note_entry.Goals as goal
 
 pub note_some-requires : goal.note_some-requires
 note_some-requires g c n d lt none =

@@ -1,7 +1,7 @@
 use Rattle.std.proofs.Common.{◌∙◌, ◌+◌, ap, length, take, drop, ◌++◌}
 use Rattle.wait_set.specs.Asked.{noted, owners_ended}
 use Rattle.wait_set.proofs.NotedLemmas.{ended-next, length-noted, noted-next}
-use Rattle.wait_set.proofs.waits.note_all.Goals as goal
+use Rattle.wait_set.proofs.note.note_all.Goals as goal
 
 pub loop-at-preserved : goal.loop-at-preserved
 loop-at-preserved g c =
