@@ -6,7 +6,7 @@ from difflib import get_close_matches
 
 from . import kinds
 from .families import told_template
-from .keys import ACTION_KINDS, ACTIONS, AUTOMATION, CONDITIONS, GROUPS, MODES, SCRIPT, TRIGGERS
+from .keys import ACTION_KINDS, ACTIONS, AUTOMATION, CONDITIONS, GROUPS, HELPERS, MODES, SCRIPT, TRIGGERS
 from .notation import Fault
 
 # C5: keys that are not taken, by the place where they stand ("" for any).
@@ -32,7 +32,7 @@ UNKNOWN = {
     ("script", "actions"): "`sequence`",
     ("script", "triggers"): "leave it out: nothing but a call starts a script",
     ("script", "variables"): "the action `variables`, first in `sequence`",
-    ("file", "homeassistant"): "leave it out: the file has `automation` and `script` alone",
+    ("file", "homeassistant"): "leave it out: the file has `automation`, `script` and helpers alone",
 }
 
 # C14: kinds that are not there, by the place where they stand.
@@ -59,6 +59,7 @@ KIND_OF_VALUE = {
     "target ids": "a text or a list of texts: `entity_id: [light.hall, light.porch]`",
     "choose": "a list of maps with `conditions` and `sequence`", "option": "a map with `conditions` and `sequence`",
     "repeat": "a map with `sequence`, and `count`, `while`, `until` or `for_each`",
+    "helper": "a map, or nothing: `visits: {initial: 0}`, `visits:`", "helpers": "a map from names to helpers: `visits: {initial: 0}`",
     "script": "a map with `sequence`", "scripts": "a map from names to scripts: `morning: {sequence: []}`",
     "automation": "a map with `triggers` and `actions`", "file": "`automation:` with a list below it",
     "trigger": "a map: `trigger: state` and its keys", "condition": "a condition: a template or a map",
@@ -91,6 +92,7 @@ SIGN = {"!": "a tag: write the value itself, in this file", "&": "an anchor: wri
         "*": "an alias: write the value out", "@": "put quotes round it", "`": "put quotes round it", "%": "put quotes round it",
         "?": "a key that is no scalar: `key: value`"}
 LIMITS = {"file": "over 1,048,576 bytes: fewer automations in the file", "automations": "the 1,025th automation: fewer of them", "scripts": "the 1,025th script: fewer of them",
+          "helpers": "the 1,025th helper: fewer of them",
           "triggers": "the 65th trigger: a second automation", "template": "a template over 16,384 bytes: a shorter one"}
 
 
@@ -118,10 +120,10 @@ def synonyms(fault: Fault) -> str:
 def keys_at(where: str) -> list[str]:
     """The keys that are taken at a place."""
     place, _, kind = where.partition(" ")
-    table = {"trigger": TRIGGERS, "condition": CONDITIONS, "action": ACTIONS}.get(place, {}).get("action" if kind == "service" else kind)
+    table = {"trigger": TRIGGERS, "condition": CONDITIONS, "action": ACTIONS, "helper": HELPERS}.get(place, {}).get("action" if kind == "service" else kind)
     own = list(table.kinds) if table else []
     more = {"automation": ["triggers", "conditions", "actions", "mode", *AUTOMATION.kinds], "target": ["entity_id"],
-            "script": ["sequence", "mode", *SCRIPT.kinds], "file": ["automation", "script"], "duration": list(kinds.PARTS), "option": ["conditions", "sequence"],
+            "script": ["sequence", "mode", *SCRIPT.kinds], "file": ["automation", "script", *HELPERS], "duration": list(kinds.PARTS), "option": ["conditions", "sequence"],
             "repeat": ["count", "while", "until", "for_each", "sequence"], "trigger": ["id", "enabled"], "condition": ["enabled", "weekday"],
             "action": ["enabled", "continue_on_error", "entity_id", "target", "then", "else", "default"]}
     return own + more.get(place, [])
@@ -134,14 +136,15 @@ def unknown_key(fault: Fault) -> str:
     if cure is None and fault.word in ACTION_KINDS and where.startswith("action "):
         cure = "an item of its own: two actions are two items of the list"
     if cure is None and where == "file":
-        cure = "the file has the keys `automation` and `script` alone, each once; lists of several files are put below it by hand"
+        cure = "the file has the keys `automation`, `script`, `input_boolean`, `counter` and `timer` alone, each once; lists of several files are put below it by hand"
     if cure is None and where == "side":
         return f"`{fault.word}` beside its opposite: keep one of them"
     if cure is None:
         close = get_close_matches(fault.word, keys_at(where), 1)
         cure = f"`{close[0]}`" if close else "leave it out"
     place = {"file": "the file", "target": "a target", "option": "an option of `choose`", "repeat": "a `repeat`",
-             "automation": "an automation", "script": "a script", "duration": "a duration"}.get(where, "this " + where.replace(" action", "").replace("_", " "))
+             "automation": "an automation", "script": "a script", "helper input_boolean": "a flag",
+             "helper counter": "a counter", "helper timer": "a timer", "duration": "a duration"}.get(where, "this " + where.replace(" action", "").replace("_", " "))
     return f"`{fault.word}` is no key of {place}: {cure}"
 
 
@@ -182,6 +185,8 @@ def no_id(fault: Fault) -> str:
         return f"`{fault.word}` is no service: `light.turn_on`"
     if fault.what == "script name":
         return f"`{fault.word}` is no name of a script: small letters, digits and `_`"
+    if fault.what == "helper name":
+        return f"`{fault.word}` is no name of a helper: small letters, digits and `_`"
     if fault.what == "entity kind":
         return "no entity id: a text or a list of texts"
     if fault.word.lower() == "all":
@@ -202,6 +207,8 @@ def kind_of_value(fault: Fault) -> str:
 
 def no_number(fault: Fault) -> str:
     """No number, or one out of range."""
+    if fault.what == "counter":
+        return f"`{fault.word}`: `initial` (0 where it is not given) has to be from `minimum` to `maximum`"
     word = f"`{fault.word}` "
     if fault.what == "number" and kinds.is_entity(fault.word):
         return (word + "is no number: a template trigger or condition: "

@@ -10,7 +10,7 @@ Doubt = tuple[Automation, int, str]
 
 def doubts_of(file: File) -> list[Doubt]:
     """The doubts of each automation without faults, in its order, and of the scripts where all are taken."""
-    known = ({one.name for one in file.automations}, {one.name for one in file.scripts})
+    known = ({one.name for one in file.automations}, {one.name for one in file.scripts}, file.helpers)
     out: list[Doubt] = []
     for automation in file.automations:
         if automation.node.kind != "map":

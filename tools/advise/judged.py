@@ -9,8 +9,8 @@ from second_reading.template import holds_template
 from second_reading.values import is_entity
 
 from . import kinds
-from .keys import (ACTION_KINDS, ACTIONS, AUTOMATION, CONDITIONS, GROUPS, MODES, MOST_SCRIPTS, MOST_TRIGGERS, OF_ANY_ACTION,
-                   OF_ANY_TRIGGER, SCRIPT, SYNONYMS, TRIGGERS, Keys)
+from .keys import (ACTION_KINDS, ACTIONS, AUTOMATION, CONDITIONS, GROUPS, HELPERS, MODES, MOST_HELPERS, MOST_SCRIPTS, MOST_TRIGGERS,
+                   OF_ANY_ACTION, OF_ANY_TRIGGER, SCRIPT, SYNONYMS, TRIGGERS, Keys)
 from .kinds import Judge, Kind
 from .notation import Key, Node
 
@@ -18,7 +18,11 @@ Reads = Callable[[Node, int], None]
 
 
 class Config(Judge):
-    """Judges an automation, part by part."""
+    """Judges an automation, part by part; and helpers, whose ids and bounds it keeps."""
+
+    def __init__(self) -> None:
+        super().__init__()
+        self.bounds: dict[str, tuple[int, int]] = {}
 
     def map(self, node: Node, where: str, keys: Keys, more: dict[str, Reads], any_keys: dict[str, Kind]) -> None:
         """The keys of a map: each by its kind, the others told; then those that are missing."""
@@ -96,6 +100,39 @@ class Config(Judge):
             self.say(line, "C7", "script", node.text)
             return
         self.map(node, "script", SCRIPT, {"mode": self.mode, "sequence": self.actions}, {})
+
+    # Helpers
+
+    def helpers(self, found: list[tuple[Key, Node]]) -> None:
+        """All helpers: for each kind a map by their names, or null for none."""
+        named: list[tuple[Key, Node]] = []
+        for key, node in found:
+            if node.kind not in ("null", "open", "map"):
+                self.say(node.line, "C7", "helpers", node.text)
+            for name, value in node.pairs if node.kind == "map" else []:
+                if re.fullmatch("[a-z0-9_]+", name.text) is None:
+                    self.say(name.line, "C8", "helper name", name.text)
+                self.helper(key.text, name, value)
+                named.append((name, value))
+        for over, value in named[MOST_HELPERS:MOST_HELPERS + 1]:
+            self.say(over.line if value.kind == "null" else value.line, "C12", "helpers")
+
+    def helper(self, kind: str, name: Key, node: Node) -> None:
+        """One helper, null or a map."""
+        self.bounds[f"{kind}.{name.text}"] = -10**12, 10**12
+        if node.kind in ("null", "open"):
+            return
+        if node.kind != "map":
+            self.say(node.line, "C7", "helper", node.text)
+            return
+        before = len(self.faults)
+        self.map(node, f"helper {kind}", HELPERS[kind], {}, {})
+        if kind == "counter" and not any(fault.code == "C10" for fault in self.faults[before:]):
+            first, least, most = (int(part.text) if part is not None and kinds.SIGNED.fullmatch(part.text) else usual for part, usual in (
+                (node.get("initial"), 0), (node.get("minimum"), -10**12), (node.get("maximum"), 10**12)))
+            self.bounds[f"counter.{name.text}"] = least, most
+            if not least <= first <= most:
+                self.say(name.line, "C10", "counter", name.text)
 
     def mode(self, node: Node, line: int) -> None:
         """The mode of an automation or a script."""

@@ -1,4 +1,4 @@
-"""The keys of triggers, conditions, actions, automations and scripts, by kind, with what their values are."""
+"""The keys of triggers, conditions, actions, automations, scripts and helpers, by kind, with what their values are."""
 
 from __future__ import annotations
 
@@ -66,8 +66,15 @@ AUTOMATION = Keys({"alias": kinds.text, "id": kinds.text, "initial_state": kinds
                   ignored=("description", "max_exceeded", "trace"))
 SCRIPT = Keys({"max": kinds.max_runs}, needed=("sequence",),
               ignored=("alias", "description", "icon", "fields", "max_exceeded"))
+HELPERS = {
+    "input_boolean": Keys({"initial": kinds.flag}, ignored=("name", "icon")),
+    "counter": Keys({"initial": kinds.first, "step": kinds.step, "minimum": kinds.bound, "maximum": kinds.bound},
+                    ignored=("name", "icon", "restore")),
+    "timer": Keys({"duration": kinds.duration}, ignored=("name", "icon", "restore")),
+}
 MODES = ("single", "restart", "queued", "parallel")
 SYNONYMS = {"trigger": "triggers", "condition": "conditions", "action": "actions"}
 MOST_TRIGGERS = 64
 MOST_AUTOMATIONS = 1024
 MOST_SCRIPTS = 1024
+MOST_HELPERS = 1024

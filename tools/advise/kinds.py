@@ -18,6 +18,7 @@ PARTS = {"days": 86_400_000, "hours": 3_600_000, "minutes": 60_000, "seconds": 1
 TIME = re.compile(r"([0-9]{1,2}):([0-9]{2})(?::([0-9]{2}))?")
 DAYS = ("mon", "tue", "wed", "thu", "fri", "sat", "sun")
 DIGITS = re.compile(r"[0-9]+")
+SIGNED = re.compile(r"-?[0-9]+")
 
 
 class Judge:
@@ -96,6 +97,17 @@ def whole(judge: Judge, node: Node, line: int, least: int = 0, most: Optional[in
         return
     if not (node.is_scalar() and DIGITS.fullmatch(node.text)) or not (least <= int(node.text) and (most is None or int(node.text) <= most)):
         judge.say(line, "C10", "whole", node.text)
+
+
+def counted(written: re.Pattern[str], least: int) -> Kind:
+    """A whole number of a counter, from `least` on and in the range of numbers."""
+    def judged(judge: Judge, node: Node, line: int) -> None:
+        if node.kind != "open" and not (node.is_scalar() and written.fullmatch(node.text) and least <= int(node.text) <= 10**12):
+            judge.say(line, "C10", "counted", node.text)
+    return judged
+
+
+first, step, bound = counted(DIGITS, 0), counted(DIGITS, 1), counted(SIGNED, -10**12)
 
 
 def max_runs(judge: Judge, node: Node, line: int) -> None:

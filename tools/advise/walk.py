@@ -8,12 +8,14 @@ from second_reading.config import FLAGS
 from second_reading.template import holds_template, parse
 from second_reading.values import is_entity
 
+from .helped import Helpers, helper_doubts
 from .notation import Node
 from .services import call_doubts
 from .shapes import Fields, Shape, is_list, joined, kind_of, of_data, of_triggers
 from .template_doubts import TemplateDoubts, article, no_automation
 
 Blocks = list[dict[str, Shape]]
+Known = tuple[set[str], set[str], Helpers]
 SaysYes = ("true", "yes", "on", "enable")
 OWN = ("trigger", "repeat", "wait")
 LISTED = {
@@ -37,10 +39,10 @@ def is_disabled(node: Node) -> bool:
 class Walk:
     """Goes over one automation or script, and says what nobody can have meant."""
 
-    def __init__(self, node: Node, entity: str, known: tuple[set[str], set[str]], say: Callable[[int, str], None]) -> None:
+    def __init__(self, node: Node, entity: str, known: Known, say: Callable[[int, str], None]) -> None:
         self.node = node
         self.entity = entity
-        self.automations, self.scripts = known
+        self.automations, self.scripts, self.helpers = known
         self.say = say
         self.hands_over = False
 
@@ -190,6 +192,7 @@ class Walk:
         if (data := node.get("data")) is not None:
             self.form(data, names)
         call_doubts(node, self.say, self.automations, self.scripts)
+        helper_doubts(node, self.say, self.helpers)
 
     def wait(self, node: Node, blocks: Blocks) -> None:
         """A wait, and what it leaves."""

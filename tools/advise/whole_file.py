@@ -9,11 +9,12 @@ from typing import Optional
 from second_reading.config import free_name, slug
 
 from .judged import Config
-from .keys import MOST_AUTOMATIONS
+from .keys import HELPERS, MOST_AUTOMATIONS
 from .notation import Fault, Key, Lines, Node
 from .yaml import read_tree
 
 LONGEST = 1_048_576
+OTHERS = re.compile(r"(?:script|input_boolean|counter|timer):(?:[ \t]|$)")
 
 
 @dataclass
@@ -28,10 +29,12 @@ class Automation:
 
 @dataclass
 class File:
-    """What was read of a file: its automations and scripts, the faults outside them, and what the program answers of it."""
+    """What was read of a file: its automations, scripts and helpers (of counters the bounds), the faults outside them, and what the program
+    answers of it."""
 
     automations: list[Automation] = field(default_factory=list)
     scripts: list[Automation] = field(default_factory=list)
+    helpers: dict[str, tuple[int, int]] = field(default_factory=dict)
     faults: list[Fault] = field(default_factory=list)
     refusal: Optional[Fault] = None
     is_cut: bool = False
@@ -76,8 +79,9 @@ def of_tree(tree: Node) -> File:
             if key.text == "script":
                 judge.scripts(key, value)
                 scripts = [Automation(name.text, one, kind="script") for name, one in value.pairs]
-            elif key.text != "automation":
+            elif key.text not in ("automation", *HELPERS):
                 judge.say(key.line, "C5", "file", key.text)
+        judge.helpers([(key, value) for key, value in tree.pairs if key.text in HELPERS])
         held = tree.get("automation") or Node(tree.line, "null")
         if tree.get("automation") is None:
             judge.say(tree.line, "C6", "file", "automation")
@@ -87,7 +91,7 @@ def of_tree(tree: Node) -> File:
     items = held.items if held.kind == "list" else [held] if held.kind != "null" else []
     for over in items[MOST_AUTOMATIONS:MOST_AUTOMATIONS + 1]:
         judge.say(over.line, "C12", "automations")
-    return File([judged(item) for item in named(items)], scripts, judge.faults)
+    return File([judged(item) for item in named(items)], scripts, judge.bounds, judge.faults)
 
 
 def judged(found: Automation) -> Automation:
@@ -133,10 +137,10 @@ def cut(text: str) -> list[str]:
         head += 1
         while head < len(lines) and lines.is_blank(head):
             head += 1
-    if head < len(lines) and re.match(r"automation:[ \t]*(#.*)?$", lines.lines[head]):
-        head += 1
+    key = next((row for row in range(head, len(lines)) if re.match(r"automation:[ \t]*(#.*)?$", lines.lines[row])), None)
+    head = head if key is None else key + 1
     starts = [row for row in range(head, len(lines)) if not lines.is_blank(row)]
-    end = next((row for row in starts if re.match(r"script:[ \t]*(#.*)?$", lines.lines[row])), len(lines))
+    end = next((row for row in starts if OTHERS.match(lines.lines[row])), len(lines))
     starts = [row for row in starts if row < end]
     if not starts or not re.match(r" *-( |$)", lines.lines[starts[0]]):
         return []

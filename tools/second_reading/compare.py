@@ -44,6 +44,11 @@ def stored_text(home: Home) -> Optional[str]:
     return print_value({"last": last, "switches": home.stored})[:-1] + ',"version":2}'
 
 
+def text_of(home: Home) -> str:
+    """The configuration of a home."""
+    return yaml_text(home.automations, home.scripts, home.helpers)
+
+
 def lines_of(data: bytes) -> list[str]:
     """The lines of what was written."""
     return data.decode("utf-8", "surrogateescape").splitlines() if b"\r" not in data else [repr(data)]
@@ -51,7 +56,7 @@ def lines_of(data: bytes) -> list[str]:
 
 def answer_of(program: str, home: Home, folder: pathlib.Path) -> Answer:
     """Runs the program on a home in a folder of its own."""
-    (folder / "home.yaml").write_text(yaml_text(home.automations, home.scripts))
+    (folder / "home.yaml").write_text(text_of(home))
     (folder / "lines.txt").write_bytes(home.source())
     store, trace = folder / "hearth_store.json", folder / "trace.txt"
     for old in (store, trace):
@@ -70,8 +75,8 @@ def answer_of(program: str, home: Home, folder: pathlib.Path) -> Answer:
 
 def outcome_of(home: Home, limit: int) -> Outcome:
     """What the second reading makes of a home."""
-    return run_home(home.automations, home.source(), home.start, home.zone, yaml_text(home.automations, home.scripts), home.stored,
-                    home.last, limit, home.scripts)
+    return run_home(home.automations, home.source(), home.start, home.zone, text_of(home), home.stored, home.last, limit,
+                    home.scripts, home.helpers)
 
 
 def first_difference(what: str, here: list[str], there: list[str]) -> list[str]:
@@ -100,7 +105,7 @@ def told(home: Home, answer: Answer, outcome: Outcome) -> str:
     """A home, its lines, what each of the two wrote, and where that differs, as text."""
     head = f"start {home.start}, zone {home.zone}, stored {json.dumps(home.stored)}, last {json.dumps(home.last)}"
     both = written("the program", answer) + written("the second reading", outcome)
-    return "\n".join([head, "", yaml_text(home.automations, home.scripts), *home.lines, "", *both, *differences(answer, outcome)])
+    return "\n".join([head, "", text_of(home), *home.lines, "", *both, *differences(answer, outcome)])
 
 
 class Comparer:

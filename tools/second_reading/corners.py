@@ -6,6 +6,7 @@ from typing import Any
 
 from .called import CALLED, halting
 from .generate import Home
+from .helped import HELPED
 from .rows import GO, SAME_STATE, call, event, go, moment, on, report
 
 START = "2024-05-01T20:00:00Z"
@@ -161,7 +162,7 @@ HOMES = {
 
 CHAIN = {f"s{n}": {"sequence": [call(f"script.s{n + 1}"), call(n=n)]} for n in range(60)}
 
-HOMES |= {row.name: Home(row.home, row.lines, row.start, row.zone, scripts=row.scripts) for row in CALLED}
+HOMES |= {row.name: Home(row.home, row.lines, row.start, row.zone, scripts=row.scripts, helpers=row.helpers) for row in CALLED + HELPED}
 
 HOMES |= {
     "a chain of calls": home([go([call("script.s0"), call("notify.end")], mode="parallel")], [event("go"), event("go"), moment("20:00:05")],

@@ -8,10 +8,12 @@ from typing import Any, Mapping, Optional, Sequence
 from .clock import print_moment, read_moment, read_zone
 from .conditions import Pairs, test_all
 from .config import Automation, read_config, read_scripts
+from .helpers import Helper, read_helpers
 from .journal import NOTHING, Entry, Journal
 from .lines import Command, commands_of, print_command, print_text, print_value, refused, target_automation
 from .script import Script, Thread
 from .triggers import firings
+from .values import whole
 
 LIMIT = 1_048_576
 """The entries of a segment."""
@@ -48,12 +50,13 @@ class Engine:
     """The journal of one source with its records, and the lines that come of them. Behind the automations the scripts have numbers."""
 
     def __init__(self, config: list[Automation], start: int, zone: str, stored: Mapping[str, bool],
-                 last: Mapping[str, int], limit: int = LIMIT, scripts: Sequence[Automation] = ()) -> None:
+                 last: Mapping[str, int], limit: int = LIMIT, scripts: Sequence[Automation] = (),
+                 helpers: Optional[Mapping[str, Helper]] = None) -> None:
         self.config = config
         self.units = config + list(scripts)
         self.taken = {one.name: last[one.name] for one in config if one.name in last}
         self.last = dict(self.taken)
-        self.journal = Journal(config, start, read_zone(zone), stored)
+        self.journal = Journal(config, start, read_zone(zone), stored, helpers or {})
         self.journal.scripts = {one.name.split(".")[1]: len(config) + at for at, one in enumerate(scripts)}
         self.limit = limit
         self.front = 0
@@ -72,6 +75,8 @@ class Engine:
         name = target_automation(command)
         if name is not None and name not in self.journal.numbers:
             command = refused(9)
+        if (command.get("report") or command.get("gone")) in self.journal.helpers:
+            command = refused(14)
         place = self.put(Entry(command=command), "restart" in command)
         self.trace.append(f'{{"source":0,"number":{self.lines},"cmd":{print_command(command)}}}')
         if "refused" in command:
@@ -103,7 +108,7 @@ class Engine:
         item = record.script.item
         place = self.put(Entry(serial=record.serial, branch=branch, item=item))
         self.trace.append(f'{{"worker":0,"run":{record.serial},"branch":[{",".join(map(str, branch))}],'
-                          f'"item":{print_value(item)}}}')
+                          f'"item":{print_value(printable(item))}}}')
         self.write(record, item)
         if record.thread.status is not None:
             record.end = (place, record.thread.status)
@@ -228,6 +233,13 @@ class Engine:
         return print_value({"last": last, "switches": dict(sorted(on.items()))})[:-1] + ',"version":2}'
 
 
+def printable(item: dict[str, Any]) -> dict[str, Any]:
+    """An item as a trace has it: the spans of changes in milliseconds."""
+    if "helped" not in item:
+        return item
+    return {"helped": [one | {"span": None if one["span"] is None else whole(one["span"])} for one in item["helped"]]}
+
+
 def named_attempts(entry: Entry) -> tuple[Optional[list[str]], bool]:
     """The automations that a command or call names, and whether their conditions are skipped."""
     if entry.command and "trigger" in entry.command:
@@ -252,11 +264,12 @@ class Outcome:
 def run_home(automations: list[dict[str, Any]], source: bytes, start: str = "2024-05-01T20:00:00Z",
              zone: str = "UTC", text: str = "", stored: Optional[dict[str, bool]] = None,
              last: Optional[dict[str, int]] = None, limit: int = LIMIT,
-             scripts: Optional[dict[str, Any]] = None) -> Outcome:
+             scripts: Optional[dict[str, Any]] = None, helpers: Optional[dict[str, Any]] = None) -> Outcome:
     """What a home's lines come to. `last` has when automations last triggered, as a store of version 2 keeps it."""
     began = read_moment(start)
     assert began is not None
-    engine = Engine(read_config(automations), began, zone, stored or {}, last or {}, limit, read_scripts(scripts or {}))
+    engine = Engine(read_config(automations), began, zone, stored or {}, last or {}, limit, read_scripts(scripts or {}),
+                    read_helpers(helpers or {}))
     taken = {name: print_moment(at) for name, at in sorted(engine.taken.items())}
     status = engine.run(commands_of(source))
     boot = print_value({"boot": {"config": text, "stored": stored, **({"last": taken} if taken else {}),

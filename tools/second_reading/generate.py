@@ -35,6 +35,7 @@ class Home:
     stored: Optional[dict[str, bool]] = None
     last: Optional[dict[str, int]] = None
     scripts: Optional[dict[str, Any]] = None
+    helpers: Optional[dict[str, Any]] = None
 
     def source(self) -> bytes:
         """The bytes of the source."""

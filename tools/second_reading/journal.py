@@ -2,15 +2,17 @@
 
 from __future__ import annotations
 
-from dataclasses import dataclass, replace
+from dataclasses import dataclass, field, replace
 from typing import Any, Mapping, Optional
 
 from .clock import Zone
 from .config import Automation
+from .helpers import Helper, Known
 from .lines import Command
 from .values import Num, Value, attribute_text, read_number, same
 
 Item = dict[str, Any]
+Event = tuple[str, dict[str, Value]]
 NOTHING: Item = {"nothing": True}
 
 
@@ -46,13 +48,17 @@ class Entry:
         """Whether it is a restart, which ends its segment."""
         return self.command is not None and "restart" in self.command
 
-    def event(self) -> Optional[tuple[str, dict[str, Value]]]:
+    def event(self) -> Optional[Event]:
         """The type and data of the event that the entry is."""
         if self.command and "event" in self.command:
             return self.command["event"], self.command["data"]
         if self.item and "fired" in self.item:
             return self.item["fired"]["event"], self.item["fired"]["data"]
         return None
+
+    def changes(self) -> list[dict[str, Any]]:
+        """The helpers that it changes."""
+        return (self.item or {}).get("helped", [])
 
     def switched(self) -> list[tuple[str, bool, bool]]:
         """The automations whose switch is set: name, new value, and whether runs are stopped."""
@@ -72,12 +78,14 @@ class Entry:
 
 @dataclass(frozen=True)
 class Sight:
-    """What stands after an entry. `since` has, per automation, the place after which it can fire."""
+    """What stands after an entry. `since` has, per automation, the place after which it can fire; `known` has the last changes of
+    helpers in the segment."""
 
     states: Mapping[str, StateObject]
     now: int
     on: tuple[bool, ...]
     since: tuple[int, ...]
+    known: Mapping[str, Known] = field(default_factory=dict)
 
     def state_text(self, entity: str) -> Optional[str]:
         """The text of an entity, if it is there."""
@@ -91,19 +99,33 @@ class Sight:
 class Journal:
     """All entries so far, and the sight after each of them."""
 
-    def __init__(self, config: list[Automation], start: int, zone: Zone, stored: Mapping[str, bool]) -> None:
+    def __init__(self, config: list[Automation], start: int, zone: Zone, stored: Mapping[str, bool],
+                 helpers: Mapping[str, Helper]) -> None:
         self.config = config
+        self.helpers = helpers
         self.zone = zone
         self.numbers = {one.name: at for at, one in enumerate(config)}
         self.scripts: dict[str, int] = {}
         on = tuple(stored.get(one.name, True) if one.initial is None else one.initial for one in config)
         self.entries = [Entry()]
-        self.after = [self.started(start, on, 0)]
+        self.after = [self.opened(start, on, 0)]
 
     def started(self, now: int, on: tuple[bool, ...], place: int) -> Sight:
-        """The sight after a restart, or after what opens a segment."""
+        """The sight after a restart or after what opens a segment, but for the helpers."""
         return Sight({f"automation.{one.name}": switch_object(on[at], now) for at, one in enumerate(self.config)},
                      now, on, tuple(place for _ in on))
+
+    def opened(self, now: int, on: tuple[bool, ...], place: int) -> Sight:
+        """The sight after what opens a segment: the helpers have their first texts."""
+        sight = self.started(now, on, place)
+        first = {name: StateObject(one.first, {}, now, now) for name, one in self.helpers.items()}
+        return replace(sight, states={**sight.states, **first})
+
+    def restarted(self, before: Sight, on: tuple[bool, ...], place: int) -> Sight:
+        """The sight after a restart: the helpers are as they were."""
+        sight = self.started(before.now, on, place)
+        kept = {name: held for name, held in before.states.items() if name in self.helpers}
+        return replace(sight, states={**sight.states, **kept}, known=before.known)
 
     def append(self, entry: Entry) -> int:
         """Puts an entry and tells its place."""
@@ -117,13 +139,17 @@ class Journal:
         command = entry.command or {}
         if entry.restarts() or entry.opens():
             on = tuple(old if one.initial is None else one.initial for one, old in zip(self.config, before.on))
-            return self.started(before.now, on, place)
+            return self.opened(before.now, on, place) if entry.opens() else self.restarted(before, on, place)
         if "moment" in command:
-            return replace(before, now=max(before.now, command["moment"]))
+            now = max(before.now, command["moment"])
+            idle = {name: with_text(before, name, "idle", now) for name in self.finishing(before, now)}
+            return replace(before, now=now, states={**before.states, **idle})
         if "report" in command:
             return replace(before, states={**before.states, command["report"]: reported(before, command)})
         if "gone" in command:
             return replace(before, states={k: v for k, v in before.states.items() if k != command["gone"]})
+        for change in entry.changes():
+            before = self.with_change(before, change)
         for name, on_now, _ in entry.switched():
             before = self.with_switch(before, self.numbers[name], on_now, place)
         return before
@@ -134,11 +160,33 @@ class Journal:
             return before
         name = f"automation.{self.config[at].name}"
         since = before.since[:at] + ((place if on else before.since[at]),) + before.since[at + 1:]
-        return Sight({**before.states, name: switch_object(on, before.now)}, before.now,
-                     before.on[:at] + (on,) + before.on[at + 1:], since)
+        return replace(before, states={**before.states, name: switch_object(on, before.now)},
+                       on=before.on[:at] + (on,) + before.on[at + 1:], since=since)
+
+    def with_change(self, before: Sight, change: dict[str, Any]) -> Sight:
+        """The sight with a helper changed."""
+        name, text = change["entity"], change["text"]
+        return replace(before, states={**before.states, name: with_text(before, name, text, before.now)},
+                       known={**before.known, name: Known(text, change["span"], before.now)})
+
+    def finishing(self, before: Sight, now: int) -> list[str]:
+        """The timers that finish at a moment, as configured."""
+        return [name for name in self.helpers
+                if before.states[name].text == "active" and name in before.known and before.known[name].over(now)]
+
+    def events(self, place: int) -> list[Event]:
+        """The events of an entry: its own, those of its changes, and those of timers that finish there."""
+        entry = self.entries[place]
+        own = entry.event()
+        if own is not None:
+            return [own]
+        found = [(one["event"], one["entity"]) for one in entry.changes() if one["event"] is not None]
+        if entry.command and "moment" in entry.command:
+            found = [("timer.finished", name) for name in self.finishing(self.after[place - 1], self.after[place].now)]
+        return [(kind, {"entity_id": name}) for kind, name in found]
 
     def latest_number(self, entity: str, attribute: Optional[str], end: int) -> Optional[Num]:
-        """The latest number that a report of an entity gave, in the segment and before place `end`."""
+        """The latest number that a report or change of an entity gave, in the segment and before place `end`."""
         for entry in reversed(self.entries[:end]):
             if entry.opens():
                 return None
@@ -162,8 +210,17 @@ def reported(before: Sight, command: Command) -> StateObject:
     return StateObject(text, attributes, changed, old.updated if old and still else before.now)
 
 
+def with_text(before: Sight, name: str, text: str, now: int) -> StateObject:
+    """A helper's state with a text: since when it has had it without a break."""
+    old = before.states[name]
+    return old if old.text == text else StateObject(text, {}, now, now)
+
+
 def reported_number(entry: Entry, entity: str, attribute: Optional[str]) -> Optional[Num]:
-    """The number that an entry reports for an entity's text or attribute."""
+    """The number that an entry reports for an entity's text or attribute; a change of a helper has a text alone."""
+    changed = next((one["text"] for one in entry.changes() if one["entity"] == entity), None)
+    if changed is not None:
+        return read_number(changed) if attribute is None else None
     command = entry.command or {}
     if command.get("report") != entity:
         return None

@@ -65,12 +65,14 @@ class Row:
     zone: str = "UTC"
     limit: int = 20_000
     scripts: Optional[dict[str, Any]] = None
+    helpers: Optional[dict[str, Any]] = None
     trace: Optional[list[str]] = None
 
     def run(self) -> Outcome:
         """What the second reading makes of it."""
         source = "".join(line + "\n" for line in self.lines).encode("utf-8", "surrogateescape")
-        return run_home(self.home, source, self.start, self.zone, limit=self.limit, scripts=self.scripts)
+        return run_home(self.home, source, self.start, self.zone, limit=self.limit, scripts=self.scripts,
+                        helpers=self.helpers)
 
     def faults(self) -> list[str]:
         """Where the second reading departs from the row."""

@@ -13,6 +13,7 @@ from typing import Any, Callable, Generator, Optional, Union
 from .clock import SPAN_BOUND, read_span
 from .conditions import Pairs, test, test_all
 from .config import PARTS, Action, Condition, Form, Template, Trigger
+from .helpers import Unfit, changes, is_service
 from .journal import NOTHING, Item, Journal, Sight
 from .template import holds_template, render
 from .triggers import firings, template_true
@@ -295,7 +296,18 @@ class Script:
             return self.of_script(name, target, data)
         if domain == "automation" and name in ("turn_on", "turn_off", "toggle", "trigger"):
             return self.own_service(name, target, data, place)
+        if is_service(self.journal.helpers, domain, name):
+            return self.of_helpers(service, target, data, place)
         return {"call": {"service": service, "target": target, "data": data}}
+
+    def of_helpers(self, service: str, target: list[str], data: dict[str, Value], place: int) -> Item:
+        """The changes in place of the call of a service of helpers."""
+        sight, helpers = self.sight(place), self.journal.helpers
+        texts = {name: sight.states[name].text for name in helpers}
+        try:
+            return {"helped": changes(helpers, service, target, data, texts, sight.known, sight.now)}
+        except Unfit as unfit:
+            raise Failure(unfit.args[0]) from None
 
     def of_script(self, name: str, target: list[str], data: dict[str, Value]) -> Item:
         """The item in place of the call of a script."""

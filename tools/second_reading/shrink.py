@@ -70,6 +70,12 @@ def smaller_scripts(home: Home) -> Iterator[Home]:
         yield replace(home, scripts=without(home.scripts, path))
 
 
+def smaller_helpers(home: Home) -> Iterator[Home]:
+    """The home without a part of its helpers."""
+    for path in paths(home.helpers or {}):
+        yield replace(home, helpers=without(home.helpers, path))
+
+
 def plainer(home: Home) -> Iterator[Home]:
     """The home without a store or its moments, or in UTC."""
     if home.stored is not None:
@@ -85,7 +91,7 @@ def shrink(home: Home, keeps: Callable[[Home], bool], budget: int = 3000) -> Hom
     going = True
     while going and budget > 0:
         going = False
-        for make in (smaller_lines, smaller_automations, smaller_scripts, plainer):
+        for make in (smaller_lines, smaller_automations, smaller_scripts, smaller_helpers, plainer):
             found = True
             while found and budget > 0:
                 found = False

@@ -396,7 +396,79 @@ def of_called(seed: int) -> Home:
     return Home(automations, maker.lines(STARTS[0]), STARTS[0], "UTC", scripts=scripts)
 
 
+class Helped(Maker):
+    """Automations that change flags, counters and timers, and that these begin."""
+
+    def named(self, domain: str) -> Any:
+        """Targets of a service, mostly helpers of its kind."""
+        return self.one(f"{domain}.a", f"{domain}.b", [f"{domain}.b", f"{domain}.a"], [f"{domain}.a", f"{domain}.no", "light.x", f"{domain}.a"],
+                        f"{{{{ '{domain}.' ~ ('a' if is_state('input_boolean.a', 'on') else 'b') }}}}")
+
+    def given(self, service: str) -> dict[str, Any]:
+        """The data of a service, seldom some that it does not take."""
+        if service == "counter.set_value":
+            return {"data": {"value": self.one(0, 1, 2, 3, "{{ states('counter.b')|int + 1 }}", "{{ 1 }}", "1", 2.0, 9)}}
+        if service == "timer.start" and self.maybe(0.5):
+            return {"data": {"duration": self.one(0, 1, 2, 3, "00:00:02", "{{ 1 + 1 }}", "4", "x")}}
+        return self.one({}, {}, {}, {"data": {"value": 1, "duration": 2}})
+
+    def change(self) -> dict[str, Any]:
+        """A call of a service of helpers."""
+        domain, name = self.one(("input_boolean", "turn_on"), ("input_boolean", "turn_off"), ("input_boolean", "toggle"),
+                                ("counter", "increment"), ("counter", "increment"), ("counter", "decrement"), ("counter", "reset"),
+                                ("counter", "set_value"), ("timer", "start"), ("timer", "start"), ("timer", "start"), ("timer", "pause"),
+                                ("timer", "cancel"), ("timer", "finish"), ("timer", "change"))
+        return {"action": f"{domain}.{name}", "target": {"entity_id": self.named(domain)}} | self.given(f"{domain}.{name}")
+
+    def seen(self) -> dict[str, Any]:
+        """A call that tells what is seen of helpers and of what began the run."""
+        self.marks += 1
+        sees = {name: f"{{{{ states('{name}') }}}}" for name in self.some(HELPERS, 3)}
+        began = {"k": "{{ trigger.event.event_type }}", "d": "{{ trigger.event.data.entity_id }}", "e": "{{ trigger.entity_id }}"}
+        return {"action": "notify.seen", "data": {"mark": self.marks} | sees | began}
+
+    def begun(self) -> dict[str, Any]:
+        """A trigger that helpers move, mostly."""
+        return self.pick([
+            (3, lambda: {"trigger": "event", "event_type": self.one(["timer.finished"], ["timer.started", "timer.restarted"], ["timer.paused"],
+                                                                   ["timer.cancelled", "timer.finished"])}
+             | self.one({}, {}, {"event_data": {"entity_id": self.one("timer.a", "timer.b")}})),
+            (3, lambda: {"trigger": "state", "entity_id": self.some(HELPERS)} | self.one({}, {"to": None}, {"to": ["on", "active", "2"]})
+             | self.hold()),
+            (2, lambda: {"trigger": "numeric_state", "entity_id": self.one("counter.a", "counter.b"), "above": self.one(0, 1, 2)} | self.hold()),
+            (1, lambda: {"trigger": "template", "value_template": f"{{{{ states('counter.a')|int > {self.one(0, 1)} }}}}"}),
+            (3, lambda: {"trigger": "event", "event_type": "go"}), (0.5, self.simple_trigger)])
+
+    def act(self) -> Any:
+        """An action."""
+        return self.pick([
+            (8, self.change), (3, self.seen), (2, lambda: {"delay": self.one(0, 1, 1, 2)}), (0.5, self.own_call),
+            (1, lambda: {"wait_for_trigger": [self.begun()], "timeout": self.one(1, 2, 3)}),
+            (1, lambda: {"repeat": {"count": self.one(2, 3), "sequence": [self.change()]}}),
+            (0.5, lambda: f"{{{{ is_state('{self.one(*HELPERS)}', '{self.one('on', 'active', 'idle', '1')}') }}}}")])
+
+
+HELPERS = ("input_boolean.a", "input_boolean.b", "counter.a", "counter.b", "timer.a", "timer.b")
+
+
+def of_helpers(seed: int) -> Home:
+    """Up to four automations that change up to six helpers, which begin others."""
+    maker = Helped(seed)
+    maker.known, maker.words = ("light.x", "counter.a", "timer.a"), ("on", "off", "1")
+    maker.weights = {"event": 7.0, "moment": 9.0, "report": 1.0, "gone": 0.3, "own": 1.0, "restart": 0.5}
+    helpers: dict[str, Any] = {
+        "timer": {"a": {"duration": maker.one(1, 2, 3)}, "b": maker.one(None, {"duration": 2, "restore": True})},
+        "input_boolean": {"b": {"initial": True}, "a": None},
+        "counter": {"a": {"maximum": maker.one(2, 3)}, "b": {"initial": 1, "step": maker.one(1, 2), "minimum": maker.one(0, 1)}}}
+    if maker.maybe(0.15):
+        del helpers[maker.one(*helpers)]
+    automations = [{"alias": name, "triggers": [maker.begun() for _ in range(maker.one(1, 1, 2))],
+                    "actions": [maker.act() for _ in range(maker.one(2, 3, 4))] + [maker.seen()],
+                    "mode": maker.one("single", "restart", "queued", "parallel"), "max": maker.one(1, 2, 3)} for name in maker.names]
+    return Home(automations, maker.lines(STARTS[0]), STARTS[0], "UTC", helpers=helpers)
+
+
 STYLES: dict[str, Callable[[int], Home]] = {
     "mixed": make_home, "triggers": of_triggers, "conditions": of_conditions, "scripts": of_scripts,
     "templates": of_templates, "lines": of_lines, "holds": of_holds, "modes": of_modes, "blocks": of_blocks,
-    "waits": of_waits, "odds": of_odds, "times": of_times, "called": of_called}
+    "waits": of_waits, "odds": of_odds, "times": of_times, "called": of_called, "helpers": of_helpers}

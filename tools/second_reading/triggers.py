@@ -6,7 +6,7 @@ from typing import Any, Iterator, Optional
 
 from .clock import passed_local
 from .config import EventRule, NumericRule, PatternRule, StartRule, StateRule, TemplateRule, TimeRule, Trigger
-from .journal import Journal, StateObject, reported_number
+from .journal import Event, Journal, StateObject, reported_number
 from .template import render
 from .values import Fault, Value, equal, same, says_yes
 
@@ -38,7 +38,7 @@ def moves(journal: Journal, trigger: Trigger, entity: Optional[str], place: int)
     if isinstance(rule, NumericRule):
         return numeric_moves(journal, rule, str(entity), place)
     if isinstance(rule, EventRule):
-        return event_moves(journal, rule, place)
+        return bool(events_of(journal, rule, place))
     if isinstance(rule, TemplateRule):
         return template_true(journal, rule.text, place, {}) and not template_true(journal, rule.text, place - 1, {})
     return not isinstance(rule, StartRule) and time_moves(journal, rule, place)
@@ -79,12 +79,10 @@ def numeric_moves(journal: Journal, rule: NumericRule, entity: str, place: int) 
     return earlier is None or not rule.holds(earlier)
 
 
-def event_moves(journal: Journal, rule: EventRule, place: int) -> bool:
-    """The entry is an event of a listed type whose data has each listed pair."""
-    event = journal.entries[place].event()
-    if event is None or event[0] not in rule.kinds:
-        return False
-    return all(key in event[1] and equal(event[1][key], value) for key, value in rule.pairs)
+def events_of(journal: Journal, rule: EventRule, place: int) -> list[Event]:
+    """The events of an entry that are of a listed type and whose data has each listed pair."""
+    return [(kind, data) for kind, data in journal.events(place)
+            if kind in rule.kinds and all(key in data and equal(data[key], value) for key, value in rule.pairs)]
 
 
 def fits(unit: str, value: int) -> bool:
@@ -150,8 +148,8 @@ def state_map(journal: Journal, entity: str, place: int) -> Value:
             "attributes": held.attributes}
 
 
-def variables(journal: Journal, trigger: Trigger, entity: Optional[str], moved: int) -> dict[str, Value]:
-    """The map `trigger` of a trigger that moved at a place."""
+def variables(journal: Journal, trigger: Trigger, entity: Optional[str], moved: int, event: Optional[Event] = None) -> dict[str, Value]:
+    """The map `trigger` of a trigger that moved at a place, perhaps by an event."""
     out: dict[str, Value] = {"platform": trigger.platform, "id": trigger.id, "idx": str(trigger.idx)}
     rule = trigger.rule
     if isinstance(rule, (StateRule, NumericRule)):
@@ -161,15 +159,18 @@ def variables(journal: Journal, trigger: Trigger, entity: Optional[str], moved: 
         out["attribute"] = rule.attribute
     if isinstance(rule, NumericRule):
         out |= {"above": rule.above, "below": rule.below}
-    event = journal.entries[moved].event()
-    if isinstance(rule, EventRule) and event is not None:
+    if event is not None:
         out["event"] = {"event_type": event[0], "data": event[1]}
     return out
 
 
 def firings(journal: Journal, triggers: list[Trigger], since: int, place: int) -> Iterator[dict[str, Value]]:
-    """The variables of all triggers of a list that fire at a place, in order."""
+    """The variables of all triggers of a list that fire at a place, in order; by events a trigger fires once for each of them."""
     for trigger in triggers:
+        if isinstance(trigger.rule, EventRule):
+            for event in events_of(journal, trigger.rule, place) if place > since else []:
+                yield variables(journal, trigger, None, place, event)
+            continue
         for entity in entities_of(trigger):
             moved = fires(journal, trigger, entity, since, place)
             if moved is not None:

@@ -56,11 +56,14 @@ def leaf(value: Any) -> str:
     return "{}" if isinstance(value, dict) else scalar(value)
 
 
-def yaml_text(automations: list[dict[str, Any]], scripts: Optional[dict[str, Any]] = None) -> str:
+def yaml_text(automations: list[dict[str, Any]], scripts: Optional[dict[str, Any]] = None,
+              helpers: Optional[dict[str, Any]] = None) -> str:
     """The whole file."""
-    if not (automations or scripts):
+    if not (automations or scripts or helpers):
         return "[]\n"
     lines = ["automation:"] + block(automations, 2) if automations else ["automation: []"]
     if scripts:
         lines += ["script:"] + block(scripts, 2)
+    if helpers:
+        lines += block(helpers, 0)
     return "\n".join(lines) + "\n"

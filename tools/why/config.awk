@@ -5,6 +5,7 @@ function configure(text, root, list, scripts, i) {
     root = yaml(text)
     if (kind[root] == "map") {
         scripts = get(root, "script")
+        read_helpers(root)
         root = get(root, "automation")
     }
     has_scripts = scripts && size[scripts]

@@ -1,6 +1,6 @@
 # Which automations an entry may have asked to run, by their triggers (docs/FORMATS.md, docs/MEANING.md). Decided is whether it moves a
 # trigger on states, on numbers of states, on events or on starts; another one may fire where the entry is one at which such can. The entry
-# is told by `entry_is` (start, ask, event, moment, change or other) and what stands beside it, as why.awk sets it.
+# is told by `entry_is` (start, ask, event, moment, change, helped or other) and what stands beside it, as why.awk sets it.
 
 # The answer of an automation: fires, may, off or no (one of its triggers looks at this), or apart. `because` has a row for each such
 # trigger, and `movers` names those that fire or may.
@@ -59,9 +59,14 @@ function any_of(n, out) {
 function trigger_answer(t, k) {
     k = trigger_kind(t)
     if (entry_is == "start") return k == "homeassistant" ? says("fires", "met") : "apart"
-    if (entry_is == "moment") return moment_answer(t, k)
+    if (k == "event" && given) return given_answer(t)
+    if (entry_is == "moment") return both_answer(t, k)
     if (entry_is == "event") return k == "event" ? event_answer(t) : "apart"
-    if (entry_is != "change") return "apart"
+    return entry_is == "change" || entry_is == "helped" ? change_answer(t, k) : "apart"
+}
+
+# The answer to the changes of entities.
+function change_answer(t, k) {
     if (k == "template") return changes ? held(t, says("may", "met if its template became true")) : "apart"
     if (k == "state" || k == "numeric_state") return changes_answer(t, k)
     return "apart"
@@ -180,7 +185,7 @@ function numeric_answer(t, i, text, number) {
     if (!is_number(text)) return says("no", "not met, what is reported is no number")
     if (!is_within(t, text)) return says("no", "not met, " text " is not in its bounds")
     if (get(t, "attribute")) return says("may", "met if the number before was not in its bounds")
-    if (number_before != "" && is_within(t, number_before)) return says("no", "not met, the number before, " number_before ", was in its bounds too")
+    if (number_before[i] != "" && is_within(t, number_before[i])) return says("no", "not met, the number before, " number_before[i] ", was in its bounds too")
     return says("fires", "met")
 }
 

@@ -32,7 +32,7 @@ function command_of(text) {
     if (text ~ /^\{"switch":"automation\.[a-z0-9_]+","to":"(on|off)","stop_actions":(true|false)\}$/) return "switch"
     if (text ~ /^\{"trigger":"automation\.[a-z0-9_]+","skip_condition":(true|false)\}$/) return "trigger"
     if (text ~ /^\{"restart":true\}$/) return "restart"
-    if (text ~ /^\{"refused":"L([1-9]|10)"\}$/) return "refused"
+    if (text ~ /^\{"refused":"L([1-9]|10|14)"\}$/) return "refused"
     return text ~ /^\{"(lost|too_long)":true\}$/ ? "shut" : ""
 }
 
@@ -44,7 +44,8 @@ function item_of(text) {
     if (text ~ /^\{"triggered":\{"automations":\[[a-z0-9_",]*\],"skip_condition":(true|false)\}\}$/) return "triggered"
     if (text ~ /^\{"started":\{"scripts":\[[a-z0-9_",]*\],"data":\{.*\},"waits":(true|false)\}\}$/) return "started"
     if (text ~ /^\{"halted":\[[a-z0-9_",]*\]\}$/) return "halted"
-    return text ~ /^\{"failed":"F[1-6]"\}$/ ? "failed" : ""
+    if (text ~ /^\{"helped":\[(\{"entity":"[a-z0-9_]+\.[a-z0-9_]+","text":"[a-z0-9-]+","span":(null|[0-9]+),"event":(null|"timer\.[a-z]+")\},?)*\]\}$/) return "helped"
+    return text ~ /^\{"failed":"F[1-7]"\}$/ ? "failed" : ""
 }
 
 # The next line of the trace, if it may stand there: the first is a boot and no other, each source's lines are counted, behind a restart an

@@ -70,7 +70,7 @@ function concern(run) {
 
 # Whether a line can ask for runs.
 function begins_runs() {
-    return is == "boot" || is == "again" || is == "line" && act !~ /^(refused|shut|restart)$/ || act ~ /^(fired|switched|triggered|started)$/ && is == "step"
+    return is == "boot" || is == "again" || is == "line" && act !~ /^(refused|shut|restart)$/ || act ~ /^(fired|switched|triggered|started|helped)$/ && is == "step"
 }
 
 # The first line: the configuration, the switches, the time.
@@ -97,14 +97,16 @@ function take(i) {
     forget(lasting)
     matters = here == wanted || here >= low && here < high
     entry_is = "other"
-    changed = changes = by_switch = 0
+    changed = changes = by_switch = given = 0
     said = ""
     if (is == "boot") {
         entry_is = "start"
         said = opening
+        begin_helpers()
     } else if (is == "again") {
         entry_is = "start"
         said = "all began anew, behind the restart of line " (here - 1)
+        begin_helpers()
     } else if (is == "line") take_command(act == "report" && !matters ? 0 : printed(rest))
     else if (is == "step") take_item(act == "call" && !matters && !is_about[number] ? 0 : printed(rest))
     else said = "all is done, after " counted(here - 1, "entry")
@@ -163,7 +165,12 @@ function take_report(e, tail, state) {
     state = plain_text(substr(tail, 2, RLENGTH - 2))
     tail = substr(tail, RLENGTH + 15)
     change(e, 1, state, substr(tail, 1, length(tail) - 1))
-    number_before = number_since[e] == starts + 1 ? number_in[e] : ""
+    note_number(e, state)
+}
+
+# The number of a changed state, and the one before it.
+function note_number(e, state) {
+    number_before[changed] = number_since[e] == starts + 1 ? number_in[e] : ""
     if (!is_number(state)) return
     number_since[e] = starts + 1
     number_in[e] = state
@@ -202,6 +209,7 @@ function take_moment(moment) {
     entry_is = "moment"
     passes = moment > time
     if (passes) time = moment
+    finish_timers()
 }
 
 function ask_for(n) {
@@ -247,7 +255,8 @@ function take_item(n, i, list, inner) {
     if (act == "fired") take_event(inner)
     else if (act == "switched") {
         for (i = 1; i <= size[inner]; i++) turn_automation(word[get(part[inner, i], "automation")], is_true(part[inner, i], "on"), is_true(part[inner, i], "stop"))
-    } else if (act == "triggered") {
+    } else if (act == "helped") take_changes(inner)
+    else if (act == "triggered") {
         ask_for(inner)
         list = get(inner, "automations")
         for (i = 1; i <= size[list]; i++) asked[word[part[list, i]]] = 1
@@ -332,6 +341,7 @@ function take_step(run, n, a) {
 function is_planned(a, n) {
     if (n > planned[a]) return !is_whole[a]
     if (act ~ /^(call|started|halted)$/ && plan_call[a, n] != "" && plan_call[a, n] != service) return 0
+    if (act == "helped" && plan_call[a, n] != "" && !is_helping(plan_call[a, n])) return 0
     return act == "failed" || (act == "nothing") == (plan[a, n] !~ /^(acted|called)$/)
 }
 
@@ -345,6 +355,7 @@ function can_do(a) {
     if (branch != "[]" && !splits[a]) return 0
     if (act == "fired") return (a, "event", event_type) in names
     if (act ~ /^(call|started|halted)$/) return may_call(a, service)
+    if (act == "helped") return may_help(a)
     if (act == "triggered") return may_call(a, "automation.trigger")
     if (act == "switched") return may_call(a, "automation.turn_on") || may_call(a, "automation.turn_off") || may_call(a, "automation.toggle")
     return 1

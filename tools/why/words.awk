@@ -28,7 +28,7 @@ function command_words(n) {
     if (act == "report") return report_words()
     if (act == "gone") return entity[1] " was reported gone" (stood[1] ? "" : ", which was not there")
     if (act == "event") return "the event " quoted(event_type) " came" with_data(event_data)
-    if (act == "moment") return passes ? "the time became " time : "a moment came that is not later than " time ", and passed no time"
+    if (act == "moment") return (passes ? "the time became " time : "a moment came that is not later than " time ", and passed no time") (finished == "" ? "" : ", and " finished " finished")
     if (act == "switch") return word[get(n, "switch")] " was turned " word[get(n, "to")] runs_words(n)
     if (act == "trigger") return word[get(n, "trigger")] " was asked to run, " (skips ? "whatever its conditions" : "if its conditions hold")
     if (act == "restart") return "all was restarted: no states, no runs"
@@ -68,6 +68,7 @@ function item_words(n, inner, i, out) {
         for (i = 1; i <= size[inner]; i++) out = out (i > 1 ? ", " : " ") "script." word[part[inner, i]]
         return "ended the runs of" (out == "" ? " no script" : out)
     }
+    if (act == "helped") return change_words(inner)
     if (act == "triggered") {
         for (i = 1; i <= size[get(inner, "automations")]; i++) out = out (i > 1 ? ", " : " ") "automation." word[part[get(inner, "automations"), i]]
         return "asked" (out == "" ? " no automation" : out) " to run, " (skips ? "whatever the conditions" : "if the conditions hold")

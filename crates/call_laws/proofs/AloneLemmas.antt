@@ -11,12 +11,15 @@ use Rattle.ha_config.specs.Words.{EachAfter, Pairs, Text, last_of}
 use Rattle.ha_config.proofs.ListLemmas.{append-nil, none-some, some-same}
 use Rattle.ha_sight.specs.declared.item.Item.{Item}
 use Rattle.ha_sight.specs.declared.steps.Inner.{Inner}
-use Rattle.ha_sight.specs.Inner.{inner_of, own_item}
+use Rattle.ha_sight.specs.Inner.{inner_of, inner_of_helpers, own_item}
 use Rattle.ha_sight.specs.Scripts.{Outcome, Spot, is_open}
 use Rattle.ha_journal.specs.declared.entry.Entry.{Entry}
 use Rattle.ha_journal.specs.declared.entry.Entry.TheVariants.{Boot, Line, Step, Again}
 use Rattle.ha_journal.specs.Entries.{Asked, asked_in, halted_in, turning}
-use Rattle.ha_journal.specs.Journal.{Journal, automations, configured, scripts, units}
+use Rattle.ha_journal.specs.Journal.{Journal, automations, configured, helpers, scripts, units}
+use Rattle.ha_journal.specs.Helpers.{known, last_change}
+use Rattle.ha_config.specs.declared.helper.Helper.{Helper}
+use Rattle.ha_sight.proofs.HelperCalls.{scripts-alone}
 use Rattle.ha_journal.specs.Moves.{sight}
 use Rattle.ha_model.specs.declared.record.Record.{Record}
 use Rattle.ha_model.specs.Lawful.{IsRightEntry, Right}
@@ -33,9 +36,24 @@ units-alone j none = (λ i. automations j ++ map as_unit (none i)) ∙ append-ni
 pub scripts-seen : (j : Journal) → scripts j ≡ [] → scripts_of (configured j) ≡ []
 scripts-seen j none = (λ i. numbered_from (length (automations j)) (none i))
 
--- LAW: no call is the core's own
-pub calls-alone : (j : Journal) (n : ℕ) (service : Text) (targets : List EntityId) (fields : Pairs) → scripts j ≡ [] → inner_of (sight j n) service targets fields ≡ Inner.Outer
-calls-alone j n service targets fields none = (λ i. option_map_or Inner.Does (own_item (scripts-seen j none i) service targets fields) Inner.Outer)
+helpers-before : (n : ℕ) (j : Journal) → helpers j ≡ [] → helpers (take n j) ≡ []
+helpers-before zero j none = refl
+helpers-before (suc n) [] none = refl
+helpers-before (suc n) (e ∷ es) none = none
+
+helpers-seen : (j : Journal) (n : ℕ) → helpers j ≡ [] → known (take n j) ≡ []
+helpers-seen j n none = (λ i. map (λ (h : Helper). record { helper = h; last = last_change (take n j) h.entity }) (helpers-before n j none i))
+
+-- LAW: a call is the core's own only where it is one of helpers
+pub calls-helped : (j : Journal) (n : ℕ) (service : Text) (targets : List EntityId) (fields : Pairs) → scripts j ≡ [] → inner_of (sight j n) service targets fields ≡ inner_of_helpers (sight j n) service targets fields
+calls-helped j n service targets fields none =
+    (λ i. option_map_or Inner.Does (own_item (scripts-seen j none i) service targets fields) (inner_of_helpers (sight j n) service targets fields))
+
+-- LAW: none is, where there are no helpers either
+pub calls-alone : (j : Journal) (n : ℕ) (service : Text) (targets : List EntityId) (fields : Pairs) → scripts j ≡ [] → helpers j ≡ [] → inner_of (sight j n) service targets fields ≡ Inner.Outer
+calls-alone j n service targets fields none unhelped =
+    scripts-alone (sight j n) service targets fields (helpers-seen j n unhelped)
+    ∙ (λ i. option_map_or Inner.Does (own_item (scripts-seen j none i) service targets fields) Inner.Outer)
 
 -- ---- what the places of a run see
 
@@ -97,6 +115,7 @@ asks-none (Boot text config stored start zone carry) chosen fields h e = cc
 asks-none (Again number start stored carry) chosen fields h e = cc
 asks-none (Step worker serial branch (Item.Started scripts given waits)) chosen fields h e = absurd h
 asks-none (Step worker serial branch (Item.Halted scripts)) chosen fields h e = absurd h
+asks-none (Step worker serial branch (Item.Helped changes)) chosen fields h e = cc
 asks-none (Step worker serial branch Item.Nothing) chosen fields h e = cc
 asks-none (Step worker serial branch (Item.Call service target given)) chosen fields h e = cc
 asks-none (Step worker serial branch (Item.Fired kind pairs)) chosen fields h e = cc
@@ -124,6 +143,7 @@ halts-none (Again number start stored carry) h = refl
 halts-none (Line source number cmd) h = refl
 halts-none (Step worker serial branch (Item.Started scripts fields waits)) h = absurd h
 halts-none (Step worker serial branch (Item.Halted scripts)) h = absurd h
+halts-none (Step worker serial branch (Item.Helped changes)) h = refl
 halts-none (Step worker serial branch Item.Nothing) h = refl
 halts-none (Step worker serial branch (Item.Call service target fields)) h = refl
 halts-none (Step worker serial branch (Item.Fired kind pairs)) h = refl

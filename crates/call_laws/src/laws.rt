@@ -6,13 +6,13 @@ ghost use Rattle.ha_config.specs.declared.config.Automation.{Automation};
 ghost use Rattle.ha_config.specs.Words.{EachAfter, Pairs, Text};
 ghost use Rattle.ha_sight.specs.declared.item.Item.{Item};
 ghost use Rattle.ha_sight.specs.declared.steps.Inner.{Inner};
-ghost use Rattle.ha_sight.specs.Inner.{inner_of};
+ghost use Rattle.ha_sight.specs.Inner.{inner_of, inner_of_helpers};
 ghost use Rattle.ha_sight.specs.Scripts.{Branch, Outcome, is_open};
 ghost use Rattle.ha_journal.specs.declared.entry.Entry.{Entry};
 ghost use Rattle.ha_journal.specs.declared.entry.Entry.TheVariants.{Step};
 ghost use Rattle.ha_journal.specs.Entries.{Asked, asked_in, turning};
 ghost use Rattle.ha_journal.specs.Attempts.{passing};
-ghost use Rattle.ha_journal.specs.Journal.{HasEntry, Journal, automations, more, scripts as scripts_in, units};
+ghost use Rattle.ha_journal.specs.Journal.{HasEntry, Journal, automations, helpers, more, scripts as scripts_in, units};
 ghost use Rattle.ha_journal.specs.Moves.{sight};
 ghost use Rattle.ha_model.specs.declared.record.Record.{Record};
 ghost use Rattle.ha_model.specs.Lawful.{Right};
@@ -44,12 +44,15 @@ pub fn callers_wait()
 {}
 
 /// A configuration without scripts means what it means where there are no scripts at all. The
-/// automations are the units, each call is one of their services or is written, a run gives what it
-/// gives on places that know of no called runs, and no entry of a right journal starts or ends runs
-/// of scripts: so its attempts are of automations, and what it stops it stops by switches alone.
+/// automations are the units; each call is one of helpers' services, where helpers are configured, one
+/// of automations' or is written; a run gives what it gives on places that know of no called runs; and no entry of
+/// a right journal starts or ends runs of scripts: so its attempts are of automations, and what it
+/// stops it stops by switches alone.
 pub fn without_scripts_automations_are_alone()
     ensures units { (j : Journal) → scripts_in j ≡ [] → units j ≡ automations j }
     ensures calls { (j : Journal) (n : ℕ) (service : Text) (targets : List EntityId) (fields : Pairs) → scripts_in j ≡ []
+        → inner_of (sight j n) service targets fields ≡ inner_of_helpers (sight j n) service targets fields }
+    ensures outer { (j : Journal) (n : ℕ) (service : Text) (targets : List EntityId) (fields : Pairs) → scripts_in j ≡ [] → helpers j ≡ []
         → inner_of (sight j n) service targets fields ≡ Inner.Outer }
     ensures runs { (j : Journal) (r : Record) → scripts_in j ≡ [] → ran j r ≡ plain_ran j r }
     ensures entries { (j : Journal) (rs : Records) → Right j rs → scripts_in j ≡ [] → EachAfter (λ before x. NamesNone x) [] j }

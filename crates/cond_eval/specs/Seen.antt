@@ -22,7 +22,7 @@ says_on s = same s.text (codes "on")
 abbrev pub is_shown_on : StateTable → Text → Bool
 is_shown_on states name = option_map_or says_on (at states (automation_id name)) false
 
--- what these parts see: the switch of an automation is the state of its entity, and no script is seen
+-- what these parts see: the switch of an automation is the state of its entity, and no script and no helper is seen
 abbrev pub sight_of : StateTable → Config → Text → ℕ → Sight
 sight_of states config zone moment = record {
   states = at states;
@@ -30,6 +30,7 @@ sight_of states config zone moment = record {
   zone = zone;
   automations = map {B = Text × Bool} (λ (a : Automation). (a.name, is_shown_on states a.name)) config.automations;
   scripts = [];
+  helpers = [];
 }
 
 abbrev pub seen : View → Sight

@@ -22,6 +22,7 @@ impl<'a> View<'a> {
         requires few { length config.now.automations ≤ 2 ^ 32 }
         ensures seen { seen result ≡ sight_of states.entry.now config.entry.now zone.entry.now at }
         ensures config { result.config.now ≡ config.entry.now }
+        ensures at { result.at ≡ at }
     {
         View {
             states,

@@ -1,3 +1,4 @@
+pub mod CountLemmas
 pub mod Lists
 pub mod Numbers
 pub mod ReadLemmas

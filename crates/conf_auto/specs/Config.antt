@@ -4,6 +4,7 @@ use Rattle.std.specs.List.{slice_get}
 use Rattle.ha_config.specs.declared.config.Automation.{Automation}
 use Rattle.ha_config.specs.declared.config.Config.{Config}
 use Rattle.ha_config.specs.declared.config.Script.{Script}
+use Rattle.ha_config.specs.declared.helper.Helper.{Helper}
 use Rattle.yaml_scan.specs.declared.fault.Fault.{Fault}
 use Rattle.yaml_scan.specs.declared.fault.Code.TheVariants as code
 use Rattle.yaml_tree.specs.declared.node.Node.{Node}
@@ -13,7 +14,9 @@ use Rattle.yaml_tree.specs.Tree.{tree}
 use Rattle.conf_field.specs.declared.key.Key.TheVariants as key
 use Rattle.conf_field.specs.Readings.{Read, bad, both, fault, made, unless}
 use Rattle.conf_field.specs.Fields.{Meaning, Pair, row, get, keys, need}
+use Rattle.conf_field.specs.declared.table.Row.{Row}
 use Rattle.conf_auto.specs.Automations.{automation, or_empty}
+use Rattle.conf_auto.specs.HelperMaps.{helper_rows, helpers_in}
 use Rattle.conf_auto.specs.Names.{joined}
 use Rattle.conf_auto.specs.Scripts.{scripts}
 
@@ -41,18 +44,26 @@ automations_by line n (NodeKind-F.Map pairs) = listed (n ∷ [])
 abbrev pub automations : Meaning (List Automation)
 automations line n = automations_by line n (shape_of n)
 
-abbrev pub made_root : Unit {0} × (List Automation × Option (List Script)) → Config
-made_root x = record { automations = x.1.0; scripts = or_empty x.1.1 }
+-- what stands beside the automations
+abbrev pub Others : Type 0
+Others = Option (List Script) × List Helper
 
--- the map of a file has the key of automations, and perhaps that of scripts
+abbrev pub made_root : Unit {0} × (List Automation × Others) → Config
+made_root x = record { automations = x.1.0; scripts = or_empty x.1.1.0; helpers = x.1.1.1 }
+
+abbrev pub root_rows : List Row
+root_rows = row key.Automation ∷ row key.Script ∷ helper_rows
+
+-- the map of a file has the key of automations, and perhaps those of scripts and of helpers
 abbrev pub root_map : ℕ → List Pair → Read Config
 root_map line pairs =
     made made_root
-    (both (keys (row key.Automation ∷ row key.Script ∷ []) pairs)
-    (both (need key.Automation line pairs automations) (get key.Script pairs scripts)))
+    (both (keys root_rows pairs)
+    (both (need key.Automation line pairs automations)
+    (both (get key.Script pairs scripts) (helpers_in pairs))))
 
 abbrev pub config_with : List Automation → Config
-config_with all = record { automations = all; scripts = [] }
+config_with all = record { automations = all; scripts = []; helpers = [] }
 
 -- A list stands for the value of the key of automations; null is no automation.
 abbrev pub root_by : ℕ → Shape → Read Config

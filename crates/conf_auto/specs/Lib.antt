@@ -1,5 +1,6 @@
 pub mod Automations
 pub mod Config
+pub mod HelperMaps
 pub mod Names
 pub mod Read
 pub mod Scripts

@@ -3,7 +3,6 @@
 ghost use Rattle.std.specs.Prelude.{◌≡◌, ◌<◌, ◌^◌, ◌∷◌, [], ℕ, List, Option, Result, None, Some, Ok, IfOk, length};
 ghost use Rattle.conf_field.specs.Sizes.{size};
 ghost use Rattle.ha_config.specs.declared.config.Automation.{Automation as One};
-ghost use Rattle.ha_config.specs.declared.config.Script.{Script as Called};
 ghost use Rattle.yaml_scan.specs.Answers.{Gives};
 ghost use Rattle.yaml_scan.specs.declared.fault.Fault.{Fault as Place};
 ghost use Rattle.yaml_tree.specs.declared.node.Node.{Node as Root};
@@ -14,12 +13,13 @@ ghost use Rattle.conf_auto.specs.Config as config;
 ghost use Rattle.conf_auto.specs.Read.{IsReadOf};
 
 use crate::automations::automation;
+use crate::helpers::helpers_in;
 use crate::names::joined;
 use crate::scripts::Scripts;
 use crate::size::is_small;
-use conf_field::rows::{AUTOMATION, SCRIPT};
-use conf_field::{Kind, Pair, bad, both, keys, needed, optional, unless};
-use ha_config::{Automation, Config, Script};
+use conf_field::rows::{AUTOMATION, COUNTER, INPUT_BOOLEAN, SCRIPT, TIMER};
+use conf_field::{Kind, Pair, Row, bad, both, keys, needed, optional, unless};
+use ha_config::{Automation, Config, Helper, Script};
 use ha_value::Many;
 use std::alloc::Global;
 use yaml_scan::{Code, Fault, YamlFault};
@@ -112,32 +112,41 @@ fn or_empty(alloc: Global, given: Option<Many<Script>>) -> Many<Script>
     }
 }
 
+/// What stands beside the automations.
+type Others = (Option<Many<Script>>, Many<Helper>);
+
 fn made_root(
     alloc: Global,
-    parts: Result<((), (Many<Automation>, Option<Many<Script>>)), YamlFault>,
+    parts: Result<((), (Many<Automation>, Others)), YamlFault>,
 ) -> Result<Config, YamlFault>
-    ensures { (m : Read (Prim.Unit {0} × (List One × Option (List Called)))) → Gives m parts → Gives (made config.made_root m) result }
+    ensures { (m : Read (Prim.Unit {0} × (List One × config.Others))) → Gives m parts → Gives (made config.made_root m) result }
 {
     match parts {
-        Ok((_, (automations, scripts))) => Ok(Config {
+        Ok((_, (automations, (scripts, helpers)))) => Ok(Config {
             automations,
             scripts: or_empty(alloc, scripts),
+            helpers,
         }),
         Err(fault) => Err(fault),
     }
 }
 
-/// The map of a file has the key of automations, and perhaps that of scripts.
+/// The keys of the map of a file.
+const ROOT_ROWS: [Row; 5] = [AUTOMATION, SCRIPT, INPUT_BOOLEAN, COUNTER, TIMER];
+
+/// The map of a file has the key of automations, and perhaps those of scripts and of helpers.
 fn root_map(alloc: Global, line: u32, pairs: &[Pair]) -> Result<Config, YamlFault>
     ensures { Gives (config.root_map line pairs.now) result }
 {
-    let known = keys(&[], &[AUTOMATION, SCRIPT], pairs);
+    let known = keys(&[], &ROOT_ROWS, pairs);
     let automations = needed::<Automations>(alloc, line, pairs, AUTOMATION);
     let scripts = optional::<Scripts>(alloc, pairs, SCRIPT);
-    made_root(alloc, both(known, both(automations, scripts)))
+    let helpers = helpers_in(alloc, pairs);
+    let others = both(scripts, helpers);
+    made_root(alloc, both(known, both(automations, others)))
 }
 
-/// A configuration without scripts.
+/// A configuration without scripts and helpers.
 fn config_with(alloc: Global, all: Result<Many<Automation>, YamlFault>) -> Result<Config, YamlFault>
     ensures { (m : Read (List One)) → Gives m all → Gives (made config.config_with m) result }
 {
@@ -145,6 +154,7 @@ fn config_with(alloc: Global, all: Result<Many<Automation>, YamlFault>) -> Resul
         Ok(automations) => Ok(Config {
             automations,
             scripts: Many::make(alloc),
+            helpers: Many::make(alloc),
         }),
         Err(fault) => Err(fault),
     }

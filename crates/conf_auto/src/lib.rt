@@ -3,6 +3,7 @@
 
 mod automations;
 mod config;
+mod helpers;
 mod names;
 mod scripts;
 mod size;

@@ -88,6 +88,11 @@ pub const COUNT: Row = Row {
     also: None,
 };
 
+pub const COUNTER: Row = Row {
+    key: Key::Counter,
+    also: None,
+};
+
 pub const DATA: Row = Row {
     key: Key::Data,
     also: None,
@@ -110,6 +115,11 @@ pub const DELAY: Row = Row {
 
 pub const DESCRIPTION: Row = Row {
     key: Key::Description,
+    also: None,
+};
+
+pub const DURATION: Row = Row {
+    key: Key::Duration,
     also: None,
 };
 
@@ -188,13 +198,28 @@ pub const IF: Row = Row {
     also: None,
 };
 
+pub const INITIAL: Row = Row {
+    key: Key::Initial,
+    also: None,
+};
+
 pub const INITIAL_STATE: Row = Row {
     key: Key::InitialState,
     also: None,
 };
 
+pub const INPUT_BOOLEAN: Row = Row {
+    key: Key::InputBoolean,
+    also: None,
+};
+
 pub const MAX: Row = Row {
     key: Key::Max,
+    also: None,
+};
+
+pub const MAXIMUM: Row = Row {
+    key: Key::Maximum,
     also: None,
 };
 
@@ -213,6 +238,11 @@ pub const MILLISECONDS: Row = Row {
     also: None,
 };
 
+pub const MINIMUM: Row = Row {
+    key: Key::Minimum,
+    also: None,
+};
+
 pub const MINUTES: Row = Row {
     key: Key::Minutes,
     also: None,
@@ -220,6 +250,11 @@ pub const MINUTES: Row = Row {
 
 pub const MODE: Row = Row {
     key: Key::Mode,
+    also: None,
+};
+
+pub const NAME: Row = Row {
+    key: Key::Name,
     also: None,
 };
 
@@ -258,6 +293,11 @@ pub const REPEAT: Row = Row {
     also: None,
 };
 
+pub const RESTORE: Row = Row {
+    key: Key::Restore,
+    also: None,
+};
+
 pub const SCRIPT: Row = Row {
     key: Key::Script,
     also: None,
@@ -283,6 +323,11 @@ pub const STATE: Row = Row {
     also: None,
 };
 
+pub const STEP: Row = Row {
+    key: Key::Step,
+    also: None,
+};
+
 pub const STOP: Row = Row {
     key: Key::Stop,
     also: None,
@@ -300,6 +345,11 @@ pub const THEN: Row = Row {
 
 pub const TIMEOUT: Row = Row {
     key: Key::Timeout,
+    also: None,
+};
+
+pub const TIMER: Row = Row {
+    key: Key::Timer,
     also: None,
 };
 

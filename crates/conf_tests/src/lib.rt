@@ -13,6 +13,8 @@ mod conditions;
 #[cfg(test)]
 mod editor;
 #[cfg(test)]
+mod helpers;
+#[cfg(test)]
 mod pasted;
 #[cfg(test)]
 mod plans;

@@ -60,6 +60,7 @@ fn config(
     Ok(Config {
         automations: rules,
         scripts: called,
+        helpers: Many::make(alloc),
     })
 }
 

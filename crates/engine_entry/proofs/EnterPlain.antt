@@ -1,6 +1,6 @@
 -- What is known once a line that changes no switch has made its own changes.
-use Rattle.std.proofs.Common.{◌≡◌, ℕ, ◌≤◌, ◌≢◌, [], length, Bool, true, false, refl, sym, ap, subst, ◌∙◌, arith}
-use Rattle.std.specs.Prelude.{Option, Some, None, IsSome, max, codes, not, ◌&&◌, ◌||◌, unwrap_or}
+use Rattle.std.proofs.Common.{◌≡◌, ℕ, ◌≤◌, ◌≢◌, List, [], ◌∷◌, length, Bool, true, false, true≢false, refl, sym, ap, subst, ◌∙◌, arith}
+use Rattle.std.specs.Prelude.{Option, Some, None, IsSome, IsTrue, max, codes, not, ◌&&◌, ◌||◌, unwrap_or}
 use Rattle.std.specs.Option.{option_map_or}
 use Rattle.ha_value.specs.declared.value.EntityId.{EntityId}
 use Rattle.ha_clock.specs.Zone as clock
@@ -8,17 +8,28 @@ use Rattle.ha_clock.specs.Local.{last_moment}
 use Rattle.ha_config.specs.declared.command.Cmd.{Cmd}
 use Rattle.ha_journal.specs.declared.entry.Entry.{Entry}
 use Rattle.ha_journal.specs.declared.entry.Entry.TheVariants.{Line}
-use Rattle.ha_journal.specs.Entries.{report_in, gone_in, moment_in, is_restart}
+use Rattle.ha_journal.specs.Entries.{report_in, gone_in, is_moment, moment_in, is_restart}
 use Rattle.ha_config.specs.Fair.{IsPlain}
 use Rattle.ha_config.specs.Equal.{same_flag}
 use Rattle.ha_config.specs.Words.{same_entity, last_of}
 use Rattle.ha_journal.specs.Commands.{IsFair}
-use Rattle.ha_journal.specs.Journal.{Journal, HasEntry, IsJournal, automations, zone_of, now, brings, more}
+use Rattle.ha_journal.specs.Journal.{Journal, HasEntry, IsJournal, automations, configured, helpers, zone_of, now, brings, more}
 use Rattle.ha_journal.specs.Switches.{is_on}
+use Rattle.ha_sight.specs.declared.state.StateObject.{StateObject}
+use Rattle.ha_config.specs.Helpers.{is_helper}
+use Rattle.ha_journal.specs.declared.event.BusEvent.{BusEvent}
+use Rattle.ha_journal.specs.Helpers.{helper_events, last_events}
+use Rattle.ha_journal.proofs.EventLaws.{helps-none, last-events}
+use Rattle.helper_set.specs.declared.set.Helpers.{Helpers}
+use Rattle.helper_set.specs.Kept as helped
+use Rattle.helper_set.specs.Kept.{AreOutside}
+use Rattle.helper_set.proofs.SightLemmas.{left-stands}
+use Rattle.engine_parts.proofs.TextLemmas.{texts-left}
+use Rattle.engine_parts.proofs.ViewLemmas.{sound-outside}
 use Rattle.ha_journal.specs.States.{states}
 use Rattle.ha_config.specs.Names.{automation_named}
 use Rattle.ha_model.specs.Records.{Records}
-use Rattle.ha_journal.proofs.MoreLemmas.{has-entry, length-more}
+use Rattle.ha_journal.proofs.MoreLemmas.{has-entry, helpers-more, length-more}
 use Rattle.ha_model.proofs.LawfulLaws.{right-more}
 use Rattle.ha_config.proofs.EqualLemmas.{same-sound}
 use Rattle.ha_journal.proofs.SinceLaws.{on-left}
@@ -30,7 +41,7 @@ use Rattle.state_laws.specs.Stands.{StandsFor}
 use Rattle.state_table.specs.declared.table.StateTable.{StateTable}
 use Rattle.state_laws.proofs.StateLaws.{states-other}
 use Rattle.switch_book.specs.Book as switches
-use Rattle.trig_set.specs.Next.{AreListed, Listed}
+use Rattle.trig_set.specs.Next.{AreListed, Listed, names_helper, spares_helpers}
 use Rattle.engine_parts.specs.declared.parts.Parts.{Parts}
 use Rattle.ha_journal.specs.Sights.{changes_switch}
 use Rattle.engine_parts.specs.Kept.{AreSound, Owned}
@@ -46,14 +57,21 @@ no-automation e h = false-of (is_automation e) (λ is. h (same-sound e.domain (c
     false-of true g = absurd (g refl)
     false-of false g = refl
 
+-- LAW: nor is it a helper
+pub no-helper : (b : Bool) → IsTrue (not b) → b ≡ false
+no-helper true h = absurd (true≢false (sym h))
+no-helper false h = refl
+
 module _ (k : Journal) (rs : Records) (p : Parts) (h : Pushed k rs p) (plain : IsPlain h.cmd) where
   some : HasEntry h.j
   some = has-entry h.j h.right.journal
 
-  -- LAW: with the new states and Now, all but the triggers and the waits stands for the journal with the line
-  pub plain-entered : (table : StateTable) (now' : ℕ) (before : Listed) → StandsFor table (more h.j (Line h.source h.number h.cmd)) → now' ≡ now (more h.j (Line h.source h.number h.cmd)) → now' ≤ last_moment
-      → AreListed h.j (Line h.source h.number h.cmd) before → Entered k (record p { at = now'; states = table; changed = false }) before
-  plain-entered table now' before stands is early listed =
+  -- LAW: with the new states, the new helpers and Now, all but the triggers and the waits stands for the journal with the line
+  pub plain-entered : (table : StateTable) (hs : Helpers) (g : List BusEvent) (now' : ℕ) (before : Listed) → StandsFor table (more h.j (Line h.source h.number h.cmd)) → helped.StandsFor hs (more h.j (Line h.source h.number h.cmd))
+      → g ≡ helper_events h.j (Line h.source h.number h.cmd) → now' ≡ now (more h.j (Line h.source h.number h.cmd)) → now' ≤ last_moment → AreListed h.j (Line h.source h.number h.cmd) before
+      → (spares_helpers (Line h.source h.number h.cmd) ≡ true → names_helper (more h.j (Line h.source h.number h.cmd)) before ≡ false)
+      → Entered k (record p { at = now'; states = table; helpers = hs; given = g; changed = false }) before
+  plain-entered table hs g now' before stands kept_stand gives is early listed apart =
       let y : Entry = Line h.source h.number h.cmd in
       let longer : more h.j y ≡ k = sym h.journal_is in
       let leaves = plain-leaves h.source h.number h.cmd plain in
@@ -68,6 +86,7 @@ module _ (k : Journal) (rs : Records) (p : Parts) (h : Pushed k rs p) (plain : I
             zone_read = subst (λ t. IsSome (clock.zone_of t)) (sym (zone-more h.j y some) ∙ ap zone_of longer) old.sees.looks.zone_read;
             states_stand = subst (StandsFor table) longer stands;
           };
+          helpers_stand = subst (helped.StandsFor hs) longer kept_stand;
           switches_stand = subst (switches.StandsFor p.switches) longer (switches-left h.j y some leaves goes_on p.switches old.sees.switches_stand);
           changed_is = sym (changed-left h.j y some leaves goes_on) ∙ ap (λ (i : Journal). changes_switch i) longer;
           sound = subst AreSound longer (sound-more h.j y some old.sees.sound);
@@ -82,12 +101,15 @@ module _ (k : Journal) (rs : Records) (p : Parts) (h : Pushed k rs p) (plain : I
           waits_stand = old.waits_stand;
           owned = subst (λ (i : Journal). Owned i p.triggers p.waits) longer (owned-left h.j y some leaves goes_on p.triggers p.waits old.owned);
           listed = λ earlier. listed;
+          apart = λ spared. subst (λ (i : Journal). names_helper i before ≡ false) longer (apart spared);
+          helped = refl;
         };
+        given_is = gives ∙ sym (last-events h.j y) ∙ ap last_events longer;
         keys_early = keys_more (length h.j) (length k) p.delays (omega (arith, length-more h.j y, ap length h.journal_is)) old.keys_early;
       }
 
   -- an automation's switch is not set anew
-  not-anew : (e : EntityId) → sets_anew h.j (Line h.source h.number h.cmd) e ≡ false
+  pub not-anew : (e : EntityId) → sets_anew h.j (Line h.source h.number h.cmd) e ≡ false
   not-anew e = by (is_automation e) (automation_named (automations (more h.j (Line h.source h.number h.cmd))) e.object)
     where
       flag-self : (b : Bool) → not (same_flag b b) ≡ false
@@ -104,9 +126,23 @@ module _ (k : Journal) (rs : Records) (p : Parts) (h : Pushed k rs p) (plain : I
       by true None = refl
       by true (Some a) = one a
 
-  module _ (none : report_in (Line h.source h.number h.cmd) ≡ None) (kept : gone_in (Line h.source h.number h.cmd) ≡ None) where
+  -- LAW: a line that is no moment leaves the helpers, and gives no event of one
+  pub helpers-left : is_moment (Line h.source h.number h.cmd) ≡ false → helped.StandsFor p.helpers (more h.j (Line h.source h.number h.cmd))
+  helpers-left still = left-stands h.j some p.helpers.kept.items p.helpers.timers h.kept.going.sees.helpers_stand (Line h.source h.number h.cmd) refl still
+
+  pub none-given : (g : List BusEvent) → g ≡ [] → is_moment (Line h.source h.number h.cmd) ≡ false → g ≡ helper_events h.j (Line h.source h.number h.cmd)
+  none-given g none still = none ∙ sym (helps-none h.j (Line h.source h.number h.cmd) refl still)
+
+  -- a helper is one with the line where it was one before it
+  pub helper-alike : (e : EntityId) → is_helper (helpers (more h.j (Line h.source h.number h.cmd))) e ≡ is_helper (helpers h.j) e
+  helper-alike e = (λ i. is_helper (sym (helpers-more h.j (Line h.source h.number h.cmd) some) i) e)
+
+  pub line-outside : AreOutside (helpers (more h.j (Line h.source h.number h.cmd)))
+  line-outside = subst AreOutside (helpers-more h.j (Line h.source h.number h.cmd) some) (sound-outside (configured h.j) h.kept.going.sees.sound)
+
+  module _ (none : report_in (Line h.source h.number h.cmd) ≡ None) (kept : gone_in (Line h.source h.number h.cmd) ≡ None) (still : is_moment (Line h.source h.number h.cmd) ≡ false) where
     same-states : (e : EntityId) → states (more h.j (Line h.source h.number h.cmd)) e ≡ states h.j e
-    same-states e = states-other h.j e (Line h.source h.number h.cmd) none kept (no-restart h.cmd plain) (not-anew e)
+    same-states e = states-other h.j e (Line h.source h.number h.cmd) none kept (no-restart h.cmd plain) (not-anew e) (texts-left h.j (Line h.source h.number h.cmd) e refl refl still)
       where
         no-restart : (cmd : Cmd) → IsPlain cmd → is_restart (Line h.source h.number cmd) ≡ false
         no-restart (Cmd.Report entity text attributes) g = refl
@@ -133,13 +169,17 @@ now-before k rs p h none =
     let zero' : brings y ≡ 0 = ap (λ o. unwrap_or o 0) none in
     h.kept.going.sees.looks.now_is ∙ (let least : now h.j ≡ max (now h.j) 0 = omega arith in least) ∙ ap (max (now h.j)) (sym zero') ∙ sym (now-snoc h.j y)
 
--- LAW: all but the triggers and the waits stands for the journal with a line that is this command
-pub entered-as : (k : Journal) (rs : Records) (p : Parts) (h : Pushed k rs p) (cmd : Cmd) → h.cmd ≡ cmd → IsPlain cmd → (table : StateTable) (now' : ℕ) (before : Listed)
-    → StandsFor table (more h.j (Line h.source h.number cmd)) → now' ≡ now (more h.j (Line h.source h.number cmd)) → now' ≤ last_moment → AreListed h.j (Line h.source h.number cmd) before
-    → Entered k (record p { at = now'; states = table; changed = false }) before
-entered-as k rs p h cmd e plain table now' before stands is early listed =
-    plain-entered k rs p h (subst IsPlain (sym e) plain) table now' before (subst (λ (c : Cmd). StandsFor table (more h.j (Line h.source h.number c))) (sym e) stands)
-    (is ∙ ap (λ (c : Cmd). now (more h.j (Line h.source h.number c))) (sym e)) early (subst (λ (c : Cmd). AreListed h.j (Line h.source h.number c) before) (sym e) listed)
+-- LAW: all but the triggers and the waits stands for the journal with a line that is this command, where the only entity that is listed is
+-- no helper
+pub entered-as : (k : Journal) (rs : Records) (p : Parts) (h : Pushed k rs p) (cmd : Cmd) → h.cmd ≡ cmd → IsPlain cmd → is_moment (Line h.source h.number cmd) ≡ false → (table : StateTable) (g : List BusEvent) (now' : ℕ) (entity : EntityId) (was : Option StateObject)
+    → g ≡ [] → is_helper (helpers h.j) entity ≡ false → StandsFor table (more h.j (Line h.source h.number cmd)) → now' ≡ now (more h.j (Line h.source h.number cmd)) → now' ≤ last_moment
+    → AreListed h.j (Line h.source h.number cmd) ((entity, was) ∷ []) → Entered k (record p { at = now'; states = table; given = g; changed = false }) ((entity, was) ∷ [])
+entered-as k rs p h cmd e plain still table g now' entity was none free stands is early listed =
+    let quiet = ap (λ (c : Cmd). is_moment (Line h.source h.number c)) e ∙ still in
+    plain-entered k rs p h (subst IsPlain (sym e) plain) table p.helpers g now' ((entity, was) ∷ []) (subst (λ (c : Cmd). StandsFor table (more h.j (Line h.source h.number c))) (sym e) stands)
+    (helpers-left k rs p h (subst IsPlain (sym e) plain) quiet) (none-given k rs p h (subst IsPlain (sym e) plain) g none quiet)
+    (is ∙ ap (λ (c : Cmd). now (more h.j (Line h.source h.number c))) (sym e)) early (subst (λ (c : Cmd). AreListed h.j (Line h.source h.number c) ((entity, was) ∷ [])) (sym e) listed)
+    (λ spared. (λ i. (helper-alike k rs p h (subst IsPlain (sym e) plain) entity ∙ free) i || false))
 
 -- Now of a line that brings no moment
 pub now-as : (k : Journal) (rs : Records) (p : Parts) (h : Pushed k rs p) (cmd : Cmd) → h.cmd ≡ cmd → moment_in (Line h.source h.number cmd) ≡ None → p.at ≡ now (more h.j (Line h.source h.number cmd))

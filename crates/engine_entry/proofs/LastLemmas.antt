@@ -117,7 +117,7 @@ lasts-none n = record { once = tt; last = tt; all = λ a low none. refl }
 -- LAW: the last targets are what the step turns
 pub switched-turn : (j : Journal) (worker serial : ℕ) (branch : Branch) (targets kept : List Target) → HasEntry j → AreLasts (length (automations j)) targets kept → IsTurn j (Step worker serial branch (Item.Switched targets)) kept
 switched-turn j worker serial branch targets kept some h = record {
-  only = record { some = some; report = refl; gone = refl; restart = refl; opens = refl; moment = refl };
+  only = record { some = some; report = refl; gone = refl; restart = refl; opens = refl; moment = refl; still = refl; changes = refl };
   once = h.once;
   set = set kept h.last;
   others = λ a low none. on a ∙ (λ i. unwrap_or (h.all a low none i) (is_on j a));

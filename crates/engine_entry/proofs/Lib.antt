@@ -5,6 +5,7 @@ pub mod TakeLemmas
 pub mod DelayLemmas
 pub mod TakenWaits
 pub mod StepWoken
+pub mod HelpedSteps
 pub mod StepEnters
 pub mod PlaceLemmas
 pub mod NamedLemmas

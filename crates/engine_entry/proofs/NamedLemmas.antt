@@ -8,7 +8,7 @@ use Rattle.ha_value.specs.Ids.{is_name}
 use Rattle.ha_config.specs.declared.config.Automation.{Automation}
 use Rattle.ha_config.specs.declared.config.Config.{Config}
 use Rattle.ha_config.specs.ValueFacts.{all_distinct}
-use Rattle.ha_config.specs.Sound.{are_sound_actions, are_sound_conditions, are_sound_triggers, is_sound_automation, are_sound_automations, are_sound_scripts, is_sound_config}
+use Rattle.ha_config.specs.Sound.{are_sound_actions, are_sound_conditions, are_sound_triggers, is_sound_automation, are_sound_automations, are_sound_helpers, are_sound_scripts, is_sound_config}
 use Rattle.ha_config.specs.Names.{automation_named, name_of}
 use Rattle.ha_config.specs.Words.{Text, same}
 use Rattle.ha_config.proofs.EqualLemmas.{and_left, and_right, same-sound}
@@ -38,7 +38,7 @@ abbrev names : List Automation → List Text
 names all = map {A = Automation} {B = Text} (λ a. a.name) all
 
 own : (c : Config) → IsSound c → are_sound_automations c.automations ≡ true
-own c h = and_left (are_sound_automations c.automations) (are_sound_scripts c.scripts) h
+own c h = and_left (are_sound_automations c.automations) (are_sound_scripts c.scripts && are_sound_helpers c.helpers) h
 
 pub sound-few : (c : Config) → IsSound c → length c.automations ≤ 1024
 sound-few c h = few (length c.automations) (and_left (nat_le (length c.automations) 1_024) (all_distinct (names c.automations)) (and_left (nat_le (length c.automations) 1_024 && all_distinct (names c.automations)) (list_all is_sound_automation c.automations) (own c h)))

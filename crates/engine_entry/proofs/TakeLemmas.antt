@@ -201,6 +201,8 @@ untold-taken k t t' w w' before h place ask at below early attached asks t_stand
         apart = subst AreApart (sym asks) (apart-added a w.asks early h.owned.apart);
       };
       listed = λ earlier. h.listed (sym (ap (has_earlier (length h.j)) is ∙ earlier-last o (length h.j) os here) ∙ earlier);
+      apart = h.apart;
+      helped = h.helped;
     }
   where
     not-below : (x y : ℕ) → y ≤ x → nat_lt x y ≡ false

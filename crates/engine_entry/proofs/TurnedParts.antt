@@ -1,15 +1,22 @@
 -- The parts while the automations that an entry turns are turned, one after the other.
-use Rattle.std.proofs.Common.{◌≡◌, ℕ, zero, suc, ◌+◌, ◌-◌, ◌<◌, ◌≤◌, List, [], ◌∷◌, ◌++◌, length, drop, drop-cons, get_or, set, Bool, true, false, refl, sym, ap, subst, ◌∙◌, rules, arith}
+use Rattle.std.proofs.Common.{◌≡◌, ℕ, zero, suc, ◌+◌, ◌-◌, ◌<◌, ◌≤◌, List, [], ◌∷◌, ◌++◌, length, drop, drop-cons, get_or, set, Bool, true, false, true≢false, refl, sym, ap, subst, ◌∙◌, rules, arith}
 use Rattle.std.proofs.Math.Path.{fun_ext}
 use Rattle.std.proofs.lemmas.Option.{slice_get_within}
-use Rattle.std.specs.Prelude.{Option, Some, None, IsNone, IsSome, MatchOption, not, nat_eq, ◌&&◌, ◌||◌, slice_get, if◌then◌else◌}
+use Rattle.std.specs.Prelude.{Option, Some, None, IsNone, IsSome, MatchOption, is_some, not, nat_eq, ◌&&◌, ◌||◌, slice_get, if◌then◌else◌}
+use Rattle.std.specs.List.{list_all}
 use Rattle.ha_clock.specs.Zone as clock
 use Rattle.ha_value.specs.declared.value.EntityId.{EntityId}
 use Rattle.ha_config.specs.declared.config.Automation.{Automation}
 use Rattle.ha_sight.specs.declared.state.StateObject.{StateObject}
 use Rattle.ha_config.specs.ValueFacts.{keys_of}
 use Rattle.ha_config.specs.Equal.{same_flag}
-use Rattle.ha_journal.specs.Journal.{Journal, HasEntry, automations, now, zone_of, more, configured}
+use Rattle.ha_journal.specs.Journal.{Journal, HasEntry, automations, helpers, now, zone_of, more, configured}
+use Rattle.ha_config.specs.Helpers.{is_helper}
+use Rattle.ha_journal.specs.declared.event.BusEvent.{BusEvent}
+use Rattle.ha_journal.specs.Helpers.{last_events}
+use Rattle.ha_journal.proofs.EventLaws.{helps-none, last-events}
+use Rattle.helper_set.specs.Kept as helped
+use Rattle.helper_set.proofs.SightLemmas.{left-stands}
 use Rattle.ha_journal.specs.Sights.{changes_switch}
 use Rattle.ha_journal.specs.States.{states}
 use Rattle.ha_journal.specs.Switches.{is_on}
@@ -100,15 +107,15 @@ has-length (e ∷ es) h = omega arith
 -- ---- the begin
 
 -- LAW: before the first is turned, all that the entry turns are left
-pub turning-begins : (k : Journal) (targets : List Target) (p : Parts) (h : Turning k targets p) → Between h.j h.x (is_target targets) (record p { changed = false }) []
-turning-begins k targets p h =
+pub turning-begins : (k : Journal) (targets : List Target) (p : Parts) (h : Turning k targets p) → (v : List BusEvent) → Between h.j h.x (is_target targets) (record p { given = v; changed = false }) []
+turning-begins k targets p h v =
     let only = h.turn.only in
     record {
       now_is = h.sees.looks.now_is ∙ sym (now-left h.j h.x only.moment);
       flags = flags-begin h.j h.x only.some (is_target targets) h.turn.others p.switches h.sees.switches_stand;
       states = record {
-        stand = λ e. h.sees.looks.states_stand e ∙ states-begin h.j h.x only.some only.report only.gone only.restart only.opens (is_target targets) h.turn.others e;
-        listed = λ e. sym (states-begin h.j h.x only.some only.report only.gone only.restart only.opens (is_target targets) h.turn.others e);
+        stand = λ e. h.sees.looks.states_stand e ∙ states-begin h.j h.x only.some only.report only.gone only.restart only.opens only.still only.changes (is_target targets) h.turn.others e;
+        listed = λ e. sym (states-begin h.j h.x only.some only.report only.gone only.restart only.opens only.still only.changes (is_target targets) h.turn.others e);
       };
       owners = owners-begin h.j h.x (is_target targets) only.opens (has-length h.j only.some) h.turn.others (triggers.attached p.triggers) h.owned.automations_attached;
       ascend = h.owned.ascend;
@@ -160,7 +167,7 @@ module _ (y : Automation) (a : ℕ) (on : Bool) (place : ℕ) (p : Parts) (befor
       → Between h.j h.x (less h.left a) (record p { switches = s' }) before
   turned-none s' are names e =
       let same : is_on k a ≡ is_on h.j a = same-of (is_on h.j a) (is_on k a) (moves false e) in
-      let stay = states-stay h.j h.x h.only.some h.only.report h.only.gone h.only.restart h.only.opens h.left a same in
+      let stay = states-stay h.j h.x h.only.some h.only.report h.only.gone h.only.restart h.only.opens h.only.still h.only.changes h.left a same in
       record {
         now_is = h.between.now_is;
         flags = set-flags s' false are names e;
@@ -223,9 +230,9 @@ module _ (y : Automation) (a : ℕ) (on : Bool) (place : ℕ) (p : Parts) (befor
           now_is = h.between.now_is;
           flags = set-flags s' true are names e;
           states = record {
-            stand = states-turned h.j h.x h.only.some h.only.report h.only.gone h.only.restart h.only.opens h.sound h.left a y h.here h.is_left on p.at turned h.on_is h.between.now_is (at p.states) (at t') changes h.between.states.stand;
+            stand = states-turned h.j h.x h.only.some h.only.report h.only.gone h.only.restart h.only.opens h.only.still h.only.changes h.sound h.left a y h.here h.is_left on p.at turned h.on_is h.between.now_is (at p.states) (at t') changes h.between.states.stand;
             listed = λ q. subst (λ (l : Listed). MatchOption (state_listed l q) (seen_at h.j h.x (less h.left a) q ≡ states h.j q) (λ o. o ≡ states h.j q)) (sym listed)
-                (listed-turned h.j h.x h.only.some h.only.report h.only.gone h.only.restart h.only.opens h.sound h.left a y h.here h.is_left (at p.states) before h.between.states.stand h.between.states.listed q);
+                (listed-turned h.j h.x h.only.some h.only.report h.only.gone h.only.restart h.only.opens h.only.still h.only.changes h.sound h.left a y h.here h.is_left (at p.states) before h.between.states.stand h.between.states.listed q);
           };
           owners = own.owners;
           ascend = own.ascend;
@@ -237,9 +244,9 @@ module _ (y : Automation) (a : ℕ) (on : Bool) (place : ℕ) (p : Parts) (befor
 -- ---- the end
 
 -- LAW: when all are turned, the parts are those behind the entry, of which the triggers and the waits have still to be told
-pub turning-ends : (k : Journal) (targets : List Target) (p : Parts) (h : Turning k targets p) (s : Switches) (t : StateTable) (g : TrigSet) (c : Bool) (before : Listed)
-    → Between h.j h.x (is_target []) (record p { switches = s; states = t; triggers = g; changed = c }) before → Entered k (record p { switches = s; states = t; triggers = g; changed = c }) before
-turning-ends k targets p h s t g c before b =
+pub turning-ends : (k : Journal) (targets : List Target) (p : Parts) (h : Turning k targets p) (s : Switches) (t : StateTable) (g : TrigSet) (v : List BusEvent) (c : Bool) (before : Listed) → v ≡ []
+    → Between h.j h.x (is_target []) (record p { switches = s; states = t; triggers = g; given = v; changed = c }) before → Entered k (record p { switches = s; states = t; triggers = g; given = v; changed = c }) before
+turning-ends k targets p h s t g v c before quiet b =
     let only = h.turn.only in
     let longer : more h.j h.x ≡ k = sym h.journal_is in
     let done = flags-end h.j h.x only.some s c b.flags in
@@ -250,8 +257,9 @@ turning-ends k targets p h s t g c before b =
           in_time = h.sees.looks.in_time;
           zone_is = h.sees.looks.zone_is ∙ sym (zone-more h.j h.x only.some) ∙ ap zone_of longer;
           zone_read = subst (λ z. IsSome (clock.zone_of z)) (sym (zone-more h.j h.x only.some) ∙ ap zone_of longer) h.sees.looks.zone_read;
-          states_stand = subst (StandsFor t) longer (states-end h.j h.x only.some only.report only.gone only.restart only.opens (at t) b.states.stand);
+          states_stand = subst (StandsFor t) longer (states-end h.j h.x only.some only.report only.gone only.restart only.opens only.still only.changes (at t) b.states.stand);
         };
+        helpers_stand = subst (helped.StandsFor p.helpers) longer (left-stands h.j only.some p.helpers.kept.items p.helpers.timers h.sees.helpers_stand h.x only.changes only.still);
         switches_stand = subst (switches.StandsFor s) longer done.0;
         changed_is = done.1 ∙ ap (λ (i : Journal). changes_switch i) longer;
         sound = subst AreSound longer (sound-more h.j h.x only.some h.sees.sound);
@@ -271,8 +279,11 @@ turning-ends k targets p h s t g c before b =
           waits_owned = b.waits_owned;
           apart = h.owned.apart;
         });
-        listed = λ earlier. listed-end h.j h.x only.some only.report only.gone only.restart only.opens before b.states.listed;
+        listed = λ earlier. listed-end h.j h.x only.some only.report only.gone only.restart only.opens only.still only.changes before b.states.listed;
+        apart = λ spared. absurd (true≢false (sym spared ∙ (λ i. only.opens i || is_some (only.report i) || is_some (only.gone i))));
+        helped = (λ i. list_all (λ a. is_helper (helpers (more h.j h.x)) a.entity) (only.changes i));
       };
+      given_is = quiet ∙ sym (helps-none h.j h.x only.changes only.still) ∙ sym (last-events h.j h.x) ∙ ap last_events longer;
       keys_early = keys_more (length h.j) (length k) p.delays (omega (arith, length-more h.j h.x, ap length h.journal_is)) h.keys_early;
     }
 

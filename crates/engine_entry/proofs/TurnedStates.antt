@@ -1,13 +1,13 @@
 -- The states of automations that an entry turns, one after the other.
 use Rattle.std.proofs.Common.{◌≡◌, ℕ, ◌+◌, ◌<◌, List, [], ◌∷◌, ◌++◌, length, Bool, true, false, refl, sym, ap, subst, ◌∙◌}
 use Rattle.std.proofs.lemmas.Option.{slice_get_within}
-use Rattle.std.specs.Prelude.{Option, Some, None, not, nat_eq, codes, ◌&&◌, ◌||◌, find, option_map, MatchOption, slice_get, if◌then◌else◌}
+use Rattle.std.specs.Prelude.{Option, Some, None, not, nat_eq, codes, ◌&&◌, ◌||◌, find, is_some, option_map, MatchOption, slice_get, if◌then◌else◌}
 use Rattle.std.specs.Option.{option_map_or}
 use Rattle.ha_value.specs.declared.value.EntityId.{EntityId}
 use Rattle.ha_config.specs.declared.config.Automation.{Automation}
 use Rattle.ha_journal.specs.declared.entry.Entry.{Entry}
 use Rattle.ha_sight.specs.declared.state.StateObject.{StateObject}
-use Rattle.ha_journal.specs.Entries.{gone_in, is_restart, opens_segment, report_in}
+use Rattle.ha_journal.specs.Entries.{changes_in, gone_in, is_boot, is_moment, is_restart, opens_segment, report_in}
 use Rattle.ha_config.specs.Equal.{same_flag}
 use Rattle.ha_journal.specs.Journal.{Journal, HasEntry, automations, now, more, configured}
 use Rattle.ha_config.specs.Names.{automation_named}
@@ -18,8 +18,10 @@ use Rattle.ha_config.proofs.EqualLemmas.{entity-sound, same-sound}
 use Rattle.ha_journal.proofs.MoreLemmas.{automations-more}
 use Rattle.state_table.specs.Anew.{is_automation, switch_object}
 use Rattle.state_laws.specs.Stands.{sets_anew, turns}
-use Rattle.state_laws.proofs.StateLaws.{states-anew, states-other}
-use Rattle.trig_set.specs.Next.{AreListed, Listed, state_listed}
+use Rattle.state_laws.proofs.StateLaws.{or_left, states-anew, states-other}
+use Rattle.ha_journal.proofs.HelperLaws.{no-change}
+use Rattle.engine_parts.proofs.TextLemmas.{texts-left}
+use Rattle.trig_set.specs.Next.{AreListed, Listed, reports, state_listed}
 use Rattle.engine_entry.specs.Turned.{entity_named, is_left, is_target, less}
 use Rattle.engine_entry.proofs.NamedLemmas.{IsSound, found-named, named-own, same-self, sound-distinct}
 use Rattle.engine_entry.proofs.PlaceLemmas.{eq-of, eq-self}
@@ -77,13 +79,13 @@ none-more (q ∷ qs) p e h = by (same_entity q.0 e) h (none-more qs p e)
 abbrev pub seen_at : Journal → Entry → (ℕ → Bool) → EntityId → Option StateObject
 seen_at j x left e = states (if is_left (automations j) left e then j else more j x) e
 
-module _ (j : Journal) (x : Entry) (some : HasEntry j) (report : report_in x ≡ None) (gone : gone_in x ≡ None) (restart : is_restart x ≡ false) (opens : opens_segment x ≡ false) where
+module _ (j : Journal) (x : Entry) (some : HasEntry j) (report : report_in x ≡ None) (gone : gone_in x ≡ None) (restart : is_restart x ≡ false) (opens : opens_segment x ≡ false) (still : is_moment x ≡ false) (changes : changes_in x ≡ []) where
   not-turned : (a : ℕ) → is_on (more j x) a ≡ is_on j a → turns j x a ≡ false
   not-turned a same = (λ i. opens i || not (same_flag (is_on j a) (same i))) ∙ flag-self (is_on j a)
 
   -- what an automation that is named has to keep
   stays-as : (e : EntityId) → ((a : ℕ) → is_automation e ≡ true → automation_named (automations j) e.object ≡ Some a → is_on (more j x) a ≡ is_on j a) → states (more j x) e ≡ states j e
-  stays-as e same = states-other j e x report gone restart (by (is_automation e) refl (automation_named (automations j) e.object) refl)
+  stays-as e same = states-other j e x report gone restart (by (is_automation e) refl (automation_named (automations j) e.object) refl) (texts-left j x e (or_left (is_boot x) (is_restart x) opens) changes still)
     where
       by : (b : Bool) → is_automation e ≡ b → (o : Option ℕ) → automation_named (automations j) e.object ≡ o → sets_anew j x e ≡ false
       by false p o q = (λ i. p i && option_map_or (turns j x) (automation_named (automations (more j x)) e.object) false)
@@ -169,7 +171,7 @@ module _ (j : Journal) (x : Entry) (some : HasEntry j) (report : report_in x ≡
     -- LAW: one that is turned is done
     pub states-turned : (on : Bool) (at : ℕ) → turns j x a ≡ true → is_on (more j x) a ≡ on → at ≡ now (more j x) → (old new : Seen) → ((e : EntityId) → new e ≡ (if same_entity (id_of y) e then Some (switch_object on at) else old e))
         → ((e : EntityId) → old e ≡ seen_at j x left e) → (e : EntityId) → new e ≡ seen_at j x (less left a) e
-    states-turned on at turned is now_is old new changes stand e = changes e ∙ by (same_entity (id_of y) e) refl
+    states-turned on at turned is now_is old new sets stand e = sets e ∙ by (same_entity (id_of y) e) refl
       where
         by : (b : Bool) → same_entity (id_of y) e ≡ b → (if b then Some (switch_object on at) else old e) ≡ seen_at j x (less left a) e
         by true own =
@@ -212,6 +214,6 @@ module _ (j : Journal) (x : Entry) (some : HasEntry j) (report : report_in x ≡
   listed-end before listed e = by (state_listed before e) (listed e)
     where
       by : (o : Option (Option StateObject)) → MatchOption o (seen_at j x (is_target []) e ≡ states j e) (λ o. o ≡ states j e)
-          → MatchOption o ((states (more j x) e ≡ states j e) × (option_map_or (λ r. same_entity r.entity e) (report_in x) false ≡ false)) (λ o. o ≡ states j e)
+          → MatchOption o ((states (more j x) e ≡ states j e) × (reports e x ≡ false)) (λ o. o ≡ states j e)
       by (Some o) h = h
-      by None h = (sym (λ i. states (if nobody-left e i then j else more j x) e) ∙ h, ap (λ r. option_map_or (λ q. same_entity q.entity e) r false) report)
+      by None h = (sym (λ i. states (if nobody-left e i then j else more j x) e) ∙ h, (λ i. is_some (no-change x e changes i) || option_map_or (λ q. same_entity q.entity e) (report i) false))

@@ -5,6 +5,7 @@ use Rattle.std.specs.List.{list_any}
 use Rattle.timer_queue.specs.Timers.{Timer}
 use Rattle.ha_model.specs.declared.record.EndCause.{EndCause}
 use Rattle.ha_journal.specs.declared.entry.Entry.TheVariants.{Step}
+use Rattle.ha_sight.specs.declared.helped.HelperChange.{HelperChange}
 use Rattle.ha_sight.specs.declared.item.Item.{Item}
 use Rattle.ha_model.specs.declared.record.Record.{Record}
 use Rattle.ha_sight.specs.declared.waiting.WaitAsk.{WaitAsk}
@@ -29,7 +30,7 @@ use Rattle.script_step.specs.Frames as run
 use Rattle.script_step.specs.Frames.{Steps, ask_of, asked_by, may}
 use Rattle.script_step.specs.Gates.{due_of, fronts_of, gate_at}
 use Rattle.script_step.specs.Told.{AreTold}
-use Rattle.trig_set.specs.Next.{Listed}
+use Rattle.trig_set.specs.Next.{Listed, changes_helpers}
 use Rattle.trig_set.specs.Stands as triggers
 use Rattle.wait_set.specs.declared.asked.Asked.{Asked}
 use Rattle.wait_set.specs.Asked.{WaitTable as Waits, added, is_of}
@@ -102,6 +103,7 @@ turned_by (Item.Triggered automations skip) = []
 turned_by (Item.Failed code) = []
 turned_by (Item.Started scripts fields waits) = []
 turned_by (Item.Halted scripts) = scripts
+turned_by (Item.Helped changes) = []
 
 -- the records where the runs of these have ended at a place
 abbrev pub stops_each : ℕ → List (ℕ × Bool × Bool) → Records → Records
@@ -121,6 +123,7 @@ stops_by p (Item.Triggered automations skip) rs = rs
 stops_by p (Item.Failed code) rs = rs
 stops_by p (Item.Started scripts fields waits) rs = rs
 stops_by p (Item.Halted scripts) rs = halts_each p scripts rs
+stops_by p (Item.Helped changes) rs = rs
 
 -- the run that ends is there, and a run that has not begun has no places
 pub record StepEnds (k : Journal) (rs : Records) (serial : ℕ) : Type 0 where
@@ -195,7 +198,7 @@ pub record StepPushed (k : Journal) (rs : Records) (p : Parts) (progress : Progr
   pub rested_is : RestedKept runs.j rs p.rested.items
   pub taken : IsTaken wait p.waits
 
--- the last entry is a step, and the parts stand for the journal before it, but for the runs
+-- the last entry is a step, which changes no other than helpers, and the parts stand for the journal before it, but for the runs
 pub record StepHere (k : Journal) (p : Parts) : Type 0 where
   pub j : Journal
   pub worker : ℕ
@@ -205,6 +208,7 @@ pub record StepHere (k : Journal) (p : Parts) : Type 0 where
   pub journal_is : k ≡ more j (Step worker serial branch item)
   pub journal : IsJournal k
   pub some : HasEntry j
+  pub helped : changes_helpers j (Step worker serial branch item) ≡ true
   pub room : length j < 1048576
   pub sees : Sees j p
   pub triggers_stand : triggers.StandsFor p.triggers j
@@ -217,7 +221,12 @@ pub record SwitchedHere (k : Journal) (p : Parts) (targets : List (ℕ × Bool �
   pub here : StepHere k p
   pub item_is : here.item ≡ Item.Switched targets
 
--- the states, the switches and the triggers of the automations are those behind it; the wait and the delay that began are still to be taken
+-- it changes these helpers
+pub record HelpedHere (k : Journal) (p : Parts) (changes : List HelperChange) : Type 0 where
+  pub here : StepHere k p
+  pub item_is : here.item ≡ Item.Helped changes
+
+-- the states, the helpers, the switches and the triggers of the automations are those behind it; the wait and the delay that began are still to be taken
 -- in
 pub record StepEntered (k : Journal) (p : Parts) (before : Listed) (wait : Option WaitAsk) : Type 0 where
   pub entered : Entered k p before

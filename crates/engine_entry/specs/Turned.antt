@@ -7,7 +7,7 @@ use Rattle.ha_value.specs.declared.value.EntityId.{EntityId}
 use Rattle.ha_config.specs.declared.config.Automation.{Automation}
 use Rattle.ha_journal.specs.declared.entry.Entry.{Entry}
 use Rattle.ha_config.specs.ValueFacts.{keys_of}
-use Rattle.ha_journal.specs.Entries.{gone_in, is_restart, opens_segment, report_in}
+use Rattle.ha_journal.specs.Entries.{changes_in, gone_in, is_moment, is_restart, opens_segment, report_in}
 use Rattle.ha_config.specs.Equal.{same_flag}
 use Rattle.ha_journal.specs.Journal.{Journal, HasEntry, automations, brings, more}
 use Rattle.ha_journal.specs.Sights.{switch_of}
@@ -43,7 +43,7 @@ abbrev pub AreSet : (ℕ → Bool) → ℕ → List Target → Type 0
 AreSet on n [] = Unit {0}
 AreSet on n (t ∷ ts) = (t.0 < n) × (on t.0 ≡ t.1) × AreSet on n ts
 
--- an entry that reports nothing, opens nothing and brings no moment: of what is seen it changes switches at most
+-- an entry that reports nothing, opens nothing, brings no moment and changes no helper: of what is seen it changes switches at most
 pub record OnlyTurns (j : Journal) (x : Entry) : Type 0 where
   pub some : HasEntry j
   pub report : report_in x ≡ None
@@ -51,6 +51,8 @@ pub record OnlyTurns (j : Journal) (x : Entry) : Type 0 where
   pub restart : is_restart x ≡ false
   pub opens : opens_segment x ≡ false
   pub moment : brings x ≡ 0
+  pub still : is_moment x ≡ false
+  pub changes : changes_in x ≡ []
 
 -- the entry turns these, and no other
 pub record IsTurn (j : Journal) (x : Entry) (targets : List Target) : Type 0 where

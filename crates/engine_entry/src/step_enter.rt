@@ -1,5 +1,5 @@
-//! What a step itself changes: the switches of the automations that its item names, with their states and triggers. The answer lists the
-//! states that it changes, as they were.
+//! What a step itself changes: the switches of the automations that its item names, with their states and triggers, or helpers with their
+//! states. The answer lists the states that it changes, as they were.
 ghost use Rattle.std.specs.Prelude.{◌≡◌, ◌||◌, [], false, not, nat_eq, ℕ, Option, IfOk, OnOk, List};
 ghost use Rattle.std.specs.BTreeSet.{contains};
 ghost use Rattle.std.specs.Ordering.{nat_cmp};
@@ -8,12 +8,13 @@ ghost use Rattle.ha_sight.specs.declared.item.Item.{Item as Made};
 ghost use Rattle.ha_sight.specs.declared.waiting.WaitAsk.{WaitAsk as Waited};
 ghost use Rattle.ha_journal.specs.Journal.{Journal, more};
 ghost use Rattle.engine_entry.specs.Lasts.{AreLasts, AreSeen, kept_with};
-ghost use Rattle.engine_entry.specs.Stepping.{IsTaken, StepEntered, StepHere, SwitchedHere};
+ghost use Rattle.engine_entry.specs.Stepping.{HelpedHere, IsTaken, StepEntered, StepHere, SwitchedHere};
 
 use crate::turn::enter_switches;
 use engine_parts::parts::Parts;
+use engine_parts::texts::{events_of, tell_all};
 use ha_journal::Entry;
-use ha_sight::Item;
+use ha_sight::{HelperChange, Item};
 use ha_value::Many;
 use segment_view::Segment;
 use std::alloc::{AllocError, Global};
@@ -31,11 +32,13 @@ fn last_item<'a>(journal: &'a Segment<'_>, parts: &Parts) -> &'a Item
     }
 }
 
-/// A step that switches nothing changes nothing itself.
+/// A step that switches nothing, and changes no helper, changes nothing itself.
 fn enter_none(parts: &mut Parts, alloc: Global) -> Before
     ensures listed { result ≡ [] }
-    ensures rest { parts.new ≡ record parts.old { changed = false } }
+    ensures given { parts.new.given ≡ [] }
+    ensures rest { parts.new ≡ record parts.old { given = parts.new.given; changed = false } }
 {
+    parts.given = Many::make(alloc);
     parts.changed = false;
     Before::make(alloc)
 }
@@ -107,11 +110,31 @@ fn enter_targets(
 ) -> Result<Before, AllocError>
     requires { SwitchedHere journal.now parts.old targets.now }
     ensures entered { IfOk result (λ before. (wait : Option Waited) → IsTaken wait parts.old.waits → StepEntered journal.now parts.new before wait) }
-    ensures rest { OnOk result (parts.new ≡ record parts.old { states = parts.new.states; switches = parts.new.switches; triggers = parts.new.triggers; changed = parts.new.changed }) }
+    ensures rest { OnOk result (parts.new ≡ record parts.old { states = parts.new.states; switches = parts.new.switches; triggers = parts.new.triggers; given = parts.new.given; changed = parts.new.changed }) }
 {
     let count = journal.configuration().automations.len();
     let last = last_targets(alloc, targets.as_slice(), count)?;
     let before = enter_switches(parts, alloc, journal, last.as_slice())?;
+    Ok(before)
+}
+
+/// The helpers that a step changes.
+fn enter_changes(
+    parts: &mut Parts,
+    alloc: Global,
+    journal: &Segment<'_>,
+    changes: &Many<HelperChange>,
+) -> Result<Before, AllocError>
+    requires { HelpedHere journal.now parts.old changes.now }
+    ensures entered { IfOk result (λ before. (wait : Option Waited) → IsTaken wait parts.old.waits → StepEntered journal.now parts.new before wait) }
+    ensures rest { OnOk result (parts.new ≡ record parts.old { states = parts.new.states; helpers = parts.new.helpers; given = parts.new.given; changed = parts.new.changed }) }
+{
+    let all = changes.as_slice();
+    parts.helpers.apply(alloc, changes, parts.at)?;
+    let before = tell_all(&mut parts.states, alloc, all, parts.at)?;
+    let events = events_of(alloc, all)?;
+    parts.given = events;
+    parts.changed = false;
     Ok(before)
 }
 
@@ -123,10 +146,11 @@ pub fn enter_step(
 ) -> Result<Before, AllocError>
     requires { StepHere journal.now parts.old }
     ensures entered { IfOk result (λ before. (wait : Option Waited) → IsTaken wait parts.old.waits → StepEntered journal.now parts.new before wait) }
-    ensures rest { OnOk result (parts.new ≡ record parts.old { states = parts.new.states; switches = parts.new.switches; triggers = parts.new.triggers; changed = parts.new.changed }) }
+    ensures rest { OnOk result (parts.new ≡ record parts.old { states = parts.new.states; helpers = parts.new.helpers; switches = parts.new.switches; triggers = parts.new.triggers; given = parts.new.given; changed = parts.new.changed }) }
 {
     match last_item(journal, parts) {
         Item::Switched(targets) => enter_targets(parts, alloc, journal, targets),
+        Item::Helped(changes) => enter_changes(parts, alloc, journal, changes),
         Item::Nothing => Ok(enter_none(parts, alloc)),
         Item::Call { .. } => Ok(enter_none(parts, alloc)),
         Item::Fired { .. } => Ok(enter_none(parts, alloc)),

@@ -3,6 +3,7 @@ ghost use Rattle.std.specs.Prelude.{◌≡◌, ◌-◌, ◌<◌, IfOk, None, Som
 ghost use Rattle.ha_journal.specs.Journal.{IsJournal, units};
 ghost use Rattle.ha_model.specs.Records.{actions_of};
 ghost use Rattle.ha_journal.specs.Moves.{sight};
+ghost use Rattle.helper_set.specs.Kept.{StandsFor};
 ghost use Rattle.script_step.specs.Frames.{may};
 ghost use Rattle.script_step.specs.Taken.{out_of};
 ghost use Rattle.engine_parts.specs.Kept.{AreSound, Looks};
@@ -12,6 +13,7 @@ ghost use Rattle.engine_entry.specs.Stepping.{IsRunStep, MaySlot, SlotStep};
 use engine_parts::slots::Slots;
 use ha_clock::{Moment, Zone};
 use ha_sight::{Branch, WaitEnd};
+use helper_set::Helpers;
 use script_calls::Seeing;
 use script_step::{Frames, Held, Taken};
 use segment_view::Behind;
@@ -24,6 +26,7 @@ fn step_frames<'a>(
     alloc: Global,
     journal: &'a Behind<'_>,
     states: &'a StateTable,
+    helpers: &'a Helpers,
     zone: &'a Zone,
     at: Moment,
     branch: &Branch,
@@ -31,12 +34,13 @@ fn step_frames<'a>(
 ) -> Result<Taken, AllocError>
     requires journal { IsJournal journal.now }
     requires looks { Looks journal.now states.now zone.now at }
+    requires helpers { StandsFor helpers.now journal.now }
     requires sound { AreSound journal.now }
     requires script { actions_of (units journal.now) run.old.automation ≡ run.old.script.value }
     requires may { may run.old branch.now at wait ≡ true }
     ensures { IfOk result (λ out. IsRunStep (sight journal.entry.now (length journal.entry.now)) branch.now wait run.old run.new (out_of out)) }
 {
-    let view = Seeing::make(states, journal.configuration(), zone, at);
+    let view = Seeing::make(states, journal.configuration(), zone, at, helpers);
     // The borrow checker builds its plan only where a place has the type that the view holds.
     let _ = &view.view;
     let actions = journal.script(run.automation());
@@ -67,6 +71,7 @@ pub fn step_slot(
     alloc: Global,
     journal: &Behind<'_>,
     states: &StateTable,
+    helpers: &Helpers,
     zone: &Zone,
     at: Moment,
     serial: u64,
@@ -75,6 +80,7 @@ pub fn step_slot(
 ) -> Result<(Taken, Option<Moment>), AllocError>
     requires journal { IsJournal journal.now }
     requires looks { Looks journal.now states.now zone.now at }
+    requires helpers { StandsFor helpers.now journal.now }
     requires sound { AreSound journal.now }
     requires slot { MaySlot journal.now serial branch.now at wait frames.old.items }
     ensures { IfOk result (λ x. SlotStep (sight journal.now (length journal.now)) serial branch.now wait frames.old.items frames.new.items (out_of x.0) x.1) }
@@ -82,7 +88,9 @@ pub fn step_slot(
     let Some(mut run) = take_frames(frames, serial) else {
         unreachable!()
     };
-    let out = step_frames(&mut run, alloc, journal, states, zone, at, branch, wait)?;
+    let out = step_frames(
+        &mut run, alloc, journal, states, helpers, zone, at, branch, wait,
+    )?;
     let due = run.due(branch);
     put_frames(frames, serial, run);
     Ok((out, due))

@@ -16,7 +16,7 @@ use engine_parts::parts::Parts;
 use engine_parts::see::copied;
 use ha_clock::Moment;
 use ha_config::Automation;
-use ha_value::{EntityId, Word};
+use ha_value::{EntityId, Many, Word};
 use segment_view::Segment;
 use state_table::StateTable;
 use std::alloc::{AllocError, Global};
@@ -136,11 +136,12 @@ pub fn enter_switches(
 ) -> Result<Before, AllocError>
     requires { Turning journal.now targets.now parts.old }
     ensures entered { IfOk result (λ before. Entered journal.now parts.new before) }
-    ensures rest { OnOk result (parts.new ≡ record parts.old { states = parts.new.states; switches = parts.new.switches; triggers = parts.new.triggers; changed = parts.new.changed }) }
+    ensures rest { OnOk result (parts.new ≡ record parts.old { states = parts.new.states; switches = parts.new.switches; triggers = parts.new.triggers; given = parts.new.given; changed = parts.new.changed }) }
     ensures below { OnOk result ((n : ℕ) → 1024 ≤ n → AreBelow n (attached parts.old.triggers) → AreBelow n (attached parts.new.triggers)) }
 {
     let rules = journal.configuration().automations.as_slice();
     let mut before = Before::make(alloc);
+    parts.given = Many::make(alloc);
     parts.changed = false;
     turn_all(parts, alloc, rules, targets, journal.place(), &mut before)?;
     Ok(before)

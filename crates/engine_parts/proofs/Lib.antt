@@ -9,6 +9,7 @@ pub mod AttemptLemmas
 pub mod StepRight
 pub mod StepKept
 pub mod SeeLemmas
+pub mod TextLemmas
 pub mod ChangeLemmas
 pub mod SteppersRun
 pub mod OwnerLemmas

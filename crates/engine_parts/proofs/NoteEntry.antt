@@ -1,15 +1,18 @@
 -- The triggers and the waits are told of the last entry.
-use Rattle.std.proofs.Common.{◌≡◌, ℕ, ◌+◌, ◌-◌, ◌≤◌, List, length, filter, true, sym, ap, subst, ◌∙◌, arith}
+use Rattle.std.proofs.Common.{◌≡◌, ℕ, ◌+◌, ◌-◌, ◌≤◌, List, length, filter, true, false, sym, ap, subst, ◌∙◌, arith}
 use Rattle.std.specs.Prelude.{IsSome, Option}
 use Rattle.ha_clock.specs.Zone as clock
 use Rattle.ha_clock.specs.Local.{last_moment}
 use Rattle.ha_config.specs.Words.{Text}
 use Rattle.ha_journal.specs.Journal.{Journal, IsJournal, zone_of, now, more}
 use Rattle.ha_sight.specs.Sight.{Sight}
+use Rattle.ha_journal.specs.declared.event.BusEvent.{BusEvent}
+use Rattle.ha_journal.specs.Helpers.{last_events}
 use Rattle.ha_journal.specs.Moves.{sight}
+use Rattle.ha_journal.proofs.EventLaws.{last-events}
 use Rattle.ha_journal.proofs.MoreLemmas.{length-more}
 use Rattle.state_table.specs.declared.table.StateTable.{StateTable}
-use Rattle.trig_set.specs.Next.{Listed, IsNext, has_earlier}
+use Rattle.trig_set.specs.Next.{Listed, IsNext, has_earlier, names_helper}
 use Rattle.ha_past.specs.Firings.{Owner, firings}
 use Rattle.trig_set.specs.Stands as triggers
 use Rattle.trig_set.specs.declared.set.TrigSet.{TrigSet}
@@ -30,13 +33,17 @@ module _ (k : Journal) (t : TrigSet) (w : WaitTable) (before : Listed) (h : Unto
   last-at = omega (arith, length-more h.j h.x, ap length h.journal_is)
 
   -- LAW: the entry is the next one
-  pub untold-next : (table : StateTable) (zone : Text) (at : ℕ) (seen : Sight) → Looks k table zone at → seen ≡ sight k (length k) → IsNext h.j (length k - 1) h.x before seen (triggers.attached t)
-  untold-next table zone at seen looks sees = record {
+  pub untold-next : (table : StateTable) (zone : Text) (at : ℕ) (events : List BusEvent) (seen : Sight) → Looks k table zone at → events ≡ last_events k → seen ≡ sight k (length k)
+      → IsNext h.j (length k - 1) h.x before events seen (triggers.attached t)
+  untold-next table zone at events seen looks given sees = record {
     at = last-at;
     journal = subst IsJournal h.journal_is h.journal;
     zone = subst (λ (i : Journal). IsSome (clock.zone_of (zone_of i))) h.journal_is looks.zone_read;
     in_time = subst (λ (i : Journal). now i ≤ last_moment) h.journal_is (subst (λ n. n ≤ last_moment) looks.now_is looks.in_time);
     listed = λ earlier. h.listed (subst (λ n. has_earlier n (triggers.attached t) ≡ true) last-at earlier);
+    apart = λ spared. subst (λ (i : Journal). names_helper i before ≡ false) h.journal_is (h.apart spared);
+    helped = h.helped;
+    events_are = given ∙ ap last_events h.journal_is ∙ last-events h.j h.x;
     sees = sees ∙ ap (λ (i : Journal). sight i (length i)) h.journal_is;
   }
 

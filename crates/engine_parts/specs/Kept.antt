@@ -13,6 +13,7 @@ use Rattle.ha_config.specs.Sound.{is_sound_config}
 use Rattle.ha_config.specs.Words.{Text}
 use Rattle.state_laws.specs.Stands as states
 use Rattle.state_table.specs.declared.table.StateTable.{StateTable}
+use Rattle.helper_set.specs.Kept as helpers
 use Rattle.switch_book.specs.Book as switches
 use Rattle.script_step.specs.declared.frames.Frames.{Frames}
 use Rattle.trig_set.specs.declared.set.TrigSet.{TrigSet}
@@ -43,9 +44,10 @@ pub record Looks (j : Journal) (table : StateTable) (zone : Text) (at : ℕ) : T
   pub zone_read : IsSome (clock.zone_of (zone_of j))
   pub states_stand : states.StandsFor table j
 
--- and so are the switches
+-- and so are the helpers and the switches
 pub record Sees (j : Journal) (p : Parts) : Type 0 where
   pub looks : Looks j p.states p.zone p.at
+  pub helpers_stand : helpers.StandsFor p.helpers j
   pub switches_stand : switches.StandsFor p.switches j
   pub changed_is : p.changed ≡ changes_switch j
   pub sound : AreSound j

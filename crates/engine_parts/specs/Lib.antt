@@ -13,4 +13,5 @@ pub mod Pending
 pub mod Kept
 pub mod Records
 pub mod Stages
+pub mod Texts
 pub mod Without

@@ -1,5 +1,5 @@
 -- The stages of the work on a line that was pushed.
-use Rattle.std.specs.Prelude.{◌≡◌, ℕ, ◌<◌, ◌∷◌, [], true, length, List, Option}
+use Rattle.std.specs.Prelude.{◌≡◌, ℕ, ◌<◌, ◌∷◌, [], true, false, length, List, Option}
 use Rattle.ha_value.specs.declared.value.EntityId.{EntityId}
 use Rattle.timer_queue.specs.Timers.{Timer}
 use Rattle.script_step.specs.declared.frames.Frames.{Frames}
@@ -13,6 +13,7 @@ use Rattle.ha_sight.specs.declared.state.StateObject.{StateObject}
 use Rattle.ha_config.specs.Fair.{IsPlain}
 use Rattle.ha_config.specs.Words.{Text, Pairs}
 use Rattle.ha_journal.specs.Commands.{IsFair}
+use Rattle.ha_journal.specs.Helpers.{last_events}
 use Rattle.ha_journal.specs.Journal.{Journal, IsJournal, HasEntry, more}
 use Rattle.ha_model.specs.Records.{Records}
 use Rattle.ha_journal.specs.Attempts.{passing}
@@ -20,7 +21,7 @@ use Rattle.ha_model.specs.RecordSteps.{records_after}
 use Rattle.run_modes.specs.Calls.{all_tried}
 use Rattle.ha_model.specs.Lawful.{Right}
 use Rattle.trig_set.specs.Left.{Leaves}
-use Rattle.trig_set.specs.Next.{Listed, AreListed, has_earlier}
+use Rattle.trig_set.specs.Next.{Listed, AreListed, changes_helpers, has_earlier, names_helper, spares_helpers}
 use Rattle.trig_set.specs.Stands as triggers
 use Rattle.wait_set.specs.Stands as waits
 use Rattle.engine_parts.specs.declared.parts.Parts.{Parts}
@@ -73,7 +74,7 @@ IsOther Cmd.Lost = Unit {0}
 IsOther Cmd.TooLong = Unit {0}
 
 -- the states, the switches and the triggers of the automations are those behind the entry; the triggers and the waits are still to be told
--- of it, with the states before it that it changes
+-- of it, with the states before it that it changes; what it changes are helpers, and no helper is listed where helpers keep their texts
 pub record Untold (k : Journal) (t : TrigSet) (w : Waits) (before : Listed) : Type 0 where
   pub j : Journal
   pub x : Entry
@@ -84,6 +85,8 @@ pub record Untold (k : Journal) (t : TrigSet) (w : Waits) (before : Listed) : Ty
   pub waits_stand : waits.StandsFor w.asks j
   pub owned : Owned k t w
   pub listed : has_earlier (length j) (triggers.attached t) ≡ true → AreListed j x before
+  pub apart : spares_helpers x ≡ true → names_helper k before ≡ false
+  pub helped : changes_helpers j x ≡ true
 
 -- the same of a report of an entity that concerns nobody
 pub record UntoldLeft (k : Journal) (t : TrigSet) (w : Waits) (e : EntityId) (text : Text) (attributes : Pairs) : Type 0 where
@@ -94,9 +97,11 @@ pub record UntoldLeft (k : Journal) (t : TrigSet) (w : Waits) (e : EntityId) (te
   pub x_is : untold.x ≡ Line source number (Cmd.Report e text attributes)
   pub left : Leaves t e
 
+-- so it is with the parts, which have the events of helpers that the entry gives
 pub record Entered (k : Journal) (p : Parts) (before : Listed) : Type 0 where
   pub sees : Sees k p
   pub untold : Untold k p.triggers p.waits before
+  pub given_is : p.given ≡ last_events k
   pub keys_early : KeysBelow (length k) p.delays
 
 -- so it is with such a report

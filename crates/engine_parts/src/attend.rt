@@ -1,8 +1,10 @@
 //! An entry whose own changes were made: the triggers and the waits are told of it, and the runs that it wakes are listed anew.
 ghost use Rattle.std.specs.Prelude.{◌≡◌, ◌-◌, ℕ, List, IfOk, OnOk, length};
 ghost use Rattle.ha_journal.specs.Attempts.{fired as fired_lem};
+ghost use Rattle.ha_journal.specs.Helpers.{last_events};
 ghost use Rattle.ha_model.specs.Records.{Records};
 ghost use Rattle.ha_past.specs.Firings.{firings};
+ghost use Rattle.helper_set.specs.Kept.{StandsFor};
 ghost use Rattle.trig_set.specs.Stands.{attached};
 ghost use Rattle.wait_set.specs.Asked.{WaitTable};
 ghost use Rattle.engine_parts.specs.Kept.{AreSound, Going, Looks, nobody};
@@ -15,8 +17,9 @@ use crate::note::note;
 use crate::parts::Parts;
 use crate::wake::wake;
 use ha_clock::{Moment, Zone};
-use ha_journal::Firing;
+use ha_journal::{BusEvent, Firing};
 use ha_value::Many;
+use helper_set::Helpers;
 use script_calls::Seeing;
 use segment_view::Segment;
 use state_table::StateTable;
@@ -24,25 +27,30 @@ use std::alloc::{AllocError, Global};
 use trig_set::{Before, TrigSet};
 use wait_set::Waits;
 
-/// The triggers and the waits note the last entry, where these are the states, the zone and Now after it.
+/// The triggers and the waits note the last entry, where these are the states, the helpers, the zone and Now after it, and the events of
+/// helpers that it gives.
 fn note_last<'a>(
     triggers: &mut TrigSet,
     waits: &mut Waits,
     alloc: Global,
     journal: &'a Segment<'_>,
     before: Before,
+    given: &Many<BusEvent>,
     states: &'a StateTable,
+    helpers: &'a Helpers,
     zone: &'a Zone,
     at: Moment,
 ) -> Result<Many<Firing>, AllocError>
     requires looks { Looks journal.now states.now zone.now at }
+    requires helpers { StandsFor helpers.now journal.now }
     requires sound { AreSound journal.now }
+    requires given { given.now ≡ last_events journal.now }
     requires untold { Untold journal.now triggers.old waits.old before }
     ensures attached { OnOk result (attached triggers.new ≡ attached triggers.old) }
     ensures told { OnOk result (Told journal.entry.now waits.old triggers.new waits.new) }
     ensures fired { IfOk result (λ fired. fired ≡ firings journal.entry.now (length journal.entry.now - 1) (attached triggers.old)) }
 {
-    let view = Seeing::make(states, journal.configuration(), zone, at);
+    let view = Seeing::make(states, journal.configuration(), zone, at, helpers);
     // The borrow checker builds its plan only where a place has the type that the view holds.
     let _ = &view.view;
     let fired = note(
@@ -52,6 +60,7 @@ fn note_last<'a>(
         journal.place(),
         journal.last_entry(),
         before,
+        given,
         &view,
     )?;
     Ok(fired)
@@ -76,7 +85,9 @@ pub fn note_entry(
         alloc,
         journal,
         before,
+        &parts.given,
         &parts.states,
+        &parts.helpers,
         &parts.zone,
         parts.at,
     )?;

@@ -3,6 +3,7 @@ ghost use Rattle.std.specs.Prelude.{◌≡◌, ◌-◌, ℕ, [], OnOk, length};
 ghost use Rattle.ha_journal.specs.Attempts.{fired as fired_lem};
 ghost use Rattle.ha_model.specs.Records.{Records};
 ghost use Rattle.ha_past.specs.Firings.{firings};
+ghost use Rattle.helper_set.specs.Kept.{StandsFor};
 ghost use Rattle.trig_set.specs.Stands.{attached};
 ghost use Rattle.engine_parts.specs.Kept.{AreSound, Going, Looks, nobody};
 ghost use Rattle.engine_parts.specs.Stages.{EnteredLeft, Noted, RunsBefore, Told, UntoldLeft};
@@ -14,6 +15,7 @@ use crate::note::note_waits;
 use crate::parts::Parts;
 use ha_clock::{Moment, Zone};
 use ha_value::{EntityId, Many, Value, Word};
+use helper_set::Helpers;
 use script_calls::Seeing;
 use segment_view::Segment;
 use state_table::StateTable;
@@ -21,7 +23,7 @@ use std::alloc::{AllocError, Global};
 use trig_set::TrigSet;
 use wait_set::Waits;
 
-/// The triggers and the waits note the report, which is the last entry, where these are the states, the zone and Now after it.
+/// The triggers and the waits note the report, which is the last entry, where these are the states, the helpers, the zone and Now after it.
 fn note_report<'a>(
     triggers: &mut TrigSet,
     waits: &mut Waits,
@@ -31,10 +33,12 @@ fn note_report<'a>(
     text: &Word,
     attributes: &Many<(Word, Value)>,
     states: &'a StateTable,
+    helpers: &'a Helpers,
     zone: &'a Zone,
     at: Moment,
 ) -> Result<(), AllocError>
     requires looks { Looks journal.now states.now zone.now at }
+    requires helpers { StandsFor helpers.now journal.now }
     requires sound { AreSound journal.now }
     requires untold { UntoldLeft journal.now triggers.old waits.old entity.now text.now attributes.now }
     ensures attached { OnOk result (attached triggers.new ≡ attached triggers.old) }
@@ -42,7 +46,7 @@ fn note_report<'a>(
     ensures fired { firings journal.entry.now (length journal.entry.now - 1) (attached triggers.old) ≡ [] }
 {
     triggers.note_left(alloc, entity, text, attributes, at)?;
-    let view = Seeing::make(states, journal.configuration(), zone, at);
+    let view = Seeing::make(states, journal.configuration(), zone, at, helpers);
     // The borrow checker builds its plan only where a place has the type that the view holds.
     let _ = &view.view;
     let fired = Many::make(alloc);
@@ -74,6 +78,7 @@ fn note_left(
         text,
         attributes,
         &parts.states,
+        &parts.helpers,
         &parts.zone,
         parts.at,
     )?;

@@ -14,4 +14,5 @@ pub mod ready;
 pub mod rested;
 pub mod see;
 pub mod slots;
+pub mod texts;
 pub mod wake;

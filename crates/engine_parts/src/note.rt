@@ -14,7 +14,7 @@ ghost use Rattle.script_step.specs.declared.frames.Frames.{Frames};
 ghost use Rattle.engine_parts.specs.Kept.{AreOwned};
 ghost use Rattle.engine_parts.specs.Runs.{AreHeld};
 
-use ha_journal::{Entry, Firing};
+use ha_journal::{BusEvent, Entry, Firing};
 use ha_sight::Answers;
 use ha_value::Many;
 use std::alloc::{AllocError, Global};
@@ -43,7 +43,8 @@ pub fn note_waits<A: Answers>(
     Ok(())
 }
 
-/// The triggers, and then the waits with all that fires, note the entry at a place; `answers` holds what is seen after it.
+/// The triggers, and then the waits with all that fires, note the entry at a place; `events` has the events of helpers that it gives, and
+/// `answers` holds what is seen after it.
 pub fn note<A: Answers>(
     triggers: &mut TrigSet,
     waits: &mut Waits,
@@ -51,21 +52,22 @@ pub fn note<A: Answers>(
     place: u64,
     entry: &Entry,
     before: Before,
+    events: &Many<BusEvent>,
     answers: &A,
 ) -> Result<Many<Firing>, AllocError>
     requires in_time { (A.sight answers.now).now ≤ last_moment }
     ensures attached { OnOk result (triggers_lem.attached triggers.new ≡ triggers_lem.attached triggers.old) }
     ensures fired { IfOk result (λ fired. (j : Journal) → triggers_lem.StandsFor triggers.old j
-        → IsNext j place entry.now before (A.sight answers.now) (triggers_lem.attached triggers.old)
+        → IsNext j place entry.now before events.now (A.sight answers.now) (triggers_lem.attached triggers.old)
         → fired ≡ firings (more j entry.now) place (triggers_lem.attached triggers.old)) }
     ensures triggers { OnOk result ((j : Journal) → triggers_lem.StandsFor triggers.old j
-        → IsNext j place entry.now before (A.sight answers.now) (triggers_lem.attached triggers.old) → triggers_lem.StandsFor triggers.new (more j entry.now)) }
+        → IsNext j place entry.now before events.now (A.sight answers.now) (triggers_lem.attached triggers.old) → triggers_lem.StandsFor triggers.new (more j entry.now)) }
     ensures waits { OnOk result ((j : Journal) → HasEntry j → triggers_lem.StandsFor triggers.old j → waits_lem.StandsFor waits.old.asks j
-        → IsNext j place entry.now before (A.sight answers.now) (triggers_lem.attached triggers.old)
+        → IsNext j place entry.now before events.now (A.sight answers.now) (triggers_lem.attached triggers.old)
         → waits_lem.AreFired (more j entry.now) place (firings (more j entry.now) place (triggers_lem.attached triggers.old)) waits.old.asks
         → waits_lem.StandsFor waits.new.asks (more j entry.now)) }
     ensures asks { OnOk result ((j : Journal) → HasEntry j → triggers_lem.StandsFor triggers.old j
-        → IsNext j place entry.now before (A.sight answers.now) (triggers_lem.attached triggers.old)
+        → IsNext j place entry.now before events.now (A.sight answers.now) (triggers_lem.attached triggers.old)
         → waits_lem.AreFired (more j entry.now) place (firings (more j entry.now) place (triggers_lem.attached triggers.old)) waits.old.asks
         → (serial : ℕ) → AsksKept waits.old waits.new serial) }
     ensures grow { OnOk result ((serial : ℕ) → EndsGrow waits.old waits.new serial) }
@@ -75,7 +77,7 @@ pub fn note<A: Answers>(
     ensures others { OnOk result (AreApart waits.old.asks → AreOthers waits.new.fresh waits.new.asks) }
     ensures held { OnOk result ((i : Journal) (os : List (Option Frames)) → AreHeld i os waits.old.asks → AreHeld i os waits.new.asks) }
 {
-    let fired = match triggers.note(alloc, place, entry, before, answers) {
+    let fired = match triggers.note(alloc, place, entry, before, events, answers) {
         Ok(fired) => fired,
         Err(error) => return Err(error),
     };

@@ -2,6 +2,9 @@
 use crate::ready::Ready;
 use crate::slots::Slots;
 use ha_clock::{Moment, Zone};
+use ha_journal::BusEvent;
+use ha_value::Many;
+use helper_set::Helpers;
 use script_calls::Calls;
 use script_step::Frames;
 use state_table::StateTable;
@@ -16,6 +19,9 @@ pub struct Parts {
     pub at: Moment,
     pub zone: Zone,
     pub states: StateTable,
+    pub helpers: Helpers,
+    /// The events of helpers that the last entry gives, once it was entered.
+    pub given: Many<BusEvent>,
     pub switches: Switches,
     pub triggers: TrigSet,
     pub waits: Waits,

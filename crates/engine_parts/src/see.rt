@@ -2,8 +2,9 @@
 ghost use Rattle.std.specs.Prelude.{◌≡◌, ◌∷◌, [], ℕ, None, Some, false, IfOk, OnOk};
 ghost use Rattle.std.specs.Option.{option_copied};
 ghost use Rattle.ha_config.specs.declared.command.Cmd as cmd;
+ghost use Rattle.ha_config.specs.Helpers.{is_helper};
 ghost use Rattle.ha_journal.specs.declared.entry.Entry.TheVariants.{Line};
-ghost use Rattle.ha_journal.specs.Journal.{Journal, now as now_of, more};
+ghost use Rattle.ha_journal.specs.Journal.{Journal, helpers, now as now_of, more};
 ghost use Rattle.state_table.specs.Anew.{is_automation};
 ghost use Rattle.state_table.specs.Table.{at};
 ghost use Rattle.state_laws.specs.Stands.{StandsFor};
@@ -48,11 +49,12 @@ pub fn see_report(
     attributes: &Many<(Word, Value)>,
     now: Moment,
 ) -> Result<Before, AllocError>
-    ensures stands { OnOk result ((j : Journal) (k n : ℕ) → StandsFor states.old j → is_automation entity.now ≡ false
+    ensures stands { OnOk result ((j : Journal) (k n : ℕ) → StandsFor states.old j → is_automation entity.now ≡ false → is_helper (helpers j) entity.now ≡ false
         → now ≡ now_of (more j (Line k n (cmd.Cmd.Report entity.now text.now attributes.now)))
         → StandsFor states.new (more j (Line k n (cmd.Cmd.Report entity.now text.now attributes.now)))) }
-    ensures listed { IfOk result (λ before. (j : Journal) (k n : ℕ) → StandsFor states.old j → is_automation entity.now ≡ false
+    ensures listed { IfOk result (λ before. (j : Journal) (k n : ℕ) → StandsFor states.old j → is_automation entity.now ≡ false → is_helper (helpers j) entity.now ≡ false
         → AreListed j (Line k n (cmd.Cmd.Report entity.now text.now attributes.now)) before) }
+    ensures one { IfOk result (λ before. before ≡ (entity.now, at states.old entity.now) ∷ []) }
 {
     let before = states.report_over(alloc, entity, text, attributes, now)?;
     let list = Before::one(alloc, entity, before)?;
@@ -65,8 +67,9 @@ pub fn see_gone(
     alloc: Global,
     entity: &EntityId,
 ) -> Result<Before, AllocError>
-    ensures stands { OnOk result ((j : Journal) (k n : ℕ) → StandsFor states.old j → is_automation entity.now ≡ false → StandsFor states.new (more j (Line k n (cmd.Cmd.Gone entity.now)))) }
-    ensures listed { IfOk result (λ before. (j : Journal) (k n : ℕ) → StandsFor states.old j → is_automation entity.now ≡ false → AreListed j (Line k n (cmd.Cmd.Gone entity.now)) before) }
+    ensures stands { OnOk result ((j : Journal) (k n : ℕ) → StandsFor states.old j → is_automation entity.now ≡ false → is_helper (helpers j) entity.now ≡ false → StandsFor states.new (more j (Line k n (cmd.Cmd.Gone entity.now)))) }
+    ensures listed { IfOk result (λ before. (j : Journal) (k n : ℕ) → StandsFor states.old j → is_automation entity.now ≡ false → is_helper (helpers j) entity.now ≡ false → AreListed j (Line k n (cmd.Cmd.Gone entity.now)) before) }
+    ensures one { IfOk result (λ before. before ≡ (entity.now, at states.old entity.now) ∷ []) }
 {
     let before = listed(alloc, states, entity)?;
     states.gone(entity);

@@ -19,6 +19,10 @@ use Rattle.state_table.specs.contracts.table.StateTable as StateTable
 use Rattle.wait_set.specs.contracts.asked.Asked as Asked
 use Rattle.wait_set.specs.contracts.waits.Waits as Waits
 use Rattle.wait_set.proofs.pending.Pending.TheSendSync as pending
+use Rattle.helper_set.specs.contracts.kept.Last as Last
+use Rattle.helper_set.specs.contracts.kept.Kept as Kept
+use Rattle.helper_set.specs.contracts.list.KeptList as KeptList
+use Rattle.helper_set.specs.contracts.set.Helpers as Helpers
 use Rattle.switch_book.proofs.book.Switches.TheSendSync as switches
 use Rattle.script_calls.proofs.calls.Calls.TheSendSync as calls
 use Rattle.engine_parts.specs.contracts.parts.Parts as Parts
@@ -54,7 +58,19 @@ asked_send = search entries depth 60 fits 20000
 waits_send : IsSend Waits.the_row
 waits_send = search (asked_send, pending.the_field_send, crosses, entries) depth 60 fits 20000
 
-ruleset kept = (states_field, switches.the_send, triggers_field, waits_send, calls.the_send, frames_send, ready.the_field_send)
+last_send : IsSend Last.the_row
+last_send = search entries depth 60 fits 20000
+
+kept_send : IsSend Kept.the_row
+kept_send = search (last_send, entries) depth 60 fits 20000
+
+list_send : IsSend KeptList.the_row
+list_send = search (kept_send, map.the_send, string.the_send, heap.the_send, allocator.the_frees, crosses, entries) depth 60 fits 20000
+
+helpers_field : IsSend Helpers.the_field.row
+helpers_field = search (list_send, queue.the_send, crosses, entries) depth 60 fits 20000
+
+ruleset kept = (states_field, helpers_field, switches.the_send, triggers_field, waits_send, calls.the_send, frames_send, ready.the_field_send)
 
 pub parts_field : IsSend Parts.the_field.row
 parts_field = search (kept, zone.the_send, queue.the_send, slots.the_send, crosses, entries) depth 60 fits 20000

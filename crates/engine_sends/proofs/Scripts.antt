@@ -7,6 +7,8 @@ use Rattle.ha_config.specs.contracts.config.Action as Action
 use Rattle.ha_config.specs.contracts.config.Automation as Automation
 use Rattle.ha_config.specs.contracts.config.Script as Script
 use Rattle.ha_config.specs.contracts.config.Config as Config
+use Rattle.ha_config.specs.contracts.helper.HelperKind as HelperKind
+use Rattle.ha_config.specs.contracts.helper.Helper as Helper
 use Rattle.ha_config.proofs.config.Mode.TheSendSync as mode
 use Rattle.ha_config.proofs.config.Form.TheLaws.TheKnot as form
 use Rattle.ha_config.proofs.config.ActionKind.TheLaws.TheKnot as action
@@ -45,7 +47,13 @@ script_field = search (action_send, mode.the_field_send, triggers) depth 60 fits
 pub script_send : IsSend Script.the_row
 script_send = search (script_field, sendable) depth 60 fits 20000
 
-pub config_field : IsSend Config.the_field.row
-config_field = search (automation_send, script_send, triggers) depth 60 fits 20000
+helper_kind_field : IsSend HelperKind.the_field.row
+helper_kind_field = search triggers depth 60 fits 20000
 
-pub ruleset scripts = (action_send, config_field, triggers)
+pub helper_send : IsSend Helper.the_row
+helper_send = search (helper_kind_field, triggers) depth 60 fits 20000
+
+pub config_field : IsSend Config.the_field.row
+config_field = search (automation_send, script_send, helper_send, triggers) depth 60 fits 20000
+
+pub ruleset scripts = (action_send, helper_send, config_field, triggers)

@@ -1,6 +1,6 @@
 -- What is put for a command that was read is fair.
 use Rattle.std.proofs.Common.{◌≡◌, ℕ, ◌≤◌, Bool, true, false, cond, [], ◌∷◌, map, Option, Some, None, Ok, Err, refl, sym, ap, subst, ◌∙◌, inl, inr, arith, IsTrue}
-use Rattle.std.specs.Prelude.{codes, nat_le, ◌&&◌}
+use Rattle.std.specs.Prelude.{codes, nat_le, not, ◌&&◌}
 use Rattle.std.specs.List.{list_all}
 use Rattle.std.specs.Str.{is_utf8}
 use Rattle.std.proofs.lemmas.Bool.{and_parts, leb-true}
@@ -154,12 +154,20 @@ short text state e = elim (chosen (nat_le (characters text) 255) (Ok text) (Err 
 
 -- ---- commands
 
-put_named : (has : Text → Bool) (name : Text) (c : Cmd) → (IsTrue (has name) → IsFairAmong has c) → IsFairAmong has (cond (has name) c (cmd.Refused 9))
-put_named has name c fair =
-    (elim (has name) as (λ b. has name ≡ b → IsFairAmong has (cond b c (cmd.Refused 9))) [
-      | true ↦ λ e. fair e
-      | false ↦ λ e. (omega arith, omega arith)
-    ]) refl
+module _ (has : Text → Bool) (helps : EntityId → Bool) where
+  put_named : (name : Text) (c : Cmd) → (IsTrue (has name) → IsFairAmong has helps c) → IsFairAmong has helps (cond (has name) c (cmd.Refused 9))
+  put_named name c fair =
+      (elim (has name) as (λ b. has name ≡ b → IsFairAmong has helps (cond b c (cmd.Refused 9))) [
+        | true ↦ λ e. fair e
+        | false ↦ λ e. refl
+      ]) refl
+
+  put_reported : (e : EntityId) (c : Cmd) → (IsTrue (not (helps e)) → IsFairAmong has helps c) → IsFairAmong has helps (cond (helps e) (cmd.Refused 14) c)
+  put_reported e c fair = by (helps e) fair
+    where
+      by : (b : Bool) → (IsTrue (not b) → IsFairAmong has helps c) → IsFairAmong has helps (cond b (cmd.Refused 14) c)
+      by true fair = refl
+      by false fair = fair refl
 
 made : (x y : Cmd) → as_ok x ≡ Ok y → x ≡ y
 made x y e = cc
@@ -173,25 +181,27 @@ report_fair ps c line e =
     let entity = bound (reportable (read_entity id.0)) _ c attributes.2 in
     let state = bound (state_of text.0) _ c entity.2 in
     subst IsFairOncePut (made (cmd.Report entity.0 state.0 attributes.0) c state.2)
-    (λ j. (reports id.0 entity.0 entity.1, ap is_utf8 (sym (same_state text.0 state.0 state.1)) ∙ inner_text (codes "state") ps text.0 line text.1, short text.0 state.0 state.1, inner_map (codes "attributes") ps attributes.0 line attributes.1))
+    (λ has helps. put_reported has helps entity.0 (cmd.Report entity.0 state.0 attributes.0)
+    (λ free. ((reports id.0 entity.0 entity.1, ap is_utf8 (sym (same_state text.0 state.0 state.1)) ∙ inner_text (codes "state") ps text.0 line text.1, short text.0 state.0 state.1, inner_map (codes "attributes") ps attributes.0 line attributes.1), free)))
 
 gone_fair : (ps : Pairs) (c : Cmd) → gone_of ps ≡ Ok c → IsFairOncePut c
 unfolding gone_of
 gone_fair ps c e =
     let id = bound (text_of (value_of Gone ps)) _ c e in
     let entity = bound (reportable (read_entity id.0)) _ c id.2 in
-    subst IsFairOncePut (made (cmd.Gone entity.0) c entity.2) (λ j. reports id.0 entity.0 entity.1)
+    subst IsFairOncePut (made (cmd.Gone entity.0) c entity.2)
+    (λ has helps. put_reported has helps entity.0 (cmd.Gone entity.0) (λ free. (reports id.0 entity.0 entity.1, free)))
 
 event_fair : (ps : Pairs) (c : Cmd) → IsLineMap ps → event_of ps ≡ Ok c → IsFairOncePut c
 unfolding event_of
 event_fair ps c line e =
     let kind = bound (text_of (value_of Event ps)) _ c e in
     let fields = bound (map_of (first_pair (codes "data") ps)) _ c kind.2 in
-    subst IsFairOncePut (made (cmd.Event kind.0 fields.0) c fields.2) (λ j. (inner_text (key_of Event) ps kind.0 line kind.1, inner_map (codes "data") ps fields.0 line fields.1))
+    subst IsFairOncePut (made (cmd.Event kind.0 fields.0) c fields.2) (λ has helps. (inner_text (key_of Event) ps kind.0 line kind.1, inner_map (codes "data") ps fields.0 line fields.1))
 
 at_fair : (o : Option ℕ) (c : Cmd) → IsInTime c → at_moment o ≡ Ok c → IsFairOncePut c
 at_fair None c t e = absurd cc
-at_fair (Some at) c t e = let is = made (cmd.Moment at) c e in subst IsFairOncePut is (λ j. subst IsInTime (sym is) t)
+at_fair (Some at) c t e = let is = made (cmd.Moment at) c e in subst IsFairOncePut is (λ has helps. subst IsInTime (sym is) t)
 
 moment_fair : (ps : Pairs) (c : Cmd) → IsInTime c → moment_of_pairs ps ≡ Ok c → IsFairOncePut c
 unfolding moment_of_pairs
@@ -205,7 +215,7 @@ switch_fair ps c e =
     let on = bound (turned to.0) _ c to.2 in
     let ends = bound (flag_of (first_pair (codes "stop_actions") ps)) _ c on.2 in
     let name = bound (automation (read_entity id.0)) _ c ends.2 in
-    subst IsFairOncePut (made (cmd.Switch name.0 on.0 ends.0) c name.2) (λ j. put_named j name.0 (cmd.Switch name.0 on.0 ends.0) (λ h. (object_of id.0 name.0 name.1, h)))
+    subst IsFairOncePut (made (cmd.Switch name.0 on.0 ends.0) c name.2) (λ has helps. put_named has helps name.0 (cmd.Switch name.0 on.0 ends.0) (λ h. (object_of id.0 name.0 name.1, h)))
 
 trigger_fair : (ps : Pairs) (c : Cmd) → trigger_of ps ≡ Ok c → IsFairOncePut c
 unfolding trigger_of
@@ -213,14 +223,14 @@ trigger_fair ps c e =
     let id = bound (text_of (value_of Trigger ps)) _ c e in
     let skip = bound (flag_of (first_pair (codes "skip_condition") ps)) _ c id.2 in
     let name = bound (automation (read_entity id.0)) _ c skip.2 in
-    subst IsFairOncePut (made (cmd.Trigger name.0 skip.0) c name.2) (λ j. put_named j name.0 (cmd.Trigger name.0 skip.0) (λ h. (object_of id.0 name.0 name.1, h)))
+    subst IsFairOncePut (made (cmd.Trigger name.0 skip.0) c name.2) (λ has helps. put_named has helps name.0 (cmd.Trigger name.0 skip.0) (λ h. (object_of id.0 name.0 name.1, h)))
 
 restart_fair : (ps : Pairs) (c : Cmd) → restart_of ps ≡ Ok c → IsFairOncePut c
 unfolding restart_of
 restart_fair ps c e = of_value (value_of Restart ps) e
   where
     of_flag : (b : Bool) → as_true b ≡ Ok c → IsFairOncePut c
-    of_flag true k = subst IsFairOncePut (made cmd.Restart c k) (λ j. tt)
+    of_flag true k = subst IsFairOncePut (made cmd.Restart c k) (λ has helps. tt)
     of_flag false k = absurd cc
 
     of_value : (o : Option Value) → restarts o ≡ Ok c → IsFairOncePut c

@@ -295,4 +295,4 @@ IsInTime _ = Unit {0}
 
 -- whatever stands in the journal, what is put for the command is fair
 abbrev pub IsFairOncePut : Cmd → Type 0
-IsFairOncePut c = (has : Text → Bool) → IsFairAmong has (put_among has c)
+IsFairOncePut c = (has : Text → Bool) (helps : EntityId → Bool) → IsFairAmong has helps (put_among has helps c)

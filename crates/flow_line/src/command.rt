@@ -3,6 +3,7 @@
 ghost use Rattle.std.specs.Prelude.{◌≡◌, length, option_copied, IfOk};
 ghost use Rattle.std.specs.Prelude.{Bool};
 ghost use Rattle.ha_value.specs.Ids.{read_entity};
+ghost use Rattle.ha_value.specs.declared.value.EntityId.{EntityId};
 ghost use Rattle.ha_config.specs.Fair.{IsFairAmong, put_among};
 ghost use Rattle.ha_config.specs.Words.{Text, characters};
 ghost use Rattle.flow_line.specs.Fields.{SaysLent};
@@ -223,13 +224,13 @@ fn command_of(alloc: Global, line: &[u8]) -> Result<Cmd, Refused>
 }
 
 /// The command of a line whose end is cut off. A bad line is `Cmd::Refused` with its code's number. That an automation of
-/// this name is missing is found where the line is put.
+/// this name is missing, or that a helper is reported, is found where the line is put.
 #[tactic(auto, unfolding(crate::specs::Command::cmd_of))]
 pub fn read_cmd(alloc: Global, line: &[u8]) -> Result<Cmd, AllocError>
     // Which command or refusal it is.
     ensures exact { IfOk result (λ made. made ≡ cmd_of line.now) }
-    // It is fair, but for the automation that it may name, which decides what is put.
-    ensures fair { IfOk result (λ made. (has : Text → Bool) → IsFairAmong has (put_among has made)) }
+    // It is fair, but for the automation that it may name and the helper that it may report, which decide what is put.
+    ensures fair { IfOk result (λ made. (has : Text → Bool) (helps : EntityId → Bool) → IsFairAmong has helps (put_among has helps made)) }
 {
     match command_of(alloc, line) {
         Ok(made) => Ok(made),

@@ -1,4 +1,4 @@
--- What is read of a map: the command whose pairs these are, fair but for its automation.
+-- What is read of a map: the command whose pairs these are, fair but for its automation or helper.
 use Rattle.std.proofs.Common.{◌≡◌, ℕ, ◌≤◌, Bool, true, false, cond, List, [], ◌∷◌, drop, Option, Some, None, refl, sym, ap, subst, ◌∙◌, inl, inr, arith}
 use Rattle.std.specs.Prelude.{codes, nat_eq, nat_le, ◌++◌, ◌&&◌}
 use Rattle.std.specs.Fmt.{digits}
@@ -15,7 +15,7 @@ use Rattle.ha_clock.specs.MomentText.{moment_of}
 use Rattle.ha_clock.specs.Print.{moment_text}
 use Rattle.ha_config.specs.declared.command.Cmd.{Cmd}
 use Rattle.ha_config.specs.Words.{Text, Pairs, same, characters}
-use Rattle.ha_config.specs.Fair.{IsReportable}
+use Rattle.ha_config.specs.Fair.{IsReportable, is_refusal}
 use Rattle.ha_config.specs.CommandText.{line_code}
 use Rattle.flow_line.specs.Command.{IsInTime, IsLineMap}
 use Rattle.flow_printed.specs.declared.kind.Kind.{Kind}
@@ -107,13 +107,12 @@ moment_is text at e =
 
 record IsCode (text : Text) (code : ℕ) : Type 0 where
   text_is : text ≡ line_code code
-  low : 1 ≤ code
-  high : code ≤ 10
+  told : is_refusal code ≡ true
 
-one_code : (text word : Text) (n : ℕ) (others : Option ℕ) (code : ℕ) → word ≡ line_code n → 1 ≤ n → n ≤ 10 → (others ≡ Some code → IsCode text code)
+one_code : (text word : Text) (n : ℕ) (others : Option ℕ) (code : ℕ) → word ≡ line_code n → is_refusal n ≡ true → (others ≡ Some code → IsCode text code)
     → cond (same text word) (Some n) others ≡ Some code → IsCode text code
-one_code text word n others code is low high else_is e = elim (chosen (same text word) (Some n) others (Some code) e) [
-  | inl c ↦ subst (IsCode text) (some_is n code c.1) (record { text_is = (bytes_eq-Decides text word).0 c.0 ∙ is; low = low; high = high })
+one_code text word n others code is told else_is e = elim (chosen (same text word) (Some n) others (Some code) e) [
+  | inl c ↦ subst (IsCode text) (some_is n code c.1) (record { text_is = (bytes_eq-Decides text word).0 c.0 ∙ is; told = told })
   | inr c ↦ else_is c.1
 ]
 
@@ -123,16 +122,17 @@ no_code text code e = absurd cc
 code_is : (text : Text) (code : ℕ) → code_in text ≡ Some code → IsCode text code
 unfolding digits
 code_is t code e =
-    one_code t (codes "L1") 1 _ code refl (omega arith) (omega arith)
-    (one_code t (codes "L2") 2 _ code refl (omega arith) (omega arith)
-    (one_code t (codes "L3") 3 _ code refl (omega arith) (omega arith)
-    (one_code t (codes "L4") 4 _ code refl (omega arith) (omega arith)
-    (one_code t (codes "L5") 5 _ code refl (omega arith) (omega arith)
-    (one_code t (codes "L6") 6 _ code refl (omega arith) (omega arith)
-    (one_code t (codes "L7") 7 _ code refl (omega arith) (omega arith)
-    (one_code t (codes "L8") 8 _ code refl (omega arith) (omega arith)
-    (one_code t (codes "L9") 9 _ code refl (omega arith) (omega arith)
-    (one_code t (codes "L10") 10 _ code refl (omega arith) (omega arith) (no_code t code)))))))))) e
+    one_code t (codes "L1") 1 _ code refl refl
+    (one_code t (codes "L2") 2 _ code refl refl
+    (one_code t (codes "L3") 3 _ code refl refl
+    (one_code t (codes "L4") 4 _ code refl refl
+    (one_code t (codes "L5") 5 _ code refl refl
+    (one_code t (codes "L6") 6 _ code refl refl
+    (one_code t (codes "L7") 7 _ code refl refl
+    (one_code t (codes "L8") 8 _ code refl refl
+    (one_code t (codes "L9") 9 _ code refl refl
+    (one_code t (codes "L10") 10 _ code refl refl
+    (one_code t (codes "L14") 14 _ code refl refl (no_code t code))))))))))) e
 
 -- ---- commands
 
@@ -245,7 +245,7 @@ refused_found ps c e =
     let code = bound (code_in text.0) _ c last.2 in
     let own = code_is text.0 code.0 code.1 in
     found_as ps (Cmd.Refused code.0) c code.2
-    (record { pairs = text_first (codes "refused") ps text.0 _ _ text.1 own.text_is (none_left (drop 1 ps) last.0 last.1); fair = (own.low, own.high) })
+    (record { pairs = text_first (codes "refused") ps text.0 _ _ text.1 own.text_is (none_left (drop 1 ps) last.0 last.1); fair = own.told })
 
 alone_is : (key : Text) (ps : Pairs) (u : Unit {0}) → alone key ps ≡ Some u → ps ≡ (key, Value.Flag true) ∷ []
 unfolding alone

@@ -1,9 +1,9 @@
 -- A command that is fair but for its automation is read of its print.
-use Rattle.std.proofs.Common.{◌≡◌, ℕ, zero, suc, ◌≤◌, Bool, true, false, cond, [], ◌∷◌, drop, Some, None, refl, ap, ◌∙◌, arith}
-use Rattle.std.specs.Prelude.{codes, nat_le, ◌++◌, IsUtf8}
+use Rattle.std.proofs.Common.{◌≡◌, ℕ, zero, suc, ◌≤◌, Bool, true, false, cond, [], ◌∷◌, drop, Some, None, refl, sym, ap, subst, ◌∙◌, inl, inr, arith}
+use Rattle.std.specs.Prelude.{codes, nat_eq, nat_le, ◌&&◌, ◌||◌, ◌⊎◌, ◌++◌, IsUtf8}
 use Rattle.std.specs.Fmt.{decimal, digits}
 use Rattle.std.specs.Str.{chars, is_utf8, IsAscii}
-use Rattle.std.proofs.lemmas.Bool.{and_parts, false_from_ne_true}
+use Rattle.std.proofs.lemmas.Bool.{and_parts, false_from_ne_true, leb-true}
 use Rattle.std.proofs.lemmas.Bool.Decides.{nat_tests}
 use Rattle.std.proofs.lemmas.Fmt.{IsAscii-decimal}
 use Rattle.std.proofs.lemmas.Slice.Eq.{bytes_eq-Decides}
@@ -22,7 +22,7 @@ use Rattle.ha_clock.proofs.RoundTrip.{moment_read}
 use Rattle.ha_config.specs.declared.command.Cmd.{Cmd}
 use Rattle.ha_config.specs.Words.{Text, Pairs, same, characters}
 use Rattle.ha_config.specs.ValueFacts.{AreFairPairs}
-use Rattle.ha_config.specs.Fair.{IsReportable}
+use Rattle.ha_config.specs.Fair.{IsReportable, is_refusal}
 use Rattle.ha_config.specs.CommandText.{line_code}
 use Rattle.flow_line.specs.Command.{IsLineMap}
 use Rattle.flow_printed.specs.Map.{alone, automation, cmd_of_map, code_in, event_of, flag_at, gone_of, is_automation, map_at, moment_of_map, printed_moment, refused_of, report_of, reportable, short_state, switch_of, text_at, trigger_of, turned}
@@ -52,20 +52,41 @@ moment_shown at time =
     binds (moment_of (moment_text at)) (λ (m : ℕ). cond (same (moment_text m) (moment_text at)) (Some m) None) at (Some at) (moment_read at time)
     (ap (λ (b : Bool). cond b (Some at) None) (same_text (moment_text at)))
 
-code_read : (code : ℕ) → 1 ≤ code → code ≤ 10 → code_in (line_code code) ≡ Some code
+low_read : (code : ℕ) → 1 ≤ code → code ≤ 10 → code_in (line_code code) ≡ Some code
 unfolding digits
-code_read zero low high = absurd (omega arith)
-code_read (suc zero) low high = refl
-code_read (suc (suc zero)) low high = refl
-code_read (suc (suc (suc zero))) low high = refl
-code_read (suc (suc (suc (suc zero)))) low high = refl
-code_read (suc (suc (suc (suc (suc zero))))) low high = refl
-code_read (suc (suc (suc (suc (suc (suc zero)))))) low high = refl
-code_read (suc (suc (suc (suc (suc (suc (suc zero))))))) low high = refl
-code_read (suc (suc (suc (suc (suc (suc (suc (suc zero)))))))) low high = refl
-code_read (suc (suc (suc (suc (suc (suc (suc (suc (suc zero))))))))) low high = refl
-code_read (suc (suc (suc (suc (suc (suc (suc (suc (suc (suc zero)))))))))) low high = refl
-code_read (suc (suc (suc (suc (suc (suc (suc (suc (suc (suc (suc n))))))))))) low high = absurd (omega arith)
+low_read zero low high = absurd (omega arith)
+low_read (suc zero) low high = refl
+low_read (suc (suc zero)) low high = refl
+low_read (suc (suc (suc zero))) low high = refl
+low_read (suc (suc (suc (suc zero)))) low high = refl
+low_read (suc (suc (suc (suc (suc zero))))) low high = refl
+low_read (suc (suc (suc (suc (suc (suc zero)))))) low high = refl
+low_read (suc (suc (suc (suc (suc (suc (suc zero))))))) low high = refl
+low_read (suc (suc (suc (suc (suc (suc (suc (suc zero)))))))) low high = refl
+low_read (suc (suc (suc (suc (suc (suc (suc (suc (suc zero))))))))) low high = refl
+low_read (suc (suc (suc (suc (suc (suc (suc (suc (suc (suc zero)))))))))) low high = refl
+low_read (suc (suc (suc (suc (suc (suc (suc (suc (suc (suc (suc n))))))))))) low high = absurd (omega arith)
+
+last_read : code_in (line_code 14) ≡ Some 14
+unfolding digits
+last_read = refl
+
+-- the codes of refused lines
+one_of_codes : (code : ℕ) → is_refusal code ≡ true → ((1 ≤ code) × (code ≤ 10)) ⊎ (code ≡ 14)
+one_of_codes code told = by (nat_le 1 code && nat_le code 10) (λ h. between h) told
+  where
+    between : (nat_le 1 code && nat_le code 10) ≡ true → (1 ≤ code) × (code ≤ 10)
+    between h = let parts = and_parts (nat_le 1 code) (nat_le code 10) h in (leb-true 1 code parts.0, leb-true code 10 parts.1)
+
+    by : (b : Bool) → (b ≡ true → (1 ≤ code) × (code ≤ 10)) → (b || nat_eq code 14) ≡ true → ((1 ≤ code) × (code ≤ 10)) ⊎ (code ≡ 14)
+    by true low h = inl (low refl)
+    by false low h = (let is : code ≡ 14 = grind (arith, nat_tests) in inr is)
+
+code_read : (code : ℕ) → is_refusal code ≡ true → code_in (line_code code) ≡ Some code
+code_read code told = elim (one_of_codes code told) [
+  | inl b ↦ low_read code b.0 b.1
+  | inr e ↦ subst (λ (n : ℕ). code_in (line_code n) ≡ Some n) (sym e) last_read
+]
 
 -- ---- its pairs are read
 
@@ -116,11 +137,11 @@ trigger_read name skip form =
     (binds (flag_at (codes "skip_condition") (drop 1 ps)) _ skip _ (flag_taken (codes "skip_condition") skip [])
     (binds (automation (read_entity (codes "automation." ++ name))) _ name _ (name_read name form) refl))
 
-refused_read : (code : ℕ) → 1 ≤ code → code ≤ 10 → refused_of (pairs_of (Cmd.Refused code)) ≡ Some (Cmd.Refused code)
+refused_read : (code : ℕ) → is_refusal code ≡ true → refused_of (pairs_of (Cmd.Refused code)) ≡ Some (Cmd.Refused code)
 unfolding refused_of
-refused_read code low high =
+refused_read code told =
     binds (text_at (codes "refused") (pairs_of (Cmd.Refused code))) _ (line_code code) _ (text_taken (codes "refused") (line_code code) [])
-    (binds (code_in (line_code code)) _ code _ (code_read code low high) refl)
+    (binds (code_in (line_code code)) _ code _ (code_read code told) refl)
 
 alone_read : (key : Text) → alone key ((key, Value.Flag true) ∷ []) ≡ Some tt
 unfolding alone
@@ -135,7 +156,7 @@ read_of_map (Cmd.Moment at) fair = moment_read_back at fair
 read_of_map (Cmd.Switch name on stop) fair = switch_read name on stop fair
 read_of_map (Cmd.Trigger name skip) fair = trigger_read name skip fair
 read_of_map Cmd.Restart fair = binds (alone (codes "restart") (pairs_of Cmd.Restart)) _ tt _ (alone_read (codes "restart")) refl
-read_of_map (Cmd.Refused code) fair = refused_read code fair.0 fair.1
+read_of_map (Cmd.Refused code) fair = refused_read code fair
 read_of_map Cmd.Lost fair = binds (alone (codes "lost") (pairs_of Cmd.Lost)) _ tt _ (alone_read (codes "lost")) refl
 read_of_map Cmd.TooLong fair = binds (alone (codes "too_long") (pairs_of Cmd.TooLong)) _ tt _ (alone_read (codes "too_long")) refl
 
@@ -239,7 +260,13 @@ id_utf8 e form =
 name_word : (name : Text) → is_name name ≡ true → IsWord (codes "automation." ++ name)
 name_word name form = joined_utf8 (codes "automation.") name front_word (name_utf8 name form)
 
-code_word : (code : ℕ) → code ≤ 10 → IsWord (line_code code)
+few_codes : (code : ℕ) → is_refusal code ≡ true → code ≤ 14
+few_codes code told = elim (one_of_codes code told) [
+  | inl b ↦ omega (arith, b.1)
+  | inr e ↦ omega (arith, e)
+]
+
+code_word : (code : ℕ) → code ≤ 14 → IsWord (line_code code)
 code_word code high = joined_utf8 (codes "L") (decimal code) letter_word (IsUtf8-from_ascii (decimal code) (IsAscii-decimal code (omega arith)))
 
 one_flag : (key : Text) (b : Bool) → IsWord key → IsLineMap ((key, Value.Flag b) ∷ [])
@@ -265,6 +292,6 @@ line_of_fair (Cmd.Trigger name skip) fair =
     pair_more (codes "trigger") (Value.Text (codes "automation." ++ name)) _ refl trigger_word (text_fine (codes "automation." ++ name) (name_word name fair))
     (one_flag (codes "skip_condition") skip skip_word)
 line_of_fair Cmd.Restart fair = one_flag (codes "restart") true restart_word
-line_of_fair (Cmd.Refused code) fair = one_text (codes "refused") (line_code code) refused_word (code_word code fair.1)
+line_of_fair (Cmd.Refused code) fair = one_text (codes "refused") (line_code code) refused_word (code_word code (few_codes code fair))
 line_of_fair Cmd.Lost fair = one_flag (codes "lost") true lost_word
 line_of_fair Cmd.TooLong fair = one_flag (codes "too_long") true too_long_word

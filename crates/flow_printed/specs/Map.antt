@@ -97,7 +97,8 @@ code_in t =
     else (if same t (codes "L2") then Some 2 else (if same t (codes "L3") then Some 3 else (if same t (codes "L4") then Some 4 else
     (if same t (codes "L5") then Some 5
     else (if same t (codes "L6") then Some 6 else (if same t (codes "L7") then Some 7 else (if same t (codes "L8") then Some 8 else
-    (if same t (codes "L9") then Some 9 else (if same t (codes "L10") then Some 10 else None)))))))))
+    (if same t (codes "L9") then Some 9 else (if same t (codes "L10") then Some 10 else
+    (if same t (codes "L14") then Some 14 else None))))))))))
 
 -- ---- commands
 

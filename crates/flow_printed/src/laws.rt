@@ -2,6 +2,7 @@
 
 ghost use Rattle.std.specs.Prelude.{◌≡◌};
 ghost use Rattle.std.specs.Prelude.{Bool};
+ghost use Rattle.ha_value.specs.declared.value.EntityId.{EntityId};
 ghost use Rattle.ha_config.specs.Fair.{IsFairAmong, put_among};
 ghost use Rattle.ha_config.specs.Words.{Text};
 ghost use Rattle.ha_config.specs.declared.command.Cmd.{Cmd};
@@ -18,12 +19,12 @@ pub fn one_line(text: &[u8])
     ensures { (l m : PrintedLine) → IsSized l → IsSized m → IsPrintOfLine text.now l → IsPrintOfLine text.now m → l ≡ m }
 {}
 
-/// A command that is fair somewhere is fair but for whether its automation is there.
+/// A command that is fair somewhere is fair but for whether its automation is there, or its entity is a helper.
 pub fn fair_anywhere()
-    ensures { (has : Text → Bool) (c : Cmd) → IsFairAmong has c → IsFairButForName c }
+    ensures { (has : Text → Bool) (helps : EntityId → Bool) (c : Cmd) → IsFairAmong has helps c → IsFairButForName c }
 {}
 
-/// What is put for a command that is fair but for its automation is fair.
+/// What is put for a command that is fair but for its automation or its helper is fair.
 pub fn fair_once_put()
-    ensures { (has : Text → Bool) (c : Cmd) → IsFairButForName c → IsFairAmong has (put_among has c) }
+    ensures { (has : Text → Bool) (helps : EntityId → Bool) (c : Cmd) → IsFairButForName c → IsFairAmong has helps (put_among has helps c) }
 {}

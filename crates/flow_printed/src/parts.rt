@@ -124,6 +124,7 @@ pub fn code_of(text: &Word) -> Result<u8, Unread>
         b"L8" => Ok(8),
         b"L9" => Ok(9),
         b"L10" => Ok(10),
+        b"L14" => Ok(14),
         _ => Err(Stop::Fault(NoCommand)),
     }
 }

@@ -11,7 +11,7 @@ use Rattle.ha_config.specs.declared.config.Automation.{Automation}
 use Rattle.ha_config.specs.declared.config.Config.{Config}
 use Rattle.ha_config.specs.declared.config.Script.{Script}
 use Rattle.ha_config.specs.Names.{name_of}
-use Rattle.ha_config.specs.Sound.{are_sound_automations, are_sound_scripts, is_sound_automation, is_sound_config}
+use Rattle.ha_config.specs.Sound.{are_sound_automations, are_sound_helpers, are_sound_scripts, is_sound_automation, is_sound_config}
 use Rattle.ha_config.specs.Units.{as_unit, units_of}
 use Rattle.ha_config.specs.ValueFacts.{all_distinct}
 use Rattle.ha_config.specs.Words.{Text, same}
@@ -92,8 +92,9 @@ all-apart (a ∷ all) ss d sound e =
 -- LAW: the names of the units differ
 pub units-apart : (c : Config) → is_sound_config c ≡ true → all_distinct (names (units_of c)) ≡ true
 units-apart c h =
-    let rules = and_left (are_sound_automations c.automations) (are_sound_scripts c.scripts) h in
-    let scripts = and_right (are_sound_automations c.automations) (are_sound_scripts c.scripts) h in
+    let rules = and_left (are_sound_automations c.automations) (are_sound_scripts c.scripts && are_sound_helpers c.helpers) h in
+    let behind = and_right (are_sound_automations c.automations) (are_sound_scripts c.scripts && are_sound_helpers c.helpers) h in
+    let scripts = and_left (are_sound_scripts c.scripts) (are_sound_helpers c.helpers) behind in
     all-apart c.automations c.scripts (and_right _ _ (and_left _ _ rules)) (and_right _ _ rules) (and_right _ _ (and_left _ _ scripts))
 
 few : (n : ℕ) → nat_le n 1_024 ≡ true → n ≤ 1_024
@@ -102,8 +103,9 @@ few n h = grind (arith, nat_tests)
 -- LAW: there are at most 2,048
 pub units-few : (c : Config) → is_sound_config c ≡ true → length (units_of c) ≤ 2_048
 units-few c h =
-    let rules = and_left (are_sound_automations c.automations) (are_sound_scripts c.scripts) h in
-    let scripts = and_right (are_sound_automations c.automations) (are_sound_scripts c.scripts) h in
+    let rules = and_left (are_sound_automations c.automations) (are_sound_scripts c.scripts && are_sound_helpers c.helpers) h in
+    let behind = and_right (are_sound_automations c.automations) (are_sound_scripts c.scripts && are_sound_helpers c.helpers) h in
+    let scripts = and_left (are_sound_scripts c.scripts) (are_sound_helpers c.helpers) behind in
     let one = few (length c.automations) (and_left _ _ (and_left _ _ rules)) in
     let two = few (length c.scripts) (and_left _ _ (and_left _ _ scripts)) in
     let both = length-append c.automations (map as_unit c.scripts) in

@@ -1,16 +1,16 @@
--- Which commands a source may give, where some names are those of automations, and what stands for each.
-use Rattle.std.specs.Prelude.{ℕ, ◌≢◌, ◌≤◌, IsTrue, Bool, true, codes, if◌then◌else◌, false}
+-- Which commands a source may give, where some names are those of automations and some entities are helpers, and what stands for each.
+use Rattle.std.specs.Prelude.{ℕ, ◌≢◌, ◌≤◌, IsTrue, Bool, true, false, not, ◌&&◌, ◌||◌, nat_eq, nat_le, codes, if◌then◌else◌}
 use Rattle.std.specs.Str.{is_utf8}
 use Rattle.ha_value.specs.declared.value.EntityId.{EntityId}
 use Rattle.ha_value.specs.Ids.{is_entity, is_name}
 use Rattle.ha_clock.specs.Local.{last_moment}
 use Rattle.ha_config.specs.declared.command.Cmd.{Cmd}
-use Rattle.ha_config.specs.Words.{Text, characters}
+use Rattle.ha_config.specs.Words.{Text, Pairs, characters}
 use Rattle.ha_config.specs.ValueFacts.{AreFairPairs}
 
 -- ---- fair commands
 
--- an entity that a line may report: in the form of an id, and no automation
+-- an entity that a line may report, but for whether it is a helper: in the form of an id, and no automation
 abbrev pub IsReportable : EntityId → Type 0
 IsReportable e = IsTrue (is_entity e) × (e.domain ≢ codes "automation")
 
@@ -18,19 +18,26 @@ IsReportable e = IsTrue (is_entity e) × (e.domain ≢ codes "automation")
 abbrev pub IsNamedAmong : (Text → Bool) → Text → Type 0
 IsNamedAmong has name = IsTrue (is_name name) × IsTrue (has name)
 
--- a command that a source may give; the codes of refused lines are 1 to 10
-abbrev pub IsFairAmong : (Text → Bool) → Cmd → Type 0
-IsFairAmong has (Cmd.Report entity text attributes) =
-    IsReportable entity × IsTrue (is_utf8 text) × (characters text ≤ 255) × AreFairPairs attributes
-IsFairAmong has (Cmd.Gone entity) = IsReportable entity
-IsFairAmong has (Cmd.Event kind pairs) = IsTrue (is_utf8 kind) × AreFairPairs pairs
-IsFairAmong has (Cmd.Moment at) = at ≤ last_moment
-IsFairAmong has (Cmd.Switch name on stop) = IsNamedAmong has name
-IsFairAmong has (Cmd.Trigger name skip) = IsNamedAmong has name
-IsFairAmong has Cmd.Restart = Unit {0}
-IsFairAmong has (Cmd.Refused code) = (1 ≤ code) × (code ≤ 10)
-IsFairAmong has Cmd.Lost = Unit {0}
-IsFairAmong has Cmd.TooLong = Unit {0}
+-- what a report gives: the text has at most 255 characters
+abbrev pub IsFairReport : EntityId → Text → Pairs → Type 0
+IsFairReport e text attributes = IsReportable e × IsTrue (is_utf8 text) × (characters text ≤ 255) × AreFairPairs attributes
+
+-- the codes of refused lines: 1 to 10, and 14
+abbrev pub is_refusal : ℕ → Bool
+is_refusal code = (nat_le 1 code && nat_le code 10) || nat_eq code 14
+
+-- a command that a source may give: no line reports a helper
+abbrev pub IsFairAmong : (Text → Bool) → (EntityId → Bool) → Cmd → Type 0
+IsFairAmong has helps (Cmd.Report entity text attributes) = IsFairReport entity text attributes × IsTrue (not (helps entity))
+IsFairAmong has helps (Cmd.Gone entity) = IsReportable entity × IsTrue (not (helps entity))
+IsFairAmong has helps (Cmd.Event kind pairs) = IsTrue (is_utf8 kind) × AreFairPairs pairs
+IsFairAmong has helps (Cmd.Moment at) = at ≤ last_moment
+IsFairAmong has helps (Cmd.Switch name on stop) = IsNamedAmong has name
+IsFairAmong has helps (Cmd.Trigger name skip) = IsNamedAmong has name
+IsFairAmong has helps Cmd.Restart = Unit {0}
+IsFairAmong has helps (Cmd.Refused code) = IsTrue (is_refusal code)
+IsFairAmong has helps Cmd.Lost = Unit {0}
+IsFairAmong has helps Cmd.TooLong = Unit {0}
 
 -- ---- what stands for a command that was read
 
@@ -38,18 +45,22 @@ IsFairAmong has Cmd.TooLong = Unit {0}
 abbrev pub no_automation : ℕ
 no_automation = 9
 
--- what stands for a command among these names: a refusal where it names no automation, else the command
-abbrev pub put_among : (Text → Bool) → Cmd → Cmd
-put_among has (Cmd.Report entity text attributes) = Cmd.Report entity text attributes
-put_among has (Cmd.Gone entity) = Cmd.Gone entity
-put_among has (Cmd.Event kind pairs) = Cmd.Event kind pairs
-put_among has (Cmd.Moment at) = Cmd.Moment at
-put_among has (Cmd.Switch name on stop) = if has name then Cmd.Switch name on stop else Cmd.Refused no_automation
-put_among has (Cmd.Trigger name skip) = if has name then Cmd.Trigger name skip else Cmd.Refused no_automation
-put_among has Cmd.Restart = Cmd.Restart
-put_among has (Cmd.Refused code) = Cmd.Refused code
-put_among has Cmd.Lost = Cmd.Lost
-put_among has Cmd.TooLong = Cmd.TooLong
+-- a line that reports a helper
+abbrev pub of_helper : ℕ
+of_helper = 14
+
+-- what stands for a command: a refusal where it names no automation, or reports a helper, else the command
+abbrev pub put_among : (Text → Bool) → (EntityId → Bool) → Cmd → Cmd
+put_among has helps (Cmd.Report entity text attributes) = if helps entity then Cmd.Refused of_helper else Cmd.Report entity text attributes
+put_among has helps (Cmd.Gone entity) = if helps entity then Cmd.Refused of_helper else Cmd.Gone entity
+put_among has helps (Cmd.Event kind pairs) = Cmd.Event kind pairs
+put_among has helps (Cmd.Moment at) = Cmd.Moment at
+put_among has helps (Cmd.Switch name on stop) = if has name then Cmd.Switch name on stop else Cmd.Refused no_automation
+put_among has helps (Cmd.Trigger name skip) = if has name then Cmd.Trigger name skip else Cmd.Refused no_automation
+put_among has helps Cmd.Restart = Cmd.Restart
+put_among has helps (Cmd.Refused code) = Cmd.Refused code
+put_among has helps Cmd.Lost = Cmd.Lost
+put_among has helps Cmd.TooLong = Cmd.TooLong
 
 -- ---- the classes of commands that other definitions and laws speak of
 

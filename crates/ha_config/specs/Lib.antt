@@ -2,6 +2,7 @@ pub mod CheckText
 pub mod CommandText
 pub mod Equal
 pub mod Fair
+pub mod Helpers
 pub mod Names
 pub mod Numbers
 pub mod Sound

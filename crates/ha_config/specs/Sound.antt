@@ -1,10 +1,11 @@
 -- Sound configurations: what every configuration that is read meets, and the engine relies on.
-use Rattle.std.specs.Prelude.{ℕ, ◌≡◌, Bool, true, false, ◌&&◌, nat_eq, nat_lt, nat_le, IsTrue, List, [], ◌∷◌, length, map, Option}
+use Rattle.std.specs.Prelude.{ℕ, ◌≡◌, ℤ, pos, int_le, Bool, true, false, ◌&&◌, nat_eq, nat_lt, nat_le, IsTrue, List, [], ◌∷◌, length, map, Option, codes}
 use Rattle.std.specs.List.{list_all}
 use Rattle.std.specs.Option.{option_map_or}
 use Rattle.std.specs.Str.{is_utf8}
 use Rattle.ha_clock.specs.Local.{last_moment}
-use Rattle.ha_value.specs.Ids.{is_name}
+use Rattle.ha_value.specs.Ids.{is_name, is_entity, entity_text}
+use Rattle.ha_value.specs.declared.value.Num.{Num}
 use Rattle.ha_value.specs.declared.value.Value.{Value}
 use Rattle.ha_value.specs.declared.value.Value.TheOpen.{Value-F}
 use Rattle.ha_value.specs.declared.value.Value.TheFolds.{fold-Value}
@@ -32,7 +33,9 @@ use Rattle.ha_config.specs.declared.config.ActionKind.TheFolds.{fold-Action}
 use Rattle.ha_config.specs.declared.config.Automation.{Automation}
 use Rattle.ha_config.specs.declared.config.Config.{Config}
 use Rattle.ha_config.specs.declared.config.Script.{Script}
-use Rattle.ha_config.specs.Words.{Text, comes_before}
+use Rattle.ha_config.specs.declared.helper.Helper.{Helper}
+use Rattle.ha_config.specs.declared.helper.HelperKind.{HelperKind}
+use Rattle.ha_config.specs.Words.{Text, comes_before, same}
 use Rattle.ha_config.specs.Numbers.{is_in_range}
 use Rattle.ha_config.specs.ValueFacts.{all_distinct, is_sound_value, are_sound_pairs}
 
@@ -245,8 +248,27 @@ are_sound_automations all = nat_le (length all) 1_024 && all_distinct (map (λ a
 abbrev pub are_sound_scripts : List Script → Bool
 are_sound_scripts all = nat_le (length all) 1_024 && all_distinct (map (λ s. s.name) all) && list_all is_sound_script all
 
+abbrev pub is_whole_in_range : ℤ → Bool
+is_whole_in_range z = is_in_range (Num.Whole z)
+
+-- the domain of each kind; a counter's four numbers are in range, its step is at least 1, and it begins within its bounds
+abbrev pub is_sound_kind : Text → HelperKind → Bool
+is_sound_kind domain (HelperKind.Flag initial) = same domain (codes "input_boolean")
+is_sound_kind domain (HelperKind.Counter initial step least greatest) =
+    same domain (codes "counter")
+    && is_whole_in_range initial && is_whole_in_range step && is_whole_in_range least && is_whole_in_range greatest
+    && int_le (pos 1) step && int_le least initial && int_le initial greatest
+is_sound_kind domain (HelperKind.Timer span) = same domain (codes "timer")
+
+abbrev pub is_sound_helper : Helper → Bool
+is_sound_helper h = is_entity h.entity && is_sound_kind h.entity.domain h.kind
+
+-- the ids of the helpers are distinct, and there are at most 1,024 of them
+abbrev pub are_sound_helpers : List Helper → Bool
+are_sound_helpers all = nat_le (length all) 1_024 && all_distinct (map (λ h. entity_text h.entity) all) && list_all is_sound_helper all
+
 abbrev pub is_sound_config : Config → Bool
-is_sound_config c = are_sound_automations c.automations && are_sound_scripts c.scripts
+is_sound_config c = are_sound_automations c.automations && (are_sound_scripts c.scripts && are_sound_helpers c.helpers)
 
 abbrev pub IsSoundConfig : Config → Type 0
 IsSoundConfig c = IsTrue (is_sound_config c)

@@ -1,16 +1,19 @@
-//! A configuration as it was read: automations with their triggers, conditions and actions, and scripts.
+//! A configuration as it was read: automations with their triggers, conditions and actions, scripts, and helpers.
 
+use crate::helper::Helper;
 use crate::template::Template;
 use ha_clock::Span;
 use ha_value::{EntityId, Many, Num, Value, Word};
 
-/// All automations and all scripts, each in the order of the file. A unit is what has runs: the automations, named elsewhere by their
+/// All automations, all scripts and all helpers, each in the order of the file. A unit is what has runs: the automations, named elsewhere by their
 /// places in their list, from 0, and behind them the scripts.
 #[derive(Drop)]
 pub struct Config {
     pub automations: Many<Automation>,
     /// The scripts that calls start by name.
     pub scripts: Many<Script>,
+    /// Flags, counters and timers, in this order, whose states calls change.
+    pub helpers: Many<Helper>,
 }
 
 /// One script, which calls start.

@@ -4,6 +4,7 @@ mod command;
 mod conditions;
 mod config;
 mod forms;
+mod helper;
 mod template;
 pub mod times;
 mod triggers;

@@ -4,6 +4,7 @@
 mod command;
 mod config;
 mod copies;
+mod helper;
 mod names;
 mod pairs;
 mod sameness;
@@ -15,7 +16,8 @@ pub use config::{
     Action, ActionKind, Automation, Condition, Config, Form, Match, Mode, RepeatKind, Script,
     SpanForm, Trigger, TriggerRule, Unit,
 };
-pub use names::{is_automation, run_name};
+pub use helper::{Helper, HelperKind};
+pub use names::{is_automation, is_helper, run_name};
 pub use pairs::{first_pair, last_pair};
 pub use sameness::{same_data, same_id, same_text};
 pub use template::{Expr, Op, Piece, Template};

@@ -1,13 +1,15 @@
-//! The names of runs and of automations.
+//! The names of runs and of automations, and the ids of helpers.
 ghost use Rattle.std.specs.Prelude.{◌≡◌, ◌<◌, ◌++◌, codes, length, IfOk, is_some};
 ghost use Rattle.std.specs.List.{list_any};
 ghost use Rattle.ha_config.specs.Names.{automation_named, name_of};
+ghost use Rattle.ha_config.specs.Helpers.{is_helper};
 ghost use Rattle.ha_config.specs.Units.{units_of};
-ghost use Rattle.ha_config.specs.Words.{same};
+ghost use Rattle.ha_config.specs.Words.{same, same_entity};
 
 use crate::config::{Automation, Config};
-use crate::sameness::same_text;
-use ha_value::{Plain, Word};
+use crate::helper::Helper;
+use crate::sameness::{same_id, same_text};
+use ha_value::{EntityId, Plain, Word};
 use std::alloc::{AllocError, Global};
 
 /// The name of a script's runs, `script.NAME`.
@@ -46,4 +48,18 @@ pub fn is_automation(all: &[Automation], name: &Word) -> bool
     ensures { result ≡ is_some (automation_named all.now name.now) }
 {
     any_named(all, name)
+}
+
+/// Whether one of the helpers has this id.
+fn any_of_id(all: &[Helper], entity: &EntityId) -> bool
+    ensures { result ≡ list_any (λ h. same_entity h.entity entity.now) all.now }
+{
+    all.iter().any(|h| same_id(&h.entity, entity))
+}
+
+/// Whether there is a helper with this id.
+pub fn is_helper(all: &[Helper], entity: &EntityId) -> bool
+    ensures { result ≡ is_helper all.now entity.now }
+{
+    any_of_id(all, entity)
 }

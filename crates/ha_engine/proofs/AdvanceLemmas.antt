@@ -114,7 +114,7 @@ module _ (j : Journal) (rs : Records) (p : Parts) (h : Stepping j rs p) where
             record {
               runs = runs;
               room = h.room;
-              sees = record { looks = sees.looks; switches_stand = sees.switches_stand; changed_is = sees.changed_is; sound = sees.sound };
+              sees = record { looks = sees.looks; helpers_stand = sees.helpers_stand; switches_stand = sees.switches_stand; changed_is = sees.changed_is; sound = sees.sound };
               triggers_stand = h.kept.going.triggers_stand;
               owned = h.kept.going.owned;
               keys_early = h.kept.going.keys_early;

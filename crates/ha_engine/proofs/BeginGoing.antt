@@ -129,7 +129,7 @@ module _ (k : Journal) (rs : Records) (s : ℕ) (cause : EndCause) (h : StepEnds
     going-begun p' rest pairs =
         subst (Going nobody k (ended_at s (length k - 1) cause rs)) (sym rest)
         (record {
-          sees = record { looks = going.sees.looks; switches_stand = going.sees.switches_stand; changed_is = going.sees.changed_is; sound = going.sees.sound };
+          sees = record { looks = going.sees.looks; helpers_stand = going.sees.helpers_stand; switches_stand = going.sees.switches_stand; changed_is = going.sees.changed_is; sound = going.sees.sound };
           triggers_stand = going.triggers_stand;
           waits_stand = going.waits_stand;
           owned = going.owned;

@@ -33,6 +33,10 @@ reopened-short (Again number start stored carry ∷ es) a = omega arith
 pub take-less : (d : Journal) (x : Entry) → take (length (more d x) - 1) (more d x) ≡ d
 take-less d x = (let e : length (more d x) - 1 ≡ length d = omega (arith, length-more d x) in λ i. take (e i) (more d x)) ∙ take-append_seam d (x ∷ [])
 
+-- one entry was put behind this journal alone
+pub more-before : (d d' : Journal) (x x' : Entry) → more d x ≡ more d' x' → d ≡ d'
+more-before d d' x x' e = sym (take-less d x) ∙ (λ i. take (length (e i) - 1) (e i)) ∙ take-less d' x'
+
 not-one : (n : ℕ) → (n ≡ 1 → ⊥) → nat_eq n 1 ≡ false
 not-one n h = apart-of n 1 h
 

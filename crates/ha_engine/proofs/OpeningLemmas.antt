@@ -6,7 +6,7 @@ use Rattle.ha_config.specs.Words.{Text}
 use Rattle.ha_journal.specs.declared.carry.Carry.{Carry}
 use Rattle.ha_journal.specs.declared.entry.Entry.TheVariants.{Boot, Line, Step, Again}
 use Rattle.ha_journal.specs.Attempts.{attempts, fired, passing}
-use Rattle.ha_journal.specs.Journal.{Journal, last_place}
+use Rattle.ha_journal.specs.Journal.{Journal, HasEntry, last_place}
 use Rattle.ha_model.specs.Records.{Records, records_of}
 use Rattle.ha_model.specs.Lawful.{Right}
 use Rattle.run_modes.specs.Calls.{all_tried}
@@ -29,6 +29,9 @@ each-begun P f (e ∷ x ∷ es) h = absurd h
 
 pub begun-is : (k : Journal) (s : Switches) (zone : Text) (at : ℕ) → Begun k s zone at → IsBegun k
 begun-is k s zone at h = subst IsBegun (sym h.journal_is) tt
+
+pub begun-some : (k : Journal) → IsBegun k → HasEntry k
+begun-some = each-begun HasEntry (λ text config stored start zone carry. tt)
 
 pub begun-length : (k : Journal) → IsBegun k → length k ≡ 1
 begun-length k h = each-begun (λ i. length i ≡ 1) (λ text config stored start zone carry. refl) k h

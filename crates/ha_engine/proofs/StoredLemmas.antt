@@ -7,14 +7,14 @@ use Rattle.ha_clock.specs.Local.{last_moment}
 use Rattle.ha_config.specs.declared.config.Automation.{Automation}
 use Rattle.ha_config.specs.Equal.{same_flag}
 use Rattle.ha_config.specs.Names.{name_of, names_of}
-use Rattle.ha_config.specs.Sound.{are_sound_automations, are_sound_scripts, is_sound_automation}
+use Rattle.ha_config.specs.Sound.{are_sound_automations, are_sound_helpers, are_sound_scripts, is_sound_automation}
 use Rattle.ha_config.specs.StoreText.{in_name_order}
 use Rattle.ha_config.specs.ValueFacts.{all_distinct}
 use Rattle.ha_config.specs.Words.{Text, numbers_from, same, up_to}
 use Rattle.ha_config.proofs.EqualLemmas.{and_left, and_right}
 use Rattle.ha_journal.specs.declared.entry.Entry.{Entry}
 use Rattle.ha_journal.specs.Entries.{is_again, is_restart}
-use Rattle.ha_journal.specs.Journal.{HasEntry, Journal, automations, configured, more, names, now, scripts}
+use Rattle.ha_journal.specs.Journal.{HasEntry, Journal, automations, configured, helpers, more, names, now, scripts}
 use Rattle.ha_journal.specs.Switches.{is_on}
 use Rattle.ha_journal.proofs.MoreLemmas.{automations-more, names-more}
 use Rattle.ha_model.specs.Lawful as one
@@ -165,7 +165,7 @@ module _ (j : Journal) (b : Bounds) (t : SegmentTable) (p : Parts) (ls : List (O
   told-storable =
       (let sound : AreSound (segment j) = followed.kept.going.sees.sound in
       let rules : List Automation = automations (segment j) in
-      let own : are_sound_automations rules ≡ true = and_left (are_sound_automations rules) (are_sound_scripts (scripts (segment j))) sound in
+      let own : are_sound_automations rules ≡ true = and_left (are_sound_automations rules) (are_sound_scripts (scripts (segment j)) && are_sound_helpers (helpers (segment j))) sound in
       moments-storable (segment j) (sound-distinct (configured (segment j)) sound)
       (all-named rules (and_right (nat_le (length rules) 1_024 && all_distinct (names_of rules)) (list_all is_sound_automation rules) own))
       (λ a lt. (let e : 0 + a ≡ a = omega arith in

@@ -61,7 +61,7 @@ module _ (j : Journal) (some : HasEntry j) (sound : IsSound (configured j)) (nam
   switch-turn =
       let found = found-named (automations j) name a named in
       record {
-        only = record { some = some; report = refl; gone = refl; restart = refl; opens = refl; moment = refl };
+        only = record { some = some; report = refl; gone = refl; restart = refl; opens = refl; moment = refl; still = refl; changes = refl };
         once = (refl, tt);
         set = (slice_get_within (automations j) a found.automation found.here, on-behind a ∙ (λ i. if eq-self a i then on else is_on j a), tt);
         others = λ b lt h. on-behind b ∙ (λ i. if or-first (nat_eq a b) h i then on else is_on j b);

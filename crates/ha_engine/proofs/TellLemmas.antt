@@ -75,6 +75,7 @@ stops-is p w s b (Item.Triggered automations skip) rs = refl
 stops-is p w s b (Item.Failed code) rs = refl
 stops-is p w s b (Item.Started scripts fields waits) rs = refl
 stops-is p w s b (Item.Halted scripts) rs = each-halted p scripts rs
+stops-is p w s b (Item.Helped changes) rs = refl
 
 any-turned : (a : ℕ) (targets : List (ℕ × Bool × Bool)) → list_any (λ t. nat_eq t.0 a && not t.1 && t.2) targets ≡ list_any (λ b. nat_eq b a) (turned_in targets)
 any-turned a [] = refl
@@ -109,6 +110,7 @@ are-turned j w s b (Item.Triggered automations skip) a = refl
 are-turned j w s b (Item.Failed code) a = refl
 are-turned j w s b (Item.Started scripts fields waits) a = refl
 are-turned j w s b (Item.Halted scripts) a = any-halted a scripts
+are-turned j w s b (Item.Helped changes) a = refl
 
 -- ---- the calls of a run
 

@@ -3,7 +3,7 @@ use Rattle.std.specs.Prelude.{◌≡◌, ◌+◌, ℕ, false, Option, Some}
 use Rattle.ha_journal.specs.declared.entry.Entry.{Entry}
 use Rattle.ha_journal.specs.declared.entry.Entry.TheVariants.{Step}
 use Rattle.ha_journal.specs.Entries.{is_restart}
-use Rattle.ha_journal.specs.Journal.{Journal, more}
+use Rattle.ha_journal.specs.Journal.{Journal, helpers, more}
 use Rattle.ha_sight.specs.declared.item.Item.{Item}
 use Rattle.ha_sight.specs.declared.steps.Progress.{Progress}
 use Rattle.ha_sight.specs.declared.waiting.WaitAsk.{WaitAsk}
@@ -11,12 +11,19 @@ use Rattle.ha_sight.specs.Scripts.{Branch}
 use Rattle.ha_model.specs.Records.{Records}
 use Rattle.ha_model.specs.Lawful.{Right, pick, ready}
 use Rattle.ha_whole.specs.Segments.{segment}
+use Rattle.helper_set.specs.declared.set.Helpers.{Helpers}
+use Rattle.helper_set.specs.Kept.{StandsFor}
 use Rattle.engine_parts.specs.declared.parts.Parts.{Parts}
 use Rattle.engine_parts.specs.Kept.{Kept}
 use Rattle.engine_parts.specs.Stages.{Pushed}
 use Rattle.engine_entry.specs.Stepping.{StepPushed}
 use Rattle.ha_engine.specs.declared.bounds.Bounds.{Bounds}
 use Rattle.ha_engine.specs.Lies.{Lies}
+
+-- the helpers stand for the last segment, and are those of the configuration
+pub record KnowsHelpers (s : Helpers) (j : Journal) : Type 0 where
+  pub stand : StandsFor s (segment j)
+  pub same : helpers (segment j) ≡ helpers j
 
 -- a line was pushed to it that is no restart, which nothing knows of yet
 pub record Adds (k : Journal) (b : Bounds) (rs : Records) (p : Parts) : Type 0 where

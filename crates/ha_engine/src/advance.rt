@@ -7,6 +7,7 @@ ghost use Rattle.ha_journal.specs.Journal.{Journal, more};
 ghost use Rattle.ha_journal.specs.Moves.{sight};
 ghost use Rattle.ha_model.specs.Lawful.{Right, pick};
 ghost use Rattle.ha_whole.specs.Segments.{segment};
+ghost use Rattle.helper_set.specs.Kept.{StandsFor};
 ghost use Rattle.script_step.specs.Taken.{out_of};
 ghost use Rattle.engine_parts.specs.Kept.{AreSound, Kept, Looks};
 ghost use Rattle.engine_parts.specs.Waiting.{ends};
@@ -126,6 +127,7 @@ fn make_step<'a>(
 ) -> Result<(Taken, Option<Moment>), AllocError>
     requires lies { Lies journal.now bounds }
     requires looks { Looks (segment journal.now) parts.old.states parts.old.zone parts.old.at }
+    requires helpers { StandsFor parts.old.helpers (segment journal.now) }
     requires sound { AreSound (segment journal.now) }
     requires slot { MaySlot (segment journal.now) serial branch.now parts.old.at wait parts.old.frames.items }
     ensures step { IfOk result (λ x. SlotStep (sight (segment journal.entry.now) (length (segment journal.entry.now))) serial branch.now wait parts.old.frames.items parts.new.frames.items (out_of x.0) x.1) }
@@ -137,6 +139,7 @@ fn make_step<'a>(
         alloc,
         &behind,
         &parts.states,
+        &parts.helpers,
         &parts.zone,
         parts.at,
         serial,

@@ -1,5 +1,11 @@
 //! What an opening begins, and the engine after its first entry, the boot.
-ghost use Rattle.std.specs.Prelude.{◌≡◌, ◌≤◌, ◌∷◌, [], false, IfOk, IsSome, OnOk, vec_len};
+ghost use Rattle.std.specs.Prelude.{◌≡◌, ◌≤◌, ◌∷◌, [], None, Some, false, map, IfOk, IsSome, OnOk, vec_len};
+ghost use Rattle.std.specs.Option.{option_map_or};
+ghost use Rattle.ha_value.specs.declared.value.EntityId.{EntityId as Id};
+ghost use Rattle.ha_sight.specs.StateStep.{next_object};
+ghost use Rattle.helper_set.specs.Kept as helped;
+ghost use Rattle.state_table.specs.Table.{at};
+ghost use Rattle.engine_parts.specs.Texts.{first_change, first_of};
 ghost use Rattle.ha_clock.specs.Local.{last_moment};
 ghost use Rattle.ha_clock.specs.Zone.{zone_of};
 ghost use Rattle.ha_journal.specs.declared.entry.Entry.TheVariants.{Boot};
@@ -28,10 +34,12 @@ use engine_entry::open::open_all;
 use engine_parts::parts::Parts;
 use engine_parts::ready::Ready;
 use engine_parts::slots::Slots;
+use engine_parts::texts::{first_all, tell_all};
 use ha_clock::{ClockFault, Moment, Zone};
-use ha_config::Config;
+use ha_config::{Config, Helper};
 use ha_journal::{Carry, Entry, Firing};
 use ha_value::{Boxed, Many, Word};
+use helper_set::Helpers;
 use script_calls::{Calls, Seeing};
 use segment_carry::{lasts, names, rule_order};
 use segment_runs::SegmentRuns;
@@ -79,7 +87,18 @@ fn first_journal(
     Ok(journal)
 }
 
-/// All automations are set.
+/// The states of the helpers at the opening.
+fn first_states(alloc: Global, helpers: &[Helper], start: Moment) -> Result<StateTable, AllocError>
+    ensures { IfOk result (λ table. (e : Id) → at table e ≡ option_map_or (λ c. Some (next_object None c.text [] start)) (first_of (map first_change helpers.now) e) None) }
+{
+    let mut states = StateTable::make(alloc);
+    let changes = first_all(alloc, helpers)?;
+    let firsts = changes.as_slice();
+    tell_all(&mut states, alloc, firsts, start)?;
+    Ok(states)
+}
+
+/// The helpers have their first states, and all automations are set.
 fn open_first(
     alloc: Global,
     journal: &Behind<'_>,
@@ -90,7 +109,7 @@ fn open_first(
     requires { Begun journal.now switches.now zone.now start }
     ensures { IfOk result (λ x. BegunWith journal.now switches.now zone.now start x.0 x.1) }
 {
-    let mut states = StateTable::make(alloc);
+    let mut states = first_states(alloc, journal.configuration().helpers.as_slice(), start)?;
     let mut triggers = TrigSet::make(alloc);
     open_all(
         &mut states,
@@ -111,15 +130,17 @@ fn note_first<'a>(
     journal: &'a Behind<'_>,
     switches: &'a Switches,
     states: &'a StateTable,
+    helpers: &'a Helpers,
     zone: &'a Zone,
     start: Moment,
 ) -> Result<Many<Firing>, AllocError>
-    requires { BegunWith journal.now switches.now zone.now start states.now triggers.old }
+    requires begun { BegunWith journal.now switches.now zone.now start states.now triggers.old }
+    requires helpers { helped.StandsFor helpers.now journal.now }
     ensures attached { OnOk result (attached triggers.new ≡ attached triggers.old) }
     ensures stands { OnOk result (StandsFor triggers.new journal.entry.now) }
     ensures fired { IfOk result (λ fired. attempts_by fired ≡ fired_lem journal.entry.now (last_place journal.entry.now)) }
 {
-    let view = Seeing::make(states, journal.configuration(), zone, start);
+    let view = Seeing::make(states, journal.configuration(), zone, start, helpers);
     // The borrow checker builds its plan only where a place has the type that the view holds.
     let _ = &view.view;
     let fired = triggers.open_segment(alloc, zone, &view)?;
@@ -151,26 +172,35 @@ fn first_parts(
     ensures fired { IfOk result (λ x. attempts_by x.1 ≡ fired_lem journal.now (last_place journal.now)) }
 {
     let (states, mut triggers) = open_first(alloc, journal, &switches, &zone, start)?;
+    let helpers = Helpers::make(alloc, journal.configuration())?;
     let fired = note_first(
         &mut triggers,
         alloc,
         journal,
         &switches,
         &states,
+        &helpers,
         &zone,
         start,
     )?;
     let rested = all_rested(alloc)?;
+    let given = Many::make(alloc);
+    let waits = Waits::make(alloc);
+    let calls = Calls::make(alloc);
+    let frames = Slots::make(alloc);
+    let delays = TimerQueue::make(alloc);
     let parts = Parts {
         at: start,
         zone,
         states,
+        helpers,
+        given,
         switches,
         triggers,
-        waits: Waits::make(alloc),
-        calls: Calls::make(alloc),
-        frames: Slots::make(alloc),
-        delays: TimerQueue::make(alloc),
+        waits,
+        calls,
+        frames,
+        delays,
         ready: Ready {
             pairs: Vec::new(alloc),
         },

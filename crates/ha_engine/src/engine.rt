@@ -164,7 +164,7 @@ impl Engine {
             return Err(AllocError);
         }
         push_line(&mut self.journal, source, number, cmd);
-        settle_last(self.alloc, self.journal.as_mut_slice());
+        settle_last(self.alloc, &self.parts.helpers, self.journal.as_mut_slice());
         let before = self.runs.len();
         match follow_pushed(
             self.alloc,

@@ -45,7 +45,10 @@ fn enter_plain(parts: &mut Parts, alloc: Global, cmd: &Cmd) -> Result<Before, Al
             let before = enter_gone(parts, alloc, entity)?;
             Ok(before)
         }
-        Cmd::Moment(at) => Ok(enter_moment(parts, alloc, *at)),
+        Cmd::Moment(at) => {
+            let before = enter_moment(parts, alloc, *at)?;
+            Ok(before)
+        }
         Cmd::Event { .. } => Ok(enter_other(parts, alloc)),
         Cmd::Switch { .. } => Ok(enter_other(parts, alloc)),
         Cmd::Trigger { .. } => Ok(enter_other(parts, alloc)),

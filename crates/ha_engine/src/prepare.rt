@@ -467,7 +467,7 @@ pub(crate) fn prepare<'a>(
     ensures { IfOk result (λ stack. ArePrepared journal.entry.now (passing journal.entry.now) (from_end stack.items)) }
 {
     let config = journal.configuration();
-    let view = Seeing::make(&parts.states, config, &parts.zone, parts.at);
+    let view = Seeing::make(&parts.states, config, &parts.zone, parts.at, &parts.helpers);
     // The borrow checker builds its plan only where a place has the type that the view holds.
     let _ = &view.view;
     prepare_asked(alloc, config, &view, journal.last_entry(), fired)
@@ -486,7 +486,7 @@ pub(crate) fn prepare_opening<'a>(
     ensures { IfOk result (λ stack. ArePrepared journal.entry.now (passing journal.entry.now) (from_end stack.items)) }
 {
     let config = journal.configuration();
-    let view = Seeing::make(&parts.states, config, &parts.zone, parts.at);
+    let view = Seeing::make(&parts.states, config, &parts.zone, parts.at, &parts.helpers);
     // The borrow checker builds its plan only where a place has the type that the view holds.
     let _ = &view.view;
     prepare_fired(alloc, config, &view, fired)

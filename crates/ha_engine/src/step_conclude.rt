@@ -94,6 +94,7 @@ fn stop_switched(runs: &mut SegmentRuns, parts: &mut Parts, item: &Item, place: 
         Item::Failed(_) => {}
         Item::Started { .. } => {}
         Item::Halted(scripts) => halt_scripts(runs, parts, scripts.as_slice(), place),
+        Item::Helped(_) => {}
     }
 }
 

@@ -53,6 +53,7 @@ pub(crate) fn count_call(runs: &mut SegmentRuns, serial: u64, item: &Item)
         Item::Failed(_) => {}
         Item::Started { .. } => {}
         Item::Halted(_) => {}
+        Item::Helped(_) => {}
     }
 }
 

@@ -13,20 +13,24 @@ use Rattle.ha_journal.specs.declared.entry.Entry.{Entry}
 use Rattle.ha_sight.specs.declared.state.StateObject.{StateObject}
 use Rattle.ha_config.specs.Words.{Text, same, first_pair, numbers_from}
 use Rattle.ha_journal.specs.Entries.{Asked, asked_in, Turning, turning, boot_of, report_in, gone_in, is_restart, opens_segment}
-use Rattle.ha_journal.specs.Journal.{Journal, HasEntry, automations, now, last_place, more, units}
+use Rattle.ha_journal.specs.Journal.{Journal, HasEntry, automations, helpers, now, last_place, more, units}
 use Rattle.ha_journal.specs.Switches.{is_on, since, switched_at}
-use Rattle.ha_journal.specs.States.{states, reported, of_automation as state_of_automation}
+use Rattle.ha_config.specs.declared.helper.Helper.{Helper}
+use Rattle.ha_config.specs.Helpers.{helper_named}
+use Rattle.ha_journal.specs.Helpers.{text_of}
+use Rattle.ha_journal.specs.States.{states, reported, of_helper, of_automation as state_of_automation}
 use Rattle.ha_config.specs.Names.{automation_named}
 use Rattle.ha_sight.specs.Conditions.{hold_all, watched_text}
 use Rattle.ha_journal.specs.Moves.{sight, moves}
-use Rattle.ha_sight.specs.Rules.{matches, is_absent, same_optional, state_moves, starts, entities_of}
+use Rattle.ha_sight.specs.Rules.{matches, is_absent, same_optional, state_moves, starts}
 use Rattle.ha_journal.specs.Holds.{fires, fired_from}
 use Rattle.ha_journal.specs.Variables.{variables}
-use Rattle.ha_journal.specs.Triggers.{Fired, firing_for, firings_by}
+use Rattle.ha_journal.specs.Triggers.{Fired, entities_at, firing_for, firings_by}
 use Rattle.ha_journal.specs.Attempts.{Attempt, attempt_for, fired_for, fired, attempts_asked, attempts_of, attempts, passes, passing}
 use Rattle.ha_config.proofs.EqualLemmas.{same-refl, same_value-refl, same_pairs-refl}
 use Rattle.ha_journal.proofs.StateLemmas.{reported-other}
-use Rattle.ha_journal.proofs.MoreLemmas.{automations-more, length-more, through-last}
+use Rattle.ha_journal.proofs.MoreLemmas.{automations-more, helpers-more, length-more, through-last}
+use Rattle.ha_journal.proofs.HelperLaws.{helper-left}
 use Rattle.ha_journal.proofs.SinceLaws.{take-more, take-before, on-left, switched-left, switched-within}
 use Rattle.ha_config.proofs.ListLemmas.{get-last}
 
@@ -96,16 +100,26 @@ state-stays None from to held (Some s) =
     (λ i. ((not (text i) || (((is_absent from && is_absent to) && not held) && not (pairs i))) && matches from (Some s.text)) && matches to (Some s.text))
     ∙ (λ i. (and-false ((is_absent from && is_absent to) && not held) i && matches from (Some s.text)) && matches to (Some s.text))
 
--- the state of an entity that is no automation is the one that was reported
-pub states-outside : (j : Journal) (e : EntityId) → same e.domain (codes "automation") ≡ false → states j e ≡ reported j e
-states-outside j e outside = (λ i. if outside i then option_map (state_of_automation j) (automation_named (automations j) e.object) else reported j e)
+-- the state of an entity that is no automation and no helper is the one that was reported
+pub states-outside : (j : Journal) (e : EntityId) → same e.domain (codes "automation") ≡ false → helper_named (helpers j) e ≡ None → states j e ≡ reported j e
+states-outside j e outside none =
+    (λ i. if outside i then option_map (state_of_automation j) (automation_named (automations j) e.object) else option_map_or (of_helper j) (none i) (reported j e))
 
--- LAW: an entry that reports nothing, at which no entity goes, and that turns no switch and opens no segment leaves each state as it was
-pub states-left : (j : Journal) (x : Entry) (e : EntityId) → HasEntry j → report_in x ≡ None → gone_in x ≡ None → turning x ≡ Turning.Leaves → opens_segment x ≡ false → states (more j x) e ≡ states j e
-states-left j x e h report gone leaves opens =
-    (λ i. if same e.domain (codes "automation") then option_map (state_of_automation (more j x)) (automation_named (sym (automations-more j x h) i) e.object) else reported-other j e x report gone (or-right (is_some (boot_of x)) (is_restart x) opens) i)
+-- LAW: an entry that reports nothing, at which no entity goes, and that turns no switch, opens no segment and gives the helper of this id no
+-- new text leaves its state as it was
+pub states-left : (j : Journal) (x : Entry) (e : EntityId) → HasEntry j → report_in x ≡ None → gone_in x ≡ None → turning x ≡ Turning.Leaves → opens_segment x ≡ false
+    → ((h : Helper) → helper_named (helpers j) e ≡ Some h → text_of (more j x) h ≡ text_of j h) → states (more j x) e ≡ states j e
+states-left j x e h report gone leaves opens still =
+    (λ i. if same e.domain (codes "automation") then option_map (state_of_automation (more j x)) (automation_named (sym (automations-more j x h) i) e.object)
+    else option_map_or (of_helper (more j x)) (helper_named (sym (helpers-more j x h) i) e) (reported-other j e x report gone (or-right (is_some (boot_of x)) (is_restart x) opens) i))
+    ∙ (λ i. if same e.domain (codes "automation") then option_map (state_of_automation (more j x)) (automation_named (automations j) e.object)
+    else helpers-left (helper_named (helpers j) e) refl i)
     ∙ by (automation_named (automations j) e.object)
   where
+    helpers-left : (o : Option Helper) → helper_named (helpers j) e ≡ o → option_map_or (of_helper (more j x)) o (reported j e) ≡ option_map_or (of_helper j) o (reported j e)
+    helpers-left None q = refl
+    helpers-left (Some a) q = helper-left j x a h (still a q)
+
     or-right : (a b : Bool) → (a || b) ≡ false → b ≡ false
     or-right true b q = cc
     or-right false b q = q
@@ -126,9 +140,10 @@ states-left j x e h report gone leaves opens =
           updated = now (place i);
         })
 
-    by : (o : Option ℕ) → (if same e.domain (codes "automation") then option_map (state_of_automation (more j x)) o else reported j e) ≡ (if same e.domain (codes "automation") then option_map (state_of_automation j) o else reported j e)
+    by : (o : Option ℕ) → (if same e.domain (codes "automation") then option_map (state_of_automation (more j x)) o else option_map_or (of_helper j) (helper_named (helpers j) e) (reported j e))
+        ≡ (if same e.domain (codes "automation") then option_map (state_of_automation j) o else option_map_or (of_helper j) (helper_named (helpers j) e) (reported j e))
     by None = refl
-    by (Some a) = (λ i. if same e.domain (codes "automation") then Some (automation_left a i) else reported j e)
+    by (Some a) = (λ i. if same e.domain (codes "automation") then Some (automation_left a i) else option_map_or (of_helper j) (helper_named (helpers j) e) (reported j e))
 
 -- a trigger on states
 abbrev state_rule : Trigger → List EntityId → Option Text → Match → Match → Trigger
@@ -181,7 +196,7 @@ module _ (j : Journal) (p : ℕ) where
 
   none-of : (since n : ℕ) (ts : List Trigger) → EachOf (FiresNot j p) ts → flat_map (firings_by j since p) (enumerate_from n ts) ≡ []
   none-of since n [] h = refl
-  none-of since n (t ∷ ts) h = (λ i. none-for since (n, t) h.0 (entities_of t.rule) i ++ none-of since (n + 1) ts h.1 i)
+  none-of since n (t ∷ ts) h = (λ i. none-for since (n, t) h.0 (entities_at j p t.rule) i ++ none-of since (n + 1) ts h.1 i)
 
   none-from : (n : ℕ) (all : List Automation) → EachTrigger (FiresNot j p) all → flat_map (fired_for j p) (enumerate_from n all) ≡ []
   none-from n [] h = refl

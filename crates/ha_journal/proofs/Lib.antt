@@ -1,6 +1,9 @@
+pub mod EventLaws
 pub mod FiringLaws
 pub mod HeldLaws
+pub mod HelperLaws
 pub mod MoreLemmas
+pub mod NamedLaws
 pub mod SinceLaws
 pub mod StateLemmas
 pub mod SwitchLemmas

@@ -6,7 +6,8 @@ use Rattle.ha_config.specs.declared.command.Cmd.{Cmd}
 use Rattle.ha_journal.specs.declared.entry.Entry.{Entry}
 use Rattle.ha_config.specs.Words.{Text}
 use Rattle.ha_journal.specs.Entries.{line_of}
-use Rattle.ha_journal.specs.Journal.{Journal, automations}
+use Rattle.ha_journal.specs.Journal.{Journal, automations, helpers}
+use Rattle.ha_config.specs.Helpers.{is_helper}
 use Rattle.ha_config.specs.Names.{automation_named}
 use Rattle.ha_config.specs.Fair.{IsNamedAmong, put_among, IsFairAmong}
 
@@ -21,13 +22,13 @@ IsOfAutomation j name = IsNamedAmong (has_automation j) name
 
 -- a command that a source may give behind these entries
 abbrev pub IsFair : Journal → Cmd → Type 0
-IsFair j cmd = IsFairAmong (has_automation j) cmd
+IsFair j cmd = IsFairAmong (has_automation j) (is_helper (helpers j)) cmd
 
 -- ---- what stands for a command that was read
 
 -- what stands behind these entries for a command
 abbrev pub put_as : Journal → Cmd → Cmd
-put_as before cmd = put_among (has_automation before) cmd
+put_as before cmd = put_among (has_automation before) (is_helper (helpers before)) cmd
 
 -- a source's line, with the entries before it
 pub record Placed : Type 0 where

@@ -1,15 +1,17 @@
 -- What an entry is, and what its command or item does. The other definitions ask here, or `Fair` of commands and `Items` of items, so that
 -- few files know all kinds of entries, commands and items; elsewhere a match on these types names every kind.
-use Rattle.std.specs.Prelude.{ℕ, Bool, true, false, ◌||◌, List, [], replicate, Option, Some, None, is_some}
+use Rattle.std.specs.Prelude.{ℕ, Bool, true, false, ◌||◌, List, [], ◌++◌, map, find, replicate, Option, Some, None, is_some}
+use Rattle.std.specs.Option.{option_to_list}
 use Rattle.ha_value.specs.declared.value.EntityId.{EntityId}
 use Rattle.ha_config.specs.declared.config.Config.{Config}
 use Rattle.ha_config.specs.declared.command.Cmd.{Cmd}
+use Rattle.ha_sight.specs.declared.helped.HelperChange.{HelperChange}
 use Rattle.ha_sight.specs.declared.item.Item.{Item}
-use Rattle.ha_sight.specs.Items.{halted_by}
+use Rattle.ha_sight.specs.Items.{changes_by, halted_by}
 use Rattle.ha_journal.specs.declared.carry.Carry.{Carry}
 use Rattle.ha_journal.specs.declared.entry.Entry.{Entry}
 use Rattle.ha_journal.specs.declared.entry.Entry.TheVariants.{Boot, Line, Step, Again}
-use Rattle.ha_config.specs.Words.{Text, Pairs}
+use Rattle.ha_config.specs.Words.{Text, Pairs, same_entity}
 
 -- ---- the kinds of entries
 
@@ -160,6 +162,7 @@ event_in (Step worker serial branch (Item.Triggered automations skip)) = None
 event_in (Step worker serial branch (Item.Failed code)) = None
 event_in (Step worker serial branch (Item.Started scripts fields waits)) = None
 event_in (Step worker serial branch (Item.Halted scripts)) = None
+event_in (Step worker serial branch (Item.Helped changes)) = None
 event_in (Boot text config stored start zone carry) = None
 event_in (Again number start stored carry) = None
 
@@ -228,6 +231,7 @@ turning (Step worker serial branch (Item.Triggered automations skip)) = Turning.
 turning (Step worker serial branch (Item.Failed code)) = Turning.Leaves
 turning (Step worker serial branch (Item.Started scripts fields waits)) = Turning.Leaves
 turning (Step worker serial branch (Item.Halted scripts)) = Turning.Leaves
+turning (Step worker serial branch (Item.Helped changes)) = Turning.Leaves
 
 -- ---- attempts that an entry names itself, with whether their conditions are skipped
 
@@ -257,6 +261,7 @@ asked_in (Step worker serial branch (Item.Switched targets)) = Asked.Nobody
 asked_in (Step worker serial branch (Item.Failed code)) = Asked.Nobody
 asked_in (Step worker serial branch (Item.Started scripts fields waits)) = Asked.OfScripts scripts fields
 asked_in (Step worker serial branch (Item.Halted scripts)) = Asked.Nobody
+asked_in (Step worker serial branch (Item.Helped changes)) = Asked.Nobody
 asked_in (Boot text config stored start zone carry) = Asked.Nobody
 asked_in (Again number start stored carry) = Asked.Nobody
 
@@ -267,3 +272,23 @@ halted_in (Step worker serial branch item) = halted_by item
 halted_in (Line source number cmd) = []
 halted_in (Boot text config stored start zone carry) = []
 halted_in (Again number start stored carry) = []
+
+-- ---- the helpers that an entry changes
+
+abbrev pub changes_in : Entry → List HelperChange
+changes_in (Step worker serial branch item) = changes_by item
+changes_in (Line source number cmd) = []
+changes_in (Boot text config stored start zone carry) = []
+changes_in (Again number start stored carry) = []
+
+-- the change of e; an entry changes a helper once
+abbrev pub change_of : EntityId → Entry → Option HelperChange
+change_of e x = find (λ c. same_entity c.entity e) (changes_in x)
+
+-- ---- the texts that an entry gives entities: a Report's, with its attributes, or those of the helpers that it changes
+
+abbrev pub text_given : HelperChange → Reported
+text_given c = record { entity = c.entity; text = c.text; attributes = [] }
+
+abbrev pub texts_in : Entry → List Reported
+texts_in x = option_to_list (report_in x) ++ map text_given (changes_in x)

@@ -4,6 +4,7 @@ use Rattle.std.specs.Option.{option_map_or}
 use Rattle.ha_config.specs.declared.config.Automation.{Automation}
 use Rattle.ha_config.specs.declared.config.Config.{Config}
 use Rattle.ha_config.specs.declared.config.Script.{Script}
+use Rattle.ha_config.specs.declared.helper.Helper.{Helper}
 use Rattle.ha_journal.specs.declared.entry.Entry.{Entry}
 use Rattle.ha_config.specs.Names.{names_of}
 use Rattle.ha_config.specs.Units.{units_of}
@@ -23,7 +24,7 @@ abbrev pub HasEntry : Journal → Type 0
 HasEntry [] = ⊥
 HasEntry (e ∷ es) = Unit {0}
 
--- the automations of the Boot, in order, and its scripts
+-- the automations of the Boot, in order, its scripts and its helpers
 abbrev pub automations : Journal → List Automation
 automations [] = []
 automations (e ∷ es) = option_map_or (λ b. b.config.automations) (boot_of e) []
@@ -32,8 +33,12 @@ abbrev pub scripts : Journal → List Script
 scripts [] = []
 scripts (e ∷ es) = option_map_or (λ b. b.config.scripts) (boot_of e) []
 
+abbrev pub helpers : Journal → List Helper
+helpers [] = []
+helpers (e ∷ es) = option_map_or (λ b. b.config.helpers) (boot_of e) []
+
 abbrev pub configured : Journal → Config
-configured j = record { automations = automations j; scripts = scripts j }
+configured j = record { automations = automations j; scripts = scripts j; helpers = helpers j }
 
 -- what has runs: the automations, and behind them the scripts
 abbrev pub units : Journal → List Automation

@@ -2,6 +2,8 @@ pub mod Attempts
 pub mod Commands
 pub mod Entries
 pub mod EntryText
+pub mod HelperSteps
+pub mod Helpers
 pub mod Holds
 pub mod Journal
 pub mod Moves

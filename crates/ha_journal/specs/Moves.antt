@@ -1,5 +1,5 @@
 -- What moves a trigger at an entry.
-use Rattle.std.specs.Prelude.{ℕ, suc, Bool, false, not, ◌&&◌, [], Option, Some, None, take, slice_get, is_some, is_none, filter_map, option_and_then, if◌then◌else◌}
+use Rattle.std.specs.Prelude.{ℕ, suc, Bool, false, not, ◌&&◌, [], Option, Some, None, take, slice_get, is_some, is_none, filter_map, if◌then◌else◌}
 use Rattle.std.specs.List.{list_all}
 use Rattle.std.specs.Option.{option_map_or}
 use Rattle.ha_value.specs.declared.value.EntityId.{EntityId}
@@ -7,12 +7,13 @@ use Rattle.ha_value.specs.declared.value.Num.{Num}
 use Rattle.ha_config.specs.declared.config.Trigger.{Trigger}
 use Rattle.ha_config.specs.declared.config.TriggerRule.{TriggerRule}
 use Rattle.ha_journal.specs.declared.entry.Entry.{Entry}
-use Rattle.ha_journal.specs.Entries.{report_in, event_in, is_boot, is_moment, opens_segment}
-use Rattle.ha_config.specs.Words.{Text, same_entity, longest_end, last_of, one_of}
+use Rattle.ha_journal.specs.Entries.{Reported, texts_in, is_boot, is_moment, opens_segment}
+use Rattle.ha_config.specs.Words.{Text, same_entity, longest_end, last_of, first_of_list, one_of}
 use Rattle.ha_config.specs.Numbers.{in_bounds}
 use Rattle.ha_config.specs.Units.{scripts_of}
 use Rattle.ha_journal.specs.Journal.{Journal, configured, zone_of, now}
 use Rattle.ha_sight.specs.Sight.{Sight}
+use Rattle.ha_journal.specs.Helpers.{known, event_for, events_of}
 use Rattle.ha_journal.specs.States.{states, switches_of}
 use Rattle.ha_sight.specs.Templates.{rendered, says}
 use Rattle.ha_sight.specs.Conditions.{number_watched}
@@ -26,14 +27,18 @@ sight j n = record {
   zone = zone_of j;
   automations = switches_of (take n j);
   scripts = scripts_of (configured j);
+  helpers = known (take n j);
 }
 
--- the number that a Report gives of e
-abbrev pub report_number : EntityId → Option Text → Entry → Option Num
-report_number e name x =
-    option_and_then (λ r. if same_entity r.entity e then number_watched name r.text r.attributes else None) (report_in x)
+-- the number that a text gives of e
+abbrev pub number_in_text : EntityId → Option Text → Reported → Option Num
+number_in_text e name r = if same_entity r.entity e then number_watched name r.text r.attributes else None
 
--- after the last Restart, the latest number of e in a Report, whether or not e went in between
+-- the number that an entry gives of e, in a Report or in a change of the helper
+abbrev pub report_number : EntityId → Option Text → Entry → Option Num
+report_number e name x = first_of_list (filter_map (number_in_text e name) (texts_in x))
+
+-- after the last Restart, the latest number that was given of e, whether or not e went in between
 abbrev pub latest_number : EntityId → Option Text → Journal → Option Num
 latest_number e name j = last_of (filter_map (report_number e name) (longest_end (λ x. not (opens_segment x)) j))
 
@@ -46,9 +51,8 @@ looks b a past (TriggerRule.Numeric entities attribute above below) held (Some e
     option_map_or (in_bounds above below) (report_number e attribute x) false
     && not (option_map_or (in_bounds above below) (latest_number e attribute past) false)
 looks b a past (TriggerRule.Numeric entities attribute above below) held None x = false
-looks b a past (TriggerRule.Event kinds pairs) held (Some e) x = false
-looks b a past (TriggerRule.Event kinds pairs) held None x =
-    option_map_or (λ v. one_of v.0 kinds && list_all (pair_holds v.1) pairs) (event_in x) false
+looks b a past (TriggerRule.Event kinds pairs) held e x =
+    option_map_or (λ v. one_of v.kind kinds && list_all (pair_holds v.pairs) pairs) (event_for e (events_of past x)) false
 looks b a past (TriggerRule.Time seconds) held (Some e) x = false
 looks b a past (TriggerRule.Time seconds) held None x = is_moment x && passed (TriggerRule.Time seconds) b.zone b.now a.now
 looks b a past (TriggerRule.Pattern hours minutes seconds) held (Some e) x = false

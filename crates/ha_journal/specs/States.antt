@@ -1,13 +1,16 @@
 -- States: what is known of each entity after a journal.
-use Rattle.std.specs.Prelude.{ℕ, suc, Bool, true, not, ◌&&◌, List, [], Option, Some, None, take, map, filter_map, option_map, option_and_then, codes, if◌then◌else◌}
+use Rattle.std.specs.Prelude.{ℕ, suc, Bool, true, not, ◌&&◌, List, [], Option, Some, None, take, length, map, filter_map, option_map, option_and_then, codes, if◌then◌else◌}
 use Rattle.std.specs.List.{enumerate_from}
 use Rattle.std.specs.Option.{option_map_or}
 use Rattle.ha_value.specs.declared.value.EntityId.{EntityId}
 use Rattle.ha_journal.specs.declared.entry.Entry.{Entry}
 use Rattle.ha_journal.specs.Entries.{report_in, gone_in, is_restart}
 use Rattle.ha_sight.specs.declared.state.StateObject.{StateObject}
-use Rattle.ha_config.specs.Words.{Text, Pairs, same, same_entity, longest_end, last_of, first_of_list}
-use Rattle.ha_journal.specs.Journal.{Journal, automations, now, stamped}
+use Rattle.ha_config.specs.declared.helper.Helper.{Helper}
+use Rattle.ha_config.specs.Helpers.{helper_named}
+use Rattle.ha_config.specs.Words.{Text, Pairs, same, same_entity, longest_end, last_of, first_of_list, up_to}
+use Rattle.ha_journal.specs.Journal.{Journal, automations, helpers, now, stamped, through}
+use Rattle.ha_journal.specs.Helpers.{text_of}
 use Rattle.ha_journal.specs.Switches.{is_on, switched_at}
 use Rattle.ha_config.specs.Equal.{same_pairs}
 use Rattle.ha_config.specs.Names.{automation_named}
@@ -61,11 +64,19 @@ of_automation j a = record {
   updated = now (take (suc (switched_at j a)) j);
 }
 
+-- the texts of a helper after each entry
+abbrev pub texts_of : Journal → Helper → List Seen
+texts_of j h = map (λ n. record { text = text_of (through j n) h; attributes = []; at = now (through j n) }) (up_to (length j))
+
+-- the state of a helper: both its moments are Now after the first entry of the present row with this text
+abbrev pub of_helper : Journal → Helper → Option StateObject
+of_helper j h = object_of (texts_of j h)
+
 -- S: the states after a journal
 abbrev pub states : Journal → EntityId → Option StateObject
 states j e =
     if same e.domain (codes "automation") then option_map (of_automation j) (automation_named (automations j) e.object)
-    else reported j e
+    else option_map_or (of_helper j) (helper_named (helpers j) e) (reported j e)
 
 abbrev pub switches_of : Journal → List (Text × Bool)
 switches_of j = map (λ p. (p.1.name, is_on j p.0)) (enumerate_from 0 (automations j))

@@ -4,9 +4,11 @@
 mod carry;
 mod copies;
 mod entry;
+mod event;
 mod firing;
 
 pub use carry::Carry;
 pub use copies::copy_moments;
 pub use entry::Entry;
+pub use event::BusEvent;
 pub use firing::Firing;

@@ -30,9 +30,11 @@ use Rattle.ha_journal.specs.Moves.{sight}
 use Rattle.ha_sight.specs.Scripts.{Branch, Outcome, Status, whole, called, behind_call, ends}
 use Rattle.ha_sight.specs.Branches.{action_branches, branches_of, kind_branches}
 use Rattle.ha_sight.specs.Calls.{all_read, call_item, checked_then, done_by, entities_in, item_of, item_or_failed, no_service, no_target, service_of, target_of, template_fault}
-use Rattle.ha_sight.specs.Inner.{inner_of, number_named, own_item, scripts_named, variables_in}
+use Rattle.ha_sight.specs.Inner.{inner_of, inner_of_helpers, number_named, own_item, scripts_named, variables_in}
+use Rattle.ha_sight.specs.Services.{is_of_helpers}
 use Rattle.ha_model.specs.Records.{spots, actions_of, ran_on, next_spot}
 use Rattle.ha_laws.specs.OneCall.{IsCallable, IsNoScript, call_made, literal_text, one_call}
+use Rattle.ha_sight.proofs.HelperCalls.{left-if}
 use Rattle.ha_sight.proofs.Rolls.{below_kind, run_action-out, run_kind-out, pieces_of-out, piece-out}
 use Rattle.ha_config.proofs.ListLemmas.{append-nil, some-same, true-false}
 use Rattle.ha_config.proofs.EqualLemmas.{and_left, and_right, same-refl, same-sound}
@@ -241,13 +243,14 @@ call-is s env service target h g outer =
     ((λ i. item_or_failed s env (done_by (outer i) (item_of s.automations (entity_text service) (target ∷ []) [])))
     ∙ called-outside s.automations service h (target ∷ []) [])
 
--- LAW: such a script makes its call at its first place, and is done
+-- LAW: such a script makes its call at its first place, and is done, where no helper is configured for which the service is
 pub one-call-ran : (j : Journal) (r : Record) (service target : EntityId) → IsCallable service → IsCallable target → IsNoScript (scripts j) service
-    → actions_of (units j) r.automation ≡ one_call (entity_text service) (entity_text target) → spots j r.serial ≡ []
+    → is_of_helpers (sight j (length j)) (entity_text service) ≡ false → actions_of (units j) r.automation ≡ one_call (entity_text service) (entity_text target) → spots j r.serial ≡ []
     → ran_on j r (spots j r.serial ++ (next_spot j [] ∷ [])) ≡ Some (call_made service target)
-one-call-ran j r service target h g written script fresh =
+one-call-ran j r service target h g written unhelped script fresh =
     let outer : inner_of (sight j (length j)) (entity_text service) (target ∷ []) [] ≡ Inner.Outer
-    = (λ i. option_map_or Inner.Does (not-own (length (automations j)) (scripts j) service h.form written (target ∷ []) [] i) Inner.Outer) in
+    = (λ i. option_map_or Inner.Does (not-own (length (automations j)) (scripts j) service h.form written (target ∷ []) [] i) (inner_of_helpers (sight j (length j)) (entity_text service) (target ∷ []) []))
+    ∙ left-if (sight j (length j)) (entity_text service) (target ∷ []) [] unhelped in
     (λ i. whole (script i) r.env (fresh i ++ (next_spot j [] ∷ [])))
     ∙ one-whole (entity_text service) (entity_text target) r.env j
     ∙ (λ i. one_place j r.env (call-is (sight j (length j)) (r.env ++ []) service target h g outer i))

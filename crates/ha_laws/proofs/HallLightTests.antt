@@ -31,9 +31,9 @@ it_is_right = record {
   entries = (
     tt,
     (
-      ((refl, λ h. cc), off-utf8, omega arith, (refl, refl, omega arith)),
+      (((refl, λ h. cc), off-utf8, omega arith, (refl, refl, omega arith)), refl),
       (
-        ((refl, λ h. cc), on-utf8, omega arith, (refl, refl, omega arith)),
+        (((refl, λ h. cc), on-utf8, omega arith, (refl, refl, omega arith)), refl),
         (
           (the_record, refl, refl, record { runs = refl; item_is = simp rolls }),
           (

@@ -4,7 +4,6 @@ use Rattle.std.specs.Prelude.{Some, None, not, is_some, is_none, slice_get, find
 use Rattle.std.specs.List.{list_all, list_any, enumerate_from}
 use Rattle.std.specs.Option.{option_map_or}
 use Rattle.ha_value.specs.declared.value.EntityId.{EntityId}
-use Rattle.ha_value.specs.declared.value.Num.{Num}
 use Rattle.ha_config.specs.declared.config.Automation.{Automation}
 use Rattle.ha_config.specs.declared.config.Trigger.{Trigger}
 use Rattle.ha_config.specs.declared.config.TriggerRule.{TriggerRule}
@@ -13,15 +12,14 @@ use Rattle.ha_model.specs.declared.record.EndCause.{EndCause}
 use Rattle.ha_journal.specs.declared.entry.Entry.{Entry}
 use Rattle.ha_journal.specs.declared.entry.Entry.TheVariants.{Line}
 use Rattle.ha_model.specs.declared.record.Record.{Record}
-use Rattle.ha_config.specs.Words.{Text, same_entity, one_of, up_to, or_else}
+use Rattle.ha_config.specs.Words.{one_of, up_to, or_else}
 use Rattle.ha_config.specs.Numbers.{in_bounds}
-use Rattle.ha_journal.specs.Entries.{Reported, Asked, asked_in, Turning, turning, report_in, gone_in, event_in, is_boot, is_moment, is_restart, opens_segment, step_of, halted_in}
+use Rattle.ha_journal.specs.Entries.{Asked, asked_in, Turning, turning, report_in, gone_in, event_in, is_boot, is_moment, is_restart, opens_segment, step_of, halted_in, changes_in}
 use Rattle.ha_config.specs.Units.{scripts_of}
 use Rattle.ha_journal.specs.Journal.{Journal, HasEntry, automations, brings, configured, zone_of, now, last_place, more, units}
 use Rattle.ha_journal.specs.Switches.{is_on}
 use Rattle.ha_journal.specs.States.{states, switches_of}
 use Rattle.ha_sight.specs.Templates.{rendered, says}
-use Rattle.ha_sight.specs.Conditions.{number_watched}
 use Rattle.ha_sight.specs.Rules.{state_moves, pair_holds, passed, starts}
 use Rattle.ha_journal.specs.Moves.{latest_number, before, after, rule_moves, moves}
 use Rattle.ha_journal.specs.Holds.{same_watched, between, fires}
@@ -36,6 +34,10 @@ use Rattle.ha_journal.proofs.MoreLemmas.{automations-more, length-more, through-
 use Rattle.ha_model.proofs.RecordLaws.{at_place, ended-more}
 use Rattle.ha_model.proofs.FoldLaws.{records-passes}
 use Rattle.ha_model.proofs.Passes.{end_here, with_ends, with_begins, bare, ended, end_now, admit_now}
+use Rattle.ha_journal.specs.declared.event.BusEvent.{BusEvent}
+use Rattle.ha_journal.specs.Helpers.{event_for, known}
+use Rattle.ha_journal.proofs.EventLaws.{events-none, number-none}
+use Rattle.ha_journal.proofs.HelperLaws.{known-left, text-left}
 use Rattle.ha_journal.proofs.FiringLaws.{EachOf, EachTrigger, FiresNot, state-stays, states-left, attempts-none, passing-none}
 use Rattle.ha_model.proofs.LastEntry.{last-is, or-none, calls-more}
 use Rattle.ha_laws.specs.IdleLines.{IsIdle, NothingChanges}
@@ -53,6 +55,7 @@ record IsStill (x : Entry) : Type 0 where
   asks : asked_in x ≡ Asked.Nobody
   step : step_of x ≡ None
   halts : halted_in x ≡ []
+  helps : changes_in x ≡ []
 
 idle-still : (source number : ℕ) (cmd : Cmd) → IsIdle cmd → IsStill (Line source number cmd)
 idle-still source number (Cmd.Report entity text attributes) h = absurd h
@@ -62,9 +65,9 @@ idle-still source number (Cmd.Moment at) h = absurd h
 idle-still source number (Cmd.Switch name on stop) h = absurd h
 idle-still source number (Cmd.Trigger name skip) h = absurd h
 idle-still source number Cmd.Restart h = absurd h
-idle-still source number (Cmd.Refused code) h = record { report = refl; gone = refl; event = refl; moment = refl; start = refl; turns = refl; restart = refl; opens = refl; asks = refl; step = refl; halts = refl }
-idle-still source number Cmd.Lost h = record { report = refl; gone = refl; event = refl; moment = refl; start = refl; turns = refl; restart = refl; opens = refl; asks = refl; step = refl; halts = refl }
-idle-still source number Cmd.TooLong h = record { report = refl; gone = refl; event = refl; moment = refl; start = refl; turns = refl; restart = refl; opens = refl; asks = refl; step = refl; halts = refl }
+idle-still source number (Cmd.Refused code) h = record { report = refl; gone = refl; event = refl; moment = refl; start = refl; turns = refl; restart = refl; opens = refl; asks = refl; step = refl; halts = refl; helps = refl }
+idle-still source number Cmd.Lost h = record { report = refl; gone = refl; event = refl; moment = refl; start = refl; turns = refl; restart = refl; opens = refl; asks = refl; step = refl; halts = refl; helps = refl }
+idle-still source number Cmd.TooLong h = record { report = refl; gone = refl; event = refl; moment = refl; start = refl; turns = refl; restart = refl; opens = refl; asks = refl; step = refl; halts = refl; helps = refl }
 
 find-none : (test : ℕ → Bool) (ns : List ℕ) → ((n : ℕ) → test n ≡ false) → find test ns ≡ None
 find-none test [] h = refl
@@ -109,32 +112,33 @@ module _ (j : Journal) (x : Entry) (h : HasEntry j) (s : IsStill x) where
   on-still a = on-left j x a h s.turns
 
   states-still : (e : EntityId) → states k e ≡ states j e
-  states-still e = states-left j x e h s.report s.gone s.turns s.opens
+  states-still e = states-left j x e h s.report s.gone s.turns s.opens (λ a named. text-left j x (record { changes = s.helps; moment = s.moment }) a)
 
   switches-still : switches_of k ≡ switches_of j
   switches-still = (λ i. map (λ a. (a.1.name, on-still a.0 i)) (enumerate_from 0 (sym (automations-more j x h) i)))
 
   sight-still : after k p ≡ before k p
   sight-still =
-      (let all = through-last j x in λ i. record { states = states (all i); now = now (all i); zone = zone_of k; automations = switches_of (all i); scripts = scripts_of (configured k) })
-      ∙ (λ i. record { states = λ e. states-still e i; now = now-still i; zone = zone_of k; automations = switches-still i; scripts = scripts_of (configured k) })
-      ∙ (let all = sym (take-before j x) in λ i. record { states = states (all i); now = now (all i); zone = zone_of k; automations = switches_of (all i); scripts = scripts_of (configured k) })
+      (let all = through-last j x in λ i. record { states = states (all i); now = now (all i); zone = zone_of k; automations = switches_of (all i); scripts = scripts_of (configured k); helpers = known (all i) })
+      ∙ (λ i. record { states = λ e. states-still e i; now = now-still i; zone = zone_of k; automations = switches-still i; scripts = scripts_of (configured k); helpers = known-left j x h s.helps i })
+      ∙ (let all = sym (take-before j x) in λ i. record { states = states (all i); now = now (all i); zone = zone_of k; automations = switches_of (all i); scripts = scripts_of (configured k); helpers = known (all i) })
 
   -- ---- nothing moves, and nothing fires
-
-  abbrev report_given : EntityId → Option Text → Reported → Option Num
-  report_given e name r = if same_entity r.entity e then number_watched name r.text r.attributes else None
 
   rule-still : (rule : TriggerRule) (held : Bool) (e : Option EntityId) → rule_moves k rule held e p x ≡ false
   rule-still (TriggerRule.State entities attribute from to) held (Some e) =
       (λ i. state_moves attribute from to held ((before k p).states e) ((sight-still i).states e)) ∙ state-stays attribute from to held ((before k p).states e)
   rule-still (TriggerRule.State entities attribute from to) held None = refl
   rule-still (TriggerRule.Numeric entities attribute above below) held (Some e) =
-      (λ i. option_map_or (in_bounds above below) (option_and_then (report_given e attribute) (s.report i)) false
+      (λ i. option_map_or (in_bounds above below) (number-none e attribute x s.report s.helps i) false
       && not (option_map_or (in_bounds above below) (latest_number e attribute (take p k)) false))
   rule-still (TriggerRule.Numeric entities attribute above below) held None = refl
-  rule-still (TriggerRule.Event kinds pairs) held (Some e) = refl
-  rule-still (TriggerRule.Event kinds pairs) held None = (λ i. option_map_or (λ v. one_of v.0 kinds && list_all (pair_holds v.1) pairs) (s.event i) false)
+  rule-still (TriggerRule.Event kinds pairs) held e =
+      (λ i. option_map_or (λ v. one_of v.kind kinds && list_all (pair_holds v.pairs) pairs) (event_for e (events-none (take p k) x s.event s.helps s.moment i)) false) ∙ nobody e
+    where
+      nobody : (e : Option EntityId) → option_map_or (λ (v : BusEvent). one_of v.kind kinds && list_all (pair_holds v.pairs) pairs) (event_for e []) false ≡ false
+      nobody None = refl
+      nobody (Some f) = refl
   rule-still (TriggerRule.Time seconds) held (Some e) = refl
   rule-still (TriggerRule.Time seconds) held None = (λ i. s.moment i && passed (TriggerRule.Time seconds) (before k p).zone (before k p).now (after k p).now)
   rule-still (TriggerRule.Pattern hours minutes seconds) held (Some e) = refl

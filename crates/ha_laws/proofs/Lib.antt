@@ -3,6 +3,7 @@ pub mod CallScript
 pub mod CalledTests
 pub mod DoorTests
 pub mod HallLightTests
+pub mod HelperTests
 pub mod ModeTests
 pub mod OneAnswer
 pub mod OneStep

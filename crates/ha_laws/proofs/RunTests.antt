@@ -58,7 +58,7 @@ abbrev automation : Text → List Trigger → List Action → Mode → Option Bo
 automation name ts actions mode initial = record { name = name; triggers = ts; tests = []; actions = actions; mode = mode; max = 10; initial = initial }
 
 abbrev boot : List Automation → Entry
-boot all = Entry.Boot [] (record { automations = all; scripts = [] }) None start (codes "UTC") (first_carry [])
+boot all = Entry.Boot [] (record { automations = all; scripts = []; helpers = [] }) None start (codes "UTC") (first_carry [])
 
 abbrev go : Entry
 go = Entry.Line 0 0 (Cmd.Event (codes "go") [])

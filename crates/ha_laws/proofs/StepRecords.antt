@@ -58,6 +58,7 @@ module _ (j : Journal) (h : HasEntry j) (single : AllSingle j) (w s : ℕ) (bran
       quiet (Item.Failed code) p = refl
       quiet (Item.Started scripts fields waits) p = refl
       quiet (Item.Halted scripts) p = absurd p
+      quiet (Item.Helped changes) p = refl
 
       by : (b : Bool) → nat_eq s r.serial ≡ b → (if b then option_and_then (λ o. script_end o.status) (ran k r) else None) ≡ (if b then next_end j r branch else None)
       by true e = (λ i. option_and_then (λ o. script_end o.status) (ran-step j w s branch item r h (sym (eq-of s r.serial e)) i))

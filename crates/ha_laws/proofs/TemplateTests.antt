@@ -40,6 +40,7 @@ seen = record {
   zone = codes "UTC";
   automations = [];
   scripts = [];
+  helpers = [];
 }
   where
     if_lamp : Bool → Option StateObject

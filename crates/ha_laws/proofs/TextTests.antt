@@ -32,7 +32,7 @@ errors : error_text (Entry.Line 3 7 (Cmd.Refused 5) ∷ Entry.Line 0 1 Cmd.TooLo
 unfolding digits
 errors = refl
 
-checked : check_text (record { automations = hall_light ∷ []; scripts = [] }) ≡ a_line (codes "automation.hall_light restart 10 triggers 1 conditions 0 actions 3") ++ a_line (codes "ok 1")
+checked : check_text (record { automations = hall_light ∷ []; scripts = []; helpers = [] }) ≡ a_line (codes "automation.hall_light restart 10 triggers 1 conditions 0 actions 3") ++ a_line (codes "ok 1")
 unfolding digits
 checked = refl
 

@@ -53,7 +53,7 @@ abbrev trigger : TriggerRule → Option ℕ → Trigger
 trigger rule hold = record { id = codes "0"; idx = 0; rule = rule; hold = hold }
 
 abbrev boot : List Automation → Entry
-boot all = Entry.Boot [] (record { automations = all; scripts = [] }) None start (codes "UTC") (first_carry [])
+boot all = Entry.Boot [] (record { automations = all; scripts = []; helpers = [] }) None start (codes "UTC") (first_carry [])
 
 abbrev lamp : EntityId
 lamp = record { domain = codes "light"; object = codes "x" }

@@ -89,7 +89,7 @@ abbrev pub step : Item → Entry
 step i = Entry.Step 0 1 [] i
 
 abbrev pub journal : Journal
-journal = Entry.Boot [] (record { automations = hall_light ∷ []; scripts = [] }) None start (codes "UTC") (first_carry []) ∷ report 0 (codes "off") ∷ report 1 (codes "on")
+journal = Entry.Boot [] (record { automations = hall_light ∷ []; scripts = []; helpers = [] }) None start (codes "UTC") (first_carry []) ∷ report 0 (codes "off") ∷ report 1 (codes "on")
     ∷ step on_item ∷ step Item.Nothing ∷ Entry.Line 0 2 (Cmd.Moment (start + 120000)) ∷ step Item.Nothing ∷ step off_item ∷ []
 
 abbrev pub env : Pairs

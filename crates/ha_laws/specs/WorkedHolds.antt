@@ -51,6 +51,7 @@ boot rule =
         initial = None;
       } ∷ [];
       scripts = [];
+      helpers = [];
     }) None start (codes "UTC") (first_carry [])
 
 abbrev pub report : Text → Pairs → Entry
@@ -106,7 +107,7 @@ abbrev pub queue : Automation
 queue = record (door Mode.Queued) { max = 1 }
 
 abbrev pub queue_boot : Entry
-queue_boot = Entry.Boot [] (record { automations = queue ∷ []; scripts = [] }) None start (codes "UTC") (first_carry [])
+queue_boot = Entry.Boot [] (record { automations = queue ∷ []; scripts = []; helpers = [] }) None start (codes "UTC") (first_carry [])
 
 -- it opens at 2, at 4 and at 7; its first run calls at 5, and is done
 abbrev pub queue_of_one : Journal

@@ -67,7 +67,7 @@ abbrev pub turned_on : Item
 turned_on = Item.Call (codes "light.turn_on") (porch ∷ []) []
 
 abbrev pub boot : Mode → Entry
-boot m = Entry.Boot [] (record { automations = door m ∷ []; scripts = [] }) None start (codes "UTC") (first_carry [])
+boot m = Entry.Boot [] (record { automations = door m ∷ []; scripts = []; helpers = [] }) None start (codes "UTC") (first_carry [])
 
 abbrev pub twice : Mode → Journal
 twice m = boot m ∷ report 0 (codes "off") ∷ report 1 (codes "on") ∷ report 2 (codes "off") ∷ report 3 (codes "on") ∷ []

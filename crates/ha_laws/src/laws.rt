@@ -23,6 +23,7 @@ ghost use Rattle.ha_journal.specs.Attempts.{passing};
 ghost use Rattle.ha_model.specs.RecordSteps.{records_after};
 ghost use Rattle.ha_model.specs.RunSteps.{runs_after};
 ghost use Rattle.ha_sight.specs.Branches.{branches_of};
+ghost use Rattle.ha_sight.specs.Services.{is_of_helpers};
 ghost use Rattle.ha_laws.specs.Told.{ByTheRules, AreNear};
 ghost use Rattle.ha_config.specs.CheckText.{as_line};
 ghost use Rattle.ha_model.specs.Texts.{call_text};
@@ -32,6 +33,7 @@ ghost use Rattle.ha_laws.specs.WorkedScripts as scripts;
 ghost use Rattle.ha_laws.specs.WorkedHolds as holds;
 ghost use Rattle.ha_laws.specs.IdleLines.{IsIdle, NothingChanges};
 ghost use Rattle.ha_laws.specs.Order.{InOrder};
+ghost use Rattle.ha_journal.specs.Moves.{sight};
 ghost use Rattle.ha_laws.specs.OneCall.{IsCallable, IsNoScript, call_made, one_call};
 ghost use Rattle.ha_laws.specs.OneRun.{AllEnded, IsBegun, SameNumbers};
 ghost use Rattle.ha_config.specs.declared.config.Mode.{Mode};
@@ -128,11 +130,12 @@ pub fn calls_of_grown_records()
 {}
 
 /// A script that is one call of literal texts, of a service and for a target outside `automation`, has the outer branch
-/// alone. At its first place it makes that call, and is done; where scripts are configured, the service is outside `script` too.
+/// alone. At its first place it makes that call, and is done; where scripts are configured, the service is outside `script` too,
+/// and no helper is configured for which it is.
 pub fn one_call_is_made()
     ensures branch { (service target : Text) → branches_of (one_call service target) ≡ [] ∷ [] }
     ensures call { (j : Journal) (r : Record) (service target : EntityId) → IsCallable service → IsCallable target → IsNoScript (configured_scripts j) service
-        → actions_of (units j) r.automation ≡ one_call (entity_text service) (entity_text target) → spots j r.serial ≡ []
+        → is_of_helpers (sight j (length j)) (entity_text service) ≡ false → actions_of (units j) r.automation ≡ one_call (entity_text service) (entity_text target) → spots j r.serial ≡ []
         → ran_on j r (spots j r.serial ++ (next_spot j [] ∷ [])) ≡ Some (call_made service target) }
 {}
 

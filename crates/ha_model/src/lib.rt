@@ -6,14 +6,15 @@ mod record;
 
 pub use ha_clock::{Moment, Span};
 pub use ha_config::{
-    Action, ActionKind, Automation, Cmd, Condition, Config, Expr, Form, Match, Mode, Op, Piece,
-    RepeatKind, Script, SpanForm, Template, Trigger, TriggerRule, Unit, characters, first_pair,
-    last_pair, run_name, same_data, same_id, same_text,
+    Action, ActionKind, Automation, Cmd, Condition, Config, Expr, Form, Helper, HelperKind, Match,
+    Mode, Op, Piece, RepeatKind, Script, SpanForm, Template, Trigger, TriggerRule, Unit,
+    characters, first_pair, last_pair, run_name, same_data, same_id, same_text,
 };
-pub use ha_journal::{Carry, Entry, Firing};
+pub use ha_journal::{BusEvent, Carry, Entry, Firing};
 pub use ha_sight::{
-    Answers, Branch, Change, Ended, Env, Inner, Item, Part, Progress, Seen, StateObject, StepOut,
-    TplFault, TriggerData, WaitAsk, WaitEnd, as_data, attribute_text, next_object, true_in,
+    Answers, Branch, Change, Ended, Env, HelperChange, HelperService, Inner, Item, Part, Progress,
+    Seen, StateObject, StepOut, TplFault, TriggerData, WaitAsk, WaitEnd, Wanted, as_data,
+    attribute_text, next_object, true_in,
 };
 pub use ha_value::{
     Boxed, EntityId, Many, Num, Plain, Value, Word, copy_pairs, push_text, push_value,

@@ -7,8 +7,7 @@ use Rattle.ha_config.specs.declared.config.Trigger.{Trigger}
 use Rattle.ha_journal.specs.declared.firing.Firing.{Firing}
 use Rattle.ha_journal.specs.Journal.{Journal}
 use Rattle.ha_journal.specs.Triggers as triggers
-use Rattle.ha_journal.specs.Triggers.{Fired}
-use Rattle.ha_sight.specs.Rules.{entities_of}
+use Rattle.ha_journal.specs.Triggers.{Fired, entities_at}
 use Rattle.ha_journal.specs.Holds.{fired_from}
 use Rattle.ha_journal.specs.Variables.{variables}
 use Rattle.ha_past.specs.Firings.{Owner, firing_by, firing_for, firings_by, firings_of}
@@ -34,7 +33,7 @@ module _ (j : Journal) (p : ℕ) (o : Owner) where
   of-triggers [] = refl
   of-triggers (t ∷ ts) =
       map-both (firing_by o) (triggers.firings_by j o.since p t) (flat_map (triggers.firings_by j o.since p) ts)
-      ∙ (λ i. of-entities t (entities_of t.1.rule) i ++ of-triggers ts i)
+      ∙ (λ i. of-entities t (entities_at j p t.1.rule) i ++ of-triggers ts i)
 
   -- LAW: the firings of an owner are those of its triggers, each for its entities
   pub firings-by : firings_of j p o ≡ flat_map (firings_by j p o) (enumerate_from 0 o.triggers)

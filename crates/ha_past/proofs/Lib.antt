@@ -3,4 +3,5 @@ pub mod PastLemmas
 pub mod FiringLemmas
 pub mod HoldLaws
 pub mod EntryLaws
+pub mod EventLaws
 pub mod RestartLemmas

@@ -1,21 +1,22 @@
 -- What is seen, moves and is watched at the places of a journal stays as it is with one more entry.
 use Rattle.std.proofs.Common.{◌≡◌, ℕ, suc, ◌+◌, ◌<◌, ◌≤◌, [], ◌∷◌, length, Bool, false, refl, sym, ◌∙◌, arith}
-use Rattle.std.specs.Prelude.{Option, is_some, is_none, slice_get, option_and_then, nat_le, ◌&&◌, if◌then◌else◌}
+use Rattle.std.specs.Prelude.{Option, is_some, is_none, slice_get, option_map, nat_le, ◌&&◌, if◌then◌else◌}
 use Rattle.std.specs.Option.{option_map_or}
 use Rattle.ha_value.specs.declared.value.EntityId.{EntityId}
 use Rattle.ha_config.specs.declared.config.Trigger.{Trigger}
 use Rattle.ha_config.specs.declared.config.TriggerRule.{TriggerRule}
 use Rattle.ha_journal.specs.declared.entry.Entry.{Entry}
-use Rattle.ha_journal.specs.Entries.{event_in, is_boot, is_moment, opens_segment}
+use Rattle.ha_journal.specs.Entries.{is_boot, is_moment, opens_segment}
 use Rattle.ha_config.specs.Units.{scripts_of}
 use Rattle.ha_journal.specs.Journal.{Journal, HasEntry, zone_of, now, more}
+use Rattle.ha_journal.specs.Helpers.{known, event_for, events_at, events_of}
 use Rattle.ha_journal.specs.States.{states, switches_of}
 use Rattle.ha_journal.specs.Moves.{sight, moves, rule_moves, looks}
 use Rattle.ha_sight.specs.Rules.{starts, given}
 use Rattle.ha_journal.specs.Holds.{same_watched, watches}
 use Rattle.ha_journal.specs.Variables.{variables}
-use Rattle.ha_journal.proofs.SinceLaws.{take-more}
-use Rattle.ha_config.proofs.ListLemmas.{get-more}
+use Rattle.ha_journal.proofs.SinceLaws.{take-before, take-more}
+use Rattle.ha_config.proofs.ListLemmas.{get-last, get-more}
 use Rattle.ha_journal.proofs.MoreLemmas.{configured-more, length-more}
 use Rattle.ha_past.specs.Holds.{is_over}
 
@@ -29,7 +30,7 @@ has-place (e ∷ es) n lt = tt
 
 -- what the entries before a place show is the same
 pub sight-more : (j : Journal) (x : Entry) → HasEntry j → (n : ℕ) → n ≤ length j → sight (more j x) n ≡ sight j n
-sight-more j x h n le = let t = take-more j x n le in let z = zone-more j x h in λ i. record { states = states (t i); now = now (t i); zone = z i; automations = switches_of (t i); scripts = scripts_of (sym (configured-more j x h) i) }
+sight-more j x h n le = let t = take-more j x n le in let z = zone-more j x h in λ i. record { states = states (t i); now = now (t i); zone = z i; automations = switches_of (t i); scripts = scripts_of (sym (configured-more j x h) i); helpers = known (t i) }
 
 -- the last sight of the journal, and the new one
 pub sight-whole : (j : Journal) (x : Entry) → sight (more j x) (suc (length j)) ≡ sight (more j x) (length (more j x))
@@ -58,8 +59,18 @@ module _ (j : Journal) (x : Entry) (h : HasEntry j) where
   over-more t e since d i q one two =
       (λ k. option_map_or is_moment (get-more j x q two k) false && nat_le ((sight-more j x h (suc i) (omega (arith, one)) k).now + d) (sight-more j x h (suc q) (omega (arith, two)) k).now)
 
+-- ---- events
+
+-- LAW: the events of an earlier place stay
+pub events-more : (j : Journal) (x : Entry) (i : ℕ) → i < length j → events_at (more j x) i ≡ events_at j i
+events-more j x i lt = (let past = take-more j x i (omega (arith, lt)) in let y = get-more j x i lt in λ k. option_map_or (events_of (past k)) (y k) [])
+
+-- LAW: those of the last one are those that it gives behind the journal
+pub events-last : (j : Journal) (x : Entry) → events_at (more j x) (length j) ≡ events_of j x
+events-last j x = (let past = take-before j x in let y = get-last j x in λ i. option_map_or (events_of (past i)) (y i) [])
+
 -- ---- variables
 
 pub variables-more : (j : Journal) (x : Entry) → HasEntry j → (t : Trigger) (e : Option EntityId) (i : ℕ) → i < length j → variables (more j x) t e i ≡ variables j t e i
 variables-more j x h t e i lt =
-    (let b = sight-more j x h i (omega (arith, lt)) in let a = sight-more j x h (suc i) (omega (arith, lt)) in let y = get-more j x i lt in λ k. given (b k) (a k) (option_and_then event_in (y k)) t e)
+    (let b = sight-more j x h i (omega (arith, lt)) in let a = sight-more j x h (suc i) (omega (arith, lt)) in let y = events-more j x i lt in λ k. given (b k) (a k) (option_map (λ v. (v.kind, v.pairs)) (event_for e (y k))) t e)

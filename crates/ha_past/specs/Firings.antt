@@ -5,10 +5,9 @@ use Rattle.ha_value.specs.declared.value.EntityId.{EntityId}
 use Rattle.ha_config.specs.declared.config.Trigger.{Trigger}
 use Rattle.ha_journal.specs.declared.firing.Firing.{Firing}
 use Rattle.ha_journal.specs.Journal.{Journal}
-use Rattle.ha_journal.specs.Triggers.{Fired, firings as fired}
+use Rattle.ha_journal.specs.Triggers.{Fired, entities_at, firings as fired}
 use Rattle.ha_journal.specs.Holds.{fired_from}
 use Rattle.ha_journal.specs.Variables.{variables}
-use Rattle.ha_sight.specs.Rules.{entities_of}
 
 -- an owner with its triggers, which fire at entries after `since`
 pub record Owner : Type 0 where
@@ -36,15 +35,15 @@ module _ (j : Journal) (p : ℕ) where
   abbrev pub firings_of : Owner → List Firing
   firings_of o = map (firing_by o) (fired j o.triggers o.since p)
 
-  -- all firings at place p, in order of owner, trigger and entity
+  -- all firings at place p, in order of owner, trigger and entity, or event
   abbrev pub firings : List Owner → List Firing
   firings owners = flat_map firings_of owners
 
-  -- the same, of one trigger with its index: for an entity, and for all of its own
+  -- the same, of one trigger with its index: for an entity, and for all for which it may fire there
   abbrev pub firing_for : Owner → ℕ × Trigger → Option EntityId → Option Firing
   firing_for o t e =
       option_map (λ i. record { owner = o.owner; trigger = t.0; entity = e; env = (codes "trigger", variables j t.1 e i) ∷ [] })
       (fired_from j t.1 e o.since p)
 
   abbrev pub firings_by : Owner → ℕ × Trigger → List Firing
-  firings_by o t = filter_map (firing_for o t) (entities_of t.1.rule)
+  firings_by o t = filter_map (firing_for o t) (entities_at j p t.1.rule)

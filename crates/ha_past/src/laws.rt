@@ -1,7 +1,7 @@
 //! Laws of the definitions alone. Each is a function that does nothing; its contract is the law. `more j x` is the journal `j` with one
 //! more entry.
-ghost use Rattle.std.specs.Prelude.{◌≡◌, ◌<◌, ◌≤◌, ◌-◌, ℕ, suc, [], Bool, true, Option, None, length, is_some, option_map, flat_map, if◌then◌else◌};
-ghost use Rattle.std.specs.List.{enumerate_from};
+ghost use Rattle.std.specs.Prelude.{◌≡◌, ◌<◌, ◌≤◌, ◌-◌, ℕ, suc, [], Bool, true, Option, None, length, is_some, map, option_map, filter_map, flat_map, if◌then◌else◌};
+ghost use Rattle.std.specs.List.{cons_option, enumerate_from};
 ghost use Rattle.ha_value.specs.declared.value.EntityId.{EntityId};
 ghost use Rattle.ha_config.specs.declared.command.Cmd.{Cmd};
 ghost use Rattle.ha_config.specs.declared.config.Trigger.{Trigger};
@@ -10,13 +10,15 @@ ghost use Rattle.ha_journal.specs.declared.entry.Entry.{Entry};
 ghost use Rattle.ha_journal.specs.declared.entry.Entry.TheVariants.{Line};
 ghost use Rattle.ha_journal.specs.Attempts.{attempts, passing};
 ghost use Rattle.ha_journal.specs.Entries.{opens_segment};
+ghost use Rattle.ha_journal.specs.Helpers.{helper_events};
 ghost use Rattle.ha_journal.specs.Journal.{Journal, HasEntry, now, more};
 ghost use Rattle.ha_config.specs.Sound.{may_hold};
 ghost use Rattle.ha_journal.specs.Moves.{sight, moves, latest_number, report_number};
 ghost use Rattle.ha_journal.specs.Holds.{same_watched, fired_from};
 ghost use Rattle.ha_journal.specs.Variables.{variables};
+ghost use Rattle.ha_sight.specs.Rules.{is_event};
 ghost use Rattle.ha_config.specs.Words.{Text};
-ghost use Rattle.ha_past.specs.Firings.{Owner, firings_by, firings_of};
+ghost use Rattle.ha_past.specs.Firings.{Owner, firing_for, firings_by, firings_of};
 ghost use Rattle.ha_past.specs.Holds.{holds_to};
 ghost use Rattle.ha_past.specs.Looks.{arrived, at_once, or_else, ripe_value, standing, unripe};
 
@@ -56,6 +58,15 @@ pub fn holds_go_on()
 /// The firings of an owner, trigger by trigger and entity by entity.
 pub fn owners_fire_by_triggers()
     ensures { (j : Journal) (p : ℕ) (o : Owner) → firings_of j p o ≡ flat_map (firings_by j p o) (enumerate_from 0 o.triggers) }
+{}
+
+/// An event trigger without `for` fires at one more entry for the entry's own event, if it has one, and then for each event of a helper, in
+/// order.
+pub fn event_triggers_fire_for_each_event()
+    ensures { (j : Journal) (x : Entry) (o : Owner) (n : ℕ) (t : Trigger) → is_event t.rule ≡ true → t.hold ≡ None
+        → firings_by (more j x) (length j) o (n, t)
+        ≡ cons_option (firing_for (more j x) (length j) o (n, t) None)
+        (filter_map (firing_for (more j x) (length j) o (n, t)) (map (λ v. v.entity) (helper_events j x))) }
 {}
 
 /// At a Restart no trigger fires, whatever its automations ask for, so nothing is attempted there.

@@ -164,6 +164,7 @@ module _ (B : Branch → Type 0) where
     good-called (Item.Failed code) k h = takes-failed code
     good-called (Item.Started scripts fields waits) k h = takes-gives (Item.Started scripts fields waits) k h
     good-called (Item.Halted scripts) k h = takes-gives (Item.Halted scripts) k h
+    good-called (Item.Helped changes) k h = takes-gives (Item.Helped changes) k h
 
     good-delayed : (due : ℕ) → IsGood b (delayed due)
     good-delayed due next h scopes =

@@ -14,9 +14,9 @@ use Rattle.ha_config.specs.Equal.{same_flag}
 use Rattle.ha_config.specs.Numbers.{in_bounds}
 use Rattle.ha_journal.specs.Journal.{Journal, HasEntry, more}
 use Rattle.ha_sight.specs.Templates.{rendered, says}
-use Rattle.ha_journal.specs.Triggers.{Fired, firing_for, firings_by, firings}
+use Rattle.ha_journal.specs.Triggers.{Fired, entities_at, firing_for, firings_by, firings}
 use Rattle.ha_journal.specs.Moves.{sight, latest_number}
-use Rattle.ha_sight.specs.Rules.{same_optional, starts, entities_of}
+use Rattle.ha_sight.specs.Rules.{same_optional, starts, entities_of, is_event}
 use Rattle.ha_journal.specs.Holds.{same_watched, fires, fired_from}
 use Rattle.ha_journal.specs.Variables.{variables}
 use Rattle.ha_sight.specs.Scripts.{Ask}
@@ -24,7 +24,7 @@ use Rattle.ha_journal.specs.Waits.{completes, is_over, end_at, wait_end}
 use Rattle.ha_journal.proofs.MoreLemmas.{length-more}
 use Rattle.ha_journal.proofs.SinceLaws.{take-more}
 use Rattle.ha_config.proofs.ListLemmas.{get-more}
-use Rattle.ha_past.proofs.PastLemmas.{sight-more, moves-more, variables-more}
+use Rattle.ha_past.proofs.PastLemmas.{events-more, sight-more, moves-more, variables-more}
 
 -- ---- tests that agree on a stretch of numbers
 
@@ -140,10 +140,15 @@ module _ (j : Journal) (x : Entry) (h : HasEntry j) where
       (λ i. cons_option (fired-more t e since q lt (made_by (more j x) n t e) (made_by j n t e) (λ k le m. record { trigger = n; entity = e; variables = variables-more j x h t e k (omega (arith, le, lt)) m }) i)
       (each-firing since q n lt t es i))
 
+  -- for whom a trigger may fire at an earlier place stays
+  entities-alike : (rule : TriggerRule) (q : ℕ) → q < length j → entities_at (more j x) q rule ≡ entities_at j q rule
+  entities-alike rule q lt = (λ i. if is_event rule then map (λ v. v.entity) (events-more j x q lt i) else entities_of rule)
+
   firings-from : (since q n : ℕ) → q < length j → (ts : List Trigger) → flat_map (firings_by (more j x) since q) (enumerate_from n ts) ≡ flat_map (firings_by j since q) (enumerate_from n ts)
   firings-from since q n lt [] = refl
   firings-from since q n lt (t ∷ ts) =
-      (λ i. each-firing since q n lt t (entities_of t.rule) i ++ firings-from since q (n + 1) lt ts i)
+      (λ i. filter_map (firing_for (more j x) since q (n, t)) (entities-alike t.rule q lt i) ++ flat_map (firings_by (more j x) since q) (enumerate_from (n + 1) ts))
+      ∙ (λ i. each-firing since q n lt t (entities_at j q t.rule) i ++ firings-from since q (n + 1) lt ts i)
 
   -- LAW: the firings at an earlier place are what they were
   pub firings-more : (ts : List Trigger) (since q : ℕ) → q < length j → firings (more j x) ts since q ≡ firings j ts since q

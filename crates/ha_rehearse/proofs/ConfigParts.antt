@@ -26,6 +26,7 @@ use Rattle.conf_script.specs.Forms as form
 use Rattle.conf_script.proofs.Opened as opened
 use Rattle.conf_auto.specs.Automations as auto
 use Rattle.conf_auto.specs.Config as conf
+use Rattle.conf_auto.specs.HelperMaps as maps
 use Rattle.conf_auto.specs.Names.{add, joined}
 use Rattle.conf_auto.specs.Scripts.{scripts}
 use Rattle.ha_rehearse.proofs.ConfigTree.{node0, node1, node2, node3, node5, node6, node7, node9, node11, node13, node14, node15, node17, node18, node20, node21, node23, node24, node26, node27, node29, node31, node32, node34, node35, node36, node38, node40, node41, node42, node43, node45, node46, node47, node49, node50, node52, node54}
@@ -237,13 +238,27 @@ all_listed l =
     read_as (ap (conf.automations_by l node1) (list_shape 2 (node2 ∷ node31 ∷ [])))
     (read_made conf.made_list (both many all) (read_both many all (read_unless (conf.at_most 1_024 (node2 ∷ node31 ∷ [])) refl) automations))
 
+-- no helper stands in the tree
+helpers_read : IsRead (maps.helpers_in pairs0)
+helpers_read =
+    let few = unless (maps.too_many pairs0) in
+    let flags = get key.InputBoolean pairs0 maps.flags in
+    let counters = get key.Counter pairs0 maps.counters in
+    let timers = get key.Timer pairs0 maps.timers in
+    read_made maps.in_order (both few (both flags (both counters timers)))
+    (read_both few (both flags (both counters timers)) (read_unless (maps.too_many pairs0) refl)
+    (read_both flags (both counters timers) (read_absent maps.flags (field (row key.InputBoolean) pairs0) refl)
+    (read_both counters timers (read_absent maps.counters (field (row key.Counter) pairs0) refl) (read_absent maps.timers (field (row key.Timer) pairs0) refl))))
+
 pub root_read : IsRead (conf.of_node node0)
 unfolding keys_fault
 root_read =
-    let known = keys (row key.Automation ∷ row key.Script ∷ []) pairs0 in
+    let known = keys conf.root_rows pairs0 in
     let all = need key.Automation 1 pairs0 conf.automations in
     let named = get key.Script pairs0 scripts in
+    let others = both named (maps.helpers_in pairs0) in
     read_as (ap (conf.root_by 1) (map_shape 1 pairs0))
-    (read_made conf.made_root (both known (both all named))
-    (read_both known (both all named) (read_keys (row key.Automation ∷ row key.Script ∷ []) pairs0 refl)
-    (read_both all named (read_needed conf.automations 1 (field (row key.Automation) pairs0) (codes "automation", 1, node1) refl all_listed) (read_absent scripts (field (row key.Script) pairs0) refl))))
+    (read_made conf.made_root (both known (both all others))
+    (read_both known (both all others) (read_keys conf.root_rows pairs0 refl)
+    (read_both all others (read_needed conf.automations 1 (field (row key.Automation) pairs0) (codes "automation", 1, node1) refl all_listed)
+    (read_both named (maps.helpers_in pairs0) (read_absent scripts (field (row key.Script) pairs0) refl) helpers_read))))

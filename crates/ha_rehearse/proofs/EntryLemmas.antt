@@ -10,8 +10,9 @@ use Rattle.ha_journal.specs.declared.entry.Entry.{Entry}
 use Rattle.ha_journal.specs.declared.entry.Entry.TheVariants.{Boot, Line, Step, Again}
 use Rattle.ha_sight.specs.declared.item.Item.{Item}
 use Rattle.ha_journal.specs.Commands.{ArePutFrom, Placed, has_automation, lines_of, put_as}
-use Rattle.ha_config.specs.Fair.{shuts_source}
-use Rattle.ha_journal.specs.Journal.{Journal, more}
+use Rattle.ha_config.specs.Fair.{of_helper, shuts_source}
+use Rattle.ha_config.specs.Helpers.{is_helper}
+use Rattle.ha_journal.specs.Journal.{Journal, helpers, more}
 use Rattle.ha_model.specs.Lawful.{is_line_of, pick, shuts}
 use Rattle.ha_whole.specs.Whole.{Right, Running, again_of, is_rested, put}
 use Rattle.ha_model.specs.Records.{Records}
@@ -106,8 +107,16 @@ step_shuts j worker serial branch item = list_any-append (shuts 0) j (Step worke
 
 -- what is put for a command shuts its source where the command does
 put_shuts : (j : Journal) (c : Cmd) → shuts_source (put_as j c) ≡ shuts_source c
-put_shuts j (Cmd.Report entity text attributes) = refl
-put_shuts j (Cmd.Gone entity) = refl
+put_shuts j (Cmd.Report entity text attributes) = by (is_helper (helpers j) entity)
+  where
+    by : (b : Bool) → shuts_source (if b then Cmd.Refused of_helper else Cmd.Report entity text attributes) ≡ false
+    by true = refl
+    by false = refl
+put_shuts j (Cmd.Gone entity) = by (is_helper (helpers j) entity)
+  where
+    by : (b : Bool) → shuts_source (if b then Cmd.Refused of_helper else Cmd.Gone entity) ≡ false
+    by true = refl
+    by false = refl
 put_shuts j (Cmd.Event kind pairs) = refl
 put_shuts j (Cmd.Moment at) = refl
 put_shuts j (Cmd.Switch name on stop) = by (has_automation j name)

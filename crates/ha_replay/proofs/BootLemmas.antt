@@ -308,7 +308,7 @@ boot-utf8 b u = utf8-roll (Value-F.Pairs ((codes "boot", inner_value b) ∷ []))
 -- ---- lines
 
 abbrev no_automation : Config
-no_automation = record { automations = []; scripts = [] }
+no_automation = record { automations = []; scripts = []; helpers = [] }
 
 -- the line of a first entry is what is printed of its value
 line-printed : (line : Text) (b : BootLine) → IsBootLine line b → line ≡ print_value (value_of b)

@@ -1,20 +1,18 @@
 -- What follows of a line that is the next lawful one, and that a core's own entry is such a one.
 use Rattle.std.proofs.Common.{◌≡◌, ◌∙◌, ap, sym, subst, refl, ℕ, zero, suc, ◌+◌, ◌-◌, ◌<◌, ◌≤◌, inl, inr, List, [], ◌∷◌, ◌++◌, length, Bool, true, false, rules, arith, append_assoc}
 use Rattle.std.proofs.lemmas.List.Folds.{list_any-append}
-use Rattle.std.specs.Prelude.{◌⊎◌, ◌||◌, nat_eq, nat_lt, Some, None, count_by, map, slice_get, is_some, if◌then◌else◌}
+use Rattle.std.specs.Prelude.{◌⊎◌, ◌||◌, nat_eq, nat_lt, Some, None, count_by, map, slice_get, if◌then◌else◌}
 use Rattle.std.specs.List.{list_all, list_any}
 use Rattle.std.specs.Option.{option_map_or}
-use Rattle.ha_config.specs.declared.config.Automation.{Automation}
 use Rattle.ha_config.specs.declared.command.Cmd.{Cmd}
 use Rattle.ha_sight.specs.declared.item.Item.{Item}
 use Rattle.ha_journal.specs.declared.entry.Entry.{Entry}
 use Rattle.ha_journal.specs.declared.entry.Entry.TheVariants.{Boot, Line, Step, Again}
 use Rattle.ha_config.specs.Words.{Text, EachAfter, EachWith, last_below}
-use Rattle.ha_config.specs.Fair.{IsFairAmong}
-use Rattle.ha_config.specs.Names.{automation_named}
-use Rattle.ha_journal.specs.Journal.{Journal, automations, names, more}
+use Rattle.ha_journal.specs.Journal.{Journal, names, more}
 use Rattle.ha_journal.specs.Entries.{Reopening, is_restart, restarts}
 use Rattle.ha_journal.specs.Commands.{IsFair}
+use Rattle.ha_journal.proofs.MoreLemmas.{fair-alike}
 use Rattle.ha_config.specs.CommandText.{cmd_text}
 use Rattle.ha_sight.specs.Scripts.{Branch}
 use Rattle.ha_model.specs.Records as all
@@ -144,15 +142,12 @@ pub record LineFacts (r : Reached) (line : Text) (k n : ℕ) (cmd : Cmd) : Type 
   pub fair : IsFair r.journal cmd
   pub line_is : line ≡ line_text k n (cmd_text cmd)
 
--- a command is fair in a journal where it is so in its last segment, which has the same automations
-fair-by : (cmd : Cmd) (a b : List Automation) → a ≡ b → IsFairAmong (λ name. is_some (automation_named a name)) cmd → IsFairAmong (λ name. is_some (automation_named b name)) cmd
-fair-by cmd a b e h = subst (λ (l : List Automation). IsFairAmong (λ name. is_some (automation_named l name)) cmd) e h
-
+-- a command is fair in a journal where it is so in its last segment, which has the same configuration
 fair-whole : (j : Journal) (cmd : Cmd) → IsCut j → IsFair (segment j) cmd → IsFair j cmd
-fair-whole j cmd c h = fair-by cmd (automations (segment j)) (automations j) c.automations_are h
+fair-whole j cmd c h = fair-alike (segment j) j cmd c.configured_are h
 
 fair-alone : (j : Journal) (cmd : Cmd) → IsCut j → IsFair j cmd → IsFair (segment j) cmd
-fair-alone j cmd c h = fair-by cmd (automations j) (automations (segment j)) (sym c.automations_are) h
+fair-alone j cmd c h = fair-alike j (segment j) cmd (sym c.configured_are) h
 
 line-facts : (r : Reached) (line : Text) (k n : ℕ) (cmd : Cmd) (rs' : Records) → Stands r → IsNext r.journal line (Line k n cmd) rs' → LineFacts r line k n cmd
 line-facts r line k n cmd rs' stands next =

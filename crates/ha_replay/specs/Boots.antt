@@ -142,7 +142,7 @@ parts_in v =
 
 -- the first entry with these parts, and with no unit
 abbrev pub boot_of : Parts → Entry
-boot_of p = Entry.Boot p.text (record { automations = []; scripts = [] }) p.stored p.start p.zone (first_carry p.last)
+boot_of p = Entry.Boot p.text (record { automations = []; scripts = []; helpers = [] }) p.stored p.start p.zone (first_carry p.last)
 
 -- the parts, with the zone that is read
 abbrev pub IsOf : Parts → BootLine → Type 0

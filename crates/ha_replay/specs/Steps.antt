@@ -1,5 +1,5 @@
 -- Who may put the next entry, and what a refused put comes to.
-use Rattle.std.specs.Prelude.{ℕ, ◌≡◌, ◌<◌, ◌^◌, ◌⊎◌, Bool, true, false, nat_eq, count_by, ◌∷◌}
+use Rattle.std.specs.Prelude.{ℕ, ◌≡◌, ◌<◌, ◌^◌, ◌⊎◌, Bool, true, false, not, nat_eq, count_by, ◌∷◌}
 use Rattle.std.specs.Prelude.{◌++◌, Option, None, Some, codes, decimal, if◌then◌else◌}
 use Rattle.std.specs.List.{list_any}
 use Rattle.ha_whole.specs.declared.faults.CoreFault.{CoreFault}
@@ -8,7 +8,8 @@ use Rattle.ha_journal.specs.declared.entry.Entry.{Entry}
 use Rattle.ha_journal.specs.declared.entry.Entry.TheVariants.{Boot, Line, Step, Again}
 use Rattle.ha_config.specs.Words.{Text}
 use Rattle.ha_config.specs.Fair.{shuts_source}
-use Rattle.ha_journal.specs.Journal.{Journal}
+use Rattle.ha_config.specs.Helpers.{is_helper}
+use Rattle.ha_journal.specs.Journal.{Journal, helpers}
 use Rattle.ha_journal.specs.Commands.{has_automation}
 use Rattle.ha_model.specs.Lawful.{is_line_of, shuts}
 use Rattle.ha_whole.specs.Whole.{is_quiet, is_rested}
@@ -17,12 +18,12 @@ use Rattle.flow_printed.specs.Printed.{IsPrintOfLine}
 use Rattle.ha_replay.specs.declared.fault.TraceFault.{TraceFault}
 use Rattle.ha_replay.specs.Traces.{Reached}
 
--- the automation that a command names, if it names one, is there
+-- the automation that a command names, if it names one, is there, and the entity that it reports is no helper
 abbrev pub is_named : Journal → Cmd → Bool
 is_named j (Cmd.Switch name on stop) = has_automation j name
 is_named j (Cmd.Trigger name skip) = has_automation j name
-is_named j (Cmd.Report entity text attributes) = true
-is_named j (Cmd.Gone entity) = true
+is_named j (Cmd.Report entity text attributes) = not (is_helper (helpers j) entity)
+is_named j (Cmd.Gone entity) = not (is_helper (helpers j) entity)
 is_named j (Cmd.Event kind pairs) = true
 is_named j (Cmd.Moment at) = true
 is_named j Cmd.Restart = true

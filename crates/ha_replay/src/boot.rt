@@ -103,6 +103,7 @@ fn boot_entries(alloc: Global, parts: &Parts) -> Result<Vec<Entry>, AllocError>
         config: Config {
             automations: Many::make(alloc),
             scripts: Many::make(alloc),
+            helpers: Many::make(alloc),
         },
         stored,
         start: parts.start,

@@ -4,12 +4,14 @@ ghost use Rattle.std.specs.List.{list_any};
 ghost use Rattle.ha_model.specs.Records.{Records};
 ghost use Rattle.ha_model.specs.Lawful.{is_line_of, shuts};
 ghost use Rattle.ha_whole.specs.Whole.{Lawful};
+ghost use Rattle.ha_config.specs.Helpers.{is_helper};
 ghost use Rattle.ha_config.specs.Words.{same};
+ghost use Rattle.ha_journal.specs.Journal.{helpers};
 ghost use Rattle.ha_replay.specs.Steps.{is_named as is_named_lem, line_by as line_by_lem};
 
-use ha_config::{Automation, Cmd, same_text};
+use ha_config::{Automation, Cmd, is_helper, same_text};
 use ha_journal::Entry;
-use ha_value::Word;
+use ha_value::{EntityId, Word};
 use ha_whole::Core;
 
 /// The number of the next line of a source, by its last one; none where that one shuts the source.
@@ -55,7 +57,14 @@ fn has_automation(all: &[Automation], name: &Word) -> bool
         .any(|automation| same_text(&automation.name, name))
 }
 
-/// Whether the automation that a command names, if it names one, is there.
+/// Whether an id is that of a helper.
+fn is_of_helper<C: Core>(core: &C, entity: &EntityId) -> bool
+    ensures { result ≡ is_helper (helpers (C.entries core.now)) entity.now }
+{
+    is_helper(core.config().helpers.as_slice(), entity)
+}
+
+/// Whether the automation that a command names, if it names one, is there, and the entity that it reports is no helper.
 pub(crate) fn is_named<C: Core>(core: &C, cmd: &Cmd) -> bool
     ensures { result ≡ is_named_lem (C.entries core.now) cmd.now }
 {
@@ -63,6 +72,8 @@ pub(crate) fn is_named<C: Core>(core: &C, cmd: &Cmd) -> bool
     match cmd {
         Cmd::Switch { name, .. } => has_automation(all, name),
         Cmd::Trigger { name, .. } => has_automation(all, name),
+        Cmd::Report { entity, .. } => !is_of_helper(core, entity),
+        Cmd::Gone { entity } => !is_of_helper(core, entity),
         _ => true,
     }
 }

@@ -1,9 +1,8 @@
 -- What the fields of an action stand for: the item that a call gives, or the code of its failure.
-use Rattle.std.specs.Prelude.{ℕ, ◌+◌, ◌*◌, Bool, true, false, not, ◌&&◌, nat_le, List, [], ◌∷◌, ◌++◌, map, filter_map, find, slice_get, Option, Some, None, Result, Ok, Err, ok_or, is_some, option_map, option_and_then, pos, negsuc, codes, if◌then◌else◌}
+use Rattle.std.specs.Prelude.{ℕ, ◌+◌, ◌*◌, Bool, true, false, not, ◌&&◌, nat_le, List, [], ◌∷◌, ◌++◌, map, filter_map, find, slice_get, Option, Some, None, Ok, Err, ok_or, is_some, option_map, option_and_then, codes, if◌then◌else◌}
 use Rattle.std.specs.List.{enumerate_from}
 use Rattle.std.specs.Option.{option_map_or}
 use Rattle.ha_value.specs.declared.value.EntityId.{EntityId}
-use Rattle.ha_value.specs.declared.value.Num.{Num}
 use Rattle.ha_value.specs.declared.value.Value.{Value}
 use Rattle.ha_value.specs.declared.value.Value.TheOpen.{Value-F}
 use Rattle.ha_value.specs.declared.value.Value.TheViews.{out-Value}
@@ -17,42 +16,11 @@ use Rattle.ha_sight.specs.declared.item.Item.{Item}
 use Rattle.ha_sight.specs.declared.steps.Inner.{Inner}
 use Rattle.ha_config.specs.Words.{Text, Pairs, same, last_pair, is_empty_text, parts_between_commas}
 use Rattle.ha_config.specs.Numbers.{read_number}
+pub use Rattle.ha_sight.specs.Checks.{Checked, checked_map, checked_then, template_fault, no_service, no_target, no_duration, no_count, too_many_turns, no_value, turns_in, natural_in, whole_in}
 use Rattle.ha_sight.specs.Once.{each_number_once}
 use Rattle.ha_sight.specs.Sight.{Sight}
 use Rattle.ha_sight.specs.Inner.{inner_of}
 use Rattle.ha_sight.specs.Templates.{rendered, data_of}
-
--- ---- a value, or the code of a failure
-
-abbrev pub Checked : Type 0 → Type 0
-Checked A = Result A ℕ
-
-abbrev pub checked_map : {A B : Type 0} → (A → B) → Checked A → Checked B
-checked_map f (Ok x) = Ok (f x)
-checked_map f (Err code) = Err code
-
-abbrev pub checked_then : {A B : Type 0} → (A → Checked B) → Checked A → Checked B
-checked_then f (Ok x) = f x
-checked_then f (Err code) = Err code
-
--- F1 a template fault, F2 no service name, F3 no entity id in a target, F4 no duration, F5 no whole count, F6 too many turns
-abbrev pub template_fault : ℕ
-template_fault = 1
-
-abbrev pub no_service : ℕ
-no_service = 2
-
-abbrev pub no_target : ℕ
-no_target = 3
-
-abbrev pub no_duration : ℕ
-no_duration = 4
-
-abbrev pub no_count : ℕ
-no_count = 5
-
-abbrev pub too_many_turns : ℕ
-too_many_turns = 6
 
 -- ---- targets
 
@@ -112,19 +80,6 @@ done_by (Inner.Does item) outer = Ok item
 done_by (Inner.Fails code) outer = Err code
 
 -- ---- numbers and spans of rendered texts
-
--- A whole number is number text without a point, in range.
-
--- how many turns a count makes: a negative one makes none
-abbrev pub turns_in : Num → Option ℕ
-turns_in (Num.Whole (pos n)) = Some n
-turns_in (Num.Whole (negsuc n)) = Some 0
-turns_in (Num.Fixed z) = None
-
-abbrev pub natural_in : Num → Option ℕ
-natural_in (Num.Whole (pos n)) = Some n
-natural_in (Num.Whole (negsuc n)) = None
-natural_in (Num.Fixed z) = None
 
 abbrev pub natural_of : Text → Option ℕ
 natural_of t = option_and_then natural_in (read_number t)

@@ -1,12 +1,16 @@
--- Which calls the core does itself, in place of writing them: those of scripts that are configured.
-use Rattle.std.specs.Prelude.{ℕ, true, false, nat_eq, List, [], ◌∷◌, Option, Some, None, codes, drop, filter_map, option_map, option_and_then, unwrap_or, if◌then◌else◌}
+-- Which calls the core does itself, in place of writing them: those of scripts that are configured, and of helpers' services.
+use Rattle.std.specs.Prelude.{ℕ, true, false, nat_eq, List, [], ◌∷◌, Option, Some, None, Ok, Err, codes, drop, filter_map, option_map, option_and_then, unwrap_or, if◌then◌else◌}
 use Rattle.std.specs.List.{starts_with}
 use Rattle.std.specs.Option.{option_map_or}
 use Rattle.ha_value.specs.declared.value.EntityId.{EntityId}
+use Rattle.ha_sight.specs.declared.helped.HelperChange.{HelperChange}
+use Rattle.ha_sight.specs.declared.helped.HelperService.{HelperService}
 use Rattle.ha_sight.specs.declared.item.Item.{Item}
 use Rattle.ha_sight.specs.declared.steps.Inner.{Inner}
 use Rattle.ha_config.specs.Words.{Text, Pairs, same, last_pair}
+use Rattle.ha_sight.specs.Checks.{Checked}
 use Rattle.ha_sight.specs.Once.{each_number_once}
+use Rattle.ha_sight.specs.Services.{changes_made, is_configured, service_named}
 use Rattle.ha_sight.specs.Sight.{Sight}
 use Rattle.ha_sight.specs.Values.{pairs_of_map}
 
@@ -48,5 +52,20 @@ abbrev pub own_item : Scripts → Text → List EntityId → Pairs → Option It
 own_item [] service targets fields = None
 own_item (s ∷ ss) service targets fields = script_item (s ∷ ss) service targets fields
 
+-- the changes that a call of a helpers' service makes, or the code of its failure
+abbrev pub helped : Checked (List HelperChange) → Inner
+helped (Ok changes) = Inner.Does (Item.Helped changes)
+helped (Err code) = Inner.Fails code
+
+abbrev pub helped_by : Sight → List EntityId → Pairs → Option HelperService → Inner
+helped_by sight targets fields None = Inner.Outer
+helped_by sight targets fields (Some s) = if is_configured sight.helpers s then helped (changes_made sight s targets fields) else Inner.Outer
+
+-- a service of helpers is done by the core where a helper is configured for which it is
+abbrev pub inner_of_helpers : Sight → Text → List EntityId → Pairs → Inner
+inner_of_helpers sight service targets fields = helped_by sight targets fields (service_named service)
+
+-- what the core does with a call itself; no service is one of scripts and one of helpers
 abbrev pub inner_of : Sight → Text → List EntityId → Pairs → Inner
-inner_of sight service targets fields = option_map_or Inner.Does (own_item sight.scripts service targets fields) Inner.Outer
+inner_of sight service targets fields =
+    option_map_or Inner.Does (own_item sight.scripts service targets fields) (inner_of_helpers sight service targets fields)

@@ -1,6 +1,7 @@
--- What an item of a step is: a call, the code of a failure, or runs of scripts that it starts or ends.
+-- What an item of a step is: a call, the code of a failure, runs of scripts that it starts or ends, or changes of helpers.
 use Rattle.std.specs.Prelude.{ℕ, Bool, false, List, [], Option, Some, None, is_some}
 use Rattle.ha_value.specs.declared.value.EntityId.{EntityId}
+use Rattle.ha_sight.specs.declared.helped.HelperChange.{HelperChange}
 use Rattle.ha_sight.specs.declared.item.Item.{Item}
 use Rattle.ha_config.specs.Words.{Text, Pairs}
 
@@ -18,6 +19,7 @@ call_in (Item.Triggered automations skip) = None
 call_in (Item.Failed code) = None
 call_in (Item.Started scripts fields waits) = None
 call_in (Item.Halted scripts) = None
+call_in (Item.Helped changes) = None
 
 abbrev pub is_call : Item → Bool
 is_call item = is_some (call_in item)
@@ -32,6 +34,7 @@ failure_in (Item.Switched targets) = None
 failure_in (Item.Triggered automations skip) = None
 failure_in (Item.Started scripts fields waits) = None
 failure_in (Item.Halted scripts) = None
+failure_in (Item.Helped changes) = None
 
 -- the step's own run waits for the end of the run that it started
 abbrev pub awaits_end : Item → Bool
@@ -43,6 +46,7 @@ awaits_end (Item.Switched targets) = false
 awaits_end (Item.Triggered automations skip) = false
 awaits_end (Item.Failed code) = false
 awaits_end (Item.Halted scripts) = false
+awaits_end (Item.Helped changes) = false
 
 -- the scripts whose runs it ends
 abbrev pub halted_by : Item → List ℕ
@@ -54,6 +58,19 @@ halted_by (Item.Switched targets) = []
 halted_by (Item.Triggered automations skip) = []
 halted_by (Item.Failed code) = []
 halted_by (Item.Started scripts fields waits) = []
+halted_by (Item.Helped changes) = []
+
+-- the helpers that it changes, each with what it is from here on
+abbrev pub changes_by : Item → List HelperChange
+changes_by (Item.Helped changes) = changes
+changes_by Item.Nothing = []
+changes_by (Item.Call service target fields) = []
+changes_by (Item.Fired kind pairs) = []
+changes_by (Item.Switched targets) = []
+changes_by (Item.Triggered automations skip) = []
+changes_by (Item.Failed code) = []
+changes_by (Item.Started scripts fields waits) = []
+changes_by (Item.Halted scripts) = []
 
 -- an item that switches nothing
 abbrev pub SwitchesNone : Item → Type 0
@@ -65,6 +82,7 @@ SwitchesNone (Item.Triggered automations skip) = Unit {0}
 SwitchesNone (Item.Failed code) = Unit {0}
 SwitchesNone (Item.Started scripts fields waits) = Unit {0}
 SwitchesNone (Item.Halted scripts) = Unit {0}
+SwitchesNone (Item.Helped changes) = Unit {0}
 
 -- an item that switches nothing, and ends no runs of scripts
 abbrev pub EndsNone : Item → Type 0
@@ -76,3 +94,4 @@ EndsNone (Item.Triggered automations skip) = Unit {0}
 EndsNone (Item.Failed code) = Unit {0}
 EndsNone (Item.Started scripts fields waits) = Unit {0}
 EndsNone (Item.Halted scripts) = ⊥
+EndsNone (Item.Helped changes) = Unit {0}

@@ -1,5 +1,6 @@
 pub mod Branches
 pub mod Calls
+pub mod Checks
 pub mod Conditions
 pub mod FilterNumbers
 pub mod Filters
@@ -7,11 +8,13 @@ pub mod FunctionNumbers
 pub mod Inner
 pub mod ItemText
 pub mod Items
+pub mod Known
 pub mod Once
 pub mod Parts
 pub mod Rules
 pub mod Scripts
 pub mod Seen
+pub mod Services
 pub mod Sight
 pub mod StateStep
 pub mod Templates

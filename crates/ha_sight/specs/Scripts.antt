@@ -342,6 +342,7 @@ called (Item.Switched targets) after rest = gives (Item.Switched targets) after
 called (Item.Triggered automations skip) after rest = gives (Item.Triggered automations skip) after
 called (Item.Started scripts fields waits) after rest = gives (Item.Started scripts fields waits) after
 called (Item.Halted scripts) after rest = gives (Item.Halted scripts) after
+called (Item.Helped changes) after rest = gives (Item.Helped changes) after
 
 -- what follows a call's item, whose step is at place p: where it waits, its second place
 abbrev pub behind_call : Item → ℕ → Part

@@ -1,3 +1,4 @@
 //! Copies of this crate's types, and whether two values are the same.
+mod helped;
 mod item;
 mod state;

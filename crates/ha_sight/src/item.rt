@@ -1,5 +1,6 @@
 //! What a step of a run did, and where it stands.
 
+use crate::helped::HelperChange;
 use ha_value::{EntityId, Many, Value, Word};
 
 /// What a step of a run did.
@@ -34,6 +35,8 @@ pub enum Item {
     },
     /// Ended all runs of these scripts, by their units' numbers.
     Halted(Many<u32>),
+    /// Changed these helpers, each once, in the order of the call's targets.
+    Helped(Many<HelperChange>),
 }
 
 /// Where a step stands among a script's parallel blocks: the index of the list that it is in, from the outer block to the inner.

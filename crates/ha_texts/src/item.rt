@@ -6,6 +6,7 @@ ghost use Rattle.ha_config.specs.ValueText.{list_text, quoted};
 ghost use Rattle.ha_sight.specs.declared.item.Item.TheVariants.{Call, Failed, Fired, Halted, Started, Switched, Triggered};
 
 use crate::call::push_call;
+use crate::helped::push_helped;
 use crate::names::{push_failure_code, push_flag, push_name, push_script};
 use flow_line::{push_comma, push_pairs, push_quoted};
 use ha_sight::Item;
@@ -225,5 +226,6 @@ pub(crate) fn push_item(
             *waits,
         ),
         Item::Halted(scripts) => push_halted(text, units, scripts.as_slice()),
+        Item::Helped(changes) => push_helped(text, units, changes.as_slice()),
     }
 }

@@ -14,7 +14,7 @@ use Rattle.ha_words.specs.declared.plan.RunWords.{RunWords}
 use Rattle.bus_turn.specs.Growth.{SinkGrows}
 use Rattle.bus_turn.specs.States.{SinkState}
 use Rattle.ha_run.specs.Served.{AreOpened}
-use Rattle.ha_run.specs.Stands.{RanNothing, StandsAt}
+use Rattle.ha_run.specs.Stands.{OpenedNone, RanNothing, StandsAt}
 use Rattle.ha_top.specs.Opening.{IsOpenFault, TraceOpenCause}
 use Rattle.conf_auto.specs.Config.{config_of}
 use Rattle.ha_check.specs.Configured.{RefusedCause}
@@ -76,6 +76,22 @@ open_cases P (Status.TraceRefused l) h unopened memory = absurd h
 
 pub contains_behind : (first : Text) (names : List Text) (name : Text) → Contains names name → Contains (first ∷ names) name
 contains_behind first names name h = (suc h.0, omega (arith, h.1), h.2)
+
+-- ---- the store was not taken
+
+pub store_cases : (P : Status → Type 0) (s : Status) → IsStoreFault s → P Status.KeepFault → ((code : ℕ) → P (Status.StoreRefused code)) → P Status.Memory → P s
+store_cases P Status.KeepFault h kept refused memory = kept
+store_cases P (Status.StoreRefused code) h kept refused memory = refused code
+store_cases P Status.Memory h kept refused memory = memory
+store_cases P (Status.OpenFault name) h kept refused memory = absurd h
+store_cases P (Status.ReadFault k) h kept refused memory = absurd h
+store_cases P (Status.ConfigRefused l code) h kept refused memory = absurd h
+store_cases P Status.Ok h kept refused memory = absurd h
+store_cases P Status.Usage h kept refused memory = absurd h
+store_cases P (Status.WriteFault z) h kept refused memory = absurd h
+store_cases P Status.JournalFull h kept refused memory = absurd h
+store_cases P (Status.SourceTooLong k) h kept refused memory = absurd h
+store_cases P (Status.TraceRefused l) h kept refused memory = absurd h
 
 -- a source of the words, in a longer call
 pub source_cause : (words : RunWords) (first before after : ℕ) (last : Option (Option (Text × Opening))) (s : Status) → IsOpenFault s → first ≤ before
@@ -147,6 +163,29 @@ module _ (words : RunWords) (b : Before) (a : After) (e : IsEarly b a) where
     where
       there : RanNothing (scene words b a)
       there = record { no_entry = e.no_entry; no_record = e.no_record; opened = opened }
+
+  -- the store was not loaded, or its text was refused
+  pub lived_store : (text : Text) (config : Config) → HoldsText b.place.files words.config text → config_of text ≡ Ok config → IsStoreFault a.status → StoreCause b.keep.kept a.status
+      → KeepCause b.keep.faults a.keep.faults a.status → a.sources ≡ [] → Lived words b a
+  lived_store text config held read fault refused kept none = record {
+    stands = store_cases Stood a.status fault (inl (e.untouched, nothing)) (λ code. (e.untouched, nothing)) (inl (e.untouched, inl there));
+    traced = untraced;
+    same = same_of b a e;
+    refused = store_cases (λ s. RefusedCause b.place.files words.config s) a.status fault tt (λ code. tt) tt;
+    config_first = config_taken b.place.files words.config text config (IsTextFault words.config a.status) held read;
+    store_refused = refused;
+    store_next = if_all b.keep.kept (λ k. (IsStore k → ⊥) → IsTextFault words.config a.status ⊎ IsStoreFault a.status) (λ k never. inr fault);
+    unopened = store_cases (λ s. RunOpenCause words b.place.faults a.place.faults a.place.last s) a.status fault tt (λ code. tt) tt;
+    unread = store_cases (λ s. ReadCause words.config words.sources Counts Names s) a.status fault tt (λ code. tt) tt;
+    unwritten = store_cases (λ s. WriteCause (WriteFailed b a) (WriteTookNone b a) s) a.status fault tt (λ code. tt) tt;
+    unkept = kept;
+  }
+    where
+      nothing : OpenedNone (scene words b a)
+      nothing = record { no_entry = e.no_entry; no_record = e.no_record; no_source = none }
+
+      there : RanNothing (scene words b a)
+      there = record { no_entry = e.no_entry; no_record = e.no_record; opened = subst (AreOpened words.sources) (sym none) tt }
 
 pub early_from : (b : Before) (a : After) → a.out ≡ b.out → a.err ≡ b.err → a.trace ≡ None → a.keep.kept ≡ b.keep.kept → b.keep.faults ≤ a.keep.faults → a.journal ≡ [] → a.records ≡ [] → IsEarly b a
 early_from b a out err trace kept faults journal records = record {

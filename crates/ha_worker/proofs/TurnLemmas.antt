@@ -7,9 +7,10 @@ use Rattle.ha_config.specs.declared.command.Cmd.{Cmd}
 use Rattle.ha_journal.specs.declared.entry.Entry.{Entry}
 use Rattle.ha_journal.specs.declared.entry.Entry.TheVariants.{Line, Step}
 use Rattle.ha_journal.specs.Commands.{has_automation, put_as}
-use Rattle.ha_config.specs.Fair.{shuts_source}
+use Rattle.ha_config.specs.Fair.{of_helper, shuts_source}
+use Rattle.ha_config.specs.Helpers.{is_helper}
 use Rattle.ha_journal.specs.Entries.{restarts}
-use Rattle.ha_journal.specs.Journal.{HasEntry, Journal}
+use Rattle.ha_journal.specs.Journal.{HasEntry, Journal, helpers}
 use Rattle.ha_model.specs.Lawful.{pick, shuts}
 use Rattle.ha_whole.specs.Whole.{IsFull, LacksRoom, Right, Running, appended, is_quiet, is_rested, put}
 use Rattle.ha_model.specs.Records.{Records}
@@ -96,8 +97,16 @@ or-and-true false false = refl
 
 -- what is put for a command shuts its source where the command does
 pub put_shuts : (j : Journal) (c : Cmd) → shuts_source (put_as j c) ≡ shuts_source c
-put_shuts j (Cmd.Report entity text attributes) = refl
-put_shuts j (Cmd.Gone entity) = refl
+put_shuts j (Cmd.Report entity text attributes) = by (is_helper (helpers j) entity)
+  where
+    by : (b : Bool) → shuts_source (if b then Cmd.Refused of_helper else Cmd.Report entity text attributes) ≡ false
+    by true = refl
+    by false = refl
+put_shuts j (Cmd.Gone entity) = by (is_helper (helpers j) entity)
+  where
+    by : (b : Bool) → shuts_source (if b then Cmd.Refused of_helper else Cmd.Gone entity) ≡ false
+    by true = refl
+    by false = refl
 put_shuts j (Cmd.Event kind pairs) = refl
 put_shuts j (Cmd.Moment at) = refl
 put_shuts j (Cmd.Switch name on stop) = by (has_automation j name)

@@ -8,6 +8,8 @@ mod day;
 #[cfg(test)]
 mod files;
 #[cfg(test)]
+mod helpers;
+#[cfg(test)]
 mod lines;
 #[cfg(test)]
 mod moments;

@@ -12,15 +12,19 @@ use Rattle.ha_journal.specs.declared.entry.Entry.TheVariants.{Line}
 use Rattle.ha_config.specs.Words.{Text, numbers_from, up_to, one_of, or_else}
 use Rattle.ha_config.specs.Numbers.{in_bounds}
 use Rattle.ha_config.specs.Equal.{same_flag}
-use Rattle.ha_journal.specs.Entries.{event_in, is_boot, is_moment, opens_segment}
+use Rattle.ha_journal.specs.Entries.{changes_in, event_in, is_boot, is_moment, opens_segment}
 use Rattle.ha_config.specs.Units.{scripts_of}
 use Rattle.ha_journal.specs.Journal.{Journal, HasEntry, configured, now, zone_of, more}
 use Rattle.ha_sight.specs.Sight.{Sight}
+use Rattle.ha_journal.specs.declared.event.BusEvent.{BusEvent}
+use Rattle.ha_journal.specs.Helpers.{event_for, known}
+use Rattle.ha_journal.proofs.EventLaws.{events-none}
 use Rattle.ha_journal.specs.States.{states, switches_of}
 use Rattle.ha_sight.specs.Templates.{rendered, says}
 use Rattle.ha_journal.specs.Moves.{sight, moves, after, report_number, latest_number, looks}
 use Rattle.ha_sight.specs.Rules.{starts, pair_holds, passed}
 use Rattle.ha_journal.specs.Holds.{same_watched, between, watches}
+use Rattle.ha_journal.proofs.HelperLaws.{known-left}
 use Rattle.ha_journal.proofs.HeldLaws.{latest-more}
 use Rattle.ha_journal.proofs.FiringLaws.{state-stays}
 use Rattle.ha_model.proofs.LastEntry.{or-none}
@@ -41,6 +45,7 @@ record IsQuiet (x : Entry) : Type 0 where
   moment : is_moment x ≡ false
   event : event_in x ≡ None
   number : (e : EntityId) (name : Option Text) → report_number e name x ≡ None
+  helps : changes_in x ≡ []
 
 idle-quiet : (source number : ℕ) (cmd : Cmd) → IsIdle cmd → IsQuiet (Line source number cmd)
 idle-quiet source number (Cmd.Report entity text attributes) h = absurd h
@@ -50,9 +55,9 @@ idle-quiet source number (Cmd.Moment at) h = absurd h
 idle-quiet source number (Cmd.Switch name on stop) h = absurd h
 idle-quiet source number (Cmd.Trigger name skip) h = absurd h
 idle-quiet source number Cmd.Restart h = absurd h
-idle-quiet source number (Cmd.Refused code) h = record { opens = refl; moment = refl; event = refl; number = λ e name. refl }
-idle-quiet source number Cmd.Lost h = record { opens = refl; moment = refl; event = refl; number = λ e name. refl }
-idle-quiet source number Cmd.TooLong h = record { opens = refl; moment = refl; event = refl; number = λ e name. refl }
+idle-quiet source number (Cmd.Refused code) h = record { opens = refl; moment = refl; event = refl; number = λ e name. refl; helps = refl }
+idle-quiet source number Cmd.Lost h = record { opens = refl; moment = refl; event = refl; number = λ e name. refl; helps = refl }
+idle-quiet source number Cmd.TooLong h = record { opens = refl; moment = refl; event = refl; number = λ e name. refl; helps = refl }
 
 not-itself : (b : Bool) → (b && not b) ≡ false
 not-itself true = refl
@@ -92,8 +97,12 @@ looks-still a past x s (TriggerRule.State entities attribute from to) held None 
 looks-still a past x s (TriggerRule.Numeric entities attribute above below) held (Some e) =
     (λ i. option_map_or (in_bounds above below) (s.number e attribute i) false && not (option_map_or (in_bounds above below) (latest_number e attribute past) false))
 looks-still a past x s (TriggerRule.Numeric entities attribute above below) held None = refl
-looks-still a past x s (TriggerRule.Event kinds pairs) held (Some e) = refl
-looks-still a past x s (TriggerRule.Event kinds pairs) held None = (λ i. option_map_or (λ v. one_of v.0 kinds && list_all (pair_holds v.1) pairs) (s.event i) false)
+looks-still a past x s (TriggerRule.Event kinds pairs) held e =
+    (λ i. option_map_or (λ v. one_of v.kind kinds && list_all (pair_holds v.pairs) pairs) (event_for e (events-none past x s.event s.helps s.moment i)) false) ∙ nobody e
+  where
+    nobody : (e : Option EntityId) → option_map_or (λ (v : BusEvent). one_of v.kind kinds && list_all (pair_holds v.pairs) pairs) (event_for e []) false ≡ false
+    nobody None = refl
+    nobody (Some f) = refl
 looks-still a past x s (TriggerRule.Time seconds) held (Some e) = refl
 looks-still a past x s (TriggerRule.Time seconds) held None = (λ i. s.moment i && passed (TriggerRule.Time seconds) a.zone a.now a.now)
 looks-still a past x s (TriggerRule.Pattern hours minutes seconds) held (Some e) = refl
@@ -115,9 +124,9 @@ module _ (j : Journal) (x : Entry) (h : HasEntry j) (s : IsQuiet x) (same : Noth
   -- what is seen after the line is what was seen before it
   sight-still : sight k (suc p) ≡ sight k p
   sight-still =
-      (let all = through-last j x in λ i. record { states = states (all i); now = now (all i); zone = zone_of k; automations = switches_of (all i); scripts = scripts_of (configured k) })
-      ∙ (λ i. record { states = λ e. same.states_stay e i; now = same.now_stays i; zone = zone_of k; automations = switches-still i; scripts = scripts_of (configured k) })
-      ∙ (let all = sym (take-before j x) in λ i. record { states = states (all i); now = now (all i); zone = zone_of k; automations = switches_of (all i); scripts = scripts_of (configured k) })
+      (let all = through-last j x in λ i. record { states = states (all i); now = now (all i); zone = zone_of k; automations = switches_of (all i); scripts = scripts_of (configured k); helpers = known (all i) })
+      ∙ (λ i. record { states = λ e. same.states_stay e i; now = same.now_stays i; zone = zone_of k; automations = switches-still i; scripts = scripts_of (configured k); helpers = known-left j x h s.helps i })
+      ∙ (let all = sym (take-before j x) in λ i. record { states = states (all i); now = now (all i); zone = zone_of k; automations = switches_of (all i); scripts = scripts_of (configured k); helpers = known (all i) })
 
   moves-here : (t : Trigger) (e : Option EntityId) → moves k t e p ≡ false
   moves-here t e =

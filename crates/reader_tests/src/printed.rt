@@ -73,6 +73,7 @@ fn each_kind_is_read_of_its_print(rt: HostRuntime) {
                 ("{\"restart\":true}", "restart"),
                 ("{\"refused\":\"L9\"}", "refused"),
                 ("{\"refused\":\"L10\"}", "refused"),
+                ("{\"refused\":\"L14\"}", "refused"),
                 ("{\"lost\":true}", "lost"),
                 ("{\"too_long\":true}", "too long"),
             ]
@@ -118,6 +119,8 @@ fn no_other_text_is_read(rt: HostRuntime) {
                 "{\"refused\":\"L0\"}",
                 "{\"refused\":\"L01\"}",
                 "{\"refused\":\"L12\"}",
+                "{\"refused\":\"L13\"}",
+                "{\"refused\":\"L15\"}",
                 "{\"lost\":true,\"too_long\":true}",
             ]
         )

@@ -39,6 +39,7 @@ fn house(alloc: Global, initial: Option<bool>) -> Result<Config, AllocError>
     Ok(Config {
         automations,
         scripts: Many::make(alloc),
+        helpers: Many::make(alloc),
     })
 }
 

@@ -1,17 +1,20 @@
-//! What one place of the journal sees with the scripts of its configuration: the core does the calls of these itself.
-ghost use Rattle.std.specs.Prelude.{◌≡◌, ◌+◌, ◌<◌, ◌≤◌, ◌^◌, length};
+//! What one place of the journal sees with the scripts of its configuration and its helpers: the core does the calls of these itself.
+ghost use Rattle.std.specs.Prelude.{◌≡◌, ◌+◌, ◌<◌, ◌≤◌, ◌^◌, IfOk, length};
+ghost use Rattle.std.specs.Option.{option_map_or};
 ghost use Rattle.ha_clock.specs.Local.{last_moment};
-ghost use Rattle.ha_config.specs.Units.{scripts_of};
-ghost use Rattle.cond_eval.specs.Seen.{sight_of};
+ghost use Rattle.ha_sight.specs.Inner.{inner_of_helpers};
+ghost use Rattle.helper_set.specs.Kept.{AreSeen, kept_in};
 ghost use Rattle.script_calls.specs.Seen.{sees};
+ghost use Rattle.script_calls.specs.With.{sight_with};
 
 use crate::seeing::Seeing;
 use crate::services::resolve;
 use cond_eval::View;
 use ha_clock::{Moment, Zone};
 use ha_config::{Condition, Config, Template};
-use ha_sight::{Answers, Env, Inner, TplFault};
+use ha_sight::{Answers, Env, Inner, Item, TplFault};
 use ha_value::{EntityId, Many, Value, Word};
+use helper_set::Helpers;
 use state_table::StateTable;
 use std::alloc::{AllocError, Global};
 
@@ -22,14 +25,50 @@ impl<'a> Seeing<'a> {
         config: &'a Config,
         zone: &'a Zone,
         at: Moment,
+        helpers: &'a Helpers,
     ) -> Seeing<'a>
         requires timely { at ≤ last_moment }
         requires few { length config.now.automations + length config.now.scripts < 2 ^ 32 }
-        ensures sees { sees result ≡ record (sight_of states.entry.now config.entry.now zone.entry.now at) { scripts = scripts_of config.entry.now } }
+        requires seen { AreSeen (kept_in helpers.now) (sight_with states.now config.now zone.now at helpers.now) at }
+        ensures sees { sees result ≡ sight_with states.entry.now config.entry.now zone.entry.now at helpers.entry.now }
         ensures timely { (sees result).now ≤ last_moment }
     {
         Seeing {
             view: View::make(states, config, zone, at),
+            helpers,
+        }
+    }
+
+    /// What becomes of a call that is none of scripts.
+    fn helped(
+        &self,
+        alloc: Global,
+        service: &Word,
+        target: &Many<EntityId>,
+        fields: &Many<(Word, Value)>,
+    ) -> Result<Inner, AllocError>
+        ensures { IfOk result (λ inner. inner ≡ inner_of_helpers (sees self.now) service.now target.now fields.now) }
+    {
+        let inner = self
+            .helpers
+            .resolve(alloc, service, target, fields, self.view.at)?;
+        Ok(inner)
+    }
+
+    /// What becomes of a call that has this item, if it is one of scripts.
+    fn inner_by(
+        &self,
+        alloc: Global,
+        own: Option<Item>,
+        service: &Word,
+        target: &Many<EntityId>,
+        fields: &Many<(Word, Value)>,
+    ) -> Result<Inner, AllocError>
+        ensures { IfOk result (λ inner. inner ≡ option_map_or Inner.Does own (inner_of_helpers (sees self.now) service.now target.now fields.now)) }
+    {
+        match own {
+            Some(item) => Ok(Inner::Does(item)),
+            None => self.helped(alloc, service, target, fields),
         }
     }
 }
@@ -64,9 +103,8 @@ impl<'a> Answers for Seeing<'a> {
         target: &Many<EntityId>,
         fields: &Many<(Word, Value)>,
     ) -> Result<Inner, AllocError> {
-        match resolve(alloc, self.view.config, service, target, fields)? {
-            Some(item) => Ok(Inner::Does(item)),
-            None => Ok(Inner::Outer),
-        }
+        let own = resolve(alloc, self.view.config, service, target, fields)?;
+        let inner = self.inner_by(alloc, own, service, target, fields)?;
+        Ok(inner)
     }
 }

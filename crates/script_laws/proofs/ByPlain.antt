@@ -20,8 +20,8 @@ use Rattle.ha_sight.specs.declared.steps.Inner.{Inner}
 use Rattle.ha_sight.specs.declared.waiting.WaitEnd.{WaitEnd}
 use Rattle.ha_sight.specs.Sight.{Sight}
 use Rattle.ha_sight.specs.Conditions.{hold_all}
-use Rattle.ha_sight.specs.Calls.{Checked, call_item, checked_map, checked_then, count_of, done_by, fields_of, forms_of, item_of, item_or_failed, service_of, span_of, spans_of, targets_of, template_fault}
-use Rattle.ha_sight.specs.Inner.{own_item}
+use Rattle.ha_sight.specs.Calls.{Checked, call_item, checked_then, count_of, done_by, fields_of, forms_of, item_of, item_or_failed, service_of, span_of, spans_of, targets_of, template_fault}
+use Rattle.ha_sight.specs.Inner.{inner_of, inner_of_helpers, own_item}
 use Rattle.ha_sight.specs.Items.{awaits_end}
 use Rattle.ha_sight.specs.Scripts.{Branch, Scopes, Spot, call_ask, count_loop, each_loop, flat, most_turns, set_all, until_loop, wait_for, while_loop, whole}
 use Rattle.script_laws.specs.Direct.{Effect, action_effect, begins_wait, beside, calls, chosen_list, delays, does, in_block, in_turn, items_then, kind_effect, left_by, left_by_action, nothing_then, outcome_of, repeats, turns_from, waits}
@@ -49,19 +49,19 @@ plain-call : (s : Sight) (env : Pairs) (service : Template) (target : List Templ
 plain-call s env service target fields none = by-service (service_of s env service)
   where
     by-fields : (name : Text) (es : List EntityId) (r : Checked Pairs)
-        → checked_then (λ ps. done_by (option_map_or Inner.Does (own_item s.scripts name es ps) Inner.Outer) (item_of s.automations name es ps)) r ≡ checked_map (item_of s.automations name es) r
-    by-fields name es (Ok ps) = (λ i. done_by (option_map_or Inner.Does (own_item (none i) name es ps) Inner.Outer) (item_of s.automations name es ps))
+        → checked_then (λ ps. done_by (inner_of s name es ps) (item_of s.automations name es ps)) r ≡ checked_then (λ ps. done_by (inner_of_helpers s name es ps) (item_of s.automations name es ps)) r
+    by-fields name es (Ok ps) = (λ i. done_by (option_map_or Inner.Does (own_item (none i) name es ps) (inner_of_helpers s name es ps)) (item_of s.automations name es ps))
     by-fields name es (Err code) = refl
 
     by-targets : (name : Text) (r : Checked (List EntityId))
-        → checked_then (λ es. checked_then (λ ps. done_by (option_map_or Inner.Does (own_item s.scripts name es ps) Inner.Outer) (item_of s.automations name es ps)) (ok_or (fields_of s env fields) template_fault)) r
-        ≡ checked_then (λ es. checked_map (item_of s.automations name es) (ok_or (fields_of s env fields) template_fault)) r
+        → checked_then (λ es. checked_then (λ ps. done_by (inner_of s name es ps) (item_of s.automations name es ps)) (ok_or (fields_of s env fields) template_fault)) r
+        ≡ checked_then (λ es. checked_then (λ ps. done_by (inner_of_helpers s name es ps) (item_of s.automations name es ps)) (ok_or (fields_of s env fields) template_fault)) r
     by-targets name (Ok es) = by-fields name es (ok_or (fields_of s env fields) template_fault)
     by-targets name (Err code) = refl
 
     by-service : (r : Checked Text)
-        → item_or_failed s env (checked_then (λ name. checked_then (λ es. checked_then (λ ps. done_by (option_map_or Inner.Does (own_item s.scripts name es ps) Inner.Outer) (item_of s.automations name es ps)) (ok_or (fields_of s env fields) template_fault)) (targets_of s env target)) r)
-        ≡ item_or_failed s env (checked_then (λ name. checked_then (λ es. checked_map (item_of s.automations name es) (ok_or (fields_of s env fields) template_fault)) (targets_of s env target)) r)
+        → item_or_failed s env (checked_then (λ name. checked_then (λ es. checked_then (λ ps. done_by (inner_of s name es ps) (item_of s.automations name es ps)) (ok_or (fields_of s env fields) template_fault)) (targets_of s env target)) r)
+        ≡ item_or_failed s env (checked_then (λ name. checked_then (λ es. checked_then (λ ps. done_by (inner_of_helpers s name es ps) (item_of s.automations name es ps)) (ok_or (fields_of s env fields) template_fault)) (targets_of s env target)) r)
     by-service (Ok name) = ap (item_or_failed s env) (by-targets name (targets_of s env target))
     by-service (Err code) = refl
 
@@ -69,6 +69,7 @@ plain-call s env service target fields none = by-service (service_of s env servi
 plain-waits : (item : Item) → NamesNoScript item → awaits_end item ≡ false
 plain-waits (Item.Started scripts fields waits) h = absurd h
 plain-waits (Item.Halted scripts) h = absurd h
+plain-waits (Item.Helped changes) h = refl
 plain-waits Item.Nothing h = refl
 plain-waits (Item.Call service target fields) h = refl
 plain-waits (Item.Fired kind pairs) h = refl

@@ -23,16 +23,18 @@ use Rattle.ha_config.proofs.EqualLemmas.{same-refl}
 use Rattle.ha_sight.specs.Sight.{Sight}
 use Rattle.ha_sight.specs.Conditions.{hold_all, holds}
 use Rattle.ha_sight.specs.Calls.{Checked, automations_of, call_item, checked_then, count_of, done_by, fields_of, flag_named, forms_of, item_of, item_or_failed, service_of, span_of, spans_of, switched_to, targets_of, template_fault, was_on}
-use Rattle.ha_sight.specs.Inner.{inner_of, own_item}
+use Rattle.ha_sight.specs.Inner.{inner_of, inner_of_helpers, own_item}
 use Rattle.ha_sight.specs.Scripts.{Branch, Scopes, Ask, Spot, Status, Outcome, Next, Part, Meaning, flat, gives, prefixed, ends, in_order, add_inside, count_loop, each_loop, while_loop, until_loop, most_turns, chosen, set_all, wait_value, delayed, kind_step, run_action, exec, whole, is_open, wait_for, call_ask, scopes_behind}
 use Rattle.ha_sight.proofs.Rolls.{run_kind, run_action-roll, run_kind-roll}
-use Rattle.ha_sight.specs.Items.{awaits_end}
+use Rattle.ha_sight.specs.Items.{awaits_end, changes_by}
 use Rattle.script_laws.specs.Followed.{followed}
 use Rattle.script_laws.proofs.FollowLemmas.{one-item, item-follows, place-follows, done-follows, field-follows, option-follows, then-follows, OfList, of-then}
 use Rattle.script_laws.proofs.BesideLemmas.{list_end, ended-list, SameList, SameLists, beside-follows}
 use Rattle.script_laws.specs.Direct.{Standing, Left, Effect, leaves, items_then, nothing_then, in_turn, does, on_field, delays, waited_for, waits, begins_wait, in_block, chosen_list, turns_from, repeats, if_no_place, all_used, beside, kind_effect, action_effect, left_by_action, left_by, status_of, stands_open, outcome_of, left_by_script, calls}
+use Rattle.script_laws.specs.Made.{AreMade}
 use Rattle.script_laws.specs.Stands.{EachStands, GoesOn, NamesNoScript, next_in}
 use Rattle.script_laws.specs.Used.{IsUsed}
+use Rattle.script_laws.proofs.HelpedLemmas.{call-helps, helped-cases}
 use Rattle.script_laws.proofs.StandLemmas.{still-stands}
 use Rattle.script_laws.proofs.SameMeaning.{delay-same, begins-same, test-same, into-same, either-same, repeat-same, call-same}
 use Rattle.script_laws.proofs.UsedLemmas.{Uses, UsesWell, EachWell, inside-length, set-length, one-place, does-uses, place-uses, nothing-still, failed-still, nothing-uses, field-uses, then-uses, block-uses, either-uses, turns-use, beside-uses}
@@ -243,7 +245,8 @@ call-names s env service target fields none = by-service (service_of s env servi
     by-fields : (name : Text) (es : List EntityId) (r : Checked Pairs)
         → NamesNoScript (item_or_failed s env (checked_then (λ ps. done_by (inner_of s name es ps) (item_of s.automations name es ps)) r))
     by-fields name es (Ok ps) =
-        subst (λ all. NamesNoScript (item_or_failed s env (done_by (option_map_or Inner.Does (own_item all name es ps) Inner.Outer) (item_of s.automations name es ps)))) (sym none) (outer s.automations name es ps)
+        subst (λ all. NamesNoScript (item_or_failed s env (done_by (option_map_or Inner.Does (own_item all name es ps) (inner_of_helpers s name es ps)) (item_of s.automations name es ps)))) (sym none)
+        (helped-cases s name es ps (item_of s.automations name es ps) (λ r. NamesNoScript (item_or_failed s env r)) (outer s.automations name es ps) (λ changes seen. tt) (λ code. tt))
     by-fields name es (Err code) = tt
 
     by-targets : (name : Text) (r : Checked (List EntityId))
@@ -258,10 +261,10 @@ call-names s env service target fields none = by-service (service_of s env servi
 
 -- a call that waits: its second place, in its branch, is one before which the run that it started has ended
 waiting-uses : (item : Item) (p : Spot) (scopes : Scopes) (b : Branch) (rest : List Spot) → bytes_eq p.branch b ≡ true → (p.sight.scripts ≡ [] → NamesNoScript item)
-    → Uses scopes (p ∷ rest) (items_then (item ∷ []) (waits (call_ask scopes) true p.place scopes b rest))
-waiting-uses item p scopes b [] own names =
-    record { used = p ∷ []; places = refl; items = refl; none_left = λ e. refl; blocks = λ e. refl; stand = (record { waits = λ w. refl; names = names }, tt) }
-waiting-uses item p scopes b (s ∷ after) own names = by (bytes_eq s.branch b) refl (s.wait_end (call_ask scopes) p.place) refl
+    → AreMade p.sight (changes_by item) → Uses scopes (p ∷ rest) (items_then (item ∷ []) (waits (call_ask scopes) true p.place scopes b rest))
+waiting-uses item p scopes b [] own names helps =
+    record { used = p ∷ []; places = refl; items = refl; none_left = λ e. refl; blocks = λ e. refl; stand = (record { waits = λ w. refl; names = names; helps = helps }, tt) }
+waiting-uses item p scopes b (s ∷ after) own names helps = by (bytes_eq s.branch b) refl (s.wait_end (call_ask scopes) p.place) refl
   where
     -- its branch is the call's
     goes : bytes_eq s.branch b ≡ true → (e : WaitEnd) → s.wait_end (call_ask scopes) p.place ≡ Some e → GoesOn false p.place (next_in p.branch (s ∷ []))
@@ -280,7 +283,7 @@ waiting-uses item p scopes b (s ∷ after) own names = by (bytes_eq s.branch b) 
           items = refl;
           none_left = λ z. absurd cc;
           blocks = λ z. refl;
-          stand = (record { waits = λ w. goes same e is; names = names }, (still-stands false s Item.Nothing [] (nothing-still s), tt));
+          stand = (record { waits = λ w. goes same e is; names = names; helps = helps }, (still-stands false s Item.Nothing [] (nothing-still s), tt));
         }
 
     either : (c : Bool) (e : WaitEnd) → Uses scopes (p ∷ s ∷ after) (items_then (item ∷ []) (does Item.Nothing scopes after))
@@ -295,12 +298,12 @@ waiting-uses item p scopes b (s ∷ after) own names = by (bytes_eq s.branch b) 
     by true same (Some e) is = either e.done e (ended same e is)
 
 call-uses : (item : Item) (p : Spot) (scopes : Scopes) (b : Branch) (rest : List Spot) → bytes_eq p.branch b ≡ true → (p.sight.scripts ≡ [] → NamesNoScript item)
-    → Uses scopes (p ∷ rest) (calls item p.place scopes b rest)
-call-uses item p scopes b rest own names = by (awaits_end item) refl
+    → AreMade p.sight (changes_by item) → Uses scopes (p ∷ rest) (calls item p.place scopes b rest)
+call-uses item p scopes b rest own names helps = by (awaits_end item) refl
   where
     by : (c : Bool) → awaits_end item ≡ c → Uses scopes (p ∷ rest) (if c then items_then (item ∷ []) (waits (call_ask scopes) true p.place scopes b rest) else does item scopes rest)
-    by true e = waiting-uses item p scopes b rest own names
-    by false e = does-uses item scopes scopes p rest (e, names) (λ z. refl)
+    by true e = waiting-uses item p scopes b rest own names helps
+    by false e = does-uses item scopes scopes p rest (e, names, helps) (λ z. refl)
 
 begins-use : (test : Option Template) (triggers : List Trigger) (timeout : Option SpanForm) (go_on : Bool) (p : Spot) (scopes : Scopes) (b : Branch) (rest : List Spot)
     → Uses scopes (p ∷ rest) (begins_wait test triggers timeout go_on p scopes b rest)
@@ -327,7 +330,9 @@ repeat-uses (RepeatKind.Until cs) e h p scopes b rest = turns-use e h (until_loo
 
 kind-uses : (y : ActionKind-F KindProved ActionProved) (p : Spot) (scopes : Scopes) (b : Branch) (rest : List Spot) → bytes_eq p.branch b ≡ true
     → Uses scopes (p ∷ rest) (kind_effect (map-ActionKind ActionKind Action (Spot → Effect) Effect left_by_kind left_by_action (plain_kind y)) p scopes b rest)
-kind-uses (ActionKind-F.Call service target fields) p scopes b rest own = call-uses (call_item p.sight (flat scopes) service target fields) p scopes b rest own (call-names p.sight (flat scopes) service target fields)
+kind-uses (ActionKind-F.Call service target fields) p scopes b rest own =
+    call-uses (call_item p.sight (flat scopes) service target fields) p scopes b rest own (call-names p.sight (flat scopes) service target fields)
+    (call-helps p.sight (flat scopes) service target fields)
 kind-uses (ActionKind-F.Delay form) p scopes b rest own =
     field-uses scopes p rest (λ d. nothing_then (delays (p.sight.now + d) scopes b rest)) (span_of p.sight (flat scopes) form)
     (λ d z. nothing-uses scopes p rest (delays (p.sight.now + d) scopes b rest) (delay-uses (p.sight.now + d) scopes b rest))
@@ -344,7 +349,7 @@ kind-uses (ActionKind-F.Block body) p scopes b rest own = into-uses (list body) 
 kind-uses (ActionKind-F.Set pairs) p scopes b rest own = set-uses pairs p scopes rest (set_all pairs p.sight scopes) refl
 kind-uses (ActionKind-F.Fire event fields) p scopes b rest own =
     field-uses scopes p rest (λ pairs. does (Item.Fired event pairs) scopes rest) (ok_or (fields_of p.sight (flat scopes) fields) 1)
-    (λ pairs z. does-uses (Item.Fired event pairs) scopes scopes p rest (refl, λ w. tt) (λ w. refl))
+    (λ pairs z. does-uses (Item.Fired event pairs) scopes scopes p rest (refl, λ w. tt, tt) (λ w. refl))
 kind-uses ActionKind-F.Stop p scopes b rest own = one-place scopes scopes p rest Item.Nothing Standing.Stopped refl (nothing-still p) (λ z. refl)
 kind-uses (ActionKind-F.Test c) p scopes b rest own = by (holds p.sight c (flat scopes))
   where

@@ -45,6 +45,7 @@ module _ (next end : Next) where
   done-follows (Item.Triggered automations skip) scopes rest = one-item (Item.Triggered automations skip) (next scopes rest)
   done-follows (Item.Started scripts fields waits) scopes rest = one-item (Item.Started scripts fields waits) (next scopes rest)
   done-follows (Item.Halted scripts) scopes rest = one-item (Item.Halted scripts) (next scopes rest)
+  done-follows (Item.Helped changes) scopes rest = one-item (Item.Helped changes) (next scopes rest)
 
   pub field-follows : {A : Type 0} (go : A → Option Outcome) (step : A → Option Left) → ((x : A) → go x ≡ followed next end (step x)) → (c : Checked A) (scopes : Scopes) (rest : List Spot)
       → on_checked go c rest ≡ followed next end (on_field c scopes rest step)

@@ -1,6 +1,8 @@
 pub mod FollowLemmas
 pub mod BesideLemmas
 pub mod SameMeaning
+pub mod MadeLemmas
+pub mod HelpedLemmas
 pub mod StandLemmas
 pub mod UsedLemmas
 pub mod ByScript

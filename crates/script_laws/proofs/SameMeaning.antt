@@ -63,6 +63,7 @@ module _ (next end : Next) (scopes : Scopes) (b : Branch) where
       ∙ item-follows next end (Item.Started scripts fields true) (waits (call_ask scopes) true p scopes b rest)
   call-same (Item.Started scripts fields false) p rest = done-follows next end (Item.Started scripts fields false) scopes rest
   call-same (Item.Halted scripts) p rest = done-follows next end (Item.Halted scripts) scopes rest
+  call-same (Item.Helped changes) p rest = done-follows next end (Item.Helped changes) scopes rest
   call-same (Item.Failed code) p rest = done-follows next end (Item.Failed code) scopes rest
   call-same Item.Nothing p rest = done-follows next end Item.Nothing scopes rest
   call-same (Item.Call service target fields) p rest = done-follows next end (Item.Call service target fields) scopes rest

@@ -1,19 +1,21 @@
 -- How items stand among their places, at each way in which parts are put together.
-use Rattle.std.proofs.Common.{◌≡◌, ℕ, zero, suc, ◌+◌, ◌<◌, Bool, true, false, List, [], ◌∷◌, ◌++◌, length, refl, sym, subst, ◌∙◌, rules, arith}
+use Rattle.std.proofs.Common.{◌≡◌, ℕ, zero, suc, ◌+◌, ◌<◌, Bool, true, false, List, [], ◌∷◌, ◌++◌, length, refl, sym, subst, ◌∙◌, rules, arith, length-append}
 use Rattle.std.specs.Prelude.{Option, Some, None, nat_eq, unwrap_or, slice_get, if◌then◌else◌, bytes_eq}
 use Rattle.std.proofs.lemmas.Slice.Eq.{bytes_eq-Decides}
 use Rattle.ha_sight.specs.declared.item.Item.{Item}
-use Rattle.ha_sight.specs.Items.{awaits_end}
+use Rattle.ha_sight.specs.Items.{awaits_end, changes_by}
 use Rattle.ha_sight.specs.Scripts.{Branch, Spot, on_side, side, take_item}
-use Rattle.ha_config.proofs.ListLemmas.{true-false}
+use Rattle.ha_config.specs.Words.{last_of}
+use Rattle.ha_config.proofs.ListLemmas.{none-some, some-same, true-false}
+use Rattle.script_laws.specs.Made.{AreMade}
 use Rattle.script_laws.specs.Stands.{EachStands, GoesOn, NamesNoScript, Stands, next_in}
 
--- an item that waits for no run, and names none where no script is seen
+-- an item that waits for no run, names none where no script is seen, and whose changes are made of what is seen
 abbrev pub IsStill : Spot → Item → Type 0
-IsStill p item = (awaits_end item ≡ false) × (p.sight.scripts ≡ [] → NamesNoScript item)
+IsStill p item = (awaits_end item ≡ false) × (p.sight.scripts ≡ [] → NamesNoScript item) × AreMade p.sight (changes_by item)
 
 pub still-stands : (unended : Bool) (p : Spot) (item : Item) (behind : List Spot) → IsStill p item → Stands unended p item behind
-still-stands unended p item behind h = record { waits = λ e. absurd (true-false (sym e ∙ h.0)); names = h.1 }
+still-stands unended p item behind h = record { waits = λ e. absurd (true-false (sym e ∙ h.0)); names = h.1; helps = h.2 }
 
 -- ---- more places behind
 
@@ -31,7 +33,17 @@ stand-append unended [] qs [] ys e h g = g
 stand-append unended [] qs (x ∷ xs) ys e h g = absurd (omega (arith, e))
 stand-append unended (p ∷ ps) qs [] ys e h g = absurd (omega (arith, e))
 stand-append unended (p ∷ ps) qs (x ∷ xs) ys e h g =
-    (record { waits = λ w. goes-longer unended p.place p.branch ps qs (h.0.waits w); names = h.0.names }, stand-append unended ps qs xs ys (omega (arith, e)) h.1 g)
+    (record { waits = λ w. goes-longer unended p.place p.branch ps qs (h.0.waits w); names = h.0.names; helps = h.0.helps }, stand-append unended ps qs xs ys (omega (arith, e)) h.1 g)
+
+-- the last item is that of the last place
+pub last-stands : (unended : Bool) (ps : List Spot) (q : Spot) (items : List Item) (item : Item) → length items ≡ length (ps ++ (q ∷ [])) → EachStands unended (ps ++ (q ∷ [])) items
+    → last_of items ≡ Some item → Stands unended q item []
+last-stands unended [] q [] item len h e = absurd (none-some item e)
+last-stands unended [] q (x ∷ []) item len h e = subst (λ (z : Item). Stands unended q z []) (some-same x item e) h.0
+last-stands unended [] q (x ∷ y ∷ items) item len h e = absurd (omega (arith, len))
+last-stands unended (p ∷ ps) q [] item len h e = absurd (none-some item e)
+last-stands unended (p ∷ ps) q (x ∷ []) item len h e = (let long = length-append ps (q ∷ []) in absurd (omega (arith, len, long)))
+last-stands unended (p ∷ ps) q (x ∷ y ∷ items) item len h e = last-stands unended ps q (y ∷ items) item (omega (arith, len)) h.1 e
 
 -- ---- where a list is open, all may be
 
@@ -43,7 +55,7 @@ pub stand-open : (unended : Bool) (ps : List Spot) (xs : List Item) → EachStan
 stand-open unended [] xs h = tt
 stand-open unended (p ∷ ps) [] h = tt
 stand-open unended (p ∷ ps) (x ∷ xs) h =
-    (record { waits = λ w. goes-open unended p.place (next_in p.branch ps) (h.0.waits w); names = h.0.names }, stand-open unended ps xs h.1)
+    (record { waits = λ w. goes-open unended p.place (next_in p.branch ps) (h.0.waits w); names = h.0.names; helps = h.0.helps }, stand-open unended ps xs h.1)
 
 none-stand : (unended : Bool) (ps : List Spot) → EachStands unended ps []
 none-stand unended [] = tt
@@ -102,7 +114,7 @@ module _ (unended : Bool) (b : Branch) (s : Spot) (ps : List Spot) where
   taken-stand k zero ((x ∷ xs) ∷ more) e h =
       let at : side b s ≡ k = omega (arith, e) in
       let own : EachStands unended (s ∷ on_side b k ps) (x ∷ xs) = subst (λ q. EachStands unended q (x ∷ xs)) (on-it b s ps k at) h.0 in (
-        record { waits = λ w. subst (GoesOn unended s.place) (next-on-side b s.branch k (own-side k at) ps) (own.0.waits w); names = own.0.names },
+        record { waits = λ w. subst (GoesOn unended s.place) (next-on-side b s.branch k (own-side k at) ps) (own.0.waits w); names = own.0.names; helps = own.0.helps },
         (own.1, later-sides b s ps unended (suc k) more (omega (arith, e)) h.1),
       )
   taken-stand k (suc d) (xs ∷ more) e h =

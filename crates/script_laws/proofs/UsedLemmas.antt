@@ -95,6 +95,7 @@ does-uses item scopes new p rest still h = one-place scopes new p rest item (sta
     closed (Item.Triggered automations skip) = refl
     closed (Item.Started scripts fields waits) = refl
     closed (Item.Halted scripts) = refl
+    closed (Item.Helped changes) = refl
 
 pub place-uses : (b : Branch) (scopes : Scopes) (step : Spot → List Spot → Option Left) → ((p : Spot) (rest : List Spot) → bytes_eq p.branch b ≡ true → Uses scopes (p ∷ rest) (step p rest))
     → (ps : List Spot) → Uses scopes ps (at_place b scopes ps step)
@@ -105,12 +106,12 @@ place-uses b scopes step h (p ∷ rest) = by (bytes_eq p.branch b) refl
     by true own = h p rest own
     by false own = tt
 
--- Nothing neither waits for a run nor names a script, and a failure doesn't either
+-- Nothing neither waits for a run nor names a script, and changes no helper, and a failure doesn't either
 pub nothing-still : (p : Spot) → IsStill p Item.Nothing
-nothing-still p = (refl, λ e. tt)
+nothing-still p = (refl, λ e. tt, tt)
 
 pub failed-still : (p : Spot) (code : ℕ) → IsStill p (Item.Failed code)
-failed-still p code = (refl, λ e. tt)
+failed-still p code = (refl, λ e. tt, tt)
 
 pub nothing-uses : (scopes : Scopes) (p : Spot) (rest : List Spot) (o : Option Left) → Uses scopes rest o → Uses scopes (p ∷ rest) (nothing_then o)
 nothing-uses scopes p rest None u = tt

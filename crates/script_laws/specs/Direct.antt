@@ -86,6 +86,7 @@ standing_of (Item.Switched targets) = Standing.Done
 standing_of (Item.Triggered automations skip) = Standing.Done
 standing_of (Item.Started scripts fields waits) = Standing.Done
 standing_of (Item.Halted scripts) = Standing.Done
+standing_of (Item.Helped changes) = Standing.Done
 
 abbrev pub does : Item → Scopes → List Spot → Option Left
 does item scopes rest = leaves (item ∷ []) (standing_of item) scopes rest

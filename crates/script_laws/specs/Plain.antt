@@ -1,4 +1,5 @@
--- What a script means where no script is configured: each call is one of the services of automations or is written, and none waits.
+-- What a script means where no script is configured: each call is one of the services of helpers or of automations, or is written, and none
+-- waits.
 use Rattle.std.specs.Prelude.{ℕ, ◌≡◌, List, [], ◌∷◌, map, Option, option_map, ok_or, if◌then◌else◌}
 use Rattle.ha_config.specs.declared.template.Template.{Template}
 use Rattle.ha_config.specs.declared.config.Form.{Form}
@@ -9,7 +10,8 @@ use Rattle.ha_config.specs.Words.{Text, Pairs}
 use Rattle.ha_sight.specs.declared.item.Item.{Item}
 use Rattle.ha_sight.specs.declared.waiting.WaitEnd.{WaitEnd}
 use Rattle.ha_sight.specs.Sight.{Sight}
-use Rattle.ha_sight.specs.Calls.{checked_map, checked_then, fields_of, item_of, item_or_failed, service_of, targets_of, template_fault}
+use Rattle.ha_sight.specs.Calls.{checked_then, done_by, fields_of, item_of, item_or_failed, service_of, targets_of, template_fault}
+use Rattle.ha_sight.specs.Inner.{inner_of_helpers}
 use Rattle.ha_sight.specs.Scripts.{Outcome, Spot, flat}
 use Rattle.script_laws.specs.Direct.{Effect, action_effect, all_used, does, in_turn, kind_effect, outcome_of}
 
@@ -18,7 +20,7 @@ abbrev pub plain_item : Sight → Pairs → Template → List Template → List 
 plain_item s env service target fields = item_or_failed s env (
     checked_then
     (λ name. checked_then
-    (λ es. checked_map (item_of s.automations name es) (ok_or (fields_of s env fields) template_fault))
+    (λ es. checked_then (λ ps. done_by (inner_of_helpers s name es ps) (item_of s.automations name es ps)) (ok_or (fields_of s env fields) template_fault))
     (targets_of s env target))
     (service_of s env service))
 

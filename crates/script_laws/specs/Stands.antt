@@ -1,9 +1,10 @@
--- How each item of a script stands among its places: what it has to do with scripts that are called.
+-- How each item of a script stands among its places: what it has to do with scripts that are called, and what it changes of helpers.
 use Rattle.std.specs.Prelude.{ℕ, ◌≡◌, Bool, true, List, [], ◌∷◌, Option, Some, None, find, bytes_eq}
 use Rattle.ha_sight.specs.declared.item.Item.{Item}
 use Rattle.ha_sight.specs.declared.waiting.WaitEnd.{WaitEnd}
-use Rattle.ha_sight.specs.Items.{awaits_end}
+use Rattle.ha_sight.specs.Items.{awaits_end, changes_by}
 use Rattle.ha_sight.specs.Scripts.{Branch, Scopes, Spot, call_ask}
+use Rattle.script_laws.specs.Made.{AreMade}
 
 -- by what place s says, the run has ended that was started at place p
 abbrev pub HasEnded : ℕ → Spot → Type 0
@@ -22,6 +23,7 @@ GoesOn unended p (Some s) = HasEnded p s
 abbrev pub NamesNoScript : Item → Type 0
 NamesNoScript (Item.Started scripts fields waits) = ⊥
 NamesNoScript (Item.Halted scripts) = ⊥
+NamesNoScript (Item.Helped changes) = Unit {0}
 NamesNoScript Item.Nothing = Unit {0}
 NamesNoScript (Item.Call service target fields) = Unit {0}
 NamesNoScript (Item.Fired kind pairs) = Unit {0}
@@ -35,6 +37,8 @@ pub record Stands (unended : Bool) (p : Spot) (item : Item) (behind : List Spot)
   pub waits : awaits_end item ≡ true → GoesOn unended p.place (next_in p.branch behind)
   -- where the place sees no script, the item names none
   pub names : p.sight.scripts ≡ [] → NamesNoScript item
+  -- each change of it is one that a service makes of a helper that the place sees
+  pub helps : AreMade p.sight (changes_by item)
 
 abbrev pub EachStands : Bool → List Spot → List Item → Type 0
 EachStands unended [] items = Unit {0}

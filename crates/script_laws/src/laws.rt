@@ -31,15 +31,16 @@ pub fn each_place_has_an_item()
 
 /// Behind a call that waits, its branch goes on at a place before which the run that it started has
 /// ended, and only an open script may have no such place yet. And where a place sees no script, its
-/// item neither starts nor ends runs of scripts.
+/// item neither starts nor ends runs of scripts; and each change of an item is one that a service
+/// makes of a helper that its place sees, by what is seen there.
 pub fn callers_wait_for_their_runs()
     ensures { (actions : List Action) (env : Pairs) (ps : List Spot) (o : Outcome)
         → whole actions env ps ≡ Some o → EachStands (is_open o.status) ps o.items }
 {}
 
 /// On places that see no script, whatever is told there of runs that were called, a script means what
-/// it means where there are no scripts: each call is one of the services of automations or is
-/// written, and none waits.
+/// it means where there are no scripts: each call is one of the services of helpers or of automations,
+/// or is written, and none waits.
 pub fn scripts_without_calls()
     ensures { (told : ℕ → ℕ → Option WaitEnd) (actions : List Action) (env : Pairs) (ps : List Spot) → SeeNone ps
         → whole actions env (map (told_of told) ps) ≡ plain_script actions env ps }

@@ -112,6 +112,7 @@ called-some (Item.Switched rows) o h = gives-some (Item.Switched rows) o h
 called-some (Item.Triggered all skip) o h = gives-some (Item.Triggered all skip) o h
 called-some (Item.Started scripts fields waits) o h = gives-some (Item.Started scripts fields waits) o h
 called-some (Item.Halted scripts) o h = gives-some (Item.Halted scripts) o h
+called-some (Item.Helped changes) o h = gives-some (Item.Helped changes) o h
 
 behind-some : (item : Item) (p : ℕ) (next : Next) (scopes : Scopes) (b : Branch) → is_some (next scopes []) ≡ true → is_some (behind_call item p next scopes b []) ≡ true
 behind-some item p next scopes b h = by (awaits_end item)

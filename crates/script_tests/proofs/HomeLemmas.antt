@@ -8,7 +8,7 @@ use Rattle.ha_config.specs.declared.config.Automation.{Automation}
 use Rattle.ha_config.specs.declared.config.Config.{Config}
 use Rattle.ha_config.specs.declared.config.Script.{Script}
 use Rattle.ha_config.specs.ValueFacts.{all_distinct}
-use Rattle.ha_config.specs.Sound.{IsSoundConfig, are_sound_actions, are_sound_conditions, are_sound_triggers, is_sound_automation, is_sound_script, are_sound_automations, are_sound_scripts}
+use Rattle.ha_config.specs.Sound.{IsSoundConfig, are_sound_actions, are_sound_conditions, are_sound_triggers, is_sound_automation, is_sound_script, are_sound_automations, are_sound_helpers, are_sound_scripts}
 use Rattle.script_step.specs.Few.{has_few_lists}
 use Rattle.script_step.proofs.SoundFew.{sound-few}
 
@@ -37,7 +37,7 @@ sound-first config a h e =
     ap if_sound e
     ∙ first-sound config.automations
     (right (nat_le (length config.automations) 1_024 && all_distinct (map (λ (b : Automation). b.name) config.automations)) (list_all is_sound_automation config.automations)
-    (left (are_sound_automations config.automations) (are_sound_scripts config.scripts) h))
+    (left (are_sound_automations config.automations) (are_sound_scripts config.scripts && are_sound_helpers config.helpers) h))
 
 -- ---- scripts
 
@@ -56,4 +56,5 @@ sound-called config s h e =
     ap if_sound_script e
     ∙ first-called config.scripts
     (right (nat_le (length config.scripts) 1_024 && all_distinct (map (λ (x : Script). x.name) config.scripts)) (list_all is_sound_script config.scripts)
-    (right (are_sound_automations config.automations) (are_sound_scripts config.scripts) h))
+    (left (are_sound_scripts config.scripts) (are_sound_helpers config.helpers)
+    (right (are_sound_automations config.automations) (are_sound_scripts config.scripts && are_sound_helpers config.helpers) h)))

@@ -1,5 +1,6 @@
 //! A home of one automation, and what a place in it sees.
-ghost use Rattle.std.specs.Prelude.{IfOk, IfSome};
+ghost use Rattle.std.specs.Prelude.{◌≡◌, [], IfOk, IfSome};
+ghost use Rattle.helper_set.specs.Kept.{kept_in};
 ghost use Rattle.ha_config.specs.Sound.{IsSoundConfig};
 
 use cond_eval::View;
@@ -7,6 +8,7 @@ use conf_auto::read_config;
 use flow_line::read_cmd;
 use ha_clock::{Moment, Zone};
 use ha_config::{Cmd, Config};
+use helper_set::Helpers;
 use script_calls::Seeing;
 use sound_laws::laws::what_is_read_is_sound;
 use state_table::StateTable;
@@ -141,13 +143,15 @@ pub fn view_of<'a>(home: &'a Home, zone: &'a Zone) -> Option<View<'a>> {
     Some(View::make(&home.states, &home.config, zone, at))
 }
 
-/// The same with its scripts, of which there are few too.
-pub fn seeing_of<'a>(home: &'a Home, zone: &'a Zone) -> Option<Seeing<'a>> {
+/// The same with its scripts, of which there are few too, and no helpers.
+pub fn seeing_of<'a>(home: &'a Home, zone: &'a Zone, helpers: &'a Helpers) -> Option<Seeing<'a>>
+    requires { kept_in helpers.now ≡ [] }
+{
     let at = Moment::of_millis(home.millis)?;
     if 4 < home.config.automations.len() || 4 < home.config.scripts.len() {
         return None;
     }
-    let seeing = Seeing::make(&home.states, &home.config, zone, at);
+    let seeing = Seeing::make(&home.states, &home.config, zone, at, helpers);
     // The borrow checker builds its plan only where a place has the type that the view holds.
     let _ = &seeing.view;
     Some(seeing)

@@ -1,6 +1,7 @@
 //! A run of a test takes its steps.
-ghost use Rattle.std.specs.Prelude.{◌≡◌, IfOk, true};
+ghost use Rattle.std.specs.Prelude.{◌≡◌, [], IfOk, true};
 ghost use Rattle.ha_config.specs.Sound.{IsSoundConfig};
+ghost use Rattle.helper_set.specs.Kept.{kept_in};
 ghost use Rattle.script_step.specs.Few.{has_few_lists};
 
 use crate::home::{Home, home_with, seeing_of, tell, utc, view_of};
@@ -11,6 +12,7 @@ use ha_config::{Action, Config};
 use ha_journal::Firing;
 use ha_sight::{Answers, Branch, Ended, Env, Item, Progress, TriggerData, WaitAsk, WaitEnd};
 use ha_value::{Many, Num, Plain, Value, Word};
+use helper_set::Helpers;
 use script_calls::Seeing;
 use script_step::{Frames, Held, Taken};
 use std::alloc::{AllocError, Global};
@@ -246,15 +248,18 @@ fn take(
     good
 }
 
-/// Takes the first step that may be taken in this zone; whether there is one, and it is the one that is said.
+/// Takes the first step that may be taken in this zone, without helpers; whether there is one, and it is the one that is said.
 fn step_in<'a>(
     alloc: Global,
     home: &'a Home,
     zone: &'a Zone,
+    helpers: &'a Helpers,
     run: &mut Run,
     said: &str,
-) -> Result<bool, AllocError> {
-    let Some(seeing) = seeing_of(home, zone) else {
+) -> Result<bool, AllocError>
+    requires { kept_in helpers.now ≡ [] }
+{
+    let Some(seeing) = seeing_of(home, zone, helpers) else {
         return Ok(false);
     };
     // The borrow checker builds its plan only where a place has the type that the view holds.
@@ -269,7 +274,8 @@ fn step_in<'a>(
 /// The same in the zone of the tests.
 fn step(alloc: Global, home: &Home, run: &mut Run, said: &str) -> Result<bool, AllocError> {
     let zone = utc(alloc)?;
-    step_in(alloc, home, &zone, run, said)
+    let helpers = Helpers::none(alloc);
+    step_in(alloc, home, &zone, &helpers, run, said)
 }
 
 /// Whether a step may be taken.

@@ -89,6 +89,7 @@ fn is_item(alloc: Global, item: &Item, said: &str) -> Result<bool, AllocError> {
             Ok(scripts.len() == 1 && said == wanted)
         }
         Item::Halted(scripts) => Ok(scripts.len() == 1 && said == "halts"),
+        Item::Helped(_) => Ok(false),
     }
 }
 

@@ -1,5 +1,6 @@
 pub mod FreeNames
 pub mod SlugNames
 pub mod SoundConfigs
+pub mod SoundHelpers
 pub mod SoundParts
 pub mod SoundScripts

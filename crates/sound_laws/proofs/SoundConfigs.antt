@@ -13,7 +13,7 @@ use Rattle.ha_config.specs.declared.config.Config.{Config}
 use Rattle.ha_config.specs.declared.config.Script.{Script}
 use Rattle.ha_config.specs.declared.config.Trigger.{Trigger}
 use Rattle.ha_config.specs.ValueFacts.{all_distinct}
-use Rattle.ha_config.specs.Sound.{IsSoundConfig, are_sound_automations, are_sound_scripts, is_sound_config, are_sound_actions, are_sound_conditions, are_sound_triggers, is_sound_automation}
+use Rattle.ha_config.specs.Sound.{IsSoundConfig, are_sound_automations, are_sound_helpers, are_sound_scripts, is_sound_config, are_sound_actions, are_sound_conditions, are_sound_triggers, is_sound_automation}
 use Rattle.yaml_scan.specs.declared.fault.Code.TheVariants as code
 use Rattle.yaml_tree.specs.declared.node.Node.{Node}
 use Rattle.yaml_tree.specs.declared.node.NodeKind.TheOpen.{NodeKind-F}
@@ -21,7 +21,7 @@ use Rattle.yaml_tree.specs.Readers.{Shape, line_of, shape_of, is_null_word}
 use Rattle.conf_field.specs.declared.key.Key.TheVariants as key
 use Rattle.conf_field.specs.Holds.{Holds, Each, IfThere}
 use Rattle.conf_field.specs.Readings.{Read, bad, fault, unless}
-use Rattle.conf_field.specs.Fields.{Pair, field, get, keys, need, needed, optional, row}
+use Rattle.conf_field.specs.Fields.{Pair, field, get, keys, need, needed, optional}
 use Rattle.conf_field.specs.Kinds.{flag, text}
 use Rattle.conf_field.specs.Sizes.{IsSoundTree}
 use Rattle.conf_laws.proofs.Joined.{one_more, pair}
@@ -33,9 +33,12 @@ use Rattle.conf_laws.proofs.Distinct.{text_distinct}
 use Rattle.conf_auto.specs.Automations.{Settings, action_row, actions_in, asked_name, automation, automation_by, automation_map, build, condition_row, conditions_in, made_automation, mode, most_runs, or_empty, rows, script_of, trigger_row, triggers_in}
 use Rattle.conf_auto.specs.Names.{add, free_name, free_number, is_taken, joined, renamed, with_number}
 use Rattle.conf_auto.specs.Read.{IsReadOf}
-use Rattle.conf_auto.specs.Config.{at_most, automations, automations_by, automations_from, config_with, listed, made_list, made_root, of_root, root_by}
+use Rattle.conf_auto.specs.Config.{at_most, automations, automations_by, automations_from, config_with, listed, made_list, made_root, of_root, root_by, root_rows}
+use Rattle.conf_auto.specs.HelperMaps.{helpers_in}
+use Rattle.ha_config.specs.declared.helper.Helper.{Helper}
 use Rattle.conf_auto.specs.Scripts.{scripts}
 use Rattle.sound_laws.proofs.SoundParts.{default_runs, in_most, reads_runs, reads_script, script_sound}
+use Rattle.sound_laws.proofs.SoundHelpers.{SoundHelpers, helpers_sound}
 use Rattle.sound_laws.proofs.SoundScripts.{SoundScripts, reads_scripts}
 use Rattle.sound_laws.proofs.SlugNames.{numbered_name, slug_name}
 use Rattle.sound_laws.proofs.FreeNames.{distinct_more, name_free, number_small}
@@ -191,12 +194,13 @@ autos_sound all s =
     (pair (nat_le (length all) 1_024) (all_distinct (map (λ (a : Automation). a.name) all)) (le-leb (length all) 1_024 s.few) s.distinct) s.each
 
 config_sound : (all : List Automation) → SoundAll all → IsSoundConfig (config_with all)
-config_sound all s = pair (are_sound_automations all) (are_sound_scripts []) (autos_sound all s) refl
+config_sound all s = pair (are_sound_automations all) (are_sound_scripts [] && are_sound_helpers []) (autos_sound all s) refl
 
--- with scripts, if the key is there
-given_sound : (all : List Automation) (o : Option (List Script)) → SoundAll all → IfThere SoundScripts o → is_sound_config (record { automations = all; scripts = or_empty o }) ≡ true
-given_sound all (Some ss) s h = pair (are_sound_automations all) (are_sound_scripts ss) (autos_sound all s) h
-given_sound all None s h = pair (are_sound_automations all) (are_sound_scripts []) (autos_sound all s) refl
+-- with scripts, if the key is there, and helpers
+given_sound : (all : List Automation) (o : Option (List Script)) (hs : List Helper) → SoundAll all → IfThere SoundScripts o → SoundHelpers hs
+    → is_sound_config (record { automations = all; scripts = or_empty o; helpers = hs }) ≡ true
+given_sound all (Some ss) hs s h k = pair (are_sound_automations all) (are_sound_scripts ss && are_sound_helpers hs) (autos_sound all s) (pair (are_sound_scripts ss) (are_sound_helpers hs) h k)
+given_sound all None hs s h k = pair (are_sound_automations all) (are_sound_scripts [] && are_sound_helpers hs) (autos_sound all s) (pair (are_sound_scripts []) (are_sound_helpers hs) refl k)
 
 root_sound : (line : ℕ) (shape : Shape) → IsSoundShape shape → Holds IsSoundConfig (root_by line shape)
 root_sound line (NodeKind-F.Scalar t plain) s =
@@ -205,10 +209,11 @@ root_sound line (NodeKind-F.Scalar t plain) s =
 root_sound line (NodeKind-F.List items) s = made_of SoundAll IsSoundConfig config_with (listed items) config_sound (list_sound items s.few s.each)
 root_sound line (NodeKind-F.Map pairs) s =
     finish
-    (with (unknown (keys (row key.Automation ∷ row key.Script ∷ []) pairs))
+    (with (unknown (keys root_rows pairs))
     (with (known SoundAll (need key.Automation line pairs automations) (of_need SoundAll automations reads_value key.Automation line pairs s))
-    (known (IfThere SoundScripts) (get key.Script pairs scripts) (of_get SoundScripts scripts reads_scripts key.Script pairs s))))
-    IsSoundConfig made_root (λ x h. given_sound x.1.0 x.1.1 h.1.0 h.1.1)
+    (with (known (IfThere SoundScripts) (get key.Script pairs scripts) (of_get SoundScripts scripts reads_scripts key.Script pairs s))
+    (known SoundHelpers (helpers_in pairs) (helpers_sound pairs s)))))
+    IsSoundConfig made_root (λ x h. given_sound x.1.0 x.1.1.0 x.1.1.1 h.1.0 h.1.1.0 h.1.1.1)
 
 of_tree : (root : Node) → IsSoundTree root → Holds IsSoundConfig (of_root (Ok root))
 of_tree root s = root_sound (line_of root) (shape_of root) (sound_inside root s)

@@ -9,6 +9,7 @@ use Rattle.ha_sight.specs.declared.state.StateObject.{StateObject}
 use Rattle.ha_config.specs.Words.{Text}
 use Rattle.ha_config.specs.Units.{numbered_from, scripts_of}
 use Rattle.ha_journal.specs.Journal.{Journal, automations, now, scripts, zone_of}
+use Rattle.ha_sight.specs.Known.{Known}
 use Rattle.ha_journal.specs.Switches.{is_on}
 use Rattle.ha_journal.specs.States.{of_automation, states, switches_of}
 use Rattle.ha_journal.specs.Moves.{sight}
@@ -34,11 +35,11 @@ pub switches-seen : (t : StateTable) (j : Journal) → StandsFor t j → EachAt 
     → map {B = Text × Bool} (λ (a : Automation). (a.name, is_shown_on t a.name)) (automations j) ≡ switches_of j
 switches-seen t j stands each = each-switch (is_shown_on t) (is_on j) 0 (automations j) (each-weaker _ _ (λ k y h. shown t j stands k y.name h) 0 (automations j) each)
 
-all-taken : {X : Type 0} (xs : List X) → take (length xs) xs ≡ xs
+pub all-taken : {X : Type 0} (xs : List X) → take (length xs) xs ≡ xs
 all-taken [] = refl
 all-taken (x ∷ xs) = ap (λ ys. x ∷ ys) (all-taken xs)
 
-pub parts_see : (t : StateTable) (config : Config) (zone : Text) (moment : ℕ) (j : Journal) → IsViewOf t config zone moment j → sight_of t config zone moment ≡ record (sight j (length j)) { scripts = [] }
+pub parts_see : (t : StateTable) (config : Config) (zone : Text) (moment : ℕ) (j : Journal) → IsViewOf t config zone moment j → sight_of t config zone moment ≡ record (sight j (length j)) { scripts = []; helpers = [] }
 parts_see t config zone moment j is =
     (λ i. record {
       states = fun_ext is.states_are i;
@@ -46,13 +47,14 @@ parts_see t config zone moment j is =
       zone = is.zone_is i;
       automations = map {B = Text × Bool} (λ (a : Automation). (a.name, is_shown_on t a.name)) (is.config_is i);
       scripts = [];
+      helpers = [];
     })
-    ∙ (λ i. record { states = states j; now = now j; zone = zone_of j; automations = switches-seen t j is.states_are (each-named 0 (automations j) is.names_differ) i; scripts = [] })
-    ∙ (λ i. record { states = states (sym (all-taken j) i); now = now (sym (all-taken j) i); zone = zone_of j; automations = switches_of (sym (all-taken j) i); scripts = [] })
+    ∙ (λ i. record { states = states j; now = now j; zone = zone_of j; automations = switches-seen t j is.states_are (each-named 0 (automations j) is.names_differ) i; scripts = []; helpers = [] })
+    ∙ (λ i. record { states = states (sym (all-taken j) i); now = now (sym (all-taken j) i); zone = zone_of j; automations = switches_of (sym (all-taken j) i); scripts = []; helpers = [] })
 
--- LAW: with the scripts of the configuration they see all of it
-pub scripts_see : (t : StateTable) (config : Config) (zone : Text) (moment : ℕ) (j : Journal) → IsViewOf t config zone moment j → config.scripts ≡ scripts j
-    → record (sight_of t config zone moment) { scripts = scripts_of config } ≡ sight j (length j)
-scripts_see t config zone moment j is same =
-    (λ i. record (parts_see t config zone moment j is i) { scripts = scripts_of config })
-    ∙ (λ i. record (sight j (length j)) { scripts = numbered_from (length (is.config_is i)) (same i) })
+-- LAW: with the scripts of the configuration, and what is known of the helpers, they see all of it
+pub scripts_see : (t : StateTable) (config : Config) (zone : Text) (moment : ℕ) (j : Journal) (all : List Known) → IsViewOf t config zone moment j → config.scripts ≡ scripts j → all ≡ (sight j (length j)).helpers
+    → record (sight_of t config zone moment) { scripts = scripts_of config; helpers = all } ≡ sight j (length j)
+scripts_see t config zone moment j all is same these =
+    (λ i. record (parts_see t config zone moment j is i) { scripts = scripts_of config; helpers = all })
+    ∙ (λ i. record (sight j (length j)) { scripts = numbered_from (length (is.config_is i)) (same i); helpers = these i })

@@ -6,10 +6,12 @@ use Rattle.ha_config.specs.declared.command.Cmd.{Cmd}
 use Rattle.ha_journal.specs.declared.entry.Entry.TheVariants.{Line}
 use Rattle.ha_sight.specs.declared.state.StateObject.{StateObject}
 use Rattle.ha_config.specs.Words.{Text, Pairs, same, same_entity}
-use Rattle.ha_journal.specs.Journal.{Journal, automations, now, more}
+use Rattle.std.specs.Option.{option_map_or}
+use Rattle.ha_config.specs.Helpers.{helper_named, is_helper}
+use Rattle.ha_journal.specs.Journal.{Journal, automations, helpers, now, more}
 use Rattle.ha_sight.specs.StateStep.{next_object}
 use Rattle.ha_config.specs.Names.{automation_named}
-use Rattle.ha_journal.specs.States.{of_automation, reported, states}
+use Rattle.ha_journal.specs.States.{of_automation, of_helper, reported, states}
 use Rattle.ha_config.proofs.EqualLemmas.{entity-sound}
 use Rattle.state_table.specs.Anew.{is_automation}
 use Rattle.state_laws.specs.Stands.{sets_anew}
@@ -21,19 +23,19 @@ module _ (old new : Seen) (entity : EntityId) where
   Changes w = (q : EntityId) → new q ≡ (if same_entity entity q then w else old q)
 
   pub stands-report : (text : Text) (attributes : Pairs) (at : ℕ) → Changes (Some (next_object (old entity) text attributes at))
-      → (j : Journal) (k n : ℕ) → ((q : EntityId) → old q ≡ states j q) → is_automation entity ≡ false
+      → (j : Journal) (k n : ℕ) → ((q : EntityId) → old q ≡ states j q) → is_automation entity ≡ false → is_helper (helpers j) entity ≡ false
       → at ≡ now (more j (Line k n (Cmd.Report entity text attributes)))
       → (q : EntityId) → new q ≡ states (more j (Line k n (Cmd.Report entity text attributes))) q
-  stands-report text attributes at c j k n stands other is q = c q ∙ by (same_entity entity q) refl ∙ sym (states-report j q entity k n other text attributes)
+  stands-report text attributes at c j k n stands other free is q = c q ∙ by (same_entity entity q) refl ∙ sym (states-report j q entity k n other free text attributes)
     where
       by : (b : Bool) → same_entity entity q ≡ b → (if b then Some (next_object (old entity) text attributes at) else old q)
           ≡ (if b then Some (next_object (states j q) text attributes (now (more j (Line k n (Cmd.Report entity text attributes))))) else states j q)
       by true h = (λ i. Some (next_object ((ap old (entity-sound entity q h) ∙ stands q) i) text attributes (is i)))
       by false h = stands q
 
-  pub stands-gone : Changes None → (j : Journal) (k n : ℕ) → ((q : EntityId) → old q ≡ states j q) → is_automation entity ≡ false
+  pub stands-gone : Changes None → (j : Journal) (k n : ℕ) → ((q : EntityId) → old q ≡ states j q) → is_automation entity ≡ false → is_helper (helpers j) entity ≡ false
       → (q : EntityId) → new q ≡ states (more j (Line k n (Cmd.Gone entity))) q
-  stands-gone c j k n stands other q = c q ∙ (λ i. if same_entity entity q then None else stands q i) ∙ sym (states-gone j q entity k n other)
+  stands-gone c j k n stands other free q = c q ∙ (λ i. if same_entity entity q then None else stands q i) ∙ sym (states-gone j q entity k n other free)
 
   pub stands-switch : (object : StateObject) → Changes (Some object)
       → (j : Journal) (left : EntityId → Bool) → ((q : EntityId) → left q ≡ false → old q ≡ states j q) → states j entity ≡ Some object
@@ -50,12 +52,12 @@ module _ (old new : Seen) (entity : EntityId) where
       by false h = stands q (kept (left q) (same_entity entity q) out h)
 
 pub stands-clear : (new : Seen) → ((q : EntityId) → new q ≡ None) → (j : Journal) (k n : ℕ)
-    → (q : EntityId) → sets_anew j (Line k n Cmd.Restart) q ≡ false → new q ≡ states (more j (Line k n Cmd.Restart)) q
-stands-clear new empty j k n q out = empty q ∙ sym (states-restart j q k n out)
+    → (q : EntityId) → sets_anew j (Line k n Cmd.Restart) q ≡ false → is_helper (helpers j) q ≡ false → new q ≡ states (more j (Line k n Cmd.Restart)) q
+stands-clear new empty j k n q out free = empty q ∙ sym (states-restart j q k n out free)
 
 pub states-empty : (e : EntityId) → states [] e ≡ None
 states-empty e = by (same e.domain (codes "automation"))
   where
-    by : (b : Bool) → (if b then option_map (of_automation []) (automation_named (automations []) e.object) else reported [] e) ≡ None
+    by : (b : Bool) → (if b then option_map (of_automation []) (automation_named (automations []) e.object) else option_map_or (of_helper []) (helper_named [] e) (reported [] e)) ≡ None
     by true = refl
     by false = refl

@@ -1,15 +1,17 @@
 -- Which journals a table of states stands for, and whose parts a view's are.
-use Rattle.std.specs.Prelude.{◌≡◌, Bool, false, ℕ, not, ◌&&◌, ◌||◌, map, true}
+use Rattle.std.specs.Prelude.{◌≡◌, Bool, false, ℕ, not, ◌&&◌, ◌||◌, is_some, map, true}
 use Rattle.ha_value.specs.declared.value.EntityId.{EntityId}
 use Rattle.ha_config.specs.Words.{Text}
-use Rattle.ha_journal.specs.Journal.{Journal, automations, more, now, zone_of}
+use Rattle.ha_journal.specs.Journal.{Journal, automations, helpers, more, now, zone_of}
 use Rattle.ha_journal.specs.States.{states}
 use Rattle.state_table.specs.Anew.{is_automation}
 use Rattle.state_table.specs.declared.table.StateTable.{StateTable}
 use Rattle.std.specs.Option.{option_map_or}
 use Rattle.ha_journal.specs.declared.entry.Entry.{Entry}
 use Rattle.ha_config.specs.Equal.{same_flag}
-use Rattle.ha_journal.specs.Entries.{opens_segment}
+use Rattle.ha_config.specs.Helpers.{helper_named}
+use Rattle.ha_journal.specs.Entries.{change_of, is_boot, opens_segment}
+use Rattle.ha_journal.specs.Helpers.{finishes}
 use Rattle.ha_journal.specs.Switches.{is_on}
 use Rattle.ha_config.specs.Names.{automation_named}
 use Rattle.ha_config.specs.declared.config.Automation.{Automation}
@@ -24,6 +26,16 @@ turns j x a = opens_segment x || not (same_flag (is_on j a) (is_on (more j x) a)
 -- the id names an automation whose state the entry sets anew
 abbrev pub sets_anew : Journal → Entry → EntityId → Bool
 sets_anew j x e = is_automation e && option_map_or (turns j x) (automation_named (automations (more j x)) e.object) false
+
+-- the id is of a helper to which the entry gives a text: its first one, that of its change, or that of a timer that finishes
+abbrev pub gives_text : Journal → Entry → EntityId → Bool
+gives_text j x e =
+    not (is_automation e)
+    && option_map_or (λ h. is_boot x || is_some (change_of e x) || finishes j x h) (helper_named (helpers (more j x)) e) false
+
+-- the entry sets the state of the entity anew, or gives it a text
+abbrev pub sets : Journal → Entry → EntityId → Bool
+sets j x e = sets_anew j x e || gives_text j x e
 
 -- the table stands for a journal: it has the states after it
 abbrev pub StandsFor : StateTable → Journal → Type 0

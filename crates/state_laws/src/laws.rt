@@ -7,13 +7,16 @@ ghost use Rattle.ha_journal.specs.declared.entry.Entry.TheVariants.{Line};
 ghost use Rattle.ha_config.specs.Words.{Text, Pairs, same_entity};
 ghost use Rattle.ha_journal.specs.Entries.{report_in, gone_in, is_restart};
 ghost use Rattle.ha_config.specs.Units.{scripts_of};
-ghost use Rattle.ha_journal.specs.Journal.{Journal, automations, now, more, scripts};
+ghost use Rattle.ha_config.specs.declared.helper.Helper.{Helper};
+ghost use Rattle.ha_config.specs.Helpers.{helper_named, is_helper};
+ghost use Rattle.ha_journal.specs.Helpers.{known, text_of};
+ghost use Rattle.ha_journal.specs.Journal.{Journal, automations, helpers, now, more, scripts};
 ghost use Rattle.ha_journal.specs.Switches.{is_on};
 ghost use Rattle.ha_journal.specs.States.{states};
 ghost use Rattle.ha_config.specs.Names.{automation_named};
 ghost use Rattle.ha_sight.specs.StateStep.{next_object};
 ghost use Rattle.state_table.specs.Anew.{is_automation, switch_object};
-ghost use Rattle.state_laws.specs.Stands.{sets_anew};
+ghost use Rattle.state_laws.specs.Stands.{gives_text, sets, sets_anew};
 ghost use Rattle.state_table.specs.declared.table.StateTable.{StateTable};
 ghost use Rattle.state_laws.specs.Stands.{StandsBut, StandsFor};
 ghost use Rattle.std.specs.Prelude.{◌≡◌, length};
@@ -24,37 +27,42 @@ ghost use Rattle.state_laws.specs.Stands.{IsViewOf};
 
 /// A table that stands for a journal stands, after an entry that is no Report, Gone or Restart,
 /// for the journal with that entry but for the automations that the entry sets anew; and where
-/// none is left, it stands for it.
+/// none is left, it stands for it. Of helpers, those to which the entry gives a text are left too.
 pub fn switches_are_left()
     ensures left { (t : StateTable) (j : Journal) (x : Entry) → report_in x ≡ None → gone_in x ≡ None → is_restart x ≡ false
-        → StandsFor t j → StandsBut (sets_anew j x) t (more j x) }
+        → StandsFor t j → StandsBut (sets j x) t (more j x) }
     ensures none { (t : StateTable) (j : Journal) (left : EntityId → Bool) → ((e : EntityId) → left e ≡ false) → StandsBut left t j → StandsFor t j }
 {}
 
 /// The state of an entity after one more entry: of an automation that the entry sets anew, the
-/// state of its switch since Now; of what a Report or Gone of a reported entity, or a Restart, does not
-/// touch, the state before.
+/// state of its switch since Now; of a helper, what a report of its text would make of the state before; of
+/// what a Report or Gone of a reported entity, or a Restart, does not touch, the state before. A helper keeps
+/// its state at a Restart, and no line reports it.
 pub fn states_of_one_more()
     ensures anew { (j : Journal) (x : Entry) (e : EntityId) → sets_anew j x e ≡ true
         → MatchOption (automation_named (automations (more j x)) e.object) ⊥
         (λ a. states (more j x) e ≡ Some (switch_object (is_on (more j x) a) (now (more j x)))) }
-    ensures report { (j : Journal) (e entity : EntityId) (k n : ℕ) (text : Text) (attributes : Pairs) → is_automation entity ≡ false
+    ensures report { (j : Journal) (e entity : EntityId) (k n : ℕ) (text : Text) (attributes : Pairs) → is_automation entity ≡ false → is_helper (helpers j) entity ≡ false
         → states (more j (Line k n (Cmd.Report entity text attributes))) e
         ≡ (if same_entity entity e
         then Some (next_object (states j e) text attributes (now (more j (Line k n (Cmd.Report entity text attributes)))))
         else states j e) }
-    ensures gone { (j : Journal) (e entity : EntityId) (k n : ℕ) → is_automation entity ≡ false
+    ensures gone { (j : Journal) (e entity : EntityId) (k n : ℕ) → is_automation entity ≡ false → is_helper (helpers j) entity ≡ false
         → states (more j (Line k n (Cmd.Gone entity))) e ≡ (if same_entity entity e then None else states j e) }
-    ensures restart { (j : Journal) (e : EntityId) (k n : ℕ) → sets_anew j (Line k n Cmd.Restart) e ≡ false
+    ensures restart { (j : Journal) (e : EntityId) (k n : ℕ) → sets_anew j (Line k n Cmd.Restart) e ≡ false → is_helper (helpers j) e ≡ false
         → states (more j (Line k n Cmd.Restart)) e ≡ None }
+    ensures kept { (j : Journal) (e : EntityId) (k n : ℕ) (h : Helper) → is_automation e ≡ false → helper_named (helpers j) e ≡ Some h
+        → states (more j (Line k n Cmd.Restart)) e ≡ states j e }
+    ensures helper { (j : Journal) (e : EntityId) (x : Entry) (h : Helper) → is_automation e ≡ false → helper_named (helpers (more j x)) e ≡ Some h
+        → states (more j x) e ≡ Some (next_object (states j e) (text_of (more j x) h) [] (now (more j x))) }
     ensures other { (j : Journal) (e : EntityId) (x : Entry) → report_in x ≡ None → gone_in x ≡ None → is_restart x ≡ false
-        → sets_anew j x e ≡ false → states (more j x) e ≡ states j e }
+        → sets_anew j x e ≡ false → gives_text j x e ≡ false → states (more j x) e ≡ states j e }
 {}
 
-/// A view whose parts are those of a journal sees what the journal's next entry sees, but for its scripts; and all of it with those of its
-/// configuration.
+/// A view whose parts are those of a journal sees what the journal's next entry sees, but for its scripts and helpers; and all of it with
+/// the scripts of its configuration, and what is known of the helpers.
 pub fn views_see_the_journal()
-    ensures parts { (v : View) (j : Journal) → IsViewOf v.states.now v.config.now v.zone.now v.at j → seen v ≡ record (sight j (length j)) { scripts = [] } }
+    ensures parts { (v : View) (j : Journal) → IsViewOf v.states.now v.config.now v.zone.now v.at j → seen v ≡ record (sight j (length j)) { scripts = []; helpers = [] } }
     ensures whole { (v : View) (j : Journal) → IsViewOf v.states.now v.config.now v.zone.now v.at j → v.config.now.scripts ≡ scripts j
-        → record (seen v) { scripts = scripts_of v.config.now } ≡ sight j (length j) }
+        → record (seen v) { scripts = scripts_of v.config.now; helpers = known j } ≡ sight j (length j) }
 {}

@@ -148,11 +148,8 @@ fn update_over(
     ensures ok { OnOk result (object.new ≡ next_object_lem (Some object.old) text.now attributes.now now) }
     ensures err { OnErr result (object.new ≡ object.old) }
 {
-    let before = object.copy(alloc)?;
-    match update(alloc, object, text, attributes, now) {
-        Ok(_) => Ok(Some(before)),
-        Err(error) => Err(error),
-    }
+    let made = next_object(alloc, Some(object), text, attributes, now)?;
+    Ok(Some(std::mem::replace(object, made)))
 }
 
 /// A report of the entity of this name; the answer is the state that it had.

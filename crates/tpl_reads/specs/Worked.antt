@@ -119,4 +119,5 @@ seen_with t = record {
   zone = codes "UTC";
   automations = [];
   scripts = [];
+  helpers = [];
 }

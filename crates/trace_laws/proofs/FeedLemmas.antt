@@ -21,7 +21,8 @@ use Rattle.ha_sight.specs.declared.item.Item.{Item}
 use Rattle.ha_config.specs.Words.{Pairs, Text}
 use Rattle.ha_config.specs.Names.{name_in}
 use Rattle.ha_config.specs.ValueText.{comma_joined, escaped_byte, flag_text, list_text, map_text, pair_text, print_pairs, print_step, print_value, quoted}
-use Rattle.ha_sight.specs.ItemText.{call_pairs, failure_code, item_text, switched_text, script_name, script_text}
+use Rattle.ha_sight.specs.declared.helped.HelperChange.{HelperChange}
+use Rattle.ha_sight.specs.ItemText.{call_pairs, change_text, event_or_null, failure_code, item_text, span_or_null, switched_text, script_name, script_text}
 use Rattle.ha_config.specs.CommandText.{cmd_text, id_text, line_code, one_key}
 use Rattle.ha_config.specs.CheckText.{as_line}
 use Rattle.ha_journal.specs.EntryText.{boot_pairs, end_line, trace_line}
@@ -242,6 +243,19 @@ one_line_key key shown h = map_line ((key, shown) ∷ []) (h, tt)
 scripts_line : (all : List Text) (scripts : List ℕ) → IsLine (list_text (map (script_text all) scripts))
 scripts_line all scripts = list_line (map (script_text all) scripts) (all_lines (script_text all) scripts (λ a. quoted_line (script_name (name_in all a))))
 
+change_line : (c : HelperChange) → IsLine (change_text c)
+change_line c =
+    map_line ((codes "entity", id_text c.entity) ∷ (codes "text", quoted c.text) ∷ (codes "span", span_or_null c.span) ∷ (codes "event", event_or_null c.event) ∷ [])
+    (quoted_line (entity_text c.entity), (quoted_line c.text, (span_line c.span, (event_line c.event, tt))))
+  where
+    span_line : (o : Option ℕ) → IsLine (span_or_null o)
+    span_line None = refl
+    span_line (Some n) = decimal_line n
+
+    event_line : (o : Option Text) → IsLine (event_or_null o)
+    event_line None = refl
+    event_line (Some t) = quoted_line t
+
 item_line : (all : List Text) (item : Item) → IsLine (item_text all item)
 item_line all Item.Nothing = refl
 item_line all (Item.Call service target fields) = one_line_key (codes "call") (map_text (call_pairs service target fields))
@@ -259,6 +273,7 @@ item_line all (Item.Started scripts fields waits) =
     let shown : List (Text × Text) = (codes "scripts", list_text (map (script_text all) scripts)) ∷ (codes "data", print_pairs fields) ∷ (codes "waits", flag_text waits) ∷ [] in
     one_line_key (codes "started") (map_text shown) (map_line shown (scripts_line all scripts, (pairs_line fields, (flag_line waits, tt))))
 item_line all (Item.Halted scripts) = one_line_key (codes "halted") (list_text (map (script_text all) scripts)) (scripts_line all scripts)
+item_line all (Item.Helped changes) = one_line_key (codes "helped") (list_text (map change_text changes)) (list_line (map change_text changes) (all_lines change_text changes change_line))
 item_line all (Item.Failed code) = one_line_key (codes "failed") (quoted (failure_code code)) (quoted_line (failure_code code))
 
 -- ---- lines

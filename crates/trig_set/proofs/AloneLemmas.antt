@@ -12,6 +12,8 @@ use Rattle.ha_sight.specs.Sight.{Sight}
 use Rattle.ha_journal.specs.States.{states}
 use Rattle.ha_config.specs.Words.{Text, Pairs, same_entity}
 use Rattle.ha_config.proofs.EqualLemmas.{entity-sound}
+use Rattle.ha_journal.specs.Moves.{latest_number}
+use Rattle.ha_journal.proofs.EventLaws.{helps-none, number-own}
 use Rattle.ha_journal.proofs.HeldLaws.{latest-more}
 use Rattle.ha_past.specs.Firings.{firings, firings_of}
 use Rattle.ha_past.specs.Looks.{or_else}
@@ -35,7 +37,7 @@ none-fire k p [] f = refl
 none-fire k p (a ∷ rest) f = (λ i. f zero i ++ flat_map (firings_of k p) (map owner_of rest)) ∙ none-fire k p rest (λ n. f (suc n))
 
 module _ (s : TrigSet) (e : EntityId) (text : Text) (attributes : Pairs) (left : Leaves s e) (j : Journal) (k n place : ℕ) (old : Option StateObject) (seen : Sight) (stands : StandsFor s j)
-    (next : IsNext j place (Line k n (Cmd.Report e text attributes)) ((e, old) ∷ []) seen (attached s)) where
+    (next : IsNext j place (Line k n (Cmd.Report e text attributes)) ((e, old) ∷ []) [] seen (attached s)) where
   abbrev x : Entry
   x = Line k n (Cmd.Report e text attributes)
 
@@ -55,6 +57,7 @@ module _ (s : TrigSet) (e : EntityId) (text : Text) (attributes : Pairs) (left :
     journal = next.journal;
     entries = left.entries a.owner;
     events = tt;
+    timed = λ k. subst (λ vs. MatchOption (slice_get vs k) (Unit {0}) (λ v. knows s.index (Subject.Event v.kind) a.owner ≡ false)) (sym (helps-none j x refl refl)) tt;
     entities = λ f has lt. others a.owner f has (next.listed (any-at place s.owners m a at (ap (nat_lt a.since) next.at ∙ lt)));
     times = λ moment. absurd (never false moment refl);
     later = λ moment. absurd (never false moment refl);
@@ -89,5 +92,6 @@ module _ (s : TrigSet) (e : EntityId) (text : Text) (attributes : Pairs) (left :
     numbers = λ f name.
         numbers f name
         ∙ (λ i. or_else (if same_entity e f then number_watched name text attributes else None) (stands.numbers f name i))
+        ∙ (λ i. or_else (sym (number-own f name x refl) i) (latest_number f name j))
         ∙ sym (latest-more j x f name);
   }

@@ -1,6 +1,6 @@
 -- What an entry doesn't concern keeps what it keeps, and fires nothing.
-use Rattle.std.proofs.Common.{◌≡◌, ℕ, zero, suc, ◌<◌, List, [], ◌∷◌, length, map, Bool, true, false, refl, sym, ap, subst, ◌∙◌}
-use Rattle.std.specs.Prelude.{Option, Some, None, MatchOption, filter_map, is_some, nat_lt, option_and_then, option_map, slice_get, ◌&&◌, if◌then◌else◌}
+use Rattle.std.proofs.Common.{◌≡◌, ℕ, zero, suc, ◌<◌, List, [], ◌∷◌, ◌++◌, length, map, Bool, true, false, refl, sym, ap, subst, ◌∙◌}
+use Rattle.std.specs.Prelude.{Option, Some, None, MatchOption, flat_map, is_some, nat_lt, option_map, slice_get, ◌&&◌, if◌then◌else◌}
 use Rattle.std.specs.List.{cons_option, list_all}
 use Rattle.std.specs.Option.{option_map_or}
 use Rattle.timer_queue.specs.Timers.{Timer, due_of}
@@ -10,30 +10,34 @@ use Rattle.ha_value.specs.declared.value.Value.{Value}
 use Rattle.ha_config.specs.declared.config.Trigger.{Trigger}
 use Rattle.ha_config.specs.declared.config.TriggerRule.{TriggerRule}
 use Rattle.ha_journal.specs.declared.entry.Entry.{Entry}
-use Rattle.ha_sight.specs.Conditions.{number_watched}
-use Rattle.ha_journal.specs.Entries.{Reported, event_in, is_moment, report_in, opens_segment}
+use Rattle.ha_journal.specs.Entries.{event_in, is_moment, opens_segment}
 use Rattle.ha_config.specs.Equal.{same_flag}
+use Rattle.ha_journal.specs.declared.event.BusEvent.{BusEvent}
+use Rattle.ha_journal.specs.Helpers.{helper_events}
 use Rattle.ha_journal.specs.Journal.{Journal, HasEntry, now, more}
 use Rattle.ha_config.specs.Numbers.{in_bounds}
 use Rattle.ha_config.specs.Sound.{may_hold}
 use Rattle.ha_sight.specs.Sight.{Sight}
 use Rattle.ha_journal.specs.States.{states}
-use Rattle.ha_journal.specs.Moves.{latest_number, report_number, sight, looks}
+use Rattle.ha_journal.specs.Moves.{latest_number, sight, looks}
 use Rattle.ha_sight.specs.Rules.{pair_holds, passed, given, is_template}
 use Rattle.ha_config.specs.Words.{Text, Pairs, one_of, same_entity}
 use Rattle.ha_config.proofs.EqualLemmas.{same-refl}
+use Rattle.ha_journal.proofs.EventLaws.{nobodys-named}
 use Rattle.ha_journal.proofs.HeldLaws.{latest-more}
-use Rattle.ha_past.specs.Firings.{firings_of}
+use Rattle.ha_past.specs.Firings.{Owner, firings_of}
 use Rattle.ha_past.specs.Looks.{moves_with, or_else}
 use Rattle.ha_journal.specs.Holds.{watches}
 use Rattle.event_bus.specs.Subjects.{Subject, concerns}
 use Rattle.trig_set.specs.declared.spot.Spot.{Spot}
 use Rattle.trig_set.specs.Kept.{All, AreTimed, AreWell, Keeps, KeepsAt, Moved, MovedAt, Settles, SpotsStand, cleared, firing_in, holding, holds_well, is_true, ripened, ripened_if}
 use Rattle.trig_set.specs.Next.{reports}
+use Rattle.trig_set.specs.Timed.{event_seen, firings_in, timed_in, timed_of}
 use Rattle.trig_set.proofs.KeptLemmas.{step-moved}
-use Rattle.trig_set.proofs.MovedLemmas.{moves-by, moves-not, unlisted-moves, unlisted-number, unlisted-stays}
+use Rattle.trig_set.proofs.MovedLemmas.{moves-by, moves-not, own-skipped, unlisted-moves, unlisted-number, unlisted-stays, unreported}
 use Rattle.trig_set.proofs.NoteLemmas.{spots-give, spots-stand}
 use Rattle.trig_set.proofs.RipeLemmas.{none-ripens}
+use Rattle.trig_set.proofs.TimedLemmas.{AreUnnamed, others-off, timed-off}
 
 pub never : (b : Bool) → b ≡ true → b ≡ false → ⊥
 never b h k = (let bad : ◌≡◌ {A = Bool} true false = sym h ∙ k in cc)
@@ -45,19 +49,12 @@ flag-refl : (b : Bool) → same_flag b b ≡ true
 flag-refl true = refl
 flag-refl false = refl
 
--- the entry gives no number of an entity that it doesn't report
-unreported : (e : EntityId) (name : Option Text) (x : Entry) → reports e x ≡ false → report_number e name x ≡ None
-unreported e name x = by (report_in x)
-  where
-    by : (o : Option Reported) → option_map_or (λ r. same_entity r.entity e) o false ≡ false → option_and_then (λ r. if same_entity r.entity e then number_watched name r.text r.attributes else None) o ≡ None
-    by None h = refl
-    by (Some r) h = (λ i. if h i then number_watched name r.text r.attributes else None)
-
--- what the entry leaves of a spot as it is: the states of its entity, with no report of it; its events are of other types; it asks no template; and
--- where it is a moment, the trigger is not one on times
+-- what the entry leaves of a spot as it is: the states of its entity, with no report of it; its events are of other types, those of helpers
+-- too; it asks no template; and where it is a moment, the trigger is not one on times
 pub record IsCalm (j : Journal) (x : Entry) (since : ℕ) (rule : TriggerRule) (e : Option EntityId) : Type 0 where
   pub apart : (f : EntityId) → concerns rule e (Subject.Entity f) ≡ true → nat_lt since (length j) ≡ true → (states (more j x) f ≡ states j f) × (reports f x ≡ false)
   pub unnamed : MatchOption (option_map (λ v. v.0) (event_in x)) (Unit {0}) (λ q. concerns rule e (Subject.Event q) ≡ false)
+  pub others : AreUnnamed rule e (helper_events j x)
   pub plain : concerns rule e Subject.Entries ≡ false
   pub untimed : is_moment x ≡ true → concerns rule e Subject.Moments ≡ false
 
@@ -69,12 +66,12 @@ module _ (j : Journal) (x : Entry) (t : Trigger) (since : ℕ) (h : HasEntry j) 
   behind = sight (more j x) (suc (length j))
 
   abbrev target : Option EntityId → Option Value
-  target e = if looks before behind j t.rule (is_some t.hold) e x then Some (given before behind (event_in x) t e) else None
+  target e = if looks before behind j t.rule (is_some t.hold) e x then Some (given before behind (event_seen j x e) t e) else None
 
   off : (rule : TriggerRule) (e : Option EntityId) → t.rule ≡ rule → looks before behind j rule (is_some t.hold) e x ≡ false → None ≡ target e
   off rule e is f =
-      (λ i. if sym f i then Some (given before behind (event_in x) t e) else None)
-      ∙ (λ i. if looks before behind j (sym is i) (is_some t.hold) e x then Some (given before behind (event_in x) t e) else None)
+      (λ i. if sym f i then Some (given before behind (event_seen j x e) t e) else None)
+      ∙ (λ i. if looks before behind j (sym is i) (is_some t.hold) e x then Some (given before behind (event_seen j x e) t e) else None)
 
   event-off : (kinds : List Text) (pairs : Pairs) (o : Option (Text × Pairs)) → MatchOption (option_map (λ v. v.0) o) (Unit {0}) (λ q. one_of q kinds ≡ false)
       → option_map_or (λ v. one_of v.0 kinds && list_all (pair_holds v.1) pairs) o false ≡ false
@@ -95,8 +92,10 @@ module _ (j : Journal) (x : Entry) (t : Trigger) (since : ℕ) (h : HasEntry j) 
   idle (TriggerRule.State entities attribute from to) None is calm lt = absurd (never true refl calm.plain)
   idle (TriggerRule.Numeric entities attribute above below) (Some y) is calm lt = unlisted-number j x t y entities attribute above below is (calm.apart y (entity-refl y) lt).1
   idle (TriggerRule.Numeric entities attribute above below) None is calm lt = absurd (never true refl calm.plain)
-  idle (TriggerRule.Event kinds pairs) (Some y) is calm lt = off (TriggerRule.Event kinds pairs) (Some y) is refl
-  idle (TriggerRule.Event kinds pairs) None is calm lt = off (TriggerRule.Event kinds pairs) None is (event-off kinds pairs (event_in x) calm.unnamed)
+  idle (TriggerRule.Event kinds pairs) (Some y) is calm lt =
+      off (TriggerRule.Event kinds pairs) (Some y) is
+      ((λ i. option_map_or (λ v. one_of v.kind kinds && list_all (pair_holds v.pairs) pairs) (own-skipped j x y i) false) ∙ others-off kinds pairs (Some y) (helper_events j x) calm.others)
+  idle (TriggerRule.Event kinds pairs) None is calm lt = off (TriggerRule.Event kinds pairs) None is (nobodys-named j x kinds pairs ∙ event-off kinds pairs (event_in x) calm.unnamed)
   idle (TriggerRule.Time seconds) (Some y) is calm lt = off (TriggerRule.Time seconds) (Some y) is refl
   idle (TriggerRule.Time seconds) None is calm lt = off (TriggerRule.Time seconds) None is (unpassed (passed (TriggerRule.Time seconds) before.zone before.now behind.now) calm.untimed)
   idle (TriggerRule.Pattern hours minutes seconds) (Some y) is calm lt = off (TriggerRule.Pattern hours minutes seconds) (Some y) is refl
@@ -170,9 +169,9 @@ cleared-same : (spots : List Spot) → All spots (λ s. s.fired ≡ None) → sp
 cleared-same [] f = refl
 cleared-same (s ∷ ss) f = (λ i. record s { fired = f 0 i } ∷ cleared-same ss (λ n. f (suc n)) i)
 
-quiet : (owner : ℕ) (spots : List Spot) → All spots (λ s. s.fired ≡ None) → filter_map (firing_in owner) spots ≡ []
-quiet owner [] f = refl
-quiet owner (s ∷ ss) f = (λ i. cons_option (firing_in owner (record s { fired = f 0 i })) (quiet owner ss (λ n. f (suc n)) i))
+quiet : (o : Owner) (place : ℕ) (events : List BusEvent) (spots : List Spot) → All spots (λ s. s.fired ≡ None) → All spots (λ s. timed_in o place events s ≡ []) → flat_map (firings_in o place events) spots ≡ []
+quiet o place events [] f u = refl
+quiet o place events (s ∷ ss) f u = (λ i. cons_option (firing_in o.owner (record s { fired = f 0 i })) (u 0 i) ++ quiet o place events ss (λ n. f (suc n)) (λ n. u (suc n)) i)
 
 all-then : (P Q : Spot → Type 0) (spots : List Spot) → ((s : Spot) → P s → Q s) → All spots P → All spots Q
 all-then P Q [] step h n = h n
@@ -182,6 +181,16 @@ all-then P Q (s ∷ ss) step h (suc n) = all-then P Q ss step (λ m. h (suc m)) 
 -- each spot is calm, with its trigger
 abbrev pub CalmAt : Journal → Entry → List Trigger → ℕ → Spot → Type 0
 CalmAt j x triggers since s = MatchOption (slice_get triggers s.trigger) (Unit {0}) (λ t. IsCalm j x since t.rule s.entity)
+
+-- LAW: a calm spot fires with nothing for the events of helpers
+pub calm-untimed : (j : Journal) (x : Entry) (triggers : List Trigger) (since owner place : ℕ) (s : Spot) → CalmAt j x triggers since s
+    → timed_in (record { owner = owner; triggers = triggers; since = since }) place (helper_events j x) s ≡ []
+calm-untimed j x triggers since owner place s = by (slice_get triggers s.trigger)
+  where
+    by : (u : Option Trigger) → MatchOption u (Unit {0}) (λ t. IsCalm j x since t.rule s.entity)
+        → option_map_or (timed_of (record { owner = owner; triggers = triggers; since = since }) place (helper_events j x) s.trigger) u [] ≡ []
+    by None c = refl
+    by (Some t) c = timed-off (record { owner = owner; triggers = triggers; since = since }) place (helper_events j x) s.trigger t s.entity c.others
 
 module _ (j : Journal) (x : Entry) (triggers : List Trigger) (since : ℕ) (h : HasEntry j) (opens : opens_segment x ≡ false) (well : AreWell triggers) (spots : List Spot) (timers : List Timer)
     (stand : SpotsStand j triggers since spots timers) (calm : All spots (CalmAt j x triggers since)) (later : is_moment x ≡ true → (n d : ℕ) → due_of n timers ≡ Some d → now (more j x) < d) where
@@ -216,8 +225,17 @@ module _ (j : Journal) (x : Entry) (triggers : List Trigger) (since : ℕ) (h : 
       spots-stand j x triggers since well (now (more j x)) spots spots timers refl all-moved stand.places (subst (λ l. AreTimed timers l) (sym same-if) stand.timed)
       (cleared-same spots all-quiet ∙ sym (ap (map cleared) same-if))
 
+  all-untimed : (owner : ℕ) → All spots (λ s. timed_in (record { owner = owner; triggers = triggers; since = since }) (length j) (helper_events j x) s ≡ [])
+  all-untimed owner n = by (slice_get spots n) (calm n)
+    where
+      by : (o : Option Spot) → MatchOption o (Unit {0}) (CalmAt j x triggers since)
+          → MatchOption o (Unit {0}) (λ s. timed_in (record { owner = owner; triggers = triggers; since = since }) (length j) (helper_events j x) s ≡ [])
+      by None c = tt
+      by (Some s) c = calm-untimed j x triggers since owner (length j) s c
+
   -- LAW: and fire nothing
   pub calm-quiet : (owner : ℕ) → firings_of (more j x) (length j) (record { owner = owner; triggers = triggers; since = since }) ≡ []
   calm-quiet owner =
-      sym (spots-give j x triggers since well owner (now (more j x)) spots [] (filter_map (firing_in owner) (ripened_if x (now (more j x)) spots)) refl all-moved stand.places refl)
-      ∙ ap (filter_map (firing_in owner)) same-if ∙ quiet owner spots all-quiet
+      let o : Owner = record { owner = owner; triggers = triggers; since = since } in
+      sym (spots-give j x triggers since well owner (now (more j x)) spots [] (flat_map (firings_in o (length j) (helper_events j x)) (ripened_if x (now (more j x)) spots)) refl all-moved stand.places refl)
+      ∙ ap (flat_map (firings_in o (length j) (helper_events j x))) same-if ∙ quiet o (length j) (helper_events j x) spots all-quiet (all-untimed owner)

@@ -6,6 +6,8 @@ use Rattle.ha_value.specs.declared.value.EntityId.{EntityId}
 use Rattle.ha_config.specs.declared.config.Trigger.{Trigger}
 use Rattle.ha_journal.specs.declared.entry.Entry.{Entry}
 use Rattle.ha_journal.specs.Entries.{event_in, is_moment, opens_segment}
+use Rattle.ha_journal.specs.declared.event.BusEvent.{BusEvent}
+use Rattle.ha_journal.specs.Helpers.{helper_events}
 use Rattle.ha_journal.specs.Journal.{Journal, IsJournal, now, more}
 use Rattle.ha_journal.specs.States.{states}
 use Rattle.timer_queue.specs.Timers.{Timer, due_of}
@@ -58,6 +60,7 @@ pub record IsApart (index : Index) (queue : List Timer) (j : Journal) (x : Entry
   pub journal : IsJournal (more j x)
   pub entries : knows index Subject.Entries owner ≡ false
   pub events : MatchOption (option_map (λ v. v.0) (event_in x)) (Unit {0}) (λ q. knows index (Subject.Event q) owner ≡ false)
+  pub timed : (k : ℕ) → MatchOption (slice_get (helper_events j x) k) (Unit {0}) (λ v. knows index (Subject.Event v.kind) owner ≡ false)
   pub entities : (f : EntityId) → knows index (Subject.Entity f) owner ≡ true → nat_lt since (length j) ≡ true → (states (more j x) f ≡ states j f) × (reports f x ≡ false)
   pub times : is_moment x ≡ true → knows index Subject.Moments owner ≡ false
   pub later : is_moment x ≡ true → MatchOption (due_of owner queue) (Unit {0}) (λ d. now (more j x) < d)
@@ -66,6 +69,7 @@ has-calm : (j : Journal) (x : Entry) (index : Index) (queue : List Timer) (owner
 has-calm j x index queue owner since t e apart has = record {
   apart = λ f named lt. apart.entities f (has (Subject.Entity f) named) lt;
   unnamed = by (option_map (λ v. v.0) (event_in x)) apart.events;
+  others = λ k. of (slice_get (helper_events j x) k) (apart.timed k);
   plain = not-true (concerns t.rule e Subject.Entries) (knows index Subject.Entries owner) (has Subject.Entries) apart.entries;
   untimed = λ moment. not-true (concerns t.rule e Subject.Moments) (knows index Subject.Moments owner) (has Subject.Moments) (apart.times moment);
 }
@@ -73,6 +77,10 @@ has-calm j x index queue owner since t e apart has = record {
     by : (o : Option Text) → MatchOption o (Unit {0}) (λ q. knows index (Subject.Event q) owner ≡ false) → MatchOption o (Unit {0}) (λ q. concerns t.rule e (Subject.Event q) ≡ false)
     by None k = tt
     by (Some q) k = not-true (concerns t.rule e (Subject.Event q)) (knows index (Subject.Event q) owner) (has (Subject.Event q)) k
+
+    of : (o : Option BusEvent) → MatchOption o (Unit {0}) (λ v. knows index (Subject.Event v.kind) owner ≡ false) → MatchOption o (Unit {0}) (λ v. concerns t.rule e (Subject.Event v.kind) ≡ false)
+    of None k = tt
+    of (Some v) k = not-true (concerns t.rule e (Subject.Event v.kind)) (knows index (Subject.Event v.kind) owner) (has (Subject.Event v.kind)) k
 
 module _ (index : Index) (queue : List Timer) (j : Journal) (x : Entry) where
   pub spot-calm : (owner since : ℕ) (triggers : List Trigger) (s : Spot) → IsApart index queue j x owner since → HasAt index owner triggers (s.trigger, s.entity) → CalmAt j x triggers since s
@@ -142,12 +150,13 @@ module _ (scene : Scene) (index : Index) (queue : List Timer) (j : Journal) wher
   abbrev x : Entry
   x = scene.entry.now
 
-  pub aside-apart : (owner since : ℕ) → Shows scene j since → IsAside index queue scene.to scene.shifts.now x owner → IsApart index queue j x owner since
+  pub aside-apart : (owner since : ℕ) → Shows scene j since → IsAside index queue scene.to scene.shifts.now scene.events.now x owner → IsApart index queue j x owner since
   aside-apart owner since shows aside = record {
     within = aside.within;
     journal = shows.journal;
     entries = aside.entries;
     events = aside.events;
+    timed = λ k. subst (λ vs. MatchOption (slice_get vs k) (Unit {0}) (λ v. knows index (Subject.Event v.kind) owner ≡ false)) shows.events (aside.timed k);
     entities = λ f has lt.
         subst (λ o. MatchOption o ((states (more j x) f ≡ states j f) × (reports f x ≡ false)) (λ c. (face c.old ≡ face (states j f)) × (face c.new ≡ face (states (more j x) f))))
         (unshifted index owner f scene.shifts.now aside.entities has) (shows.shifts lt f);
@@ -157,11 +166,11 @@ module _ (scene : Scene) (index : Index) (queue : List Timer) (j : Journal) wher
 
   module _ (owners : List Attached) (known : AreKnown index (map owner_of owners)) (shows : AllOwners owners (λ a. Shows scene j a.since)) (stand : AllOwners owners (OwnerStands j))
       (queued : AllOwners owners (HasDue queue)) (n : ℕ)
-      (aside : AtOwner owners n (λ a. ascend (map owner_of owners) ≡ true → IsAside index queue scene.to scene.shifts.now x a.owner)) where
+      (aside : AtOwner owners n (λ a. ascend (map owner_of owners) ≡ true → IsAside index queue scene.to scene.shifts.now scene.events.now x a.owner)) where
     apart-at : AtOwner owners n (λ a. IsApart index queue j x a.owner a.since)
     apart-at = by (slice_get owners n) (shows n) aside
       where
-        by : (o : Option Attached) → MatchOption o (Unit {0}) (λ a. Shows scene j a.since) → MatchOption o (Unit {0}) (λ a. ascend (map owner_of owners) ≡ true → IsAside index queue scene.to scene.shifts.now x a.owner)
+        by : (o : Option Attached) → MatchOption o (Unit {0}) (λ a. Shows scene j a.since) → MatchOption o (Unit {0}) (λ a. ascend (map owner_of owners) ≡ true → IsAside index queue scene.to scene.shifts.now scene.events.now x a.owner)
             → MatchOption o (Unit {0}) (λ a. IsApart index queue j x a.owner a.since)
         by None s i = tt
         by (Some a) s i = aside-apart a.owner a.since s (i known.ascend)

@@ -12,6 +12,7 @@ use Rattle.timer_queue.specs.Timers.{Timer, after_due, due_of, first_due}
 use Rattle.trig_set.specs.declared.owners.Attached.{Attached}
 use Rattle.event_bus.specs.declared.index.Index.{Index}
 use Rattle.event_bus.specs.Subjects.{Subject, knows}
+use Rattle.ha_journal.specs.declared.event.BusEvent.{BusEvent}
 use Rattle.trig_set.specs.declared.scene.Shift.{Shift}
 use Rattle.trig_set.specs.Concerned.{OfOthers}
 use Rattle.trig_set.specs.Order.{ascend, owner_of}
@@ -237,5 +238,19 @@ pub shifts-more : (index : Index) (shifts : List Shift) (m place : ℕ) (d : Shi
 shifts-more index shifts m place d within told here k lt = elim (eqb_tells place k) [
   | inl same ↦ subst (λ n. MatchOption (slice_get shifts n) (Unit {0}) (λ c. knows index (Subject.Entity c.entity) m ≡ false)) same.1
       (subst (λ o. MatchOption o (Unit {0}) (λ c. knows index (Subject.Entity c.entity) m ≡ false)) (sym (get-at shifts place d within)) here)
+  | inr other ↦ (let apart = other.1 in told k (omega (arith, lt, apart)))
+]
+
+-- the same of events
+
+pub event-beyond : (P : BusEvent → Type 0) (xs : List BusEvent) (n : ℕ) → length xs ≤ n → MatchOption (slice_get xs n) (Unit {0}) P
+event-beyond P xs n le = subst (λ o. MatchOption o (Unit {0}) P) (sym (get-beyond xs n le)) tt
+
+pub events-more : (index : Index) (events : List BusEvent) (m place : ℕ) (d : BusEvent) → place < length events
+    → ((k : ℕ) → k < place → MatchOption (slice_get events k) (Unit {0}) (λ v. knows index (Subject.Event v.kind) m ≡ false)) → knows index (Subject.Event (get_or events place d).kind) m ≡ false
+    → (k : ℕ) → k < place + 1 → MatchOption (slice_get events k) (Unit {0}) (λ v. knows index (Subject.Event v.kind) m ≡ false)
+events-more index events m place d within told here k lt = elim (eqb_tells place k) [
+  | inl same ↦ subst (λ n. MatchOption (slice_get events n) (Unit {0}) (λ v. knows index (Subject.Event v.kind) m ≡ false)) same.1
+      (subst (λ o. MatchOption o (Unit {0}) (λ v. knows index (Subject.Event v.kind) m ≡ false)) (sym (get-at events place d within)) here)
   | inr other ↦ (let apart = other.1 in told k (omega (arith, lt, apart)))
 ]

@@ -6,6 +6,7 @@ pub mod RipeLemmas
 pub mod CollectLemmas
 pub mod OwnerLemmas
 pub mod NoteLemmas
+pub mod TimedLemmas
 pub mod CalmLemmas
 pub mod ConcernLemmas
 pub mod AloneLemmas

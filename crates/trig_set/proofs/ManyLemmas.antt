@@ -1,6 +1,6 @@
 -- Spots of which some are gone along: those that an entry may not move stay, and the others come in their order.
 use Rattle.std.proofs.Common.{◌≡◌, ℕ, zero, suc, ◌+◌, ◌<◌, ◌≤◌, List, [], ◌∷◌, ◌++◌, length, take, drop, map, Bool, true, false, refl, sym, ap, subst, ◌∙◌, arith, nat_cmp, append_assoc, inl, inr}
-use Rattle.std.specs.Prelude.{Option, Some, None, MatchOption, filter_map, nat_eq, option_and_then, option_map, slice_get, slice_set, ◌||◌, if◌then◌else◌}
+use Rattle.std.specs.Prelude.{Option, Some, None, MatchOption, flat_map, nat_eq, option_map, slice_get, slice_set, ◌||◌}
 use Rattle.std.specs.List.{cons_option, list_any}
 use Rattle.std.specs.Option.{option_map_or}
 use Rattle.std.specs.BTreeMap.{is_at}
@@ -8,7 +8,9 @@ use Rattle.std.specs.BTreeSet.{BTreeSet}
 use Rattle.std.proofs.lemmas.Bool.Decides.{leb_tells, nat_tests}
 use Rattle.ha_config.specs.declared.config.Trigger.{Trigger}
 use Rattle.ha_journal.specs.declared.entry.Entry.{Entry}
+use Rattle.ha_journal.specs.declared.event.BusEvent.{BusEvent}
 use Rattle.ha_journal.specs.Journal.{Journal}
+use Rattle.ha_past.specs.Firings.{Owner}
 use Rattle.ha_journal.specs.Entries.{opens_segment}
 use Rattle.timer_queue.specs.Timers.{Timer}
 use Rattle.event_bus.specs.declared.index.Index.{Index}
@@ -21,15 +23,16 @@ use Rattle.event_bus.specs.Subjects.{Subject, knows}
 use Rattle.trig_set.specs.Listed.{AreIndexed, HasAt, HasFor}
 use Rattle.trig_set.specs.Places.{Turns}
 use Rattle.trig_set.specs.Scenes.{Shows}
-use Rattle.trig_set.proofs.CalmLemmas.{CalmAt, IsCalm, calm-moved, none-fired}
-use Rattle.trig_set.proofs.CollectLemmas.{cons-append}
+use Rattle.trig_set.specs.Timed.{Unfired, firings_in, timed_in}
+use Rattle.trig_set.proofs.CalmLemmas.{CalmAt, IsCalm, calm-moved, calm-untimed, none-fired}
+use Rattle.trig_set.proofs.CollectLemmas.{append-none}
 use Rattle.trig_set.proofs.ConcernLemmas.{aside-apart, get-map, spot-calm}
 use Rattle.trig_set.proofs.LeftLemmas.{is-at-other, put-apart}
 use Rattle.trig_set.proofs.MovedLemmas.{has-past}
 
 -- ---- lists that are gone through, some places skipped
 
-module _ {X Y : Type 0} (f : X → Option Y) (g : X → X) where
+module _ {X : Type 0} (g : X → X) where
   abbrev pub gone : ℕ → List X → List X
   gone n xs = map g (take n xs) ++ drop n xs
 
@@ -52,23 +55,9 @@ module _ {X Y : Type 0} (f : X → Option Y) (g : X → X) where
       by None = refl
       by (Some y) = refl
 
-  found-next : (xs : List X) (n : ℕ) → filter_map f (take (suc n) xs) ≡ filter_map f (take n xs) ++ cons_option (option_and_then f (slice_get xs n)) []
-  found-next [] zero = refl
-  found-next [] (suc n) = refl
-  found-next (x ∷ xs) zero = refl
-  found-next (x ∷ xs) (suc n) = (λ i. cons_option (f x) (found-next xs n i)) ∙ cons-append (f x) (filter_map f (take n xs)) (cons_option (option_and_then f (slice_get xs n)) [])
-
   -- LAW: the place is gone through
   pub goes-set : (xs cur new : List X) (n : ℕ) → cur ≡ gone n xs → new ≡ set_at n cur → new ≡ gone (n + 1) xs
   goes-set xs cur new n is e = e ∙ ap (set_at n) is ∙ set-next xs n ∙ (let q : suc n ≡ n + 1 = omega arith in λ i. gone (q i) xs)
-
-  pub goes-on : (xs cur : List X) (n : ℕ) (before old new : List Y) → cur ≡ gone n xs → old ≡ before ++ filter_map f (take n xs)
-      → new ≡ old ++ cons_option (option_and_then f (slice_get cur n)) [] → new ≡ before ++ filter_map f (take (n + 1) xs)
-  goes-on xs cur n before old new is was e =
-      e ∙ (λ i. was i ++ cons_option (option_and_then f ((ap (λ l. slice_get l n) is ∙ got xs n) i)) [])
-      ∙ append_assoc before (filter_map f (take n xs)) (cons_option (option_and_then f (slice_get xs n)) [])
-      ∙ (λ i. before ++ sym (found-next xs n) i)
-      ∙ (let q : suc n ≡ n + 1 = omega arith in λ i. before ++ filter_map f (take (q i) xs))
 
   -- LAW: places at which there is nothing are skipped
   pub skip-set : (xs : List X) (a b : ℕ) → a ≤ b → ((n : ℕ) → a ≤ n → n < b → MatchOption (slice_get xs n) (Unit {0}) (λ x. g x ≡ x)) → gone b xs ≡ gone a xs
@@ -81,73 +70,71 @@ module _ {X Y : Type 0} (f : X → Option Y) (g : X → X) where
   skip-set (x ∷ xs) (suc a) zero le none = absurd (omega (arith, le))
   skip-set (x ∷ xs) (suc a) (suc b) le none = (λ i. g x ∷ skip-set xs a b (omega (arith, le)) (λ n from lt. none (suc n) (omega (arith, from)) (omega (arith, lt))) i)
 
-  pub skip-found : (xs : List X) (a b : ℕ) → a ≤ b → ((n : ℕ) → a ≤ n → n < b → MatchOption (slice_get xs n) (Unit {0}) (λ x. f x ≡ None)) → filter_map f (take b xs) ≡ filter_map f (take a xs)
-  skip-found [] zero zero le none = refl
-  skip-found [] zero (suc b) le none = refl
-  skip-found [] (suc a) zero le none = absurd (omega (arith, le))
-  skip-found [] (suc a) (suc b) le none = refl
-  skip-found (x ∷ xs) zero zero le none = refl
-  skip-found (x ∷ xs) zero (suc b) le none = (λ i. cons_option (none 0 (omega arith) (omega arith) i) (skip-found xs zero b (omega arith) (λ n from lt. none (suc n) (omega arith) (omega (arith, lt))) i))
-  skip-found (x ∷ xs) (suc a) zero le none = absurd (omega (arith, le))
-  skip-found (x ∷ xs) (suc a) (suc b) le none = (λ i. cons_option (f x) (skip-found xs a b (omega (arith, le)) (λ n from lt. none (suc n) (omega (arith, from)) (omega (arith, lt))) i))
-
-  all-set : (xs : List X) → gone (length xs) xs ≡ map g xs
-  all-set [] = refl
-  all-set (x ∷ xs) = (λ i. g x ∷ all-set xs i)
-
-  all-found : (xs : List X) → filter_map f (take (length xs) xs) ≡ filter_map f xs
-  all-found [] = refl
-  all-found (x ∷ xs) = (λ i. cons_option (f x) (all-found xs i))
-
   beyond-set : (xs : List X) (n : ℕ) → length xs ≤ n → gone n xs ≡ map g xs
   beyond-set [] zero le = refl
   beyond-set [] (suc n) le = refl
   beyond-set (x ∷ xs) zero le = absurd (omega (arith, le))
   beyond-set (x ∷ xs) (suc n) le = (λ i. g x ∷ beyond-set xs n (omega (arith, le)) i)
 
-  beyond-found : (xs : List X) (n : ℕ) → length xs ≤ n → filter_map f (take n xs) ≡ filter_map f xs
-  beyond-found [] zero le = refl
-  beyond-found [] (suc n) le = refl
-  beyond-found (x ∷ xs) zero le = absurd (omega (arith, le))
-  beyond-found (x ∷ xs) (suc n) le = (λ i. cons_option (f x) (beyond-found xs n (omega (arith, le)) i))
-
   -- LAW: where nothing is left from a place on, all is gone through
   pub whole-set : (xs : List X) (a : ℕ) → ((n : ℕ) → a ≤ n → MatchOption (slice_get xs n) (Unit {0}) (λ x. g x ≡ x)) → gone a xs ≡ map g xs
   whole-set xs a none = sym (skip-set xs a (a + length xs) (omega arith) (λ n from lt. none n from)) ∙ beyond-set xs (a + length xs) (omega arith)
 
-  pub whole-found : (xs : List X) (a : ℕ) → ((n : ℕ) → a ≤ n → MatchOption (slice_get xs n) (Unit {0}) (λ x. f x ≡ None)) → filter_map f (take a xs) ≡ filter_map f xs
+-- what is collected at the places
+module _ {X Y : Type 0} (f : X → List Y) (g : X → X) where
+  found-next : (xs : List X) (n : ℕ) → flat_map f (take (suc n) xs) ≡ flat_map f (take n xs) ++ option_map_or f (slice_get xs n) []
+  found-next [] zero = refl
+  found-next [] (suc n) = refl
+  found-next (x ∷ xs) zero = append-none (f x)
+  found-next (x ∷ xs) (suc n) = (λ i. f x ++ found-next xs n i) ∙ sym (append_assoc (f x) (flat_map f (take n xs)) (option_map_or f (slice_get xs n) []))
+
+  pub goes-on : (xs cur : List X) (n : ℕ) (before old new : List Y) → cur ≡ gone g n xs → old ≡ before ++ flat_map f (take n xs)
+      → new ≡ old ++ option_map_or f (slice_get cur n) [] → new ≡ before ++ flat_map f (take (n + 1) xs)
+  goes-on xs cur n before old new is was e =
+      e ∙ (λ i. was i ++ option_map_or f ((ap (λ l. slice_get l n) is ∙ got g xs n) i) [])
+      ∙ append_assoc before (flat_map f (take n xs)) (option_map_or f (slice_get xs n) [])
+      ∙ (λ i. before ++ sym (found-next xs n) i)
+      ∙ (let q : suc n ≡ n + 1 = omega arith in λ i. before ++ flat_map f (take (q i) xs))
+
+  pub skip-found : (xs : List X) (a b : ℕ) → a ≤ b → ((n : ℕ) → a ≤ n → n < b → MatchOption (slice_get xs n) (Unit {0}) (λ x. f x ≡ [])) → flat_map f (take b xs) ≡ flat_map f (take a xs)
+  skip-found [] zero zero le none = refl
+  skip-found [] zero (suc b) le none = refl
+  skip-found [] (suc a) zero le none = absurd (omega (arith, le))
+  skip-found [] (suc a) (suc b) le none = refl
+  skip-found (x ∷ xs) zero zero le none = refl
+  skip-found (x ∷ xs) zero (suc b) le none = (λ i. none 0 (omega arith) (omega arith) i ++ skip-found xs zero b (omega arith) (λ n from lt. none (suc n) (omega arith) (omega (arith, lt))) i)
+  skip-found (x ∷ xs) (suc a) zero le none = absurd (omega (arith, le))
+  skip-found (x ∷ xs) (suc a) (suc b) le none = (λ i. f x ++ skip-found xs a b (omega (arith, le)) (λ n from lt. none (suc n) (omega (arith, from)) (omega (arith, lt))) i)
+
+  beyond-found : (xs : List X) (n : ℕ) → length xs ≤ n → flat_map f (take n xs) ≡ flat_map f xs
+  beyond-found [] zero le = refl
+  beyond-found [] (suc n) le = refl
+  beyond-found (x ∷ xs) zero le = absurd (omega (arith, le))
+  beyond-found (x ∷ xs) (suc n) le = (λ i. f x ++ beyond-found xs n (omega (arith, le)) i)
+
+  pub whole-found : (xs : List X) (a : ℕ) → ((n : ℕ) → a ≤ n → MatchOption (slice_get xs n) (Unit {0}) (λ x. f x ≡ [])) → flat_map f (take a xs) ≡ flat_map f xs
   whole-found xs a none = sym (skip-found xs a (a + length xs) (omega arith) (λ n from lt. none n from)) ∙ beyond-found xs (a + length xs) (omega arith)
 
 -- ---- spots that fire with nothing
 
-abbrev pub Unfired : List Spot → ℕ → Type 0
-Unfired spots n = At spots n (λ s. s.fired ≡ None)
+module _ (o : Owner) (place : ℕ) (events : List BusEvent) (spots : List Spot) (n : ℕ) where
+  pub unfired-same : Unfired o place events spots n → MatchOption (slice_get spots n) (Unit {0}) (λ s. cleared s ≡ s)
+  unfired-same = by (slice_get spots n)
+    where
+      by : (u : Option Spot) → MatchOption u (Unit {0}) (λ s. (s.fired ≡ None) × (timed_in o place events s ≡ [])) → MatchOption u (Unit {0}) (λ s. cleared s ≡ s)
+      by None h = tt
+      by (Some s) h = (λ i. record s { fired = sym h.0 i })
 
-pub unfired-same : (spots : List Spot) (n : ℕ) → Unfired spots n → MatchOption (slice_get spots n) (Unit {0}) (λ s. cleared s ≡ s)
-unfired-same spots n = by (slice_get spots n)
-  where
-    by : (o : Option Spot) → MatchOption o (Unit {0}) (λ s. s.fired ≡ None) → MatchOption o (Unit {0}) (λ s. cleared s ≡ s)
-    by None h = tt
-    by (Some s) h = (λ i. record s { fired = sym h i })
-
-pub unfired-none : (owner : ℕ) (spots : List Spot) (n : ℕ) → Unfired spots n → MatchOption (slice_get spots n) (Unit {0}) (λ s. firing_in owner s ≡ None)
-unfired-none owner spots n = by (slice_get spots n)
-  where
-    by : (o : Option Spot) → MatchOption o (Unit {0}) (λ s. s.fired ≡ None) → MatchOption o (Unit {0}) (λ s. firing_in owner s ≡ None)
-    by None h = tt
-    by (Some s) h = (λ i. firing_in owner (record s { fired = h i }))
+  pub unfired-none : Unfired o place events spots n → MatchOption (slice_get spots n) (Unit {0}) (λ s. firings_in o place events s ≡ [])
+  unfired-none = by (slice_get spots n)
+    where
+      by : (u : Option Spot) → MatchOption u (Unit {0}) (λ s. (s.fired ≡ None) × (timed_in o place events s ≡ [])) → MatchOption u (Unit {0}) (λ s. firings_in o place events s ≡ [])
+      by None h = tt
+      by (Some s) h = (λ i. cons_option (firing_in o.owner (record s { fired = h.0 i })) (h.1 i))
 
 -- LAW: what is at a place as it was has what it had
 pub at-same : (P : Spot → Type 0) (xs ys : List Spot) (n : ℕ) → slice_get xs n ≡ slice_get ys n → At ys n P → At xs n P
 at-same P xs ys n e h = subst (λ o. MatchOption o (Unit {0}) P) (sym e) h
-
--- LAW: a spot that keeps what it keeps fires with nothing
-pub kept-unfired : (j : Journal) (triggers : List Trigger) (since : ℕ) (spots : List Spot) (n : ℕ) → At spots n (KeepsAt j triggers since) → Unfired spots n
-kept-unfired j triggers since spots n = by (slice_get spots n)
-  where
-    by : (o : Option Spot) → MatchOption o (Unit {0}) (KeepsAt j triggers since) → MatchOption o (Unit {0}) (λ s. s.fired ≡ None)
-    by None h = tt
-    by (Some s) h = none-fired j triggers since s h
 
 -- LAW: beyond the last place there is nothing
 pub at-beyond : (P : Spot → Type 0) (xs : List Spot) (n : ℕ) → length xs ≤ n → At xs n P
@@ -155,11 +142,16 @@ at-beyond P [] n le = tt
 at-beyond P (x ∷ xs) zero le = absurd (omega (arith, le))
 at-beyond P (x ∷ xs) (suc n) le = at-beyond P xs n (omega (arith, le))
 
--- LAW: nor do those that were not gone along
-pub left-unfired : (j : Journal) (triggers : List Trigger) (since : ℕ) (old mid new : List Spot) (places : BTreeSet ℕ) (n : ℕ) → All old (KeepsAt j triggers since)
-    → (none : BTreeSet ℕ) → ((m : ℕ) → has places m ≡ false → (has none m ≡ false) × (slice_get mid m ≡ slice_get old m)) → (has places n ≡ false) × (slice_get new n ≡ slice_get mid n) → Unfired new n
-left-unfired j triggers since old mid new places n keeps none moved ripe =
-    at-same (λ s. s.fired ≡ None) new old n (ripe.1 ∙ (moved n ripe.0).1) (kept-unfired j triggers since old n (keeps n))
+-- LAW: a spot that was not gone along fires with nothing
+pub left-unfired : (o : Owner) (place : ℕ) (events : List BusEvent) (j : Journal) (triggers : List Trigger) (since : ℕ) (old mid new : List Spot) (n : ℕ) → All old (KeepsAt j triggers since)
+    → At old n (λ s. timed_in o place events s ≡ []) → slice_get mid n ≡ slice_get old n → slice_get new n ≡ slice_get mid n → Unfired o place events new n
+left-unfired o place events j triggers since old mid new n keeps untimed moved ripe =
+    at-same (λ s. (s.fired ≡ None) × (timed_in o place events s ≡ [])) new old n (ripe ∙ moved) (by (slice_get old n) (keeps n) untimed)
+  where
+    by : (u : Option Spot) → MatchOption u (Unit {0}) (KeepsAt j triggers since) → MatchOption u (Unit {0}) (λ s. timed_in o place events s ≡ [])
+        → MatchOption u (Unit {0}) (λ s. (s.fired ≡ None) × (timed_in o place events s ≡ []))
+    by None k t = tt
+    by (Some s) k t = (none-fired j triggers since s k, t)
 
 -- LAW: a hold that fires leaves the other spots
 get-else : {X : Type 0} (xs : List X) (n m : ℕ) (v : X) → nat_eq n m ≡ false → slice_get (slice_set xs n v) m ≡ slice_get xs m
@@ -230,14 +222,31 @@ module _ (scene : Scene) (j : Journal) (index : Index) (triggers : List Trigger)
       by None w k c = k
       by (Some t) w k c = calm-moved j x t since (has-past j x shows.journal within) within s w k c
 
-  -- LAW: the entry moves it to itself
-  pub aside-moved : (n : ℕ) → IsAside index [] scene.to scene.shifts.now x n → At spots n (MovedAt j x triggers since)
-  aside-moved n aside = by (slice_get spots n) refl (stand.kept n)
+  calm-there : (n : ℕ) → IsAside index [] scene.to scene.shifts.now scene.events.now x n → At spots n (CalmAt j x triggers since)
+  calm-there n aside = by (slice_get spots n) refl
     where
-      by : (o : Option Spot) → slice_get spots n ≡ o → MatchOption o (Unit {0}) (KeepsAt j triggers since) → MatchOption o (Unit {0}) (MovedAt j x triggers since)
-      by None at k = tt
-      by (Some s) at k =
-          moved-at s k
-          (spot-calm index [] j x n since triggers s (aside-apart scene index [] j n since shows aside)
+      by : (o : Option Spot) → slice_get spots n ≡ o → MatchOption o (Unit {0}) (CalmAt j x triggers since)
+      by None at = tt
+      by (Some s) at =
+          spot-calm index [] j x n since triggers s (aside-apart scene index [] j n since shows aside)
           (subst (λ o. MatchOption o (Unit {0}) (HasAt index n triggers))
-          (ap (λ l. slice_get l n) (sym stand.places) ∙ get-map place_of spots n ∙ ap (option_map place_of) at) (listed n)))
+          (ap (λ l. slice_get l n) (sym stand.places) ∙ get-map place_of spots n ∙ ap (option_map place_of) at) (listed n))
+
+  -- LAW: the entry moves it to itself
+  pub aside-moved : (n : ℕ) → IsAside index [] scene.to scene.shifts.now scene.events.now x n → At spots n (MovedAt j x triggers since)
+  aside-moved n aside = by (slice_get spots n) (stand.kept n) (calm-there n aside)
+    where
+      by : (o : Option Spot) → MatchOption o (Unit {0}) (KeepsAt j triggers since) → MatchOption o (Unit {0}) (CalmAt j x triggers since) → MatchOption o (Unit {0}) (MovedAt j x triggers since)
+      by None k c = tt
+      by (Some s) k c = moved-at s k c
+
+  -- LAW: and it fires with nothing for the events of helpers
+  pub aside-untimed : (owner n : ℕ) → IsAside index [] scene.to scene.shifts.now scene.events.now x n
+      → At spots n (λ s. timed_in (record { owner = owner; triggers = triggers; since = since }) scene.place scene.events.now s ≡ [])
+  aside-untimed owner n aside = by (slice_get spots n) (calm-there n aside)
+    where
+      by : (u : Option Spot) → MatchOption u (Unit {0}) (CalmAt j x triggers since) → MatchOption u (Unit {0}) (λ s. timed_in (record { owner = owner; triggers = triggers; since = since }) scene.place scene.events.now s ≡ [])
+      by None c = tt
+      by (Some s) c =
+          (λ i. timed_in (record { owner = owner; triggers = triggers; since = since }) scene.place (shows.events i) s)
+          ∙ calm-untimed j x triggers since owner scene.place s c

@@ -1,8 +1,8 @@
 -- With which variables an entry moves a trigger, by what is seen before and after it.
 use Rattle.std.proofs.lemmas.List.{take_all}
-use Rattle.std.proofs.Common.{◌≡◌, ℕ, suc, ◌<◌, ◌≤◌, List, [], ◌∷◌, ◌++◌, length, Bool, true, false, refl, sym, ap, ◌∙◌, arith}
-use Rattle.std.specs.Prelude.{codes, Option, Some, None, not, is_some, is_none, nat_lt, option_map, option_and_then, ◌&&◌, ◌||◌, if◌then◌else◌}
-use Rattle.std.specs.Option.{option_map_or}
+use Rattle.std.proofs.Common.{◌≡◌, ℕ, suc, ◌<◌, ◌≤◌, List, [], ◌∷◌, ◌++◌, length, map, Bool, true, false, refl, sym, ap, ◌∙◌, arith}
+use Rattle.std.specs.Prelude.{codes, Option, Some, None, find, filter_map, not, is_some, is_none, nat_lt, option_map, option_and_then, ◌&&◌, ◌||◌, if◌then◌else◌}
+use Rattle.std.specs.Option.{option_map_or, option_to_list}
 use Rattle.std.proofs.lemmas.Bool.Decides.{nat_tests}
 use Rattle.ha_value.specs.declared.value.EntityId.{EntityId}
 use Rattle.ha_value.specs.declared.value.Value.{Value}
@@ -11,22 +11,26 @@ use Rattle.ha_config.specs.declared.config.Match.{Match}
 use Rattle.ha_config.specs.declared.config.Trigger.{Trigger}
 use Rattle.ha_config.specs.declared.config.TriggerRule.{TriggerRule}
 use Rattle.ha_journal.specs.declared.entry.Entry.{Entry}
+use Rattle.ha_journal.specs.declared.event.BusEvent.{BusEvent}
+use Rattle.ha_journal.specs.Helpers.{event_for, events_of, helper_events, own_event}
+use Rattle.ha_journal.proofs.EventLaws.{nobodys-given, nobodys-named}
+use Rattle.ha_sight.specs.declared.helped.HelperChange.{HelperChange}
 use Rattle.ha_sight.specs.declared.state.StateObject.{StateObject}
 use Rattle.ha_config.specs.Equal.{same_pairs}
 use Rattle.ha_sight.specs.Conditions.{attribute_text, number_watched}
 use Rattle.ha_value.specs.Ids.{entity_text}
 use Rattle.ha_journal.proofs.FiringLaws.{state-stays}
-use Rattle.ha_config.specs.Words.{Text, Pairs, same, same_entity, first_pair, one_of}
-use Rattle.std.specs.List.{list_all}
+use Rattle.ha_config.specs.Words.{Text, Pairs, first_of_list, same, same_entity, first_pair, one_of}
+use Rattle.std.specs.List.{cons_option, list_all}
 use Rattle.ha_config.specs.Numbers.{in_bounds}
 use Rattle.ha_value.specs.declared.value.Num.{Num}
 use Rattle.ha_journal.specs.declared.entry.Entry.TheVariants.{Boot, Line, Step, Again}
 use Rattle.ha_journal.specs.Journal.{Journal, HasEntry, IsJournal, zone_of, now, more}
 use Rattle.ha_sight.specs.Sight.{Sight}
 use Rattle.ha_journal.specs.States.{states}
-use Rattle.ha_journal.specs.Entries.{is_boot, is_restart, opens_segment, Reported, report_in, event_in, is_moment}
-use Rattle.ha_journal.specs.Moves.{sight, report_number, latest_number, moves, rule_moves, looks}
-use Rattle.ha_sight.specs.Rules.{matches, is_absent, same_optional, state_value, text_or_null, number_or_null, passed, pair_holds, state_moves, starts, is_state, head_pairs, given, given_by}
+use Rattle.ha_journal.specs.Entries.{change_of, changes_in, is_boot, is_restart, opens_segment, Reported, report_in, event_in, is_moment, text_given}
+use Rattle.ha_journal.specs.Moves.{sight, number_in_text, report_number, latest_number, moves, rule_moves, looks}
+use Rattle.ha_sight.specs.Rules.{matches, is_absent, same_optional, event_value, state_value, text_or_null, number_or_null, passed, pair_holds, state_moves, starts, is_state, head_pairs, given, given_by}
 use Rattle.ha_journal.specs.Variables.{variables}
 use Rattle.ha_config.proofs.EqualLemmas.{same-refl, same_value-refl}
 use Rattle.ha_journal.proofs.MoreLemmas.{through-last}
@@ -39,7 +43,8 @@ use Rattle.ha_past.specs.Looks.{moves_with}
 use Rattle.ha_journal.specs.Holds.{watches}
 use Rattle.trig_set.specs.Next.{reports}
 use Rattle.trig_set.specs.Scenes.{face}
-use Rattle.ha_past.proofs.PastLemmas.{sight-more, sight-whole, zone-more, has-place}
+use Rattle.trig_set.specs.Timed.{event_seen, given_for, given_with, names_event}
+use Rattle.ha_past.proofs.PastLemmas.{events-last, sight-more, sight-whole, zone-more, has-place}
 use Rattle.ha_past.proofs.EntryLaws.{moves-at}
 
 module _ (j : Journal) (x : Entry) where
@@ -51,16 +56,16 @@ module _ (j : Journal) (x : Entry) where
 
   -- LAW: where no segment opens, a trigger that was attached before moves where its rule holds by what is seen before and after
   pub moves-by : (t : Trigger) (e : Option EntityId) (since : ℕ) → opens_segment x ≡ false → nat_lt since (length j) ≡ true
-      → moves_with j x t e since ≡ (if looks (sight j (length j)) (sight (more j x) (suc (length j))) j t.rule (is_some t.hold) e x then Some (given (sight j (length j)) (sight (more j x) (suc (length j))) (event_in x) t e) else None)
+      → moves_with j x t e since ≡ (if looks (sight j (length j)) (sight (more j x) (suc (length j))) j t.rule (is_some t.hold) e x then Some (given (sight j (length j)) (sight (more j x) (suc (length j))) (event_seen j x e) t e) else None)
   moves-by t e since opens lt =
       let some : 0 < length j = grind (arith, nat_tests, lt) in
       let h = has-place j 0 some in
       let here = sight-more j x h (length j) (omega arith) in
       (λ i. if moves-at j x h t e i && (lt i || starts t.rule) then Some (variables (more j x) t e (length j)) else None)
-      ∙ (λ i. if (if opens i then is_boot x && starts t.rule && is_none e else looks (sight j (length j)) (sight (more j x) (suc (length j))) j t.rule (is_some t.hold) e x) && true then Some (given (here i) (sight (more j x) (suc (length j))) (option_and_then event_in (get-last j x i)) t e) else None)
+      ∙ (λ i. if (if opens i then is_boot x && starts t.rule && is_none e else looks (sight j (length j)) (sight (more j x) (suc (length j))) j t.rule (is_some t.hold) e x) && true then Some (given (here i) (sight (more j x) (suc (length j))) (option_map {T = BusEvent} {U = Text × Pairs} (λ v. (v.kind, v.pairs)) (event_for e (events-last j x i))) t e) else None)
       ∙ by (looks (sight j (length j)) (sight (more j x) (suc (length j))) j t.rule (is_some t.hold) e x)
     where
-      by : (b : Bool) → (if b && true then Some (given (sight j (length j)) (sight (more j x) (suc (length j))) (event_in x) t e) else None) ≡ (if b then Some (given (sight j (length j)) (sight (more j x) (suc (length j))) (event_in x) t e) else None)
+      by : (b : Bool) → (if b && true then Some (given (sight j (length j)) (sight (more j x) (suc (length j))) (event_seen j x e) t e) else None) ≡ (if b then Some (given (sight j (length j)) (sight (more j x) (suc (length j))) (event_seen j x e) t e) else None)
       by true = refl
       by false = refl
 
@@ -83,6 +88,34 @@ module _ (j : Journal) (x : Entry) where
       none (TriggerRule.Pattern hours minutes seconds) = and-false (looks (sight j (length j)) (sight (more j x) (suc (length j))) j (TriggerRule.Pattern hours minutes seconds) (is_some t.hold) e x)
       none (TriggerRule.Template u) = and-false (looks (sight j (length j)) (sight (more j x) (suc (length j))) j (TriggerRule.Template u) (is_some t.hold) e x)
       none TriggerRule.Start = refl
+
+-- ---- numbers that are not given
+
+not-either : (a b : Bool) → (a || b) ≡ false → (a ≡ false) × (b ≡ false)
+not-either true b h = absurd (let bad : ◌≡◌ {A = Bool} true false = h in cc)
+not-either false b h = (refl, h)
+
+module _ (e : EntityId) (name : Option Text) where
+  none-changed : (cs : List HelperChange) → is_some (find (λ c. same_entity c.entity e) cs) ≡ false → filter_map (number_in_text e name) (map text_given cs) ≡ []
+  none-changed [] h = refl
+  none-changed (c ∷ cs) h = by (same_entity c.entity e) refl h (none-changed cs)
+    where
+      by : (b : Bool) → same_entity c.entity e ≡ b → is_some (if b then Some c else find (λ c. same_entity c.entity e) cs) ≡ false
+          → (is_some (find (λ c. same_entity c.entity e) cs) ≡ false → filter_map (number_in_text e name) (map text_given cs) ≡ [])
+          → cons_option (number_in_text e name (text_given c)) (filter_map (number_in_text e name) (map text_given cs)) ≡ []
+      by true s h rest = absurd (let bad : ◌≡◌ {A = Bool} true false = h in cc)
+      by false s h rest = (λ i. cons_option (if s i then number_watched name c.text [] else None) (rest h i))
+
+  -- LAW: an entry gives no number of an entity that it doesn't report, nor changes as a helper
+  pub unreported : (x : Entry) → reports e x ≡ false → report_number e name x ≡ None
+  unreported x h = by (report_in x) both.1
+    where
+      both : (is_some (change_of e x) ≡ false) × (option_map_or (λ r. same_entity r.entity e) (report_in x) false ≡ false)
+      both = not-either (is_some (change_of e x)) (option_map_or (λ r. same_entity r.entity e) (report_in x) false) h
+
+      by : (o : Option Reported) → option_map_or (λ r. same_entity r.entity e) o false ≡ false → first_of_list (filter_map (number_in_text e name) (option_to_list o ++ map text_given (changes_in x))) ≡ None
+      by None k = ap first_of_list (none-changed (changes_in x) both.0)
+      by (Some r) k = (λ i. first_of_list (cons_option (if k i then number_watched name r.text r.attributes else None) (none-changed (changes_in x) both.0 i)))
 
 -- ---- states that are not listed
 
@@ -167,7 +200,7 @@ module _ (j : Journal) (x : Entry) (t : Trigger) (e : Option EntityId) (since : 
       (λ i. option_map_or (λ y. if opens_segment y then is_boot y && starts t.rule && is_none e else rule_moves (more j x) t.rule (is_some t.hold) e (length j) y) (get-last j x i) false)
       ∙ (λ i. if opens i then is_boot x && starts t.rule && is_none e else rule_moves (more j x) t.rule (is_some t.hold) e (length j) x)
 
-  bare-start : (rule : TriggerRule) → starts rule ≡ true → given_by (sight (more j x) (length j)) (sight (more j x) (suc (length j))) (event_in x) t rule e ≡ head_pairs (codes "homeassistant") t
+  bare-start : (rule : TriggerRule) → starts rule ≡ true → given_by (sight (more j x) (length j)) (sight (more j x) (suc (length j))) (event_seen j x e) t rule e ≡ head_pairs (codes "homeassistant") t
   bare-start (TriggerRule.State entities attribute from to) s = cc
   bare-start (TriggerRule.Numeric entities attribute above below) s = cc
   bare-start (TriggerRule.Event kinds pairs) s = cc
@@ -180,13 +213,13 @@ module _ (j : Journal) (x : Entry) (t : Trigger) (e : Option EntityId) (since : 
   pub moves-boot : is_boot x ≡ true → moves_with j x t e since ≡ (if starts t.rule && is_none e then Some (Map (head_pairs (codes "homeassistant") t)) else None)
   moves-boot boot =
       (λ i. if (opened (λ k. boot k || is_restart x) ∙ (λ k. boot k && starts t.rule && is_none e)) i && (nat_lt since (length j) || starts t.rule) then Some (variables (more j x) t e (length j)) else None)
-      ∙ (λ i. if (starts t.rule && is_none e) && (nat_lt since (length j) || starts t.rule) then Some (given (sight (more j x) (length j)) (sight (more j x) (suc (length j))) (option_and_then event_in (get-last j x i)) t e) else None)
+      ∙ (λ i. if (starts t.rule && is_none e) && (nat_lt since (length j) || starts t.rule) then Some (given (sight (more j x) (length j)) (sight (more j x) (suc (length j))) (option_map {T = BusEvent} {U = Text × Pairs} (λ v. (v.kind, v.pairs)) (event_for e (events-last j x i))) t e) else None)
       ∙ by (starts t.rule) refl
     where
-      by : (b : Bool) → starts t.rule ≡ b → (if (b && is_none e) && (nat_lt since (length j) || b) then Some (Map (given_by (sight (more j x) (length j)) (sight (more j x) (suc (length j))) (event_in x) t t.rule e)) else None) ≡ (if b && is_none e then Some (Map (head_pairs (codes "homeassistant") t)) else None)
+      by : (b : Bool) → starts t.rule ≡ b → (if (b && is_none e) && (nat_lt since (length j) || b) then Some (Map (given_by (sight (more j x) (length j)) (sight (more j x) (suc (length j))) (event_seen j x e) t t.rule e)) else None) ≡ (if b && is_none e then Some (Map (head_pairs (codes "homeassistant") t)) else None)
       by true s = also (is_none e) (nat_lt since (length j)) ∙ (λ i. if is_none e then Some (Map (bare-start t.rule s i)) else None)
         where
-          also : (a b : Bool) → (if a && (b || true) then Some (Map (given_by (sight (more j x) (length j)) (sight (more j x) (suc (length j))) (event_in x) t t.rule e)) else None) ≡ (if a then Some (Map (given_by (sight (more j x) (length j)) (sight (more j x) (suc (length j))) (event_in x) t t.rule e)) else None)
+          also : (a b : Bool) → (if a && (b || true) then Some (Map (given_by (sight (more j x) (length j)) (sight (more j x) (suc (length j))) (event_seen j x e) t t.rule e)) else None) ≡ (if a then Some (Map (given_by (sight (more j x) (length j)) (sight (more j x) (suc (length j))) (event_seen j x e) t t.rule e)) else None)
           also true true = refl
           also true false = refl
           also false b = refl
@@ -257,14 +290,14 @@ value-face e a c p = valued-face e a ∙ ap (value_of e) p ∙ sym (valued-face 
 module _ (j : Journal) (x : Entry) (t : Trigger) (e : EntityId) (entities : List EntityId) (attribute : Option Text) (from to : Match) (is : t.rule ≡ TriggerRule.State entities attribute from to) where
   -- what a state trigger gives, by its sights and by two states
   abbrev pub state_target : Option Value
-  state_target = if looks (sight j (length j)) (sight (more j x) (suc (length j))) j t.rule (is_some t.hold) (Some e) x then Some (given (sight j (length j)) (sight (more j x) (suc (length j))) (event_in x) t (Some e)) else None
+  state_target = if looks (sight j (length j)) (sight (more j x) (suc (length j))) j t.rule (is_some t.hold) (Some e) x then Some (given (sight j (length j)) (sight (more j x) (suc (length j))) (event_seen j x (Some e)) t (Some e)) else None
 
   abbrev pub state_made : Option StateObject → Option StateObject → Option Value
   state_made old new = if state_moves attribute from to (is_some t.hold) old new then Some (Map (head_pairs (codes "state") t ++ ((codes "entity_id", Value.Text (entity_text e)) ∷ (codes "from_state", state_value e old) ∷ (codes "to_state", state_value e new) ∷ (codes "attribute", text_or_null attribute) ∷ []))) else None
 
   target-is : state_target ≡ state_made (states j e) (states (more j x) e)
   target-is =
-      (λ i. if looks (sight j (length j)) (sight (more j x) (suc (length j))) j (is i) (is_some t.hold) (Some e) x then Some (Map (given_by (sight j (length j)) (sight (more j x) (suc (length j))) (event_in x) t (is i) (Some e))) else None)
+      (λ i. if looks (sight j (length j)) (sight (more j x) (suc (length j))) j (is i) (is_some t.hold) (Some e) x then Some (Map (given_by (sight j (length j)) (sight (more j x) (suc (length j))) (event_seen j x (Some e)) t (is i) (Some e))) else None)
       ∙ (λ i. state_made (seen_now j x i e) (seen_then j x i e))
 
   -- LAW: of an entity that is not listed a state trigger does not move
@@ -283,7 +316,7 @@ module _ (j : Journal) (x : Entry) (t : Trigger) (e : EntityId) (entities : List
 module _ (j : Journal) (x : Entry) (t : Trigger) (e : EntityId) (entities : List EntityId) (attribute : Option Text) (above below : Option Num) (is : t.rule ≡ TriggerRule.Numeric entities attribute above below) where
   -- what a numeric trigger gives, by its sights, and by two states
   abbrev pub number_target : Option Value
-  number_target = if looks (sight j (length j)) (sight (more j x) (suc (length j))) j t.rule (is_some t.hold) (Some e) x then Some (given (sight j (length j)) (sight (more j x) (suc (length j))) (event_in x) t (Some e)) else None
+  number_target = if looks (sight j (length j)) (sight (more j x) (suc (length j))) j t.rule (is_some t.hold) (Some e) x then Some (given (sight j (length j)) (sight (more j x) (suc (length j))) (event_seen j x (Some e)) t (Some e)) else None
 
   abbrev pub number_crosses : Bool
   number_crosses = option_map_or (in_bounds above below) (report_number e attribute x) false && not (option_map_or (in_bounds above below) (latest_number e attribute j) false)
@@ -293,18 +326,14 @@ module _ (j : Journal) (x : Entry) (t : Trigger) (e : EntityId) (entities : List
 
   number-is : number_target ≡ number_made number_crosses (states j e) (states (more j x) e)
   number-is =
-      (λ i. if looks (sight j (length j)) (sight (more j x) (suc (length j))) j (is i) (is_some t.hold) (Some e) x then Some (Map (given_by (sight j (length j)) (sight (more j x) (suc (length j))) (event_in x) t (is i) (Some e))) else None)
+      (λ i. if looks (sight j (length j)) (sight (more j x) (suc (length j))) j (is i) (is_some t.hold) (Some e) x then Some (Map (given_by (sight j (length j)) (sight (more j x) (suc (length j))) (event_seen j x (Some e)) t (is i) (Some e))) else None)
       ∙ (λ i. number_made number_crosses (seen_now j x i e) (seen_then j x i e))
-
-  unreported : (o : Option Reported) → option_map_or (λ r. same_entity r.entity e) o false ≡ false → option_and_then (λ r. if same_entity r.entity e then number_watched attribute r.text r.attributes else None) o ≡ None
-  unreported None h = refl
-  unreported (Some r) h = (λ i. if h i then number_watched attribute r.text r.attributes else None)
 
   -- LAW: of an entity that is not reported a numeric trigger does not move
   pub unlisted-number : reports e x ≡ false → None ≡ number_target
   unlisted-number h =
       sym (number-is
-      ∙ (λ i. number_made (option_map_or (in_bounds above below) (unreported (report_in x) h i) false && not (option_map_or (in_bounds above below) (latest_number e attribute j) false)) (states j e) (states (more j x) e)))
+      ∙ (λ i. number_made (option_map_or (in_bounds above below) (unreported e attribute x h i) false && not (option_map_or (in_bounds above below) (latest_number e attribute j) false)) (states j e) (states (more j x) e)))
 
   -- LAW: of one that is listed the listed states tell what it gives
   pub listed-number : (crosses : Bool) (old new : Option StateObject) → crosses ≡ number_crosses → face old ≡ face (states j e) → face new ≡ face (states (more j x) e) → number_made crosses old new ≡ number_target
@@ -328,13 +357,15 @@ no-data (Some v) k = cc
 
 module _ (b a : Sight) (j : Journal) (x : Entry) (t : Trigger) (kinds : List Text) (pairs : Pairs) (is : t.rule ≡ TriggerRule.Event kinds pairs) where
   abbrev pub event_target : Option Value
-  event_target = if looks b a j t.rule (is_some t.hold) None x then Some (given b a (event_in x) t None) else None
+  event_target = if looks b a j t.rule (is_some t.hold) None x then Some (given b a (event_seen j x None) t None) else None
 
   abbrev event_made : Option (Text × Pairs) → Option Value
   event_made o = if option_map_or (λ v. one_of v.0 kinds && list_all (pair_holds v.1) pairs) o false then Some (Map (head_pairs (codes "event") t ++ ((codes "event", option_map_or (λ v. Map ((codes "event_type", Value.Text v.0) ∷ (codes "data", Map v.1) ∷ [])) o Value.Null) ∷ []))) else None
 
   event-is : event_target ≡ event_made (event_in x)
-  event-is = (λ i. if looks b a j (is i) (is_some t.hold) None x then Some (Map (given_by b a (event_in x) t (is i) None)) else None)
+  event-is =
+      (λ i. if looks b a j (is i) (is_some t.hold) None x then Some (Map (given_by b a (event_seen j x None) t (is i) None)) else None)
+      ∙ (λ i. if nobodys-named j x kinds pairs i then Some (Map (head_pairs (codes "event") t ++ ((codes "event", event_value (nobodys-given j x i)) ∷ []))) else None)
 
   -- LAW: what is no event moves no event trigger
   pub kindless : None ≡ option_map {U = Text} (λ v. v.0) (event_in x) → None ≡ event_target
@@ -351,14 +382,42 @@ module _ (b a : Sight) (j : Journal) (x : Entry) (t : Trigger) (kinds : List Tex
       (λ i. if n i then Some (Map (head_pairs (codes "event") t ++ ((codes "event", Map ((codes "event_type", Value.Text kind) ∷ (codes "data", Map fields) ∷ [])) ∷ []))) else None)
       ∙ sym (event-is ∙ ap event_made (both-parts (event_in x) kind fields k d))
 
+-- the events of helpers
+
+-- LAW: the entry's own event is nobody's
+pub own-skipped : (j : Journal) (x : Entry) (e : EntityId) → event_for (Some e) (events_of j x) ≡ event_for (Some e) (helper_events j x)
+own-skipped j x e = by (event_in x)
+  where
+    by : (o : Option (Text × Pairs)) → event_for (Some e) (map own_event (option_to_list o) ++ helper_events j x) ≡ event_for (Some e) (helper_events j x)
+    by None = refl
+    by (Some v) = refl
+
+module _ (b a : Sight) (j : Journal) (x : Entry) (t : Trigger) (e : EntityId) where
+  abbrev pub timer_target : Option Value
+  timer_target = if looks b a j t.rule (is_some t.hold) (Some e) x then Some (given b a (event_seen j x (Some e)) t (Some e)) else None
+
+  -- LAW: the event of a helper moves a trigger that names it
+  pub timer-told : (kinds : List Text) (pairs : Pairs) → t.rule ≡ TriggerRule.Event kinds pairs → (events : List BusEvent) → events ≡ helper_events j x → given_for t events (Some e) ≡ timer_target
+  timer-told kinds pairs is events are =
+      (λ i. option_and_then (given_with t) (event_for (Some e) (are i)))
+      ∙ (λ i. option_and_then (given_with t) (sym (own-skipped j x e) i))
+      ∙ by (event_for (Some e) (events_of j x))
+      ∙ sym (λ i. if looks b a j (is i) (is_some t.hold) (Some e) x then Some (Map (given_by b a (event_seen j x (Some e)) t (is i) (Some e))) else None)
+    where
+      by : (o : Option BusEvent) → option_and_then (given_with t) o
+          ≡ (if option_map_or (λ (v : BusEvent). one_of v.kind kinds && list_all (pair_holds v.pairs) pairs) o false
+          then Some (Map (head_pairs (codes "event") t ++ ((codes "event", event_value (option_map {T = BusEvent} {U = Text × Pairs} (λ v. (v.kind, v.pairs)) o)) ∷ []))) else None)
+      by None = refl
+      by (Some v) = (λ i. if names_event (is i) v then Some (Map (head_pairs (codes "event") t ++ ((codes "event", event_value (Some (v.kind, v.pairs))) ∷ []))) else None)
+
 -- ---- times and templates
 
 module _ (j : Journal) (x : Entry) (t : Trigger) where
   abbrev pub bare_target : Option Value
-  bare_target = if looks (sight j (length j)) (sight (more j x) (suc (length j))) j t.rule (is_some t.hold) None x then Some (given (sight j (length j)) (sight (more j x) (suc (length j))) (event_in x) t None) else None
+  bare_target = if looks (sight j (length j)) (sight (more j x) (suc (length j))) j t.rule (is_some t.hold) None x then Some (given (sight j (length j)) (sight (more j x) (suc (length j))) (event_seen j x None) t None) else None
 
-  target-by : (rule : TriggerRule) → t.rule ≡ rule → bare_target ≡ (if looks (sight j (length j)) (sight (more j x) (suc (length j))) j rule (is_some t.hold) None x then Some (Map (given_by (sight j (length j)) (sight (more j x) (suc (length j))) (event_in x) t rule None)) else None)
-  target-by rule is = (λ i. if looks (sight j (length j)) (sight (more j x) (suc (length j))) j (is i) (is_some t.hold) None x then Some (Map (given_by (sight j (length j)) (sight (more j x) (suc (length j))) (event_in x) t (is i) None)) else None)
+  target-by : (rule : TriggerRule) → t.rule ≡ rule → bare_target ≡ (if looks (sight j (length j)) (sight (more j x) (suc (length j))) j rule (is_some t.hold) None x then Some (Map (given_by (sight j (length j)) (sight (more j x) (suc (length j))) (event_seen j x None) t rule None)) else None)
+  target-by rule is = (λ i. if looks (sight j (length j)) (sight (more j x) (suc (length j))) j (is i) (is_some t.hold) None x then Some (Map (given_by (sight j (length j)) (sight (more j x) (suc (length j))) (event_seen j x None) t (is i) None)) else None)
 
   module _ (h : HasEntry j) (zone : Text) (from to : ℕ) (zone-is : zone ≡ zone_of (more j x)) (from-is : from ≡ now j) (to-is : to ≡ now (more j x)) where
     seen_zone : zone ≡ (sight j (length j)).zone

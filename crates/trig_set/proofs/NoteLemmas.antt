@@ -1,16 +1,18 @@
 -- What an entry makes of all spots of an owner.
 use Rattle.std.proofs.Common.{◌≡◌, ℕ, zero, suc, ◌+◌, List, [], ◌∷◌, ◌++◌, length, map, Bool, true, false, refl, sym, ap, subst, ◌∙◌}
-use Rattle.std.specs.Prelude.{Option, Some, None, MatchOption, filter_map, slice_get, option_and_then, nat_le, if◌then◌else◌}
+use Rattle.std.specs.Prelude.{Option, Some, None, MatchOption, flat_map, slice_get, option_and_then, nat_le, if◌then◌else◌}
 use Rattle.timer_queue.specs.Timers.{Timer}
 use Rattle.ha_config.specs.declared.config.Trigger.{Trigger}
 use Rattle.ha_journal.specs.declared.entry.Entry.{Entry}
 use Rattle.ha_journal.specs.declared.firing.Firing.{Firing}
 use Rattle.ha_journal.specs.Entries.{is_moment}
+use Rattle.ha_journal.specs.Helpers.{helper_events}
 use Rattle.ha_journal.specs.Journal.{Journal, now, more}
 use Rattle.trig_set.specs.declared.spot.Held.{Held}
 use Rattle.trig_set.specs.declared.spot.Spot.{Spot}
 use Rattle.ha_past.specs.Firings.{firings_of}
-use Rattle.trig_set.specs.Kept.{All, AreTimed, AreWell, SpotsStand, Keeps, KeepsAt, Moved, MovedAt, Fired, FiredAt, cleared, due_in, firing_in, holds_well, place_of, places_of, ripened, ripened_by, ripened_if}
+use Rattle.trig_set.specs.Kept.{All, AreTimed, AreWell, SpotsStand, Keeps, KeepsAt, Moved, MovedAt, Fired, FiredAt, cleared, due_in, holds_well, place_of, places_of, ripened, ripened_by, ripened_if}
+use Rattle.trig_set.specs.Timed.{firings_in}
 use Rattle.trig_set.proofs.KeptLemmas.{fired-keeps, moved-fires, moved-waits}
 use Rattle.trig_set.proofs.OwnerLemmas.{spots-fire}
 
@@ -97,7 +99,7 @@ module _ (j : Journal) (x : Entry) (triggers : List Trigger) (since : ℕ) (well
 
   -- LAW: and what fires is what the owner's triggers fire with
   pub spots-give : (owner to : ℕ) (mid : List Spot) (before after : List Firing) → to ≡ now (more j x) → All mid (MovedAt j x triggers since) → map place_of mid ≡ places_of j triggers
-      → after ≡ before ++ filter_map (firing_in owner) (ripened_if x to mid)
+      → after ≡ before ++ flat_map (firings_in (record { owner = owner; triggers = triggers; since = since }) (length j) (helper_events j x)) (ripened_if x to mid)
       → after ≡ before ++ firings_of (more j x) (length j) (record { owner = owner; triggers = triggers; since = since })
   spots-give owner to mid before after is moved places e =
       e ∙ (λ i. before ++ spots-fire j x (record { owner = owner; triggers = triggers; since = since }) well (ripened_if x to mid) (all-fired to mid is moved) (places-if to mid ∙ places) i)

@@ -1,7 +1,7 @@
 -- The states of entities after one more entry, by the entry and what is seen after it.
-use Rattle.std.proofs.Common.{◌≡◌, ℕ, suc, ◌+◌, ◌<◌, List, [], ◌∷◌, ◌++◌, length, take, Bool, true, false, refl, sym, ap, subst, ◌∙◌, arith}
-use Rattle.std.specs.Prelude.{Option, Some, None, MatchOption, slice_get, find, map, option_map, option_and_then, codes, ◌||◌, if◌then◌else◌}
-use Rattle.std.specs.List.{enumerate_from}
+use Rattle.std.proofs.Common.{◌≡◌, ℕ, suc, ◌+◌, ◌<◌, List, [], ◌∷◌, ◌++◌, length, take, Bool, true, false, true≢false, refl, sym, ap, subst, ◌∙◌, arith}
+use Rattle.std.specs.Prelude.{Option, Some, None, MatchOption, slice_get, find, is_some, map, option_map, option_and_then, codes, ◌||◌, if◌then◌else◌}
+use Rattle.std.specs.List.{enumerate_from, list_all}
 use Rattle.std.specs.Option.{option_map_or}
 use Rattle.ha_value.specs.declared.value.EntityId.{EntityId}
 use Rattle.ha_config.specs.declared.config.Automation.{Automation}
@@ -10,21 +10,28 @@ use Rattle.ha_journal.specs.declared.entry.Entry.{Entry}
 use Rattle.ha_journal.specs.declared.entry.Entry.TheVariants.{Boot, Line, Step, Again}
 use Rattle.ha_sight.specs.declared.state.StateObject.{StateObject}
 use Rattle.ha_sight.specs.Calls.{automation_at}
-use Rattle.ha_journal.specs.Entries.{report_in, gone_in, is_restart}
-use Rattle.ha_journal.specs.Journal.{Journal, automations, now, more}
+use Rattle.ha_config.specs.declared.helper.Helper.{Helper}
+use Rattle.ha_config.specs.Helpers.{helper_named, is_helper}
+use Rattle.ha_sight.specs.declared.helped.HelperChange.{HelperChange}
+use Rattle.ha_journal.specs.declared.event.BusEvent.{BusEvent}
+use Rattle.ha_journal.specs.Entries.{change_of, changes_in, report_in, gone_in, is_boot, is_restart, opens_segment}
+use Rattle.ha_journal.specs.Helpers.{finishes, helper_events, text_of}
+use Rattle.ha_journal.specs.Journal.{Journal, HasEntry, automations, helpers, now, more}
 use Rattle.ha_sight.specs.Sight.{switch_seen, Sight}
 use Rattle.ha_config.specs.Names.{automation_named}
-use Rattle.ha_journal.specs.States.{of_automation, reported, states, switches_of}
+use Rattle.ha_journal.specs.States.{of_automation, of_helper, reported, states, switches_of}
 use Rattle.ha_sight.specs.StateStep.{next_object}
 use Rattle.ha_journal.specs.Switches.{is_on}
 use Rattle.ha_journal.specs.Moves.{sight}
 use Rattle.ha_config.specs.Words.{Text, Pairs, same, same_entity}
-use Rattle.ha_config.proofs.EqualLemmas.{entity-sound}
+use Rattle.ha_config.proofs.EqualLemmas.{and_left, and_right, entity-sound}
+use Rattle.ha_journal.proofs.HelperLaws.{IsBare, helper-more, helper-seen, text-more, text_with}
+use Rattle.ha_journal.proofs.NamedLaws.{before-is, event-finishes, event-nobody, named-is, none-before, some-has}
 use Rattle.ha_journal.proofs.StateLemmas.{reported-report, reported-gone, reported-restart, reported-other}
 use Rattle.trig_set.specs.declared.scene.Shift.{Shift}
-use Rattle.trig_set.specs.Next.{Listed, reports, state_listed}
+use Rattle.trig_set.specs.Next.{Listed, changes_helpers, names_helper, reports, spares_helpers, state_listed}
 use Rattle.trig_set.specs.Scenes.{face, shift_of}
-use Rattle.trig_set.specs.Shifts.{AreMade, IsMade, face_after, face_of_switch, is_automation, next_face}
+use Rattle.trig_set.specs.Shifts.{AreMade, IsMade, changed_face, face_after, face_of_switch, is_automation, next_face, removes, reported_face}
 
 -- ---- switches
 
@@ -102,7 +109,7 @@ faces j (Some a) = refl
 
 automation-face : (j : Journal) (e : EntityId) → is_automation e ≡ true → face (states j e) ≡ option_map face_of_switch (option_and_then (switch_seen (sight j (length j))) (automation_at (sight j (length j)).automations e))
 automation-face j e h =
-    (λ i. face (if h i then option_map (of_automation j) (automation_named (automations j) e.object) else reported j e))
+    (λ i. face (if h i then option_map (of_automation j) (automation_named (automations j) e.object) else option_map_or (of_helper j) (helper_named (helpers j) e) (reported j e)))
     ∙ faces j (automation_named (automations j) e.object)
     ∙ ap (option_map face_of_switch) (sym (switch-seen j e.object))
     ∙ (λ i. option_map face_of_switch (option_and_then (λ a. option_map (λ p. p.1) (slice_get (switches_of (sym (take-whole j) i)) a)) (if sym h i then option_map (λ p. p.0) (find (λ p. same p.1.0 e.object) (enumerate_from 0 (switches_of (sym (take-whole j) i)))) else None)))
@@ -113,14 +120,26 @@ next-object-face : (o : Option StateObject) (text : Text) (attributes : Pairs) (
 next-object-face None text attributes at = refl
 next-object-face (Some o) text attributes at = refl
 
+either : (a b : Bool) → (a || b) ≡ false → (a ≡ false) × (b ≡ false)
+either true b h = absurd (true≢false h)
+either false b h = (refl, h)
+
+none-of : {X : Type 0} (o : Option X) → is_some o ≡ false → o ≡ None
+none-of None h = refl
+none-of (Some v) h = absurd (true≢false h)
+
 module _ (j : Journal) (e : EntityId) where
-  other : (x : Entry) → report_in x ≡ None → gone_in x ≡ None → is_restart x ≡ false → face (reported (more j x) e) ≡ next_face x e (face (reported j e))
+  -- those of an entity that is no helper
+  abbrev plain_face : Entry → Option (Text × Pairs) → Option (Text × Pairs)
+  plain_face x old = option_map_or (λ r. Some r) (reported_face x e) (if removes x e then None else old)
+
+  other : (x : Entry) → report_in x ≡ None → gone_in x ≡ None → is_restart x ≡ false → face (reported (more j x) e) ≡ plain_face x (face (reported j e))
   other x r g s =
       ap face (reported-other j e x r g s)
       ∙ (λ i. option_map_or (λ r. Some r) (option_and_then (λ r. if same_entity r.entity e then Some (r.text, r.attributes) else None) (sym r i))
       (if sym s i || option_map_or (λ y. same_entity y e) (sym g i) false then None else face (reported j e)))
 
-  next : (x : Entry) → face (reported (more j x) e) ≡ next_face x e (face (reported j e))
+  next : (x : Entry) → face (reported (more j x) e) ≡ plain_face x (face (reported j e))
   next (Boot text config stored start zone carry) = other (Boot text config stored start zone carry) refl refl refl
   next (Again number start stored carry) = other (Again number start stored carry) refl refl refl
   next (Step worker serial branch item) = other (Step worker serial branch item) refl refl refl
@@ -144,47 +163,137 @@ module _ (j : Journal) (e : EntityId) where
   next (Line k n Cmd.Lost) = other (Line k n Cmd.Lost) refl refl refl
   next (Line k n Cmd.TooLong) = other (Line k n Cmd.TooLong) refl refl refl
 
-reported-states : (j : Journal) (e : EntityId) → is_automation e ≡ false → states j e ≡ reported j e
-reported-states j e h = (λ i. if h i then option_map (of_automation j) (automation_named (automations j) e.object) else reported j e)
+  -- ---- helpers
+
+  -- only helpers are changed
+  unhelped : (all : List Helper) (cs : List HelperChange) → helper_named all e ≡ None → list_all (λ c. is_helper all c.entity) cs ≡ true → find (λ c. same_entity c.entity e) cs ≡ None
+  unhelped all [] none h = refl
+  unhelped all (c ∷ cs) none h = by (same_entity c.entity e) refl (unhelped all cs none (and_right (is_helper all c.entity) _ h))
+    where
+      by : (b : Bool) → same_entity c.entity e ≡ b → find (λ (d : HelperChange). same_entity d.entity e) cs ≡ None → (if b then Some c else find (λ (d : HelperChange). same_entity d.entity e) cs) ≡ None
+      by true one rest =
+          let is : is_helper all c.entity ≡ true = and_left (is_helper all c.entity) _ h in
+          absurd (true≢false (sym is ∙ ap (is_helper all) (entity-sound c.entity e one) ∙ ap is_some none))
+      by false one rest = rest
+
+  module _ (x : Entry) (plain : is_automation e ≡ false) where
+    abbrev named : Journal → Option Helper
+    named k = helper_named (helpers k) e
+
+    states-by : (k : Journal) → states k e ≡ option_map_or (of_helper k) (named k) (reported k e)
+    states-by k = (λ i. if plain i then option_map (of_automation k) (automation_named (automations k) e.object) else option_map_or (of_helper k) (named k) (reported k e))
+
+    of-nobody : named (more j x) ≡ None → changes_helpers j x ≡ true → face (states (more j x) e) ≡ next_face (helper_events j x) x e (face (states j e))
+    of-nobody none helped =
+        ap face (states-by (more j x) ∙ (λ i. option_map_or (of_helper (more j x)) (none i) (reported (more j x) e)))
+        ∙ next x
+        ∙ (λ i. plain_face x (face (sym (states-by j ∙ (λ i. option_map_or (of_helper j) (none-before j x e none i) (reported j e))) i)))
+        ∙ sym (λ i. option_map_or (λ r. Some r) (reported_face x e)
+        (option_map_or (λ r. Some r) (option_map {T = HelperChange} {U = Text × Pairs} (λ c. (c.text, [])) (unhelped (helpers (more j x)) (changes_in x) none helped i))
+        (if event-nobody j x e (none-before j x e none) i then Some (codes "idle", []) else (if removes x e then None else face (states j e)))))
+
+    module _ (h : Helper) (is : named (more j x) ≡ Some h) (spared : spares_helpers x ≡ false) where
+      kinds : ((is_boot x ≡ false) × (is_restart x ≡ false)) × ((report_in x ≡ None) × (gone_in x ≡ None))
+      kinds =
+          let all = either (opens_segment x || is_some (report_in x)) (is_some (gone_in x)) spared in
+          let first = either (opens_segment x) (is_some (report_in x)) all.0 in
+          (either (is_boot x) (is_restart x) first.0, (none-of (report_in x) first.1, none-of (gone_in x) all.1))
+
+      some : HasEntry j
+      some = some-has j x e h kinds.0.0 is
+
+      before : named j ≡ Some h
+      before = before-is j x e h some is
+
+      id : h.entity ≡ e
+      id = named-is (helpers j) e h before
+
+      -- the state before has its text
+      bare-face : (o : Option StateObject) (text : Text) → IsBare o text → face o ≡ Some (text, [])
+      bare-face o text bare = ap face bare.is ∙ (λ i. Some (bare.text_is i, bare.attributes_are i))
+
+      old-face : face (states j e) ≡ Some (text_of j h, [])
+      old-face = ap face (states-by j ∙ (λ i. option_map_or (of_helper j) (before i) (reported j e))) ∙ bare-face (of_helper j h) (text_of j h) (helper-seen j h some)
+
+      texted : (o : Option HelperChange) (b : Bool) (text : Text)
+          → Some (text_with o (if b then codes "idle" else text), []) ≡ option_map_or (λ r. Some r) (option_map {T = HelperChange} {U = Text × Pairs} (λ c. (c.text, [])) o) (if b then Some (codes "idle", []) else Some (text, []))
+      texted None true text = refl
+      texted None false text = refl
+      texted (Some c) b text = refl
+
+      of-helped : face (states (more j x) e) ≡ next_face (helper_events j x) x e (face (states j e))
+      of-helped =
+          ap face (states-by (more j x) ∙ (λ i. option_map_or (of_helper (more j x)) (is i) (reported (more j x) e)) ∙ helper-more j x h)
+          ∙ next-object-face (of_helper j h) (text_of (more j x) h) [] (now (more j x))
+          ∙ (λ i. Some ((text-more j x h ∙ (λ k. text_with (change_of (id k) x) (if finishes j x h then codes "idle" else text_of j h))) i, []))
+          ∙ texted (change_of e x) (finishes j x h) (text_of j h)
+          ∙ sym (λ i. option_map_or (λ r. Some r) (option_and_then (λ r. if same_entity r.entity e then Some (r.text, r.attributes) else None) (kinds.1.0 i))
+          (option_map_or (λ r. Some r) (changed_face x e)
+          (if event-finishes j x e h before i then Some (codes "idle", []) else (if kinds.0.1 i || option_map_or (λ g. same_entity g e) (kinds.1.1 i) false then None else old-face i))))
+
+    -- where helpers keep their texts, it is none
+    next-plain : changes_helpers j x ≡ true → (spares_helpers x ≡ true → is_helper (helpers (more j x)) e ≡ false) → face (states (more j x) e) ≡ next_face (helper_events j x) x e (face (states j e))
+    next-plain helped apart = by (named (more j x)) refl
+      where
+        by : (o : Option Helper) → named (more j x) ≡ o → face (states (more j x) e) ≡ next_face (helper_events j x) x e (face (states j e))
+        by None none = of-nobody none helped
+        by (Some h) is = of (spares_helpers x) refl
+          where
+            of : (b : Bool) → spares_helpers x ≡ b → face (states (more j x) e) ≡ next_face (helper_events j x) x e (face (states j e))
+            of true spared = absurd (true≢false (sym (ap is_some is) ∙ apart spared))
+            of false spared = of-helped h is spared
 
 -- LAW: the text and attributes of an entity after one more entry
-pub after-face : (j : Journal) (x : Entry) (seen : Sight) (e : EntityId) → seen ≡ sight (more j x) (length (more j x)) → face (states (more j x) e) ≡ face_after x seen e (face (states j e))
-after-face j x seen e sees = by (is_automation e) refl
+pub after-face : (j : Journal) (x : Entry) (events : List BusEvent) (seen : Sight) (e : EntityId) → events ≡ helper_events j x → seen ≡ sight (more j x) (length (more j x)) → changes_helpers j x ≡ true
+    → (spares_helpers x ≡ true → is_helper (helpers (more j x)) e ≡ false) → face (states (more j x) e) ≡ face_after events x seen e (face (states j e))
+after-face j x events seen e are sees helped apart = by (is_automation e) refl
   where
     by : (b : Bool) → is_automation e ≡ b
-        → face (states (more j x) e) ≡ (if b then option_map face_of_switch (option_and_then (switch_seen seen) (automation_at seen.automations e)) else next_face x e (face (states j e)))
+        → face (states (more j x) e) ≡ (if b then option_map face_of_switch (option_and_then (switch_seen seen) (automation_at seen.automations e)) else next_face events x e (face (states j e)))
     by true h = automation-face (more j x) e h ∙ (λ i. option_map face_of_switch (option_and_then (switch_seen (sym sees i)) (automation_at (sym sees i).automations e)))
-    by false h = ap face (reported-states (more j x) e h) ∙ next j e x ∙ ap (λ s. next_face x e (face s)) (sym (reported-states j e h))
+    by false h = next-plain j e x h helped apart ∙ (λ i. next_face (sym are i) x e (face (states j e)))
 
 -- ---- lists of changes
 
-module _ (x : Entry) (seen : Sight) where
+module _ (events : List BusEvent) (x : Entry) (seen : Sight) where
   -- LAW: one more change
-  pub made-more : (ps : Listed) (cs : List Shift) (p : EntityId × Option StateObject) (c : Shift) → AreMade x seen ps cs → IsMade x seen p c → AreMade x seen (ps ++ (p ∷ [])) (cs ++ (c ∷ []))
+  pub made-more : (ps : Listed) (cs : List Shift) (p : EntityId × Option StateObject) (c : Shift) → AreMade events x seen ps cs → IsMade events x seen p c → AreMade events x seen (ps ++ (p ∷ [])) (cs ++ (c ∷ []))
   made-more [] [] p c all one = (one, tt)
   made-more [] (b ∷ bs) p c all one = absurd all
   made-more (q ∷ qs) [] p c all one = absurd all
   made-more (q ∷ qs) (b ∷ bs) p c all one = (all.0, made-more qs bs p c all.1 one)
 
-  module _ (j : Journal) (sees : seen ≡ sight (more j x) (length (more j x))) (e : EntityId) where
+  module _ (j : Journal) (are : events ≡ helper_events j x) (sees : seen ≡ sight (more j x) (length (more j x))) (helped : changes_helpers j x ≡ true) (e : EntityId) where
     abbrev Told : Option (Option StateObject) → Option Shift → Type 0
     Told listed made =
         MatchOption listed ((states (more j x) e ≡ states j e) × (reports e x ≡ false)) (λ old. old ≡ states j e)
         → MatchOption made ((states (more j x) e ≡ states j e) × (reports e x ≡ false)) (λ c. (face c.old ≡ face (states j e)) × (face c.new ≡ face (states (more j x) e)))
 
-    told : (p : EntityId × Option StateObject) (c : Shift) → IsMade x seen p c → same_entity p.0 e ≡ true → Told (Some p.1) (Some c)
-    told p c made h old =
-        let is : p.0 ≡ e = entity-sound p.0 e h in
-        (ap face (made.1 ∙ old), made.2 ∙ (λ i. face_after x seen (is i) (face (old i))) ∙ sym (after-face j x seen e sees))
+    abbrev Apart : Listed → Type 0
+    Apart ps = spares_helpers x ≡ true → names_helper (more j x) ps ≡ false
 
-    pub made-shifts : (ps : Listed) (cs : List Shift) → AreMade x seen ps cs → Told (state_listed ps e) (shift_of cs e)
-    made-shifts [] [] all = λ h. h
-    made-shifts [] (c ∷ cs) all = absurd all
-    made-shifts (p ∷ ps) [] all = absurd all
-    made-shifts (p ∷ ps) (c ∷ cs) all =
+    told : (p : EntityId × Option StateObject) (c : Shift) → IsMade events x seen p c → same_entity p.0 e ≡ true → (spares_helpers x ≡ true → is_helper (helpers (more j x)) p.0 ≡ false) → Told (Some p.1) (Some c)
+    told p c made h apart old =
+        let is : p.0 ≡ e = entity-sound p.0 e h in (
+          ap face (made.1 ∙ old),
+          made.2 ∙ (λ i. face_after events x seen (is i) (face (old i)))
+              ∙ sym (after-face j x events seen e are sees helped (λ spared. ap (is_helper (helpers (more j x))) (sym is) ∙ apart spared)),
+        )
+
+    one-apart : (p : EntityId × Option StateObject) (ps : Listed) → Apart (p ∷ ps) → spares_helpers x ≡ true → is_helper (helpers (more j x)) p.0 ≡ false
+    one-apart p ps apart spared = (either (is_helper (helpers (more j x)) p.0) (names_helper (more j x) ps) (apart spared)).0
+
+    rest-apart : (p : EntityId × Option StateObject) (ps : Listed) → Apart (p ∷ ps) → Apart ps
+    rest-apart p ps apart spared = (either (is_helper (helpers (more j x)) p.0) (names_helper (more j x) ps) (apart spared)).1
+
+    pub made-shifts : (ps : Listed) (cs : List Shift) → AreMade events x seen ps cs → Apart ps → Told (state_listed ps e) (shift_of cs e)
+    made-shifts [] [] all apart = λ h. h
+    made-shifts [] (c ∷ cs) all apart = absurd all
+    made-shifts (p ∷ ps) [] all apart = absurd all
+    made-shifts (p ∷ ps) (c ∷ cs) all apart =
         subst (λ (d : EntityId). Told (option_map (λ p. p.1) (if same_entity p.0 e then Some p else find (λ p. same_entity p.0 e) ps)) (if same_entity d e then Some c else find (λ c. same_entity c.entity e) cs)) (sym all.0.0)
-        (by (same_entity p.0 e) refl (made-shifts ps cs all.1))
+        (by (same_entity p.0 e) refl (made-shifts ps cs all.1 (rest-apart p ps apart)))
       where
         by : (b : Bool) → same_entity p.0 e ≡ b → Told (state_listed ps e) (shift_of cs e) → Told (option_map (λ p. p.1) (if b then Some p else find (λ p. same_entity p.0 e) ps)) (if b then Some c else find (λ c. same_entity c.entity e) cs)
-        by true h rest = told p c all.0 h
+        by true h rest = told p c all.0 h (one-apart p ps apart)
         by false h rest = rest

@@ -15,3 +15,4 @@ pub mod Concerned
 pub mod Places
 pub mod Left
 pub mod Opening
+pub mod Timed

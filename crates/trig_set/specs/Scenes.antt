@@ -7,6 +7,7 @@ use Rattle.ha_sight.specs.declared.state.StateObject.{StateObject}
 use Rattle.ha_config.specs.Words.{Text, Pairs, same_entity}
 use Rattle.ha_journal.specs.Journal.{Journal, IsJournal, zone_of, now, more}
 use Rattle.ha_journal.specs.States.{states}
+use Rattle.ha_journal.specs.Helpers.{helper_events}
 use Rattle.ha_journal.specs.Moves.{latest_number}
 use Rattle.trig_set.specs.declared.scene.Shift.{Shift}
 use Rattle.trig_set.specs.declared.scene.Shifts.{Shifts}
@@ -35,6 +36,7 @@ pub record Shows (s : Scene) (j : Journal) (since : ℕ) : Type 0 where
   pub at : s.place ≡ length j
   pub journal : IsJournal (more j s.entry.now)
   pub shifts : nat_lt since (length j) ≡ true → AreShifts s.shifts.now j s.entry.now
+  pub events : s.events.now ≡ helper_events j s.entry.now
   pub zone : MatchOption (option_copied s.zone) ⊥ (λ z. z ≡ zone_of (more j s.entry.now))
   pub from : s.from ≡ now j
   pub to : s.to ≡ now (more j s.entry.now)

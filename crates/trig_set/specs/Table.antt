@@ -1,5 +1,5 @@
 -- The latest numbers of entities and their attributes.
-use Rattle.std.specs.Prelude.{◌≡◌, Bool, false, Option, None, Some, String, [], ◌∷◌, is_some, option_and_then, if◌then◌else◌}
+use Rattle.std.specs.Prelude.{◌≡◌, Bool, false, List, Option, None, Some, String, [], ◌∷◌, filter_map, is_some, option_and_then, if◌then◌else◌}
 use Rattle.std.specs.BTreeSet.{BTreeSet, contains_text}
 use Rattle.std.specs.BTreeMap.{BTreeMap, get_by_text}
 use Rattle.ha_value.specs.declared.value.EntityId.{EntityId}
@@ -7,7 +7,11 @@ use Rattle.ha_value.specs.declared.value.Num.{Num}
 use Rattle.ha_value.specs.Ids.{for_id}
 use Rattle.ha_value.specs.Numbers.{begins_number}
 use Rattle.ha_sight.specs.Conditions.{number_watched}
-use Rattle.ha_config.specs.Words.{or_else, Text, Pairs, same, first_pair}
+use Rattle.ha_sight.specs.declared.helped.HelperChange.{HelperChange}
+use Rattle.ha_config.specs.Words.{or_else, Text, Pairs, first_of_list, first_pair, same, same_entity}
+use Rattle.ha_journal.specs.declared.entry.Entry.{Entry}
+use Rattle.ha_journal.specs.Entries.{report_in}
+use Rattle.ha_journal.specs.Moves.{number_in_text}
 use Rattle.trig_set.specs.declared.numbers.Latest.{Latest}
 use Rattle.trig_set.specs.declared.numbers.Numbers.{Numbers}
 
@@ -22,6 +26,18 @@ numbers_in entities q name = option_and_then (number_of name) (get_by_text entit
 -- the number of the entity, or of its attribute
 abbrev pub number_at : Numbers → EntityId → Option Text → Option Num
 number_at t e name = option_and_then (number_of name) (for_id None (get_by_text t.entities) e)
+
+-- the number that an entry gives of e as a Report
+abbrev pub number_reported : EntityId → Option Text → Entry → Option Num
+number_reported e name x = option_and_then (number_in_text e name) (report_in x)
+
+-- the number that a change gives of e
+abbrev pub number_changed : EntityId → Option Text → HelperChange → Option Num
+number_changed e name c = if same_entity c.entity e then number_watched name c.text [] else None
+
+-- the first number that one of these changes gives of e
+abbrev pub number_among : EntityId → Option Text → List HelperChange → Option Num
+number_among e name cs = first_of_list (filter_map (number_changed e name) cs)
 
 -- the number that a report gives, where its state text gives this one
 abbrev pub number_given : Option Num → Pairs → Option Text → Option Num

@@ -1,5 +1,5 @@
 //! The triggers of one owner, with what is kept for each of them.
-ghost use Rattle.std.specs.Prelude.{◌≡◌, ◌≤◌, ◌<◌, ℕ, IfOk, OnOk, Some, None, ◌∷◌, ◌++◌, [], codes, nat_eq, length, map, filter_map, false, slice_get, true, if◌then◌else◌};
+ghost use Rattle.std.specs.Prelude.{◌≡◌, ◌≤◌, ◌<◌, ℕ, IfOk, OnOk, Some, None, ◌∷◌, ◌++◌, [], codes, nat_eq, length, map, filter_map, flat_map, false, slice_get, true, if◌then◌else◌};
 ghost use Rattle.std.specs.List.{cons_option};
 ghost use Rattle.ha_clock.specs.Local.{last_moment};
 ghost use Rattle.timer_queue.specs.Timers.{distinct_keys, due_of};
@@ -10,9 +10,11 @@ ghost use Rattle.ha_journal.specs.Moves.{sight};
 ghost use Rattle.ha_past.specs.Firings.{firings_of};
 ghost use Rattle.trig_set.specs.Kept.{All, At, AreTimed, AreWell, SpotsStand, Keeps, KeepsAt, Moved, MovedAt, cleared, due_in, firing_in, holds_well, is_true, place_of, ripened, ripened_if, taken, taken_at};
 ghost use Rattle.trig_set.specs.Scenes.{Shows};
+ghost use Rattle.trig_set.specs.Timed.{firings_in};
 
 use crate::scene::Scene;
 use crate::spot::{Spot, step};
+use crate::timed::push_timed;
 use ha_clock::Moment;
 use ha_config::{Cmd, Trigger, TriggerRule};
 use ha_journal::{Entry, Firing};
@@ -189,8 +191,8 @@ fn firing(alloc: Global, owner: u64, spot: &Spot, value: TriggerData) -> Result<
     })
 }
 
-/// What a spot fires with is taken out of it.
-pub fn collect_one(
+/// What a spot has to fire with is taken out of it.
+fn collect_own(
     alloc: Global,
     owner: u64,
     spot: &mut Spot,
@@ -206,8 +208,8 @@ pub fn collect_one(
     Ok(())
 }
 
-/// What the spots fire with is taken out of them, in their order.
-pub fn collect(
+/// The same, of all spots, in their order.
+pub fn collect_own_of(
     alloc: Global,
     owner: u64,
     spots: &mut [Spot],
@@ -217,7 +219,52 @@ pub fn collect(
     ensures cleared { OnOk result (spots.new ≡ map cleared spots.old) }
 {
     for place in 0..spots.len() {
-        collect_one(alloc, owner, &mut spots[place], fired)?;
+        collect_own(alloc, owner, &mut spots[place], fired)?;
+    }
+    Ok(())
+}
+
+/// What a spot fires with is taken out of it; an event trigger fires also for each of the entry's events of helpers that it names.
+pub fn collect_one(
+    alloc: Global,
+    scene: &Scene<'_>,
+    owner: u64,
+    since: u64,
+    triggers: &Many<Trigger>,
+    spot: &mut Spot,
+    fired: &mut Many<Firing>,
+) -> Result<(), AllocError>
+    ensures fired { OnOk result (fired.new ≡ fired.old ++ firings_in (record { owner = owner; triggers = triggers.now; since = since }) scene.now.place scene.now.events.now spot.old) }
+    ensures cleared { OnOk result (spot.new ≡ cleared spot.old) }
+{
+    let index = spot.trigger;
+    collect_own(alloc, owner, spot, fired)?;
+    push_timed(alloc, scene, owner, since, triggers, index, fired)
+}
+
+/// What the spots fire with is taken out of them, in their order.
+pub fn collect(
+    alloc: Global,
+    scene: &Scene<'_>,
+    owner: u64,
+    since: u64,
+    triggers: &Many<Trigger>,
+    spots: &mut [Spot],
+    fired: &mut Many<Firing>,
+) -> Result<(), AllocError>
+    ensures fired { OnOk result (fired.new ≡ fired.old ++ flat_map (firings_in (record { owner = owner; triggers = triggers.now; since = since }) scene.now.place scene.now.events.now) spots.old) }
+    ensures cleared { OnOk result (spots.new ≡ map cleared spots.old) }
+{
+    for place in 0..spots.len() {
+        collect_one(
+            alloc,
+            scene,
+            owner,
+            since,
+            triggers,
+            &mut spots[place],
+            fired,
+        )?;
     }
     Ok(())
 }
@@ -265,5 +312,5 @@ pub fn note_spots<A: Answers>(
 {
     step_all(alloc, scene, answers, triggers, since, spots, timers)?;
     ripen_if(scene.entry, scene.to, spots, timers);
-    collect(alloc, owner, spots, fired)
+    collect(alloc, scene, owner, since, triggers, spots, fired)
 }

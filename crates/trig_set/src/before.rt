@@ -1,7 +1,9 @@
 //! States before an entry. Those of one entity alone, as for most entries, take no list.
 ghost use Rattle.std.specs.Prelude.{◌≡◌, ◌∷◌, ◌++◌, [], IfOk, OnOk};
+ghost use Rattle.trig_set.specs.Next.{lists};
 
 use crate::scene::Shift;
+use ha_config::same_id;
 use ha_sight::StateObject;
 use ha_value::{EntityId, Many, Plain};
 use std::alloc::{AllocError, Global};
@@ -71,6 +73,13 @@ fn taken(alone: Box<Shift>) -> (EntityId, Option<StateObject>)
     (entity, old)
 }
 
+/// Whether an entity is among these.
+fn is_among(several: &[(EntityId, Option<StateObject>)], entity: &EntityId) -> bool
+    ensures { result ≡ lists several.now entity.now }
+{
+    several.iter().any(|listed| same_id(&listed.0, entity))
+}
+
 impl Before {
     /// No entities.
     pub fn make(alloc: Global) -> Before
@@ -98,6 +107,16 @@ impl Before {
             several: Many::make(alloc),
             near: usize::MAX,
         })
+    }
+
+    /// Whether an entity is listed.
+    pub fn lists(&self, entity: &EntityId) -> bool
+        ensures { result ≡ lists self.now entity.now }
+    {
+        match &self.alone {
+            Some(alone) => same_id(&alone.entity, entity),
+            None => is_among(self.several.as_slice(), entity),
+        }
     }
 
     /// Says at which place whom the only entity concerns is looked for first: `TrigSet::asked` gives it.

@@ -18,7 +18,7 @@ use crate::places::Places;
 use crate::scene::Shift;
 use event_bus::Index;
 use ha_clock::Moment;
-use ha_journal::Entry;
+use ha_journal::{BusEvent, Entry};
 use std::alloc::{AllocError, Global};
 use std::collections::BTreeSet;
 use timer_queue::TimerQueue;
@@ -86,6 +86,22 @@ fn put_event(
         Some(kind) => put_some(owners, index.of_event(kind), places),
         None => Ok(()),
     }
+}
+
+/// Puts in the places of those whom an event of a helper concerns.
+fn put_timers(
+    index: &Index,
+    events: &[BusEvent],
+    owners: &[Attached],
+    places: &mut Places,
+) -> Result<(), AllocError>
+    ensures kept { OnOk result ((n : ℕ) → has places.new n ≡ false → has places.old n ≡ false) }
+    ensures aside { OnOk result (OfOthers owners.now places.new (λ m. (k : ℕ) → MatchOption (slice_get events.now k) (Unit {0}) (λ v. knows index.now (Subject.Event v.kind) m ≡ false))) }
+{
+    for place in 0..events.len() {
+        put_some(owners, index.of_event(&events[place].kind), places)?;
+    }
+    Ok(())
 }
 
 /// Puts in the places of those whom a change of one of the entities concerns. `near` says where the index may have the only one.
@@ -171,17 +187,19 @@ fn some_places(
     entry: &Entry,
     to: Moment,
     shifts: &[Shift],
+    events: &[BusEvent],
     near: usize,
     owners: &[Attached],
     queue: &mut TimerQueue,
 ) -> Result<Places, AllocError>
     requires { opens_segment entry.now ≡ false }
-    ensures aside { IfOk result (λ places. OfOthers owners.now places (IsAside index.now queue.old to shifts.now entry.now)) }
+    ensures aside { IfOk result (λ places. OfOthers owners.now places (IsAside index.now queue.old to shifts.now events.now entry.now)) }
     ensures queue { IfOk result (λ places. OfOthers owners.now places (λ m. due_of m queue.new ≡ due_of m queue.old)) }
 {
     let mut places = Places::make(alloc);
     put_places(owners, &index.entries, &mut places)?;
     put_event(index, entry, owners, &mut places)?;
+    put_timers(index, events, owners, &mut places)?;
     put_entities(index, shifts, near, owners, &mut places)?;
     put_moment(index, entry, to, owners, queue, &mut places)?;
     Ok(places)
@@ -205,15 +223,16 @@ pub fn concerned(
     entry: &Entry,
     to: Moment,
     shifts: &[Shift],
+    events: &[BusEvent],
     near: usize,
     owners: &[Attached],
     queue: &mut TimerQueue,
 ) -> Result<Places, AllocError>
-    ensures aside { IfOk result (λ places. OfOthers owners.now places (IsAside index.now queue.old to shifts.now entry.now)) }
+    ensures aside { IfOk result (λ places. OfOthers owners.now places (IsAside index.now queue.old to shifts.now events.now entry.now)) }
     ensures queue { IfOk result (λ places. OfOthers owners.now places (λ m. due_of m queue.new ≡ due_of m queue.old)) }
 {
     if opens(entry) {
         return all_places(alloc, owners);
     }
-    some_places(alloc, index, entry, to, shifts, near, owners, queue)
+    some_places(alloc, index, entry, to, shifts, events, near, owners, queue)
 }

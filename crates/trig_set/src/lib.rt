@@ -24,6 +24,7 @@ mod scene;
 mod set;
 mod shifts;
 mod spot;
+mod timed;
 
 pub use before::Before;
 pub use set::TrigSet;

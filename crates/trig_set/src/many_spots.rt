@@ -1,6 +1,5 @@
 //! Owners with many spots: an entry goes along those alone that it may move.
-ghost use Rattle.std.specs.Prelude.{◌≡◌, ◌≤◌, ◌<◌, ◌++◌, ℕ, IfOk, MatchOption, OnOk, None, Some, [], false, filter_map, length, map, nat_eq, option_and_then, option_map, slice_get, true};
-ghost use Rattle.std.specs.List.{cons_option};
+ghost use Rattle.std.specs.Prelude.{◌≡◌, ◌≤◌, ◌<◌, ◌++◌, ℕ, IfOk, MatchOption, OnOk, None, Some, [], false, flat_map, length, map, nat_eq, option_map, slice_get, true};
 ghost use Rattle.std.specs.Option.{option_copied, option_map_or};
 ghost use Rattle.ha_clock.specs.Local.{last_moment};
 ghost use Rattle.event_bus.specs.Lists.{has};
@@ -10,8 +9,9 @@ ghost use Rattle.ha_journal.specs.Journal.{Journal, more};
 ghost use Rattle.ha_journal.specs.Moves.{sight};
 ghost use Rattle.ha_past.specs.Firings.{firings_of};
 ghost use Rattle.trig_set.specs.Concerned.{IsAside};
-ghost use Rattle.trig_set.specs.Kept.{All, At, AreTimed, AreWell, KeepsAt, MovedAt, SpotsStand, cleared, cleared_at, firing_in, place_of, places_of, ripened, ripened_if};
+ghost use Rattle.trig_set.specs.Kept.{All, At, AreTimed, AreWell, KeepsAt, MovedAt, SpotsStand, cleared, cleared_at, place_of, places_of, ripened, ripened_if};
 ghost use Rattle.trig_set.specs.Listed.{AreIndexed, HasAt};
+ghost use Rattle.trig_set.specs.Timed.{Unfired, firings_in};
 ghost use Rattle.trig_set.specs.Scenes.{Shows};
 
 use crate::attached::{collect_one, is_moment, note_spots, step_at, take_at};
@@ -23,7 +23,7 @@ use crate::spot::Spot;
 use event_bus::Index;
 use ha_clock::Moment;
 use ha_config::{Trigger, TriggerRule};
-use ha_journal::{Entry, Firing};
+use ha_journal::{BusEvent, Entry, Firing};
 use ha_sight::Answers;
 use ha_value::Many;
 use std::alloc::{AllocError, Global};
@@ -181,6 +181,18 @@ fn put_named(index: &Index, entry: &Entry, places: &mut Places) -> Result<(), Al
     }
 }
 
+/// Puts in the places of the spots that an event of a helper concerns.
+fn put_timers(index: &Index, events: &[BusEvent], places: &mut Places) -> Result<(), AllocError>
+    ensures kept { OnOk result ((n : ℕ) → has places.new n ≡ false → has places.old n ≡ false) }
+    ensures aside { OnOk result ((n : ℕ) → has places.new n ≡ false
+        → (k : ℕ) → MatchOption (slice_get events.now k) (Unit {0}) (λ v. knows index.now (Subject.Event v.kind) n ≡ false)) }
+{
+    for at in 0..events.len() {
+        put_any(index.of_event(&events[at].kind), places)?;
+    }
+    Ok(())
+}
+
 /// Puts in the places of the spots that a change of one of the entities concerns.
 fn put_shifted(index: &Index, shifts: &[Shift], places: &mut Places) -> Result<(), AllocError>
     ensures kept { OnOk result ((n : ℕ) → has places.new n ≡ false → has places.old n ≡ false) }
@@ -211,13 +223,15 @@ fn places_moved(
     index: &Index,
     entry: &Entry,
     shifts: &[Shift],
+    events: &[BusEvent],
 ) -> Result<Places, AllocError>
     requires { opens_segment entry.now ≡ false }
-    ensures { IfOk result (λ places. (n to : ℕ) → has places n ≡ false → IsAside index.now [] to shifts.now entry.now n) }
+    ensures { IfOk result (λ places. (n to : ℕ) → has places n ≡ false → IsAside index.now [] to shifts.now events.now entry.now n) }
 {
     let mut places = Places::make(alloc);
     put_listed(&index.entries, &mut places)?;
     put_named(index, entry, &mut places)?;
+    put_timers(index, events, &mut places)?;
     put_shifted(index, shifts, &mut places)?;
     put_timed(index, entry, &mut places)?;
     Ok(places)
@@ -268,6 +282,7 @@ fn step_some<A: Answers>(
     ensures places { OnOk result (map place_of spots.new ≡ map place_of spots.old) }
     ensures timed { OnOk result (AreTimed timers.old spots.old → AreTimed timers.new spots.new) }
     ensures elsewhere { OnOk result ((n : ℕ) → has gone.new n ≡ false → (has gone.old n ≡ false) × (slice_get spots.new n ≡ slice_get spots.old n)) }
+    ensures aside { OnOk result ((n : ℕ) → has gone.new n ≡ false → has places n ≡ false) }
 {
     let mut left = places;
     'places: while let Some(place) = left.pop_first() {
@@ -315,16 +330,27 @@ fn ripen_noted_if(
 /// What the spot at a place fires with, if there is one, is taken out of it.
 fn collect_there(
     alloc: Global,
+    scene: &Scene<'_>,
     owner: u64,
+    since: u64,
+    triggers: &Many<Trigger>,
     place: usize,
     spots: &mut [Spot],
     fired: &mut Many<Firing>,
 ) -> Result<(), AllocError>
-    ensures fired { OnOk result (fired.new ≡ fired.old ++ cons_option (option_and_then (firing_in owner) (slice_get spots.old place)) []) }
+    ensures fired { OnOk result (fired.new ≡ fired.old ++ option_map_or (firings_in (record { owner = owner; triggers = triggers.now; since = since }) scene.now.place scene.now.events.now) (slice_get spots.old place) []) }
     ensures cleared { OnOk result (spots.new ≡ cleared_at place spots.old) }
 {
     if place < spots.len() {
-        collect_one(alloc, owner, &mut spots[place], fired)
+        collect_one(
+            alloc,
+            scene,
+            owner,
+            since,
+            triggers,
+            &mut spots[place],
+            fired,
+        )
     } else {
         Ok(())
     }
@@ -333,17 +359,21 @@ fn collect_there(
 /// What the spots at these places fire with is taken out of them, in their order; no other fires.
 fn collect_some(
     alloc: Global,
+    scene: &Scene<'_>,
     owner: u64,
+    since: u64,
+    triggers: &Many<Trigger>,
     places: Places,
     spots: &mut [Spot],
     fired: &mut Many<Firing>,
 ) -> Result<(), AllocError>
-    ensures fired { OnOk result (((n : ℕ) → has places n ≡ false → At spots.old n (λ s. s.fired ≡ None)) → fired.new ≡ fired.old ++ filter_map (firing_in owner) spots.old) }
-    ensures cleared { OnOk result (((n : ℕ) → has places n ≡ false → At spots.old n (λ s. s.fired ≡ None)) → spots.new ≡ map cleared spots.old) }
+    ensures fired { OnOk result (((n : ℕ) → has places n ≡ false → Unfired (record { owner = owner; triggers = triggers.now; since = since }) scene.now.place scene.now.events.now spots.old n)
+        → fired.new ≡ fired.old ++ flat_map (firings_in (record { owner = owner; triggers = triggers.now; since = since }) scene.now.place scene.now.events.now) spots.old) }
+    ensures cleared { OnOk result (((n : ℕ) → has places n ≡ false → Unfired (record { owner = owner; triggers = triggers.now; since = since }) scene.now.place scene.now.events.now spots.old n) → spots.new ≡ map cleared spots.old) }
 {
     let mut left = places;
     'places: while let Some(place) = left.pop_first() {
-        collect_there(alloc, owner, place, spots, fired)?;
+        collect_there(alloc, scene, owner, since, triggers, place, spots, fired)?;
     }
     Ok(())
 }
@@ -370,13 +400,13 @@ fn note_some_spots<A: Answers>(
         → AreWell triggers.now → AreIndexed index.now triggers.now (places_of [] triggers.now) → SpotsStand j triggers.now since spots.old timers.old
         → fired.new ≡ fired.old ++ firings_of (more j scene.now.entry.now) (length j) (record { owner = owner; triggers = triggers.now; since = since })) }
 {
-    let places = places_moved(alloc, index, scene.entry, scene.shifts)?;
+    let places = places_moved(alloc, index, scene.entry, scene.shifts, scene.events)?;
     let mut gone = Places::make(alloc);
     step_some(
         alloc, scene, answers, triggers, since, places, spots, timers, &mut gone,
     )?;
     ripen_noted_if(scene.entry, scene.to, spots, timers, &mut gone)?;
-    collect_some(alloc, owner, gone, spots, fired)
+    collect_some(alloc, scene, owner, since, triggers, gone, spots, fired)
 }
 
 /// What an entry makes of the spots of an owner that has many; what fires is appended.

@@ -1,7 +1,7 @@
 //! Whether what a trigger watches stays.
-ghost use Rattle.std.specs.Prelude.{◌≡◌, ℕ, length, nat_lt, suc, true, false, Some};
+ghost use Rattle.std.specs.Prelude.{◌≡◌, ℕ, find, is_some, length, nat_lt, suc, true, false, Some};
 ghost use Rattle.std.specs.Option.{option_copied, option_map_or};
-ghost use Rattle.ha_journal.specs.Entries.{is_boot, opens_segment};
+ghost use Rattle.ha_journal.specs.Entries.{changes_in, is_boot, opens_segment};
 ghost use Rattle.ha_config.specs.Equal.{same_flag};
 ghost use Rattle.ha_config.specs.Numbers.{in_bounds as in_bounds_lem};
 ghost use Rattle.ha_journal.specs.Moves.{latest_number, report_number, sight};
@@ -9,6 +9,7 @@ ghost use Rattle.ha_sight.specs.Rules.{is_state};
 ghost use Rattle.ha_journal.specs.Journal.{Journal, more};
 ghost use Rattle.ha_config.specs.Sound.{may_hold};
 ghost use Rattle.trig_set.specs.Kept.{is_true};
+ghost use Rattle.trig_set.specs.Table.{number_among as number_among_lem, number_changed, number_reported as reported_number_lem};
 ghost use Rattle.ha_journal.specs.Holds.{watches};
 ghost use Rattle.trig_set.specs.Scenes.{Shows, shift_of as shift_of_lem};
 
@@ -16,6 +17,7 @@ use crate::equal::equal_flag;
 use crate::scene::{Scene, Shift};
 use ha_config::{Cmd, TriggerRule, same_id};
 use ha_journal::Entry;
+use ha_sight::{HelperChange, Item};
 use ha_value::{EntityId, Num, Word};
 use trig_numeric::{in_bounds, number_in};
 use trig_state::state_stays;
@@ -39,9 +41,9 @@ fn state_stays_in(scene: &Scene<'_>, rule: &TriggerRule, entity: &EntityId) -> b
     }
 }
 
-/// The number that the entry reports of an entity, if it does.
-pub fn reported_number(entry: &Entry, entity: &EntityId, attribute: Option<&Word>) -> Option<Num>
-    ensures { result ≡ report_number entity.now (option_copied attribute.entry) entry.now }
+/// The number of a report of an entity, if the entry is one.
+fn number_of_report(entry: &Entry, entity: &EntityId, attribute: Option<&Word>) -> Option<Num>
+    ensures { result ≡ reported_number_lem entity.now (option_copied attribute.entry) entry.now }
 {
     match entry {
         Entry::Line {
@@ -53,6 +55,69 @@ pub fn reported_number(entry: &Entry, entity: &EntityId, attribute: Option<&Word
             ..
         } if same_id(reported, entity) => number_in(attribute, text, attributes.as_slice()),
         _ => None,
+    }
+}
+
+/// The number that a change gives of an entity, if it is of that helper.
+fn number_of_change(
+    change: &HelperChange,
+    entity: &EntityId,
+    attribute: Option<&Word>,
+) -> Option<Num>
+    ensures { result ≡ number_changed entity.now (option_copied attribute.entry) change.now }
+{
+    if same_id(&change.entity, entity) {
+        number_in(attribute, &change.text, &[])
+    } else {
+        None
+    }
+}
+
+/// The first of these changes that gives a number of an entity.
+fn giving_among<'a>(
+    changes: &'a [HelperChange],
+    entity: &EntityId,
+    attribute: Option<&Word>,
+) -> Option<&'a HelperChange>
+    ensures { option_copied result ≡ find (λ c. is_some (number_changed entity.now (option_copied attribute.entry) c)) changes.now }
+{
+    changes.iter().find(|change| number_of_change(change, entity, attribute).is_some())
+}
+
+/// The first number that one of these changes gives of an entity.
+fn number_among(
+    changes: &[HelperChange],
+    entity: &EntityId,
+    attribute: Option<&Word>,
+) -> Option<Num>
+    ensures { result ≡ number_among_lem entity.now (option_copied attribute.entry) changes.now }
+{
+    match giving_among(changes, entity, attribute) {
+        Some(change) => number_of_change(change, entity, attribute),
+        None => None,
+    }
+}
+
+/// The number that the entry gives of an entity as a helper that it changes.
+fn number_of_changes(entry: &Entry, entity: &EntityId, attribute: Option<&Word>) -> Option<Num>
+    ensures { result ≡ number_among_lem entity.now (option_copied attribute.entry) (changes_in entry.now) }
+{
+    match entry {
+        Entry::Step {
+            item: Item::Helped(changes),
+            ..
+        } => number_among(changes.as_slice(), entity, attribute),
+        _ => None,
+    }
+}
+
+/// The number that the entry gives of an entity, if it does.
+pub fn reported_number(entry: &Entry, entity: &EntityId, attribute: Option<&Word>) -> Option<Num>
+    ensures { result ≡ report_number entity.now (option_copied attribute.entry) entry.now }
+{
+    match number_of_report(entry, entity, attribute) {
+        Some(number) => Some(number),
+        None => number_of_changes(entry, entity, attribute),
     }
 }
 

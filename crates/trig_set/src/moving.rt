@@ -4,7 +4,7 @@ ghost use Rattle.std.specs.Option.{option_copied, option_map_or};
 ghost use Rattle.ha_config.specs.Numbers.{in_bounds as in_bounds_lem};
 ghost use Rattle.ha_clock.specs.Local.{last_moment};
 ghost use Rattle.ha_value.specs.declared.value.Value.TheVariants.{Pairs as Map};
-ghost use Rattle.ha_journal.specs.Entries.{opens_segment, event_in, is_moment as is_moment_lem};
+ghost use Rattle.ha_journal.specs.Entries.{opens_segment, is_moment as is_moment_lem};
 ghost use Rattle.ha_config.specs.Words.{Text};
 ghost use Rattle.ha_journal.specs.Journal.{Journal, more};
 ghost use Rattle.ha_journal.specs.Moves.{sight, report_number, latest_number, looks};
@@ -15,11 +15,13 @@ ghost use Rattle.trig_state.specs.States.{rule_moves};
 ghost use Rattle.trig_set.specs.Kept.{is_true, holds_well};
 ghost use Rattle.ha_past.specs.Looks.{moves_with};
 ghost use Rattle.trig_set.specs.Scenes.{Shows};
+ghost use Rattle.trig_set.specs.Timed.{event_seen};
 
 use crate::attached::is_moment;
 use crate::event::{data_in, is_named, kind_in};
 use crate::moved::{boots, is_within, opens, reported_number, shift_of};
 use crate::scene::{Scene, Shift};
+use crate::timed::given_for;
 use ha_config::{Trigger, TriggerRule};
 use ha_journal::Entry;
 use ha_sight::TriggerData;
@@ -89,7 +91,7 @@ fn of_state(
     requires { is_state trigger.now.rule ≡ true }
     ensures { IfOk result (λ v. (j : Journal) (since : ℕ) → Shows scene.now j since → nat_lt since (length j) ≡ true
         → v ≡ (if looks (sight j (length j)) (sight (more j scene.now.entry.now) (suc (length j))) j trigger.now.rule (is_some trigger.now.hold) (Some entity.now) scene.now.entry.now
-        then Some (given_lem (sight j (length j)) (sight (more j scene.now.entry.now) (suc (length j))) (event_in scene.now.entry.now) trigger.now (Some entity.now)) else None)) }
+        then Some (given_lem (sight j (length j)) (sight (more j scene.now.entry.now) (suc (length j))) (event_seen j scene.now.entry.now (Some entity.now)) trigger.now (Some entity.now)) else None)) }
 {
     let TriggerRule::State { attribute, .. } = &trigger.rule else {
         unreachable!()
@@ -142,7 +144,7 @@ fn of_number(
     requires { is_numeric trigger.now.rule ≡ true }
     ensures { IfOk result (λ v. (j : Journal) (since : ℕ) → Shows scene.now j since → nat_lt since (length j) ≡ true
         → v ≡ (if looks (sight j (length j)) (sight (more j scene.now.entry.now) (suc (length j))) j trigger.now.rule (is_some trigger.now.hold) (Some entity.now) scene.now.entry.now
-        then Some (given_lem (sight j (length j)) (sight (more j scene.now.entry.now) (suc (length j))) (event_in scene.now.entry.now) trigger.now (Some entity.now)) else None)) }
+        then Some (given_lem (sight j (length j)) (sight (more j scene.now.entry.now) (suc (length j))) (event_seen j scene.now.entry.now (Some entity.now)) trigger.now (Some entity.now)) else None)) }
 {
     let TriggerRule::Numeric {
         attribute,
@@ -211,7 +213,7 @@ fn of_event(
 ) -> Result<Option<TriggerData>, AllocError>
     requires { is_event trigger.now.rule ≡ true }
     ensures { IfOk result (λ v. (b a : Sight) (j : Journal)
-        → v ≡ (if looks b a j trigger.now.rule (is_some trigger.now.hold) None entry.now then Some (given_lem b a (event_in entry.now) trigger.now None) else None)) }
+        → v ≡ (if looks b a j trigger.now.rule (is_some trigger.now.hold) None entry.now then Some (given_lem b a (event_seen j entry.now None) trigger.now None) else None)) }
 {
     let TriggerRule::Event { kinds, pairs } = &trigger.rule else {
         unreachable!()
@@ -257,7 +259,7 @@ fn ruled(
         → is ≡ is_true (sight (more j scene.now.entry.now) (length (more j scene.now.entry.now))) trigger.now.rule
         → was ≡ is_true (sight j (length j)) trigger.now.rule
         → v ≡ (if looks (sight j (length j)) (sight (more j scene.now.entry.now) (suc (length j))) j trigger.now.rule (is_some trigger.now.hold) (option_copied entity.entry) scene.now.entry.now
-        then Some (given_lem (sight j (length j)) (sight (more j scene.now.entry.now) (suc (length j))) (event_in scene.now.entry.now) trigger.now (option_copied entity.entry)) else None)) }
+        then Some (given_lem (sight j (length j)) (sight (more j scene.now.entry.now) (suc (length j))) (event_seen j scene.now.entry.now (option_copied entity.entry)) trigger.now (option_copied entity.entry)) else None)) }
 {
     match &trigger.rule {
         TriggerRule::State { .. } => match entity {
@@ -269,7 +271,7 @@ fn ruled(
             None => Ok(None),
         },
         TriggerRule::Event { .. } => match entity {
-            Some(_) => Ok(None),
+            Some(entity) => given_for(alloc, trigger, scene.events, Some(entity)),
             None => of_event(alloc, scene.entry, trigger),
         },
         TriggerRule::Time(_) => match entity {

@@ -126,6 +126,7 @@ fn note_list<A: Answers>(
         scene.entry,
         scene.to,
         scene.shifts,
+        scene.events,
         scene.near,
         owners,
         queue,

@@ -1,4 +1,4 @@
-//! The latest number of each reported entity and attribute since the last Restart.
+//! The latest number of each reported entity and attribute, and of each helper, since the last Restart.
 ghost use Rattle.std.specs.Prelude.{◌≡◌, Option, None, IfOk, OnOk, string_bytes, true, if◌then◌else◌};
 ghost use Rattle.std.specs.BTreeMap.{get_by_text};
 ghost use Rattle.std.specs.Option.{option_copied};
@@ -6,15 +6,16 @@ ghost use Rattle.ha_value.specs.declared.value.EntityId.{EntityId as Entity};
 ghost use Rattle.ha_value.specs.Ids.{for_id};
 ghost use Rattle.ha_config.specs.Words.{Text, same, same_entity};
 ghost use Rattle.ha_sight.specs.Conditions.{number_watched};
-ghost use Rattle.ha_journal.specs.Entries.{opens_segment};
+ghost use Rattle.ha_journal.specs.Entries.{changes_in, opens_segment};
 ghost use Rattle.ha_journal.specs.Moves.{report_number};
 ghost use Rattle.ha_past.specs.Looks.{or_else};
-ghost use Rattle.trig_set.specs.Table.{begins_as_number, number_at, number_given, number_of, numbers_in};
+ghost use Rattle.trig_set.specs.Table.{begins_as_number, number_among, number_at, number_given, number_of, number_reported, numbers_in};
 
 use crate::attributes::put_attributes;
 use crate::moved::opens;
 use ha_config::Cmd;
 use ha_journal::Entry;
+use ha_sight::{HelperChange, Item};
 use ha_value::{EntityId, Many, Num, Value, Word, begins_number};
 use std::alloc::{AllocError, Global};
 use std::collections::BTreeMap;
@@ -53,7 +54,7 @@ impl Numbers {
         self.entities.get(entity.text())
     }
 
-    /// The numbers that a report gives; a Boot and a Restart forget all.
+    /// The numbers that a report gives, or changes of helpers; a Boot and a Restart forget all.
     pub fn note(&mut self, alloc: Global, entry: &Entry) -> Result<(), AllocError>
         ensures { OnOk result ((e : Entity) (name : Option Text) → number_at self.new e name ≡ (if opens_segment entry.now then None else or_else (report_number e name entry.now) (number_at self.old e name))) }
     {
@@ -61,6 +62,14 @@ impl Numbers {
             self.entities.clear();
             return Ok(());
         }
+        self.note_changes(alloc, entry)?;
+        self.note_report(alloc, entry)
+    }
+
+    /// The numbers of a report, if the entry is one.
+    fn note_report(&mut self, alloc: Global, entry: &Entry) -> Result<(), AllocError>
+        ensures { OnOk result ((e : Entity) (name : Option Text) → number_at self.new e name ≡ or_else (number_reported e name entry.now) (number_at self.old e name)) }
+    {
         match entry {
             Entry::Line {
                 cmd: Cmd::Report {
@@ -72,6 +81,34 @@ impl Numbers {
             } => self.report(alloc, entity, text, attributes),
             _ => Ok(()),
         }
+    }
+
+    /// The numbers of changes of helpers, if the entry makes some.
+    fn note_changes(&mut self, alloc: Global, entry: &Entry) -> Result<(), AllocError>
+        ensures { OnOk result ((e : Entity) (name : Option Text) → number_at self.new e name ≡ or_else (number_among e name (changes_in entry.now)) (number_at self.old e name)) }
+    {
+        match entry {
+            Entry::Step {
+                item: Item::Helped(changes),
+                ..
+            } => self.changed(alloc, changes.as_slice()),
+            _ => Ok(()),
+        }
+    }
+
+    /// The numbers of changes of helpers, the last change first: so the first number of a helper counts.
+    fn changed(&mut self, alloc: Global, changes: &[HelperChange]) -> Result<(), AllocError>
+        ensures { OnOk result ((e : Entity) (name : Option Text)
+            → number_at self.new e name ≡ or_else (number_among e name changes.now) (number_at self.old e name)) }
+    {
+        let none = Many::make(alloc);
+        let mut left = changes.len();
+        'changes: while 0 < left {
+            left -= 1;
+            let change = &changes[left];
+            self.report(alloc, &change.entity, &change.text, &none)?;
+        }
+        Ok(())
     }
 
     /// The numbers of a report; where it gives none, the latest one stays.

@@ -15,7 +15,7 @@ ghost use Rattle.trig_set.specs.Order.{owner_of};
 ghost use Rattle.trig_set.specs.Queued.{HasDue};
 ghost use Rattle.trig_set.specs.Stands.{AllOwners, AtOwner, OwnerStands, firings_at};
 
-use crate::attached::{collect, now_true};
+use crate::attached::{collect_own_of, now_true};
 use crate::moving::started;
 use crate::owners::Attached;
 use crate::spot::Spot;
@@ -116,7 +116,7 @@ fn open_listed<A: Answers>(
         → SpotsStand [] triggers.now since spots.old timers → fired.new ≡ fired.old ++ firings_of (x ∷ []) 0 (record { owner = owner; triggers = triggers.now; since = since })) }
 {
     open_spots(alloc, answers, triggers, spots)?;
-    collect(alloc, owner, spots, fired)
+    collect_own_of(alloc, owner, spots, fired)
 }
 
 /// What an opening makes of an owner; what fires is appended.

@@ -28,7 +28,7 @@ use crate::shifts::shifts_of;
 use event_bus::Index;
 use ha_clock::{ClockFault, Moment, Zone};
 use ha_config::Trigger;
-use ha_journal::{Entry, Firing};
+use ha_journal::{BusEvent, Entry, Firing};
 use ha_sight::Answers;
 use ha_value::{EntityId, Many, Value, Word};
 use std::alloc::{AllocError, Global};
@@ -185,10 +185,10 @@ impl TrigSet {
         requires left { Leaves self.old entity.now }
         ensures kept { attached self.new ≡ attached self.old }
         ensures fired { (j : Journal) (k n place : ℕ) (old : Option State) (seen : Sight) → StandsFor self.old j
-            → IsNext j place (Line k n (Report entity.now text.now attributes.now)) ((entity.now, old) ∷ []) seen (attached self.old)
+            → IsNext j place (Line k n (Report entity.now text.now attributes.now)) ((entity.now, old) ∷ []) [] seen (attached self.old)
             → firings (more j (Line k n (Report entity.now text.now attributes.now))) place (attached self.old) ≡ [] }
         ensures stands { OnOk result ((j : Journal) (k n place : ℕ) (old : Option State) (seen : Sight) → StandsFor self.old j
-            → IsNext j place (Line k n (Report entity.now text.now attributes.now)) ((entity.now, old) ∷ []) seen (attached self.old)
+            → IsNext j place (Line k n (Report entity.now text.now attributes.now)) ((entity.now, old) ∷ []) [] seen (attached self.old)
             → to ≡ now_of (more j (Line k n (Report entity.now text.now attributes.now)))
             → StandsFor self.new (more j (Line k n (Report entity.now text.now attributes.now)))) }
     {
@@ -197,8 +197,9 @@ impl TrigSet {
         Ok(())
     }
 
-    /// Notes the next entry: what fires at it, in the order of the owners' numbers, and there of triggers and entities. `before` has states
-    /// before the entry, among them that of each entity whose state the entry changes; `answers` holds what is seen after it. After an
+    /// Notes the next entry: what fires at it, in the order of the owners' numbers, and there of triggers and entities, or events. `before`
+    /// has states before the entry, among them that of each entity whose state the entry changes; `events` has the events of helpers that it
+    /// gives, in order, and not that of an event command or of a step that makes an event; `answers` holds what is seen after it. After an
     /// error the set may only be dropped.
     pub fn note<A: Answers>(
         &mut self,
@@ -206,24 +207,27 @@ impl TrigSet {
         place: u64,
         entry: &Entry,
         before: Before,
+        events: &Many<BusEvent>,
         answers: &A,
     ) -> Result<Many<Firing>, AllocError>
         requires in_time { (A.sight answers.now).now ≤ last_moment }
         ensures kept { OnOk result (attached self.new ≡ attached self.old) }
-        ensures fired { IfOk result (λ fired. (j : Journal) → StandsFor self.old j → IsNext j place entry.now before (A.sight answers.now) (attached self.old)
+        ensures fired { IfOk result (λ fired. (j : Journal) → StandsFor self.old j → IsNext j place entry.now before events.now (A.sight answers.now) (attached self.old)
             → fired ≡ firings (more j entry.now) place (attached self.old)) }
-        ensures stands { OnOk result ((j : Journal) → StandsFor self.old j → IsNext j place entry.now before (A.sight answers.now) (attached self.old)
+        ensures stands { OnOk result ((j : Journal) → StandsFor self.old j → IsNext j place entry.now before events.now (A.sight answers.now) (attached self.old)
             → StandsFor self.new (more j entry.now)) }
     {
         self.open(alloc, entry)?;
         let near = before.near();
-        let shifts = shifts_of(alloc, entry, before, answers)?;
+        let given = events.as_slice();
+        let shifts = shifts_of(alloc, entry, before, given, answers)?;
         let to = answers.now();
         let mut fired = Many::make(alloc);
         let scene = Scene {
             place,
             entry,
             shifts: shifts.as_slice(),
+            events: given,
             near,
             zone: self.zone.as_ref(),
             numbers: &self.numbers,

@@ -1,22 +1,24 @@
 //! What an entry changes of each entity.
-ghost use Rattle.std.specs.Prelude.{◌≡◌, ◌∷◌, ◌++◌, [], ℕ, None, Some, Bool, IfOk, OnOk, length, option_map, option_and_then, if◌then◌else◌};
+ghost use Rattle.std.specs.Prelude.{◌≡◌, ◌∷◌, ◌++◌, [], ℕ, None, Some, Bool, IfOk, OnOk, codes, find, length, option_map, option_and_then, if◌then◌else◌};
+ghost use Rattle.std.specs.List.{list_any};
 ghost use Rattle.std.specs.Option.{option_copied};
 ghost use Rattle.ha_sight.specs.Calls.{automation_at};
-ghost use Rattle.ha_journal.specs.Entries.{report_in as report_in_lem};
-ghost use Rattle.ha_journal.specs.Journal.{Journal, IsJournal, more};
+ghost use Rattle.ha_journal.specs.Entries.{change_of, report_in as report_in_lem};
+ghost use Rattle.ha_journal.specs.Helpers.{is_of};
+ghost use Rattle.ha_journal.specs.Journal.{Journal};
 ghost use Rattle.ha_sight.specs.Sight.{switch_seen};
-ghost use Rattle.ha_journal.specs.Moves.{sight};
 ghost use Rattle.ha_config.specs.Words.{Text, Pairs, same_entity};
-ghost use Rattle.trig_set.specs.Next.{AreListed, Listed};
+ghost use Rattle.trig_set.specs.Next.{Listed};
 ghost use Rattle.trig_set.specs.Scenes.{AreShifts, face, shifts_in};
-ghost use Rattle.trig_set.specs.Shifts.{AreMade, IsMade, face_after, face_of_switch, is_automation, next_face, removes};
+ghost use Rattle.trig_set.specs.Shifts.{AreMade, IsMade, IsTold, face_after, face_of_switch, finishes_in, is_automation, next_face, removes};
 
+use crate::attached::is_moment;
 use crate::before::Before;
 use crate::scene::{Shift, Shifts};
 use ha_clock::Moment;
 use ha_config::{Cmd, same_id};
-use ha_journal::Entry;
-use ha_sight::{Answers, StateObject};
+use ha_journal::{BusEvent, Entry};
+use ha_sight::{Answers, HelperChange, Item, StateObject};
 use ha_value::{EntityId, Many, Plain, Value, Word, copy_pairs};
 use std::alloc::{AllocError, Global};
 
@@ -86,6 +88,59 @@ fn report_in<'a>(entry: &'a Entry, entity: &EntityId) -> Option<(&'a Word, &'a M
     }
 }
 
+/// What the entry changes of the helper, if it does.
+fn change_in<'a>(entry: &'a Entry, entity: &EntityId) -> Option<&'a HelperChange>
+    ensures { option_copied result ≡ change_of entity.now entry.now }
+{
+    match entry {
+        Entry::Step {
+            item: Item::Helped(changes),
+            ..
+        } => change_among(changes.as_slice(), entity),
+        _ => None,
+    }
+}
+
+/// The first of these changes that is of the helper.
+fn change_among<'a>(changes: &'a [HelperChange], entity: &EntityId) -> Option<&'a HelperChange>
+    ensures { option_copied result ≡ find (λ c. same_entity c.entity entity.now) changes.now }
+{
+    changes
+        .iter()
+        .find(|change| same_id(&change.entity, entity))
+}
+
+/// Whether the event is of this entity.
+fn is_of(event: &BusEvent, entity: &EntityId) -> bool
+    ensures { result ≡ is_of (Some entity.now) event.now }
+{
+    match &event.entity {
+        Some(own) => same_id(entity, own),
+        None => false,
+    }
+}
+
+fn is_of_any(events: &[BusEvent], entity: &EntityId) -> bool
+    ensures { result ≡ list_any (is_of (Some entity.now)) events.now }
+{
+    events.iter().any(|event| is_of(event, entity))
+}
+
+/// Whether the timer finishes with the entry, which gives these events of helpers.
+fn finishes_in(events: &[BusEvent], entry: &Entry, entity: &EntityId) -> bool
+    ensures { result ≡ finishes_in events.now entry.now entity.now }
+{
+    is_moment(entry) && is_of_any(events, entity)
+}
+
+/// A state with this text and no attributes.
+fn bare_state(alloc: Global, text: &Word, now: Moment) -> Result<StateObject, AllocError>
+    ensures { IfOk result (λ s. face (Some s) ≡ Some (text.now, [])) }
+{
+    let made = state(alloc, text, &Many::make(alloc), now)?;
+    Ok(made)
+}
+
 /// Whether the entity is gone with the entry.
 fn removes(entry: &Entry, entity: &EntityId) -> bool
     ensures { result ≡ removes entry.now entity.now }
@@ -107,14 +162,36 @@ fn removes(entry: &Entry, entity: &EntityId) -> bool
 fn next_state(
     alloc: Global,
     entry: &Entry,
+    events: &[BusEvent],
     entity: &EntityId,
     old: &Option<StateObject>,
     now: Moment,
 ) -> Result<Option<StateObject>, AllocError>
-    ensures { IfOk result (λ s. face s ≡ next_face entry.now entity.now (face old.now)) }
+    ensures { IfOk result (λ s. face s ≡ next_face events.now entry.now entity.now (face old.now)) }
 {
     if let Some((text, attributes)) = report_in(entry, entity) {
         return Ok(Some(state(alloc, text, attributes, now)?));
+    }
+    if let Some(change) = change_in(entry, entity) {
+        return Ok(Some(bare_state(alloc, &change.text, now)?));
+    }
+    unreported_state(alloc, entry, events, entity, old, now)
+}
+
+/// The same, where the entry neither reports the entity nor changes it as a helper.
+fn unreported_state(
+    alloc: Global,
+    entry: &Entry,
+    events: &[BusEvent],
+    entity: &EntityId,
+    old: &Option<StateObject>,
+    now: Moment,
+) -> Result<Option<StateObject>, AllocError>
+    ensures { IfOk result (λ s. face s ≡ (if finishes_in events.now entry.now entity.now then Some (codes "idle", []) else (if removes entry.now entity.now then None else face old.now))) }
+{
+    if finishes_in(events, entry, entity) {
+        let idle = Word::short(alloc, "idle");
+        return Ok(Some(bare_state(alloc, &idle, now)?));
     }
     if removes(entry, entity) {
         return Ok(None);
@@ -126,17 +203,18 @@ fn next_state(
 fn new_state<A: Answers>(
     alloc: Global,
     entry: &Entry,
+    events: &[BusEvent],
     entity: &EntityId,
     old: &Option<StateObject>,
     answers: &A,
 ) -> Result<Option<StateObject>, AllocError>
-    ensures { IfOk result (λ s. face s ≡ face_after entry.now (A.sight answers.now) entity.now (face old.now)) }
+    ensures { IfOk result (λ s. face s ≡ face_after events.now entry.now (A.sight answers.now) entity.now (face old.now)) }
 {
     let now = answers.now();
     if is_automation(entity) {
         switch_state(alloc, switch_of(entity, answers), now)
     } else {
-        next_state(alloc, entry, entity, old, now)
+        next_state(alloc, entry, events, entity, old, now)
     }
 }
 
@@ -144,13 +222,14 @@ fn new_state<A: Answers>(
 fn shift<A: Answers>(
     alloc: Global,
     entry: &Entry,
+    events: &[BusEvent],
     listed: &(EntityId, Option<StateObject>),
     answers: &A,
 ) -> Result<Shift, AllocError>
-    ensures { IfOk result (λ c. IsMade entry.now (A.sight answers.now) listed.now c) }
+    ensures { IfOk result (λ c. IsMade events.now entry.now (A.sight answers.now) listed.now c) }
 {
     let (entity, old) = listed;
-    let new = new_state(alloc, entry, entity, old, answers)?;
+    let new = new_state(alloc, entry, events, entity, old, answers)?;
     Ok(Shift {
         entity: entity.copy(alloc)?,
         old: old.copy(alloc)?,
@@ -162,13 +241,14 @@ fn shift<A: Answers>(
 fn shift_alone<A: Answers>(
     alloc: Global,
     entry: &Entry,
+    events: &[BusEvent],
     alone: &mut Shift,
     answers: &A,
 ) -> Result<(), AllocError>
-    ensures { OnOk result ((j : Journal) → A.sight answers.now ≡ sight (more j entry.now) (length (more j entry.now))
-        → AreListed j entry.now ((alone.entry.now.entity, alone.entry.now.old) ∷ []) → AreShifts (alone.exit.now ∷ []) j entry.now) }
+    ensures { OnOk result ((j : Journal) → IsTold j entry.now ((alone.entry.now.entity, alone.entry.now.old) ∷ []) events.now (A.sight answers.now)
+        → AreShifts (alone.exit.now ∷ []) j entry.now) }
 {
-    let new = new_state(alloc, entry, &alone.entity, &alone.old, answers)?;
+    let new = new_state(alloc, entry, events, &alone.entity, &alone.old, answers)?;
     alone.new = new;
     Ok(())
 }
@@ -177,13 +257,14 @@ fn shift_alone<A: Answers>(
 fn push_shift<A: Answers>(
     alloc: Global,
     entry: &Entry,
+    events: &[BusEvent],
     listed: &(EntityId, Option<StateObject>),
     answers: &A,
     shifts: &mut Many<Shift>,
 ) -> Result<(), AllocError>
-    ensures { OnOk result ((front : Listed) → AreMade entry.now (A.sight answers.now) front shifts.old → AreMade entry.now (A.sight answers.now) (front ++ listed.now ∷ []) shifts.new) }
+    ensures { OnOk result ((front : Listed) → AreMade events.now entry.now (A.sight answers.now) front shifts.old → AreMade events.now entry.now (A.sight answers.now) (front ++ listed.now ∷ []) shifts.new) }
 {
-    shifts.push(shift(alloc, entry, listed, answers)?)?;
+    shifts.push(shift(alloc, entry, events, listed, answers)?)?;
     Ok(())
 }
 
@@ -191,40 +272,41 @@ fn push_shift<A: Answers>(
 fn shifts_of_several<A: Answers>(
     alloc: Global,
     entry: &Entry,
+    events: &[BusEvent],
     before: &Many<(EntityId, Option<StateObject>)>,
     answers: &A,
 ) -> Result<Many<Shift>, AllocError>
-    ensures { IfOk result (λ shifts. (j : Journal) → A.sight answers.now ≡ sight (more j entry.now) (length (more j entry.now))
-        → AreListed j entry.now before.now → AreShifts shifts j entry.now) }
+    ensures { IfOk result (λ shifts. (j : Journal) → IsTold j entry.now before.now events.now (A.sight answers.now) → AreShifts shifts j entry.now) }
 {
     let mut shifts = Many::with_room(alloc, before.len())?;
     let listed = before.as_slice();
     for place in 0..listed.len() {
-        push_shift(alloc, entry, &listed[place], answers, &mut shifts)?;
+        push_shift(alloc, entry, events, &listed[place], answers, &mut shifts)?;
     }
     Ok(shifts)
 }
 
 /// The states of the listed entities before and after the entry. After it, an automation has what its switch says; an entity that is
-/// reported has what the report says; one that is removed, or any at a Restart, is gone; and any other has the state before.
+/// reported has what the report says; a helper that is changed has the text of its change; a timer that finishes is idle; an entity that is
+/// removed, or any at a Restart, is gone; and any other has the state before.
 pub fn shifts_of<A: Answers>(
     alloc: Global,
     entry: &Entry,
     before: Before,
+    events: &[BusEvent],
     answers: &A,
 ) -> Result<Shifts, AllocError>
-    ensures { IfOk result (λ shifts. (j : Journal) → A.sight answers.now ≡ sight (more j entry.now) (length (more j entry.now))
-        → AreListed j entry.now before → AreShifts (shifts_in shifts) j entry.now) }
+    ensures { IfOk result (λ shifts. (j : Journal) → IsTold j entry.now before events.now (A.sight answers.now) → AreShifts (shifts_in shifts) j entry.now) }
 {
     let Before { alone, several, .. } = before;
     match alone {
         Some(alone) => {
             let mut alone = alone;
-            shift_alone(alloc, entry, &mut alone, answers)?;
+            shift_alone(alloc, entry, events, &mut alone, answers)?;
             Ok(Shifts::One(alone))
         }
         None => {
-            let shifts = shifts_of_several(alloc, entry, &several, answers)?;
+            let shifts = shifts_of_several(alloc, entry, events, &several, answers)?;
             Ok(Shifts::Several(shifts))
         }
     }

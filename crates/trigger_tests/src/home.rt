@@ -194,12 +194,15 @@ impl Home {
         let config = Config {
             automations,
             scripts: Many::make(alloc),
+            helpers: Many::make(alloc),
         };
         let view = View::make(&self.states, &config, &self.zone, moment(self.now));
         let place = self.place;
         self.place = place.saturating_add(1);
         match entries.get(0) {
-            Some(entry) => self.set.note(alloc, place, entry, before, &view),
+            Some(entry) => self
+                .set
+                .note(alloc, place, entry, before, &Many::make(alloc), &view),
             None => Ok(Many::make(alloc)),
         }
     }
@@ -252,6 +255,7 @@ impl Home {
         let config = Config {
             automations,
             scripts: Many::make(alloc),
+            helpers: Many::make(alloc),
         };
         let view = View::make(&self.states, &config, &self.zone, moment(self.start));
         let fired = self.set.open_segment(alloc, &self.zone, &view)?;

@@ -7,7 +7,9 @@ use Rattle.ha_value.specs.declared.value.EntityId.{EntityId}
 use Rattle.ha_value.specs.declared.value.Num.{Num}
 use Rattle.ha_value.specs.declared.value.Value.{Value}
 use Rattle.ha_config.specs.declared.config.Trigger.{Trigger}
+use Rattle.ha_config.specs.declared.config.TriggerRule.{TriggerRule}
 use Rattle.ha_journal.specs.declared.entry.Entry.{Entry}
+use Rattle.ha_journal.specs.declared.event.BusEvent.{BusEvent}
 use Rattle.ha_journal.specs.Entries.{is_moment}
 use Rattle.ha_config.specs.Words.{first_of_list, numbers_from, or_else}
 use Rattle.ha_journal.specs.Journal.{Journal, HasEntry, more}
@@ -15,13 +17,13 @@ use Rattle.ha_sight.specs.Templates.{rendered, says}
 use Rattle.ha_journal.specs.Moves.{sight}
 use Rattle.ha_journal.specs.Holds.{same_watched, fires}
 use Rattle.ha_journal.specs.Variables.{variables}
-use Rattle.ha_sight.specs.Rules.{starts, entities_of}
-use Rattle.ha_journal.specs.Triggers.{Fired, firing_for, firings_by}
+use Rattle.ha_sight.specs.Rules.{starts, entities_of, is_event}
+use Rattle.ha_journal.specs.Triggers.{Fired, entities_at, firing_for, firings_by}
 use Rattle.ha_sight.specs.Scripts.{Ask}
 use Rattle.ha_journal.specs.Waits.{all_fired, completes, is_over, end_at, wait_end}
 use Rattle.ha_journal.proofs.MoreLemmas.{length-more}
 use Rattle.ha_config.proofs.ListLemmas.{get-more}
-use Rattle.ha_past.proofs.PastLemmas.{sight-more, moves-more, watched-more, variables-more}
+use Rattle.ha_past.proofs.PastLemmas.{events-more, sight-more, moves-more, watched-more, variables-more}
 
 -- ---- tests that agree on a stretch of numbers
 
@@ -110,10 +112,15 @@ module _ (j : Journal) (x : Entry) (h : HasEntry j) where
   each-fired p q lt t [] = refl
   each-fired p q lt t (e ∷ es) = (λ i. cons_option (firing-more t e p q lt i) (each-fired p q lt t es i))
 
+  -- for whom a trigger may fire at an earlier place stays
+  entities-alike : (rule : TriggerRule) (q : ℕ) → q < length j → entities_at (more j x) q rule ≡ entities_at j q rule
+  entities-alike rule q lt = (λ i. if is_event rule then map (λ (v : BusEvent). v.entity) (events-more j x q lt i) else entities_of rule)
+
   firings-more : (ts : List (ℕ × Trigger)) (p q : ℕ) → q < length j → flat_map (firings_by (more j x) p q) ts ≡ flat_map (firings_by j p q) ts
   firings-more [] p q lt = refl
   firings-more (t ∷ ts) p q lt =
-      (λ i. each-fired p q lt t (entities_of t.1.rule) i ++ firings-more ts p q lt i)
+      (λ i. filter_map (firing_for (more j x) p q t) (entities-alike t.1.rule q lt i) ++ flat_map (firings_by (more j x) p q) ts)
+      ∙ (λ i. each-fired p q lt t (entities_at j q t.1.rule) i ++ firings-more ts p q lt i)
 
   all-fired-more : (ask : Ask) (p q : ℕ) → q < length j → all_fired (more j x) ask p q ≡ all_fired j ask p q
   all-fired-more ask p q lt = ap (map {A = Fired} {B = Value} (λ f. f.variables)) (firings-more (enumerate_from 0 ask.triggers) p q lt)

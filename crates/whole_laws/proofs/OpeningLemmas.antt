@@ -1,16 +1,18 @@
 -- What fires at an opening is told by the triggers alone.
 use Rattle.std.proofs.Common.{◌≡◌, ℕ, ◌+◌, List, [], ◌∷◌, ◌++◌, Bool, true, false, refl, sym, ◌∙◌, rules, Option}
-use Rattle.std.specs.Prelude.{Some, None, ◌&&◌, ◌||◌, filter_map, flat_map, option_map, is_none, nat_lt, if◌then◌else◌}
+use Rattle.std.specs.Prelude.{Some, None, ◌&&◌, ◌||◌, filter_map, flat_map, map, option_map, is_none, nat_lt, if◌then◌else◌}
 use Rattle.std.specs.List.{enumerate_from}
 use Rattle.ha_value.specs.declared.value.EntityId.{EntityId}
 use Rattle.ha_config.specs.declared.config.Trigger.{Trigger}
 use Rattle.ha_config.specs.declared.config.TriggerRule.{TriggerRule}
 use Rattle.ha_journal.specs.declared.entry.Entry.{Entry}
 use Rattle.ha_journal.specs.declared.entry.Entry.TheVariants.{Boot, Line, Step, Again}
+use Rattle.ha_journal.specs.declared.event.BusEvent.{BusEvent}
+use Rattle.ha_journal.specs.Helpers.{events_at}
 use Rattle.ha_journal.specs.Journal.{Journal}
 use Rattle.ha_journal.specs.Entries.{IsBoot}
-use Rattle.ha_journal.specs.Triggers.{Fired, firing_for, firings, firings_by}
-use Rattle.ha_sight.specs.Rules.{entities_of, starts}
+use Rattle.ha_journal.specs.Triggers.{Fired, entities_at, firing_for, firings, firings_by}
+use Rattle.ha_sight.specs.Rules.{entities_of, is_event, starts}
 use Rattle.ha_journal.specs.Holds.{fires}
 use Rattle.ha_journal.specs.Variables.{variables}
 
@@ -28,6 +30,12 @@ boot-fires (Boot text config stored start zone carry) h t (Some d) e s = none (n
 boot-fires (Line source number cmd) h t o e s = absurd h
 boot-fires (Step worker serial branch item) h t o e s = absurd h
 boot-fires (Again number start stored carry) h t o e s = absurd h
+
+boot-events : (b : Entry) → IsBoot b → events_at (b ∷ []) 0 ≡ []
+boot-events (Boot text config stored start zone carry) h = refl
+boot-events (Line source number cmd) h = absurd h
+boot-events (Step worker serial branch item) h = absurd h
+boot-events (Again number start stored carry) h = absurd h
 
 abbrev given : Journal → ℕ → Trigger → Option EntityId → Option ℕ → Option Fired
 given j n t e o = option_map {T = ℕ} {U = Fired} (λ i. record { trigger = n; entity = e; variables = variables j t e i }) o
@@ -63,9 +71,15 @@ module _ (b b' : Entry) (h : IsBoot b) (h' : IsBoot b') where
       cons (Some x) xs = x ∷ xs
       cons None xs = xs
 
+  -- nobody gives an event at an opening
+  for-alike : (rule : TriggerRule) → entities_at (b ∷ []) 0 rule ≡ entities_at (b' ∷ []) 0 rule
+  for-alike rule = (let none = boot-events b h ∙ sym (boot-events b' h') in λ i. if is_event rule then map (λ (v : BusEvent). v.entity) (none i) else entities_of rule)
+
   first-all : (n : ℕ) (ts : List Trigger) (s : ℕ) → flat_map (firings_by (b ∷ []) s 0) (enumerate_from n ts) ≡ flat_map (firings_by (b' ∷ []) s 0) (enumerate_from n ts)
   first-all n [] s = refl
-  first-all n (t ∷ ts) s = (λ i. first-by n t s (entities_of t.rule) i ++ first-all (n + 1) ts s i)
+  first-all n (t ∷ ts) s =
+      (λ i. first-by n t s (entities_at (b ∷ []) 0 t.rule) i ++ first-all (n + 1) ts s i)
+      ∙ (λ i. filter_map (firing_for (b' ∷ []) s 0 (n, t)) (for-alike t.rule i) ++ flat_map (firings_by (b' ∷ []) s 0) (enumerate_from (n + 1) ts))
 
   -- LAW: at an opening the same fires, with the same variables, whatever the Boot says else
   pub openings-alike : (ts : List Trigger) (s : ℕ) → firings (b ∷ []) ts s 0 ≡ firings (b' ∷ []) ts s 0

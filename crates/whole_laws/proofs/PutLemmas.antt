@@ -6,11 +6,12 @@ use Rattle.std.proofs.Math.Seq.{take-append_seam}
 use Rattle.ha_journal.specs.declared.entry.Entry.{Entry}
 use Rattle.ha_journal.specs.declared.entry.Entry.TheVariants.{Boot, Line, Step, Again}
 use Rattle.ha_config.specs.declared.command.Cmd.{Cmd}
-use Rattle.ha_config.specs.Fair.{no_automation}
+use Rattle.ha_config.specs.Fair.{no_automation, of_helper}
+use Rattle.ha_config.specs.Helpers.{is_helper}
 use Rattle.ha_sight.specs.declared.item.Item.{Item}
 use Rattle.ha_journal.specs.Commands.{has_automation, put_as}
 use Rattle.ha_journal.specs.Entries.{Reopening, again_in, is_again, is_restart, restarts}
-use Rattle.ha_journal.specs.Journal.{Journal, HasEntry, automations, more, units}
+use Rattle.ha_journal.specs.Journal.{Journal, HasEntry, automations, helpers, more, units}
 use Rattle.ha_model.specs.Records.{last_is}
 use Rattle.ha_whole.specs.Segments.{cut, reopened, segment}
 use Rattle.ha_whole.specs.Whole.{AreEntries, AreShort, HasRoom, IsBehind, IsFirst, IsJournal, IsWithin, again_of, appended, before_put, carry_of, ends_segment, most_in_segment, put}
@@ -67,8 +68,16 @@ step-is-put worker serial branch item = record { none = refl; not_boot = λ h. h
 
 -- what stands for a command restarts where the command does
 pub put-restarts : (j : Journal) (source number : ℕ) (cmd : Cmd) → is_restart (Line source number (put_as j cmd)) ≡ restarts cmd
-put-restarts j source number (Cmd.Report entity text attributes) = refl
-put-restarts j source number (Cmd.Gone entity) = refl
+put-restarts j source number (Cmd.Report entity text attributes) = of-helper (is_helper (helpers j) entity)
+  where
+    of-helper : (b : Bool) → is_restart (Line source number (if b then Cmd.Refused of_helper else Cmd.Report entity text attributes)) ≡ false
+    of-helper true = refl
+    of-helper false = refl
+put-restarts j source number (Cmd.Gone entity) = of-helper (is_helper (helpers j) entity)
+  where
+    of-helper : (b : Bool) → is_restart (Line source number (if b then Cmd.Refused of_helper else Cmd.Gone entity)) ≡ false
+    of-helper true = refl
+    of-helper false = refl
 put-restarts j source number (Cmd.Event kind pairs) = refl
 put-restarts j source number (Cmd.Moment at) = refl
 put-restarts j source number (Cmd.Switch name on stop) = named (has_automation j name)

@@ -61,10 +61,13 @@ impl Plain for Config {
         Ok(Config {
             automations: self.automations.copy(alloc)?,
             scripts: self.scripts.copy(alloc)?,
+            helpers: self.helpers.copy(alloc)?,
         })
     }
 
     fn same(&self, other: &Config) -> bool {
-        self.automations.same(&other.automations) && self.scripts.same(&other.scripts)
+        self.automations.same(&other.automations)
+            && self.scripts.same(&other.scripts)
+            && self.helpers.same(&other.helpers)
     }
 }

@@ -37,6 +37,7 @@ impl Plain for Item {
                 waits: *waits,
             }),
             Item::Halted(scripts) => Ok(Item::Halted(scripts.copy(alloc)?)),
+            Item::Helped(changes) => Ok(Item::Helped(changes.copy(alloc)?)),
         }
     }
 
@@ -99,6 +100,10 @@ impl Plain for Item {
             },
             Item::Halted(a) => match other {
                 Item::Halted(b) => a.same(b),
+                _ => false,
+            },
+            Item::Helped(a) => match other {
+                Item::Helped(b) => a.same(b),
                 _ => false,
             },
         }

@@ -1,4 +1,4 @@
-use Rattle.call_laws.proofs.AloneLemmas.{asks-none, calls-alone, entries-alone, stops-none, units-alone}
+use Rattle.call_laws.proofs.AloneLemmas.{asks-none, calls-alone, calls-helped, entries-alone, stops-none, units-alone}
 use Rattle.call_laws.proofs.PlainRuns.{runs-plain}
 use Rattle.call_laws.proofs.laws.without_scripts_automations_are_alone.Goals as goal
 
@@ -6,7 +6,10 @@ pub returns-clause-units : goal.returns-clause-units
 returns-clause-units c = units-alone
 
 pub returns-clause-calls : goal.returns-clause-calls
-returns-clause-calls c = calls-alone
+returns-clause-calls c = calls-helped
+
+pub returns-clause-outer : goal.returns-clause-outer
+returns-clause-outer c = calls-alone
 
 pub returns-clause-entries : goal.returns-clause-entries
 returns-clause-entries c = entries-alone

@@ -1,7 +1,8 @@
-use Rattle.std.proofs.Common.{[], false, sym, subst}
+use Rattle.std.proofs.Common.{[], ap, false, refl, sym, subst}
+use Rattle.std.specs.Prelude.{is_some}
 use Rattle.trig_set.specs.Next.{Listed}
 use Rattle.engine_parts.specs.Stages.{Entered}
-use Rattle.engine_entry.proofs.EnterPlain.{plain-entered, states-left, nothing-listed, now-before, other-plain, other-reports, other-keeps, other-waits}
+use Rattle.engine_entry.proofs.EnterPlain.{helpers-left, none-given, nothing-listed, now-before, other-keeps, other-plain, other-reports, other-waits, plain-entered, states-left}
 use Rattle.engine_entry.proofs.enter.enter_other.Goals as goal
 
 pub returns-clause-entered : goal.returns-clause-entered
@@ -11,6 +12,8 @@ returns-clause-entered c k rs h other =
     let plain = other-plain h.cmd other in
     let none = other-reports h.source h.number h.cmd other in
     let kept = other-keeps h.source h.number h.cmd other in
-    let still = other-waits h.source h.number h.cmd other in
-    subst (λ (l : Listed). Entered k (record p { changed = false }) l) (sym c.make.ensures)
-    (plain-entered k rs p h plain p.states p.at [] (states-left k rs p h plain none kept) (now-before k rs p h still) old.in_time (nothing-listed k rs p h plain none kept))
+    let waits = other-waits h.source h.number h.cmd other in
+    let still = ap is_some waits in
+    subst (λ (l : Listed). Entered k (record p { given = c.make.result; changed = false }) l) (sym c.make-2.ensures)
+    (plain-entered k rs p h plain p.states p.helpers c.make.result p.at [] (states-left k rs p h plain none kept still) (helpers-left k rs p h plain still) (none-given k rs p h plain c.make.result c.make.ensures still)
+    (now-before k rs p h waits) old.in_time (nothing-listed k rs p h plain none kept still) (λ spared. refl))

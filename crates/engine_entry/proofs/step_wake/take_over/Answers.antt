@@ -32,8 +32,9 @@ returns-clause-entered c =
     let at : length h.entered.untold.j ≡ c.place-place.result = omega (arith, h.here, c.place-place.ensures.place) in
     let sees = h.entered.sees in
     record {
-      sees = record { looks = sees.looks; switches_stand = sees.switches_stand; changed_is = sees.changed_is; sound = sees.sound };
+      sees = record { looks = sees.looks; helpers_stand = sees.helpers_stand; switches_stand = sees.switches_stand; changed_is = sees.changed_is; sound = sees.sound };
       untold = c.in_ok-take_wait.ensures.untold k c.args.before.now h.entered.untold at;
+      given_is = h.entered.given_is;
       keys_early = subst (KeysBelow (length k)) (sym c.in_ok-take_delay.ensures)
           (keys-added (length k) c.place-place.result c.args.due c.args.parts.now.delays (omega (arith, h.here, c.place-place.ensures.place)) h.entered.keys_early);
     }

@@ -1,13 +1,14 @@
 use Rattle.std.proofs.Common.{◌≡◌, ◌-◌, length, sym, ap, subst, ◌∙◌}
 use Rattle.ha_journal.specs.declared.entry.Entry.{Entry}
 use Rattle.ha_journal.specs.Journal.{Journal, more}
+use Rattle.ha_journal.proofs.MoreLemmas.{has-entry}
 use Rattle.script_calls.specs.Seen as shown
 use Rattle.trig_set.specs.Next.{IsNext}
 use Rattle.ha_past.specs.Firings.{firings}
 use Rattle.trig_set.specs.Stands as triggers
 use Rattle.wait_set.specs.Stands as waits
 use Rattle.engine_parts.proofs.NoteEntry.{untold-next, untold-told, told-by}
-use Rattle.engine_parts.proofs.ViewLemmas.{place-seen, units-fit}
+use Rattle.engine_parts.proofs.ViewLemmas.{helpers-shown, place-seen, units-fit}
 use Rattle.engine_parts.proofs.attend.note_last.Goals as goal
 
 pub note-requires : goal.note-requires
@@ -20,12 +21,14 @@ returns-clause-told c =
     let t = c.args.triggers.now in
     let w = c.args.waits.now in
     let same : c.last_entry.result.now ≡ h.x = c.last_entry.ensures h.j h.x h.journal_is in
-    let sees = c.make-view.ensures.sees ∙ place-seen k c.args.states.now c.configuration.result.now c.args.zone.now c.args.at c.requires.looks c.requires.sound c.configuration.ensures.configured in
+    let some = has-entry k h.journal in
+    let helped = c.requires.helpers in
+    let sees = c.make-view.ensures.sees ∙ place-seen k c.args.states.now c.configuration.result.now c.args.zone.now c.args.at c.args.helpers.now c.requires.looks c.requires.sound some helped c.configuration.ensures.configured in
     let p = c.place.result in
     let at : length k - 1 ≡ p = sym c.place.ensures.place in
-    let next = subst (λ n. IsNext h.j n c.last_entry.result.now c.args.before (shown.sees c.make-view.result) (triggers.attached t)) at
-    (subst (λ (y : Entry). IsNext h.j (length k - 1) y c.args.before (shown.sees c.make-view.result) (triggers.attached t)) (sym same)
-    (untold-next k t w c.args.before h c.args.states.now c.args.zone.now c.args.at (shown.sees c.make-view.result) c.requires.looks sees)) in
+    let next = subst (λ n. IsNext h.j n c.last_entry.result.now c.args.before c.args.given.now (shown.sees c.make-view.result) (triggers.attached t)) at
+    (subst (λ (y : Entry). IsNext h.j (length k - 1) y c.args.before c.args.given.now (shown.sees c.make-view.result) (triggers.attached t)) (sym same)
+    (untold-next k t w c.args.before h c.args.states.now c.args.zone.now c.args.at c.args.given.now (shown.sees c.make-view.result) c.requires.looks c.requires.given sees)) in
     let told = subst (λ n. waits.AreFired (more h.j c.last_entry.result.now) n (firings (more h.j c.last_entry.result.now) n (triggers.attached t)) w.asks) at
     (subst (λ (y : Entry). waits.AreFired (more h.j y) (length k - 1) (firings (more h.j y) (length k - 1) (triggers.attached t)) w.asks) (sym same) (untold-told k t w c.args.before h)) in
     told-by k t w c.args.before h c.note.new.triggers c.note.new.waits c.in_ok-fired.ensures.attached
@@ -40,12 +43,14 @@ returns-clause-fired c =
     let t = c.args.triggers.now in
     let w = c.args.waits.now in
     let same : c.last_entry.result.now ≡ h.x = c.last_entry.ensures h.j h.x h.journal_is in
-    let sees = c.make-view.ensures.sees ∙ place-seen k c.args.states.now c.configuration.result.now c.args.zone.now c.args.at c.requires.looks c.requires.sound c.configuration.ensures.configured in
+    let some = has-entry k h.journal in
+    let helped = c.requires.helpers in
+    let sees = c.make-view.ensures.sees ∙ place-seen k c.args.states.now c.configuration.result.now c.args.zone.now c.args.at c.args.helpers.now c.requires.looks c.requires.sound some helped c.configuration.ensures.configured in
     let p = c.place.result in
     let at : length k - 1 ≡ p = sym c.place.ensures.place in
-    let next = subst (λ n. IsNext h.j n c.last_entry.result.now c.args.before (shown.sees c.make-view.result) (triggers.attached t)) at
-    (subst (λ (y : Entry). IsNext h.j (length k - 1) y c.args.before (shown.sees c.make-view.result) (triggers.attached t)) (sym same)
-    (untold-next k t w c.args.before h c.args.states.now c.args.zone.now c.args.at (shown.sees c.make-view.result) c.requires.looks sees)) in
+    let next = subst (λ n. IsNext h.j n c.last_entry.result.now c.args.before c.args.given.now (shown.sees c.make-view.result) (triggers.attached t)) at
+    (subst (λ (y : Entry). IsNext h.j (length k - 1) y c.args.before c.args.given.now (shown.sees c.make-view.result) (triggers.attached t)) (sym same)
+    (untold-next k t w c.args.before h c.args.states.now c.args.zone.now c.args.at c.args.given.now (shown.sees c.make-view.result) c.requires.looks c.requires.given sees)) in
     c.in_ok-fired.ensures.fired h.j h.triggers_stand next
     ∙ ap (λ n. firings (more h.j c.last_entry.result.now) n (triggers.attached t)) c.place.ensures.place
     ∙ ap (λ (y : Entry). firings (more h.j y) (length k - 1) (triggers.attached t)) same
@@ -53,3 +58,8 @@ returns-clause-fired c =
 
 pub make-view-requires-clause-few : goal.make-view-requires-clause-few
 make-view-requires-clause-few c = units-fit c.args.journal.now c.configuration.result.now c.requires.sound c.configuration.ensures.configured
+
+pub make-view-requires-clause-seen : goal.make-view-requires-clause-seen
+make-view-requires-clause-seen c =
+    helpers-shown c.args.journal.now c.args.states.now c.configuration.result.now c.args.zone.now c.args.at c.args.helpers.now c.requires.looks c.requires.sound (has-entry c.args.journal.now c.requires.untold.journal)
+    c.requires.helpers c.configuration.ensures.configured

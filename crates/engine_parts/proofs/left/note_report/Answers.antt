@@ -3,12 +3,13 @@ use Rattle.std.proofs.Common.{◌-◌, [], ◌∷◌, length, sym, subst}
 use Rattle.ha_journal.specs.declared.entry.Entry.{Entry}
 use Rattle.ha_journal.specs.Journal.{more}
 use Rattle.ha_journal.specs.Moves.{sight}
+use Rattle.ha_journal.proofs.MoreLemmas.{has-entry}
 use Rattle.script_calls.specs.Seen as shown
 use Rattle.trig_set.specs.Stands as triggers
 use Rattle.wait_set.specs.Stands as waits
 use Rattle.engine_parts.proofs.NoteEntry.{told-by}
 use Rattle.engine_parts.proofs.NoteLeft.{left-next, left-none, left-now, left-quiet, left-waits, report}
-use Rattle.engine_parts.proofs.ViewLemmas.{place-seen, units-fit}
+use Rattle.engine_parts.proofs.ViewLemmas.{helpers-shown, place-seen, units-fit}
 use Rattle.engine_parts.proofs.left.note_report.Goals as goal
 
 pub note_left-requires : goal.note_left-requires
@@ -26,7 +27,9 @@ returns-clause-told c =
     let j = h.untold.j in
     let next = left-next k t w e text attributes h c.args.states.now c.args.zone.now c.args.at c.requires.looks in
     let none = left-quiet k t w e text attributes h c.args.states.now c.args.zone.now c.args.at c.requires.looks c.note_left.ensures.fired in
-    let sees = c.make-view.ensures.sees ∙ place-seen k c.args.states.now c.configuration.result.now c.args.zone.now c.args.at c.requires.looks c.requires.sound c.configuration.ensures.configured in
+    let some = has-entry k h.untold.journal in
+    let helped = c.requires.helpers in
+    let sees = c.make-view.ensures.sees ∙ place-seen k c.args.states.now c.configuration.result.now c.args.zone.now c.args.at c.args.helpers.now c.requires.looks c.requires.sound some helped c.configuration.ensures.configured in
     let waits_next = subst (λ n. waits.IsNext j n (report k t w e text attributes h) (shown.sees c.make-view.result) c.make-fired.result w.asks) (sym c.place.ensures.place)
     (left-waits k t w e text attributes h none (shown.sees c.make-view.result) c.make-fired.result sees c.make-fired.ensures) in
     told-by k t w ((e, h.old) ∷ []) h.untold c.note_left.new.self c.note_waits.new.waits c.note_left.ensures.kept
@@ -69,3 +72,8 @@ returns-in_err-note_waits-clause-fired c =
 
 pub make-view-requires-clause-few : goal.make-view-requires-clause-few
 make-view-requires-clause-few c = units-fit c.args.journal.now c.configuration.result.now c.requires.sound c.configuration.ensures.configured
+
+pub make-view-requires-clause-seen : goal.make-view-requires-clause-seen
+make-view-requires-clause-seen c =
+    helpers-shown c.args.journal.now c.args.states.now c.configuration.result.now c.args.zone.now c.args.at c.args.helpers.now c.requires.looks c.requires.sound (has-entry c.args.journal.now c.requires.untold.untold.journal)
+    c.requires.helpers c.configuration.ensures.configured

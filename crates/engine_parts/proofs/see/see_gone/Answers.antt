@@ -8,9 +8,9 @@ use Rattle.engine_parts.proofs.SeeLemmas.{gone-listed}
 use Rattle.engine_parts.proofs.see.see_gone.Goals as goal
 
 pub returns-clause-listed : goal.returns-clause-listed
-returns-clause-listed c j k n stands plain =
+returns-clause-listed c j k n stands plain free =
     subst (λ (l : Listed). AreListed j (Line k n (Cmd.Gone c.args.entity.now)) l) (sym c.in_ok-before.ensures)
-    (gone-listed c.args.states.now j k n c.args.entity.now stands plain)
+    (gone-listed c.args.states.now j k n c.args.entity.now stands plain free)
 
 pub returns-clause-stands : goal.returns-clause-stands
 returns-clause-stands c = stands-gone (at c.args.states.now) _ c.args.entity.now c.gone.ensures.rest

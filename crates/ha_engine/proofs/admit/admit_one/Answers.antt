@@ -31,7 +31,7 @@ returns-clause-going c k x is at some table going =
     (subst (λ (l : Records). RunsKept (told_by nobody k l) nobody k l mid.delays mid.waits c.take_in.new.parts.frames.items (mid.ready.pairs.items ++ pairs_by c.in-Ok.told p.acts)) (sym list) runs) in
     let all : Going nobody k rs' (record mid { frames = c.take_in.new.parts.frames; ready = c.take_in.new.parts.ready })
     = record {
-      sees = record { looks = way.sees.looks; switches_stand = way.sees.switches_stand; changed_is = way.sees.changed_is; sound = way.sees.sound };
+      sees = record { looks = way.sees.looks; helpers_stand = way.sees.helpers_stand; switches_stand = way.sees.switches_stand; changed_is = way.sees.changed_is; sound = way.sees.sound };
       triggers_stand = way.triggers_stand;
       waits_stand = way.waits_stand;
       owned = way.owned;

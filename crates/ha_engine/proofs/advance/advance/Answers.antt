@@ -5,6 +5,7 @@ use Rattle.ha_journal.specs.Journal.{Journal, more}
 use Rattle.ha_journal.specs.Moves.{sight}
 use Rattle.ha_model.specs.Records.{Records}
 use Rattle.ha_whole.specs.Segments.{segment}
+use Rattle.helper_set.specs.Kept.{StandsFor}
 use Rattle.script_step.specs.Taken.{out_of}
 use Rattle.engine_parts.specs.declared.parts.Parts.{Parts}
 use Rattle.engine_parts.specs.Kept.{AreSound, Looks}
@@ -23,6 +24,11 @@ pub make_step-requires-clause-looks : goal.make_step-requires-clause-looks
 make_step-requires-clause-looks c =
     let p = c.args.parts.now in
     subst (λ (i : Journal). Looks (segment i) p.states p.zone p.at) (sym c.as_slice.ensures.value) c.requires.stepping.kept.going.sees.looks
+
+pub make_step-requires-clause-helpers : goal.make_step-requires-clause-helpers
+make_step-requires-clause-helpers c =
+    let p = c.args.parts.now in
+    subst (λ (i : Journal). StandsFor p.helpers (segment i)) (sym c.as_slice.ensures.value) c.requires.stepping.kept.going.sees.helpers_stand
 
 pub make_step-requires-clause-sound : goal.make_step-requires-clause-sound
 make_step-requires-clause-sound c = subst (λ (i : Journal). AreSound (segment i)) (sym c.as_slice.ensures.value) c.requires.stepping.kept.going.sees.sound

@@ -2,6 +2,7 @@ use Rattle.std.proofs.Common.{length, sym, subst, ◌∙◌}
 use Rattle.std.specs.Prelude.{IfOk}
 use Rattle.ha_journal.specs.Journal.{Journal, IsJournal}
 use Rattle.ha_journal.specs.Moves.{sight}
+use Rattle.helper_set.specs.Kept.{StandsFor}
 use Rattle.script_step.specs.Taken.{out_of}
 use Rattle.whole_laws.proofs.CutLemmas.{is-cut}
 use Rattle.engine_parts.specs.Kept.{AreSound, Looks}
@@ -22,6 +23,11 @@ pub step_slot-requires-clause-looks : goal.step_slot-requires-clause-looks
 step_slot-requires-clause-looks c =
     let p = c.args.parts.now in
     subst (λ (i : Journal). Looks i p.states p.zone p.at) (sym (c.make-behind.ensures ∙ lies-seen c.args.journal.now c.args.bounds c.requires.lies)) c.requires.looks
+
+pub step_slot-requires-clause-helpers : goal.step_slot-requires-clause-helpers
+step_slot-requires-clause-helpers c =
+    let p = c.args.parts.now in
+    subst (λ (i : Journal). StandsFor p.helpers i) (sym (c.make-behind.ensures ∙ lies-seen c.args.journal.now c.args.bounds c.requires.lies)) c.requires.helpers
 
 pub step_slot-requires-clause-sound : goal.step_slot-requires-clause-sound
 step_slot-requires-clause-sound c = subst AreSound (sym (c.make-behind.ensures ∙ lies-seen c.args.journal.now c.args.bounds c.requires.lies)) c.requires.sound

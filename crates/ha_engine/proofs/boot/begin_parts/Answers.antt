@@ -6,6 +6,6 @@ prepare_opening-requires c =
     let sees = c.in_ok-parts.ensures.going.sees in
     record {
       begun = begun-is c.args.journal.now c.args.switches c.args.zone c.args.start c.requires;
-      sees = record { looks = sees.looks; switches_stand = sees.switches_stand; changed_is = sees.changed_is; sound = sees.sound };
+      sees = record { looks = sees.looks; helpers_stand = sees.helpers_stand; switches_stand = sees.switches_stand; changed_is = sees.changed_is; sound = sees.sound };
       fired = c.in_ok-parts.ensures.fired;
     }

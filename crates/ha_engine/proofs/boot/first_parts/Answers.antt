@@ -1,9 +1,12 @@
 use Rattle.std.proofs.Common.{◌≡◌, ℕ, ◌+◌, ◌-◌, List, [], ◌∷◌, length, filter, true, sym, ap, subst, ◌∙◌, refl, arith}
 use Rattle.std.specs.Prelude.{Option, None, Some}
+use Rattle.ha_config.specs.declared.config.Config.{Config}
+use Rattle.ha_config.specs.Sound.{IsSoundConfig}
+use Rattle.helper_set.specs.Kept as helped
 use Rattle.timer_queue.specs.Timers.{Timer}
 use Rattle.ha_journal.specs.declared.entry.Entry.{Entry}
 use Rattle.ha_journal.specs.declared.entry.Entry.TheVariants.{Boot}
-use Rattle.ha_journal.specs.Journal.{Journal}
+use Rattle.ha_journal.specs.Journal.{Journal, configured}
 use Rattle.ha_sight.specs.Scripts.{Branch}
 use Rattle.script_calls.specs.Waiting.{Waiting}
 use Rattle.script_step.specs.declared.frames.Frames.{Frames}
@@ -21,6 +24,14 @@ use Rattle.engine_entry.proofs.OpenLemmas.{opened-ascend, opened-automations, op
 use Rattle.engine_entry.proofs.TurnedOwners.{owners-whole}
 use Rattle.ha_engine.proofs.boot.first_parts.Goals as goal
 
+pub note_first-requires-clause-helpers : goal.note_first-requires-clause-helpers
+note_first-requires-clause-helpers c =
+    let h = c.in_ok-states.ensures.begun in
+    let is : c.configuration.result.now ≡ h.config = c.configuration.ensures.configured ∙ ap configured h.journal_is in
+    subst (λ (i : Journal). helped.StandsFor c.in_ok-helpers.helpers i) (sym h.journal_is)
+    (subst (λ (d : Config). helped.StandsFor c.in_ok-helpers.helpers (Boot h.text d h.stored c.args.start c.args.zone h.carry ∷ [])) is
+    (c.in_ok-helpers.ensures (subst IsSoundConfig (sym is) h.sound) h.text h.stored c.args.start c.args.zone h.carry))
+
 pub returns-clause-going : goal.returns-clause-going
 returns-clause-going c =
     let h = c.in_ok-states.ensures.begun in
@@ -30,18 +41,20 @@ returns-clause-going c =
     let table = c.in_ok-states.states in
     let t = c.in_ok-states.triggers in
     let t' = c.note_first.new.triggers in
-    let w = c.make.result in
+    let w = c.make-waits.result in
     let same : triggers.attached t' ≡ triggers.attached t = c.in_ok-fired.ensures.attached in
     let p : Parts = record {
       at = c.args.start;
       zone = c.args.zone;
       states = table;
+      helpers = c.in_ok-helpers.helpers;
+      given = c.make-given.result;
       switches = c.args.switches;
       triggers = t';
       waits = w;
-      calls = c.make-2.result;
-      frames = c.make-3.result;
-      delays = c.make-4.result;
+      calls = c.make-calls.result;
+      frames = c.make-frames.result;
+      delays = c.make-delays.result;
       ready = record { pairs = c.new.result };
       rested = c.in_ok-rested.rested;
       changed = true;
@@ -50,29 +63,34 @@ returns-clause-going c =
       awaited = tt;
       callers = λ called s b e. absurd (let bad : ◌≡◌ {A = Option (ℕ × Branch)} None (Some (s, b)) = e in cc);
     } in
+    let is : c.configuration.result.now ≡ h.config = c.configuration.ensures.configured ∙ ap configured h.journal_is in
+    let helped_stand : helped.StandsFor c.in_ok-helpers.helpers k
+    = subst (λ (d : Config). helped.StandsFor c.in_ok-helpers.helpers (Boot h.text d h.stored c.args.start c.args.zone h.carry ∷ [])) is
+    (c.in_ok-helpers.ensures (subst IsSoundConfig (sym is) h.sound) h.text h.stored c.args.start c.args.zone h.carry) in
     let going : Going nobody k [] p = record {
       sees = record {
         looks = boot-looks h.text h.config h.stored c.args.start c.args.zone h.carry h.zone_read h.in_time table opened.stand;
+        helpers_stand = helped_stand;
         switches_stand = subst (λ (i : Journal). switches.StandsFor c.args.switches i) h.journal_is h.switches_stand;
         changed_is = refl;
         sound = h.sound;
       };
       triggers_stand = subst (λ (i : Journal). triggers.StandsFor t' i) h.journal_is c.in_ok-fired.ensures.stands;
-      waits_stand = c.make.ensures.stands k;
+      waits_stand = c.make-waits.ensures.stands k;
       owned = record {
         automations_attached = ap (filter is_automation) same ∙ opened-automations [] x refl h.sound table t opened ∙ sym (owners-whole k (omega arith));
         ascend = subst (AreAscending 0) (sym same) (opened-ascend [] x refl h.sound table t opened);
         early = subst (AreBelow (first_wait + length k)) (sym same) (opened-below [] x refl h.sound table t opened (first_wait + length k) (omega arith));
-        waits_owned = subst (λ (l : List Asked). AreOwned (length k) (triggers.attached t') l) (sym c.make.ensures.asks) tt;
-        apart = subst (λ (l : List Asked). AreApart l) (sym c.make.ensures.asks) tt;
+        waits_owned = subst (λ (l : List Asked). AreOwned (length k) (triggers.attached t') l) (sym c.make-waits.ensures.asks) tt;
+        apart = subst (λ (l : List Asked). AreApart l) (sym c.make-waits.ensures.asks) tt;
       };
-      keys_early = subst (λ (l : List Timer). KeysBelow (length k) l) (sym c.make-4.ensures) tt;
+      keys_early = subst (λ (l : List Timer). KeysBelow (length k) l) (sym c.make-delays.ensures) tt;
       runs_kept = record {
-        slots = subst (λ (os : List (Option Frames)). SlotsWith (SlotBut nobody (told_by nobody k []) k c.make-4.result w) [] os) (sym c.make-3.ensures) tt;
+        slots = subst (λ (os : List (Option Frames)). SlotsWith (SlotBut nobody (told_by nobody k []) k c.make-delays.result w) [] os) (sym c.make-frames.ensures) tt;
         pairs_are = c.new.ensures.items;
-        held = subst (λ (l : List Asked). AreHeld k c.make-3.result.items l) (sym c.make.ensures.asks) tt;
+        held = subst (λ (l : List Asked). AreHeld k c.make-frames.result.items l) (sym c.make-waits.ensures.asks) tt;
       };
-      calls_kept = subst (λ (waiting : Waiting). CallsKept (told_by nobody k []) k [] waiting c.make-3.result.items) (sym c.make-2.ensures)
-          (subst (λ (os : List (Option Frames)). CallsKept (told_by nobody k []) k [] [] os) (sym c.make-3.ensures) none-kept);
+      calls_kept = subst (λ (waiting : Waiting). CallsKept (told_by nobody k []) k [] waiting c.make-frames.result.items) (sym c.make-calls.ensures)
+          (subst (λ (os : List (Option Frames)). CallsKept (told_by nobody k []) k [] [] os) (sym c.make-frames.ensures) none-kept);
     } in
     subst (λ (i : Journal). Going nobody i [] p) (sym h.journal_is) going

@@ -28,7 +28,7 @@ prepare-requires c =
     let sees = h.going.sees in
     record {
       journal = right.journal;
-      sees = record { looks = sees.looks; switches_stand = sees.switches_stand; changed_is = sees.changed_is; sound = sees.sound };
+      sees = record { looks = sees.looks; helpers_stand = sees.helpers_stand; switches_stand = sees.switches_stand; changed_is = sees.changed_is; sound = sees.sound };
       fired = c.requires.fired;
     }
 

@@ -9,8 +9,8 @@ returns-in_ok-before-in-Report-clause-entered c k rs h is plain = c.in_ok-before
 pub returns-in_ok-before-in-Gone-clause-entered : goal.returns-in_ok-before-in-Gone-clause-entered
 returns-in_ok-before-in-Gone-clause-entered c k rs h is plain = c.in_ok-before-in-Gone.ensures.entered k rs h (is ∙ c.in-Gone.is)
 
-pub returns-in-Moment-clause-entered : goal.returns-in-Moment-clause-entered
-returns-in-Moment-clause-entered c k rs h is plain = c.enter_moment.ensures.entered k rs h (is ∙ c.in-Moment.is)
+pub returns-in_ok-before-in-Moment-clause-entered : goal.returns-in_ok-before-in-Moment-clause-entered
+returns-in_ok-before-in-Moment-clause-entered c k rs h is plain = c.in_ok-before-in-Moment.ensures.entered k rs h (is ∙ c.in-Moment.is)
 
 pub returns-in-Event-clause-entered : goal.returns-in-Event-clause-entered
 returns-in-Event-clause-entered c k rs h is plain = c.enter_other.ensures.entered k rs h (subst IsOther (sym (is ∙ c.in-Event.is)) tt)

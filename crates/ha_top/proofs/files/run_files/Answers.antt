@@ -5,20 +5,36 @@ use Rattle.ha_io.specs.declared.place.Opening.{Opening}
 use Rattle.ha_io.specs.Told.{AreAsked, IsAskedSome}
 use Rattle.ha_io.proofs.AskedLemmas.{asked_front, asked_some, asked_then}
 use Rattle.ha_config.specs.Words.{Text}
-use Rattle.ha_status.specs.Causes.{OpenCause}
+use Rattle.ha_status.specs.Causes.{KeepCause, OpenCause}
 use Rattle.ha_status.specs.Files.{AskedAt, HoldsText, IsTextFault}
 use Rattle.bus_turn.specs.States.{keeper_of, sink_of}
 use Rattle.ha_worker.specs.Courses.{source_of}
 use Rattle.ha_run.specs.Opened.{AreNew}
 use Rattle.ha_run.specs.Served.{AreOpened}
-use Rattle.ha_top.specs.Answered.{RunOpenCause, StopsAt}
+use Rattle.ha_top.specs.Answered.{IsStoreFault, RunOpenCause, StopsAt, StoreCause}
 use Rattle.ha_top.specs.Opening.{IsOpenFault, StoppedAmong}
 use Rattle.ha_top.proofs.AskedLemmas.{asked_all, asked_early}
-use Rattle.ha_top.proofs.EarlyLemmas.{early_from, lived_open, not_more, source_cause, trace_cause}
+use Rattle.ha_top.proofs.EarlyLemmas.{early_from, lived_open, lived_store, not_more, source_cause, trace_cause}
 use Rattle.ha_top.proofs.OpenLemmas.{new_count, opens_all, opens_front}
 use Rattle.ha_top.proofs.RunLemmas.{ran_lived, ran_stops}
 use Rattle.ha_top.proofs.StopLemmas.{config_stops, source_stops, store_stops, trace_stops}
 use Rattle.ha_top.proofs.files.run_files.Goals as goal
+
+pub returns-in-Err-load_store-clause-lived : goal.returns-in-Err-load_store-clause-lived
+returns-in-Err-load_store-clause-lived g c =
+    let state = source_of g.P.Source.Source.faults g.P.Source.Source.left g.P.Source.Source.name in
+    let sink = sink_of g.P.Sink.Sink.written g.P.Sink.Sink.faults g.P.Sink.Sink.zeros g.P.Sink.Sink.name in
+    let e = c.unbooted-in-Err-load_store.ensures in
+    lived_store c.args.words.now _ _
+    (early_from _ _ (ap sink e.out) (ap sink e.err) (ap (option_map sink) e.trace) (ap g.Q.Keeper.kept e.keep ∙ c.load_store.ensures.keeps)
+    (not_more g.Q.Keeper.faults (g.Q.Keeper.faults c.args.keep) _ c.unbooted-in-Err-load_store.result.keep e.keep c.load_store.ensures.never_falls) e.journal e.records)
+    c.in-Ok.made.text c.in-Ok.made.config
+    (subst (λ (z : Text). HoldsText (g.P.Place.holds c.args.place.now) z c.in-Ok.made.text) c.as_str.ensures.value c.in-Ok.ensures.config.holds) c.in-Ok.ensures.config.reads
+    (subst IsStoreFault (sym e.status) c.in-Err-load_store.ensures.fault)
+    (subst (StoreCause (g.Q.Keeper.kept c.args.keep)) (sym e.status) c.in-Err-load_store.ensures.refused)
+    (subst (λ z. KeepCause (g.Q.Keeper.faults c.args.keep) (g.Q.Keeper.faults z) c.unbooted-in-Err-load_store.result.status) (sym e.keep)
+    (subst (KeepCause (g.Q.Keeper.faults c.args.keep) (g.Q.Keeper.faults c.load_store.new.keep)) (sym e.status) c.in-Err-load_store.ensures.cause))
+    (ap (map state) (e.sources ∙ c.make.ensures))
 
 pub returns-in-Some-clause-lived : goal.returns-in-Some-clause-lived
 returns-in-Some-clause-lived g c =

@@ -7,7 +7,7 @@ use Rattle.trig_set.proofs.concerned.concerned.Goals as goal
 
 pub returns-then-opens-clause-aside : goal.returns-then-opens-clause-aside
 returns-then-opens-clause-aside c =
-    ok-then _ _ c.all_places.result (λ places beyond. others-none c.args.owners.now places (IsAside c.args.index.now c.args.queue.now c.args.to c.args.shifts.now c.args.entry.now) beyond) c.all_places.ensures
+    ok-then _ _ c.all_places.result (λ places beyond. others-none c.args.owners.now places (IsAside c.args.index.now c.args.queue.now c.args.to c.args.shifts.now c.args.events.now c.args.entry.now) beyond) c.all_places.ensures
 
 pub returns-then-opens-clause-queue : goal.returns-then-opens-clause-queue
 returns-then-opens-clause-queue c =

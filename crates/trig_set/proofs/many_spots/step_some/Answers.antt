@@ -13,6 +13,7 @@ places-init g c = record {
   same = λ n there. refl;
   places = refl;
   timed = λ t. t;
+  aside = λ n none out. out;
   elsewhere = λ n none. (none, refl);
 }
 
@@ -43,6 +44,8 @@ places-preserved g c =
       ];
       places = c.in_ok-step_there.ensures.places ∙ inv.places;
       timed = λ t. c.in_ok-step_there.ensures.timed (inv.timed t);
+      aside = λ n none out.
+          inv.aside n (put-kept c.places.gone c.insert.new.self p put n none) (sym (left-else old rest p updates least n (put-apart c.places.gone c.insert.new.self p put n none)) ∙ out);
       elsewhere = λ n none.
           let before = inv.elsewhere n (put-kept c.places.gone c.insert.new.self p put n none) in
           (before.0, c.in_ok-step_there.ensures.elsewhere n (put-apart c.places.gone c.insert.new.self p put n none) ∙ before.1);
@@ -53,3 +56,6 @@ places-smaller g c = (let e = ap length c.in-Some.ensures.removal in omega (arit
 
 pub returns-clause-moved : goal.returns-clause-moved
 returns-clause-moved g c j shows sees well keeps calm n = c.places.invariant.moved j shows sees well keeps calm n (none-left c.places.left (c.in_default.ensures.variant) n)
+
+pub returns-clause-aside : goal.returns-clause-aside
+returns-clause-aside g c n none = c.places.invariant.aside n none (none-left c.places.left (c.in_default.ensures.variant) n)

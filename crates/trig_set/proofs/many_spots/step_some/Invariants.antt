@@ -19,5 +19,6 @@ invariant-places g l = record {
   same : (n : ℕ) → has l.left n ≡ true → slice_get l.spots n ≡ slice_get l.initial.spots n;
   places : map place_of l.spots ≡ map place_of l.initial.spots;
   timed : AreTimed l.initial.timers l.initial.spots → AreTimed l.timers l.spots;
+  aside : (n : ℕ) → has l.gone n ≡ false → has l.left n ≡ false → has l.initial.left n ≡ false;
   elsewhere : (n : ℕ) → has l.gone n ≡ false → (has l.initial.gone n ≡ false) × (slice_get l.spots n ≡ slice_get l.initial.spots n);
 }

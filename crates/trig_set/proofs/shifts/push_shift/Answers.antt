@@ -9,5 +9,5 @@ pub returns : goal.returns
 returns g c front all =
     let x = c.args.entry.now in
     let seen = g.A.Answers.sight c.args.answers.now in
-    subst (λ (cs : List Shift). AreMade x seen (front ++ (c.args.listed.now ∷ [])) cs) (sym c.in_ok-push.ensures.ok)
-    (made-more x seen front c.args.shifts.now c.args.listed.now c.in_ok-shift.field-0 all c.in_ok-shift.ensures)
+    subst (λ (cs : List Shift). AreMade c.args.events.now x seen (front ++ (c.args.listed.now ∷ [])) cs) (sym c.in_ok-push.ensures.ok)
+    (made-more c.args.events.now x seen front c.args.shifts.now c.args.listed.now c.in_ok-shift.field-0 all c.in_ok-shift.ensures)

@@ -4,6 +4,7 @@ use Rattle.ha_journal.specs.declared.entry.Entry.{Entry}
 use Rattle.ha_journal.specs.declared.entry.Entry.TheVariants.{Line}
 use Rattle.ha_journal.specs.Commands.{IsFair, put_as}
 use Rattle.ha_journal.specs.Entries.{restarts}
+use Rattle.ha_whole.specs.Whole.{is_rested}
 use Rattle.whole_laws.proofs.PutLemmas.{line-put}
 use Rattle.bus_turn.specs.States.{keeper_of, outside_of, sink_of}
 use Rattle.bus_turn.specs.Shown.{BusView, bus_view}
@@ -11,6 +12,9 @@ use Rattle.bus_turn.proofs.LastLemmas.{line-dated}
 use Rattle.bus_turn.proofs.PutLemmas.{after-put, fresh-of}
 use Rattle.whole_laws.proofs.PutLemmas.{put-restarts}
 use Rattle.bus_turn.proofs.bus.Bus.line.Goals as goal
+
+pub put_line-put-requires-clause-rested : goal.put_line-put-requires-clause-rested
+put_line-put-requires-clause-rested g c = ap (λ (v : BusView). is_rested v.records c.args.source v.journal) c.self.view_is ∙ c.requires.rested
 
 pub write_put-self-inside-requires-clause-dated : goal.write_put-self-inside-requires-clause-dated
 write_put-self-inside-requires-clause-dated g c κs within =

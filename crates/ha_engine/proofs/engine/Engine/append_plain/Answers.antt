@@ -1,15 +1,11 @@
 use Rattle.std.proofs.Common.{◌≡◌, ◌-◌, false, drop, take, length, refl, sym, ap, subst, ◌∙◌}
-use Rattle.std.specs.Prelude.{is_some}
 use Rattle.std.proofs.lemmas.List.{take_at}
-use Rattle.ha_config.specs.declared.config.Automation.{Automation}
-use Rattle.ha_config.specs.Fair.{IsFairAmong}
-use Rattle.ha_config.specs.Names.{automation_named}
-use Rattle.std.specs.Prelude.{List}
+use Rattle.ha_config.specs.declared.config.Config.{Config}
 use Rattle.ha_journal.specs.declared.entry.Entry.{Entry}
 use Rattle.ha_journal.specs.declared.entry.Entry.TheVariants.{Line}
 use Rattle.ha_journal.specs.Commands.{IsFair, put_as}
 use Rattle.ha_journal.specs.Journal.{Journal, automations, more, names}
-use Rattle.ha_journal.proofs.MoreLemmas.{automations-more, names-more}
+use Rattle.ha_journal.proofs.MoreLemmas.{automations-more, fair-alike, names-more}
 use Rattle.ha_whole.specs.Segments.{segment}
 use Rattle.ha_whole.specs.Whole.{HasRoom, Right, put}
 use Rattle.segment_carry.specs.ByName.{rule_order}
@@ -19,11 +15,23 @@ use Rattle.whole_laws.proofs.LiftLemmas.{entries-have}
 use Rattle.whole_laws.proofs.PutLemmas.{line-put, put-on, put-restarts}
 use Rattle.ha_engine.specs.Core.{Core}
 use Rattle.ha_engine.specs.Noted.{AreNoted, moved_by, noted}
+use Rattle.ha_engine.specs.Put.{KnowsHelpers}
 use Rattle.ha_engine.specs.Told.{IsFollowed, IsTold}
-use Rattle.ha_engine.proofs.ChangeLemmas.{take-less}
+use Rattle.ha_engine.proofs.ChangeLemmas.{more-before, take-less}
 use Rattle.ha_engine.proofs.FollowedLemmas.{plain-followed, plain-told, told-same, true-not}
 use Rattle.ha_engine.proofs.StoredLemmas.{plain-noted}
 use Rattle.ha_engine.proofs.engine.Engine.append_plain.Goals as goal
+
+-- the helpers that are kept are those before the line
+pub settle_last-requires : goal.settle_last-requires
+settle_last-requires c k y is =
+    let j : Journal = c.self.inside.journal.items in
+    let told = c.self.invariant.told in
+    let followed = c.self.invariant.followed (ap (λ (v : Core). v.is_spent) c.self.view_is ∙ c.requires.usable) in
+    let pushed : c.as_mut_slice.result.now ≡ more j (Line c.args.source c.args.number c.args.cmd)
+    = c.as_mut_slice.ensures.value ∙ c.push_line.ensures.items ∙ ap (λ (l : Journal). more l (Line c.args.source c.args.number c.args.cmd)) c.reserve.ensures.items in
+    subst (KnowsHelpers c.self.inside.parts.helpers) (more-before j k (Line c.args.source c.args.number c.args.cmd) y (sym pushed ∙ is))
+    (record { stand = followed.kept.going.sees.helpers_stand; same = ap (λ (s : Config). s.helpers) (is-cut j told.lies.entries).configured_are })
 
 pub follow_pushed-requires : goal.follow_pushed-requires
 follow_pushed-requires c =
@@ -48,7 +56,7 @@ follow_pushed-requires c =
         cmd = put_as j c.args.cmd;
         journal_is = λ i. more (segment j) (Line c.args.source c.args.number (put_as j c.args.cmd));
         known = c.requires.known;
-        fair = subst (λ (all : List Automation). IsFairAmong (λ name. is_some (automation_named all name)) (put_as j c.args.cmd)) (sym (is-cut j told.lies.entries).automations_are) fair;
+        fair = fair-alike j (segment j) (put_as j c.args.cmd) (sym (is-cut j told.lies.entries).configured_are) fair;
         right = told.own_right;
         kept = followed.kept;
       };

@@ -29,7 +29,14 @@ returns-clause-stands g c j stands next =
             at = next.at;
             journal = next.journal;
             shifts = λ lt. subst (λ l. AreShifts l j c.args.entry.now) (sym c.as_slice.ensures)
-                (c.in_ok-shifts.ensures j next.sees (next.listed (any-at c.args.place c.args.self.now.owners n a (ap (λ l. slice_get l n) (sym items) ∙ at) (ap (nat_lt a.since) next.at ∙ lt))));
+                (c.in_ok-shifts.ensures j (record {
+                  sees = next.sees;
+                  listed = next.listed (any-at c.args.place c.args.self.now.owners n a (ap (λ l. slice_get l n) (sym items) ∙ at) (ap (nat_lt a.since) next.at ∙ lt));
+                  apart = next.apart;
+                  helped = next.helped;
+                  events_are = c.as_slice-given.ensures ∙ next.events_are;
+                }));
+            events = c.as_slice-given.ensures ∙ next.events_are;
             zone = subst (λ o. MatchOption o ⊥ (λ z. z ≡ zone_of (more j c.args.entry.now))) (sym c.as_ref.ensures.value) zone;
             from = ap (λ s. s.now) r ∙ stands.at;
             to = to-is;
@@ -58,7 +65,14 @@ returns-clause-fired g c j stands next =
       at = next.at;
       journal = next.journal;
       shifts = λ lt. subst (λ l. AreShifts l j c.args.entry.now) (sym c.as_slice.ensures)
-          (c.in_ok-shifts.ensures j next.sees (next.listed (any-at c.args.place c.args.self.now.owners n a (ap (λ l. slice_get l n) (sym items) ∙ at) (ap (nat_lt a.since) next.at ∙ lt))));
+          (c.in_ok-shifts.ensures j (record {
+            sees = next.sees;
+            listed = next.listed (any-at c.args.place c.args.self.now.owners n a (ap (λ l. slice_get l n) (sym items) ∙ at) (ap (nat_lt a.since) next.at ∙ lt));
+            apart = next.apart;
+            helped = next.helped;
+            events_are = c.as_slice-given.ensures ∙ next.events_are;
+          }));
+      events = c.as_slice-given.ensures ∙ next.events_are;
       zone = subst (λ o. MatchOption o ⊥ (λ z. z ≡ zone_of (more j c.args.entry.now))) (sym c.as_ref.ensures.value) zone;
       from = ap (λ s. s.now) r ∙ stands.at;
       to = to-is;

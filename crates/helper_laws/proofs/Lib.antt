@@ -1,0 +1,4 @@
+pub mod NoHelpers
+pub mod StartLemmas
+pub mod MadeChanges
+pub mod BoundLemmas

@@ -1,0 +1,11 @@
+mod TimerSteps
+mod PlaceSets
+mod MeantLemmas
+mod StandLemmas
+mod ListLemmas
+mod ListedLemmas
+mod FinishLemmas
+mod SeenLemmas
+mod BootLemmas
+mod TakenLemmas
+pub mod SightLemmas
