@@ -7,12 +7,14 @@ import pathlib
 import sys
 import tempfile
 
+from .both import BOTH
 from .called import CALLED
 from .compare import Comparer
 from .corners import HOMES
 from .engine import LIMIT
 from .grammar import differing
 from .helped import HELPED
+from .reloaded import RELOADED
 from .rows import ROWS, TEMPLATES, row_faults
 from .styles import STYLES
 
@@ -48,7 +50,8 @@ def check_style(comparer: Comparer, style: str, seeds: range) -> int:
 
 def check_all(program: str, folder: pathlib.Path, seeds: range) -> bool:
     """Compares all, prints the line of result, and tells whether something was compared of each style, and nothing failed."""
-    failed, passed, empty = check_corners(program, folder), len(HOMES) + len(ROWS) + len(CALLED) + len(HELPED) + len(TEMPLATES), []
+    rows = ROWS + CALLED + HELPED + RELOADED + BOTH
+    failed, passed, empty = check_corners(program, folder), len(HOMES) + len(rows) + len(TEMPLATES), []
     for style in STYLES:
         comparer = Comparer(program, folder)
         failed += check_style(comparer, style, seeds)
@@ -57,7 +60,7 @@ def check_all(program: str, folder: pathlib.Path, seeds: range) -> bool:
             empty.append(style)
             complain(f"no call of the style {style} was compared")
     count, unlike = differing(program, folder, seeds)
-    wrong = row_faults(ROWS + CALLED + HELPED) + unlike
+    wrong = row_faults(rows) + unlike
     for text in wrong:
         complain(text)
     failed += len(wrong)

@@ -13,6 +13,7 @@ from .clock import print_moment
 from .engine import Outcome, run_home
 from .generate import Home
 from .lines import print_value
+from .reloads import Reload, line_text, texts_of
 from .shrink import shrink
 from .yaml_out import yaml_text
 
@@ -76,7 +77,7 @@ def answer_of(program: str, home: Home, folder: pathlib.Path) -> Answer:
 def outcome_of(home: Home, limit: int) -> Outcome:
     """What the second reading makes of a home."""
     return run_home(home.automations, home.source(), home.start, home.zone, text_of(home), home.stored, home.last, limit,
-                    home.scripts, home.helpers)
+                    home.scripts, home.helpers, texts_of(home.lines))
 
 
 def first_difference(what: str, here: list[str], there: list[str]) -> list[str]:
@@ -105,7 +106,8 @@ def told(home: Home, answer: Answer, outcome: Outcome) -> str:
     """A home, its lines, what each of the two wrote, and where that differs, as text."""
     head = f"start {home.start}, zone {home.zone}, stored {json.dumps(home.stored)}, last {json.dumps(home.last)}"
     both = written("the program", answer) + written("the second reading", outcome)
-    return "\n".join([head, "", text_of(home), *home.lines, "", *both, *differences(answer, outcome)])
+    whole = text_of(home)
+    return "\n".join([head, "", whole, *map(line_text, home.lines), "", *both, *differences(answer, outcome)])
 
 
 class Comparer:
@@ -135,7 +137,17 @@ class Comparer:
         if outcome.status == 7:
             return False
         answer = answer_of(self.program, home, self.folder)
-        return answer.status != 2 and bool(differences(answer, outcome))
+        return answer.status != 2 and bool(differences(answer, outcome)) and self.takes_reloads(home)
+
+    def takes_reloads(self, home: Home) -> bool:
+        """Whether the program takes what the reloads of a home bring."""
+        for line in home.lines:
+            if isinstance(line, Reload) and line.automations is not None:
+                (self.folder / "brought.yaml").write_text(line.text())
+                words = [self.program, "check", "brought.yaml"]
+                if subprocess.run(words, cwd=self.folder, capture_output=True, timeout=60, check=False).returncode != 0:
+                    return False
+        return True
 
     def told_small(self, home: Home) -> str:
         """The smallest part of a home on which the two still differ, told; the whole of one that doesn't end."""

@@ -153,6 +153,18 @@ class Automation:
     initial: Optional[bool]
 
 
+@dataclass
+class Config:
+    """A whole configuration: its automations, and its scripts, each in the order of the file."""
+
+    automations: list[Automation]
+    scripts: list[Automation]
+
+    def units(self) -> list[Automation]:
+        """All that has runs: the automations, then the scripts."""
+        return self.automations + self.scripts
+
+
 def written(value: Any) -> str:
     """A scalar as it is written."""
     if isinstance(value, bool):
@@ -178,10 +190,10 @@ def texts(value: Any) -> list[str]:
 
 
 def entities(value: Any) -> list[str]:
-    """Entity ids, split at commas; of one that stands twice the first counts."""
+    """Entity ids, split at commas, each entry as it stands."""
     found = [part.strip(" \t") for text in texts(value) for part in text.split(",")]
     assert found and all(is_entity(one) for one in found), found
-    return list(dict.fromkeys(found))
+    return found
 
 
 def number(fields: dict[str, Any], key: str) -> Optional[Num]:
@@ -388,8 +400,8 @@ def action(value: Any) -> Action:
     if "choose" in value:
         return choose(value)
     if "if" in value:
-        return Action("choose", {"options": [(conditions(value["if"]), actions(value["then"]))],
-                                 "default": actions(value.get("else"))})
+        return Action("if", {"options": [(conditions(value["if"]), actions(value["then"]))],
+                             "default": actions(value.get("else"))})
     return simple_action(value)
 
 
@@ -448,3 +460,8 @@ def read_scripts(value: dict[str, Any]) -> list[Automation]:
     """All scripts, in order, each as an automation that nothing triggers, under the id that it has as an entity."""
     return [Automation(f"script.{name}", [], [], actions(one["sequence"]) or [Action("block", {"body": []})],
                        one.get("mode", "single"), int(written(one.get("max", 10))), None) for name, one in value.items()]
+
+
+def read_whole(automations: list[dict[str, Any]], scripts: Optional[dict[str, Any]]) -> Config:
+    """A configuration, without scripts where it has none."""
+    return Config(read_config(automations), read_scripts(scripts or {}))

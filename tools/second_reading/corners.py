@@ -4,9 +4,12 @@ from __future__ import annotations
 
 from typing import Any
 
+from .both import BOTH
 from .called import CALLED, halting
 from .generate import Home
 from .helped import HELPED
+from .reloaded import RELOADED
+from .reloads import Reload
 from .rows import GO, SAME_STATE, call, event, go, moment, on, report
 
 START = "2024-05-01T20:00:00Z"
@@ -162,7 +165,8 @@ HOMES = {
 
 CHAIN = {f"s{n}": {"sequence": [call(f"script.s{n + 1}"), call(n=n)]} for n in range(60)}
 
-HOMES |= {row.name: Home(row.home, row.lines, row.start, row.zone, scripts=row.scripts, helpers=row.helpers) for row in CALLED + HELPED}
+HOMES |= {row.name: Home(row.home, row.lines, row.start, row.zone, row.stored, row.last, row.scripts, helpers=row.helpers)
+          for row in CALLED + HELPED + RELOADED + BOTH}
 
 HOMES |= {
     "a chain of calls": home([go([call("script.s0"), call("notify.end")], mode="parallel")], [event("go"), event("go"), moment("20:00:05")],

@@ -3,13 +3,13 @@
 from __future__ import annotations
 
 from dataclasses import dataclass
-from typing import Any, Mapping, Optional, Sequence
+from typing import Any, Mapping, Optional
 
 from .clock import print_moment, read_moment, read_zone
 from .conditions import Pairs, test_all
-from .config import Automation, read_config, read_scripts
+from .config import Config, read_whole
 from .helpers import Helper, read_helpers
-from .journal import NOTHING, Entry, Journal
+from .journal import NOTHING, Entry, Journal, Unit
 from .lines import Command, commands_of, print_command, print_text, print_value, refused, target_automation
 from .script import Script, Thread
 from .triggers import firings
@@ -19,6 +19,7 @@ LIMIT = 1_048_576
 """The entries of a segment."""
 MOST_ENTRIES = 4_194_304
 MOST_SEGMENTS = 1_024
+MOST_RELOADS = 64
 BY_HAND: Pairs = [("trigger", {"platform": None})]
 
 
@@ -31,7 +32,7 @@ class Record:
     """An admitted attempt: its run begins and ends at places."""
 
     serial: int
-    unit: int
+    unit: Unit
     number: int
     pairs: Pairs
     place: int
@@ -47,17 +48,17 @@ class Record:
 
 
 class Engine:
-    """The journal of one source with its records, and the lines that come of them. Behind the automations the scripts have numbers."""
+    """The journal of one source with its records, and the lines that come of them. `texts` has what the texts of reloads are: a
+    configuration, or none where the text is refused."""
 
-    def __init__(self, config: list[Automation], start: int, zone: str, stored: Mapping[str, bool],
-                 last: Mapping[str, int], limit: int = LIMIT, scripts: Sequence[Automation] = (),
+    def __init__(self, config: Config, start: int, zone: str, stored: Mapping[str, bool], last: Mapping[str, int],
+                 limit: int = LIMIT, texts: Optional[Mapping[str, Optional[Config]]] = None,
                  helpers: Optional[Mapping[str, Helper]] = None) -> None:
-        self.config = config
-        self.units = config + list(scripts)
-        self.taken = {one.name: last[one.name] for one in config if one.name in last}
-        self.last = dict(self.taken)
         self.journal = Journal(config, start, read_zone(zone), stored, helpers or {})
-        self.journal.scripts = {one.name.split(".")[1]: len(config) + at for at, one in enumerate(scripts)}
+        self.texts = texts or {}
+        self.reloads = 0
+        self.taken = {name: at for name, at in last.items() if name in self.journal.automations}
+        self.last = dict(self.taken)
         self.limit = limit
         self.front = 0
         self.segments = 1
@@ -72,12 +73,9 @@ class Engine:
 
     def put_line(self, command: Command) -> None:
         """Puts the next line of the source."""
-        name = target_automation(command)
-        if name is not None and name not in self.journal.numbers:
-            command = refused(9)
-        if (command.get("report") or command.get("gone")) in self.journal.helpers:
-            command = refused(14)
-        place = self.put(Entry(command=command), "restart" in command)
+        command, config = self.put_as(command)
+        place = self.put(Entry(command=command, config=config), "restart" in command)
+        self.reloads += config is not None
         self.trace.append(f'{{"source":0,"number":{self.lines},"cmd":{print_command(command)}}}')
         if "refused" in command:
             self.errors.append(f"source 0 line {self.lines}: {command['refused']}")
@@ -86,8 +84,23 @@ class Engine:
         if "restart" in command:
             self.open_segment()
 
+    def put_as(self, command: Command) -> tuple[Command, Optional[Config]]:
+        """What a command is put as by what is in force, with the configuration that it brings."""
+        if (command.get("report") or command.get("gone")) in self.journal.helpers:
+            return refused(14), None
+        name = target_automation(command)
+        if name is not None and name not in self.journal.automations:
+            return refused(9), None
+        if "reload" not in command:
+            return command, None
+        config = self.texts[command["reload"]]
+        if config is None:
+            return refused(12), None
+        return (command, config) if self.reloads < MOST_RELOADS else (refused(13), None)
+
     def open_segment(self) -> None:
         """Puts what opens the next segment, right behind the restart that closed the last one."""
+        self.last = self.last_in_force()
         self.front = self.journal.append(Entry(again=self.segments))
         self.trace.append(f'{{"again":{self.segments}}}')
         self.segments += 1
@@ -120,7 +133,7 @@ class Engine:
             self.errors.append(f"run {record.serial} failed {item['failed']}")
         if "call" in item:
             record.calls += 1
-            name = print_text(self.units[record.unit].name)
+            name = print_text(record.unit.name)
             self.calls.append(f'{{"run":{name},"number":{record.number},"call":{record.calls},'
                               + print_value(item["call"])[1:])
 
@@ -142,25 +155,34 @@ class Engine:
         entry = self.journal.entries[place]
         if entry.restarts():
             self.end_all(None, place, "restarted")
+        if entry.config is not None:
+            self.end_gone(place)
         for name, _, stop in entry.switched():
             if stop:
-                self.end_all(self.journal.numbers[name], place, "switched_off")
+                self.end_all(self.journal.automations[name], place, "switched_off")
         for name in entry.halted():
             self.end_all(self.journal.scripts[name], place, "switched_off")
         self.begin_queued(place)
         for unit, pairs in self.attempts(place):
             self.admit(unit, pairs, place)
 
-    def end_all(self, unit: Optional[int], place: int, cause: str) -> None:
+    def end_all(self, unit: Optional[Unit], place: int, cause: str) -> None:
         """Ends the live runs of an automation or script, or all."""
         for record in self.records:
             if record.is_live() and unit in (None, record.unit):
                 record.end = (place, cause)
 
+    def end_gone(self, place: int) -> None:
+        """Ends the live runs of what a reload didn't keep."""
+        kept = self.journal.units()
+        for record in self.records:
+            if record.is_live() and record.unit not in kept:
+                record.end = (place, "reloaded")
+
     def begin_queued(self, place: int) -> None:
         """The queued runs whose predecessor ended here begin."""
-        for unit in range(len(self.units)):
-            live = [one for one in self.records if one.unit == unit and one.is_live()]
+        for unit in self.journal.units():
+            live = [one for one in self.records if one.unit is unit and one.is_live()]
             if live and live[0].begin is None:
                 self.begin(live[0], place)
 
@@ -168,7 +190,7 @@ class Engine:
         """Begins a run."""
         record.begin = place
         record.script = Script(self.journal, self.has_ended)
-        actions = self.units[record.unit].actions
+        actions = record.unit.rules.actions
         record.thread = Thread((), record.script.run(actions, [list(record.pairs)]))
 
     def has_ended(self, place: int) -> bool:
@@ -176,32 +198,33 @@ class Engine:
         called = next((one for one in self.records if one.place == place), None)
         return called is None or not called.is_live()
 
-    def attempts(self, place: int) -> list[tuple[int, Pairs]]:
+    def attempts(self, place: int) -> list[tuple[Unit, Pairs]]:
         """The attempts of an entry that pass, in order."""
         entry, sight = self.journal.entries[place], self.journal.after[place]
         started = entry.started()
         if started is not None:
             return [(self.journal.scripts[name], BY_HAND + list(started["data"].items())) for name in started["scripts"]]
         named, skip = named_attempts(entry)
+        known = self.journal.automations
         if named is not None:
-            tried = [(self.journal.numbers[name], BY_HAND) for name in named]
+            tried = [(known[name], BY_HAND) for name in named]
         else:
-            tried = [(at, [("trigger", fired)]) for at, one in enumerate(self.config) if sight.on[at]
-                     for fired in firings(self.journal, one.triggers, sight.since[at], place)]
-        return [(at, pairs) for at, pairs in tried
-                if skip or test_all(self.config[at].tests, sight, self.journal.zone, pairs)]
+            tried = [(unit, [("trigger", fired)]) for name, unit in known.items() if sight.on[name]
+                     for fired in firings(self.journal, unit.rules.triggers, sight.since[name], place)]
+        return [(unit, pairs) for unit, pairs in tried
+                if skip or test_all(unit.rules.tests, sight, self.journal.zone, pairs)]
 
-    def admit(self, unit: int, pairs: Pairs, place: int) -> None:
+    def admit(self, unit: Unit, pairs: Pairs, place: int) -> None:
         """Admits an attempt by the mode of its automation or script, or refuses it."""
-        mode, most = self.units[unit].mode, self.units[unit].max
-        live = [one for one in self.records if one.unit == unit and one.is_live()]
+        mode, most = unit.rules.mode, unit.rules.max
+        live = [one for one in self.records if one.unit is unit and one.is_live()]
         if mode == "single" and live or mode in ("queued", "parallel") and len(live) >= most:
             return
         if mode == "restart":
             self.end_all(unit, place, "replaced")
-        number = 1 + sum(one.unit == unit for one in self.records)
-        if unit < len(self.config):
-            self.last[self.units[unit].name] = self.journal.after[place].now
+        number = 1 + sum(one.unit.name == unit.name for one in self.records)
+        if unit.name in self.journal.automations:
+            self.last[unit.name] = self.journal.after[place].now
         record = Record(len(self.records) + 1, unit, number, pairs, place)
         self.records.append(record)
         if mode != "queued" or not live:
@@ -226,11 +249,15 @@ class Engine:
         while ready := self.ready():
             self.put_step(*ready[0])
 
+    def last_in_force(self) -> dict[str, int]:
+        """When automations last triggered, of those in force."""
+        return {name: at for name, at in self.last.items() if name in self.journal.automations}
+
     def store_text(self) -> str:
-        """When automations last triggered, and the switches, by name."""
-        on = {one.name: self.journal.after[-1].on[at] for at, one in enumerate(self.config)}
-        last = {name: print_moment(at) for name, at in sorted(self.last.items())}
-        return print_value({"last": last, "switches": dict(sorted(on.items()))})[:-1] + ',"version":2}'
+        """When automations in force last triggered, and their switches, by name."""
+        on = dict(sorted(self.journal.after[-1].on.items()))
+        last = {name: print_moment(at) for name, at in sorted(self.last_in_force().items())}
+        return print_value({"last": last, "switches": on})[:-1] + ',"version":2}'
 
 
 def printable(item: dict[str, Any]) -> dict[str, Any]:
@@ -263,12 +290,13 @@ class Outcome:
 
 def run_home(automations: list[dict[str, Any]], source: bytes, start: str = "2024-05-01T20:00:00Z",
              zone: str = "UTC", text: str = "", stored: Optional[dict[str, bool]] = None,
-             last: Optional[dict[str, int]] = None, limit: int = LIMIT,
-             scripts: Optional[dict[str, Any]] = None, helpers: Optional[dict[str, Any]] = None) -> Outcome:
-    """What a home's lines come to. `last` has when automations last triggered, as a store of version 2 keeps it."""
+             last: Optional[dict[str, int]] = None, limit: int = LIMIT, scripts: Optional[dict[str, Any]] = None,
+             helpers: Optional[dict[str, Any]] = None, texts: Optional[Mapping[str, Optional[Config]]] = None) -> Outcome:
+    """What a home's lines come to. `last` has when automations last triggered, as a store of version 2 keeps it, `texts` what the texts
+    of its reloads are."""
     began = read_moment(start)
     assert began is not None
-    engine = Engine(read_config(automations), began, zone, stored or {}, last or {}, limit, read_scripts(scripts or {}),
+    engine = Engine(read_whole(automations, scripts), began, zone, stored or {}, last or {}, limit, texts,
                     read_helpers(helpers or {}))
     taken = {name: print_moment(at) for name, at in sorted(engine.taken.items())}
     status = engine.run(commands_of(source))

@@ -8,6 +8,7 @@ from dataclasses import dataclass
 from typing import Any, Callable, Optional
 
 from .clock import print_moment, read_moment
+from .reloads import Line, Reload, source_of
 from .values import Num
 
 ENTITIES = ("sensor.t", "light.x", "binary_sensor.d")
@@ -26,10 +27,10 @@ DAYS = ("mon", "tue", "wed", "thu", "fri", "sat", "sun")
 
 @dataclass
 class Home:
-    """A home with its lines; a line is the text as it is sent."""
+    """A home with its lines; a line is the text as it is sent, or what it brings."""
 
     automations: list[dict[str, Any]]
-    lines: list[str]
+    lines: list[Line]
     start: str
     zone: str
     stored: Optional[dict[str, bool]] = None
@@ -39,7 +40,7 @@ class Home:
 
     def source(self) -> bytes:
         """The bytes of the source."""
-        return "".join(line + "\n" for line in self.lines).encode("utf-8", "surrogateescape")
+        return source_of(self.lines)
 
 
 class Maker:
@@ -431,7 +432,11 @@ class Maker:
                         line.replace('"on"', '"\\u0041\\ud83d\\ude00"'), line.replace('"on"', '"\\ud83d"'),
                         line.replace("true", '"true"'), line[:-1] + ',"extra":1}', line[:-1] + ',"gone":"light.x"}')
 
-    def lines(self, start: str) -> list[str]:
+    def reload(self) -> Line:
+        """A line that reloads; in most styles there is none."""
+        raise NotImplementedError
+
+    def lines(self, start: str) -> list[Line]:
         """The lines of a source, with moments that hit holds and delays."""
         now, out = read_moment(start) or 0, []
         for _ in range(self.dice.randint(5, 40)):
@@ -441,11 +446,11 @@ class Maker:
             if kind == "far":
                 now += self.one(60_000, 3_600_000, 90_000_000)
             made: Any = {
-                "report": self.report, "event": self.fire, "own": self.own_line, "broken": self.broken,
+                "report": self.report, "event": self.fire, "own": self.own_line, "broken": self.broken, "reload": self.reload,
                 "gone": lambda: {"gone": self.one(*self.known)}, "restart": lambda: {"restart": True},
                 "late": lambda: {"moment": print_moment(now - self.one(0, 1000, 5000))},
             }.get(kind, lambda: {"moment": print_moment(now)})()
-            out.append(made if isinstance(made, str) else json.dumps(made, separators=(",", ":")))
+            out.append(made if isinstance(made, (str, Reload)) else json.dumps(made, separators=(",", ":")))
         return out
 
     def moments(self) -> dict[str, int]:

@@ -6,9 +6,10 @@ from dataclasses import dataclass, field, replace
 from typing import Any, Mapping, Optional
 
 from .clock import Zone
-from .config import Automation
+from .config import Automation, Config
 from .helpers import Helper, Known
 from .lines import Command
+from .sameness import same_unit
 from .values import Num, Value, attribute_text, read_number, same
 
 Item = dict[str, Any]
@@ -32,13 +33,15 @@ class StateObject:
 
 @dataclass(frozen=True)
 class Entry:
-    """The boot, a line with its command, a step of a run with its item, or what opens the segment behind a restart."""
+    """The boot, a line with its command, a step of a run with its item, or what opens the segment behind a restart. A reload has the
+    configuration that its text is."""
 
     command: Optional[Command] = None
     serial: int = 0
     branch: tuple[int, ...] = ()
     item: Optional[Item] = None
     again: int = 0
+    config: Optional[Config] = None
 
     def opens(self) -> bool:
         """Whether a segment begins with it."""
@@ -76,15 +79,28 @@ class Entry:
         return (self.item or {}).get("halted", [])
 
 
+@dataclass(frozen=True, eq=False)
+class Unit:
+    """An automation or script under the number that it has in its segment. It is another unit where it came into force anew."""
+
+    number: int
+    rules: Automation
+
+    @property
+    def name(self) -> str:
+        """The name of its runs, by which an automation and a script are never the same."""
+        return self.rules.name
+
+
 @dataclass(frozen=True)
 class Sight:
-    """What stands after an entry. `since` has, per automation, the place after which it can fire; `known` has the last changes of
-    helpers in the segment."""
+    """What stands after an entry: states, Now, and of each automation in force by its name the switch, and the place after which it can
+    fire; `known` has the last changes of helpers in the segment."""
 
     states: Mapping[str, StateObject]
     now: int
-    on: tuple[bool, ...]
-    since: tuple[int, ...]
+    on: Mapping[str, bool]
+    since: Mapping[str, int]
     known: Mapping[str, Known] = field(default_factory=dict)
 
     def state_text(self, entity: str) -> Optional[str]:
@@ -99,29 +115,54 @@ class Sight:
 class Journal:
     """All entries so far, and the sight after each of them."""
 
-    def __init__(self, config: list[Automation], start: int, zone: Zone, stored: Mapping[str, bool],
+    def __init__(self, config: Config, start: int, zone: Zone, stored: Mapping[str, bool],
                  helpers: Mapping[str, Helper]) -> None:
-        self.config = config
         self.helpers = helpers
         self.zone = zone
-        self.numbers = {one.name: at for at, one in enumerate(config)}
-        self.scripts: dict[str, int] = {}
-        on = tuple(stored.get(one.name, True) if one.initial is None else one.initial for one in config)
+        self.config = config
+        self.free = 0
+        self.automations: dict[str, Unit] = {}
+        self.scripts: dict[str, Unit] = {}
+        self.number_anew()
         self.entries = [Entry()]
-        self.after = [self.opened(start, on, 0)]
+        self.after = [self.opened(start, stored, 0)]
 
-    def started(self, now: int, on: tuple[bool, ...], place: int) -> Sight:
+    def units(self) -> list[Unit]:
+        """All that is in force, in the order of the configuration."""
+        return list(self.automations.values()) + list(self.scripts.values())
+
+    def number_anew(self) -> None:
+        """Where a segment begins, all that is in force gets its numbers from 0."""
+        self.automations, self.scripts, self.free = {}, {}, 0
+        self.bring(self.config)
+
+    def bring(self, config: Config) -> None:
+        """Brings a configuration into force: what is equal in every field is kept, and the others get the next free numbers."""
+        old = {unit.name: unit for unit in self.units()}
+        new: dict[str, Unit] = {}
+        for rules in config.units():
+            was = old.get(rules.name)
+            if was is not None and same_unit(was.rules, rules):
+                new[rules.name] = was
+            else:
+                new[rules.name] = Unit(self.free, rules)
+                self.free += 1
+        self.config = config
+        self.automations = {one.name: new[one.name] for one in config.automations}
+        self.scripts = {one.name.split(".")[1]: new[one.name] for one in config.scripts}
+
+    def started(self, now: int, before: Mapping[str, bool], place: int) -> Sight:
         """The sight after a restart or after what opens a segment, but for the helpers."""
-        return Sight({f"automation.{one.name}": switch_object(on[at], now) for at, one in enumerate(self.config)},
-                     now, on, tuple(place for _ in on))
+        on = {name: entered(unit, before) for name, unit in self.automations.items()}
+        return Sight({f"automation.{name}": switch_object(flag, now) for name, flag in on.items()}, now, on, dict.fromkeys(on, place))
 
-    def opened(self, now: int, on: tuple[bool, ...], place: int) -> Sight:
+    def opened(self, now: int, on: Mapping[str, bool], place: int) -> Sight:
         """The sight after what opens a segment: the helpers have their first texts."""
         sight = self.started(now, on, place)
         first = {name: StateObject(one.first, {}, now, now) for name, one in self.helpers.items()}
         return replace(sight, states={**sight.states, **first})
 
-    def restarted(self, before: Sight, on: tuple[bool, ...], place: int) -> Sight:
+    def restarted(self, before: Sight, on: Mapping[str, bool], place: int) -> Sight:
         """The sight after a restart: the helpers are as they were."""
         sight = self.started(before.now, on, place)
         kept = {name: held for name, held in before.states.items() if name in self.helpers}
@@ -131,15 +172,30 @@ class Journal:
         """Puts an entry and tells its place."""
         before, place = self.after[-1], len(self.entries)
         self.entries.append(entry)
-        self.after.append(self.changed(before, entry, place))
+        if entry.opens():
+            self.number_anew()
+        self.after.append(self.changed(before, entry, place) if entry.config is None else self.reloaded(before, entry.config, place))
         return place
+
+    def reloaded(self, before: Sight, config: Config, place: int) -> Sight:
+        """The sight after a reload, at which the configuration comes into force."""
+        old = self.automations
+        self.bring(config)
+        on, since = {}, {}
+        states = {entity: state for entity, state in before.states.items() if not entity.startswith("automation.")}
+        for name, unit in self.automations.items():
+            kept = old.get(name) is unit
+            on[name] = before.on[name] if kept else entered(unit, before.on)
+            since[name] = before.since[name] if kept else place
+            entity = f"automation.{name}"
+            states[entity] = before.states[entity] if before.on.get(name) is on[name] else switch_object(on[name], before.now)
+        return Sight(states, before.now, on, since, before.known)
 
     def changed(self, before: Sight, entry: Entry, place: int) -> Sight:
         """The sight after an entry."""
         command = entry.command or {}
         if entry.restarts() or entry.opens():
-            on = tuple(old if one.initial is None else one.initial for one, old in zip(self.config, before.on))
-            return self.opened(before.now, on, place) if entry.opens() else self.restarted(before, on, place)
+            return self.opened(before.now, before.on, place) if entry.opens() else self.restarted(before, before.on, place)
         if "moment" in command:
             now = max(before.now, command["moment"])
             idle = {name: with_text(before, name, "idle", now) for name in self.finishing(before, now)}
@@ -151,17 +207,8 @@ class Journal:
         for change in entry.changes():
             before = self.with_change(before, change)
         for name, on_now, _ in entry.switched():
-            before = self.with_switch(before, self.numbers[name], on_now, place)
+            before = with_switch(before, name, on_now, place)
         return before
-
-    def with_switch(self, before: Sight, at: int, on: bool, place: int) -> Sight:
-        """The sight with a switch set."""
-        if before.on[at] == on:
-            return before
-        name = f"automation.{self.config[at].name}"
-        since = before.since[:at] + ((place if on else before.since[at]),) + before.since[at + 1:]
-        return replace(before, states={**before.states, name: switch_object(on, before.now)},
-                       on=before.on[:at] + (on,) + before.on[at + 1:], since=since)
 
     def with_change(self, before: Sight, change: dict[str, Any]) -> Sight:
         """The sight with a helper changed."""
@@ -194,6 +241,20 @@ class Journal:
             if number is not None:
                 return number
         return None
+
+
+def entered(unit: Unit, before: Mapping[str, bool]) -> bool:
+    """The switch of an automation that comes into force, where these switches were set by name."""
+    return before.get(unit.name, True) if unit.rules.initial is None else unit.rules.initial
+
+
+def with_switch(before: Sight, name: str, on: bool, place: int) -> Sight:
+    """The sight with a switch set."""
+    if before.on[name] == on:
+        return before
+    since = {**before.since, name: place} if on else before.since
+    return replace(before, states={**before.states, f"automation.{name}": switch_object(on, before.now)}, on={**before.on, name: on},
+                   since=since)
 
 
 def switch_object(on: bool, now: int) -> StateObject:

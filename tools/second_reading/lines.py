@@ -179,6 +179,7 @@ KINDS = {
     "switch": Kind(("to",), (("stop_actions", True),)),
     "trigger": Kind((), (("skip_condition", True),)),
     "restart": Kind(),
+    "reload": Kind(),
 }
 
 Command = dict[str, Any]
@@ -193,7 +194,7 @@ def right_kinds(command: Command) -> bool:
     """Whether each value is of its key's kind."""
     kinds: dict[str, Any] = {"report": str, "gone": str, "event": str, "moment": str, "switch": str, "trigger": str,
                              "restart": bool, "state": str, "attributes": dict, "data": dict, "to": str,
-                             "stop_actions": bool, "skip_condition": bool}
+                             "stop_actions": bool, "skip_condition": bool, "reload": str}
     right = all(isinstance(value, kinds[key]) for key, value in command.items())
     return right and command.get("to", "on") in ("on", "off") and command.get("restart", True) is True
 

@@ -7,6 +7,7 @@ from dataclasses import dataclass, field
 from typing import Any, Optional
 
 from .engine import Outcome, run_home
+from .reloads import Line, source_of, texts_of
 from .template import render
 from .values import Fault
 
@@ -55,7 +56,7 @@ class Row:
 
     name: str
     home: list[dict[str, Any]]
-    lines: list[str]
+    lines: list[Line]
     calls: list[str] = field(default_factory=list)
     errors: list[str] = field(default_factory=list)
     entries: Optional[int] = None
@@ -67,12 +68,14 @@ class Row:
     scripts: Optional[dict[str, Any]] = None
     helpers: Optional[dict[str, Any]] = None
     trace: Optional[list[str]] = None
+    stored: Optional[dict[str, bool]] = None
+    last: Optional[dict[str, int]] = None
+    numbers: Optional[dict[str, int]] = None
 
     def run(self) -> Outcome:
         """What the second reading makes of it."""
-        source = "".join(line + "\n" for line in self.lines).encode("utf-8", "surrogateescape")
-        return run_home(self.home, source, self.start, self.zone, limit=self.limit, scripts=self.scripts,
-                        helpers=self.helpers)
+        return run_home(self.home, source_of(self.lines), self.start, self.zone, stored=self.stored, last=self.last, limit=self.limit,
+                        scripts=self.scripts, helpers=self.helpers, texts=texts_of(self.lines))
 
     def faults(self) -> list[str]:
         """Where the second reading departs from the row."""
@@ -81,6 +84,8 @@ class Row:
             ("calls", out.calls, self.calls), ("errors", out.errors, self.errors), ("status", out.status, self.status)]
         if self.entries is not None:
             found.append(("entries", len(out.engine.journal.entries), self.entries))
+        if self.numbers is not None:
+            found.append(("numbers", {unit.name: unit.number for unit in out.engine.journal.units()}, self.numbers))
         if self.store is not None:
             found.append(("store", out.store, self.store))
         if self.trace is not None:

@@ -331,14 +331,14 @@ class Script:
     def own_service(self, name: str, target: list[str], data: dict[str, Value], place: int) -> Item:
         """What the engine's own services give."""
         named = [entity.split(".")[1] for entity in dict.fromkeys(target) if entity.split(".")[0] == "automation"]
-        named = [one for one in named if one in self.journal.numbers]
+        named = [one for one in named if one in self.journal.automations]
         if name == "trigger":
             return {"triggered": {"automations": named, "skip_condition": as_flag(data.get("skip_condition"))}}
         return {"switched": [self.switched(name, one, data, place) for one in named]}
 
     def switched(self, name: str, automation: str, data: dict[str, Value], place: int) -> dict[str, Any]:
         """What becomes of one switch."""
-        was = self.sight(place).on[self.journal.numbers[automation]]
+        was = self.sight(place).on[automation]
         on = not was if name == "toggle" else name == "turn_on"
         return {"automation": automation, "on": on, "stop": not on and as_flag(data.get("stop_actions"))}
 

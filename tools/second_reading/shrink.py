@@ -7,6 +7,7 @@ from dataclasses import replace
 from typing import Any, Callable, Iterator
 
 from .generate import Home
+from .reloads import Reload
 
 Path = tuple[Any, ...]
 
@@ -76,6 +77,17 @@ def smaller_helpers(home: Home) -> Iterator[Home]:
         yield replace(home, helpers=without(home.helpers, path))
 
 
+def smaller_reloads(home: Home) -> Iterator[Home]:
+    """The home without a part of what one of its reloads brings."""
+    for place, line in enumerate(home.lines):
+        if isinstance(line, Reload) and line.automations is not None:
+            whole = {"automations": line.automations, "scripts": line.scripts or {}, "helpers": line.helpers or {}}
+            for path in paths(whole):
+                if len(path) > 1:
+                    made = Reload(**without(whole, path))
+                    yield replace(home, lines=home.lines[:place] + [made] + home.lines[place + 1:])
+
+
 def plainer(home: Home) -> Iterator[Home]:
     """The home without a store or its moments, or in UTC."""
     if home.stored is not None:
@@ -91,7 +103,7 @@ def shrink(home: Home, keeps: Callable[[Home], bool], budget: int = 3000) -> Hom
     going = True
     while going and budget > 0:
         going = False
-        for make in (smaller_lines, smaller_automations, smaller_scripts, smaller_helpers, plainer):
+        for make in (smaller_lines, smaller_automations, smaller_scripts, smaller_helpers, smaller_reloads, plainer):
             found = True
             while found and budget > 0:
                 found = False

@@ -3,12 +3,14 @@
 from __future__ import annotations
 
 import json
+from dataclasses import replace
 from typing import Any, Callable
 
 from .clock import print_moment, read_moment
 from .config import Plain
 from .expressions import Expressions
 from .generate import DAYS, ENTITIES, STARTS, ZONES, Home, Maker, make_home
+from .reloads import Reload
 
 CALLED = ("s", "t", "u")
 FIRED = {"id": "{{ trigger.id ~ '/' ~ trigger.idx ~ '/' ~ trigger.entity_id }}", "old": "{{ trigger.from_state.state }}",
@@ -468,7 +470,107 @@ def of_helpers(seed: int) -> Home:
     return Home(automations, maker.lines(STARTS[0]), STARTS[0], "UTC", helpers=helpers)
 
 
+class Reloading(Called):
+    """Configurations that come after one another, each made from the one before it."""
+
+    def __init__(self, seed: int) -> None:
+        super().__init__(seed)
+        self.names = list("abcd")
+        self.weights = {"report": 6.0, "moment": 7.0, "event": 5.0, "own": 2.0, "gone": 0.3, "restart": 0.5, "reload": 4.0}
+        self.whole: list[dict[str, Any]] = []
+        self.scripts: dict[str, Any] = {}
+        self.past: list[Reload] = []
+
+    def entity(self) -> str:
+        """An entity, often an automation."""
+        return f"automation.{self.one(*self.names)}" if self.maybe(0.35) else self.one(*self.known)
+
+    def fresh(self, name: str) -> dict[str, Any]:
+        """An automation of a name."""
+        if self.maybe(0.4):
+            return self.automation(name)
+        trigger = self.one({"trigger": "event", "event_type": self.one("go", ["go", "ping"])}, self.state_trigger(),
+                           {"trigger": "state", "entity_id": [f"automation.{one}" for one in self.names]}, self.template_trigger())
+        steps = [self.one(self.seen, self.by_name, lambda: {"delay": self.one(1, 2, 3)}, self.wait)() for _ in range(self.one(1, 2, 3))]
+        return self.ruled({"alias": name, "triggers": [trigger], "actions": [self.call()] + steps})
+
+    def changed(self, one: dict[str, Any]) -> dict[str, Any]:
+        """An automation or script that is another one, or only written otherwise."""
+        key = "actions" if "actions" in one else "sequence"
+        return self.pick([
+            (3, lambda: one | {key: one[key] + [self.call()]}),
+            (1, lambda: one | {"mode": self.one("single", "restart", "queued", "parallel")}),
+            (1, lambda: one | {"max": self.one(1, 2, 3)}), (1, lambda: one | {"description": self.one("", "x")}),
+            (2, lambda: one | {"initial_state": self.maybe(0.5)} if key == "actions" else one),
+            (1, lambda: self.fresh(one["alias"]) if key == "actions" else one)])
+
+    def varied(self, one: dict[str, Any]) -> dict[str, Any]:
+        """An automation or script, mostly as it was."""
+        return one if self.maybe(0.75) else self.changed(one)
+
+    def reload(self) -> Reload:
+        """What is brought next: seldom what was there before, or what is refused."""
+        if self.maybe(0.08):
+            return Reload(refused=self.one("automation: 5\n", "\tx", "- alias: a\n", "automation: []\nscripts: {}\n", "x"))
+        if self.past and self.maybe(0.2):
+            brought = self.one(*self.past)
+        else:
+            whole = [self.varied(one) for one in self.whole if self.maybe(0.88)]
+            whole += [self.fresh(name) for name in self.names if self.maybe(0.3) and name not in [one["alias"] for one in whole]]
+            if self.maybe(0.2):
+                self.dice.shuffle(whole)
+            brought = Reload(whole, {name: self.varied(one) for name, one in self.scripts.items() if self.maybe(0.93)})
+        self.past.append(brought)
+        self.whole, self.scripts = brought.automations or [], brought.scripts or {}
+        return brought
+
+
+class Mixed(Helped, Reloading):
+    """Configurations that come after one another, of automations that change helpers and that these begin."""
+
+    def act(self, depth: int = 0) -> Any:
+        """An action."""
+        return Helped.act(self) if self.maybe(0.75) else Called.act(self, depth)
+
+    def fresh(self, name: str) -> dict[str, Any]:
+        """An automation of a name."""
+        return self.ruled({"alias": name, "triggers": [self.begun() for _ in range(self.one(1, 1, 2))],
+                           "actions": [self.act() for _ in range(self.one(1, 2, 3))] + [self.seen()]})
+
+    def reload(self) -> Reload:
+        """What is brought next, seldom with the helpers that there are."""
+        brought = Reloading.reload(self)
+        other = {"timer": {"a": {"duration": 1}, "c": None}, "counter": {"a": {"initial": 5}, "d": None}}
+        return brought if brought.automations is None else replace(brought, helpers=self.one(None, other, {"input_boolean": {"a": {"initial": True}}}))
+
+
+def of_both(seed: int) -> Home:
+    """A home with helpers, whose automations and scripts change, and whose helpers stay."""
+    maker = Mixed(seed)
+    maker.known, maker.words = ("light.x", "counter.a", "timer.a", "counter.d"), ("on", "off", "1")
+    maker.weights = {"event": 7.0, "moment": 8.0, "report": 1.2, "gone": 0.3, "own": 1.0, "restart": 0.5, "reload": 3.0}
+    maker.whole = whole = [maker.fresh(name) for name in maker.names if maker.maybe(0.8)]
+    maker.scripts = scripts = {name: maker.ruled({"sequence": maker.acts(2, 0)}) for name in CALLED} if maker.maybe(0.4) else {}
+    helpers: dict[str, Any] = {
+        "timer": {"a": {"duration": maker.one(1, 2, 3)}, "b": {"duration": 2}}, "input_boolean": {"b": {"initial": True}, "a": None},
+        "counter": {"a": {"maximum": maker.one(2, 3)}, "b": {"initial": 1, "step": maker.one(1, 2), "minimum": 0}}}
+    if maker.maybe(0.3):
+        del helpers[maker.one(*helpers)]
+    return Home(whole, maker.lines(STARTS[0]), STARTS[0], "UTC", scripts=scripts, helpers=helpers)
+
+
+def of_reloads(seed: int) -> Home:
+    """A home whose configuration changes, mostly in a few of its parts."""
+    maker = Reloading(seed)
+    maker.whole = whole = [maker.fresh(name) for name in maker.names if maker.maybe(0.8)]
+    maker.scripts = scripts = {name: maker.ruled({"sequence": maker.acts(3)}) for name in CALLED} if maker.maybe(0.7) else {}
+    stored = {name: maker.maybe(0.6) for name in maker.names} if maker.maybe(0.2) else None
+    last = maker.moments() if stored is not None and maker.maybe(0.6) else None
+    return Home(whole, maker.lines(STARTS[0]), STARTS[0], "UTC", stored, last, scripts)
+
+
 STYLES: dict[str, Callable[[int], Home]] = {
     "mixed": make_home, "triggers": of_triggers, "conditions": of_conditions, "scripts": of_scripts,
     "templates": of_templates, "lines": of_lines, "holds": of_holds, "modes": of_modes, "blocks": of_blocks,
-    "waits": of_waits, "odds": of_odds, "times": of_times, "called": of_called, "helpers": of_helpers}
+    "waits": of_waits, "odds": of_odds, "times": of_times, "called": of_called, "helpers": of_helpers, "reloads": of_reloads,
+    "both": of_both}

@@ -12,9 +12,9 @@ from .values import Fault, Value, equal, same, says_yes
 
 
 def entities_of(trigger: Trigger) -> list[Optional[str]]:
-    """The entities of a trigger; None alone where it has none."""
+    """The entities of a trigger, of one that stands twice the first; None alone where it has none."""
     if isinstance(trigger.rule, (StateRule, NumericRule)):
-        return list(trigger.rule.entities)
+        return list(dict.fromkeys(trigger.rule.entities))
     return [None]
 
 

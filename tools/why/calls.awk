@@ -51,13 +51,14 @@ function take_call(run, n) {
     if (!starts_and_waits()) return
     open_step[run, branch] = n
     script_called[run, n] = service
+    unit_called[run, n] = number_of[service]
 }
 
 # The run that step n of a run called, in words; `nobody` where none is found. It is of the script, later than its caller, and asked for there
 # or queued. Where the caller goes on at its step i, it had ended: with one source, since its last line.
 function called_words(run, n, i, j, found, line, a, list, sure, sures) {
     line = step_line[run, n]
-    a = number_of[script_called[run, n]]
+    a = unit_called[run, n]
     for (j = 1; j <= abouts; j++) {
         found = about[j]
         if (found <= run || !can_be_called(found, line, a) || i && !has_ended(found, run, i)) continue

@@ -1,25 +1,60 @@
 # The automations and scripts of a configuration, as far as a trace is explained by them: names, modes, triggers, how many conditions, and
-# which services and events their actions name. automations counts them from 1, and units goes on with the scripts.
+# which services and events their actions name. units counts them from 1, those that a reload brings behind those before it: in_force[a]
+# tells whether unit a is there now, number_of[NAME] which one has a name now, and of_script[a] whether it is a script.
 
-function configure(text, root, list, scripts, i) {
+function configure(text, root, list, scripts, i, listed_before) {
     root = yaml(text)
+    split("", number_before_reload)
+    for (i in number_of) number_before_reload[i] = number_of[i]
+    split("", number_of)
+    split("", is_script)
+    split("", in_force)
+    automations = 0
+    listed_before = script_names
+    script_names = ""
     if (kind[root] == "map") {
         scripts = get(root, "script")
         read_helpers(root)
         root = get(root, "automation")
     }
     has_scripts = scripts && size[scripts]
-    if (has_scripts) for (i = 1; i <= size[scripts]; i++) is_script["script." key[scripts, i]] = 1
+    if (has_scripts) for (i = 1; i <= size[scripts]; i++) {
+        is_script["script." key[scripts, i]] = 1
+        script_names = script_names " " key[scripts, i]
+    }
+    other_scripts = script_names != listed_before
     list = as_list(root)
     for (i = 1; i <= size[list]; i++) automation(part[list, i])
-    units = automations
     if (has_scripts) for (i = 1; i <= size[scripts]; i++) script("script." key[scripts, i], part[scripts, i])
 }
 
+# The number of the unit of this name, where it is a new one; 0 where the one that had the name goes on: it is written as before, but for
+# what is not looked at, and none of its calls is another one since there are other scripts.
+function entered(called, n, is_called, a, form) {
+    form = written(n, 1)
+    a = number_before_reload[called]
+    if (!a || form_of[a] != form || names_script[a] && other_scripts) {
+        a = ++units
+        name[a] = called
+        form_of[a] = form
+        of_script[a] = is_called
+    }
+    in_force[a] = 1
+    number_of[called] = a
+    return a == number_before_reload[called] ? 0 : a
+}
+
+# All that is written in a node; of a whole automation or script not what makes no difference.
+function written(n, is_whole_unit, i, out) {
+    if (kind[n] != "list" && kind[n] != "map") return kind[n] "\003" word[n] "\001"
+    for (i = 1; i <= size[n]; i++)
+        if (!is_whole_unit || key[n, i] !~ /^(alias|id|description|icon|fields|trace|max_exceeded)$/) out = out key[n, i] "\002" written(part[n, i], 0)
+    return kind[n] "\004" out "\005"
+}
+
 function script(called, n, u, m) {
-    u = ++units
-    name[u] = called
-    number_of[called] = u
+    u = entered(called, n, 1)
+    if (!u) return
     mode[u] = get(n, "mode") ? word[get(n, "mode")] : "single"
     m = as_list(get(n, "sequence"))
     read_actions(u, m)
@@ -28,7 +63,7 @@ function script(called, n, u, m) {
 
 # A unit's name as that of an entity.
 function whole_name(a) {
-    return (a > automations ? "" : "automation.") name[a]
+    return (of_script[a] ? "" : "automation.") name[a]
 }
 
 # A list as it is; nothing for null; else the one node.
@@ -44,9 +79,9 @@ function either(n, first, second) {
 }
 
 function automation(n, a, m) {
-    a = ++automations
-    name[a] = free_name(get(n, "alias") ? get(n, "alias") : get(n, "id"))
-    number_of[name[a]] = a
+    automations++
+    a = entered(free_name(get(n, "alias") ? get(n, "alias") : get(n, "id")), n, 0)
+    if (!a) return
     mode[a] = get(n, "mode") ? word[get(n, "mode")] : "single"
     triggers[a] = as_list(either(n, "triggers", "trigger"))
     conditions[a] = enabled_parts(as_list(either(n, "conditions", "condition")))
@@ -98,6 +133,7 @@ function read_actions(a, n, i, k, m) {
         m = part[n, i]
         if (k == "delay" || k ~ /^wait_/) waits[a] = 1
         if (has_scripts && (k == "action" || k == "service") && (is_template(word[m]) || calls_script(word[m]))) waits[a] = 1
+        if ((k == "action" || k == "service") && (is_template(word[m]) || word[m] ~ /^script\./)) names_script[a] = 1
         if (k == "parallel") splits[a] = 1
         if (kind[m] == "plain" || kind[m] == "text") {
             if (k == "action" || k == "service") {

@@ -7,6 +7,7 @@
 function answer(a, i, best, found, list) {
     because = movers = ""
     if (entry_is == "ask") return name[a] in asked ? "fires" : "apart"
+    if (entered_at[a] == here) return "apart"
     list = triggers[a]
     best = "apart"
     for (i = 1; i <= size[list]; i++) {

@@ -32,7 +32,8 @@ function command_of(text) {
     if (text ~ /^\{"switch":"automation\.[a-z0-9_]+","to":"(on|off)","stop_actions":(true|false)\}$/) return "switch"
     if (text ~ /^\{"trigger":"automation\.[a-z0-9_]+","skip_condition":(true|false)\}$/) return "trigger"
     if (text ~ /^\{"restart":true\}$/) return "restart"
-    if (text ~ /^\{"refused":"L([1-9]|10|14)"\}$/) return "refused"
+    if (text ~ /^\{"reload":"([^"\\]|\\.)*"\}$/) return "reload"
+    if (text ~ /^\{"refused":"L([1-9]|10|12|13|14)"\}$/) return "refused"
     return text ~ /^\{"(lost|too_long)":true\}$/ ? "shut" : ""
 }
 

@@ -33,6 +33,7 @@ function find(is_first) {
             opening = text
             has_calls = index(text, "script:")
         }
+        if (is == "line" && act == "reload" && index(rest, "script:")) has_calls = 1
         is_first = is == "step" && !(number in first_step)
         if (is_first) {
             first_step[number] = here
@@ -81,7 +82,8 @@ function boot(cut, tail, stored, a) {
     time = word[get(tail, "start")]
     configure(plain_text(substr(opening, 20, cut - 20)))
     stored = get(tail, "stored")
-    for (a = 1; a <= automations; a++) {
+    for (a = 1; a <= units; a++) {
+        if (of_script[a]) continue
         on[a] = initial[a] != -1 ? initial[a] : get(stored, name[a]) ? word[get(stored, name[a])] == "true" : 1
         turned_at[a] = 1
     }
@@ -107,7 +109,7 @@ function take(i) {
         entry_is = "start"
         said = "all began anew, behind the restart of line " (here - 1)
         begin_helpers()
-    } else if (is == "line") take_command(act == "report" && !matters ? 0 : printed(rest))
+    } else if (is == "line") take_command(act == "reload" || act == "report" && !matters ? 0 : printed(rest))
     else if (is == "step") take_item(act == "call" && !matters && !is_about[number] ? 0 : printed(rest))
     else said = "all is done, after " counted(here - 1, "entry")
     if (here == wanted) {
@@ -154,6 +156,7 @@ function take_command(n) {
         ask_for(n)
         asked[substr(word[get(n, "trigger")], 12)] = 1
     } else if (act == "restart") take_restart()
+    else if (act == "reload") take_reload()
     said = command_words(n)
 }
 
@@ -221,7 +224,65 @@ function ask_for(n) {
 function take_restart(a) {
     starts++
     end_runs(0)
-    for (a = 1; a <= automations; a++) if (initial[a] != -1) set_switch(a, initial[a])
+    for (a = 1; a <= units; a++) if (in_force[a] && !of_script[a] && initial[a] != -1) set_switch(a, initial[a])
+}
+
+# Another configuration: which units go on, which are others now, which are new and which are gone; the switches of those that come, and
+# what becomes of the entities of automations.
+function take_reload(a, b, count) {
+    entry_is = "change"
+    by_switch = 1
+    count = units
+    kept = others_told = new_told = gone_told = ""
+    split("", was_in_force)
+    for (a in in_force) if (in_force[a]) was_in_force[a] = 1
+    configure(plain_text(substr(rest, 12, length(rest) - 13)))
+    lasting = nodes
+    for (a = 1; a <= count; a++) {
+        if (!(a in was_in_force)) continue
+        b = name[a] in number_of ? number_of[name[a]] : 0
+        if (!b) drop_unit(a)
+        else if (a == b || form_of[a] == form_of[b]) kept++
+        if (b && b != a) take_place(a, b)
+    }
+    for (b = count + 1; b <= units; b++) {
+        if (number_before_reload[name[b]]) continue
+        new_told = new_told (new_told == "" ? "" : ", ") whole_name(b)
+        entered_at[b] = turned_at[b] = here
+        on[b] = initial[b] != -1 ? initial[b] : 1
+        if (!of_script[b]) change("automation." name[b], 1, on[b] ? "on" : "off", "{}")
+    }
+}
+
+# A unit goes, and its runs end.
+function drop_unit(a) {
+    gone_told = gone_told (gone_told == "" ? "" : ", ") whole_name(a)
+    end_runs(a)
+    if (of_script[a]) return
+    show_switch(a)
+    change("automation." name[a], 0, "", "")
+}
+
+# A unit takes the place of the one that had its name. It is another one as it is written: how it is read is not asked.
+function take_place(a, b) {
+    on[b] = on[a]
+    turned_at[b] = turned_at[a]
+    if (form_of[a] == form_of[b]) return
+    others_told = others_told (others_told == "" ? "" : ", ") whole_name(b)
+    entered_at[b] = here
+    end_runs(a)
+    ends_as[endings] = "may"
+    if (of_script[b] || initial[b] == -1 || initial[b] == on[b]) return
+    show_switch(a)
+    set_switch(b, initial[b])
+    change("automation." name[b], 1, on[b] ? "on" : "off", "{}")
+}
+
+# The entity of an automation, as its switch stands before it changes.
+function show_switch(a) {
+    stands_since["automation." name[a]] = starts + 1
+    state_of["automation." name[a]] = on[a] ? "on" : "off"
+    attributes_of["automation." name[a]] = "{}"
 }
 
 function set_switch(a, to) {
@@ -235,9 +296,7 @@ function turn_automation(who, to, stops, a) {
     entry_is = "change"
     by_switch = 1
     if (!a) return
-    stands_since["automation." who] = starts + 1
-    state_of["automation." who] = on[a] ? "on" : "off"
-    attributes_of["automation." who] = "{}"
+    show_switch(a)
     change("automation." who, 1, to ? "on" : "off", "{}")
     set_switch(a, to)
     if (!to && stops) end_runs(a)
@@ -279,8 +338,8 @@ function take_item(n, i, list, inner) {
 # run ends the one before.
 function ask_all(a) {
     for (a = 1; a <= units; a++) {
-        if (!matters && !replaces[a]) continue
-        found[here, a] = a > automations && entry_is != "ask" ? "apart" : answer(a)
+        if (!in_force[a] || !matters && !replaces[a]) continue
+        found[here, a] = of_script[a] && entry_is != "ask" ? "apart" : answer(a)
         moved_by[here, a] = movers
         if (here == wanted) why[a] = because
         if (here == wanted) was_off[a] = on[a] ? 0 : turned_at[a]
@@ -321,7 +380,7 @@ function find_askers(run, line, a) {
             if (mode[a] == "restart") replaces[a] = 1
         }
     }
-    for (a = 1; a <= units; a++) if (mode[a] == "queued" && may_queue[run]) may_be[run, a] = 1
+    for (a = 1; a <= units; a++) if (in_force[a] && mode[a] == "queued" && may_queue[run]) may_be[run, a] = 1
 }
 
 function take_step(run, n, a) {

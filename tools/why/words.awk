@@ -32,8 +32,18 @@ function command_words(n) {
     if (act == "switch") return word[get(n, "switch")] " was turned " word[get(n, "to")] runs_words(n)
     if (act == "trigger") return word[get(n, "trigger")] " was asked to run, " (skips ? "whatever its conditions" : "if its conditions hold")
     if (act == "restart") return "all was restarted: no states, no runs"
+    if (act == "reload") return reload_words()
     if (act == "refused") return "the line was refused with " code_words(word[get(n, "refused")]) " and changed nothing"
     return get(n, "lost") ? "the source was lost" : "the source was too long"
+}
+
+function reload_words(out) {
+    if (others_told new_told gone_told == "") return "the same automations and scripts came into force again, and all goes on"
+    out = "another configuration came into force:"
+    if (others_told != "") out = out " changed " others_told ";"
+    if (new_told != "") out = out " new " new_told ";"
+    if (gone_told != "") out = out " gone " gone_told ";"
+    return kept ? out " " kept " as before" : substr(out, 1, length(out) - 1)
 }
 
 function runs_words(n) {
@@ -189,7 +199,7 @@ function first_ender(run, last, until, i) {
 }
 
 # The runs that began at the line, and the automations that it concerns and that began none.
-function tell_begun(i, a, run, begun, none) {
+function tell_begun(i, a, run, begun, none, all) {
     for (i = 1; i <= abouts; i++) {
         run = about[i]
         if (first_step[run] <= wanted) continue
@@ -202,12 +212,14 @@ function tell_begun(i, a, run, begun, none) {
         tell_run(run)
     }
     for (a = 1; a <= units; a++) {
+        if (found[wanted, a] == "") continue
+        all++
         if (found[wanted, a] == "apart") none++
         else if (!(a in begun)) tell_none(a)
     }
     if (abouts == most) print "further runs may have begun at it"
     if (wanted_act == "started") return
-    if (none == units) print "no automation has a trigger for such a line: no run began"
+    if (none == all) print "no automation has a trigger for such a line: no run began"
     else if (none) print "no other automation has a trigger for such a line"
 }
 

@@ -1,6 +1,9 @@
 -- What was read for the entries of one give.
-use Rattle.std.specs.Prelude.{ℕ, ◌-◌, List, Option, None, if◌then◌else◌, nat_le, slice_get}
+use Rattle.std.specs.Prelude.{ℕ, ◌-◌, List, Option, None, if◌then◌else◌, map, nat_le, slice_get}
 use Rattle.ha_config.specs.declared.command.Cmd.{Cmd}
+use Rattle.ha_config.specs.declared.config.Config.{Config}
+use Rattle.ha_config.specs.Fair.{prepared}
+use Rattle.ha_config.specs.Words.{Text}
 use Rattle.ha_journal.specs.declared.entry.Entry.{Entry}
 use Rattle.ha_journal.specs.declared.entry.Entry.TheVariants.{Boot, Line, Step, Again}
 
@@ -12,6 +15,10 @@ pub record Reading : Type 0 where
 
 abbrev pub reading : ℕ → ℕ → List Cmd → Reading
 reading from next cmds = record { from = from; next = next; cmds = cmds }
+
+-- the commands with what the texts of reloads are read as
+abbrev pub prepared_in : (Text → Option Config) → Reading → Reading
+prepared_in read r = reading r.from r.next (map (prepared read) r.cmds)
 
 -- of commands that are numbered from here on, the one with this number, where there is one
 abbrev pub cmd_at : ℕ → List Cmd → ℕ → Option Cmd

@@ -2,6 +2,7 @@
 ghost use Rattle.std.specs.Prelude.{◌≡◌, ◌<◌, true, false, Some, None, IfOk, IfErr, count_by};
 ghost use Rattle.std.specs.List.{list_any};
 ghost use Rattle.ha_journal.specs.declared.entry.Entry.{Entry};
+ghost use Rattle.ha_config.specs.Fair.{prepared};
 ghost use Rattle.ha_journal.specs.Commands.{IsFair, put_as};
 ghost use Rattle.ha_journal.specs.Entries.{restarts};
 ghost use Rattle.ha_model.specs.Lawful.{is_line_of, shuts};
@@ -90,8 +91,8 @@ impl<C: Core + Drop, K: Sink, Q: Keeper> Held<C, K, Q> {
         requires rested { is_rested self.old.records source self.old.journal ≡ true }
         requires next { number ≡ count_by (is_line_of source) self.old.journal }
         requires unshut { list_any (shuts source) self.old.journal ≡ false }
-        requires fair { IsFair self.old.journal (put_as self.old.journal cmd) }
-        ensures { Puts (restarts cmd) (λ x. x ≡ Entry.Line source number (put_as self.old.journal cmd)) self.old self.new }
+        requires fair { IsFair self.old.journal (put_as self.old.journal (prepared C.Prepare.reads cmd)) }
+        ensures { Puts (restarts cmd) (λ x. x ≡ Entry.Line source number (put_as self.old.journal (prepared C.Prepare.reads cmd))) self.old self.new }
     {
         self.bus.as_mut().line(alloc, source, number, cmd, goes_on);
     }

@@ -2,6 +2,7 @@
 ghost use Rattle.std.specs.Prelude.{◌≡◌};
 ghost use Rattle.ha_whole.specs.Whole.{Running};
 ghost use Rattle.bus_pass.specs.Origins.{IsStored};
+ghost use Rattle.bus_pass.specs.Reads.{prepared_in};
 
 use crate::held::Held;
 use crate::read::Read;
@@ -10,7 +11,8 @@ use ha_whole::Core;
 use std::marker::Model;
 use std::snapshot::Snapshot;
 
-/// A bus as it lies in the channel, with what was read for the entries that were put with it. Its journal is lawful and has no closing
+/// A bus as it lies in the channel, with what was read for the entries that were put with it; contracts see these commands with what the
+/// texts of reloads are read as. Its journal is lawful and has no closing
 /// step, and while the boot stands alone its keeper holds the boot's text.
 #[derive(Drop)]
 pub struct Sealed<C: Core + Drop, K: Sink, Q: Keeper> {
@@ -26,13 +28,13 @@ impl<C: Core + Drop, K: Sink, Q: Keeper> Model for Sealed<C, K, Q> {
     ghost use Rattle.bus_turn.specs.Shown.{BusView};
     ghost use Rattle.ha_whole.specs.Whole.{Running};
     ghost use Rattle.bus_pass.specs.Origins.{IsStored};
-    ghost use Rattle.bus_pass.specs.Reads.{Reading};
+    ghost use Rattle.bus_pass.specs.Reads.{Reading, prepared_in};
 
     ghost Value = { BusView × Reading };
 
     ghost coded = { Prim.hlevel (codes, run.the_row.coded, item.the_row.coded, cmd.the_row.coded) };
 
-    ghost view = { λ s. (s.bus, s.read.value) };
+    ghost view = { λ s. (s.bus, prepared_in C.Prepare.reads s.read.value) };
 
     ghost invariant = { λ s. Running s.bus.journal s.bus.records × IsStored s.bus };
 }
@@ -42,7 +44,7 @@ impl<C: Core + Drop, K: Sink, Q: Keeper> Sealed<C, K, Q> {
     pub fn close(bus: Held<C, K, Q>, read: Snapshot<Read>) -> Sealed<C, K, Q>
         requires running { Running bus.journal bus.records }
         requires stored { IsStored bus }
-        ensures { result ≡ (bus, read.value) }
+        ensures { result ≡ (bus, prepared_in C.Prepare.reads read.value) }
     {
         Sealed { bus, read }
     }

@@ -7,6 +7,7 @@ ghost use Rattle.bus_pass.specs.Turns.{IsPassOf};
 ghost use Rattle.bus_pass.specs.Puts.{MayPut};
 ghost use Rattle.bus_pass.specs.Journal.{IsRestless};
 ghost use Rattle.bus_pass.specs.Origins.{IsStored, origin_of};
+ghost use Rattle.bus_pass.specs.Reads.{prepared_in};
 ghost use Rattle.bus_pass.specs.Rule.{MayGive, StandsForAll, Tells, both, child, gave, hand, opening, parent, took};
 
 use crate::hand::Hand;
@@ -134,11 +135,11 @@ impl<C: Core + Drop, K: Sink, Q: Keeper> Turn<C, K, Q> {
     #[inline(always)]
     pub fn give<W: Wait>(&self, rt: &W, pass: &mut Pass<C, K, Q>, bus: Held<C, K, Q>, read: Read)
         requires turn { IsPassOf self.now pass.old }
-        requires may { MayGive IsRestless (view pass.old) bus.journal read bus.first (origin_of bus) }
+        requires may { MayGive IsRestless (view pass.old) bus.journal (prepared_in C.Prepare.reads read) bus.first (origin_of bus) }
         requires running { Running bus.journal bus.records }
         requires stored { IsStored bus }
         ensures turn { IsPassOf self.now pass.new }
-        ensures gave { view pass.new ≡ gave (view pass.old) bus.journal read bus.first (origin_of bus) }
+        ensures gave { view pass.new ≡ gave (view pass.old) bus.journal (prepared_in C.Prepare.reads read) bus.first (origin_of bus) }
     {
         self.send(rt, pass, Sealed::close(bus, Snapshot::of(&read)));
     }

@@ -6,8 +6,8 @@ use Rattle.ha_journal.specs.declared.entry.Entry.{Entry}
 use Rattle.ha_config.specs.Words.{Text}
 use Rattle.ha_journal.specs.Journal.{Journal}
 use Rattle.ha_model.specs.Records.{Records}
-use Rattle.ha_model.specs.Texts.{call_text}
-use Rattle.ha_journal.specs.EntryText.{error_text, trace_text}
+use Rattle.ha_journal.specs.EntryText.{error_text}
+use Rattle.ha_whole.specs.Trace.{call_text, trace_text}
 use Rattle.ha_whole.specs.Whole.{AreEntries, changes_store, put, store_text}
 use Rattle.whole_laws.specs.Puts.{IsPut}
 use Rattle.whole_laws.proofs.StoreLemmas.{store-stays}
@@ -64,7 +64,7 @@ module _ (before : Journal) (x : Entry) (rs : Records) (to : IsPutTo before x) w
             where
               of : IsPutTo before x → store_text now ≡ store_text before
               of (First none is) = absurd (not-first stays none)
-              of (Later entries p) = store-stays before x entries p stays
+              of (Later entries p) = store-stays before x p stays
 
           by : (before ≡ []) ⊎ HoldsStore before out.keep → HoldsStore now k
           by (inl none) = absurd (not-first stays none)

@@ -1,5 +1,5 @@
 -- The line of a step that calls, by the record after it.
-use Rattle.std.proofs.Common.{◌≡◌, ◌∙◌, ap, refl, sym, subst, ℕ, suc, List, [], ◌∷◌}
+use Rattle.std.proofs.Common.{◌≡◌, ◌∙◌, ap, refl, sym, subst, ℕ, suc, List, []}
 use Rattle.std.specs.Prelude.{Option, Some, None, is_some, option_and_then, option_map}
 use Rattle.std.specs.Option.{option_map_or}
 use Rattle.ha_journal.specs.declared.entry.Entry.{Entry}
@@ -8,21 +8,17 @@ use Rattle.ha_sight.specs.declared.item.Item.{Item}
 use Rattle.ha_model.specs.declared.record.Record.{Record}
 use Rattle.ha_config.specs.Words.{Text}
 use Rattle.ha_sight.specs.Items.{Called, call_in}
-use Rattle.ha_journal.specs.Journal.{HasEntry, Journal, names, units, more}
+use Rattle.ha_journal.specs.Journal.{Journal, more}
 use Rattle.ha_model.specs.Lawful.{record_of}
 use Rattle.ha_model.specs.Records.{Records, calls_of}
-use Rattle.ha_config.specs.Names.{name_in, name_of}
+use Rattle.ha_config.specs.Names.{name_in}
 use Rattle.ha_journal.specs.EntryText.{call_line}
-use Rattle.ha_model.specs.Texts.{call_of_step, call_text_of}
+use Rattle.ha_model.specs.Texts.{call_of_step}
+use Rattle.ha_whole.specs.Trace.{call_text_of, names}
 use Rattle.ha_whole.specs.Whole.{Right}
-use Rattle.ha_journal.proofs.MoreLemmas.{names-more}
-use Rattle.ha_config.proofs.NameLemmas.{name-in-of}
 use Rattle.whole_laws.proofs.CallLemmas.{call-counted}
+use Rattle.whole_laws.proofs.TextLemmas.{names-stepped}
 use Rattle.bus_turn.specs.Lines.{called_line, text_in}
-
-journal-had : (before : Journal) (worker serial : ℕ) (branch : List ℕ) (item : Item) (rs : Records) → Right (more before (Step worker serial branch item)) rs → HasEntry before
-journal-had [] worker serial branch item rs right = absurd right.journal.entries.0
-journal-had (e ∷ es) worker serial branch item rs right = tt
 
 module _ (before : Journal) (worker serial : ℕ) (branch : List ℕ) (item : Item) (rs : Records) (right : Right (more before (Step worker serial branch item)) rs) where
   abbrev here : Entry
@@ -31,12 +27,12 @@ module _ (before : Journal) (worker serial : ℕ) (branch : List ℕ) (item : It
   module _ (all : List Text) (is : all ≡ names (more before here)) where
     by_record : (call : Called) → call_in item ≡ Some call → (o : Option Record) → record_of rs serial ≡ o
         → text_in (option_and_then (λ r. option_map (call_line (name_in all r.automation) r.number r.calls) (Some call)) o)
-        ≡ option_map_or (λ r. call_line (name_of (units before) r.automation) r.number (suc (calls_of before serial)) call) o []
+        ≡ option_map_or (λ r. call_line (name_in (names before) r.automation) r.number (suc (calls_of before serial)) call) o []
     by_record call made None found = refl
     by_record call made (Some r) found =
         let counted : r.calls ≡ suc (calls_of before serial) = call-counted before worker serial branch item rs right r found (ap is_some made) in
-        let told : all ≡ names before = is ∙ sym (names-more before here (journal-had before worker serial branch item rs right)) in
-        let name : name_in all r.automation ≡ name_of (units before) r.automation = (λ i. name_in (told i) r.automation) ∙ name-in-of (units before) r.automation in
+        let told : all ≡ names before = is ∙ sym (names-stepped before worker serial branch item) in
+        let name : name_in all r.automation ≡ name_in (names before) r.automation = (λ i. name_in (told i) r.automation) in
         λ i. call_line (name i) r.number (counted i) call
 
     no-call : (o : Option Record) → text_in (option_and_then (λ r. option_map (call_line (name_in all r.automation) r.number r.calls) None) o) ≡ []
@@ -48,7 +44,7 @@ module _ (before : Journal) (worker serial : ℕ) (branch : List ℕ) (item : It
       where
         by : (o : Option Called) → call_in item ≡ o
             → text_in (option_and_then (λ r. option_map (call_line (name_in all r.automation) r.number r.calls) o) (record_of rs serial))
-            ≡ option_map_or (call_of_step rs before (record { worker = worker; serial = serial; branch = branch; item = item })) o []
+            ≡ option_map_or (call_of_step (names before) rs before (record { worker = worker; serial = serial; branch = branch; item = item })) o []
         by None made = no-call (record_of rs serial)
         by (Some call) made = by_record call made (record_of rs serial) refl
 

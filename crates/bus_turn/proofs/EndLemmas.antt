@@ -2,8 +2,8 @@
 use Rattle.std.proofs.Common.{◌≡◌, ◌∙◌, ap, refl, sym, subst, true, false, ◌++◌, length}
 use Rattle.std.specs.Prelude.{[], Option, Some, None, IfSome, Result, Ok, Err}
 use Rattle.std.specs.Result.{result_err}
-use Rattle.ha_journal.specs.Journal.{Journal, names}
-use Rattle.ha_journal.specs.EntryText.{end_line, texts_after, trace_line, trace_text}
+use Rattle.ha_journal.specs.Journal.{Journal}
+use Rattle.ha_journal.specs.EntryText.{end_line, texts_after, trace_line}
 use Rattle.ha_config.specs.Words.{Text}
 use Rattle.ha_config.proofs.ListLemmas.{append-nil}
 use Rattle.bus_turn.specs.declared.fault.BusFault.{BusFault}
@@ -14,6 +14,7 @@ use Rattle.bus_turn.specs.Buses.{HasTaken, HasTakenFront, IsBus, Stands}
 use Rattle.bus_turn.specs.Ends.{HasEnded}
 use Rattle.bus_turn.proofs.GrowthLemmas.{sink-failed}
 use Rattle.bus_turn.proofs.SinkLemmas.{took-in-more, writes-front}
+use Rattle.ha_whole.specs.Trace.{names, trace_text}
 
 module _ (j : Journal) where
   abbrev done : Text
@@ -24,7 +25,7 @@ module _ (j : Journal) where
 
   -- the whole trace is what was written before, and then the end line
   whole : done ++ rest ≡ trace_text j true
-  whole = ap (λ (t : Text). t ++ rest) (append-nil (texts_after (λ before x. trace_line (names j) x) [] j))
+  whole = ap (λ (t : Text). t ++ rest) (append-nil (texts_after (λ before x. trace_line (names before) x) [] j))
 
   in_front : (s s' : SinkState) (fault : BusFault) → HasTaken done s → Writes rest s (Some fault) s' → HasTakenFront done (trace_text j true) s'
   in_front s s' fault h w = subst (λ (t : Text). HasTakenFront done t s') whole (writes-front done rest s (Some fault) s' h w)

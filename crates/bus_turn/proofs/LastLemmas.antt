@@ -10,9 +10,10 @@ use Rattle.ha_sight.specs.declared.item.Item.{Item}
 use Rattle.ha_journal.specs.Commands.{IsFair}
 use Rattle.ha_journal.specs.Entries.{is_again, is_restart}
 use Rattle.ha_journal.specs.EntryText.{error_text_of, trace_line}
-use Rattle.ha_journal.specs.Journal.{Journal, names, more}
+use Rattle.ha_journal.specs.Journal.{Journal, more}
 use Rattle.ha_model.specs.Records.{Records}
-use Rattle.ha_model.specs.Texts.{call_text_of}
+use Rattle.ha_config.specs.Words.{Text}
+use Rattle.ha_whole.specs.Trace.{call_text_of, names}
 use Rattle.ha_whole.specs.Whole as whole
 use Rattle.ha_whole.specs.Whole.{IsWithin, Right, again_of, appended, before_put, put}
 use Rattle.ha_texts.specs.Lines.{AreDated, IsDated}
@@ -104,6 +105,7 @@ fair-dated j (Cmd.Moment at) h = h
 fair-dated j (Cmd.Switch name on stop) h = tt
 fair-dated j (Cmd.Trigger name skip) h = tt
 fair-dated j Cmd.Restart h = tt
+fair-dated j (Cmd.Reload text config) h = tt
 fair-dated j (Cmd.Refused code) h = tt
 fair-dated j Cmd.Lost h = tt
 fair-dated j Cmd.TooLong h = tt
@@ -161,6 +163,7 @@ restart-quiet rs before (Boot text config stored start zone carry) e = absurd (t
 restart-quiet rs before (Again number start stored carry) e = absurd (true-false (sym e))
 restart-quiet rs before (Step worker serial branch item) e = absurd (true-false (sym e))
 restart-quiet rs before (Line source number Cmd.Restart) e = (refl, refl)
+restart-quiet rs before (Line source number (Cmd.Reload text config)) e = absurd (true-false (sym e))
 restart-quiet rs before (Line source number (Cmd.Report entity text attributes)) e = absurd (true-false (sym e))
 restart-quiet rs before (Line source number (Cmd.Gone entity)) e = absurd (true-false (sym e))
 restart-quiet rs before (Line source number (Cmd.Event kind pairs)) e = absurd (true-false (sym e))

@@ -1,13 +1,13 @@
 -- What a put makes of a bus.
 use Rattle.std.proofs.Common.{◌≡◌, ◌∙◌, ◌⊎◌, inl, inr, ap, refl, sym, subst, [], ◌∷◌, Bool, true, false}
 use Rattle.std.specs.Prelude.{◌↔◌, Option, Some, None, flat_map, is_some, Result, Ok, Err, OnOk, OnErr, IfErr, IfSome}
+use Rattle.ha_whole.specs.Trace.{call_text, call_text_of, names, trace_text}
 use Rattle.ha_whole.specs.declared.faults.CoreFault.{CoreFault}
 use Rattle.ha_journal.specs.declared.entry.Entry.{Entry}
 use Rattle.ha_journal.specs.Entries.{is_again, is_restart}
-use Rattle.ha_journal.specs.Journal.{Journal, names}
+use Rattle.ha_journal.specs.Journal.{Journal}
 use Rattle.ha_model.specs.Records.{Records}
-use Rattle.ha_model.specs.Texts.{call_text, call_text_of}
-use Rattle.ha_journal.specs.EntryText.{error_text, error_text_of, trace_line, trace_text}
+use Rattle.ha_journal.specs.EntryText.{error_text, error_text_of, trace_line}
 use Rattle.ha_whole.specs.Whole as whole
 use Rattle.ha_whole.specs.Whole.{AreEntries, CannotRestart, HasRoom, IsFull, IsWithin, LacksRoom, Right, appended, put}
 use Rattle.whole_laws.specs.Puts.{IsPut}

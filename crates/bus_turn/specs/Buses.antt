@@ -6,8 +6,8 @@ use Rattle.ha_journal.specs.Journal.{Journal}
 use Rattle.ha_journal.specs.declared.entry.Entry.TheVariants.{Step}
 use Rattle.ha_sight.specs.declared.item.Item.{Item}
 use Rattle.ha_model.specs.Lawful.{pick}
-use Rattle.ha_model.specs.Texts.{call_text}
-use Rattle.ha_journal.specs.EntryText.{error_text, trace_text}
+use Rattle.ha_journal.specs.EntryText.{error_text}
+use Rattle.ha_whole.specs.Trace.{call_text, trace_text}
 use Rattle.ha_whole.specs.Whole.{CannotRestart, HasRoom, IsFull, IsWithin, LacksRoom, Right, put, ready, store_text}
 use Rattle.bus_turn.specs.declared.fault.BusFault.{BusFault}
 use Rattle.bus_turn.specs.States.{SinkState, KeeperState, Outside}

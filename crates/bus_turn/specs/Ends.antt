@@ -1,11 +1,12 @@
 -- What the end of a bus makes of what lies outside.
 use Rattle.std.specs.Prelude.{◌≡◌, true, false, length, Option, None, Some, IfSome, IsSomeAnd}
 use Rattle.ha_journal.specs.Journal.{Journal}
-use Rattle.ha_journal.specs.EntryText.{end_line, trace_text}
+use Rattle.ha_journal.specs.EntryText.{end_line}
 use Rattle.bus_turn.specs.declared.fault.BusFault.{BusFault}
 use Rattle.bus_turn.specs.States.{SinkState, Outside}
 use Rattle.bus_turn.specs.Writes.{WritesIn}
 use Rattle.bus_turn.specs.Buses.{HasTaken, HasTakenFront, SinkFailed}
+use Rattle.ha_whole.specs.Trace.{trace_text}
 
 -- the end line is written to the trace, where there is one, and nothing else is
 pub record Ends (j : Journal) (before : Outside) (first : Option BusFault) (after : Outside) : Type 0 where

@@ -2,10 +2,10 @@
 use Rattle.std.specs.Prelude.{Bool, flat_map, Option, Some, None, if◌then◌else◌}
 use Rattle.ha_journal.specs.declared.entry.Entry.{Entry}
 use Rattle.ha_config.specs.Words.{Text}
-use Rattle.ha_journal.specs.Journal.{Journal, names}
+use Rattle.ha_journal.specs.Journal.{Journal}
 use Rattle.ha_model.specs.Records.{Records}
-use Rattle.ha_model.specs.Texts.{call_text_of}
 use Rattle.ha_journal.specs.EntryText.{error_text_of, trace_line}
+use Rattle.ha_whole.specs.Trace.{call_text_of, names}
 use Rattle.ha_whole.specs.Whole.{appended, changes_store, put, store_text}
 use Rattle.bus_turn.specs.declared.fault.BusFault.{BusFault}
 use Rattle.bus_turn.specs.States.{Outside}

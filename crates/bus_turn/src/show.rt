@@ -3,10 +3,10 @@ ghost use Rattle.std.specs.Prelude.{◌≡◌, ◌++◌, ◌-◌, [], IfErr, OnO
 ghost use Rattle.std.specs.Option.{option_copied};
 ghost use Rattle.ha_journal.specs.declared.entry.Entry.{Entry};
 ghost use Rattle.ha_journal.specs.Entries.{is_again as is_again_lem};
-ghost use Rattle.ha_journal.specs.Journal.{Journal, names, more};
+ghost use Rattle.ha_journal.specs.Journal.{Journal, more};
 ghost use Rattle.ha_journal.specs.EntryText.{error_text_of, trace_line as trace_line_lem};
-ghost use Rattle.ha_model.specs.Texts.{call_text_of};
 ghost use Rattle.ha_texts.specs.Lines.{AreDated};
+ghost use Rattle.ha_whole.specs.Trace.{call_text_of, names};
 ghost use Rattle.ha_whole.specs.Whole.{put as put_lem, store_text};
 ghost use Rattle.bus_turn.specs.Dated.{IsLastDated};
 ghost use Rattle.bus_turn.specs.Shown.{saved_text, texts_of};

@@ -7,12 +7,12 @@ ghost use Rattle.ha_journal.specs.Journal.{Journal, more};
 ghost use Rattle.ha_model.specs.Lawful.{record_of as record_of_lem};
 ghost use Rattle.ha_config.specs.Names.{name_in};
 ghost use Rattle.ha_journal.specs.EntryText.{call_line as call_line_lem, error_line, error_text_of, trace_line as trace_line_lem};
-ghost use Rattle.ha_model.specs.Texts.{call_text_of};
 ghost use Rattle.ha_config.specs.Words.{Text};
 ghost use Rattle.bus_turn.specs.States.{sink_of};
 ghost use Rattle.ha_texts.specs.Lines.{AreDated};
 ghost use Rattle.bus_turn.specs.Lines.{called_line, text_in};
 ghost use Rattle.bus_turn.specs.Writes.{Hands, Writes, WritesIn, fault_of};
+ghost use Rattle.ha_whole.specs.Trace.{call_text_of};
 
 use crate::fault::BusFault;
 use ha_config::Cmd;

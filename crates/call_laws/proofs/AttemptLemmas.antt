@@ -17,7 +17,7 @@ use Rattle.ha_journal.specs.Attempts.{Attempt, attempts, attempts_of, passes, pa
 use Rattle.ha_journal.specs.Journal.{HasEntry, Journal, more, units}
 use Rattle.ha_journal.specs.Moves.{sight}
 use Rattle.ha_journal.proofs.FiringLaws.{passing-last}
-use Rattle.ha_journal.proofs.MoreLemmas.{units-more}
+use Rattle.ha_journal.proofs.ForceLaws.{units-more}
 use Rattle.ha_model.specs.Records.{records_of}
 use Rattle.ha_model.specs.RunSteps.{runs_after}
 use Rattle.ha_model.proofs.FoldLaws.{records-more}
@@ -56,7 +56,7 @@ called-pass j worker serial branch scripts fields waits has h =
     let tried : attempts k (length j) ≡ map (called_with fields) scripts = (λ i. option_map_or (attempts_of k (length j)) (get-last j x i) []) in
     passing-last j x
     ∙ (λ i. filter (λ y. passes k (length j) y.1) (enumerate_from 0 (tried i)))
-    ∙ all-pass k (length j) 0 fields scripts ((λ i. list_all (λ a. nat_lt a (length (sym (units-more j x has) i))) scripts) ∙ h)
+    ∙ all-pass k (length j) 0 fields scripts ((λ i. list_all (λ a. nat_lt a (length (sym (units-more j x has refl) i))) scripts) ∙ h)
 
 -- LAW: so the records are those after these attempts
 pub called-records : (j : Journal) (worker serial : ℕ) (branch : Branch) (scripts : List ℕ) (fields : Pairs) (waits : Bool) → HasEntry j → list_all (λ a. nat_lt a (length (units j))) scripts ≡ true

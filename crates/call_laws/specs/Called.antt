@@ -7,7 +7,7 @@ use Rattle.ha_sight.specs.Scripts.{Spot}
 use Rattle.ha_journal.specs.declared.entry.Entry.{Entry}
 use Rattle.ha_journal.specs.declared.entry.Entry.TheVariants.{Boot, Line, Step, Again}
 use Rattle.ha_journal.specs.Attempts.{Attempt, by_hand}
-use Rattle.ha_journal.specs.Journal.{Journal}
+use Rattle.ha_journal.specs.Journal.{Journal, scripts}
 use Rattle.ha_model.specs.Records.{call_end, records_of}
 use Rattle.script_laws.specs.Stands.{NamesNoScript, next_in}
 
@@ -30,6 +30,10 @@ CallersWait j unended [] items = Unit {0}
 CallersWait j unended (p ∷ ps) [] = Unit {0}
 CallersWait j unended (p ∷ ps) (item ∷ items) =
     (awaits_end item ≡ true → GoesOnBehind j unended p.place (next_in p.branch ps)) × CallersWait j unended ps items
+
+-- no configuration that was in force has scripts
+abbrev pub HasNoScripts : Journal → Type 0
+HasNoScripts j = (n : ℕ) → scripts (take n j) ≡ []
 
 -- an entry that neither starts nor ends runs of scripts
 abbrev pub NamesNone : Entry → Type 0

@@ -1,10 +1,10 @@
--- The places of a run where no script is configured: they know of no runs that were called.
+-- The places of a run where no script was in force: they know of no runs that were called.
 use Rattle.std.specs.Prelude.{ℕ, List, [], ◌∷◌, ◌++◌, length, nat_eq, Option, if◌then◌else◌}
 use Rattle.std.specs.Option.{option_map_or}
 use Rattle.ha_sight.specs.Scripts.{Branch, Outcome, Spot}
 use Rattle.ha_journal.specs.declared.entry.Entry.{Entry}
 use Rattle.ha_journal.specs.Entries.{step_of}
-use Rattle.ha_journal.specs.Journal.{Journal, automations}
+use Rattle.ha_journal.specs.Journal.{Journal, units}
 use Rattle.ha_journal.specs.Moves.{sight}
 use Rattle.ha_journal.specs.Waits.{wait_end}
 use Rattle.ha_model.specs.declared.record.Record.{Record}
@@ -25,6 +25,6 @@ plain_spots_from serial before (x ∷ xs) = plain_spot_of serial before x ++ pla
 abbrev pub plain_spots : Journal → ℕ → List Spot
 plain_spots j serial = plain_spots_from serial [] j
 
--- what a run of an automation gives on them
+-- what a run gives on them
 abbrev pub plain_ran : Journal → Record → Option Outcome
-plain_ran j r = plain_script (actions_of (automations j) r.automation) r.env (plain_spots j r.serial)
+plain_ran j r = plain_script (actions_of (units j) r.automation) r.env (plain_spots j r.serial)

@@ -1,94 +1,135 @@
--- Automations found by their names, each at its place.
-use Rattle.std.proofs.Common.{◌≡◌, ◌∙◌, refl, sym, ℕ, ◌+◌, Bool, true, false, List, [], ◌∷◌, map}
-use Rattle.std.specs.Prelude.{not, Option, Some, None, find, option_map, codes, if◌then◌else◌}
-use Rattle.std.specs.List.{enumerate_from, list_any}
+-- Automations found by their names and by their numbers.
+use Rattle.std.proofs.Common.{◌≡◌, ◌∙◌, refl, sym, ℕ, zero, suc, ◌+◌, ◌<◌, ◌≤◌, Bool, true, false, List, [], ◌∷◌, length, map, drop, get_or, arith}
+use Rattle.std.specs.Prelude.{not, Option, Some, None, find, nat_eq, option_map, slice_index_or, zip, codes, if◌then◌else◌}
+use Rattle.std.specs.List.{list_any}
+use Rattle.std.proofs.lemmas.List.{drop_all}
 use Rattle.std.proofs.lemmas.Bool.{and_parts, or_parts}
 use Rattle.ha_value.specs.declared.value.EntityId.{EntityId}
 use Rattle.ha_config.specs.declared.config.Automation.{Automation}
 use Rattle.ha_config.specs.Words.{Text, same}
-use Rattle.ha_sight.specs.Calls.{automation_at}
 use Rattle.ha_config.specs.ValueFacts.{all_distinct}
-use Rattle.ha_config.specs.Names.{automation_named}
+use Rattle.ha_config.specs.Names.{named_among}
 use Rattle.ha_config.proofs.EqualLemmas.{same-refl}
+use Rattle.ha_sight.specs.Calls.{automation_at}
+use Rattle.ha_sight.specs.Sight.{Automations, switch_at}
+use Rattle.state_table.specs.declared.table.StateTable.{StateTable}
+use Rattle.cond_eval.specs.Seen.{is_shown_on, shown_of}
 
--- the place of the first automation of this name, where they are counted from n on
-abbrev pub named : ℕ → List Automation → Text → Option ℕ
-named n all name = option_map (λ (p : ℕ × Automation). p.0) (find (λ (p : ℕ × Automation). same p.1.name name) (enumerate_from n all))
+abbrev pub Rules : Type 0
+Rules = List (ℕ × Automation)
 
-abbrev pub names_of : List Automation → List Text
-names_of all = map (λ (a : Automation). a.name) all
+abbrev pub names_in : Rules → List Text
+names_in ps = map {A = ℕ × Automation} {B = Text} (λ p. p.1.name) ps
 
--- the fact holds of each with its place, counted from n on
-abbrev pub EachAt : (ℕ → Automation → Type 0) → ℕ → List Automation → Type 0
-EachAt P n [] = Unit {0}
-EachAt P n (x ∷ xs) = P n x × EachAt P (n + 1) xs
+-- ---- where the names differ
 
-pub each-weaker : (P Q : ℕ → Automation → Type 0) → ((n : ℕ) (x : Automation) → P n x → Q n x) → (n : ℕ) (xs : List Automation) → EachAt P n xs → EachAt Q n xs
-each-weaker P Q f n [] h = tt
-each-weaker P Q f n (x ∷ xs) h = (f n x h.0, each-weaker P Q f (n + 1) xs h.1)
+-- the fact holds of each with its number
+abbrev pub EachIn : (ℕ → Automation → Type 0) → Rules → Type 0
+EachIn P [] = Unit {0}
+EachIn P (p ∷ ps) = P p.0 p.1 × EachIn P ps
 
-pub named-first : (n : ℕ) (x : Automation) (xs : List Automation) (name : Text) → named n (x ∷ xs) name ≡ (if same x.name name then Some n else named (n + 1) xs name)
-named-first n x xs name = by (same x.name name)
+pub each-weaker : (P Q : ℕ → Automation → Type 0) → ((n : ℕ) (x : Automation) → P n x → Q n x) → (ps : Rules) → EachIn P ps → EachIn Q ps
+each-weaker P Q f [] h = tt
+each-weaker P Q f (p ∷ ps) h = (f p.0 p.1 h.0, each-weaker P Q f ps h.1)
+
+named-first : (p : ℕ × Automation) (ps : Rules) (name : Text) → named_among (p ∷ ps) name ≡ (if same p.1.name name then Some p.0 else named_among ps name)
+named-first p ps name = by (same p.1.name name)
   where
-    by : (b : Bool) → option_map (λ (p : ℕ × Automation). p.0) (if b then Some (n, x) else find (λ (p : ℕ × Automation). same p.1.name name) (enumerate_from (n + 1) xs)) ≡ (if b then Some n else named (n + 1) xs name)
+    by : (b : Bool) → option_map (λ (q : ℕ × Automation). q.0) (if b then Some p else find (λ (q : ℕ × Automation). same q.1.name name) ps) ≡ (if b then Some p.0 else named_among ps name)
     by true = refl
     by false = refl
 
-pub named-here : (n : ℕ) (x : Automation) (xs : List Automation) (name : Text) → same x.name name ≡ true → named n (x ∷ xs) name ≡ Some n
-named-here n x xs name h = named-first n x xs name ∙ (λ i. if h i then Some n else named (n + 1) xs name)
-
-pub named-later : (n : ℕ) (x : Automation) (xs : List Automation) (name : Text) → same x.name name ≡ false → named n (x ∷ xs) name ≡ named (n + 1) xs name
-named-later n x xs name h = named-first n x xs name ∙ (λ i. if h i then Some n else named (n + 1) xs name)
-
 -- those behind one of another name are found where they were
-passed : (n m : ℕ) (x : Automation) (whole ys : List Automation) → list_any (same x.name) (names_of ys) ≡ false
-    → EachAt (λ k y. named (n + 1) whole y.name ≡ Some k) m ys → EachAt (λ k y. named n (x ∷ whole) y.name ≡ Some k) m ys
-passed n m x whole [] none h = tt
-passed n m x whole (y ∷ ys) none h =
-    let parts = or_parts (same x.name y.name) (list_any (same x.name) (names_of ys)) none in
-    (named-later n x whole y.name parts.0 ∙ h.0, passed n (m + 1) x whole ys parts.1 h.1)
+passed : (p : ℕ × Automation) (whole ps : Rules) → list_any (same p.1.name) (names_in ps) ≡ false
+    → EachIn (λ k y. named_among whole y.name ≡ Some k) ps → EachIn (λ k y. named_among (p ∷ whole) y.name ≡ Some k) ps
+passed p whole [] none h = tt
+passed p whole (q ∷ qs) none h =
+    let parts = or_parts (same p.1.name q.1.name) (list_any (same p.1.name) (names_in qs)) none in
+    (named-first p whole q.1.name ∙ (λ i. if parts.0 i then Some p.0 else named_among whole q.1.name) ∙ h.0, passed p whole qs parts.1 h.1)
 
 not-true : (b : Bool) → not b ≡ true → b ≡ false
 not-true true h = absurd (cc)
 not-true false h = refl
 
--- where the names differ, each is found at its own place
-pub each-named : (n : ℕ) (all : List Automation) → all_distinct (names_of all) ≡ true → EachAt (λ k y. named n all y.name ≡ Some k) n all
-each-named n [] d = tt
-each-named n (x ∷ xs) d =
-    let parts = and_parts (not (list_any (same x.name) (names_of xs))) (all_distinct (names_of xs)) d in
-    (named-here n x xs x.name (same-refl x.name), passed n (n + 1) x xs xs (not-true _ parts.0) (each-named (n + 1) xs parts.1))
+-- LAW: then each is found under its own name
+pub each-named : (ps : Rules) → all_distinct (names_in ps) ≡ true → EachIn (λ k y. named_among ps y.name ≡ Some k) ps
+each-named [] d = tt
+each-named (p ∷ ps) d =
+    let parts = and_parts (not (list_any (same p.1.name) (names_in ps))) (all_distinct (names_in ps)) d in (
+      named-first p ps p.1.name ∙ (λ i. if same-refl p.1.name i then Some p.0 else named_among ps p.1.name),
+      passed p ps ps (not-true (list_any (same p.1.name) (names_in ps)) parts.0) (each-named ps parts.1),
+    )
 
--- names with switches, by the names and by the places
-pub each-switch : (shown : Text → Bool) (on : ℕ → Bool) (n : ℕ) (all : List Automation) → EachAt (λ k y. shown y.name ≡ on k) n all
-    → map {B = Text × Bool} (λ (a : Automation). (a.name, shown a.name)) all ≡ map {B = Text × Bool} (λ (p : ℕ × Automation). (p.1.name, on p.0)) (enumerate_from n all)
-each-switch shown on n [] h = refl
-each-switch shown on n (x ∷ xs) h = λ i. (x.name, h.0 i) ∷ each-switch shown on (n + 1) xs h.1 i
+-- names with switches, by the names and by the numbers
+pub each-switch : (shown : Text → Bool) (on : ℕ → Bool) (ps : Rules) → EachIn (λ k y. shown y.name ≡ on k) ps
+    → map {A = ℕ × Automation} {B = ℕ × Text × Bool} (λ p. (p.0, p.1.name, shown p.1.name)) ps ≡ map {A = ℕ × Automation} {B = ℕ × Text × Bool} (λ p. (p.0, p.1.name, on p.0)) ps
+each-switch shown on [] h = refl
+each-switch shown on (p ∷ ps) h = λ i. (p.0, p.1.name, h.0 i) ∷ each-switch shown on ps h.1 i
 
--- an automation is found among the names with switches where it is found among the automations
-found-at : (shown : Text → Bool) (n : ℕ) (all : List Automation) (name : Text)
-    → option_map (λ (p : ℕ × (Text × Bool)). p.0) (find (λ (p : ℕ × (Text × Bool)). same p.1.0 name) (enumerate_from n (map {B = Text × Bool} (λ (a : Automation). (a.name, shown a.name)) all))) ≡ named n all name
-found-at shown n [] name = refl
-found-at shown n (x ∷ xs) name = by (same x.name name) (found-at shown (n + 1) xs name)
+-- ---- what is found among those that are shown
+
+found-at : (t : StateTable) (ps : Rules) (name : Text) → option_map (λ (p : ℕ × Text × Bool). p.0) (find (λ (p : ℕ × Text × Bool). same p.1 name) (shown_of t ps)) ≡ named_among ps name
+found-at t [] name = refl
+found-at t (p ∷ ps) name = by (same p.1.name name) (found-at t ps name)
   where
-    by : (b : Bool)
-        → option_map (λ (p : ℕ × (Text × Bool)). p.0) (find (λ (p : ℕ × (Text × Bool)). same p.1.0 name) (enumerate_from (n + 1) (map {B = Text × Bool} (λ (a : Automation). (a.name, shown a.name)) xs))) ≡ named (n + 1) xs name
-        → option_map (λ (p : ℕ × (Text × Bool)). p.0) (if b then Some (n, (x.name, shown x.name)) else find (λ (p : ℕ × (Text × Bool)). same p.1.0 name) (enumerate_from (n + 1) (map {B = Text × Bool} (λ (a : Automation). (a.name, shown a.name)) xs)))
-        ≡ option_map (λ (p : ℕ × Automation). p.0) (if b then Some (n, x) else find (λ (p : ℕ × Automation). same p.1.name name) (enumerate_from (n + 1) xs))
+    by : (b : Bool) → option_map (λ (p : ℕ × Text × Bool). p.0) (find (λ (p : ℕ × Text × Bool). same p.1 name) (shown_of t ps)) ≡ named_among ps name
+        → option_map (λ (p : ℕ × Text × Bool). p.0) (if b then Some (p.0, p.1.name, is_shown_on t p.1.name) else find (λ (p : ℕ × Text × Bool). same p.1 name) (shown_of t ps))
+        ≡ option_map (λ (q : ℕ × Automation). q.0) (if b then Some p else find (λ (q : ℕ × Automation). same q.1.name name) ps)
     by true h = refl
     by false h = h
 
-pub automation-found : (shown : Text → Bool) (all : List Automation) (e : EntityId)
-    → automation_at (map {B = Text × Bool} (λ (a : Automation). (a.name, shown a.name)) all) e ≡ (if same e.domain (codes "automation") then automation_named all e.object else None)
-automation-found shown all e = λ i. if same e.domain (codes "automation") then found-at shown 0 all e.object i else None
-
 -- an automation's id, whose domain was compared
-module _ (shown : Text → Bool) (all : List Automation) (e : EntityId) (domain : Text) (h : domain ≡ e.domain) where
-  by_domain : (b : Bool) → b ≡ same domain (codes "automation") → (if b then automation_named all e.object else None) ≡ automation_at (map {B = Text × Bool} (λ (a : Automation). (a.name, shown a.name)) all) e
-  by_domain b is = (λ i. if (is ∙ (λ k. same (h k) (codes "automation"))) i then automation_named all e.object else None) ∙ sym (automation-found shown all e)
+module _ (t : StateTable) (ps : Rules) (e : EntityId) (domain : Text) (h : domain ≡ e.domain) where
+  by_domain : (b : Bool) → b ≡ same domain (codes "automation") → (if b then named_among ps e.object else None) ≡ automation_at (shown_of t ps) e
+  by_domain b is =
+      (λ i. if (is ∙ (λ k. same (h k) (codes "automation"))) i then named_among ps e.object else None)
+      ∙ (λ i. if same e.domain (codes "automation") then sym (found-at t ps e.object) i else None)
 
-  pub is-there : true ≡ same domain (codes "automation") → automation_named all e.object ≡ automation_at (map {B = Text × Bool} (λ (a : Automation). (a.name, shown a.name)) all) e
+  pub is-there : true ≡ same domain (codes "automation") → named_among ps e.object ≡ automation_at (shown_of t ps) e
   is-there is = by_domain true is
 
-  pub not-there : false ≡ same domain (codes "automation") → None ≡ automation_at (map {B = Text × Bool} (λ (a : Automation). (a.name, shown a.name)) all) e
+  pub not-there : false ≡ same domain (codes "automation") → None ≡ automation_at (shown_of t ps) e
   not-there is = by_domain false is
+
+-- ---- one place further
+
+named-next : (ns : List ℕ) (us : List Automation) (i : ℕ) (x : Automation) (name : Text) → i < length us → length us ≤ length ns → x ≡ get_or us i x → same x.name name ≡ false
+    → named_among (zip (drop i ns) (drop i us)) name ≡ named_among (zip (drop (suc i) ns) (drop (suc i) us)) name
+named-next ns [] i x name lt len is e = absurd (omega (arith, lt))
+named-next [] (u ∷ us) i x name lt len is e = absurd (omega (arith, len))
+named-next (n ∷ ns) (u ∷ us) zero x name lt len is e =
+    named-first (n, u) (zip ns us) name ∙ (λ i. if ((λ k. same (sym is k).name name) ∙ e) i then Some n else named_among (zip ns us) name)
+named-next (n ∷ ns) (u ∷ us) (suc i) x name lt len is e = named-next ns us i x name (omega (arith, lt)) (omega (arith, len)) is e
+
+-- an automation that is not at this place is behind it
+pub named-on : (ns : List ℕ) (us : List Automation) (i : ℕ) (x : Automation) (name : Text) → i < length us → length us ≤ length ns → x ≡ get_or us i x → same x.name name ≡ false
+    → named_among (zip (drop i ns) (drop i us)) name ≡ named_among (zip (drop (i + 1) ns) (drop (i + 1) us)) name
+named-on ns us i x name lt len is e = named-next ns us i x name lt len is e ∙ (let up : suc i ≡ i + 1 = omega arith in λ k. named_among (zip (drop (up k) ns) (drop (up k) us)) name)
+
+-- behind the last there is none
+pub none-named : (ns : List ℕ) (us : List Automation) (i : ℕ) (name : Text) → length us ≤ i → None ≡ named_among (zip (drop i ns) (drop i us)) name
+none-named ns us i name le = sym ((λ k. named_among (zip (drop i ns) (drop_all i us le k)) name) ∙ none (drop i ns))
+  where
+    none : (ms : List ℕ) → named_among (zip ms []) name ≡ None
+    none [] = refl
+    none (m ∷ ms) = refl
+
+pub none-shown : (t : StateTable) (ns : List ℕ) (us : List Automation) (i a : ℕ) → length us ≤ i → None ≡ switch_at (shown_of t (zip (drop i ns) (drop i us))) a
+none-shown t ns us i a le = sym ((λ k. switch_at (shown_of t (zip (drop i ns) (drop_all i us le k))) a) ∙ none (drop i ns))
+  where
+    none : (ms : List ℕ) → switch_at (shown_of t (zip ms [])) a ≡ None
+    none [] = refl
+    none (m ∷ ms) = refl
+
+switch-next : (t : StateTable) (ns : List ℕ) (us : List Automation) (i d a : ℕ) → i < length us → length us ≤ length ns → nat_eq (slice_index_or ns i d) a ≡ false
+    → switch_at (shown_of t (zip (drop i ns) (drop i us))) a ≡ switch_at (shown_of t (zip (drop (suc i) ns) (drop (suc i) us))) a
+switch-next t ns [] i d a lt len e = absurd (omega (arith, lt))
+switch-next t [] (u ∷ us) i d a lt len e = absurd (omega (arith, len))
+switch-next t (m ∷ ns) (u ∷ us) zero d a lt len e =
+    (λ i. option_map {T = ℕ × Text × Bool} (λ p. p.2) (if e i then Some (m, u.name, is_shown_on t u.name) else find (λ p. nat_eq p.0 a) (shown_of t (zip ns us))))
+switch-next t (m ∷ ns) (u ∷ us) (suc i) d a lt len e = switch-next t ns us i d a (omega (arith, lt)) (omega (arith, len)) e
+
+pub switch-on : (t : StateTable) (ns : List ℕ) (us : List Automation) (i d a : ℕ) → i < length us → length us ≤ length ns → nat_eq (slice_index_or ns i d) a ≡ false
+    → switch_at (shown_of t (zip (drop i ns) (drop i us))) a ≡ switch_at (shown_of t (zip (drop (i + 1) ns) (drop (i + 1) us))) a
+switch-on t ns us i d a lt len e =
+    switch-next t ns us i d a lt len e ∙ (let up : suc i ≡ i + 1 = omega arith in λ k. switch_at (shown_of t (zip (drop (up k) ns) (drop (up k) us))) a)

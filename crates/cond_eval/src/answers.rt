@@ -1,9 +1,10 @@
 //! What one place of the journal sees, and what it answers.
-ghost use Rattle.std.specs.Prelude.{◌≡◌, ◌≤◌, ◌^◌, length};
+ghost use Rattle.std.specs.Prelude.{◌≡◌, ◌≤◌, length, nat_eq, zip};
 ghost use Rattle.ha_clock.specs.Local.{last_moment};
-ghost use Rattle.ha_config.specs.Names.{automation_named};
+ghost use Rattle.ha_config.specs.Names.{named_among};
 ghost use Rattle.ha_config.specs.Words.{same};
-ghost use Rattle.cond_eval.specs.Seen.{is_shown_on, seen, sight_of};
+ghost use Rattle.ha_sight.specs.Sight.{switch_at};
+ghost use Rattle.cond_eval.specs.Seen.{is_shown_on, seen, shown_of, sight_of};
 
 use crate::conditions::test;
 use crate::view::View;
@@ -17,16 +18,24 @@ use tpl_eval::render;
 
 impl<'a> View<'a> {
     /// The view of these parts.
-    pub fn make(states: &'a StateTable, config: &'a Config, zone: &'a Zone, at: Moment) -> View<'a>
+    pub fn make(
+        states: &'a StateTable,
+        config: &'a Config,
+        numbers: &'a Many<u32>,
+        zone: &'a Zone,
+        at: Moment,
+    ) -> View<'a>
         requires timely { at ≤ last_moment }
-        requires few { length config.now.automations ≤ 2 ^ 32 }
-        ensures seen { seen result ≡ sight_of states.entry.now config.entry.now zone.entry.now at }
+        requires numbered { length config.now.automations ≤ length numbers.now }
+        ensures seen { seen result ≡ sight_of states.entry.now numbers.entry.now config.entry.now zone.entry.now at }
         ensures config { result.config.now ≡ config.entry.now }
         ensures at { result.at ≡ at }
+        ensures numbers { result.numbers.now ≡ numbers.entry.now }
     {
         View {
             states,
             config,
+            numbers,
             zone,
             at,
         }
@@ -49,14 +58,40 @@ fn is_named(automation: &Automation, name: &str) -> bool
     automation.name.bytes() == name.as_bytes()
 }
 
-/// The place of the automation of this name.
-fn place_of(automations: &[Automation], name: &str) -> Option<u32>
-    requires { length automations.now ≤ 2 ^ 32 }
-    ensures { result ≡ automation_named automations.now name.now }
+/// The number of the automation of this name.
+fn number_named(automations: &[Automation], numbers: &[u32], name: &str) -> Option<u32>
+    requires { length automations.now ≤ length numbers.now }
+    ensures { result ≡ named_among (zip numbers.now automations.now) name.now }
 {
     for i in 0..automations.len() {
-        if is_named(&automations[i], name) {
-            return Some(i as u32);
+        let one = &automations[i];
+        if is_named(one, name) {
+            return Some(numbers[i]);
+        }
+    }
+    None
+}
+
+fn is_number(one: u32, number: u32) -> bool
+    ensures { result ≡ nat_eq one number }
+{
+    one == number
+}
+
+/// Whether the automation of this number is on, where there is one.
+fn shown_at(
+    states: &StateTable,
+    automations: &[Automation],
+    numbers: &[u32],
+    number: u32,
+) -> Option<bool>
+    requires { length automations.now ≤ length numbers.now }
+    ensures { result ≡ switch_at (shown_of states.now (zip numbers.now automations.now)) number }
+{
+    for i in 0..automations.len() {
+        let one = &automations[i];
+        if is_number(numbers[i], number) {
+            return Some(is_shown_on(states, &one.name));
         }
     }
     None
@@ -79,7 +114,9 @@ impl<'a> Answers for View<'a> {
 
     fn automation(&self, id: &EntityId) -> Option<u32> {
         if id.has_domain("automation") {
-            place_of(self.config.automations.as_slice(), id.object())
+            let automations = self.config.automations.as_slice();
+            let numbers = self.numbers.as_slice();
+            number_named(automations, numbers, id.object())
         } else {
             None
         }
@@ -87,7 +124,11 @@ impl<'a> Answers for View<'a> {
 
     fn is_on(&self, automation: u32) -> bool {
         let automations = self.config.automations.as_slice();
-        is_shown_on(self.states, &automations[automation as usize].name)
+        let numbers = self.numbers.as_slice();
+        match shown_at(self.states, automations, numbers, automation) {
+            Some(on) => on,
+            None => false,
+        }
     }
 
     fn inner(

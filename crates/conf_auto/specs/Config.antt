@@ -1,5 +1,5 @@
 -- The configuration of a text.
-use Rattle.std.specs.Prelude.{ℕ, ◌&&◌, nat_lt, if◌then◌else◌, List, [], ◌∷◌, Option, Ok, Err, length, option_map}
+use Rattle.std.specs.Prelude.{ℕ, ◌&&◌, nat_lt, if◌then◌else◌, List, [], ◌∷◌, Option, Some, None, Ok, Err, length, option_map}
 use Rattle.std.specs.List.{slice_get}
 use Rattle.ha_config.specs.declared.config.Automation.{Automation}
 use Rattle.ha_config.specs.declared.config.Config.{Config}
@@ -81,3 +81,12 @@ of_root (Err f) = Err f
 -- The length comes before every other fault, and a fault of the text's structure before those of its keys.
 abbrev pub config_of : List ℕ → Read Config
 config_of text = if nat_lt 1_048_576 (length text) then bad 1 code.Limit else of_root (tree text)
+
+-- the configuration that is read, if one is
+abbrev pub if_read : Read Config → Option Config
+if_read (Ok config) = Some config
+if_read (Err fault) = None
+
+-- the configuration that a text is read as, if it is one
+abbrev pub config_in : List ℕ → Option Config
+config_in text = if_read (config_of text)

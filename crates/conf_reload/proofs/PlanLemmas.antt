@@ -7,8 +7,9 @@ use Rattle.std.proofs.lemmas.List.Folds.{list_all-append}
 use Rattle.ha_config.specs.Equal.{same_flag}
 use Rattle.ha_config.proofs.EqualLemmas.{and_left, and_right}
 use Rattle.ha_config.proofs.ListLemmas.{append-nil}
+use Rattle.ha_config.proofs.NumberedLemmas.{kept-numbers}
 use Rattle.conf_reload.specs.declared.outcome.Plan.{Plan}
-use Rattle.conf_reload.specs.Force.{kept_number, numbered, fresh, has_number, keeps_number}
+use Rattle.ha_config.specs.Numbered.{kept_number, numbered, fresh, has_number, keeps_number}
 use Rattle.conf_reload.specs.Plan.{IsPlanOf, numbers_of}
 
 -- ---- the number that is kept
@@ -88,9 +89,6 @@ put-one test part part' n ns b is put = (λ i. put i ++ filter test ns) ∙ by b
 
 -- ---- the numbers that are kept
 
-differs : (m n : ℕ) → n < m → nat_eq m n ≡ false
-differs m n lt = search (rules, lt)
-
 less : (a b : ℕ) → nat_lt a b ≡ true → a < b
 less a b h = search (rules, h)
 
@@ -105,22 +103,6 @@ filter-alike f g free (n ∷ ns) h all =
     λ i. if e i then n ∷ rest i else rest i
 
 module _ {A : Type 0} (equal : A → A → Bool) (old : List (ℕ × A)) where
-  -- LAW: of the numbers that were there those are in force afterwards that one which comes into force keeps
-  pub kept-numbers : (free : ℕ) (ys : List A) (n : ℕ) → n < free → has_number (numbered equal old free ys) n ≡ keeps_number equal old ys n
-  kept-numbers free [] n lt = refl
-  kept-numbers free (y ∷ ys) n lt = by (kept_number equal old y) refl (kept-numbers free ys n lt) (kept-numbers (suc free) ys n (omega (arith, lt)))
-    where
-      by : (o : Option ℕ) → kept_number equal old y ≡ o → has_number (numbered equal old free ys) n ≡ keeps_number equal old ys n → has_number (numbered equal old (suc free) ys) n ≡ keeps_number equal old ys n
-          → has_number (numbered equal old free (y ∷ ys)) n ≡ keeps_number equal old (y ∷ ys) n
-      by (Some m) e rest later =
-          (λ i. has_number (option_map_or (λ m. (m, y) ∷ numbered equal old free ys) (e i) ((free, y) ∷ numbered equal old (suc free) ys)) n)
-          ∙ (λ i. nat_eq m n || rest i)
-          ∙ (λ i. option_map_or (λ k. nat_eq k n) (sym e i) false || keeps_number equal old ys n)
-      by None e rest later =
-          (λ i. has_number (option_map_or (λ m. (m, y) ∷ numbered equal old free ys) (e i) ((free, y) ∷ numbered equal old (suc free) ys)) n)
-          ∙ (λ i. differs free n lt i || later i)
-          ∙ (λ i. option_map_or (λ k. nat_eq k n) (sym e i) false || keeps_number equal old ys n)
-
   among-numbers : (ps : List (ℕ × A)) (n : ℕ) → list_any (λ m. nat_eq m n) (numbers_of ps) ≡ has_number ps n
   among-numbers [] n = refl
   among-numbers (p ∷ ps) n = ap (λ b. nat_eq p.0 n || b) (among-numbers ps n)
@@ -128,7 +110,7 @@ module _ {A : Type 0} (equal : A → A → Bool) (old : List (ℕ × A)) where
   pub among-given : (free : ℕ) (ys : List A) (given : List ℕ) (n : ℕ) → given ≡ numbers_of (numbered equal old free ys) → n < free
       → list_any (λ m. nat_eq m n) given ≡ keeps_number equal old ys n
   among-given free ys given n is lt =
-      (λ i. list_any (λ m. nat_eq m n) (is i)) ∙ among-numbers (numbered equal old free ys) n ∙ kept-numbers free ys n lt
+      (λ i. list_any (λ m. nat_eq m n) (is i)) ∙ among-numbers (numbered equal old free ys) n ∙ kept-numbers equal old free ys n lt
 
   -- LAW: the old numbers that are given again are those that are kept, and the others are not
   pub kept-part : (free : ℕ) (ys : List A) (given ns : List ℕ) → given ≡ numbers_of (numbered equal old free ys) → list_all (λ n. nat_lt n free) ns ≡ true

@@ -3,9 +3,9 @@ use Rattle.std.specs.Prelude.{◌≡◌, ℕ, Bool, ◌+◌, ◌++◌, not, List
 use Rattle.ha_config.specs.declared.config.Automation.{Automation}
 use Rattle.ha_config.specs.declared.config.Config.{Config}
 use Rattle.ha_config.specs.declared.config.Script.{Script}
+use Rattle.ha_config.specs.Equality.{same_automation, same_script}
+use Rattle.ha_config.specs.Numbered.{numbered, fresh, keeps_number}
 use Rattle.conf_reload.specs.declared.outcome.Plan.{Plan}
-use Rattle.conf_reload.specs.Equality.{same_automation, same_script}
-use Rattle.conf_reload.specs.Force.{numbered, fresh, keeps_number}
 
 abbrev pub numbers_of : {A : Type 0} → List (ℕ × A) → List ℕ
 numbers_of ps = map (λ p. p.0) ps

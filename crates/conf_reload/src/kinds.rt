@@ -1,6 +1,6 @@
 //! The kinds of units.
 ghost use Rattle.std.specs.Prelude.{◌≡◌, Bool};
-ghost use Rattle.conf_reload.specs.Equality.{same_automation, same_script};
+ghost use Rattle.ha_config.specs.Equality.{same_automation, same_script};
 
 use ha_config::{Automation, Script};
 use ha_value::Plain;

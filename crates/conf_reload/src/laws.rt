@@ -2,7 +2,7 @@
 ghost use Rattle.std.specs.Prelude.{◌≡◌, ◌↔◌, true};
 ghost use Rattle.ha_config.specs.declared.config.Automation.{Automation};
 ghost use Rattle.ha_config.specs.declared.config.Script.{Script};
-ghost use Rattle.conf_reload.specs.Equality.{same_automation, same_script};
+ghost use Rattle.ha_config.specs.Equality.{same_automation, same_script};
 
 /// Two automations, and two scripts, are the same exactly where they are equal in every field.
 pub fn the_same_is_equal()

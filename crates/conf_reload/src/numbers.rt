@@ -4,8 +4,8 @@ ghost use Rattle.std.specs.Prelude.{◌≡◌, ◌<◌, ◌≤◌, ◌+◌, ◌^
 ghost use Rattle.std.specs.List.{list_any, list_all};
 ghost use Rattle.std.specs.Option.{option_map_or};
 ghost use Rattle.ha_config.specs.Equal.{same_flag};
-ghost use Rattle.conf_reload.specs.Equality.{same_automation, same_script};
-ghost use Rattle.conf_reload.specs.Force.{kept_number, numbered, fresh};
+ghost use Rattle.ha_config.specs.Equality.{same_automation, same_script};
+ghost use Rattle.ha_config.specs.Numbered.{kept_number, numbered, fresh};
 ghost use Rattle.conf_reload.specs.Plan.{IsPlan, IsPlanOf, numbers_of, rule_numbers, rules_in, script_numbers, scripts_in};
 
 use crate::kinds::Kind;

@@ -2,6 +2,7 @@
 ghost use Rattle.std.specs.List.{list_all};
 ghost use Rattle.std.specs.Prelude.{◌≡◌, ◌+◌, length, nat_lt, true};
 
+use conf_auto::read_config;
 use conf_reload::plan;
 use ha_config::{Automation, Config, Mode, Script};
 use ha_value::{Many, Word};
@@ -88,24 +89,34 @@ fn are_whole(old: &Config, numbers: &Many<u32>) -> bool
     numbers.len() - count == old.scripts.len()
 }
 
-fn planned(alloc: Global, row: &Row<'_>) -> Result<bool, AllocError> {
-    let old = config(alloc, row.old, row.old_scripts)?;
-    let new = config(alloc, row.new, row.new_scripts)?;
+/// Whether the plan of these two is that of the row.
+fn is_planned(
+    alloc: Global,
+    old: &Config,
+    new: &Config,
+    row: &Row<'_>,
+) -> Result<bool, AllocError> {
     let numbers = listed(alloc, row.numbers)?;
     let free = row.free;
-    if !are_whole(&old, &numbers) || !are_below(numbers.as_slice(), free) {
+    if !are_whole(old, &numbers) || !are_below(numbers.as_slice(), free) {
         return Ok(false);
     }
     if free > 1_000 || new.automations.len() > 1_000 || new.scripts.len() > 1_000 {
         return Ok(false);
     }
-    let made = plan(alloc, &old, &new, &numbers, free)?;
+    let made = plan(alloc, old, new, &numbers, free)?;
     Ok(
         made.numbers.as_slice() == row.given
             && made.kept.as_slice() == row.kept
             && made.gone.as_slice() == row.gone
             && made.free == row.next,
     )
+}
+
+fn planned(alloc: Global, row: &Row<'_>) -> Result<bool, AllocError> {
+    let old = config(alloc, row.old, row.old_scripts)?;
+    let new = config(alloc, row.new, row.new_scripts)?;
+    is_planned(alloc, &old, &new, row)
 }
 
 fn are_planned(alloc: Global, rows: &[Row<'_>]) -> bool {
@@ -215,4 +226,42 @@ fn a_script_is_equal_to_a_script_alone(rt: HostRuntime) {
         },
     ];
     assert!(rt; are_planned(rt.alloc(), &rows));
+}
+
+const HELPED: &str =
+    "counter: {c: {}}\nautomation: [{alias: a, triggers: [], actions: []}]\nscript: {s: {sequence: []}}\n";
+
+const HELPED_OTHERWISE: &str =
+    "timer: {t: {duration: 5}}\ncounter: {c: {initial: 7}}\nautomation: [{alias: a, triggers: [], actions: []}]\nscript: {s: {sequence: []}}\n";
+
+/// Whether the units of these texts are the same.
+fn are_kept(alloc: Global, old: &str, new: &str) -> bool {
+    let Ok(old) = read_config(alloc, old.as_bytes()) else {
+        return false;
+    };
+    let Ok(new) = read_config(alloc, new.as_bytes()) else {
+        return false;
+    };
+    let row = Row {
+        old: &[],
+        old_scripts: &[],
+        numbers: &[3, 1],
+        free: 4,
+        new: &[],
+        new_scripts: &[],
+        given: &[3, 1],
+        kept: &[3, 1],
+        gone: &[],
+        next: 4,
+    };
+    is_planned(alloc, &old, &new, &row).unwrap_or(false)
+}
+
+/// Other helpers change no number.
+#[test]
+fn helpers_are_no_units(rt: HostRuntime) {
+    assert!(rt;
+        are_kept(rt.alloc(), HELPED, HELPED_OTHERWISE)
+            && are_kept(rt.alloc(), HELPED_OTHERWISE, HELPED)
+    );
 }

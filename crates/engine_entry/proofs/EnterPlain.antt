@@ -10,16 +10,16 @@ use Rattle.ha_journal.specs.declared.entry.Entry.{Entry}
 use Rattle.ha_journal.specs.declared.entry.Entry.TheVariants.{Line}
 use Rattle.ha_journal.specs.Entries.{report_in, gone_in, is_moment, moment_in, is_restart}
 use Rattle.ha_config.specs.Fair.{IsPlain}
-use Rattle.ha_config.specs.Equal.{same_flag}
 use Rattle.ha_config.specs.Words.{same_entity, last_of}
 use Rattle.ha_journal.specs.Commands.{IsFair}
-use Rattle.ha_journal.specs.Journal.{Journal, HasEntry, IsJournal, automations, configured, helpers, zone_of, now, brings, more}
-use Rattle.ha_journal.specs.Switches.{is_on}
+use Rattle.ha_journal.specs.Journal.{Journal, HasEntry, IsJournal, units, configured, helpers, zone_of, now, brings, more}
+use Rattle.ha_journal.specs.Switches.{same_switch, switch_named}
 use Rattle.ha_sight.specs.declared.state.StateObject.{StateObject}
 use Rattle.ha_config.specs.Helpers.{is_helper}
 use Rattle.ha_journal.specs.declared.event.BusEvent.{BusEvent}
 use Rattle.ha_journal.specs.Helpers.{helper_events, last_events}
 use Rattle.ha_journal.proofs.EventLaws.{helps-none, last-events}
+use Rattle.ha_journal.proofs.ForceLaws.{helpers-are}
 use Rattle.helper_set.specs.declared.set.Helpers.{Helpers}
 use Rattle.helper_set.specs.Kept as helped
 use Rattle.helper_set.specs.Kept.{AreOutside}
@@ -27,15 +27,14 @@ use Rattle.helper_set.proofs.SightLemmas.{left-stands}
 use Rattle.engine_parts.proofs.TextLemmas.{texts-left}
 use Rattle.engine_parts.proofs.ViewLemmas.{sound-outside}
 use Rattle.ha_journal.specs.States.{states}
-use Rattle.ha_config.specs.Names.{automation_named}
 use Rattle.ha_model.specs.Records.{Records}
 use Rattle.ha_journal.proofs.MoreLemmas.{has-entry, helpers-more, length-more}
 use Rattle.ha_model.proofs.LawfulLaws.{right-more}
 use Rattle.ha_config.proofs.EqualLemmas.{same-sound}
-use Rattle.ha_journal.proofs.SinceLaws.{on-left}
+use Rattle.ha_journal.proofs.SinceLaws.{named-left}
 use Rattle.ha_journal.proofs.StateLemmas.{last_of-snoc, now-snoc}
 use Rattle.state_table.specs.Anew.{is_automation}
-use Rattle.state_laws.specs.Stands.{sets_anew, turns}
+use Rattle.state_laws.specs.Stands.{is_named, sets_anew, turns}
 use Rattle.state_table.specs.Table.{at}
 use Rattle.state_laws.specs.Stands.{StandsFor}
 use Rattle.state_table.specs.declared.table.StateTable.{StateTable}
@@ -45,8 +44,10 @@ use Rattle.trig_set.specs.Next.{AreListed, Listed, names_helper, spares_helpers}
 use Rattle.engine_parts.specs.declared.parts.Parts.{Parts}
 use Rattle.ha_journal.specs.Sights.{changes_switch}
 use Rattle.engine_parts.specs.Kept.{AreSound, Owned}
+use Rattle.engine_parts.specs.Numbers.{AreFew, is_ascending, numbers_in, rule_numbers}
 use Rattle.engine_parts.specs.Stages.{Pushed, Entered, IsOther}
-use Rattle.engine_entry.proofs.EnterLemmas.{plain-leaves, plain-goes-on, zone-more, sound-more, switches-left, changed-left, owned-left}
+use Rattle.engine_entry.proofs.ForceMore.{ascending-more, few-more, free-more, numbers-more}
+use Rattle.engine_entry.proofs.EnterLemmas.{plain-leaves, plain-goes-on, plain-reloads, zone-more, sound-more, switches-left, changed-left, owned-left}
 use Rattle.engine_parts.proofs.KeyLemmas.{keys_more}
 
 -- LAW: an entity that a fair line reports is no automation
@@ -76,6 +77,7 @@ module _ (k : Journal) (rs : Records) (p : Parts) (h : Pushed k rs p) (plain : I
       let longer : more h.j y ≡ k = sym h.journal_is in
       let leaves = plain-leaves h.source h.number h.cmd plain in
       let goes_on = plain-goes-on h.source h.number h.cmd plain in
+      let still = plain-reloads h.source h.number h.cmd plain in
       let old = h.kept.going in
       record {
         sees = record {
@@ -85,11 +87,15 @@ module _ (k : Journal) (rs : Records) (p : Parts) (h : Pushed k rs p) (plain : I
             zone_is = old.sees.looks.zone_is ∙ sym (zone-more h.j y some) ∙ ap zone_of longer;
             zone_read = subst (λ t. IsSome (clock.zone_of t)) (sym (zone-more h.j y some) ∙ ap zone_of longer) old.sees.looks.zone_read;
             states_stand = subst (StandsFor table) longer stands;
+            numbers_are = old.sees.looks.numbers_are ∙ numbers-more h.j y some still ∙ ap (λ (i : Journal). numbers_in i) longer;
           };
           helpers_stand = subst (helped.StandsFor hs) longer kept_stand;
           switches_stand = subst (switches.StandsFor p.switches) longer (switches-left h.j y some leaves goes_on p.switches old.sees.switches_stand);
-          changed_is = sym (changed-left h.j y some leaves goes_on) ∙ ap (λ (i : Journal). changes_switch i) longer;
-          sound = subst AreSound longer (sound-more h.j y some old.sees.sound);
+          changed_is = λ plain. sym (changed-left h.j y some leaves goes_on) ∙ ap (λ (i : Journal). changes_switch i) longer;
+          sound = subst AreSound longer (sound-more h.j y some still old.sees.sound);
+          few = subst AreFew longer (few-more h.j y some still old.sees.few);
+          free_is = free-more h.j y some still p.free old.sees.free_is ∙ ap (λ (i : Journal). length (units i)) longer;
+          ascending_is = old.sees.ascending_is ∙ ascending-more h.j y some still ∙ ap (λ (i : Journal). is_ascending (rule_numbers i)) longer;
         };
         untold = record {
           j = h.j;
@@ -110,21 +116,21 @@ module _ (k : Journal) (rs : Records) (p : Parts) (h : Pushed k rs p) (plain : I
 
   -- an automation's switch is not set anew
   pub not-anew : (e : EntityId) → sets_anew h.j (Line h.source h.number h.cmd) e ≡ false
-  not-anew e = by (is_automation e) (automation_named (automations (more h.j (Line h.source h.number h.cmd))) e.object)
+  not-anew e =
+      (let y : Entry = Line h.source h.number h.cmd in
+      let still : turns h.j y e.object ≡ false
+      = (λ i. plain-goes-on h.source h.number h.cmd plain i || not (same_switch (switch_named h.j e.object) (named-left h.j y e.object some (plain-leaves h.source h.number h.cmd plain) i)))
+      ∙ same-itself (switch_named h.j e.object) in
+      (λ i. (is_automation e && is_named h.j y e.object) && still i) ∙ and-false (is_automation e && is_named h.j y e.object))
     where
-      flag-self : (b : Bool) → not (same_flag b b) ≡ false
-      flag-self true = refl
-      flag-self false = refl
+      same-itself : (o : Option Bool) → not (same_switch o o) ≡ false
+      same-itself None = refl
+      same-itself (Some true) = refl
+      same-itself (Some false) = refl
 
-      one : (a : ℕ) → turns h.j (Line h.source h.number h.cmd) a ≡ false
-      one a =
-          (λ i. plain-goes-on h.source h.number h.cmd plain i || not (same_flag (is_on h.j a) (on-left h.j (Line h.source h.number h.cmd) a some (plain-leaves h.source h.number h.cmd plain) i)))
-          ∙ flag-self (is_on h.j a)
-
-      by : (b : Bool) (o : Option ℕ) → (b && option_map_or (turns h.j (Line h.source h.number h.cmd)) o false) ≡ false
-      by false o = refl
-      by true None = refl
-      by true (Some a) = one a
+      and-false : (b : Bool) → (b && false) ≡ false
+      and-false true = refl
+      and-false false = refl
 
   -- LAW: a line that is no moment leaves the helpers, and gives no event of one
   pub helpers-left : is_moment (Line h.source h.number h.cmd) ≡ false → helped.StandsFor p.helpers (more h.j (Line h.source h.number h.cmd))
@@ -138,7 +144,7 @@ module _ (k : Journal) (rs : Records) (p : Parts) (h : Pushed k rs p) (plain : I
   helper-alike e = (λ i. is_helper (sym (helpers-more h.j (Line h.source h.number h.cmd) some) i) e)
 
   pub line-outside : AreOutside (helpers (more h.j (Line h.source h.number h.cmd)))
-  line-outside = subst AreOutside (helpers-more h.j (Line h.source h.number h.cmd) some) (sound-outside (configured h.j) h.kept.going.sees.sound)
+  line-outside = subst AreOutside (helpers-are h.j ∙ helpers-more h.j (Line h.source h.number h.cmd) some) (sound-outside (configured h.j) h.kept.going.sees.sound)
 
   module _ (none : report_in (Line h.source h.number h.cmd) ≡ None) (kept : gone_in (Line h.source h.number h.cmd) ≡ None) (still : is_moment (Line h.source h.number h.cmd) ≡ false) where
     same-states : (e : EntityId) → states (more h.j (Line h.source h.number h.cmd)) e ≡ states h.j e
@@ -152,6 +158,7 @@ module _ (k : Journal) (rs : Records) (p : Parts) (h : Pushed k rs p) (plain : I
         no-restart (Cmd.Switch name on stop) g = absurd g
         no-restart (Cmd.Trigger name skip) g = refl
         no-restart Cmd.Restart g = absurd g
+        no-restart (Cmd.Reload text config) g = absurd g
         no-restart (Cmd.Refused code) g = refl
         no-restart Cmd.Lost g = refl
         no-restart Cmd.TooLong g = refl
@@ -205,6 +212,7 @@ other-plain (Cmd.Moment at) h = absurd h
 other-plain (Cmd.Switch name on stop) h = absurd h
 other-plain (Cmd.Trigger name skip) h = tt
 other-plain Cmd.Restart h = absurd h
+other-plain (Cmd.Reload text config) h = absurd h
 other-plain (Cmd.Refused code) h = tt
 other-plain Cmd.Lost h = tt
 other-plain Cmd.TooLong h = tt
@@ -217,6 +225,7 @@ other-reports source number (Cmd.Moment at) h = absurd h
 other-reports source number (Cmd.Switch name on stop) h = absurd h
 other-reports source number (Cmd.Trigger name skip) h = refl
 other-reports source number Cmd.Restart h = absurd h
+other-reports source number (Cmd.Reload text config) h = absurd h
 other-reports source number (Cmd.Refused code) h = refl
 other-reports source number Cmd.Lost h = refl
 other-reports source number Cmd.TooLong h = refl
@@ -229,6 +238,7 @@ other-keeps source number (Cmd.Moment at) h = absurd h
 other-keeps source number (Cmd.Switch name on stop) h = absurd h
 other-keeps source number (Cmd.Trigger name skip) h = refl
 other-keeps source number Cmd.Restart h = absurd h
+other-keeps source number (Cmd.Reload text config) h = absurd h
 other-keeps source number (Cmd.Refused code) h = refl
 other-keeps source number Cmd.Lost h = refl
 other-keeps source number Cmd.TooLong h = refl
@@ -241,6 +251,7 @@ other-waits source number (Cmd.Moment at) h = absurd h
 other-waits source number (Cmd.Switch name on stop) h = absurd h
 other-waits source number (Cmd.Trigger name skip) h = refl
 other-waits source number Cmd.Restart h = absurd h
+other-waits source number (Cmd.Reload text config) h = absurd h
 other-waits source number (Cmd.Refused code) h = refl
 other-waits source number Cmd.Lost h = refl
 other-waits source number Cmd.TooLong h = refl

@@ -1,13 +1,18 @@
 -- The last target of each automation that a step switches.
-use Rattle.std.proofs.Common.{◌≡◌, ℕ, ◌<◌, List, [], ◌∷◌, ◌++◌, length, Bool, true, false, refl, sym, ap, subst, ◌∙◌, rules, arith}
-use Rattle.std.specs.Prelude.{Option, Some, None, not, nat_eq, nat_lt, unwrap_or, ◌&&◌, ◌||◌, if◌then◌else◌}
+use Rattle.std.proofs.Common.{◌≡◌, ℕ, List, [], ◌∷◌, ◌++◌, Bool, true, false, refl, sym, ap, subst, ◌∙◌, rules}
+use Rattle.std.specs.Prelude.{Option, Some, None, is_some, not, nat_eq, unwrap_or, ◌&&◌, ◌||◌, if◌then◌else◌}
 use Rattle.ha_journal.specs.declared.entry.Entry.TheVariants.{Step}
 use Rattle.ha_sight.specs.declared.item.Item.{Item}
-use Rattle.ha_journal.specs.Journal.{Journal, HasEntry, automations, more}
+use Rattle.ha_config.specs.Numbered.{has_number}
+use Rattle.ha_journal.specs.Journal.{Journal, HasEntry, in_force, more}
 use Rattle.ha_sight.specs.Scripts.{Branch}
 use Rattle.ha_journal.specs.Switches.{is_on, switched}
 use Rattle.ha_journal.proofs.SwitchLemmas.{on-more}
-use Rattle.engine_entry.specs.Lasts.{AreLasts, EachLast, is_new, kept_with}
+use Rattle.std.proofs.Math.Path.{fun_ext}
+use Rattle.ha_sight.specs.Sight.{Automations}
+use Rattle.switch_book.specs.Book.{StandsFor}
+use Rattle.switch_book.proofs.SwitchLaws.{switch-of-journal}
+use Rattle.engine_entry.specs.Lasts.{AreLasts, EachLast, is_new, kept_with, knows}
 use Rattle.engine_entry.specs.Turned.{AreOnce, AreSet, IsTurn, Target, is_target}
 
 eq-of : (a b : ℕ) → nat_eq a b ≡ true → a ≡ b
@@ -15,12 +20,6 @@ eq-of a b e = search (rules, e)
 
 eq-self : (a : ℕ) → nat_eq a a ≡ true
 eq-self a = search rules
-
-less-of : (a b : ℕ) → a < b → nat_lt a b ≡ true
-less-of a b e = search (rules, e)
-
-below-of : (a b : ℕ) → nat_lt a b ≡ true → a < b
-below-of a b e = search (rules, e)
 
 both : (a b : Bool) → (a && b) ≡ true → (a ≡ true) × (b ≡ true)
 both true b h = (refl, h)
@@ -52,11 +51,11 @@ switched-some a t ts b h = by (switched a ts) h refl
 switched-none : (a : ℕ) (t : Target) (ts : List Target) → switched a ts ≡ None → switched a (t ∷ ts) ≡ (if nat_eq t.0 a then Some t.1 else None)
 switched-none a t ts h = rw h refl
 
-each-later : (n : ℕ) (t : Target) (ts kept : List Target) → EachLast n ts kept → EachLast n (t ∷ ts) kept
+each-later : (n : ℕ → Bool) (t : Target) (ts kept : List Target) → EachLast n ts kept → EachLast n (t ∷ ts) kept
 each-later n t ts [] h = tt
 each-later n t ts (u ∷ us) h = (h.0, switched-some u.0 t ts u.1 h.1, each-later n t ts us h.2)
 
-each-snoc : (n : ℕ) (ts kept : List Target) (t : Target) → EachLast n ts kept → t.0 < n → switched t.0 ts ≡ Some t.1 → EachLast n ts (kept ++ (t ∷ []))
+each-snoc : (n : ℕ → Bool) (ts kept : List Target) (t : Target) → EachLast n ts kept → n t.0 ≡ true → switched t.0 ts ≡ Some t.1 → EachLast n ts (kept ++ (t ∷ []))
 each-snoc n ts [] t h lt e = (lt, e, tt)
 each-snoc n ts (u ∷ us) t h lt e = (h.0, h.1, each-snoc n ts us t h.2 lt e)
 
@@ -83,13 +82,13 @@ once-snoc (u ∷ us) t h off = (
 )
 
 -- LAW: with one target more in front
-pub lasts-next : (n : ℕ) (t : Target) (ts kept kept' : List Target) → kept' ≡ kept_with n kept t → AreLasts n ts kept → AreLasts n (t ∷ ts) kept'
+pub lasts-next : (n : ℕ → Bool) (t : Target) (ts kept kept' : List Target) → kept' ≡ kept_with n kept t → AreLasts n ts kept → AreLasts n (t ∷ ts) kept'
 lasts-next n t ts kept kept' is h = subst (AreLasts n (t ∷ ts)) (sym is) (by (is_new n kept t) refl)
   where
     by : (b : Bool) → is_new n kept t ≡ b → AreLasts n (t ∷ ts) (if b then kept ++ (t ∷ []) else kept)
     by true e =
-        (let parts = both (nat_lt t.0 n) (not (is_target kept t.0)) e in
-        let lt : t.0 < n = below-of t.0 n parts.0 in
+        (let parts = both (n t.0) (not (is_target kept t.0)) e in
+        let lt : n t.0 ≡ true = parts.0 in
         let off : is_target kept t.0 ≡ false = not-true (is_target kept t.0) parts.1 in
         record {
           once = once-snoc kept t h.once off;
@@ -104,28 +103,36 @@ lasts-next n t ts kept kept' is h = subst (AreLasts n (t ∷ ts)) (sym is) (by (
       all = λ a low none. switched-none a t ts (h.all a low none) ∙ one a low none (nat_eq t.0 a) refl;
     }
       where
-        one : (a : ℕ) → a < n → is_target kept a ≡ false → (c : Bool) → nat_eq t.0 a ≡ c → (if c then Some t.1 else None) ≡ None
+        one : (a : ℕ) → n a ≡ true → is_target kept a ≡ false → (c : Bool) → nat_eq t.0 a ≡ c → (if c then Some t.1 else None) ≡ None
         one a low none true at =
             (let here : t.0 ≡ a = eq-of t.0 a at in
-            let new : is_new n kept t ≡ true = (λ i. less-of t.0 n (omega (arith, here, low)) i && not ((ap (is_target kept) here ∙ none) i)) in
+            let new : is_new n kept t ≡ true = (λ i. (ap n here ∙ low) i && not ((ap (is_target kept) here ∙ none) i)) in
             absurd (let bad : ◌≡◌ {A = Bool} true false = sym new ∙ e in cc))
         one a low none false at = refl
 
-pub lasts-none : (n : ℕ) → AreLasts n [] []
+pub lasts-none : (n : ℕ → Bool) → AreLasts n [] []
 lasts-none n = record { once = tt; last = tt; all = λ a low none. refl }
 
 -- LAW: the last targets are what the step turns
-pub switched-turn : (j : Journal) (worker serial : ℕ) (branch : Branch) (targets kept : List Target) → HasEntry j → AreLasts (length (automations j)) targets kept → IsTurn j (Step worker serial branch (Item.Switched targets)) kept
+pub switched-turn : (j : Journal) (worker serial : ℕ) (branch : Branch) (targets kept : List Target) → HasEntry j → AreLasts (has_number (in_force j)) targets kept → IsTurn j (Step worker serial branch (Item.Switched targets)) kept
 switched-turn j worker serial branch targets kept some h = record {
-  only = record { some = some; report = refl; gone = refl; restart = refl; opens = refl; moment = refl; still = refl; changes = refl };
+  only = record { reloads = refl; some = some; report = refl; gone = refl; restart = refl; opens = refl; moment = refl; still = refl; changes = refl };
   once = h.once;
   set = set kept h.last;
   others = λ a low none. on a ∙ (λ i. unwrap_or (h.all a low none i) (is_on j a));
 }
   where
     on : (a : ℕ) → is_on (more j (Step worker serial branch (Item.Switched targets))) a ≡ unwrap_or (switched a targets) (is_on j a)
-    on a = on-more j (Step worker serial branch (Item.Switched targets)) a some
+    on a = on-more j (Step worker serial branch (Item.Switched targets)) a some refl
 
-    set : (ks : List Target) → EachLast (length (automations j)) targets ks → AreSet (is_on (more j (Step worker serial branch (Item.Switched targets)))) (length (automations j)) ks
+    set : (ks : List Target) → EachLast (has_number (in_force j)) targets ks → AreSet (is_on (more j (Step worker serial branch (Item.Switched targets)))) (has_number (in_force j)) ks
     set [] h = tt
     set (u ∷ us) h = (h.0, on u.0 ∙ (λ i. unwrap_or (h.1 i) (is_on j u.0)), set us h.2)
+
+-- LAW: by the switches those are known that are in force
+pub knows-force : (j : Journal) (s : Automations) → StandsFor s j → knows s ≡ has_number (in_force j)
+knows-force j s stands = fun_ext (λ a. ap is_some (switch-of-journal s j stands a) ∙ by (has_number (in_force j) a) (is_on j a))
+  where
+    by : (b on : Bool) → is_some (if b then Some on else None) ≡ b
+    by true on = refl
+    by false on = refl

@@ -17,3 +17,12 @@ pub mod QueuedLemmas
 pub mod EndLemmas
 pub mod OpenLemmas
 pub mod LastLemmas
+pub mod ForceNames
+pub mod ForceMore
+pub mod NameNumbers
+pub mod ReloadNumbers
+pub mod NumberedOwners
+pub mod ReloadSteps
+pub mod ReloadOwners
+pub mod ReloadStates
+pub mod ReloadParts

@@ -49,13 +49,18 @@ sound-few c h = few (length c.automations) (and_left (nat_le (length c.automatio
 pub sound-distinct : (c : Config) → IsSound c → all_distinct (names c.automations) ≡ true
 sound-distinct c h = and_right (nat_le (length c.automations) 1_024) (all_distinct (names c.automations)) (and_left (nat_le (length c.automations) 1_024 && all_distinct (names c.automations)) (list_all is_sound_automation c.automations) (own c h))
 
-all-at : (all : List Automation) (a : ℕ) (x : Automation) → list_all is_sound_automation all ≡ true → slice_get all a ≡ Some x → is_sound_automation x ≡ true
-all-at [] a x h e = absurd (let bad : ◌≡◌ {A = Option Automation} None (Some x) = e in cc)
-all-at (y ∷ ys) zero x h e = (let own : y ≡ x = cc in ap is_sound_automation (sym own) ∙ and_left (is_sound_automation y) (list_all is_sound_automation ys) h)
-all-at (y ∷ ys) (suc a) x h e = all-at ys a x (and_right (is_sound_automation y) (list_all is_sound_automation ys) h) e
+-- LAW: one of those that are sound is
+pub sound-each : (all : List Automation) (a : ℕ) (x : Automation) → list_all is_sound_automation all ≡ true → slice_get all a ≡ Some x → is_sound_automation x ≡ true
+sound-each [] a x h e = absurd (let bad : ◌≡◌ {A = Option Automation} None (Some x) = e in cc)
+sound-each (y ∷ ys) zero x h e = (let own : y ≡ x = cc in ap is_sound_automation (sym own) ∙ and_left (is_sound_automation y) (list_all is_sound_automation ys) h)
+sound-each (y ∷ ys) (suc a) x h e = sound-each ys a x (and_right (is_sound_automation y) (list_all is_sound_automation ys) h) e
+
+-- LAW: each automation is sound
+pub all-sound : (c : Config) → IsSound c → list_all is_sound_automation c.automations ≡ true
+all-sound c h = and_right (nat_le (length c.automations) 1_024 && all_distinct (names c.automations)) (list_all is_sound_automation c.automations) (own c h)
 
 pub sound-at : (c : Config) → IsSound c → (a : ℕ) (x : Automation) → slice_get c.automations a ≡ Some x → is_sound_automation x ≡ true
-sound-at c h a x e = all-at c.automations a x (and_right (nat_le (length c.automations) 1_024 && all_distinct (names c.automations)) (list_all is_sound_automation c.automations) (own c h)) e
+sound-at c h a x e = sound-each c.automations a x (and_right (nat_le (length c.automations) 1_024 && all_distinct (names c.automations)) (list_all is_sound_automation c.automations) (own c h)) e
 
 -- LAW: an automation's triggers are sound, and its name is one
 pub sound-triggers : (x : Automation) → is_sound_automation x ≡ true → are_sound_triggers x.triggers ≡ true

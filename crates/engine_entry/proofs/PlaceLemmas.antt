@@ -5,6 +5,7 @@ use Rattle.std.specs.List.{enumerate_from}
 use Rattle.ha_config.specs.declared.config.Automation.{Automation}
 use Rattle.ha_past.specs.Firings.{Owner, owner_named, placed, without_owner}
 use Rattle.engine_parts.specs.Owners.{AreAscending, AreBelow, is_automation}
+use Rattle.engine_parts.specs.Runs.{first_wait}
 
 less-of : (a b : ℕ) → nat_lt a b ≡ true → a < b
 less-of a b e = search (rules, e)
@@ -63,30 +64,30 @@ below-placed o n (x ∷ xs) lt h = by (nat_lt o.owner x.owner) (below-placed o n
     by true rest = (lt, h)
     by false rest = (h.0, rest)
 
-none-high : (n : ℕ) (os : List Owner) → 1024 ≤ n → AreAscending n os → filter is_automation os ≡ []
+none-high : (n : ℕ) (os : List Owner) → first_wait ≤ n → AreAscending n os → filter is_automation os ≡ []
 none-high n [] le h = refl
-none-high n (x ∷ xs) le h = (λ i. if not-less x.owner 1024 (omega (arith, le, h.0)) i then x ∷ filter is_automation xs else filter is_automation xs) ∙ none-high (suc x.owner) xs (omega (arith, le, h.0)) h.1
+none-high n (x ∷ xs) le h = (λ i. if not-less x.owner first_wait (omega (arith, le, h.0)) i then x ∷ filter is_automation xs else filter is_automation xs) ∙ none-high (suc x.owner) xs (omega (arith, le, h.0)) h.1
 
 -- LAW: an automation more
-pub automations-placed : (o : Owner) (n : ℕ) (os : List Owner) → AreAscending n os → o.owner < 1024 → filter is_automation (placed o os) ≡ placed o (filter is_automation os)
-automations-placed o n [] h low = (λ i. if is-less o.owner 1024 low i then o ∷ [] else [])
+pub automations-placed : (o : Owner) (n : ℕ) (os : List Owner) → AreAscending n os → o.owner < first_wait → filter is_automation (placed o os) ≡ placed o (filter is_automation os)
+automations-placed o n [] h low = (λ i. if is-less o.owner first_wait low i then o ∷ [] else [])
 automations-placed o n (x ∷ xs) h low = by (nat_lt o.owner x.owner) refl (is_automation x) refl (automations-placed o (suc x.owner) xs h.1 low)
   where
     by : (b : Bool) → nat_lt o.owner x.owner ≡ b → (c : Bool) → is_automation x ≡ c → filter is_automation (placed o xs) ≡ placed o (filter is_automation xs)
         → filter is_automation (if b then o ∷ x ∷ xs else x ∷ placed o xs) ≡ placed o (if c then x ∷ filter is_automation xs else filter is_automation xs)
     by true e true f rest =
-        (λ i. if is-less o.owner 1024 low i then o ∷ (if f i then x ∷ filter is_automation xs else filter is_automation xs) else (if is_automation x then x ∷ filter is_automation xs else filter is_automation xs))
+        (λ i. if is-less o.owner first_wait low i then o ∷ (if f i then x ∷ filter is_automation xs else filter is_automation xs) else (if is_automation x then x ∷ filter is_automation xs else filter is_automation xs))
         ∙ sym (λ i. if e i then o ∷ x ∷ filter is_automation xs else x ∷ placed o (filter is_automation xs))
     by true e false f rest =
-        (λ i. if is-less o.owner 1024 low i then o ∷ (if f i then x ∷ filter is_automation xs else filter is_automation xs) else (if is_automation x then x ∷ filter is_automation xs else filter is_automation xs))
+        (λ i. if is-less o.owner first_wait low i then o ∷ (if f i then x ∷ filter is_automation xs else filter is_automation xs) else (if is_automation x then x ∷ filter is_automation xs else filter is_automation xs))
         ∙ (λ i. o ∷ gone i) ∙ sym (λ i. placed o (gone i))
       where
         gone : filter is_automation xs ≡ []
-        gone = none-high (suc x.owner) xs (omega (arith, most-of x.owner 1024 f)) h.1
+        gone = none-high (suc x.owner) xs (omega (arith, most-of x.owner first_wait f)) h.1
     by false e true f rest =
         (λ i. if f i then x ∷ rest i else filter is_automation (placed o xs))
         ∙ sym (λ i. if e i then o ∷ x ∷ filter is_automation xs else x ∷ placed o (filter is_automation xs))
-    by false e false f rest = absurd (omega (arith, most-of o.owner x.owner e, most-of x.owner 1024 f, low))
+    by false e false f rest = absurd (omega (arith, most-of o.owner x.owner e, most-of x.owner first_wait f, low))
 
 -- ---- one less
 
@@ -106,14 +107,14 @@ pub automations-lost : (a : ℕ) (os : List Owner) → filter is_automation (wit
 automations-lost a os = filter-twice is_automation (λ o. not (nat_eq o.owner a)) os
 
 -- LAW: an automation is named among the automations
-pub automation-named : (a : ℕ) (os : List Owner) → a < 1024 → owner_named a os ≡ owner_named a (filter is_automation os)
+pub automation-named : (a : ℕ) (os : List Owner) → a < first_wait → owner_named a os ≡ owner_named a (filter is_automation os)
 automation-named a [] lt = refl
 automation-named a (x ∷ xs) lt = by (nat_eq x.owner a) refl (is_automation x) refl (automation-named a xs lt)
   where
     by : (b : Bool) → nat_eq x.owner a ≡ b → (c : Bool) → is_automation x ≡ c → owner_named a xs ≡ owner_named a (filter is_automation xs)
         → (if b then Some x else owner_named a xs) ≡ owner_named a (if c then x ∷ filter is_automation xs else filter is_automation xs)
     by true e true f rest = sym (λ i. if e i then Some x else owner_named a (filter is_automation xs))
-    by true e false f rest = absurd (omega (arith, eq-of x.owner a e, most-of x.owner 1024 f, lt))
+    by true e false f rest = absurd (omega (arith, eq-of x.owner a e, most-of x.owner first_wait f, lt))
     by false e true f rest = rest ∙ sym (λ i. if e i then Some x else owner_named a (filter is_automation xs))
     by false e false f rest = rest
 

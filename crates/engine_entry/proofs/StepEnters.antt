@@ -2,7 +2,6 @@
 use Rattle.std.proofs.Common.{◌≡◌, ℕ, suc, List, [], length, Bool, true, false, true≢false, refl, sym, ap, subst, ◌∙◌, arith}
 use Rattle.std.specs.Prelude.{Option, Some, None, IsSome, is_some, not, ◌&&◌, ◌||◌}
 use Rattle.std.specs.List.{list_all}
-use Rattle.std.specs.Option.{option_map_or}
 use Rattle.ha_value.specs.declared.value.EntityId.{EntityId}
 use Rattle.ha_clock.specs.Zone as clock
 use Rattle.ha_journal.specs.declared.entry.Entry.{Entry}
@@ -16,6 +15,7 @@ use Rattle.ha_journal.specs.declared.event.BusEvent.{BusEvent}
 use Rattle.ha_journal.specs.Entries.{Turning, changes_in, turning}
 use Rattle.ha_journal.specs.Helpers.{helper_events, last_events}
 use Rattle.ha_journal.proofs.EventLaws.{helps-none, last-events}
+use Rattle.ha_journal.proofs.ForceLaws.{helpers-are}
 use Rattle.ha_journal.proofs.HelperLaws.{no-change}
 use Rattle.helper_set.specs.declared.set.Helpers.{Helpers}
 use Rattle.helper_set.specs.Kept as helped
@@ -23,18 +23,16 @@ use Rattle.helper_set.specs.Kept.{AreOutside}
 use Rattle.helper_set.proofs.SightLemmas.{left-stands}
 use Rattle.engine_parts.proofs.TextLemmas.{texts-left}
 use Rattle.engine_parts.proofs.ViewLemmas.{sound-outside}
-use Rattle.ha_config.specs.Equal.{same_flag}
-use Rattle.ha_journal.specs.Journal.{Journal, HasEntry, IsJournal, automations, configured, helpers, now, zone_of, more}
-use Rattle.ha_journal.specs.Switches.{is_on}
+use Rattle.ha_journal.specs.Journal.{Journal, HasEntry, IsJournal, configured, helpers, now, units, zone_of, more}
+use Rattle.ha_journal.specs.Switches.{same_switch, switch_named}
 use Rattle.ha_journal.specs.Sights.{changes_switch}
-use Rattle.ha_config.specs.Names.{automation_named}
 use Rattle.ha_journal.specs.States.{states}
 use Rattle.ha_model.specs.Records.{Records}
 use Rattle.ha_journal.proofs.MoreLemmas.{has-entry, helpers-more, length-more}
 use Rattle.ha_model.proofs.LawfulLaws.{right-more}
-use Rattle.ha_journal.proofs.SinceLaws.{on-left}
+use Rattle.ha_journal.proofs.SinceLaws.{named-left}
 use Rattle.state_table.specs.Anew.{is_automation}
-use Rattle.state_laws.specs.Stands.{sets_anew, turns}
+use Rattle.state_laws.specs.Stands.{is_named, sets_anew, turns}
 use Rattle.state_laws.specs.Stands.{StandsFor}
 use Rattle.state_laws.proofs.StateLaws.{states-other}
 use Rattle.switch_book.specs.Book as switches
@@ -43,7 +41,9 @@ use Rattle.trig_set.specs.Next.{AreListed, Listed, changes_helpers}
 use Rattle.trig_set.specs.Stands.{attached}
 use Rattle.engine_parts.specs.declared.parts.Parts.{Parts}
 use Rattle.engine_parts.specs.Kept.{AreSound, Owned}
+use Rattle.engine_parts.specs.Numbers.{AreFew, is_ascending, numbers_in, rule_numbers}
 use Rattle.engine_parts.specs.Stages.{Entered}
+use Rattle.engine_entry.proofs.ForceMore.{ascending-more, few-more, free-more, numbers-more}
 use Rattle.engine_entry.specs.Stepping.{IsTaken, StepEntered, StepHere, StepPushed}
 use Rattle.engine_entry.proofs.HelpedSteps.{step-helps}
 use Rattle.engine_entry.proofs.EnterLemmas.{zone-more, sound-more, switches-left, changed-left, now-left, owned-left}
@@ -76,19 +76,18 @@ module _ (k : Journal) (p : Parts) (h : StepHere k p) (plain : SwitchesNone h.it
 
   -- an automation's switch is not set anew
   pub not-anew : (e : EntityId) → sets_anew j x e ≡ false
-  not-anew e = by (is_automation e) (automation_named (automations (more j x)) e.object)
+  not-anew e =
+      (let still : turns j x e.object ≡ false = (λ i. not (same_switch (switch_named j e.object) (named-left j x e.object some leaves i))) ∙ same-itself (switch_named j e.object) in
+      (λ i. (is_automation e && is_named j x e.object) && still i) ∙ and-false (is_automation e && is_named j x e.object))
     where
-      flag-self : (b : Bool) → not (same_flag b b) ≡ false
-      flag-self true = refl
-      flag-self false = refl
+      same-itself : (o : Option Bool) → not (same_switch o o) ≡ false
+      same-itself None = refl
+      same-itself (Some true) = refl
+      same-itself (Some false) = refl
 
-      one : (a : ℕ) → turns j x a ≡ false
-      one a = (λ i. not (same_flag (is_on j a) (on-left j x a some leaves i))) ∙ flag-self (is_on j a)
-
-      by : (b : Bool) (o : Option ℕ) → (b && option_map_or (turns j x) o false) ≡ false
-      by false o = refl
-      by true None = refl
-      by true (Some a) = one a
+      and-false : (b : Bool) → (b && false) ≡ false
+      and-false true = refl
+      and-false false = refl
 
   longer : more j x ≡ k
   longer = sym h.journal_is
@@ -107,11 +106,15 @@ module _ (k : Journal) (p : Parts) (h : StepHere k p) (plain : SwitchesNone h.it
         zone_is = h.sees.looks.zone_is ∙ sym (zone-more j x some) ∙ ap zone_of longer;
         zone_read = subst (λ t. IsSome (clock.zone_of t)) (sym (zone-more j x some) ∙ ap zone_of longer) h.sees.looks.zone_read;
         states_stand = subst (StandsFor table) longer stands;
+        numbers_are = h.sees.looks.numbers_are ∙ numbers-more j x some refl ∙ ap (λ (i : Journal). numbers_in i) longer;
       };
       helpers_stand = subst (helped.StandsFor hs) longer kept_stand;
       switches_stand = subst (switches.StandsFor p.switches) longer (switches-left j x some leaves refl p.switches h.sees.switches_stand);
-      changed_is = sym (changed-left j x some leaves refl) ∙ ap (λ (i : Journal). changes_switch i) longer;
-      sound = subst AreSound longer (sound-more j x some h.sees.sound);
+      changed_is = λ plain. sym (changed-left j x some leaves refl) ∙ ap (λ (i : Journal). changes_switch i) longer;
+      sound = subst AreSound longer (sound-more j x some refl h.sees.sound);
+      few = subst AreFew longer (few-more j x some refl h.sees.few);
+      free_is = free-more j x some refl p.free h.sees.free_is ∙ ap (λ (i : Journal). length (units i)) longer;
+      ascending_is = h.sees.ascending_is ∙ ascending-more j x some refl ∙ ap (λ (i : Journal). is_ascending (rule_numbers i)) longer;
     };
     untold = record {
       j = j;
@@ -145,7 +148,7 @@ module _ (k : Journal) (p : Parts) (h : StepHere k p) (plain : SwitchesNone h.it
   }
 
   pub step-outside : AreOutside (helpers (more j x))
-  step-outside = subst AreOutside (helpers-more j x some) (sound-outside (configured j) h.sees.sound)
+  step-outside = subst AreOutside (helpers-are j ∙ helpers-more j x some) (sound-outside (configured j) h.sees.sound)
 
   pub step-now : p.at ≡ now (more j x)
   step-now = h.sees.looks.now_is ∙ sym (now-left j x refl)

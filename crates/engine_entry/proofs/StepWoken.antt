@@ -200,7 +200,16 @@ module _ (rs : Records) (w0 w1 : WaitTable) (delays0 : List Timer) (p : Parts) (
       -- LAW: the parts stand for the journal with the step, but for the records that it changes
       pub step-woken : Going nobody k rs (record p { delays = delays'; triggers = t'; ready = ready'; calls = calls' })
       step-woken = record {
-        sees = record { looks = noted.sees.looks; helpers_stand = noted.sees.helpers_stand; switches_stand = noted.sees.switches_stand; changed_is = noted.sees.changed_is; sound = noted.sees.sound };
+        sees = record {
+          looks = noted.sees.looks;
+          helpers_stand = noted.sees.helpers_stand;
+          switches_stand = noted.sees.switches_stand;
+          changed_is = noted.sees.changed_is;
+          sound = noted.sees.sound;
+          few = noted.sees.few;
+          free_is = noted.sees.free_is;
+          ascending_is = noted.sees.ascending_is;
+        };
         triggers_stand = woken.0 k noted.told.triggers_stand;
         waits_stand = noted.told.waits_stand;
         owned = woken.1 k noted.told.fresh noted.told.others noted.told.owned;

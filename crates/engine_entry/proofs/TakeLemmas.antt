@@ -16,6 +16,7 @@ use Rattle.wait_set.specs.Timers.{AreApart}
 use Rattle.engine_parts.specs.Kept.{AreOwned}
 use Rattle.engine_parts.specs.Owners.{AreAscending, AreBelow, is_automation}
 use Rattle.engine_parts.specs.Stages.{Untold}
+use Rattle.engine_parts.specs.Runs.{first_wait}
 
 -- ---- an owner above all others
 
@@ -63,10 +64,10 @@ module _ (o : Owner) where
   below-last m [] lt h = (lt, tt)
   below-last m (x ∷ os) lt h = (h.0, below-last m os lt h.1)
 
-  high : 1024 ≤ o.owner → nat_lt o.owner 1024 ≡ false
+  high : first_wait ≤ o.owner → nat_lt o.owner first_wait ≡ false
   high le = search (rules, le)
 
-  automations-last : (os : List Owner) → 1024 ≤ o.owner → filter is_automation (os ++ (o ∷ [])) ≡ filter is_automation os
+  automations-last : (os : List Owner) → first_wait ≤ o.owner → filter is_automation (os ++ (o ∷ [])) ≡ filter is_automation os
   automations-last [] le = (λ i. if high le i then o ∷ [] else [])
   automations-last (x ∷ os) le = (λ i. if is_automation x then x ∷ automations-last os le i else automations-last os le i)
 
@@ -89,10 +90,10 @@ or-false : (a b : Bool) → a ≡ false → b ≡ false → (a || b) ≡ false
 or-false a b p q = (λ i. p i || q i)
 
 -- no wait has an owner that is above those of all places
-pub none-early : (n place : ℕ) (owners : List Owner) (asks : List Asked) → n ≤ place → AreOwned n owners asks → list_any (λ a. nat_eq a.owner (1024 + place)) asks ≡ false
+pub none-early : (n place : ℕ) (owners : List Owner) (asks : List Asked) → n ≤ place → AreOwned n owners asks → list_any (λ a. nat_eq a.owner (first_wait + place)) asks ≡ false
 none-early n place owners [] le h = refl
 none-early n place owners (a ∷ asks) le h =
-    or-false (nat_eq a.owner (1024 + place)) (list_any (λ b. nat_eq b.owner (1024 + place)) asks) (apart a.owner (1024 + place) (omega (arith, h.0.owner_is, h.0.early, le))) (none-early n place owners asks le h.1)
+    or-false (nat_eq a.owner (first_wait + place)) (list_any (λ b. nat_eq b.owner (first_wait + place)) asks) (apart a.owner (first_wait + place) (omega (arith, h.0.owner_is, h.0.early, le))) (none-early n place owners asks le h.1)
   where
     apart : (x y : ℕ) → x < y → nat_eq x y ≡ false
     apart x y lt = search (rules, lt)
@@ -139,7 +140,7 @@ module _ (a : Asked) where
       )
 
   -- LAW: all waits are owned
-  pub owned-added : (n : ℕ) (o : Owner) (os : List Owner) (asks : List Asked) → AreBelow o.owner os → a.owner ≡ 1024 + a.place → a.place < n
+  pub owned-added : (n : ℕ) (o : Owner) (os : List Owner) (asks : List Asked) → AreBelow o.owner os → a.owner ≡ first_wait + a.place → a.place < n
       → o ≡ record { owner = a.owner; triggers = a.ask.triggers; since = a.place } → AreOwned n os asks → AreOwned n (os ++ (o ∷ [])) (added a asks)
   owned-added n o os asks below owner early is owned = snoc (filter (λ b. not (is_of a.ask.serial a.ask.branch b)) asks) (left asks owned)
     where
@@ -174,12 +175,12 @@ module _ (a : Asked) where
 
 -- LAW: a wait that began at the last place is taken in before the parts are told of the entry
 pub untold-taken : (k : Journal) (t t' : TrigSet) (w w' : WaitTable) (before : Listed) (h : Untold k t w before) (place : ℕ) (ask : WaitAsk) → length h.j ≡ place
-    → AreBelow (1024 + place) (triggers.attached t) → list_any (λ a. nat_eq a.owner (1024 + place)) w.asks ≡ false
-    → triggers.attached t' ≡ placed (record { owner = 1024 + place; triggers = ask.triggers; since = place }) (triggers.attached t)
-    → w'.asks ≡ added (record { owner = 1024 + place; place = place; ask = ask; end = None }) w.asks → triggers.StandsFor t' h.j → waits.StandsFor w'.asks h.j → Untold k t' w' before
+    → AreBelow (first_wait + place) (triggers.attached t) → list_any (λ a. nat_eq a.owner (first_wait + place)) w.asks ≡ false
+    → triggers.attached t' ≡ placed (record { owner = first_wait + place; triggers = ask.triggers; since = place }) (triggers.attached t)
+    → w'.asks ≡ added (record { owner = first_wait + place; place = place; ask = ask; end = None }) w.asks → triggers.StandsFor t' h.j → waits.StandsFor w'.asks h.j → Untold k t' w' before
 untold-taken k t t' w w' before h place ask at below early attached asks t_stands w_stands =
-    let o : Owner = record { owner = 1024 + place; triggers = ask.triggers; since = place } in
-    let a : Asked = record { owner = 1024 + place; place = place; ask = ask; end = None } in
+    let o : Owner = record { owner = first_wait + place; triggers = ask.triggers; since = place } in
+    let a : Asked = record { owner = first_wait + place; place = place; ask = ask; end = None } in
     let os : List Owner = triggers.attached t in
     let is : triggers.attached t' ≡ os ++ (o ∷ []) = attached ∙ placed-last o os below in
     let size : length k ≡ suc place = ap length h.journal_is ∙ length-more h.j h.x ∙ ap suc at in
@@ -195,7 +196,7 @@ untold-taken k t t' w w' before h place ask at below early attached asks t_stand
       owned = record {
         automations_attached = ap (filter is_automation) is ∙ automations-last o os (omega arith) ∙ h.owned.automations_attached;
         ascend = subst (AreAscending 0) (sym is) (ascend-last o 0 os (omega arith) below h.owned.ascend);
-        early = subst (AreBelow (1024 + length k)) (sym is) (below-last o (1024 + length k) os (omega (arith, size)) h.owned.early);
+        early = subst (AreBelow (first_wait + length k)) (sym is) (below-last o (first_wait + length k) os (omega (arith, size)) h.owned.early);
         waits_owned = subst (λ (l : List Owner). AreOwned (length k) l w'.asks) (sym is)
             (subst (AreOwned (length k) (os ++ (o ∷ []))) (sym asks) (owned-added a (length k) o os w.asks below refl (omega (arith, size)) refl h.owned.waits_owned));
         apart = subst AreApart (sym asks) (apart-added a w.asks early h.owned.apart);

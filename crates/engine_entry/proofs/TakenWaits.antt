@@ -19,7 +19,7 @@ use Rattle.wait_set.specs.declared.asked.Asked as wait
 use Rattle.wait_set.specs.Asked.{WaitTable, is_bare, is_of, wait_of}
 use Rattle.wait_set.proofs.FindLemmas.{wait-added}
 use Rattle.engine_parts.specs.Fronts.{fronts}
-use Rattle.engine_parts.specs.Runs.{AreHeld, IsHeld, IsWait}
+use Rattle.engine_parts.specs.Runs.{AreHeld, IsHeld, IsWait, first_wait}
 use Rattle.engine_entry.specs.Stepping.{asks_with}
 use Rattle.engine_parts.specs.Waiting.{Asked, asked, asked_at, ends, AsksKept}
 use Rattle.engine_parts.proofs.HeldLemmas.{held-other}
@@ -63,7 +63,7 @@ module _ (place s : ℕ) (b : Branch) (wait' : Option WaitAsk) (w w' : WaitTable
       by : (o : Option WaitAsk) → ((ask : WaitAsk) → o ≡ Some ask → (ask.serial ≡ s) × (ask.branch ≡ b)) → wait_of q c (asks_with place o w.asks) ≡ wait_of q c w.asks
       by None whose = refl
       by (Some ask) whose =
-          (let a : wait.Asked = record { owner = 1024 + place; place = place; ask = ask; end = None } in
+          (let a : wait.Asked = record { owner = first_wait + place; place = place; ask = ask; end = None } in
           let own = whose ask refl in
           let none : is_of q c a ≡ false = false-of (is_of q c a) (λ h. (let named = named-by q c a h in apart (sym named.0 ∙ own.0) (sym named.1 ∙ own.1))) in
           wait-added q c a w.asks ∙ (λ i. if none i then Some a else wait_of q c w.asks))
@@ -86,14 +86,14 @@ module _ (place s : ℕ) (b : Branch) (wait' : Option WaitAsk) (w w' : WaitTable
   taken-branches c apart = ap (option_map {T = wait.Asked} {U = Asked} asked) (other-wait s c (λ e f. apart f))
 
   -- LAW: and its own is there
-  pub taken-own : (ask : WaitAsk) → wait' ≡ Some ask → asked_at w' s b ≡ Some (record { owner = 1024 + place; place = place; ask = ask; named = None })
+  pub taken-own : (ask : WaitAsk) → wait' ≡ Some ask → asked_at w' s b ≡ Some (record { owner = first_wait + place; place = place; ask = ask; named = None })
   taken-own ask e =
-      (let a : wait.Asked = record { owner = 1024 + place; place = place; ask = ask; end = None } in
+      (let a : wait.Asked = record { owner = first_wait + place; place = place; ask = ask; end = None } in
       let own = whose ask e in
       let there : is_of s b a ≡ true = names s b a own.0 own.1 in
       ap (λ l. option_map {T = wait.Asked} {U = Asked} asked (wait_of s b l)) (is ∙ ap (λ o. asks_with place o w.asks) e)
       ∙ ap (option_map {T = wait.Asked} {U = Asked} asked) (wait-added s b a w.asks ∙ (λ i. if there i then Some a else wait_of s b w.asks))
-      ∙ (λ i. Some (record { owner = 1024 + place; place = place; ask = ask; named = none-yet (is_bare ask) None refl i })))
+      ∙ (λ i. Some (record { owner = first_wait + place; place = place; ask = ask; named = none-yet (is_bare ask) None refl i })))
     where
       none-yet : (c : Bool) (e : Option WaitEnd) → e ≡ None → (if c then e else None) ≡ None
       none-yet true e is = is
@@ -201,6 +201,6 @@ module _ (j : Journal) (worker s : ℕ) (b : Branch) (item : Item) (os : List (O
     held-taken place None whose asks free h = held-step asks free h
     held-taken place (Some ask) whose asks free h =
         (let own = whose ask refl in
-        let z : wait.Asked = record { owner = 1024 + place; place = place; ask = ask; end = None } in
+        let z : wait.Asked = record { owner = first_wait + place; place = place; ask = ask; end = None } in
         subst (λ q. AreHeld k os' (filter (λ a. not (is_of q ask.branch a)) asks ++ (z ∷ []))) (sym own.0)
         (subst (λ (c : Branch). AreHeld k os' (filter (λ a. not (is_of s c a)) asks ++ (z ∷ []))) (sym own.1) (snoc z own.0 own.1 own.2 asks (held-step asks free h))))

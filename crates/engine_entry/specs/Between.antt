@@ -1,14 +1,19 @@
 -- The parts of an engine while the automations that an entry turns are turned, one after the other.
-use Rattle.std.specs.Prelude.{◌≡◌, ℕ, ◌+◌, Bool, true, List, Some, length, slice_get}
+use Rattle.std.specs.Prelude.{◌≡◌, ℕ, ◌+◌, Bool, true, List, Some, length}
 use Rattle.ha_config.specs.declared.config.Automation.{Automation}
+use Rattle.ha_config.specs.declared.config.Config.{Config}
+use Rattle.ha_config.specs.Names.{unit_of}
+use Rattle.ha_config.specs.Numbered.{has_number}
+use Rattle.ha_journal.specs.Force.{IsAlike}
 use Rattle.ha_journal.specs.declared.entry.Entry.{Entry}
-use Rattle.ha_journal.specs.Journal.{Journal, IsJournal, automations, now, more}
+use Rattle.ha_journal.specs.Journal.{Journal, IsJournal, configured, in_force, now, more, units}
 use Rattle.ha_journal.specs.Switches.{is_on}
 use Rattle.trig_set.specs.Next.{Listed}
 use Rattle.trig_set.specs.Stands as triggers
 use Rattle.wait_set.specs.Stands as waits
 use Rattle.engine_parts.specs.declared.parts.Parts.{Parts}
 use Rattle.engine_parts.specs.Kept.{AreOwned, AreSound, KeysBelow, Owned, Sees}
+use Rattle.engine_parts.specs.Numbers.{AreFew, numbers_in}
 use Rattle.engine_parts.specs.Owners.{AreAscending, AreBelow}
 use Rattle.engine_parts.specs.Runs.{first_wait}
 use Rattle.engine_entry.specs.Turned.{AreOnce, AreSet, FlagsBetween, IsTurn, OnlyTurns, OwnersBetween, StatesBetween, Target, is_target}
@@ -38,15 +43,17 @@ pub record Between (j : Journal) (x : Entry) (left : ℕ → Bool) (p : Parts) (
   pub stand : triggers.StandsFor p.triggers j
 
 -- all of these are left
-pub record TurnsAll (all : List Automation) (targets : List Target) (place : ℕ) (p : Parts) (before : Listed) : Type 0 where
+pub record TurnsAll (config : Config) (targets : List Target) (place : ℕ) (p : Parts) (before : Listed) : Type 0 where
   pub j : Journal
   pub x : Entry
   pub only : OnlyTurns j x
   pub sound : AreSound j
-  pub all_are : all ≡ automations j
+  pub few : AreFew j
+  pub config_is : IsAlike config (configured j)
+  pub numbers_are : p.numbers ≡ numbers_in j
   pub at : place ≡ length j
   pub once : AreOnce targets
-  pub set : AreSet (is_on (more j x)) (length (automations j)) targets
+  pub set : AreSet (is_on (more j x)) (has_number (in_force j)) targets
   pub between : Between j x (is_target targets) p before
 
 -- this one is left, and its switch is to be `on`
@@ -56,7 +63,9 @@ pub record TurnsOne (y : Automation) (a : ℕ) (on : Bool) (place : ℕ) (p : Pa
   pub left : ℕ → Bool
   pub only : OnlyTurns j x
   pub sound : AreSound j
-  pub here : slice_get (automations j) a ≡ Some y
+  pub few : AreFew j
+  pub here : unit_of (units j) a ≡ Some y
+  pub known : has_number (in_force j) a ≡ true
   pub is_left : left a ≡ true
   pub on_is : is_on (more j x) a ≡ on
   pub at : place ≡ length j

@@ -2,7 +2,9 @@
 #![tactic(auto)]
 
 pub mod enter;
+pub mod names;
 pub mod open;
+pub mod reload;
 pub mod step_enter;
 pub mod step_run;
 pub mod step_take;

@@ -1,7 +1,7 @@
 //! The automations at the opening of a segment, which are all set anew: their states and triggers.
-ghost use Rattle.std.specs.Prelude.{◌≡◌, ◌+◌, ◌≤◌, ℕ, IsNone, IsTrue, OnOk, Some, true, length, slice_get, if◌then◌else◌};
-ghost use Rattle.ha_config.specs.declared.config.Automation.{Automation as Rule};
-ghost use Rattle.ha_journal.specs.Journal.{Journal, automations};
+ghost use Rattle.std.specs.Prelude.{◌≡◌, ◌+◌, ◌≤◌, IsNone, IsTrue, OnOk, true, length, if◌then◌else◌};
+ghost use Rattle.ha_config.specs.Numbered.{has_number};
+ghost use Rattle.ha_journal.specs.Journal.{Journal, in_force};
 ghost use Rattle.ha_config.specs.Sound.{are_sound_triggers};
 ghost use Rattle.ha_journal.specs.Switches.{is_on};
 ghost use Rattle.ha_past.specs.Firings.{owner_named, placed};
@@ -19,7 +19,7 @@ use trig_set::TrigSet;
 
 /// Whether an automation is on.
 pub fn on_of(switches: &Switches, automation: u32) -> bool
-    ensures { (j : Journal) (x : Rule) → book.StandsFor switches.now j → slice_get (automations j) automation ≡ Some x → result ≡ is_on j automation }
+    ensures { (j : Journal) → book.StandsFor switches.now j → has_number (in_force j) automation ≡ true → result ≡ is_on j automation }
 {
     match switches.is_on(automation) {
         Some(on) => on,

@@ -1,13 +1,14 @@
 //! What a step itself changes: the switches of the automations that its item names, with their states and triggers, or helpers with their
 //! states. The answer lists the states that it changes, as they were.
-ghost use Rattle.std.specs.Prelude.{◌≡◌, ◌||◌, [], false, not, nat_eq, ℕ, Option, IfOk, OnOk, List};
+ghost use Rattle.std.specs.Prelude.{◌≡◌, ◌||◌, [], false, is_some, not, nat_eq, ℕ, Option, IfOk, OnOk, List};
 ghost use Rattle.std.specs.BTreeSet.{contains};
 ghost use Rattle.std.specs.Ordering.{nat_cmp};
 ghost use Rattle.ha_journal.specs.declared.entry.Entry.TheVariants.{Step};
 ghost use Rattle.ha_sight.specs.declared.item.Item.{Item as Made};
 ghost use Rattle.ha_sight.specs.declared.waiting.WaitAsk.{WaitAsk as Waited};
 ghost use Rattle.ha_journal.specs.Journal.{Journal, more};
-ghost use Rattle.engine_entry.specs.Lasts.{AreLasts, AreSeen, kept_with};
+ghost use Rattle.ha_sight.specs.Sight.{switch_at};
+ghost use Rattle.engine_entry.specs.Lasts.{AreLasts, AreSeen, kept_with, knows};
 ghost use Rattle.engine_entry.specs.Stepping.{HelpedHere, IsTaken, StepEntered, StepHere, SwitchedHere};
 
 use crate::turn::enter_switches;
@@ -19,6 +20,7 @@ use ha_value::Many;
 use segment_view::Segment;
 use std::alloc::{AllocError, Global};
 use std::collections::BTreeSet;
+use switch_book::Switches;
 use trig_set::Before;
 
 /// The item of the last entry, which is a step.
@@ -61,18 +63,28 @@ fn see(seen: &mut BTreeSet<u32>, automation: u32) -> Result<bool, AllocError>
     }
 }
 
-/// A target is kept, where it is of one of so many automations, and of none that is seen already.
+/// Whether an automation of this number is in force.
+fn is_known(switches: &Switches, automation: u32) -> bool
+    ensures { result ≡ is_some (switch_at switches.now automation) }
+{
+    match switches.is_on(automation) {
+        Some(_) => true,
+        None => false,
+    }
+}
+
+/// A target is kept, where it is of an automation in force, and of none that is seen already.
 fn keep(
     kept: &mut Vec<(u32, bool, bool)>,
     seen: &mut BTreeSet<u32>,
     target: (u32, bool, bool),
-    count: usize,
+    switches: &Switches,
 ) -> Result<(), AllocError>
     requires { AreSeen seen.old kept.old.items }
-    ensures kept { OnOk result (kept.new.items ≡ kept_with count kept.old.items target) }
+    ensures kept { OnOk result (kept.new.items ≡ kept_with (knows switches.now) kept.old.items target) }
     ensures seen { OnOk result (AreSeen seen.new kept.new.items) }
 {
-    if count <= target.0 as usize {
+    if !is_known(switches, target.0) {
         return Ok(());
     }
     let new = see(seen, target.0)?;
@@ -83,20 +95,20 @@ fn keep(
     Ok(())
 }
 
-/// The last target of each of so many automations.
+/// The last target of each automation in force that is one.
 fn last_targets(
     alloc: Global,
     targets: &[(u32, bool, bool)],
-    count: usize,
+    switches: &Switches,
 ) -> Result<Vec<(u32, bool, bool)>, AllocError>
-    ensures { IfOk result (λ kept. AreLasts count targets.now kept.items) }
+    ensures { IfOk result (λ kept. AreLasts (knows switches.now) targets.now kept.items) }
 {
     let mut kept = Vec::new(alloc);
     let mut seen = none_seen(alloc);
     let mut left = targets.len();
     'targets: while 0 < left {
         left -= 1;
-        keep(&mut kept, &mut seen, targets[left], count)?;
+        keep(&mut kept, &mut seen, targets[left], switches)?;
     }
     Ok(kept)
 }
@@ -112,8 +124,7 @@ fn enter_targets(
     ensures entered { IfOk result (λ before. (wait : Option Waited) → IsTaken wait parts.old.waits → StepEntered journal.now parts.new before wait) }
     ensures rest { OnOk result (parts.new ≡ record parts.old { states = parts.new.states; switches = parts.new.switches; triggers = parts.new.triggers; given = parts.new.given; changed = parts.new.changed }) }
 {
-    let count = journal.configuration().automations.len();
-    let last = last_targets(alloc, targets.as_slice(), count)?;
+    let last = last_targets(alloc, targets.as_slice(), &parts.switches)?;
     let before = enter_switches(parts, alloc, journal, last.as_slice())?;
     Ok(before)
 }

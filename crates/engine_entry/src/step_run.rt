@@ -13,6 +13,7 @@ ghost use Rattle.engine_entry.specs.Stepping.{IsRunStep, MaySlot, SlotStep};
 use engine_parts::slots::Slots;
 use ha_clock::{Moment, Zone};
 use ha_sight::{Branch, WaitEnd};
+use ha_value::Many;
 use helper_set::Helpers;
 use script_calls::Seeing;
 use script_step::{Frames, Held, Taken};
@@ -26,6 +27,7 @@ fn step_frames<'a>(
     alloc: Global,
     journal: &'a Behind<'_>,
     states: &'a StateTable,
+    numbers: &'a Many<u32>,
     helpers: &'a Helpers,
     zone: &'a Zone,
     at: Moment,
@@ -33,14 +35,14 @@ fn step_frames<'a>(
     wait: Option<Held<WaitEnd>>,
 ) -> Result<Taken, AllocError>
     requires journal { IsJournal journal.now }
-    requires looks { Looks journal.now states.now zone.now at }
+    requires looks { Looks journal.now states.now numbers.now zone.now at }
     requires helpers { StandsFor helpers.now journal.now }
     requires sound { AreSound journal.now }
     requires script { actions_of (units journal.now) run.old.automation ≡ run.old.script.value }
     requires may { may run.old branch.now at wait ≡ true }
     ensures { IfOk result (λ out. IsRunStep (sight journal.entry.now (length journal.entry.now)) branch.now wait run.old run.new (out_of out)) }
 {
-    let view = Seeing::make(states, journal.configuration(), zone, at, helpers);
+    let view = Seeing::make(states, journal.configuration(), numbers, zone, at, helpers);
     // The borrow checker builds its plan only where a place has the type that the view holds.
     let _ = &view.view;
     let actions = journal.script(run.automation());
@@ -71,6 +73,7 @@ pub fn step_slot(
     alloc: Global,
     journal: &Behind<'_>,
     states: &StateTable,
+    numbers: &Many<u32>,
     helpers: &Helpers,
     zone: &Zone,
     at: Moment,
@@ -79,7 +82,7 @@ pub fn step_slot(
     wait: Option<Held<WaitEnd>>,
 ) -> Result<(Taken, Option<Moment>), AllocError>
     requires journal { IsJournal journal.now }
-    requires looks { Looks journal.now states.now zone.now at }
+    requires looks { Looks journal.now states.now numbers.now zone.now at }
     requires helpers { StandsFor helpers.now journal.now }
     requires sound { AreSound journal.now }
     requires slot { MaySlot journal.now serial branch.now at wait frames.old.items }
@@ -89,7 +92,7 @@ pub fn step_slot(
         unreachable!()
     };
     let out = step_frames(
-        &mut run, alloc, journal, states, helpers, zone, at, branch, wait,
+        &mut run, alloc, journal, states, numbers, helpers, zone, at, branch, wait,
     )?;
     let due = run.due(branch);
     put_frames(frames, serial, run);

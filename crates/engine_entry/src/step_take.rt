@@ -9,9 +9,11 @@ ghost use Rattle.wait_set.specs.Asked.{added, is_of};
 ghost use Rattle.wait_set.specs.Timers.{timer_added};
 ghost use Rattle.engine_parts.specs.Kept.{KeysBelow};
 ghost use Rattle.engine_parts.specs.Owners.{AreBelow};
+ghost use Rattle.engine_parts.specs.Runs.{first_wait};
 ghost use Rattle.engine_parts.specs.Stages.{Untold};
 ghost use Rattle.engine_entry.specs.Stepping.{IsTaken, asks_with};
 
+use engine_parts::parts::FIRST_WAIT;
 use ha_clock::Moment;
 use ha_sight::WaitAsk;
 use script_step::Held;
@@ -29,15 +31,15 @@ fn attach_ask(
     ask: WaitAsk,
 ) -> Result<(), AllocError>
     requires room { place < 1048576 }
-    requires below { AreBelow (1024 + place) (attached triggers.old) }
-    requires early { list_any (λ a. nat_eq a.owner (1024 + place)) waits.old.asks ≡ false }
+    requires below { AreBelow (first_wait + place) (attached triggers.old) }
+    requires early { list_any (λ a. nat_eq a.owner (first_wait + place)) waits.old.asks ≡ false }
     requires sound { IsTrue (are_sound_triggers ask.triggers) }
     requires free { list_any (λ a. is_of ask.serial ask.branch a && is_none a.end) waits.old.asks ≡ false }
-    ensures asks { OnOk result (waits.new.asks ≡ added (record { owner = 1024 + place; place = place; ask = ask; end = None }) waits.old.asks) }
+    ensures asks { OnOk result (waits.new.asks ≡ added (record { owner = first_wait + place; place = place; ask = ask; end = None }) waits.old.asks) }
     ensures fresh { OnOk result (waits.new.fresh ≡ waits.old.fresh) }
     ensures untold { OnOk result ((k : Journal) (before : Listed) → (h : Untold k triggers.old waits.old before) → length h.j ≡ place → Untold k triggers.new waits.new before) }
 {
-    let owner = 1024 + place;
+    let owner = FIRST_WAIT + place;
     triggers.attach(alloc, owner, &ask.triggers, place)?;
     waits.add(ask, owner, place)?;
     Ok(())
@@ -53,11 +55,11 @@ fn attach_wait(
     ask: Held<WaitAsk>,
 ) -> Result<(), AllocError>
     requires room { place < 1048576 }
-    requires below { AreBelow (1024 + place) (attached triggers.old) }
-    requires early { list_any (λ a. nat_eq a.owner (1024 + place)) waits.old.asks ≡ false }
+    requires below { AreBelow (first_wait + place) (attached triggers.old) }
+    requires early { list_any (λ a. nat_eq a.owner (first_wait + place)) waits.old.asks ≡ false }
     requires sound { IsTrue (are_sound_triggers ask.triggers) }
     requires free { list_any (λ a. is_of ask.serial ask.branch a && is_none a.end) waits.old.asks ≡ false }
-    ensures asks { OnOk result (waits.new.asks ≡ added (record { owner = 1024 + place; place = place; ask = ask; end = None }) waits.old.asks) }
+    ensures asks { OnOk result (waits.new.asks ≡ added (record { owner = first_wait + place; place = place; ask = ask; end = None }) waits.old.asks) }
     ensures fresh { OnOk result (waits.new.fresh ≡ waits.old.fresh) }
     ensures untold { OnOk result ((k : Journal) (before : Listed) → (h : Untold k triggers.old waits.old before) → length h.j ≡ place → Untold k triggers.new waits.new before) }
 {
@@ -74,8 +76,8 @@ pub fn take_wait(
     wait: Option<Held<WaitAsk>>,
 ) -> Result<(), AllocError>
     requires room { place < 1048576 }
-    requires below { AreBelow (1024 + place) (attached triggers.old) }
-    requires early { list_any (λ a. nat_eq a.owner (1024 + place)) waits.old.asks ≡ false }
+    requires below { AreBelow (first_wait + place) (attached triggers.old) }
+    requires early { list_any (λ a. nat_eq a.owner (first_wait + place)) waits.old.asks ≡ false }
     requires taken { IsTaken wait waits.old }
     ensures asks { OnOk result (waits.new.asks ≡ asks_with place wait waits.old.asks) }
     ensures fresh { OnOk result (waits.new.fresh ≡ waits.old.fresh) }

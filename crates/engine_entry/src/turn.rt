@@ -9,15 +9,16 @@ ghost use Rattle.ha_past.specs.Firings.{owner_named, placed, without_owner};
 ghost use Rattle.trig_set.specs.Stands.{StandsFor, attached};
 ghost use Rattle.engine_entry.specs.Between.{Between, Turning, TurnsAll, TurnsOne};
 ghost use Rattle.engine_parts.specs.Owners.{AreBelow};
+ghost use Rattle.engine_parts.specs.Runs.{first_wait};
 ghost use Rattle.engine_parts.specs.Stages.{Entered};
 ghost use Rattle.engine_entry.specs.Turned.{entity_named, is_target, less};
 
 use engine_parts::parts::Parts;
 use engine_parts::see::copied;
 use ha_clock::Moment;
-use ha_config::Automation;
+use ha_config::{Automation, Config};
 use ha_value::{EntityId, Many, Word};
-use segment_view::Segment;
+use segment_view::{Segment, rule_of};
 use state_table::StateTable;
 use std::alloc::{AllocError, Global};
 use trig_set::{Before, TrigSet};
@@ -30,7 +31,7 @@ pub fn entity_of(alloc: Global, name: &Word) -> Result<EntityId, AllocError>
 }
 
 /// The state of an automation is that of its new switch; the one that it had is listed.
-fn see_switch(
+pub(crate) fn see_switch(
     states: &mut StateTable,
     alloc: Global,
     name: &Word,
@@ -85,7 +86,7 @@ fn turn(
     requires { TurnsOne rule.now automation on place parts.old before.old }
     ensures turned { OnOk result ((h : TurnsOne rule.now automation on place parts.old before.old) → Between h.j h.x (less h.left automation) parts.new before.new) }
     ensures rest { OnOk result (parts.new ≡ record parts.old { states = parts.new.states; switches = parts.new.switches; triggers = parts.new.triggers; changed = parts.new.changed }) }
-    ensures below { OnOk result ((n : ℕ) → 1024 ≤ n → AreBelow n (attached parts.old.triggers) → AreBelow n (attached parts.new.triggers)) }
+    ensures below { OnOk result ((n : ℕ) → first_wait ≤ n → AreBelow n (attached parts.old.triggers) → AreBelow n (attached parts.new.triggers)) }
 {
     if parts.switches.set(automation, on) {
         see_switch(&mut parts.states, alloc, &rule.name, on, parts.at, before)?;
@@ -101,27 +102,20 @@ fn turn(
 fn turn_all(
     parts: &mut Parts,
     alloc: Global,
-    rules: &[Automation],
+    config: &Config,
     targets: &[(u32, bool, bool)],
     place: u64,
     before: &mut Before,
 ) -> Result<(), AllocError>
-    requires { TurnsAll rules.now targets.now place parts.old before.old }
-    ensures turned { OnOk result ((h : TurnsAll rules.now targets.now place parts.old before.old) → Between h.j h.x (is_target []) parts.new before.new) }
+    requires { TurnsAll config.now targets.now place parts.old before.old }
+    ensures turned { OnOk result ((h : TurnsAll config.now targets.now place parts.old before.old) → Between h.j h.x (is_target []) parts.new before.new) }
     ensures rest { OnOk result (parts.new ≡ record parts.old { states = parts.new.states; switches = parts.new.switches; triggers = parts.new.triggers; changed = parts.new.changed }) }
-    ensures below { OnOk result ((n : ℕ) → 1024 ≤ n → AreBelow n (attached parts.old.triggers) → AreBelow n (attached parts.new.triggers)) }
+    ensures below { OnOk result ((n : ℕ) → first_wait ≤ n → AreBelow n (attached parts.old.triggers) → AreBelow n (attached parts.new.triggers)) }
 {
     'targets: for at in 0..targets.len() {
         let automation = targets[at].0;
-        turn(
-            parts,
-            alloc,
-            &rules[automation as usize],
-            automation,
-            targets[at].1,
-            place,
-            before,
-        )?;
+        let rule = rule_of(config, parts.numbers.as_slice(), automation);
+        turn(parts, alloc, rule, automation, targets[at].1, place, before)?;
     }
     Ok(())
 }
@@ -137,12 +131,18 @@ pub fn enter_switches(
     requires { Turning journal.now targets.now parts.old }
     ensures entered { IfOk result (λ before. Entered journal.now parts.new before) }
     ensures rest { OnOk result (parts.new ≡ record parts.old { states = parts.new.states; switches = parts.new.switches; triggers = parts.new.triggers; given = parts.new.given; changed = parts.new.changed }) }
-    ensures below { OnOk result ((n : ℕ) → 1024 ≤ n → AreBelow n (attached parts.old.triggers) → AreBelow n (attached parts.new.triggers)) }
+    ensures below { OnOk result ((n : ℕ) → first_wait ≤ n → AreBelow n (attached parts.old.triggers) → AreBelow n (attached parts.new.triggers)) }
 {
-    let rules = journal.configuration().automations.as_slice();
     let mut before = Before::make(alloc);
     parts.given = Many::make(alloc);
     parts.changed = false;
-    turn_all(parts, alloc, rules, targets, journal.place(), &mut before)?;
+    turn_all(
+        parts,
+        alloc,
+        journal.configuration(),
+        targets,
+        journal.place(),
+        &mut before,
+    )?;
     Ok(before)
 }

@@ -9,6 +9,7 @@ use Rattle.ha_journal.specs.Journal.{Journal}
 use Rattle.engine_parts.specs.Owners.{AreAscending, AreBelow, is_automation}
 use Rattle.engine_parts.specs.Pending.{AreOthers}
 use Rattle.engine_parts.specs.Kept.{Owned, AreOwned}
+use Rattle.engine_parts.specs.Runs.{first_wait}
 use Rattle.engine_parts.proofs.WaitWords.{owned-without}
 
 eq-of : (a b : ℕ) → nat_eq a b ≡ true → a ≡ b
@@ -56,11 +57,11 @@ below-more n m [] le h = tt
 below-more n m (x ∷ os) le h = (omega (arith, le, h.0), below-more n m os le h.1)
 
 -- LAW: without the owner of a wait the automations are the same
-pub automations-without : (o : ℕ) (os : List Owner) → 1024 ≤ o → filter is_automation (without_owner o os) ≡ filter is_automation os
+pub automations-without : (o : ℕ) (os : List Owner) → first_wait ≤ o → filter is_automation (without_owner o os) ≡ filter is_automation os
 automations-without o [] le = refl
 automations-without o (x ∷ os) le = by (nat_eq x.owner o) refl (automations-without o os le)
   where
-    high : (a : ℕ) → 1024 ≤ a → nat_lt a 1024 ≡ false
+    high : (a : ℕ) → first_wait ≤ a → nat_lt a first_wait ≡ false
     high a h = search (rules, h)
 
     by : (c : Bool) → nat_eq x.owner o ≡ c → filter is_automation (without_owner o os) ≡ filter is_automation os
@@ -69,11 +70,11 @@ automations-without o (x ∷ os) le = by (nat_eq x.owner o) refl (automations-wi
     by false e rest = (λ i. if is_automation x then x ∷ rest i else rest i)
 
 -- LAW: an owner that is none of the pending waits' may be detached
-pub owned-detached : (j : Journal) (o : ℕ) (F : List ℕ) (t t' : TrigSet) (w : WaitTable) → 1024 ≤ o → attached t' ≡ without_owner o (attached t) → AreOthers (o ∷ F) w.asks → Owned j t w → Owned j t' w
+pub owned-detached : (j : Journal) (o : ℕ) (F : List ℕ) (t t' : TrigSet) (w : WaitTable) → first_wait ≤ o → attached t' ≡ without_owner o (attached t) → AreOthers (o ∷ F) w.asks → Owned j t w → Owned j t' w
 owned-detached j o F t t' w low rest others owned = record {
   automations_attached = ap (filter is_automation) rest ∙ automations-without o (attached t) low ∙ owned.automations_attached;
   ascend = subst (AreAscending 0) (sym rest) (ascend-without o 0 (attached t) owned.ascend);
-  early = subst (AreBelow (1024 + length j)) (sym rest) (below-without o (1024 + length j) (attached t) owned.early);
+  early = subst (AreBelow (first_wait + length j)) (sym rest) (below-without o (first_wait + length j) (attached t) owned.early);
   waits_owned = subst (λ (l : List Owner). AreOwned (length j) l w.asks) (sym rest)
       (owned-without o (length j) F (attached t) (without_owner o (attached t)) w.asks (λ p apart. named-without o p (attached t) apart) others owned.waits_owned);
   apart = owned.apart;

@@ -22,7 +22,7 @@ use Rattle.engine_parts.specs.Pending.{AreOthers}
 use Rattle.engine_parts.specs.Kept.{AreOwned, Owned, Gone, RunsKept, SlotBut, slot_if, left_branches, left_if}
 use Rattle.ha_ready.specs.ReadyPairs.{changed_at, pairs_of, pairs_from}
 use Rattle.engine_parts.specs.Records.{also}
-use Rattle.engine_parts.specs.Runs.{AreHeld, SlotsWith}
+use Rattle.engine_parts.specs.Runs.{AreHeld, SlotsWith, first_wait}
 use Rattle.ha_ready.proofs.ReadyLemmas.{pairs-same}
 use Rattle.engine_parts.proofs.SlotChangeLemmas.{slot-changed}
 
@@ -63,14 +63,14 @@ owner-other s i o c (a ∷ asks) e h = by (nat_eq a.ask.serial s) i e (λ n late
 
 -- LAW: the owners of a run's waits are owners of waits, and no other wait has them
 pub owners-apart : (s n : ℕ) (owners : List Owner) (asks : List wait.Asked) → AreApart asks → AreOwned n owners asks → (i o : ℕ) → slice_get (owners_of s asks) i ≡ Some o
-    → (1024 ≤ o) × (list_any (λ b. nat_eq b.owner o) (without_run s asks) ≡ false)
+    → (first_wait ≤ o) × (list_any (λ b. nat_eq b.owner o) (without_run s asks) ≡ false)
 owners-apart s n owners [] apart owned i o e = absurd (let bad : ◌≡◌ {A = Option ℕ} None (Some o) = e in cc)
 owners-apart s n owners (a ∷ asks) apart owned i o e = by (nat_eq a.ask.serial s) i e (owners-apart s n owners asks apart.1 owned.1) (λ m later. owner-other s m o a.owner asks later apart.0)
   where
     by : (d : Bool) (i : ℕ) → slice_get (map {A = wait.Asked} {B = ℕ} (λ b. b.owner) (if d then a ∷ filter (λ b. nat_eq b.ask.serial s) asks else filter (λ b. nat_eq b.ask.serial s) asks)) i ≡ Some o
-        → ((m p : ℕ) → slice_get (owners_of s asks) m ≡ Some p → (1024 ≤ p) × (list_any (λ b. nat_eq b.owner p) (without_run s asks) ≡ false))
+        → ((m p : ℕ) → slice_get (owners_of s asks) m ≡ Some p → (first_wait ≤ p) × (list_any (λ b. nat_eq b.owner p) (without_run s asks) ≡ false))
         → ((m : ℕ) → slice_get (owners_of s asks) m ≡ Some o → nat_eq a.owner o ≡ false)
-        → (1024 ≤ o) × (list_any (λ b. nat_eq b.owner o) (if not d then a ∷ without_run s asks else without_run s asks) ≡ false)
+        → (first_wait ≤ o) × (list_any (λ b. nat_eq b.owner o) (if not d then a ∷ without_run s asks else without_run s asks) ≡ false)
     by true zero is rec other =
         (let same : a.owner ≡ o = cc in
         (omega (arith, same, owned.0.owner_is), none-without s o asks (subst (λ q. list_any (λ b. nat_eq b.owner q) asks ≡ false) same apart.0)))

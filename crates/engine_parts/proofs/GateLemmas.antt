@@ -183,11 +183,11 @@ fresh-place : (test : ℕ → Bool) (owners : List ℕ) (owner p : ℕ) → owne
 fresh-place test [] owner p at h passes = absurd (let bad : ◌≡◌ {A = Bool} false true = h in cc)
 fresh-place test (o ∷ os) owner p at h passes = by (nat_eq owner o) refl h (λ later. fresh-place test os owner p at later passes)
   where
-    by : (c : Bool) → nat_eq owner o ≡ c → (c || list_any (nat_eq owner) os) ≡ true → (list_any (nat_eq owner) os ≡ true → list_any test (wait_places os) ≡ true) → (test (o - 1024) || list_any test (wait_places os)) ≡ true
+    by : (c : Bool) → nat_eq owner o ≡ c → (c || list_any (nat_eq owner) os) ≡ true → (list_any (nat_eq owner) os ≡ true → list_any test (wait_places os) ≡ true) → (test (o - first_wait) || list_any test (wait_places os)) ≡ true
     by true e h' rec =
-        let place : o - 1024 ≡ p = omega (arith, at, eq-of owner o e) in
+        let place : o - first_wait ≡ p = omega (arith, at, eq-of owner o e) in
         (λ i. test (place i) || list_any test (wait_places os)) ∙ (λ i. passes i || list_any test (wait_places os))
-    by false e h' rec = (λ i. test (o - 1024) || rec h' i) ∙ or-true (test (o - 1024))
+    by false e h' rec = (λ i. test (o - first_wait) || rec h' i) ∙ or-true (test (o - first_wait))
 
 or-false : (b : Bool) → (b || false) ≡ b
 or-false true = refl

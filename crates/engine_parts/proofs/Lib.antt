@@ -5,6 +5,7 @@ pub mod SlotLemmas
 pub mod HeldLemmas
 pub mod ApartLemmas
 pub mod WakeLemmas
+pub mod RuleLemmas
 pub mod AttemptLemmas
 pub mod StepRight
 pub mod StepKept
@@ -13,6 +14,10 @@ pub mod TextLemmas
 pub mod ChangeLemmas
 pub mod SteppersRun
 pub mod OwnerLemmas
+pub mod OrderLemmas
+pub mod FewLemmas
+pub mod TakenLemmas
+pub mod SortedLemmas
 pub mod SlotChangeLemmas
 pub mod StepWakes
 pub mod WaitWords

@@ -33,9 +33,9 @@ module _ (k : Journal) (t : TrigSet) (w : WaitTable) (before : Listed) (h : Unto
   last-at = omega (arith, length-more h.j h.x, ap length h.journal_is)
 
   -- LAW: the entry is the next one
-  pub untold-next : (table : StateTable) (zone : Text) (at : ℕ) (events : List BusEvent) (seen : Sight) → Looks k table zone at → events ≡ last_events k → seen ≡ sight k (length k)
+  pub untold-next : (table : StateTable) (numbers : List ℕ) (zone : Text) (at : ℕ) (events : List BusEvent) (seen : Sight) → Looks k table numbers zone at → events ≡ last_events k → seen ≡ sight k (length k)
       → IsNext h.j (length k - 1) h.x before events seen (triggers.attached t)
-  untold-next table zone at events seen looks given sees = record {
+  untold-next table numbers zone at events seen looks given sees = record {
     at = last-at;
     journal = subst IsJournal h.journal_is h.journal;
     zone = subst (λ (i : Journal). IsSome (clock.zone_of (zone_of i))) h.journal_is looks.zone_read;

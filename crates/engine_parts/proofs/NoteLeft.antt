@@ -33,25 +33,25 @@ module _ (k : Journal) (t : TrigSet) (w : WaitTable) (e : EntityId) (text : Text
   left-is = h.untold.journal_is ∙ ap (more h.untold.j) h.x_is
 
   -- LAW: the report is the next entry
-  pub left-next : (table : StateTable) (zone : Text) (at : ℕ) → Looks k table zone at → IsNext h.untold.j (length k - 1) report ((e, h.old) ∷ []) [] (sight k (length k)) (triggers.attached t)
-  left-next table zone at looks =
+  pub left-next : (table : StateTable) (numbers : List ℕ) (zone : Text) (at : ℕ) → Looks k table numbers zone at → IsNext h.untold.j (length k - 1) report ((e, h.old) ∷ []) [] (sight k (length k)) (triggers.attached t)
+  left-next table numbers zone at looks =
       subst (λ (y : Entry). IsNext h.untold.j (length k - 1) y ((e, h.old) ∷ []) [] (sight k (length k)) (triggers.attached t)) h.x_is
-      (untold-next k t w ((e, h.old) ∷ []) h.untold table zone at [] (sight k (length k)) looks none refl)
+      (untold-next k t w ((e, h.old) ∷ []) h.untold table numbers zone at [] (sight k (length k)) looks none refl)
     where
       -- it gives no event of a helper
       none : [] ≡ last_events k
       none = sym (ap last_events left-is ∙ last-events h.untold.j report ∙ helps-none h.untold.j report refl refl)
 
-  pub left-now : (table : StateTable) (zone : Text) (at : ℕ) → Looks k table zone at → at ≡ now (more h.untold.j report)
-  left-now table zone at looks = looks.now_is ∙ ap now left-is
+  pub left-now : (table : StateTable) (numbers : List ℕ) (zone : Text) (at : ℕ) → Looks k table numbers zone at → at ≡ now (more h.untold.j report)
+  left-now table numbers zone at looks = looks.now_is ∙ ap now left-is
 
   -- LAW: where nothing fires at such an entry, nothing fires at the last one
-  pub left-quiet : (table : StateTable) (zone : Text) (at : ℕ) → Looks k table zone at
+  pub left-quiet : (table : StateTable) (numbers : List ℕ) (zone : Text) (at : ℕ) → Looks k table numbers zone at
       → ((j : Journal) (i n place : ℕ) (old : Option StateObject) (seen : Sight) → triggers.StandsFor t j
       → IsNext j place (Line i n (Cmd.Report e text attributes)) ((e, old) ∷ []) [] seen (triggers.attached t)
       → firings (more j (Line i n (Cmd.Report e text attributes))) place (triggers.attached t) ≡ [])
       → firings (more h.untold.j report) (length k - 1) (triggers.attached t) ≡ []
-  left-quiet table zone at looks law = law h.untold.j h.source h.number (length k - 1) h.old (sight k (length k)) h.untold.triggers_stand (left-next table zone at looks)
+  left-quiet table numbers zone at looks law = law h.untold.j h.source h.number (length k - 1) h.old (sight k (length k)) h.untold.triggers_stand (left-next table numbers zone at looks)
 
   module _ (none : firings (more h.untold.j report) (length k - 1) (triggers.attached t) ≡ []) where
     -- LAW: nothing fires at the last entry

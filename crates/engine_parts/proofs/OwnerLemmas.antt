@@ -22,7 +22,7 @@ above : (a b : ℕ) → b < a → nat_eq a b ≡ false
 above a b lt = search rules
 
 -- the firings of owners above a number are none of its
-none-above : (j : Journal) (p o n : ℕ) (os : List Owner) → o < n → AreAscending n os → filter (λ (f : Firing). nat_eq f.owner o) (firings j p os) ≡ []
+pub none-above : (j : Journal) (p o n : ℕ) (os : List Owner) → o < n → AreAscending n os → filter (λ (f : Firing). nat_eq f.owner o) (firings j p os) ≡ []
 none-above j p o n [] lt h = refl
 none-above j p o n (x ∷ os) lt h =
     filter-append (λ (f : Firing). nat_eq f.owner o) (firings_of j p x) (firings j p os)

@@ -1,5 +1,5 @@
 -- Which branches may step after one more entry, run by run.
-use Rattle.std.proofs.Common.{◌≡◌, suc, List, [], ◌∷◌, ◌++◌, length, map, filter, Bool, true, false, refl, sym, subst, ◌∙◌}
+use Rattle.std.proofs.Common.{◌≡◌, ℕ, suc, ◌<◌, List, [], ◌∷◌, ◌++◌, length, map, filter, Bool, true, false, refl, sym, subst, ◌∙◌}
 use Rattle.std.specs.Prelude.{nat_lt, nat_le, ◌&&◌, if◌then◌else◌}
 use Rattle.std.specs.Option.{option_map_or}
 use Rattle.ha_journal.specs.declared.entry.Entry.{Entry}
@@ -10,7 +10,9 @@ use Rattle.ha_sight.specs.Scripts.{Spot}
 use Rattle.ha_sight.specs.Branches.{branches_of}
 use Rattle.ha_model.specs.Records.{actions_of, spots, spot_of, CallEnds, spot_with}
 use Rattle.ha_model.specs.Lawful.{is_running}
-use Rattle.ha_journal.proofs.MoreLemmas.{length-more, units-more}
+use Rattle.ha_config.specs.declared.config.Automation.{Automation}
+use Rattle.ha_journal.proofs.ForceLaws.{unit-more}
+use Rattle.ha_journal.proofs.MoreLemmas.{length-more}
 use Rattle.ha_model.proofs.FoldLaws.{spots-more}
 use Rattle.ha_config.proofs.ListLemmas.{append-nil}
 use Rattle.script_step.specs.Gates.{Fronts, opens}
@@ -41,25 +43,29 @@ open-same told told' j k (x ∷ xs) h =
     by true e = (λ i. x.0 ∷ e i)
     by false e = e
 
+-- LAW: a unit that is known has the same script behind each entry
+pub script-more : (j : Journal) (x : Entry) (a : ℕ) → a < length (units j) → actions_of (units j) a ≡ actions_of (units (more j x)) a
+script-more j x a lt = (λ i. option_map_or (λ (u : Automation). u.actions) (sym (unit-more j x a lt) i) [])
+
 -- the fronts of a run stay where it makes no step
-pub fronts-kept : (j : Journal) (x : Entry) (r r' : Record) (F : Fronts) → HasEntry j → SameScript r r' → spot_of r'.serial j x ≡ []
+pub fronts-kept : (j : Journal) (x : Entry) (r r' : Record) (F : Fronts) → r.automation < length (units j) → SameScript r r' → spot_of r'.serial j x ≡ []
     → AreFronts (actions_of (units j) r.automation) r.env (spots j r.serial) F
     → AreFronts (actions_of (units (more j x)) r'.automation) r'.env (spots (more j x) r'.serial) F
-fronts-kept j x r r' F h same none fronts =
+fronts-kept j x r r' F known same none fronts =
     let places : spots j r.serial ≡ spots (more j x) r'.serial
     = (λ i. spots j (same.serial i)) ∙ sym (append-nil (spots j r'.serial)) ∙ (λ i. spots j r'.serial ++ sym none i) ∙ sym (spots-more j x r'.serial) in
     let script : actions_of (units j) r.automation ≡ actions_of (units (more j x)) r'.automation
-    = (λ i. actions_of (units-more j x h i) (same.automation i)) in
+    = script-more j x r.automation known ∙ (λ i. actions_of (units (more j x)) (same.automation i)) in
     let family : List Spot → Type 0 = λ ss. AreFronts (actions_of (units (more j x)) r'.automation) r'.env ss F in
     subst family places
     (subst (λ (env : Pairs). AreFronts (actions_of (units (more j x)) r'.automation) env (spots j r.serial) F) same.env
     (subst (λ actions. AreFronts actions r.env (spots j r.serial) F) script fronts))
 
 -- LAW: where a run makes no step, neither begins nor ends, and none of its gates opens, its branches that may step stay
-pub branches-stay : (told told' : CallEnds) (j : Journal) (x : Entry) (r r' : Record) (F : Fronts) → HasEntry j → IsPast (length j) r → SameScript r r' → r.begin ≡ r'.begin → r.end ≡ r'.end
+pub branches-stay : (told told' : CallEnds) (j : Journal) (x : Entry) (r r' : Record) (F : Fronts) → HasEntry j → IsPast (length j) r → r.automation < length (units j) → SameScript r r' → r.begin ≡ r'.begin → r.end ≡ r'.end
     → spot_of r'.serial j x ≡ [] → AreFronts (actions_of (units j) r.automation) r.env (spots j r.serial) F → FrontsStay told told' j (more j x) F
     → ready_with told' (more j x) r' ≡ ready_with told j r
-branches-stay told told' j x r r' F h past same begin end none fronts stay =
+branches-stay told told' j x r r' F h past known same begin end none fronts stay =
     let running : is_running (length (more j x)) r' ≡ is_running (length j) r
     = (λ i. is_running (length-more j x i) r')
     ∙ (λ i. option_map_or (λ b. nat_lt b (suc (length j))) (sym begin i) false && option_map_or (λ e. nat_le (suc (length j)) e.0) (sym end i) true)
@@ -68,7 +74,7 @@ branches-stay told told' j x r r' F h past same begin end none fronts stay =
   where
     by : (c : Bool) → is_running (length (more j x)) r' ≡ c → is_running (length j) r ≡ c → ready_with told' (more j x) r' ≡ ready_with told j r
     by true on' on =
-        front-branches told' (more j x) r' F on' (fronts-kept j x r r' F h same none fronts)
+        front-branches told' (more j x) r' F on' (fronts-kept j x r r' F known same none fronts)
         ∙ open-same told told' j (more j x) F stay
         ∙ sym (front-branches told j r F on fronts)
     by false off' off = resting-with told' (more j x) r' off' ∙ sym (resting-with told j r off)

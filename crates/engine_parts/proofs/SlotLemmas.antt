@@ -1,6 +1,6 @@
 -- The frames of the live runs with one more entry, and the runs that it does not touch.
 use Rattle.std.proofs.Common.{◌≡◌, ℕ, zero, suc, ◌+◌, ◌-◌, ◌<◌, ◌≤◌, List, [], ◌∷◌, ◌++◌, length, set, Bool, true, false, refl, sym, ap, subst, ◌∙◌, rules, arith}
-use Rattle.std.specs.Prelude.{Option, Some, None, nat_eq, nat_lt, nat_le, slice_get, ◌&&◌, if◌then◌else◌}
+use Rattle.std.specs.Prelude.{MatchOption, Option, Some, None, nat_eq, nat_lt, nat_le, slice_get, ◌&&◌, if◌then◌else◌}
 use Rattle.std.specs.Option.{option_map_or}
 use Rattle.timer_queue.specs.Timers.{Timer}
 use Rattle.ha_model.specs.declared.record.EndCause.{EndCause}
@@ -11,7 +11,8 @@ use Rattle.ha_journal.specs.Journal.{Journal, HasEntry, now, more, units}
 use Rattle.ha_model.specs.Records.{Records, actions_of, spots, spot_of, next_spot, CallEnds}
 use Rattle.ha_model.specs.Lawful.{Right, is_running, record_of}
 use Rattle.ha_config.proofs.ListLemmas.{append-nil, get-last}
-use Rattle.ha_journal.proofs.MoreLemmas.{has-entry, length-more, units-more}
+use Rattle.ha_journal.proofs.MoreLemmas.{has-entry, length-more}
+use Rattle.ha_model.proofs.KnownLaws.{AllKnown, all-known, known-at}
 use Rattle.ha_model.proofs.StepLaws.{serial-at, Numbered}
 use Rattle.ha_model.proofs.FoldLaws.{spots-more}
 use Rattle.script_step.specs.Gates.{open_now}
@@ -30,12 +31,6 @@ use Rattle.ha_ready.proofs.RunPast.{all-past, past-at, resting, resting-with}
 use Rattle.engine_parts.proofs.ReadyOneMore.{front-branches, branches-stay}
 
 -- ---- slots
-
-pub slots-map : (P Q : Record → Option Frames → Type 0) → ((r : Record) (o : Option Frames) → P r o → Q r o) → (rs : Records) (os : List (Option Frames)) → SlotsWith P rs os → SlotsWith Q rs os
-slots-map P Q f [] [] h = tt
-slots-map P Q f [] (o ∷ os) h = absurd h
-slots-map P Q f (r ∷ rs) [] h = absurd h
-slots-map P Q f (r ∷ rs) (o ∷ os) h = (f r o h.0, slots-map P Q f rs os h.1)
 
 pub slots-at : (P : Record → Option Frames → Type 0) (rs : Records) (os : List (Option Frames)) (i : ℕ) (r : Record) → SlotsWith P rs os → slice_get rs i ≡ Some r
     → (o : Option Frames) × (slice_get os i ≡ Some o) × P r o
@@ -79,11 +74,10 @@ no-spot j x s h = by (step_of x) ((λ i. option_map_or (λ y. option_map_or (λ 
 
 module _ (told told' : CallEnds) (j : Journal) (x : Entry) (same : (p : ℕ) → p < length j → told' p ≡ told p) (delays delays' : List Timer) (w w' : Waits) (h : HasEntry j) (queue : QueueKept (now (more j x)) delays delays') where
   -- LAW: the frames of a run that makes no step stand for its script behind the entry too
-  pub live-more : (r : Record) (f : Frames) → spot_of r.serial j x ≡ [] → AsksKept w w' r.serial → LiveKept told j delays w r f → LiveKept told' (more j x) delays' w' r f
-  live-more r f none asks live =
+  pub live-more : (r : Record) (f : Frames) → actions_of (units j) r.automation ≡ actions_of (units (more j x)) r.automation → spot_of r.serial j x ≡ [] → AsksKept w w' r.serial → LiveKept told j delays w r f → LiveKept told' (more j x) delays' w' r f
+  live-more r f script none asks live =
       let places : spots j r.serial ≡ spots (more j x) r.serial
       = sym (append-nil (spots j r.serial)) ∙ (λ i. spots j r.serial ++ sym none i) ∙ sym (spots-more j x r.serial) in
-      let script : actions_of (units j) r.automation ≡ actions_of (units (more j x)) r.automation = (λ i. actions_of (units-more j x h i) r.automation) in
       record {
         live = live.live;
         serial = live.serial;
@@ -92,9 +86,22 @@ module _ (told told' : CallEnds) (j : Journal) (x : Entry) (same : (p : ℕ) →
         gates = subst (λ ss. GatesKept told' (more j x) delays' w' r.serial (fronts f ss)) places (gates-more told told' j x same delays delays' w w' r.serial (fronts f (spots j r.serial)) queue asks live.gates);
       }
 
-  pub slot-more : (r : Record) (o : Option Frames) → spot_of r.serial j x ≡ [] → AsksKept w w' r.serial → SlotKept told j delays w r o → SlotKept told' (more j x) delays' w' r o
-  slot-more r None none asks live = live
-  slot-more r (Some f) none asks live = live-more r f none asks live
+  pub slot-more : (r : Record) (o : Option Frames) → actions_of (units j) r.automation ≡ actions_of (units (more j x)) r.automation → spot_of r.serial j x ≡ [] → AsksKept w w' r.serial → SlotKept told j delays w r o → SlotKept told' (more j x) delays' w' r o
+  slot-more r None script none asks live = live
+  slot-more r (Some f) script none asks live = live-more r f script none asks live
+
+-- LAW: a record is of a unit that is known
+pub known-record : (j : Journal) (rs : Records) → Right j rs → (s : ℕ) (r : Record) → record_of rs s ≡ Some r → r.automation < length (units j)
+known-record j rs right s r e =
+    subst (λ (o : Option Record). MatchOption o (Unit {0}) (λ y. y.automation < length (units j))) e
+    (known-at (length (units j)) rs (s - 1) (subst (AllKnown (length (units j))) (sym right.records_are) (all-known j)))
+
+-- slots of records of known units
+pub slots-known : (P Q : Record → Option Frames → Type 0) (n : ℕ) → ((r : Record) (o : Option Frames) → r.automation < n → P r o → Q r o) → (rs : Records) (os : List (Option Frames)) → AllKnown n rs → SlotsWith P rs os → SlotsWith Q rs os
+slots-known P Q n f [] [] known h = tt
+slots-known P Q n f [] (o ∷ os) known h = absurd h
+slots-known P Q n f (r ∷ rs) [] known h = absurd h
+slots-known P Q n f (r ∷ rs) (o ∷ os) known h = (f r o known.0 h.0, slots-known P Q n f rs os known.1 h.1)
 
 over : (a b : ℕ) → b < a → nat_le a b ≡ false
 over a b lt = search rules
@@ -127,12 +134,15 @@ module _ (told' : CallEnds) (j : Journal) (x : Entry) (same : (p : ℕ) → p < 
           let past : IsPast (length j) r = past-at (length j) rs (s - 1) r (all-past j rs right) e in
           (λ i. option_map_or (ready_branches rs j) (e i) []) ∙ one slot.0 slot.2 own past ∙ (λ i. option_map_or (ready_with told' (more j x)) (sym e i) [])
         where
+          known : r.automation < length (units j)
+          known = known-record j rs right s r e
+
           one : (o : Option Frames) → SlotKept (ends_at j) j delays w r o → s ≡ r.serial → IsPast (length j) r → ready_branches rs j r ≡ ready_with told' (more j x) r
           one None ended own past =
               resting rs j r (ended-off (length j) (length j) (omega arith) r ended past)
               ∙ sym (resting-with told' (more j x) r (ended-off (length j) (length (more j x)) (omega (arith, length-more j x)) r ended past))
           one (Some f) live own past =
-              sym (branches-stay (ends_at j) told' j x r r (fronts f (spots j r.serial)) (has-entry j right.journal) past (record { serial = refl; automation = refl; env = refl }) refl refl
+              sym (branches-stay (ends_at j) told' j x r r (fronts f (spots j r.serial)) (has-entry j right.journal) past known (record { serial = refl; automation = refl; env = refl }) refl refl
               (no-spot j x r.serial (subst (λ q. step_at (more j x) q (length j) ≡ false) own no_step))
               (fronts-are f (actions_of (units j) r.automation) r.env (spots j r.serial) live.stands)
               (gates-stay (ends_at j) told' j x same delays w w' r.serial stood stands (subst (AsksKept w w') own asks) (subst (EndsGrow w w') own grow)

@@ -13,7 +13,8 @@ use Rattle.ha_journal.specs.Entries.{step_of}
 use Rattle.ha_journal.specs.Journal.{Journal, HasEntry, now, more, units}
 use Rattle.ha_sight.specs.Scripts.{Branch}
 use Rattle.ha_model.specs.Records.{actions_of, spots, next_spot, CallEnds, ask_end}
-use Rattle.ha_journal.proofs.MoreLemmas.{length-more, units-more}
+use Rattle.ha_journal.proofs.ForceLaws.{units-more}
+use Rattle.ha_journal.proofs.MoreLemmas.{length-more}
 use Rattle.ha_config.proofs.ListLemmas.{get-last}
 use Rattle.ha_journal.proofs.StateLemmas.{now-snoc}
 use Rattle.ha_model.proofs.FoldLaws.{spots-more}
@@ -23,7 +24,7 @@ use Rattle.engine_parts.specs.Fronts.{fronts, Stands}
 use Rattle.script_step.specs.Told.{StandsIn, Stays, IsTold, EachTold, AreTold}
 use Rattle.script_step.specs.declared.frames.Frames.{Frames}
 use Rattle.wait_set.specs.Asked.{WaitTable as Waits, is_bare}
-use Rattle.engine_parts.specs.Runs.{GateKept, GatesKept, LiveKept}
+use Rattle.engine_parts.specs.Runs.{GateKept, GatesKept, LiveKept, first_wait}
 use Rattle.ha_ready.specs.Agree.{step_at}
 use Rattle.engine_parts.specs.Touched.{QueueKept}
 use Rattle.engine_parts.specs.Stepped.{DueTaken, AskTaken, OthersKept}
@@ -78,7 +79,7 @@ module _ (was so : CallEnds) (j : Journal) (same : (p : ℕ) → p < length j �
       let not-yet : is_bare own.2 ≡ true → ask_end so j' a (length j) ≡ None = λ bare. begins-bare so j' (length j) a own.2 bare asks_here last in
       let known : GateKept so j' delays' w' s (b, Gate.Behind a (length j))
       = (
-        record { owner = 1024 + length j; place = length j; ask = own.2; named = None },
+        record { owner = first_wait + length j; place = length j; ask = own.2; named = None },
         ask own.2 own.3,
         refl,
         refl,
@@ -103,7 +104,7 @@ module _ (was so : CallEnds) (j : Journal) (same : (p : ℕ) → p < length j �
       let self : nat_eq s s ≡ true = search rules in
       let places : spots j s ++ (next_spot j b ∷ []) ≡ spots j' r.serial
       = (λ i. spots j s ++ (if sym self i then next_spot j b ∷ [] else [])) ∙ sym (spots-more j x s) ∙ (λ i. spots j' (sym own i)) in
-      let script : actions_of (units j) r.automation ≡ actions_of (units j') r.automation = (λ i. actions_of (units-more j x h i) r.automation) in
+      let script : actions_of (units j) r.automation ≡ actions_of (units j') r.automation = (λ i. actions_of (units-more j x h refl i) r.automation) in
       let new : Fronts = fronts f' (spots j s ++ (next_spot j b ∷ [])) in
       record {
         live = live.live;

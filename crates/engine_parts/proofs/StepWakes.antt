@@ -11,8 +11,9 @@ use Rattle.ha_model.specs.declared.record.Record.{Record}
 use Rattle.ha_journal.specs.Entries.{step_of}
 use Rattle.ha_journal.specs.Journal.{Journal, now, more}
 use Rattle.ha_sight.specs.Scripts.{Branch}
-use Rattle.ha_model.specs.Records.{Records, CallEnds}
+use Rattle.ha_model.specs.Records.{Records, CallEnds, actions_of}
 use Rattle.ha_model.specs.Lawful.{Right, record_of, is_running, ready}
+use Rattle.ha_journal.proofs.ForceLaws.{units-more}
 use Rattle.ha_journal.proofs.MoreLemmas.{has-entry, length-more}
 use Rattle.ha_config.proofs.ListLemmas.{get-last}
 use Rattle.ha_model.proofs.StepLaws.{serial-at, Numbered, numbered-of}
@@ -101,7 +102,7 @@ module _ (told : CallEnds) (j : Journal) (same : (p : ℕ) → p < length j → 
       → SlotsKept told j' delays' w' rs (set os (s - 1) (Some f))
   step-slots picked own f queue kept live =
       slots-set (SlotKept (ends_at j) j delays w) (SlotKept told j' delays' w') s 0 (s - 1)
-      (λ r o apart h. slot-more (ends_at j) told j x same delays delays' w w' (has-entry j right.journal) queue r o (no-spot j x r.serial (last-step r.serial ∙ turned r.serial apart)) (others.asks r.serial apart) h)
+      (λ r o apart h. slot-more (ends_at j) told j x same delays delays' w w' (has-entry j right.journal) queue r o (λ i. actions_of (units-more j x (has-entry j right.journal) refl i) r.automation) (no-spot j x r.serial (last-step r.serial ∙ turned r.serial apart)) (others.asks r.serial apart) h)
       rs os picked.run (Some f) (subst (Numbered 0) (sym right.records_are) (numbered-of j)) kept picked.found (omega (arith, (numbers s picked.run picked.found own).0)) live
 
   -- LAW: and the branches of runs may be listed anew, where the frames of the run that made the step are kept

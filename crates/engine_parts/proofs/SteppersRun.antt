@@ -10,11 +10,12 @@ use Rattle.ha_journal.specs.declared.entry.Entry.TheVariants.{Boot, Line, Step, 
 use Rattle.ha_model.specs.declared.record.Record.{Record}
 use Rattle.ha_config.specs.Words.{EachAfter}
 use Rattle.ha_journal.specs.Entries.{step_of}
-use Rattle.ha_journal.specs.Journal.{Journal, now, more}
+use Rattle.ha_journal.specs.Journal.{Journal, now, more, units}
 use Rattle.ha_model.specs.Records.{Records, CallEnds}
 use Rattle.ha_model.specs.Lawful.{Right, IsRightEntry, record_of, is_running, ready}
 use Rattle.ha_journal.proofs.MoreLemmas.{has-entry, length-more}
 use Rattle.ha_config.proofs.ListLemmas.{get-last}
+use Rattle.ha_model.proofs.KnownLaws.{AllKnown, all-known}
 use Rattle.ha_model.proofs.StepLaws.{serial-at}
 use Rattle.script_step.specs.declared.frames.Frames.{Frames}
 use Rattle.engine_parts.specs.Waiting.{TellsEnds, AsksKept, EndsGrow, fresh}
@@ -23,7 +24,8 @@ use Rattle.engine_parts.specs.Runs.{SlotKept, SlotsKept, Waking}
 use Rattle.ha_ready.specs.Agree.{step_at, touched, AgreesBut}
 use Rattle.engine_parts.specs.Touched.{due_places, wait_places, QueueKept}
 use Rattle.ha_ready.proofs.RunPast.{all-past, past-at}
-use Rattle.engine_parts.proofs.SlotLemmas.{slots-map, slot-more, ended-off, untouched-stays}
+use Rattle.engine_parts.proofs.ReadyOneMore.{script-more}
+use Rattle.engine_parts.proofs.SlotLemmas.{slots-known, slot-more, ended-off, untouched-stays}
 use Rattle.ha_ready.proofs.AgreeLemmas.{agree-first}
 use Rattle.ha_ready.specs.ReadyPairs.{ends_at}
 
@@ -99,7 +101,9 @@ line-steps (e ∷ es) source number cmd s (suc p) h = line-steps es source numbe
 pub line-slots : (told : CallEnds) (j : Journal) (same : (p : ℕ) → p < length j → told p ≡ ends_at j p) (rs : Records) (source number : ℕ) (cmd : Cmd) (delays delays' : List Timer) (w w' : Waits) (os : List (Option Frames)) → Right j rs
     → QueueKept (now (more j (Line source number cmd))) delays delays' → ((s : ℕ) → AsksKept w w' s) → SlotsKept (ends_at j) j delays w rs os → SlotsKept told (more j (Line source number cmd)) delays' w' rs os
 line-slots told j same rs source number cmd delays delays' w w' os right queue asks kept =
-    slots-map (SlotKept (ends_at j) j delays w) (SlotKept told (more j (Line source number cmd)) delays' w') (λ r o h. slot-more (ends_at j) told j (Line source number cmd) same delays delays' w w' (has-entry j right.journal) queue r o refl (asks r.serial) h) rs os kept
+    slots-known (SlotKept (ends_at j) j delays w) (SlotKept told (more j (Line source number cmd)) delays' w') (length (units j))
+    (λ r o known h. slot-more (ends_at j) told j (Line source number cmd) same delays delays' w w' (has-entry j right.journal) queue r o (script-more j (Line source number cmd) r.automation known) refl (asks r.serial) h)
+    rs os (subst (AllKnown (length (units j))) (sym right.records_are) (all-known j)) kept
 
 -- LAW: behind a line, where the waits stand for it, the branches of runs may be listed anew
 pub line-waking : (told : CallEnds) (j : Journal) (same : (p : ℕ) → p < length j → told p ≡ ends_at j p) (rs : Records) (source number : ℕ) (cmd : Cmd) (delays delays' : List Timer) (w w' : Waits) (os : List (Option Frames)) (at : ℕ) → Right j rs → at ≡ now (more j (Line source number cmd))
@@ -114,7 +118,7 @@ line-waking told j same rs source number cmd delays delays' w w' os at right is 
       (subst (λ (q : Record). q.serial ≡ s) same run.2, longer r end (subst (λ (q : Record). q.end ≡ None → is_running (length j) q ≡ true) same run.4 end)));
   resting = λ s r found ended. ended-off (length j) (length (more j (Line source number cmd))) (omega (arith, length-more j (Line source number cmd))) r ended (past-at (length j) rs (s - 1) r (all-past j rs right) found);
   stands = stands;
-  slots = slots-map (SlotKept (ends_at j) j delays w) (SlotKept told (more j (Line source number cmd)) delays' w') (λ r o h. slot-more (ends_at j) told j (Line source number cmd) same delays delays' w w' (has-entry j right.journal) queue r o refl (asks r.serial) h) rs os kept;
+  slots = line-slots told j same rs source number cmd delays delays' w w' os right queue asks kept;
 }
   where
     numbers : (s : ℕ) (r : Record) → record_of rs s ≡ Some r → r.serial ≡ s → (0 < s) × (s ≤ length rs)

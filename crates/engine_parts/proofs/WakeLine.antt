@@ -56,7 +56,7 @@ module _ (rs : Records) (w : WaitTable) (p : Parts) (delays' : List Timer) (t' :
       let left : AgreesBut told (touched k (due_places p.at p.delays ++ wait_places (fresh p.waits))) rs k p.ready.pairs.items
       = subst (λ n. AgreesBut told (touched k (due_places n p.delays ++ wait_places (fresh p.waits))) rs k p.ready.pairs.items) at (subst (λ l. AgreesBut told (touched k (due_places (now k) p.delays ++ wait_places (fresh p.waits))) rs k l) old agrees) in
       record {
-        sees = record { looks = noted.sees.looks; helpers_stand = noted.sees.helpers_stand; switches_stand = noted.sees.switches_stand; changed_is = noted.sees.changed_is; sound = noted.sees.sound };
+        sees = record { looks = noted.sees.looks; helpers_stand = noted.sees.helpers_stand; switches_stand = noted.sees.switches_stand; changed_is = noted.sees.changed_is; sound = noted.sees.sound; few = noted.sees.few; free_is = noted.sees.free_is; ascending_is = noted.sees.ascending_is };
         triggers_stand = woken.0 k noted.told.triggers_stand;
         waits_stand = noted.told.waits_stand;
         owned = woken.1 k noted.told.fresh noted.told.others noted.told.owned;

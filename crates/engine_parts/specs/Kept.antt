@@ -1,16 +1,19 @@
 -- What an engine keeps: each part stands for the journal.
 use Rattle.std.specs.Prelude.{◌≡◌, ℕ, ◌<◌, ◌≤◌, ◌+◌, ◌-◌, Bool, true, false, IsTrue, IsSome}
 use Rattle.std.specs.Prelude.{List, [], ◌∷◌, filter, length, Option, Some, None}
+use Rattle.std.specs.Option.{option_map_or}
 use Rattle.timer_queue.specs.Timers.{Timer}
 use Rattle.ha_clock.specs.Zone as clock
 use Rattle.ha_clock.specs.Local.{last_moment}
-use Rattle.ha_journal.specs.Journal.{Journal, zone_of, now, configured}
+use Rattle.ha_journal.specs.Journal.{Journal, zone_of, now, configured, units}
 use Rattle.ha_model.specs.declared.record.Record.{Record}
 use Rattle.ha_sight.specs.Scripts.{Branch}
 use Rattle.ha_model.specs.Records.{CallEnds, Records}
 use Rattle.ha_journal.specs.Sights.{changes_switch}
 use Rattle.ha_config.specs.Sound.{is_sound_config}
-use Rattle.ha_config.specs.Words.{Text}
+use Rattle.ha_config.specs.Words.{Text, last_of}
+use Rattle.ha_journal.specs.declared.entry.Entry.{Entry}
+use Rattle.ha_journal.specs.Entries.{is_reload}
 use Rattle.state_laws.specs.Stands as states
 use Rattle.state_table.specs.declared.table.StateTable.{StateTable}
 use Rattle.helper_set.specs.Kept as helpers
@@ -25,6 +28,7 @@ use Rattle.wait_set.specs.Stands as waits
 use Rattle.wait_set.specs.Timers.{AreApart}
 use Rattle.ha_ready.specs.RestedFlags.{RestedKept}
 use Rattle.engine_parts.specs.declared.parts.Parts.{Parts}
+use Rattle.engine_parts.specs.Numbers.{AreFew, is_ascending, numbers_in, rule_numbers}
 use Rattle.engine_parts.specs.Owners.{AreAscending, AreBelow, owners_on, is_automation}
 use Rattle.ha_ready.specs.ReadyPairs.{branches_with, ends_at, pairs_from}
 use Rattle.engine_parts.specs.Called.{CallsKept, told_by}
@@ -36,21 +40,29 @@ use Rattle.engine_parts.specs.Runs.{AreHeld, SlotKept, SlotsWith, first_wait}
 abbrev pub AreSound : Journal → Type 0
 AreSound j = IsTrue (is_sound_config (configured j))
 
--- Now, the zone and the states are those after the journal
-pub record Looks (j : Journal) (table : StateTable) (zone : Text) (at : ℕ) : Type 0 where
+-- Now, the zone, the states and the numbers are those after the journal
+pub record Looks (j : Journal) (table : StateTable) (numbers : List ℕ) (zone : Text) (at : ℕ) : Type 0 where
   pub now_is : at ≡ now j
   pub in_time : at ≤ last_moment
   pub zone_is : zone ≡ zone_of j
   pub zone_read : IsSome (clock.zone_of (zone_of j))
   pub states_stand : states.StandsFor table j
+  pub numbers_are : numbers ≡ numbers_in j
 
--- and so are the helpers and the switches
+-- the last entry is such a one
+abbrev pub last_is : (Entry → Bool) → Journal → Bool
+last_is test j = option_map_or test (last_of j) false
+
+-- and so are the helpers and the switches; whether a Reload changed one is not kept here
 pub record Sees (j : Journal) (p : Parts) : Type 0 where
-  pub looks : Looks j p.states p.zone p.at
+  pub looks : Looks j p.states p.numbers p.zone p.at
   pub helpers_stand : helpers.StandsFor p.helpers j
   pub switches_stand : switches.StandsFor p.switches j
-  pub changed_is : p.changed ≡ changes_switch j
+  pub changed_is : last_is is_reload j ≡ false → p.changed ≡ changes_switch j
   pub sound : AreSound j
+  pub few : AreFew j
+  pub free_is : p.free ≡ length (units j)
+  pub ascending_is : p.ascending ≡ is_ascending (rule_numbers j)
 
 -- ---- who has triggers attached
 
@@ -64,7 +76,7 @@ abbrev pub AreOwned : ℕ → List Owner → List Asked → Type 0
 AreOwned n owners [] = Unit {0}
 AreOwned n owners (a ∷ asks) = IsOwned n owners a × AreOwned n owners asks
 
--- the automations that are on, since they are on, and the pending waits
+-- the automations in force that are on, since they are on, and the pending waits
 pub record Owned (j : Journal) (t : TrigSet) (w : Waits) : Type 0 where
   pub automations_attached : filter is_automation (triggers.attached t) ≡ owners_on j (length j - 1)
   pub ascend : AreAscending 0 (triggers.attached t)

@@ -2,10 +2,12 @@ pub mod Waiting
 pub mod Fronts
 pub mod Called
 pub mod Lower
+pub mod Numbers
 pub mod Slots
 pub mod OneMore
 pub mod Touched
 pub mod Owners
+pub mod Sorted
 pub mod Stepped
 pub mod Changes
 pub mod Runs

@@ -17,9 +17,9 @@ use Rattle.ha_model.specs.Lawful.{is_running, record_of}
 use Rattle.wait_set.specs.declared.asked.Asked as wait
 use Rattle.wait_set.specs.Asked.{WaitTable as Waits, is_bare, is_of}
 
--- owners below this are automations; the wait that began at place p has the owner that is p above it
+-- owners below this are automations, whose numbers are all below it; the wait that began at place p has the owner that is p above it
 abbrev pub first_wait : ℕ
-first_wait = 1024
+first_wait = 262144
 
 -- a gate that is shut is known: the due of a delay is in the queue, under the place of its step; a wait was taken in, and of a bare one the
 -- end that was named is the one that there is where called runs ended so

@@ -1,5 +1,5 @@
 -- The stages of the work on a line that was pushed.
-use Rattle.std.specs.Prelude.{◌≡◌, ℕ, ◌<◌, ◌∷◌, [], true, false, length, List, Option}
+use Rattle.std.specs.Prelude.{◌≡◌, ℕ, ◌<◌, ◌∷◌, [], true, false, length, List, None, Option}
 use Rattle.ha_value.specs.declared.value.EntityId.{EntityId}
 use Rattle.timer_queue.specs.Timers.{Timer}
 use Rattle.script_step.specs.declared.frames.Frames.{Frames}
@@ -13,6 +13,7 @@ use Rattle.ha_sight.specs.declared.state.StateObject.{StateObject}
 use Rattle.ha_config.specs.Fair.{IsPlain}
 use Rattle.ha_config.specs.Words.{Text, Pairs}
 use Rattle.ha_journal.specs.Commands.{IsFair}
+use Rattle.ha_journal.specs.Entries.{reloads_to}
 use Rattle.ha_journal.specs.Helpers.{last_events}
 use Rattle.ha_journal.specs.Journal.{Journal, IsJournal, HasEntry, more}
 use Rattle.ha_model.specs.Records.{Records}
@@ -44,6 +45,7 @@ pub record Pushed (k : Journal) (rs : Records) (p : Parts) : Type 0 where
   pub journal_is : k ≡ more j (Line source number cmd)
   pub known : source < 16
   pub fair : IsFair j cmd
+  pub unreloaded : reloads_to cmd ≡ None
   pub right : Right j rs
   pub kept : Kept j rs p
 
@@ -69,6 +71,7 @@ IsOther (Cmd.Moment at) = ⊥
 IsOther (Cmd.Switch name on stop) = ⊥
 IsOther (Cmd.Trigger name skip) = Unit {0}
 IsOther Cmd.Restart = ⊥
+IsOther (Cmd.Reload text config) = ⊥
 IsOther (Cmd.Refused code) = Unit {0}
 IsOther Cmd.Lost = Unit {0}
 IsOther Cmd.TooLong = Unit {0}

@@ -5,6 +5,7 @@ use Rattle.ha_sight.specs.declared.waiting.WaitAsk.{WaitAsk}
 use Rattle.ha_sight.specs.declared.steps.StepOut.{StepOut}
 use Rattle.ha_sight.specs.Scripts.{Branch}
 use Rattle.script_step.specs.Gates.{Gate, Fronts, gate_at}
+use Rattle.engine_parts.specs.Runs.{first_wait}
 use Rattle.engine_parts.specs.Waiting.{AsksKept, EndsGrow, asked_at}
 use Rattle.wait_set.specs.Asked.{WaitTable as Waits}
 
@@ -15,7 +16,7 @@ DueTaken at p b new delays = (due : ℕ) → gate_at b new ≡ Some (Gate.From d
 -- the ask of a wait that began at place p was taken in
 abbrev pub AskTaken : ℕ → ℕ → Branch → StepOut → Waits → Type 0
 AskTaken p serial b out w =
-    (ask : WaitAsk) → out.wait ≡ Some ask → asked_at w serial b ≡ Some (record { owner = 1024 + p; place = p; ask = ask; named = None })
+    (ask : WaitAsk) → out.wait ≡ Some ask → asked_at w serial b ≡ Some (record { owner = first_wait + p; place = p; ask = ask; named = None })
 
 -- the asks of the run's other branches are the same
 abbrev pub OthersKept : Waits → Waits → ℕ → Branch → Type 0

@@ -1,5 +1,5 @@
 //! An entry whose own changes were made: the triggers and the waits are told of it, and the runs that it wakes are listed anew.
-ghost use Rattle.std.specs.Prelude.{◌≡◌, ◌-◌, ℕ, List, IfOk, OnOk, length};
+ghost use Rattle.std.specs.Prelude.{◌≡◌, ◌-◌, ℕ, IfOk, OnOk, length};
 ghost use Rattle.ha_journal.specs.Attempts.{fired as fired_lem};
 ghost use Rattle.ha_journal.specs.Helpers.{last_events};
 ghost use Rattle.ha_model.specs.Records.{Records};
@@ -14,6 +14,7 @@ ghost use Rattle.engine_parts.specs.Waiting.{EndsGrow};
 ghost use Rattle.engine_parts.specs.Without.{without_owners};
 
 use crate::note::note;
+use crate::order::ordered;
 use crate::parts::Parts;
 use crate::wake::wake;
 use ha_clock::{Moment, Zone};
@@ -37,11 +38,12 @@ fn note_last<'a>(
     before: Before,
     given: &Many<BusEvent>,
     states: &'a StateTable,
+    numbers: &'a Many<u32>,
     helpers: &'a Helpers,
     zone: &'a Zone,
     at: Moment,
 ) -> Result<Many<Firing>, AllocError>
-    requires looks { Looks journal.now states.now zone.now at }
+    requires looks { Looks journal.now states.now numbers.now zone.now at }
     requires helpers { StandsFor helpers.now journal.now }
     requires sound { AreSound journal.now }
     requires given { given.now ≡ last_events journal.now }
@@ -50,7 +52,7 @@ fn note_last<'a>(
     ensures told { OnOk result (Told journal.entry.now waits.old triggers.new waits.new) }
     ensures fired { IfOk result (λ fired. fired ≡ firings journal.entry.now (length journal.entry.now - 1) (attached triggers.old)) }
 {
-    let view = Seeing::make(states, journal.configuration(), zone, at, helpers);
+    let view = Seeing::make(states, journal.configuration(), numbers, zone, at, helpers);
     // The borrow checker builds its plan only where a place has the type that the view holds.
     let _ = &view.view;
     let fired = note(
@@ -66,8 +68,8 @@ fn note_last<'a>(
     Ok(fired)
 }
 
-/// The triggers and the waits note the entry.
-pub fn note_entry(
+/// The triggers and the waits note the entry; the answer has what fired, by the owners' numbers.
+fn note_parts(
     parts: &mut Parts,
     alloc: Global,
     journal: &Segment<'_>,
@@ -87,11 +89,30 @@ pub fn note_entry(
         before,
         &parts.given,
         &parts.states,
+        &parts.numbers,
         &parts.helpers,
         &parts.zone,
         parts.at,
     )?;
     Ok(fired)
+}
+
+/// The triggers and the waits note the entry; the answer has what fired, the attempts of automations as configured.
+pub fn note_entry(
+    parts: &mut Parts,
+    alloc: Global,
+    journal: &Segment<'_>,
+    before: Before,
+) -> Result<Many<Firing>, AllocError>
+    requires { Entered journal.now parts.old before }
+    ensures attached { OnOk result (attached parts.new.triggers ≡ attached parts.old.triggers) }
+    ensures noted { OnOk result (Noted journal.now parts.old.waits parts.new) }
+    ensures fired { IfOk result (λ fired. attempts_by fired ≡ fired_lem journal.now (length journal.now - 1)) }
+    ensures rest { OnOk result (parts.new ≡ record parts.old { triggers = parts.new.triggers; waits = parts.new.waits }) }
+{
+    let fired = note_parts(parts, alloc, journal, before)?;
+    let made = ordered(alloc, parts.ascending, &parts.numbers, journal, fired)?;
+    Ok(made)
 }
 
 /// The runs that a line wakes are listed anew, and the triggers of the waits that ended are detached.

@@ -14,6 +14,7 @@ ghost use Rattle.engine_parts.specs.Kept.{GoingWith, Gone, Owned};
 ghost use Rattle.engine_parts.specs.Pending.{AreOthers};
 ghost use Rattle.engine_parts.specs.Records.{HasRoom, IsTable};
 ghost use Rattle.engine_parts.specs.Without.{without_owners};
+ghost use Rattle.engine_parts.specs.Runs.{first_wait};
 
 use crate::parts::Parts;
 use crate::ready::put_woken;
@@ -26,7 +27,7 @@ use wait_set::Waits;
 fn detach_wait(triggers: &mut TrigSet, waits: &Waits, serial: u64, branch: &Branch)
     ensures stands { (j : Journal) → StandsFor triggers.old j → StandsFor triggers.new j }
     ensures rest { attached triggers.new ≡ without_owners (owner_at serial branch.now waits.now.asks) (attached triggers.old) }
-    ensures owned { (j : Journal) (a : Wait) (w : WaitTable) → wait_of serial branch.now waits.now.asks ≡ Some a → 1024 ≤ a.owner → AreOthers (a.owner ∷ []) w.asks → Owned j triggers.old w → Owned j triggers.new w }
+    ensures owned { (j : Journal) (a : Wait) (w : WaitTable) → wait_of serial branch.now waits.now.asks ≡ Some a → first_wait ≤ a.owner → AreOthers (a.owner ∷ []) w.asks → Owned j triggers.old w → Owned j triggers.new w }
 {
     match waits.owner_of(serial, branch) {
         Some(owner) => detach(triggers, owner),
@@ -39,7 +40,7 @@ fn resume(parts: &mut Parts, serial: u64, branch: Branch, place: u64)
     requires { vec_len parts.old.ready.pairs < vec_capacity parts.old.ready.pairs }
     ensures triggers { (j : Journal) → StandsFor parts.old.triggers j → StandsFor parts.new.triggers j }
     ensures attached { attached parts.new.triggers ≡ without_owners (owner_at serial branch parts.old.waits.asks) (attached parts.old.triggers) }
-    ensures owned { (j : Journal) (a : Wait) (w : WaitTable) → wait_of serial branch parts.old.waits.asks ≡ Some a → 1024 ≤ a.owner → AreOthers (a.owner ∷ []) w.asks → Owned j parts.old.triggers w → Owned j parts.new.triggers w }
+    ensures owned { (j : Journal) (a : Wait) (w : WaitTable) → wait_of serial branch parts.old.waits.asks ≡ Some a → first_wait ≤ a.owner → AreOthers (a.owner ∷ []) w.asks → Owned j parts.old.triggers w → Owned j parts.new.triggers w }
     ensures asks { parts.new.waits ≡ record { asks = finished serial branch place parts.old.waits.asks; fresh = parts.old.waits.fresh } }
     ensures waits { (j : Journal) (a : Wait) → wait_of serial branch parts.old.waits.asks ≡ Some a → is_bare a.ask ≡ true → a.place < length j
         → waits_lem.StandsFor parts.old.waits.asks j → waits_lem.StandsFor parts.new.waits.asks j }

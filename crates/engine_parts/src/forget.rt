@@ -10,6 +10,7 @@ ghost use Rattle.engine_parts.specs.Kept.{Going, GoingWith, Gone, Owned};
 ghost use Rattle.engine_parts.specs.Pending.{AreOthers};
 ghost use Rattle.engine_parts.specs.Records.{HasRoom, IsTable, also};
 ghost use Rattle.engine_parts.specs.Without.{without_owners};
+ghost use Rattle.engine_parts.specs.Runs.{first_wait};
 
 use crate::called::wake_caller;
 use crate::parts::Parts;
@@ -24,7 +25,7 @@ use wait_set::Waits;
 fn detach_run(triggers: &mut TrigSet, waits: &Waits, serial: u64)
     ensures rest { attached triggers.new ≡ without_owners (owners_of serial waits.now.asks) (attached triggers.old) }
     ensures stands { (j : Journal) → StandsFor triggers.old j → StandsFor triggers.new j }
-    ensures owned { (j : Journal) → ((i o : ℕ) → slice_get (owners_of serial waits.now.asks) i ≡ Some o → (1024 ≤ o) × AreOthers (o ∷ []) (without_run serial waits.now.asks))
+    ensures owned { (j : Journal) → ((i o : ℕ) → slice_get (owners_of serial waits.now.asks) i ≡ Some o → (first_wait ≤ o) × AreOthers (o ∷ []) (without_run serial waits.now.asks))
         → Owned j triggers.old (record { asks = without_run serial waits.now.asks; fresh = waits.now.fresh })
         → Owned j triggers.new (record { asks = without_run serial waits.now.asks; fresh = waits.now.fresh }) }
 {

@@ -17,11 +17,12 @@ ghost use Rattle.engine_parts.specs.Records.{AreEnded, IsTable, first_branches};
 ghost use Rattle.run_modes.specs.Fits.{AreNumbered};
 ghost use Rattle.wait_set.specs.declared.asked.Asked.{Asked};
 ghost use Rattle.wait_set.specs.Stands.{AreFired};
-ghost use Rattle.engine_parts.specs.Owners.{AreAscending, attempts_by, is_automation, owners_on};
+ghost use Rattle.engine_parts.specs.Numbers.{AreFew, is_ascending, rule_numbers};
+ghost use Rattle.engine_parts.specs.Owners.{AreAscending, attempts_by, is_automation, ordered, owners_on};
 ghost use Rattle.ha_ready.specs.Picked.{IsPicked};
 ghost use Rattle.engine_parts.specs.Runs.{LiveKept, SlotsKept, Waking};
 ghost use Rattle.ha_config.specs.declared.command.Cmd.{Cmd};
-ghost use Rattle.ha_journal.specs.Journal.{Journal, HasEntry, now as now_of, more, units};
+ghost use Rattle.ha_journal.specs.Journal.{Journal, HasEntry, now as now_of, more, through, units};
 ghost use Rattle.ha_sight.specs.Scripts.{Branch};
 ghost use Rattle.ha_journal.specs.declared.entry.Entry.{Entry};
 ghost use Rattle.ha_model.specs.declared.record.Record.{Record};
@@ -35,10 +36,10 @@ ghost use Rattle.engine_parts.specs.OneMore.{FrontsStay};
 ghost use Rattle.ha_model.specs.Lawful.{Right, IsRightEntry, is_running, pick, ready, record_of};
 ghost use Rattle.ha_ready.specs.ReadyPairs.{branches_at, branches_with, ends_at, may_with, pairs_of, ready_with};
 
-/// A run that makes no step, neither begins nor ends at an entry, and none of whose gates opens there, has behind it the branches that may
-/// step before it.
+/// A run of a known unit that makes no step, neither begins nor ends at an entry, and none of whose gates opens there, has behind it the
+/// branches that may step before it.
 pub fn untouched_runs_stay()
-    ensures { (told told' : CallEnds) (j : Journal) (x : Entry) (r r' : Record) (F : Fronts) → HasEntry j → IsPast (length j) r → SameScript r r' → r.begin ≡ r'.begin → r.end ≡ r'.end
+    ensures { (told told' : CallEnds) (j : Journal) (x : Entry) (r r' : Record) (F : Fronts) → HasEntry j → IsPast (length j) r → r.automation < length (units j) → SameScript r r' → r.begin ≡ r'.begin → r.end ≡ r'.end
         → spot_of r'.serial j x ≡ [] → AreFronts (actions_of (units j) r.automation) r.env (spots j r.serial) F → FrontsStay told told' j (more j x) F
         → ready_with told' (more j x) r' ≡ ready_with told j r }
 {}
@@ -58,9 +59,10 @@ pub fn firings_tell_waits()
     ensures { (k : Journal) (q n : ℕ) (os : List Owner) (asks : List Asked) → AreAscending 0 os → AreOwned n os asks → AreFired k q (firings k q os) asks }
 {}
 
-/// The attempts by triggers of an entry are the firings of the automations that are on, in their order.
+/// The attempts by triggers of an entry are the firings of the automations in force that are on, as configured.
 pub fn attempts_are_firings()
-    ensures { (j : Journal) (p : ℕ) (os : List Owner) → filter is_automation os ≡ owners_on j p → attempts_by (firings j p os) ≡ fired j p }
+    ensures { (j : Journal) (p : ℕ) (os : List Owner) → AreFew (through j p) → AreAscending 0 os → filter is_automation os ≡ owners_on j p
+        → attempts_by (ordered (is_ascending (rule_numbers (through j p))) (rule_numbers (through j p)) (firings j p os)) ≡ fired j p }
 {}
 
 /// The gate of a picked branch is open for the step that is told the end of its wait; and what the frames of its run then give is a right

@@ -33,11 +33,12 @@ fn note_report<'a>(
     text: &Word,
     attributes: &Many<(Word, Value)>,
     states: &'a StateTable,
+    numbers: &'a Many<u32>,
     helpers: &'a Helpers,
     zone: &'a Zone,
     at: Moment,
 ) -> Result<(), AllocError>
-    requires looks { Looks journal.now states.now zone.now at }
+    requires looks { Looks journal.now states.now numbers.now zone.now at }
     requires helpers { StandsFor helpers.now journal.now }
     requires sound { AreSound journal.now }
     requires untold { UntoldLeft journal.now triggers.old waits.old entity.now text.now attributes.now }
@@ -46,7 +47,7 @@ fn note_report<'a>(
     ensures fired { firings journal.entry.now (length journal.entry.now - 1) (attached triggers.old) ≡ [] }
 {
     triggers.note_left(alloc, entity, text, attributes, at)?;
-    let view = Seeing::make(states, journal.configuration(), zone, at, helpers);
+    let view = Seeing::make(states, journal.configuration(), numbers, zone, at, helpers);
     // The borrow checker builds its plan only where a place has the type that the view holds.
     let _ = &view.view;
     let fired = Many::make(alloc);
@@ -78,6 +79,7 @@ fn note_left(
         text,
         attributes,
         &parts.states,
+        &parts.numbers,
         &parts.helpers,
         &parts.zone,
         parts.at,

@@ -9,6 +9,7 @@ pub mod last;
 pub mod laws;
 pub mod left;
 pub mod note;
+pub mod order;
 pub mod parts;
 pub mod ready;
 pub mod rested;

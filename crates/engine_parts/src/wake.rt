@@ -3,7 +3,7 @@ ghost use Rattle.std.specs.Prelude.{◌≡◌, ◌<◌, ◌≤◌, All, IsNone, 
 ghost use Rattle.std.specs.Option.{option_copied};
 ghost use Rattle.ha_journal.specs.Journal.{Journal};
 ghost use Rattle.ha_model.specs.Records.{CallEnds, Records};
-ghost use Rattle.engine_parts.specs.Runs.{Waking};
+ghost use Rattle.engine_parts.specs.Runs.{Waking, first_wait};
 ghost use Rattle.ha_ready.specs.ReadyPairs.{branches_with, pairs_from};
 ghost use Rattle.ha_ready.specs.Agree.{AgreesBut, step_at, touched};
 ghost use Rattle.engine_parts.specs.Touched.{QueueKept, due_places, wait_places};
@@ -16,6 +16,7 @@ ghost use Rattle.engine_parts.specs.Pending.{AreOthers, AreWaits};
 ghost use Rattle.engine_parts.specs.Without.{without_owners};
 ghost use Rattle.engine_parts.specs.Kept.{KeysBelow, Owned};
 
+use crate::parts::FIRST_WAIT;
 use crate::ready::{Ready, set_run};
 use crate::slots::Slots;
 use ha_clock::Moment;
@@ -112,7 +113,7 @@ fn wake_delays(
 pub fn detach(triggers: &mut TrigSet, owner: u64)
     ensures rest { attached triggers.new ≡ without_owner owner (attached triggers.old) }
     ensures stands { (j : Journal) → StandsFor triggers.old j → StandsFor triggers.new j }
-    ensures owned { (j : Journal) (left : List ℕ) (w : WaitTable) → 1024 ≤ owner → AreOthers (owner ∷ left) w.asks → Owned j triggers.old w → Owned j triggers.new w }
+    ensures owned { (j : Journal) (left : List ℕ) (w : WaitTable) → first_wait ≤ owner → AreOthers (owner ∷ left) w.asks → Owned j triggers.old w → Owned j triggers.new w }
 {
     triggers.detach(owner);
 }
@@ -150,7 +151,7 @@ fn wake_waits(
             alloc,
             now,
             waits,
-            owner.saturating_sub(1024),
+            owner.saturating_sub(FIRST_WAIT),
         )?;
     }
     Ok(())

@@ -5,6 +5,7 @@
 ghost use Rattle.std.specs.Prelude.{◌≡◌};
 
 use ha_engine::Engine;
+use ha_model::Prepare;
 
 /// Hands over what may move between threads.
 fn hand_over<E: Send>(core: E) -> E
@@ -13,8 +14,8 @@ fn hand_over<E: Send>(core: E) -> E
     core
 }
 
-/// The engine may be handed over so.
-pub fn engine_moves(engine: Engine) -> Engine
+/// The engine may be handed over so, where its reading may.
+pub fn engine_moves<P: Prepare + Drop + Send>(engine: Engine<P>) -> Engine<P>
     ensures { result ≡ engine }
 {
     hand_over(engine)

@@ -15,15 +15,16 @@ use Rattle.ha_value.specs.Ids.{entity_from, is_entity, is_name, read_entity}
 use Rattle.ha_value.specs.Lists.{before_first, after_first}
 use Rattle.ha_clock.specs.MomentText.{moment_of}
 use Rattle.ha_config.specs.declared.command.Cmd.{Cmd}
+use Rattle.ha_config.specs.declared.config.Config.{Config}
 use Rattle.ha_config.specs.declared.command.Cmd.TheVariants as cmd
 use Rattle.ha_config.specs.Words.{Text, Pairs, same, first_pair, characters}
 use Rattle.ha_config.specs.ValueText.{deepest, depth_of, depth_step, pairs_depth}
 use Rattle.ha_config.specs.ValueFacts.{all_distinct, keys_of, is_sound_value, sound_step, are_sound_pairs, utf8_step, has_utf8_texts, have_utf8_texts, AreFairPairs}
-use Rattle.ha_config.specs.Fair.{IsFairAmong, IsReportable}
+use Rattle.ha_config.specs.Fair.{IsFairAmong, IsReportable, put_reload}
 use Rattle.flow_line.specs.declared.keys.Command.{Command}
-use Rattle.flow_line.specs.declared.keys.Command.TheVariants.{Report, Gone, Event, Moment, Switch, Trigger, Restart}
+use Rattle.flow_line.specs.declared.keys.Command.TheVariants.{Report, Gone, Event, Moment, Switch, Trigger, Restart, Reload}
 use Rattle.flow_line.specs.declared.refusal.Refusal.TheVariants.{Id, LongState, Keys}
-use Rattle.flow_line.specs.Command.{Checked, ◌>>=◌, IsLineMap, IsInTime, IsFairOncePut, as_true, at_moment, automation, cmd_by, cmd_of_pairs, event_of, flag_in, flag_of, gone_of, has_keys, is_automation, key_of, map_in, map_of, moment_of_pairs, named, only, report_of, reportable, restart_of, restarts, state_of, switch_of, text_in, text_of, trigger_of, turned, value_of, with_keys}
+use Rattle.flow_line.specs.Command.{Checked, ◌>>=◌, IsLineMap, IsInTime, IsFairOncePut, as_true, at_moment, automation, cmd_by, cmd_of_pairs, event_of, flag_in, flag_of, gone_of, has_keys, is_automation, key_of, map_in, map_of, moment_of_pairs, named, only, reload_of, report_of, reportable, restart_of, restarts, state_of, switch_of, text_in, text_of, trigger_of, turned, value_of, with_keys}
 use Rattle.flow_line.proofs.Sound.{deep_layer, sound_layer, utf8_layer, utf8-out}
 use Rattle.ha_config.proofs.ValueRolls.{depth_of-out, is_sound_value-out}
 
@@ -154,18 +155,18 @@ short text state e = elim (chosen (nat_le (characters text) 255) (Ok text) (Err 
 
 -- ---- commands
 
-module _ (has : Text → Bool) (helps : EntityId → Bool) where
-  put_named : (name : Text) (c : Cmd) → (IsTrue (has name) → IsFairAmong has helps c) → IsFairAmong has helps (cond (has name) c (cmd.Refused 9))
+module _ (has : Text → Bool) (helps : EntityId → Bool) (more : Bool) where
+  put_named : (name : Text) (c : Cmd) → (IsTrue (has name) → IsFairAmong has helps more c) → IsFairAmong has helps more (cond (has name) c (cmd.Refused 9))
   put_named name c fair =
-      (elim (has name) as (λ b. has name ≡ b → IsFairAmong has helps (cond b c (cmd.Refused 9))) [
+      (elim (has name) as (λ b. has name ≡ b → IsFairAmong has helps more (cond b c (cmd.Refused 9))) [
         | true ↦ λ e. fair e
         | false ↦ λ e. refl
       ]) refl
 
-  put_reported : (e : EntityId) (c : Cmd) → (IsTrue (not (helps e)) → IsFairAmong has helps c) → IsFairAmong has helps (cond (helps e) (cmd.Refused 14) c)
+  put_reported : (e : EntityId) (c : Cmd) → (IsTrue (not (helps e)) → IsFairAmong has helps more c) → IsFairAmong has helps more (cond (helps e) (cmd.Refused 14) c)
   put_reported e c fair = by (helps e) fair
     where
-      by : (b : Bool) → (IsTrue (not b) → IsFairAmong has helps c) → IsFairAmong has helps (cond b (cmd.Refused 14) c)
+      by : (b : Bool) → (IsTrue (not b) → IsFairAmong has helps more c) → IsFairAmong has helps more (cond b (cmd.Refused 14) c)
       by true fair = refl
       by false fair = fair refl
 
@@ -181,7 +182,7 @@ report_fair ps c line e =
     let entity = bound (reportable (read_entity id.0)) _ c attributes.2 in
     let state = bound (state_of text.0) _ c entity.2 in
     subst IsFairOncePut (made (cmd.Report entity.0 state.0 attributes.0) c state.2)
-    (λ has helps. put_reported has helps entity.0 (cmd.Report entity.0 state.0 attributes.0)
+    (λ read has helps more. put_reported has helps more entity.0 (cmd.Report entity.0 state.0 attributes.0)
     (λ free. ((reports id.0 entity.0 entity.1, ap is_utf8 (sym (same_state text.0 state.0 state.1)) ∙ inner_text (codes "state") ps text.0 line text.1, short text.0 state.0 state.1, inner_map (codes "attributes") ps attributes.0 line attributes.1), free)))
 
 gone_fair : (ps : Pairs) (c : Cmd) → gone_of ps ≡ Ok c → IsFairOncePut c
@@ -190,18 +191,18 @@ gone_fair ps c e =
     let id = bound (text_of (value_of Gone ps)) _ c e in
     let entity = bound (reportable (read_entity id.0)) _ c id.2 in
     subst IsFairOncePut (made (cmd.Gone entity.0) c entity.2)
-    (λ has helps. put_reported has helps entity.0 (cmd.Gone entity.0) (λ free. (reports id.0 entity.0 entity.1, free)))
+    (λ read has helps more. put_reported has helps more entity.0 (cmd.Gone entity.0) (λ free. (reports id.0 entity.0 entity.1, free)))
 
 event_fair : (ps : Pairs) (c : Cmd) → IsLineMap ps → event_of ps ≡ Ok c → IsFairOncePut c
 unfolding event_of
 event_fair ps c line e =
     let kind = bound (text_of (value_of Event ps)) _ c e in
     let fields = bound (map_of (first_pair (codes "data") ps)) _ c kind.2 in
-    subst IsFairOncePut (made (cmd.Event kind.0 fields.0) c fields.2) (λ has helps. (inner_text (key_of Event) ps kind.0 line kind.1, inner_map (codes "data") ps fields.0 line fields.1))
+    subst IsFairOncePut (made (cmd.Event kind.0 fields.0) c fields.2) (λ read has helps more. (inner_text (key_of Event) ps kind.0 line kind.1, inner_map (codes "data") ps fields.0 line fields.1))
 
 at_fair : (o : Option ℕ) (c : Cmd) → IsInTime c → at_moment o ≡ Ok c → IsFairOncePut c
 at_fair None c t e = absurd cc
-at_fair (Some at) c t e = let is = made (cmd.Moment at) c e in subst IsFairOncePut is (λ has helps. subst IsInTime (sym is) t)
+at_fair (Some at) c t e = let is = made (cmd.Moment at) c e in subst IsFairOncePut is (λ read has helps more. subst IsInTime (sym is) t)
 
 moment_fair : (ps : Pairs) (c : Cmd) → IsInTime c → moment_of_pairs ps ≡ Ok c → IsFairOncePut c
 unfolding moment_of_pairs
@@ -215,7 +216,7 @@ switch_fair ps c e =
     let on = bound (turned to.0) _ c to.2 in
     let ends = bound (flag_of (first_pair (codes "stop_actions") ps)) _ c on.2 in
     let name = bound (automation (read_entity id.0)) _ c ends.2 in
-    subst IsFairOncePut (made (cmd.Switch name.0 on.0 ends.0) c name.2) (λ has helps. put_named has helps name.0 (cmd.Switch name.0 on.0 ends.0) (λ h. (object_of id.0 name.0 name.1, h)))
+    subst IsFairOncePut (made (cmd.Switch name.0 on.0 ends.0) c name.2) (λ read has helps more. put_named has helps more name.0 (cmd.Switch name.0 on.0 ends.0) (λ h. (object_of id.0 name.0 name.1, h)))
 
 trigger_fair : (ps : Pairs) (c : Cmd) → trigger_of ps ≡ Ok c → IsFairOncePut c
 unfolding trigger_of
@@ -223,19 +224,31 @@ trigger_fair ps c e =
     let id = bound (text_of (value_of Trigger ps)) _ c e in
     let skip = bound (flag_of (first_pair (codes "skip_condition") ps)) _ c id.2 in
     let name = bound (automation (read_entity id.0)) _ c skip.2 in
-    subst IsFairOncePut (made (cmd.Trigger name.0 skip.0) c name.2) (λ has helps. put_named has helps name.0 (cmd.Trigger name.0 skip.0) (λ h. (object_of id.0 name.0 name.1, h)))
+    subst IsFairOncePut (made (cmd.Trigger name.0 skip.0) c name.2) (λ read has helps more. put_named has helps more name.0 (cmd.Trigger name.0 skip.0) (λ h. (object_of id.0 name.0 name.1, h)))
 
 restart_fair : (ps : Pairs) (c : Cmd) → restart_of ps ≡ Ok c → IsFairOncePut c
 unfolding restart_of
 restart_fair ps c e = of_value (value_of Restart ps) e
   where
     of_flag : (b : Bool) → as_true b ≡ Ok c → IsFairOncePut c
-    of_flag true k = subst IsFairOncePut (made cmd.Restart c k) (λ has helps. tt)
+    of_flag true k = subst IsFairOncePut (made cmd.Restart c k) (λ read has helps more. tt)
     of_flag false k = absurd cc
 
     of_value : (o : Option Value) → restarts o ≡ Ok c → IsFairOncePut c
     of_value None k = absurd cc
     of_value (Some v) k = let flag = bound (flag_in (out-Value v)) as_true c k in of_flag flag.0 flag.2
+
+-- a Reload whose text is read as this
+reload_put : (has : Text → Bool) (helps : EntityId → Bool) (more : Bool) (text : Text) (o : Option Config) → is_utf8 text ≡ true → IsFairAmong has helps more (put_reload more text o)
+reload_put has helps more text None u = refl
+reload_put has helps true text (Some config) u = (u, refl, refl)
+reload_put has helps false text (Some config) u = refl
+
+reload_fair : (ps : Pairs) (c : Cmd) → IsLineMap ps → reload_of ps ≡ Ok c → IsFairOncePut c
+unfolding reload_of
+reload_fair ps c line e =
+    let text = bound (text_of (value_of Reload ps)) _ c e in
+    subst IsFairOncePut (made (cmd.Reload text.0 None) c text.2) (λ read has helps more. reload_put has helps more text.0 (read text.0) (inner_text (key_of Reload) ps text.0 line text.1))
 
 by_command : (command : Command) (ps : Pairs) (c : Cmd) → IsLineMap ps → IsInTime c → cmd_by command ps ≡ Ok c → IsFairOncePut c
 by_command Report ps c line t e = report_fair ps c line e
@@ -245,6 +258,7 @@ by_command Moment ps c line t e = moment_fair ps c t e
 by_command Switch ps c line t e = switch_fair ps c e
 by_command Trigger ps c line t e = trigger_fair ps c e
 by_command Restart ps c line t e = restart_fair ps c e
+by_command Reload ps c line t e = reload_fair ps c line e
 
 same_map : (command : Command) (ps own : Pairs) → with_keys command ps ≡ Ok own → ps ≡ own
 same_map command ps own e = elim (chosen (has_keys command ps) (Ok ps) (Err Keys) (Ok own) e) [

@@ -6,7 +6,7 @@ use Rattle.std.proofs.lemmas.Slice.Eq.{bytes_eq-Decides}
 use Rattle.ha_value.specs.declared.value.Value.{Value}
 use Rattle.ha_config.specs.Words.{Text, Pairs, has_name, same}
 use Rattle.flow_line.specs.declared.keys.Command.{Command}
-use Rattle.flow_line.specs.declared.keys.Command.TheVariants.{Report, Gone, Event, Moment, Switch, Trigger, Restart}
+use Rattle.flow_line.specs.declared.keys.Command.TheVariants.{Report, Gone, Event, Moment, Switch, Trigger, Restart, Reload}
 use Rattle.flow_line.specs.Command.{all_commands, has_keys, has_needed, key_of, named, takes}
 
 unless_true : (b : Bool) → (b ≡ true → ⊥) → b ≡ false
@@ -52,9 +52,9 @@ kept : (test : Command → Bool) (commands : List Command) → filter test comma
 kept test [] = refl
 kept test (command ∷ commands) = ap (λ (rest : List Command). cond (test command) (command ∷ rest) rest) (kept test commands)
 
-seven : {a b c d e f g s t u v w x y : Bool} → a ≡ s → b ≡ t → c ≡ u → d ≡ v → e ≡ w → f ≡ x → g ≡ y
-    → a ∷ b ∷ c ∷ d ∷ e ∷ f ∷ g ∷ [] ≡ s ∷ t ∷ u ∷ v ∷ w ∷ x ∷ y ∷ []
-seven p q r s t u v = cc
+eight : {a b c d e f g h s t u v w x y z : Bool} → a ≡ s → b ≡ t → c ≡ u → d ≡ v → e ≡ w → f ≡ x → g ≡ y → h ≡ z
+    → a ∷ b ∷ c ∷ d ∷ e ∷ f ∷ g ∷ h ∷ [] ≡ s ∷ t ∷ u ∷ v ∷ w ∷ x ∷ y ∷ z ∷ []
+eight p q r s t u v w = cc
 
 abbrev stand : Pairs → Command → Bool
 stand ps command = has_name (key_of command) ps
@@ -64,25 +64,28 @@ tests : (c : Command) (p : Text × Value) (ps : Pairs) → same p.0 (key_of c) �
     → map (stand (p ∷ ps)) all_commands ≡ map (λ d. takes c (key_of d)) all_commands
 tests Report p ps h all =
     let own = there Report p ps h in let none = not_there Report (p ∷ ps) all in
-    seven own (none Gone refl) (none Event refl) (none Moment refl) (none Switch refl) (none Trigger refl) (none Restart refl)
+    eight own (none Gone refl) (none Event refl) (none Moment refl) (none Switch refl) (none Trigger refl) (none Restart refl) (none Reload refl)
 tests Gone p ps h all =
     let own = there Gone p ps h in let none = not_there Gone (p ∷ ps) all in
-    seven (none Report refl) own (none Event refl) (none Moment refl) (none Switch refl) (none Trigger refl) (none Restart refl)
+    eight (none Report refl) own (none Event refl) (none Moment refl) (none Switch refl) (none Trigger refl) (none Restart refl) (none Reload refl)
 tests Event p ps h all =
     let own = there Event p ps h in let none = not_there Event (p ∷ ps) all in
-    seven (none Report refl) (none Gone refl) own (none Moment refl) (none Switch refl) (none Trigger refl) (none Restart refl)
+    eight (none Report refl) (none Gone refl) own (none Moment refl) (none Switch refl) (none Trigger refl) (none Restart refl) (none Reload refl)
 tests Moment p ps h all =
     let own = there Moment p ps h in let none = not_there Moment (p ∷ ps) all in
-    seven (none Report refl) (none Gone refl) (none Event refl) own (none Switch refl) (none Trigger refl) (none Restart refl)
+    eight (none Report refl) (none Gone refl) (none Event refl) own (none Switch refl) (none Trigger refl) (none Restart refl) (none Reload refl)
 tests Switch p ps h all =
     let own = there Switch p ps h in let none = not_there Switch (p ∷ ps) all in
-    seven (none Report refl) (none Gone refl) (none Event refl) (none Moment refl) own (none Trigger refl) (none Restart refl)
+    eight (none Report refl) (none Gone refl) (none Event refl) (none Moment refl) own (none Trigger refl) (none Restart refl) (none Reload refl)
 tests Trigger p ps h all =
     let own = there Trigger p ps h in let none = not_there Trigger (p ∷ ps) all in
-    seven (none Report refl) (none Gone refl) (none Event refl) (none Moment refl) (none Switch refl) own (none Restart refl)
+    eight (none Report refl) (none Gone refl) (none Event refl) (none Moment refl) (none Switch refl) own (none Restart refl) (none Reload refl)
 tests Restart p ps h all =
     let own = there Restart p ps h in let none = not_there Restart (p ∷ ps) all in
-    seven (none Report refl) (none Gone refl) (none Event refl) (none Moment refl) (none Switch refl) (none Trigger refl) own
+    eight (none Report refl) (none Gone refl) (none Event refl) (none Moment refl) (none Switch refl) (none Trigger refl) own (none Reload refl)
+tests Reload p ps h all =
+    let own = there Reload p ps h in let none = not_there Reload (p ∷ ps) all in
+    eight (none Report refl) (none Gone refl) (none Event refl) (none Moment refl) (none Switch refl) (none Trigger refl) (none Restart refl) own
 
 alone : (c : Command) → those (map (λ d. takes c (key_of d)) all_commands) all_commands ≡ c ∷ []
 alone Report = refl
@@ -92,6 +95,7 @@ alone Moment = refl
 alone Switch = refl
 alone Trigger = refl
 alone Restart = refl
+alone Reload = refl
 
 one_named : (c : Command) (p : Text × Value) (ps : Pairs) → same p.0 (key_of c) ≡ true → list_all (λ q. takes c q.0) (p ∷ ps) ≡ true
     → named (p ∷ ps) ≡ c ∷ []

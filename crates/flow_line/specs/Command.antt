@@ -11,11 +11,12 @@ use Rattle.ha_value.specs.declared.value.Value.TheViews.{out-Value}
 use Rattle.ha_value.specs.Ids.{read_entity}
 use Rattle.ha_clock.specs.MomentText.{moment_of}
 use Rattle.ha_config.specs.declared.command.Cmd.{Cmd}
+use Rattle.ha_config.specs.declared.config.Config.{Config}
 use Rattle.ha_config.specs.declared.command.Cmd.TheVariants as cmd
 use Rattle.ha_clock.specs.Local.{last_moment}
 use Rattle.ha_config.specs.ValueText.{pairs_depth}
 use Rattle.ha_config.specs.ValueFacts.{are_sound_pairs, have_utf8_texts}
-use Rattle.ha_config.specs.Fair.{IsFairAmong, put_among}
+use Rattle.ha_config.specs.Fair.{IsFairAmong, prepared, put_among}
 use Rattle.ha_config.specs.Words.{Text, Pairs, same, first_pair, has_name, characters}
 use Rattle.reading.specs.declared.fault.Bad.{Bad}
 use Rattle.reading.specs.declared.fault.Stop.{Stop}
@@ -23,7 +24,7 @@ use Rattle.reading.specs.declared.fault.Stop.TheVariants as stops
 use Rattle.reading.specs.Answer.{Answer}
 use Rattle.flow_line.specs.declared.fault.Code.{Code}
 use Rattle.flow_line.specs.declared.keys.Command.{Command}
-use Rattle.flow_line.specs.declared.keys.Command.TheVariants.{Report, Gone, Event, Moment, Switch, Trigger, Restart}
+use Rattle.flow_line.specs.declared.keys.Command.TheVariants.{Report, Gone, Event, Moment, Switch, Trigger, Restart, Reload}
 use Rattle.flow_line.specs.declared.refusal.Refusal.{Refusal}
 use Rattle.flow_line.specs.declared.refusal.Refusal.TheVariants.{NotUtf8, NoMap, CommandKey, Keys, Kind, Id, LongState, NoMoment, LongLine}
 use Rattle.flow_line.specs.Reading.{document}
@@ -67,6 +68,7 @@ key_of Moment = codes "moment"
 key_of Switch = codes "switch"
 key_of Trigger = codes "trigger"
 key_of Restart = codes "restart"
+key_of Reload = codes "reload"
 
 -- the key that stands beside it
 abbrev pub needed : Command → Option Text
@@ -77,6 +79,7 @@ needed Moment = None
 needed Switch = Some (codes "to")
 needed Trigger = None
 needed Restart = None
+needed Reload = None
 
 -- the key that may stand beside it
 abbrev pub further : Command → Option Text
@@ -87,9 +90,10 @@ further Moment = None
 further Switch = Some (codes "stop_actions")
 further Trigger = Some (codes "skip_condition")
 further Restart = None
+further Reload = None
 
 abbrev pub all_commands : List Command
-all_commands = Report ∷ Gone ∷ Event ∷ Moment ∷ Switch ∷ Trigger ∷ Restart ∷ []
+all_commands = Report ∷ Gone ∷ Event ∷ Moment ∷ Switch ∷ Trigger ∷ Restart ∷ Reload ∷ []
 
 -- the commands whose keys stand in a map, and the command of a map that has the key of one alone
 abbrev pub named : Pairs → List Command
@@ -227,6 +231,12 @@ trigger_of pairs = do
 unfoldable pub restart_of : Pairs → Checked Cmd
 restart_of pairs = restarts (value_of Restart pairs)
 
+-- without its configuration
+unfoldable pub reload_of : Pairs → Checked Cmd
+reload_of pairs = do
+  text ← text_of (value_of Reload pairs)
+  Ok (cmd.Reload text None)
+
 abbrev pub cmd_by : Command → Pairs → Checked Cmd
 cmd_by Report = report_of
 cmd_by Gone = gone_of
@@ -235,6 +245,7 @@ cmd_by Moment = moment_of_pairs
 cmd_by Switch = switch_of
 cmd_by Trigger = trigger_of
 cmd_by Restart = restart_of
+cmd_by Reload = reload_of
 
 -- ---- lines
 
@@ -293,6 +304,6 @@ abbrev pub IsInTime : Cmd → Type 0
 IsInTime (cmd.Moment at) = at ≤ last_moment
 IsInTime _ = Unit {0}
 
--- whatever stands in the journal, what is put for the command is fair
+-- whatever stands in the journal, and whatever a Reload's text is read as, what is put for the command is fair
 abbrev pub IsFairOncePut : Cmd → Type 0
-IsFairOncePut c = (has : Text → Bool) (helps : EntityId → Bool) → IsFairAmong has helps (put_among has helps c)
+IsFairOncePut c = (read : Text → Option Config) (has : Text → Bool) (helps : EntityId → Bool) (more : Bool) → IsFairAmong has helps more (put_among has helps more (prepared read c))

@@ -1,13 +1,14 @@
 //! The command of a line.
 
 ghost use Rattle.std.specs.Prelude.{◌≡◌, length, option_copied, IfOk};
-ghost use Rattle.std.specs.Prelude.{Bool};
+ghost use Rattle.std.specs.Prelude.{Bool, Option};
 ghost use Rattle.ha_value.specs.Ids.{read_entity};
 ghost use Rattle.ha_value.specs.declared.value.EntityId.{EntityId};
-ghost use Rattle.ha_config.specs.Fair.{IsFairAmong, put_among};
+ghost use Rattle.ha_config.specs.Fair.{IsFairAmong, prepared, put_among};
+ghost use Rattle.ha_config.specs.declared.config.Config.{Config as Configuration};
 ghost use Rattle.ha_config.specs.Words.{Text, characters};
 ghost use Rattle.flow_line.specs.Fields.{SaysLent};
-ghost use Rattle.flow_line.specs.Command.{automation, cmd_by, cmd_of, cmd_of_pairs, event_of, gone_of, is_automation, moment_of_pairs, pairs_of, report_of, reportable, restart_of, state_of, switch_of, trigger_of, turned, command_of, IsFairOncePut, IsInTime, IsLineMap, Says};
+ghost use Rattle.flow_line.specs.Command.{automation, cmd_by, cmd_of, cmd_of_pairs, event_of, gone_of, is_automation, moment_of_pairs, pairs_of, reload_of, report_of, reportable, restart_of, state_of, switch_of, trigger_of, turned, command_of, IsFairOncePut, IsInTime, IsLineMap, Says};
 
 use crate::fault::FlowFault;
 use crate::fields::{Pairs, Refused, check_map, flag_at, take_map, take_text, text_at, value_at};
@@ -162,6 +163,19 @@ fn restart(pairs: &[(Word, Value)]) -> Result<Cmd, Refused>
     }
 }
 
+/// The configuration is read where the line is put.
+#[tactic(auto, unfolding(crate::specs::Command::reload_of))]
+fn reload(alloc: Global, pairs: &mut [(Word, Value)]) -> Result<Cmd, Refused>
+    ensures exact { Says (reload_of pairs.old) result }
+    ensures in_time { IfOk result IsInTime }
+{
+    text_at(pairs, b"reload")?;
+    Ok(Cmd::Reload {
+        text: take_text(alloc, pairs, b"reload"),
+        config: None,
+    })
+}
+
 /// The command of its values.
 fn command_by(alloc: Global, command: Command, pairs: &mut [(Word, Value)]) -> Result<Cmd, Refused>
     ensures exact { Says (cmd_by command pairs.old) result }
@@ -175,6 +189,7 @@ fn command_by(alloc: Global, command: Command, pairs: &mut [(Word, Value)]) -> R
         Command::Switch => switch(alloc, pairs),
         Command::Trigger => trigger(alloc, pairs),
         Command::Restart => restart(pairs),
+        Command::Reload => reload(alloc, pairs),
     }
 }
 
@@ -224,13 +239,14 @@ fn command_of(alloc: Global, line: &[u8]) -> Result<Cmd, Refused>
 }
 
 /// The command of a line whose end is cut off. A bad line is `Cmd::Refused` with its code's number. That an automation of
-/// this name is missing, or that a helper is reported, is found where the line is put.
+/// this name is missing, that a helper is reported, and what the text of a reload is, is found where the line is put.
 #[tactic(auto, unfolding(crate::specs::Command::cmd_of))]
 pub fn read_cmd(alloc: Global, line: &[u8]) -> Result<Cmd, AllocError>
     // Which command or refusal it is.
     ensures exact { IfOk result (λ made. made ≡ cmd_of line.now) }
-    // It is fair, but for the automation that it may name and the helper that it may report, which decide what is put.
-    ensures fair { IfOk result (λ made. (has : Text → Bool) (helps : EntityId → Bool) → IsFairAmong has helps (put_among has helps made)) }
+    // What is put for it is fair, whatever automations, helpers and Reloads stand, and whatever a Reload's text is read as.
+    ensures fair { IfOk result (λ made. (read : Text → Option Configuration) (has : Text → Bool) (helps : EntityId → Bool) (more : Bool)
+        → IsFairAmong has helps more (put_among has helps more (prepared read made))) }
 {
     match command_of(alloc, line) {
         Ok(made) => Ok(made),

@@ -21,9 +21,10 @@ pub enum Command {
     Switch,
     Trigger,
     Restart,
+    Reload,
 }
 
-const COMMANDS: [Command; 7] = [
+const COMMANDS: [Command; 8] = [
     Command::Report,
     Command::Gone,
     Command::Event,
@@ -31,6 +32,7 @@ const COMMANDS: [Command; 7] = [
     Command::Switch,
     Command::Trigger,
     Command::Restart,
+    Command::Reload,
 ];
 
 impl Command {
@@ -46,6 +48,7 @@ impl Command {
             Command::Switch => b"switch",
             Command::Trigger => b"trigger",
             Command::Restart => b"restart",
+            Command::Reload => b"reload",
         }
     }
 

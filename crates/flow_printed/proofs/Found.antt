@@ -1,6 +1,6 @@
 -- What is read of a map: the command whose pairs these are, fair but for its automation or helper.
 use Rattle.std.proofs.Common.{◌≡◌, ℕ, ◌≤◌, Bool, true, false, cond, List, [], ◌∷◌, drop, Option, Some, None, refl, sym, ap, subst, ◌∙◌, inl, inr, arith}
-use Rattle.std.specs.Prelude.{codes, nat_eq, nat_le, ◌++◌, ◌&&◌}
+use Rattle.std.specs.Prelude.{codes, nat_eq, nat_le, ◌++◌, ◌≢◌, ◌&&◌}
 use Rattle.std.specs.Fmt.{digits}
 use Rattle.std.proofs.lemmas.Bool.{and_parts, leb-true}
 use Rattle.std.proofs.lemmas.Bool.Decides.{nat_tests}
@@ -19,8 +19,8 @@ use Rattle.ha_config.specs.Fair.{IsReportable, is_refusal}
 use Rattle.ha_config.specs.CommandText.{line_code}
 use Rattle.flow_line.specs.Command.{IsInTime, IsLineMap}
 use Rattle.flow_printed.specs.declared.kind.Kind.{Kind}
-use Rattle.flow_printed.specs.declared.kind.Kind.TheVariants.{Report, Gone, Event, Moment, Switch, Trigger, Restart, Refused, Lost, TooLong}
-use Rattle.flow_printed.specs.Map.{alone, automation, cmd_by, cmd_of_map, code_in, ended, event_of, first_kind, flag_at, gone_of, is_automation, map_at, moment_of_map, printed_moment, refused_of, report_of, reportable, short_state, switch_of, text_at, trigger_of, turned}
+use Rattle.flow_printed.specs.declared.kind.Kind.TheVariants.{Report, Gone, Event, Moment, Switch, Trigger, Restart, Reload, Refused, Lost, TooLong}
+use Rattle.flow_printed.specs.Map.{alone, automation, cmd_by, cmd_of_map, code_in, ended, event_of, first_kind, flag_at, gone_of, is_automation, map_at, moment_of_map, printed_moment, refused_of, reload_of, report_of, reportable, short_state, switch_of, text_at, trigger_of, turned}
 use Rattle.flow_printed.specs.Printed.{IsFairButForName}
 use Rattle.flow_printed.proofs.Fronts.{bound, flag_front, map_front, none_left, some_is, text_front}
 use Rattle.flow_printed.proofs.Maps.{first_map, first_text, pair_less}
@@ -132,7 +132,9 @@ code_is t code e =
     (one_code t (codes "L8") 8 _ code refl refl
     (one_code t (codes "L9") 9 _ code refl refl
     (one_code t (codes "L10") 10 _ code refl refl
-    (one_code t (codes "L14") 14 _ code refl refl (no_code t code))))))))))) e
+    (one_code t (codes "L12") 12 _ code refl refl
+    (one_code t (codes "L13") 13 _ code refl refl
+    (one_code t (codes "L14") 14 _ code refl refl (no_code t code))))))))))))) e
 
 -- ---- commands
 
@@ -237,6 +239,14 @@ trigger_found ps c e =
     found_as ps (Cmd.Trigger name.0 skip.0) c name.2
     (record { pairs = text_first (codes "trigger") ps id.0 _ _ id.1 own.0 (flag_first (codes "skip_condition") (drop 1 ps) skip.0 _ skip.1 (none_left (drop 1 (drop 1 ps)) last.0 last.1)); fair = own.1 })
 
+reload_found : (ps : Pairs) (c : Cmd) → IsLineMap ps → reload_of ps ≡ Some c → Found ps c
+unfolding reload_of
+reload_found ps c line e =
+    let text = bound (text_at (codes "reload") ps) _ c e in
+    let last = bound (ended (drop 1 ps)) _ c text.2 in
+    let whole : ps ≡ pairs_of (Cmd.Reload text.0 None) = text_first (codes "reload") ps text.0 text.0 _ text.1 refl (none_left (drop 1 ps) last.0 last.1) in
+    found_as ps (Cmd.Reload text.0 None) c last.2 (record { pairs = whole; fair = (first_text (codes "reload") text.0 [] (subst IsLineMap whole line), refl) })
+
 refused_found : (ps : Pairs) (c : Cmd) → refused_of ps ≡ Some c → Found ps c
 unfolding refused_of
 refused_found ps c e =
@@ -265,6 +275,7 @@ by_kind Moment ps c line time e = moment_found ps c time e
 by_kind Switch ps c line time e = switch_found ps c e
 by_kind Trigger ps c line time e = trigger_found ps c e
 by_kind Restart ps c line time e = let it = bound (alone (codes "restart") ps) _ c e in found_as ps Cmd.Restart c it.2 (record { pairs = alone_is (codes "restart") ps it.0 it.1; fair = tt })
+by_kind Reload ps c line time e = reload_found ps c line e
 by_kind Refused ps c line time e = refused_found ps c e
 by_kind Lost ps c line time e = let it = bound (alone (codes "lost") ps) _ c e in found_as ps Cmd.Lost c it.2 (record { pairs = alone_is (codes "lost") ps it.0 it.1; fair = tt })
 by_kind TooLong ps c line time e = let it = bound (alone (codes "too_long") ps) _ c e in found_as ps Cmd.TooLong c it.2 (record { pairs = alone_is (codes "too_long") ps it.0 it.1; fair = tt })

@@ -1,6 +1,6 @@
 -- A command that is fair but for its automation is read of its print.
 use Rattle.std.proofs.Common.{◌≡◌, ℕ, zero, suc, ◌≤◌, Bool, true, false, cond, [], ◌∷◌, drop, Some, None, refl, sym, ap, subst, ◌∙◌, inl, inr, arith}
-use Rattle.std.specs.Prelude.{codes, nat_eq, nat_le, ◌&&◌, ◌||◌, ◌⊎◌, ◌++◌, IsUtf8}
+use Rattle.std.specs.Prelude.{codes, nat_eq, nat_le, ◌&&◌, ◌||◌, ◌⊎◌, ◌++◌, ◌≢◌, IsUtf8}
 use Rattle.std.specs.Fmt.{decimal, digits}
 use Rattle.std.specs.Str.{chars, is_utf8, IsAscii}
 use Rattle.std.proofs.lemmas.Bool.{and_parts, false_from_ne_true, leb-true}
@@ -25,7 +25,7 @@ use Rattle.ha_config.specs.ValueFacts.{AreFairPairs}
 use Rattle.ha_config.specs.Fair.{IsReportable, is_refusal}
 use Rattle.ha_config.specs.CommandText.{line_code}
 use Rattle.flow_line.specs.Command.{IsLineMap}
-use Rattle.flow_printed.specs.Map.{alone, automation, cmd_of_map, code_in, event_of, flag_at, gone_of, is_automation, map_at, moment_of_map, printed_moment, refused_of, report_of, reportable, short_state, switch_of, text_at, trigger_of, turned}
+use Rattle.flow_printed.specs.Map.{alone, automation, cmd_of_map, code_in, event_of, flag_at, gone_of, is_automation, map_at, moment_of_map, printed_moment, refused_of, reload_of, report_of, reportable, short_state, switch_of, text_at, trigger_of, turned}
 use Rattle.flow_printed.specs.Printed.{IsFairButForName}
 use Rattle.flow_printed.proofs.Fronts.{binds, flag_taken, map_taken, same_text, text_taken}
 use Rattle.flow_printed.proofs.Maps.{flag_fine, map_fine, no_pair, pair_more, text_fine}
@@ -52,41 +52,41 @@ moment_shown at time =
     binds (moment_of (moment_text at)) (λ (m : ℕ). cond (same (moment_text m) (moment_text at)) (Some m) None) at (Some at) (moment_read at time)
     (ap (λ (b : Bool). cond b (Some at) None) (same_text (moment_text at)))
 
-low_read : (code : ℕ) → 1 ≤ code → code ≤ 10 → code_in (line_code code) ≡ Some code
+low_read : (code : ℕ) → 1 ≤ code → code ≤ 14 → (code ≢ 11) → code_in (line_code code) ≡ Some code
 unfolding digits
-low_read zero low high = absurd (omega arith)
-low_read (suc zero) low high = refl
-low_read (suc (suc zero)) low high = refl
-low_read (suc (suc (suc zero))) low high = refl
-low_read (suc (suc (suc (suc zero)))) low high = refl
-low_read (suc (suc (suc (suc (suc zero))))) low high = refl
-low_read (suc (suc (suc (suc (suc (suc zero)))))) low high = refl
-low_read (suc (suc (suc (suc (suc (suc (suc zero))))))) low high = refl
-low_read (suc (suc (suc (suc (suc (suc (suc (suc zero)))))))) low high = refl
-low_read (suc (suc (suc (suc (suc (suc (suc (suc (suc zero))))))))) low high = refl
-low_read (suc (suc (suc (suc (suc (suc (suc (suc (suc (suc zero)))))))))) low high = refl
-low_read (suc (suc (suc (suc (suc (suc (suc (suc (suc (suc (suc n))))))))))) low high = absurd (omega arith)
-
-last_read : code_in (line_code 14) ≡ Some 14
-unfolding digits
-last_read = refl
+low_read zero low high other = absurd (omega arith)
+low_read (suc zero) low high other = refl
+low_read (suc (suc zero)) low high other = refl
+low_read (suc (suc (suc zero))) low high other = refl
+low_read (suc (suc (suc (suc zero)))) low high other = refl
+low_read (suc (suc (suc (suc (suc zero))))) low high other = refl
+low_read (suc (suc (suc (suc (suc (suc zero)))))) low high other = refl
+low_read (suc (suc (suc (suc (suc (suc (suc zero))))))) low high other = refl
+low_read (suc (suc (suc (suc (suc (suc (suc (suc zero)))))))) low high other = refl
+low_read (suc (suc (suc (suc (suc (suc (suc (suc (suc zero))))))))) low high other = refl
+low_read (suc (suc (suc (suc (suc (suc (suc (suc (suc (suc zero)))))))))) low high other = refl
+low_read (suc (suc (suc (suc (suc (suc (suc (suc (suc (suc (suc zero))))))))))) low high other = absurd (other refl)
+low_read (suc (suc (suc (suc (suc (suc (suc (suc (suc (suc (suc (suc zero)))))))))))) low high other = refl
+low_read (suc (suc (suc (suc (suc (suc (suc (suc (suc (suc (suc (suc (suc zero))))))))))))) low high other = refl
+low_read (suc (suc (suc (suc (suc (suc (suc (suc (suc (suc (suc (suc (suc (suc zero)))))))))))))) low high other = refl
+low_read (suc (suc (suc (suc (suc (suc (suc (suc (suc (suc (suc (suc (suc (suc (suc n))))))))))))))) low high other = absurd (omega arith)
 
 -- the codes of refused lines
-one_of_codes : (code : ℕ) → is_refusal code ≡ true → ((1 ≤ code) × (code ≤ 10)) ⊎ (code ≡ 14)
-one_of_codes code told = by (nat_le 1 code && nat_le code 10) (λ h. between h) told
+code_bounds : (code : ℕ) → is_refusal code ≡ true → (1 ≤ code) × (code ≤ 14) × (code ≢ 11)
+code_bounds code told = by (nat_le 1 code && nat_le code 10) (λ h. low h) told
   where
-    between : (nat_le 1 code && nat_le code 10) ≡ true → (1 ≤ code) × (code ≤ 10)
-    between h = let parts = and_parts (nat_le 1 code) (nat_le code 10) h in (leb-true 1 code parts.0, leb-true code 10 parts.1)
+    low : (nat_le 1 code && nat_le code 10) ≡ true → (1 ≤ code) × (code ≤ 10)
+    low h = let parts = and_parts (nat_le 1 code) (nat_le code 10) h in (leb-true 1 code parts.0, leb-true code 10 parts.1)
 
-    by : (b : Bool) → (b ≡ true → (1 ≤ code) × (code ≤ 10)) → (b || nat_eq code 14) ≡ true → ((1 ≤ code) × (code ≤ 10)) ⊎ (code ≡ 14)
-    by true low h = inl (low refl)
-    by false low h = (let is : code ≡ 14 = grind (arith, nat_tests) in inr is)
+    by : (b : Bool) → (b ≡ true → (1 ≤ code) × (code ≤ 10)) → (b || (nat_le 12 code && nat_le code 14)) ≡ true → (1 ≤ code) × (code ≤ 14) × (code ≢ 11)
+    by true below h = let own = below refl in (own.0, omega (arith, own.1), λ e. absurd (omega (arith, own.1, e)))
+    by false below h =
+        let parts = and_parts (nat_le 12 code) (nat_le code 14) h in
+        let first = leb-true 12 code parts.0 in
+        (omega (arith, first), leb-true code 14 parts.1, λ e. absurd (omega (arith, first, e)))
 
 code_read : (code : ℕ) → is_refusal code ≡ true → code_in (line_code code) ≡ Some code
-code_read code told = elim (one_of_codes code told) [
-  | inl b ↦ low_read code b.0 b.1
-  | inr e ↦ subst (λ (n : ℕ). code_in (line_code n) ≡ Some n) (sym e) last_read
-]
+code_read code told = let own = code_bounds code told in low_read code own.0 own.1 own.2
 
 -- ---- its pairs are read
 
@@ -137,6 +137,10 @@ trigger_read name skip form =
     (binds (flag_at (codes "skip_condition") (drop 1 ps)) _ skip _ (flag_taken (codes "skip_condition") skip [])
     (binds (automation (read_entity (codes "automation." ++ name))) _ name _ (name_read name form) refl))
 
+reload_read : (text : Text) → reload_of (pairs_of (Cmd.Reload text None)) ≡ Some (Cmd.Reload text None)
+unfolding reload_of
+reload_read text = binds (text_at (codes "reload") (pairs_of (Cmd.Reload text None))) _ text _ (text_taken (codes "reload") text []) refl
+
 refused_read : (code : ℕ) → is_refusal code ≡ true → refused_of (pairs_of (Cmd.Refused code)) ≡ Some (Cmd.Refused code)
 unfolding refused_of
 refused_read code told =
@@ -156,6 +160,8 @@ read_of_map (Cmd.Moment at) fair = moment_read_back at fair
 read_of_map (Cmd.Switch name on stop) fair = switch_read name on stop fair
 read_of_map (Cmd.Trigger name skip) fair = trigger_read name skip fair
 read_of_map Cmd.Restart fair = binds (alone (codes "restart") (pairs_of Cmd.Restart)) _ tt _ (alone_read (codes "restart")) refl
+read_of_map (Cmd.Reload text None) fair = reload_read text
+read_of_map (Cmd.Reload text (Some config)) fair = absurd (let e = fair.1 in cc)
 read_of_map (Cmd.Refused code) fair = refused_read code fair
 read_of_map Cmd.Lost fair = binds (alone (codes "lost") (pairs_of Cmd.Lost)) _ tt _ (alone_read (codes "lost")) refl
 read_of_map Cmd.TooLong fair = binds (alone (codes "too_long") (pairs_of Cmd.TooLong)) _ tt _ (alone_read (codes "too_long")) refl
@@ -228,6 +234,10 @@ restart_word : IsWord (codes "restart")
 unfolding is_utf8 chars encode
 restart_word = refl
 
+reload_word : IsWord (codes "reload")
+unfolding is_utf8 chars encode
+reload_word = refl
+
 refused_word : IsWord (codes "refused")
 unfolding is_utf8 chars encode
 refused_word = refl
@@ -261,10 +271,7 @@ name_word : (name : Text) → is_name name ≡ true → IsWord (codes "automatio
 name_word name form = joined_utf8 (codes "automation.") name front_word (name_utf8 name form)
 
 few_codes : (code : ℕ) → is_refusal code ≡ true → code ≤ 14
-few_codes code told = elim (one_of_codes code told) [
-  | inl b ↦ omega (arith, b.1)
-  | inr e ↦ omega (arith, e)
-]
+few_codes code told = (code_bounds code told).1
 
 code_word : (code : ℕ) → code ≤ 14 → IsWord (line_code code)
 code_word code high = joined_utf8 (codes "L") (decimal code) letter_word (IsUtf8-from_ascii (decimal code) (IsAscii-decimal code (omega arith)))
@@ -292,6 +299,7 @@ line_of_fair (Cmd.Trigger name skip) fair =
     pair_more (codes "trigger") (Value.Text (codes "automation." ++ name)) _ refl trigger_word (text_fine (codes "automation." ++ name) (name_word name fair))
     (one_flag (codes "skip_condition") skip skip_word)
 line_of_fair Cmd.Restart fair = one_flag (codes "restart") true restart_word
+line_of_fair (Cmd.Reload text config) fair = one_text (codes "reload") text reload_word fair.0
 line_of_fair (Cmd.Refused code) fair = one_text (codes "refused") (line_code code) refused_word (code_word code (few_codes code fair))
 line_of_fair Cmd.Lost fair = one_flag (codes "lost") true lost_word
 line_of_fair Cmd.TooLong fair = one_flag (codes "too_long") true too_long_word

@@ -29,6 +29,7 @@ pairs_of (Cmd.Switch name on stop) =
     (codes "switch", Value.Text (codes "automation." ++ name)) ∷ (codes "to", Value.Text (turned_word on)) ∷ (codes "stop_actions", Value.Flag stop) ∷ []
 pairs_of (Cmd.Trigger name skip) = (codes "trigger", Value.Text (codes "automation." ++ name)) ∷ (codes "skip_condition", Value.Flag skip) ∷ []
 pairs_of Cmd.Restart = (codes "restart", Value.Flag true) ∷ []
+pairs_of (Cmd.Reload text config) = (codes "reload", Value.Text text) ∷ []
 pairs_of (Cmd.Refused code) = (codes "refused", Value.Text (line_code code)) ∷ []
 pairs_of Cmd.Lost = (codes "lost", Value.Flag true) ∷ []
 pairs_of Cmd.TooLong = (codes "too_long", Value.Flag true) ∷ []
@@ -66,6 +67,7 @@ shown_pairs (Cmd.Switch name on stop) =
     three (codes "switch") (codes "to") (codes "stop_actions") _ _ _ _ _ _ (text_shown (codes "automation." ++ name)) (turned_shown on) (flag_shown stop)
 shown_pairs (Cmd.Trigger name skip) = two (codes "trigger") (codes "skip_condition") _ _ _ _ (text_shown (codes "automation." ++ name)) (flag_shown skip)
 shown_pairs Cmd.Restart = one (codes "restart") _ _ (flag_shown true)
+shown_pairs (Cmd.Reload text config) = one (codes "reload") _ _ (text_shown text)
 shown_pairs (Cmd.Refused code) = one (codes "refused") _ _ (text_shown (line_code code))
 shown_pairs Cmd.Lost = one (codes "lost") _ _ (flag_shown true)
 shown_pairs Cmd.TooLong = one (codes "too_long") _ _ (flag_shown true)

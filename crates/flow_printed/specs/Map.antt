@@ -18,7 +18,7 @@ use Rattle.reading.specs.Answer.{Answer}
 use Rattle.flow_line.specs.declared.fault.Code.{Code}
 use Rattle.flow_line.specs.Reading.{document}
 use Rattle.flow_printed.specs.declared.kind.Kind.{Kind}
-use Rattle.flow_printed.specs.declared.kind.Kind.TheVariants.{Report, Gone, Event, Moment, Switch, Trigger, Restart, Refused, Lost, TooLong}
+use Rattle.flow_printed.specs.declared.kind.Kind.TheVariants.{Report, Gone, Event, Moment, Switch, Trigger, Restart, Reload, Refused, Lost, TooLong}
 use Rattle.flow_printed.specs.declared.fields.NoCommand.{NoCommand}
 
 infixl 10 ◌>>=◌
@@ -97,8 +97,8 @@ code_in t =
     else (if same t (codes "L2") then Some 2 else (if same t (codes "L3") then Some 3 else (if same t (codes "L4") then Some 4 else
     (if same t (codes "L5") then Some 5
     else (if same t (codes "L6") then Some 6 else (if same t (codes "L7") then Some 7 else (if same t (codes "L8") then Some 8 else
-    (if same t (codes "L9") then Some 9 else (if same t (codes "L10") then Some 10 else
-    (if same t (codes "L14") then Some 14 else None))))))))))
+    (if same t (codes "L9") then Some 9 else (if same t (codes "L10") then Some 10 else (if same t (codes "L12") then Some 12 else
+    (if same t (codes "L13") then Some 13 else (if same t (codes "L14") then Some 14 else None))))))))))))
 
 -- ---- commands
 
@@ -151,6 +151,13 @@ trigger_of ps = do
   name ← automation (read_entity id)
   Some (cmd.Trigger name skip)
 
+-- without its configuration
+unfoldable pub reload_of : Pairs → Option Cmd
+reload_of ps = do
+  text ← text_at (codes "reload") ps
+  end ← ended (drop 1 ps)
+  Some (cmd.Reload text None)
+
 unfoldable pub refused_of : Pairs → Option Cmd
 refused_of ps = do
   text ← text_at (codes "refused") ps
@@ -172,8 +179,8 @@ kind_of key =
     (if same key (codes "moment")
     then Some Moment else (if same key (codes "switch") then Some Switch else (if same key (codes "trigger") then Some Trigger else
     (if same key (codes "restart")
-    then Some Restart else (if same key (codes "refused") then Some Refused else (if same key (codes "lost") then Some Lost else
-    (if same key (codes "too_long") then Some TooLong else None)))))))))
+    then Some Restart else (if same key (codes "reload") then Some Reload else (if same key (codes "refused") then Some Refused else (if same key (codes "lost") then Some Lost else
+    (if same key (codes "too_long") then Some TooLong else None))))))))))
 
 -- the kind that the first key names
 abbrev pub first_kind : Pairs → Option Kind
@@ -188,6 +195,7 @@ cmd_by Moment = moment_of_map
 cmd_by Switch = switch_of
 cmd_by Trigger = trigger_of
 cmd_by Restart = λ ps. alone (codes "restart") ps >>= λ it. Some cmd.Restart
+cmd_by Reload = reload_of
 cmd_by Refused = refused_of
 cmd_by Lost = λ ps. alone (codes "lost") ps >>= λ it. Some cmd.Lost
 cmd_by TooLong = λ ps. alone (codes "too_long") ps >>= λ it. Some cmd.TooLong

@@ -1,6 +1,7 @@
 -- Commands, and lines of a trace, by what is printed of them.
 use Rattle.std.specs.Prelude.{◌≡◌, ◌<◌, ◌^◌, ℕ, IsTrue, decimal}
-use Rattle.std.specs.Prelude.{false}
+use Rattle.std.specs.Prelude.{false, is_none}
+use Rattle.std.specs.Str.{is_utf8}
 use Rattle.ha_value.specs.Ids.{is_name}
 use Rattle.ha_config.specs.declared.command.Cmd.{Cmd}
 use Rattle.ha_config.specs.Fair.{IsFairAmong, IsFairReport, IsReportable}
@@ -9,14 +10,15 @@ use Rattle.ha_config.specs.Words.{Text}
 use Rattle.flow_printed.specs.Line.{shown_line}
 use Rattle.flow_printed.specs.declared.line.PrintedLine.{PrintedLine}
 
--- A command that is fair, but for whether the automation that it names is there, or what it reports is a helper: that decides what is put for
--- it.
+-- A command as it is read, which is fair but for whether the automation that it names is there, whether what it reports is a helper, or
+-- what the text of a Reload is: that decides what is put for it.
 abbrev pub IsFairButForName : Cmd → Type 0
 IsFairButForName (Cmd.Report entity text attributes) = IsFairReport entity text attributes
 IsFairButForName (Cmd.Gone entity) = IsReportable entity
 IsFairButForName (Cmd.Switch name on stop) = IsTrue (is_name name)
 IsFairButForName (Cmd.Trigger name skip) = IsTrue (is_name name)
-IsFairButForName c = IsFairAmong (λ name. false) (λ entity. false) c
+IsFairButForName (Cmd.Reload text config) = IsTrue (is_utf8 text) × IsTrue (is_none config)
+IsFairButForName c = IsFairAmong (λ name. false) (λ entity. false) false c
 
 -- the text is the print of that command
 pub record IsPrintOf (text : Text) (c : Cmd) : Type 0 where

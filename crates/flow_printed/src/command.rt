@@ -2,7 +2,7 @@
 
 ghost use Rattle.std.specs.Prelude.{IfOk};
 ghost use Rattle.flow_line.specs.Command.{IsInTime};
-ghost use Rattle.flow_printed.specs.Map.{alone, cmd_by, cmd_of_map, event_of, gone_of, moment_of_map, refused_of, report_of, switch_of, trigger_of, Says};
+ghost use Rattle.flow_printed.specs.Map.{alone, cmd_by, cmd_of_map, event_of, gone_of, moment_of_map, refused_of, reload_of, report_of, switch_of, trigger_of, Says};
 
 use crate::fields::{NoCommand, Pairs, Unread, end, take_flag, take_map, take_text};
 use crate::kind::{Kind, first_kind};
@@ -93,6 +93,16 @@ fn trigger(alloc: Global, pairs: &mut Pairs) -> Result<Cmd, Unread>
     Ok(Cmd::Trigger { name, skip })
 }
 
+#[tactic(auto, unfolding(crate::specs::Map::reload_of))]
+fn reload(pairs: &mut Pairs) -> Result<Cmd, Unread>
+    ensures exact { Says (reload_of pairs.old) result }
+    ensures in_time { IfOk result IsInTime }
+{
+    let text = take_text(pairs, b"reload")?;
+    end(pairs)?;
+    Ok(Cmd::Reload { text, config: None })
+}
+
 #[tactic(auto, unfolding(crate::specs::Map::refused_of))]
 fn refused(pairs: &mut Pairs) -> Result<Cmd, Unread>
     ensures exact { Says (refused_of pairs.old) result }
@@ -134,6 +144,7 @@ fn command_by(alloc: Global, kind: Kind, pairs: &mut Pairs) -> Result<Cmd, Unrea
             alone(pairs, b"restart")?;
             Ok(Cmd::Restart)
         }
+        Kind::Reload => reload(pairs),
         Kind::Refused => refused(pairs),
         Kind::Lost => {
             alone(pairs, b"lost")?;

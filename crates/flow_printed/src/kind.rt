@@ -14,6 +14,7 @@ pub enum Kind {
     Switch,
     Trigger,
     Restart,
+    Reload,
     Refused,
     Lost,
     TooLong,
@@ -37,6 +38,8 @@ fn kind_of(key: &[u8]) -> Option<Kind>
         Some(Kind::Trigger)
     } else if key == b"restart".as_slice() {
         Some(Kind::Restart)
+    } else if key == b"reload".as_slice() {
+        Some(Kind::Reload)
     } else if key == b"refused".as_slice() {
         Some(Kind::Refused)
     } else if key == b"lost".as_slice() {

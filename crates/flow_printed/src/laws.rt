@@ -1,11 +1,12 @@
 //! Laws of the definitions. Each is the contract of a function that does nothing.
 
 ghost use Rattle.std.specs.Prelude.{◌≡◌};
-ghost use Rattle.std.specs.Prelude.{Bool};
+ghost use Rattle.std.specs.Prelude.{Bool, Option};
 ghost use Rattle.ha_value.specs.declared.value.EntityId.{EntityId};
-ghost use Rattle.ha_config.specs.Fair.{IsFairAmong, put_among};
+ghost use Rattle.ha_config.specs.Fair.{IsFairAmong, as_read, prepared, put_among};
 ghost use Rattle.ha_config.specs.Words.{Text};
 ghost use Rattle.ha_config.specs.declared.command.Cmd.{Cmd};
+ghost use Rattle.ha_config.specs.declared.config.Config.{Config};
 ghost use Rattle.flow_printed.specs.Printed.{IsFairButForName, IsPrintOf, IsPrintOfLine, IsSized};
 ghost use Rattle.flow_printed.specs.declared.line.PrintedLine.{PrintedLine};
 
@@ -19,12 +20,13 @@ pub fn one_line(text: &[u8])
     ensures { (l m : PrintedLine) → IsSized l → IsSized m → IsPrintOfLine text.now l → IsPrintOfLine text.now m → l ≡ m }
 {}
 
-/// A command that is fair somewhere is fair but for whether its automation is there, or its entity is a helper.
+/// A command that is fair somewhere is, as it is read, fair but for whether its automation is there, or its entity is a helper.
 pub fn fair_anywhere()
-    ensures { (has : Text → Bool) (helps : EntityId → Bool) (c : Cmd) → IsFairAmong has helps c → IsFairButForName c }
+    ensures { (has : Text → Bool) (helps : EntityId → Bool) (more : Bool) (c : Cmd) → IsFairAmong has helps more c → IsFairButForName (as_read c) }
 {}
 
-/// What is put for a command that is fair but for its automation or its helper is fair.
+/// What is put for a command that is fair but for its automation or its helper is fair, whatever a Reload's text is read as.
 pub fn fair_once_put()
-    ensures { (has : Text → Bool) (helps : EntityId → Bool) (c : Cmd) → IsFairButForName c → IsFairAmong has helps (put_among has helps c) }
+    ensures { (read : Text → Option Config) (has : Text → Bool) (helps : EntityId → Bool) (more : Bool) (c : Cmd) → IsFairButForName c
+        → IsFairAmong has helps more (put_among has helps more (prepared read c)) }
 {}

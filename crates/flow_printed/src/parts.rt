@@ -124,6 +124,8 @@ pub fn code_of(text: &Word) -> Result<u8, Unread>
         b"L8" => Ok(8),
         b"L9" => Ok(9),
         b"L10" => Ok(10),
+        b"L12" => Ok(12),
+        b"L13" => Ok(13),
         b"L14" => Ok(14),
         _ => Err(Stop::Fault(NoCommand)),
     }

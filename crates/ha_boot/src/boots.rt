@@ -17,7 +17,8 @@ use std::alloc::{AllocError, Global};
 /// threads.
 pub trait Boots: Core + Drop + Send {
     /// The core after its first entry, the boot, of a configuration with its text, the stored switches, the start, the zone's text, and when
-    /// automations last triggered; names that no automation has are left out of these. The error is want of memory alone.
+    /// automations last triggered; names that no automation has are left out of these. The texts of reloads are read by `prepare`. The error is
+    /// want of memory alone.
     fn boot(
         alloc: Global,
         text: Word,
@@ -26,6 +27,7 @@ pub trait Boots: Core + Drop + Send {
         start: Moment,
         zone: Word,
         last: Many<(Word, Moment)>,
+        prepare: Self::Prepare,
     ) -> Result<Self, AllocError>
         requires config { IsSoundConfig config }
         requires zone { IsSome (zone_of zone) }

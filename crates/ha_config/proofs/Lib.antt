@@ -1,8 +1,10 @@
 pub mod AutomationLemmas
 pub mod EqualLemmas
+pub mod EqualityLemmas
 pub mod IdLemmas
 pub mod ListLemmas
 pub mod NameLemmas
+pub mod NumberedLemmas
 pub mod OrderLemmas
 pub mod UnitLemmas
 pub mod ValueRolls

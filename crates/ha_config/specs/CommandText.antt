@@ -33,6 +33,7 @@ cmd_text (Cmd.Switch name on stop) =
     ∷ (codes "stop_actions", flag_text stop) ∷ [])
 cmd_text (Cmd.Trigger name skip) = map_text ((codes "trigger", automation_text name) ∷ (codes "skip_condition", flag_text skip) ∷ [])
 cmd_text Cmd.Restart = one_key (codes "restart") (flag_text true)
+cmd_text (Cmd.Reload text config) = one_key (codes "reload") (quoted text)
 cmd_text (Cmd.Refused code) = one_key (codes "refused") (quoted (line_code code))
 cmd_text Cmd.Lost = one_key (codes "lost") (flag_text true)
 cmd_text Cmd.TooLong = one_key (codes "too_long") (flag_text true)

@@ -1,9 +1,11 @@
 pub mod CheckText
 pub mod CommandText
 pub mod Equal
+pub mod Equality
 pub mod Fair
 pub mod Helpers
 pub mod Names
+pub mod Numbered
 pub mod Numbers
 pub mod Sound
 pub mod StoreText

@@ -9,8 +9,13 @@ use Rattle.std.specs.List.{enumerate_from}
 abbrev pub unit_of : List Automation → ℕ → Option Automation
 unit_of all n = slice_get all n
 
+-- the number of the one of this name, among automations with their numbers
+abbrev pub named_among : List (ℕ × Automation) → Text → Option ℕ
+named_among all name = option_map (λ p. p.0) (find (λ p. same p.1.name name) all)
+
+-- the place of the automation of this name
 abbrev pub automation_named : List Automation → Text → Option ℕ
-automation_named all name = option_map (λ p. p.0) (find (λ p. same p.1.name name) (enumerate_from 0 all))
+automation_named all name = named_among (enumerate_from 0 all) name
 
 -- the name of automation a, and its initial state, if it has one
 abbrev pub name_of : List Automation → ℕ → Text

@@ -1,5 +1,6 @@
 //! Commands of sources' lines.
 
+use crate::config::Config;
 use ha_clock::Moment;
 use ha_value::{EntityId, Many, Value, Word};
 
@@ -36,6 +37,11 @@ pub enum Cmd {
     },
     /// All states go, all runs end, and the switches are set anew.
     Restart,
+    /// Brings the configuration into force that the text is; none before it is read.
+    Reload {
+        text: Word,
+        config: Option<Config>,
+    },
     /// A line that was refused, by its code's number: 1 for L1.
     Refused(u8),
     /// The source failed.

@@ -1,15 +1,16 @@
 -- An attempt that its mode admits has a run, and the runs are kept.
 use Rattle.std.proofs.Common.{◌≡◌, ℕ, suc, ◌+◌, ◌-◌, ◌<◌, ◌⊎◌, inl, inr, List, [], ◌∷◌, ◌++◌, length, Bool, true, false, refl, sym, ap, subst, ◌∙◌, rules, arith}
-use Rattle.std.specs.Prelude.{Option, Some, None, nat_eq, nat_lt, ◌&&◌, if◌then◌else◌}
+use Rattle.std.specs.Prelude.{Option, Some, None, count_by, nat_eq, nat_lt, ◌&&◌, if◌then◌else◌}
 use Rattle.std.specs.Option.{option_map_or}
 use Rattle.timer_queue.specs.Timers.{Timer}
 use Rattle.ha_config.specs.declared.config.Action.{Action}
 use Rattle.ha_config.specs.declared.config.Mode.{Mode}
 use Rattle.ha_model.specs.declared.record.Record.{Record}
+use Rattle.ha_config.specs.Names.{name_of}
 use Rattle.ha_config.specs.Words.{Pairs}
-use Rattle.ha_journal.specs.Journal.{Journal, last_place, units}
+use Rattle.ha_journal.specs.Journal.{Journal, last_place, names, units}
 use Rattle.ha_sight.specs.Scripts.{Branch}
-use Rattle.ha_model.specs.Records.{CallEnds, Records, actions_of, spots, is_restart_mode, lets_in, live_count}
+use Rattle.ha_model.specs.Records.{CallEnds, Records, actions_of, has_name, spots, is_restart_mode, lets_in, live_count}
 use Rattle.ha_model.specs.RunSteps.{joined}
 use Rattle.run_modes.specs.Fits.{AreNumbered}
 use Rattle.run_modes.specs.Table.{admission, attempted, begin_now, live_of, new_run, told as says}
@@ -22,6 +23,10 @@ use Rattle.run_modes.specs.Calls.{tried}
 use Rattle.run_modes.specs.declared.admission.Admission.{Admission}
 use Rattle.run_modes.specs.Lanes.{first_of}
 use Rattle.run_modes.proofs.TableLemmas.{live-length}
+use Rattle.ha_journal.specs.Attempts.{passing}
+use Rattle.ha_model.proofs.KnownPasses.{AllNamed, passing-named}
+use Rattle.unit_book.proofs.FirstLemmas.{firsts-many, names-many}
+use Rattle.ha_engine.specs.Named.{AreFirsts, AreKnown}
 use Rattle.ha_engine.specs.declared.admit.Prepared.{Prepared}
 use Rattle.ha_engine.specs.Admits.{ArePrepared, IsPrepared, branches_if, from_end, gone_by, has_action, left_by, pairs_by, IsNumbered, OneSlot, SlotsBy}
 use Rattle.engine_parts.specs.Fronts.{Stands, fronts}
@@ -70,9 +75,9 @@ length-snoc : (rs : Records) (r : Record) → length (rs ++ (r ∷ [])) ≡ suc 
 length-snoc [] r = refl
 length-snoc (y ∷ rs) r = ap suc (length-snoc rs r)
 
-module _ (k : Journal) (rs : Records) (table : IsTable k rs) (a : ℕ) (mode : Mode) (place order : ℕ) (env : Pairs) (here : place < length k) where
+module _ (k : Journal) (rs : Records) (table : IsTable k rs) (a : ℕ) (mode : Mode) (place order number : ℕ) (env : Pairs) (here : place < length k) where
   abbrev new : Record
-  new = new_run rs a mode place order env
+  new = new_run rs a mode place order number env
 
   abbrev left : Records
   left = left_by (is_restart_mode mode) a place rs
@@ -164,7 +169,7 @@ begins-or-waits Mode.Restart (o ∷ live) place s f acts = inl (record { begun =
 begins-or-waits Mode.Queued [] place s f acts = inl (record { begun = refl; slots = λ os os' h. h; pairs = refl })
 begins-or-waits Mode.Queued (o ∷ live) place s f acts = inr (record { waiting = (let off : nat_eq (suc (length live)) 0 ≡ false = search rules in λ i. if off i then Some place else None); slots = λ os os' h. h; pairs = refl })
 
-module _ (k : Journal) (rs : Records) (table : IsTable k rs) (a : ℕ) (mode : Mode) (place order : ℕ) (env : Pairs) (here : place < length k) (f : Frames) (acts : Bool)
+module _ (k : Journal) (rs : Records) (table : IsTable k rs) (a : ℕ) (mode : Mode) (place order number : ℕ) (env : Pairs) (here : place < length k) (f : Frames) (acts : Bool)
     (stands : Stands f (actions_of (units k) a) env []) (first : fronts f [] ≡ first_fronts (actions_of (units k) a)) (act : acts ≡ has_action (actions_of (units k) a)) (whose : f.automation ≡ a) where
   own_stands : (g : Frames) → IsNumbered (suc (length rs)) f g → Stands g (actions_of (units k) a) env []
   own_stands g same = record { items = stands.items; stands = same.stands (actions_of (units k) a) env [] stands.items stands.stands }
@@ -174,43 +179,43 @@ module _ (k : Journal) (rs : Records) (table : IsTable k rs) (a : ℕ) (mode : M
 
   -- LAW: behind an attempt that is admitted
   admitted-kept : (told : CallEnds) → (delays : List Timer) (w : Waits) (os os' : List (Option Frames)) (pairs : List (ℕ × Branch)) (said : Admission) → said ≡ says mode (suc (length rs)) (first_of (live_of a rs)) → SlotsBy said f os os'
-      → RunsKept told (gone_by mode a rs) k rs delays w os pairs → RunsKept told nobody k (joined mode a place rs (new_run rs a mode place order env)) delays w os' (pairs ++ pairs_by said acts)
+      → RunsKept told (gone_by mode a rs) k rs delays w os pairs → RunsKept told nobody k (joined mode a place rs (new_run rs a mode place order number env)) delays w os' (pairs ++ pairs_by said acts)
   admitted-kept told delays w os os' pairs said is slots kept =
-      subst (λ (t : Admission). RunsKept told nobody k (joined mode a place rs (new_run rs a mode place order env)) delays w os' (pairs ++ pairs_by t acts)) (sym is)
+      subst (λ (t : Admission). RunsKept told nobody k (joined mode a place rs (new_run rs a mode place order number env)) delays w os' (pairs ++ pairs_by t acts)) (sym is)
       (by (says mode (suc (length rs)) (first_of (live_of a rs))) (begins-or-waits mode (live_of a rs) place (suc (length rs)) f acts) (subst (λ (t : Admission). SlotsBy t f os os') is slots))
     where
       count : length (live_of a rs) ≡ live_count a rs
       count = sym (live-length a rs)
 
       by : (t : Admission) → Begins mode (length (live_of a rs)) place (suc (length rs)) f acts t ⊎ Waits' mode (length (live_of a rs)) place (suc (length rs)) f acts t → SlotsBy t f os os'
-          → RunsKept told nobody k (joined mode a place rs (new_run rs a mode place order env)) delays w os' (pairs ++ pairs_by t acts)
+          → RunsKept told nobody k (joined mode a place rs (new_run rs a mode place order number env)) delays w os' (pairs ++ pairs_by t acts)
       by t (inl b) slots =
           (let begun : begin_now mode (live_count a rs) place ≡ Some place = ap (λ n. begin_now mode n place) (sym count) ∙ b.begun in
           let bs : List Branch = first_branches (actions_of (units k) a) in
           let one : OneSlot (suc (length rs)) f os os' = b.slots os os' slots in
-          let made = joined-kept k rs table a mode place order env here one.0 one.2.serial (own_stands one.0 one.2) (own_first one.0 one.2) told (one.2.automation ∙ whose) delays w os pairs bs
-          (begun-branches k rs table a mode place order env here one.0 one.2.serial (own_stands one.0 one.2) (own_first one.0 one.2) told begun) kept in
+          let made = joined-kept k rs table a mode place order number env here one.0 one.2.serial (own_stands one.0 one.2) (own_first one.0 one.2) told (one.2.automation ∙ whose) delays w os pairs bs
+          (begun-branches k rs table a mode place order number env here one.0 one.2.serial (own_stands one.0 one.2) (own_first one.0 one.2) told begun) kept in
           let more : pairs_of (suc (length rs)) bs ≡ pairs_by t acts = ap (pairs_of (suc (length rs))) (first-is (actions_of (units k) a) ∙ ap branches_if (sym act)) ∙ sym b.pairs in
-          subst (λ (l : List (Option Frames)). RunsKept told nobody k (joined mode a place rs (new_run rs a mode place order env)) delays w l (pairs ++ pairs_by t acts)) (sym one.1)
-          (subst (λ (l : List (ℕ × Branch)). RunsKept told nobody k (joined mode a place rs (new_run rs a mode place order env)) delays w (os ++ (Some one.0 ∷ [])) (pairs ++ l)) more made))
+          subst (λ (l : List (Option Frames)). RunsKept told nobody k (joined mode a place rs (new_run rs a mode place order number env)) delays w l (pairs ++ pairs_by t acts)) (sym one.1)
+          (subst (λ (l : List (ℕ × Branch)). RunsKept told nobody k (joined mode a place rs (new_run rs a mode place order number env)) delays w (os ++ (Some one.0 ∷ [])) (pairs ++ l)) more made))
       by t (inr b) slots =
           (let waits : begin_now mode (live_count a rs) place ≡ None = ap (λ n. begin_now mode n place) (sym count) ∙ b.waiting in
           let one : OneSlot (suc (length rs)) f os os' = b.slots os os' slots in
-          let made = joined-kept k rs table a mode place order env here one.0 one.2.serial (own_stands one.0 one.2) (own_first one.0 one.2) told (one.2.automation ∙ whose) delays w os pairs []
-          (waiting-branches k rs table a mode place order env here one.0 one.2.serial (own_stands one.0 one.2) (own_first one.0 one.2) told waits) kept in
-          subst (λ (l : List (Option Frames)). RunsKept told nobody k (joined mode a place rs (new_run rs a mode place order env)) delays w l (pairs ++ pairs_by t acts)) (sym one.1)
-          (subst (λ (l : List (ℕ × Branch)). RunsKept told nobody k (joined mode a place rs (new_run rs a mode place order env)) delays w (os ++ (Some one.0 ∷ [])) (pairs ++ l)) (sym b.pairs) made))
+          let made = joined-kept k rs table a mode place order number env here one.0 one.2.serial (own_stands one.0 one.2) (own_first one.0 one.2) told (one.2.automation ∙ whose) delays w os pairs []
+          (waiting-branches k rs table a mode place order number env here one.0 one.2.serial (own_stands one.0 one.2) (own_first one.0 one.2) told waits) kept in
+          subst (λ (l : List (Option Frames)). RunsKept told nobody k (joined mode a place rs (new_run rs a mode place order number env)) delays w l (pairs ++ pairs_by t acts)) (sym one.1)
+          (subst (λ (l : List (ℕ × Branch)). RunsKept told nobody k (joined mode a place rs (new_run rs a mode place order number env)) delays w (os ++ (Some one.0 ∷ [])) (pairs ++ l)) (sym b.pairs) made))
 
   -- LAW: behind an attempt all runs are kept
   pub attempted-runs : (told : CallEnds) (max : ℕ) (said : Admission) → said ≡ admission a mode max rs → (delays : List Timer) (w : Waits) (os os' : List (Option Frames)) (pairs : List (ℕ × Branch)) → SlotsBy said f os os'
       → RunsKept told (gone_by mode a rs) k rs delays w os pairs
-      → IsTable k (attempted a mode max place order env rs) × RunsKept told nobody k (attempted a mode max place order env rs) delays w os' (pairs ++ pairs_by said acts)
+      → IsTable k (attempted a mode max place order number env rs) × RunsKept told nobody k (attempted a mode max place order number env rs) delays w os' (pairs ++ pairs_by said acts)
   attempted-runs told max said answer delays w os os' pairs slots kept = by (lets_in mode max (live_count a rs)) refl answer
     where
       by : (b : Bool) → lets_in mode max (live_count a rs) ≡ b → said ≡ (if b then says mode (suc (length rs)) (first_of (live_of a rs)) else Admission.Refused)
-          → IsTable k (if b then joined mode a place rs (new_run rs a mode place order env) else rs)
-          × RunsKept told nobody k (if b then joined mode a place rs (new_run rs a mode place order env) else rs) delays w os' (pairs ++ pairs_by said acts)
-      by true e is = (joined-table k rs table a mode place order env here, admitted-kept told delays w os os' pairs said is slots kept)
+          → IsTable k (if b then joined mode a place rs (new_run rs a mode place order number env) else rs)
+          × RunsKept told nobody k (if b then joined mode a place rs (new_run rs a mode place order number env) else rs) delays w os' (pairs ++ pairs_by said acts)
+      by true e is = (joined-table k rs table a mode place order number env here, admitted-kept told delays w os os' pairs said is slots kept)
       by false e is = (
         table,
         subst (λ (t : Admission). RunsKept told nobody k rs delays w os' (pairs ++ pairs_by t acts)) (sym is)
@@ -221,17 +226,17 @@ module _ (k : Journal) (rs : Records) (table : IsTable k rs) (a : ℕ) (mode : M
       )
 
   -- LAW: what is told of called runs is the same
-  pub attempted-told : (max : ℕ) → place ≡ last_place k → told_by (gone_by mode a rs) k rs ≡ told_by nobody k (attempted a mode max place order env rs)
+  pub attempted-told : (max : ℕ) → place ≡ last_place k → told_by (gone_by mode a rs) k rs ≡ told_by nobody k (attempted a mode max place order number env rs)
   attempted-told max at = by (lets_in mode max (live_count a rs)) refl
     where
       ended : AreAlike (gone_by mode a rs) (last_place k) rs (left_by (is_restart_mode mode) a place rs)
       ended = ended-alike (gone_by mode a rs) (last_place k) rs (left_by (is_restart_mode mode) a place rs)
           (subst (λ q. AreEnded (gone_by mode a rs) q rs (left_by (is_restart_mode mode) a place rs)) at (left-ended mode a place rs table.numbered))
 
-      by : (b : Bool) → lets_in mode max (live_count a rs) ≡ b → told_by (gone_by mode a rs) k rs ≡ told_by nobody k (if b then joined mode a place rs (new_run rs a mode place order env) else rs)
+      by : (b : Bool) → lets_in mode max (live_count a rs) ≡ b → told_by (gone_by mode a rs) k rs ≡ told_by nobody k (if b then joined mode a place rs (new_run rs a mode place order number env) else rs)
       by true e =
           told-alike (gone_by mode a rs) k rs (left_by (is_restart_mode mode) a place rs) ended
-          ∙ sym (told-joined k (left_by (is_restart_mode mode) a place rs) (new_run rs a mode place order env) at refl)
+          ∙ sym (told-joined k (left_by (is_restart_mode mode) a place rs) (new_run rs a mode place order number env) at refl)
       by false e = ap (λ (g : Gone). told_by g k rs) (not-restart mode max (live_count a rs) a rs e)
 
   -- at a begin nothing is awaited
@@ -242,7 +247,7 @@ module _ (k : Journal) (rs : Records) (table : IsTable k rs) (a : ℕ) (mode : M
   -- LAW: and so is who waits
   pub attempted-calls : (max : ℕ) (said : Admission) → said ≡ admission a mode max rs → place ≡ last_place k → (delays : List Timer) (w : Waits) (os os' : List (Option Frames)) (pairs : List (ℕ × Branch)) (waiting : Waiting) → SlotsBy said f os os'
       → RunsKept (told_by (gone_by mode a rs) k rs) (gone_by mode a rs) k rs delays w os pairs → CallsKept (told_by (gone_by mode a rs) k rs) k rs waiting os
-      → CallsKept (told_by nobody k (attempted a mode max place order env rs)) k (attempted a mode max place order env rs) waiting os'
+      → CallsKept (told_by nobody k (attempted a mode max place order number env rs)) k (attempted a mode max place order number env rs) waiting os'
   attempted-calls max said answer at delays w os os' pairs waiting slots kept calls = by (lets_in mode max (live_count a rs)) refl answer
     where
       ended : AreAlike (gone_by mode a rs) (last_place k) rs (left_by (is_restart_mode mode) a place rs)
@@ -255,63 +260,66 @@ module _ (k : Journal) (rs : Records) (table : IsTable k rs) (a : ℕ) (mode : M
       behind : CallsKept (told_by nobody k (left_by (is_restart_mode mode) a place rs)) k (left_by (is_restart_mode mode) a place rs) waiting os
       behind = calls-alike (gone_by mode a rs) k rs (left_by (is_restart_mode mode) a place rs) delays w os waiting table.numbered ended kept.slots calls
 
-      own : (new_run rs a mode place order env).serial ≡ suc (length (left_by (is_restart_mode mode) a place rs))
+      own : (new_run rs a mode place order number env).serial ≡ suc (length (left_by (is_restart_mode mode) a place rs))
       own = ap suc (sym (left-length (is_restart_mode mode) a place rs))
 
       size : length os ≡ length (left_by (is_restart_mode mode) a place rs)
       size = slots-length (SlotBut (gone_by mode a rs) (told_by (gone_by mode a rs) k rs) k delays w) rs os kept.slots ∙ sym (left-length (is_restart_mode mode) a place rs)
 
-      with-one : (g : Frames) → IsNumbered (suc (length rs)) f g → CallsKept (told_by nobody k (joined mode a place rs (new_run rs a mode place order env))) k (joined mode a place rs (new_run rs a mode place order env)) waiting (os ++ (Some g ∷ []))
+      with-one : (g : Frames) → IsNumbered (suc (length rs)) f g → CallsKept (told_by nobody k (joined mode a place rs (new_run rs a mode place order number env))) k (joined mode a place rs (new_run rs a mode place order number env)) waiting (os ++ (Some g ∷ []))
       with-one g same =
-          (let none : spots k (new_run rs a mode place order env).serial ≡ [] = nowhere (told_by nobody k rs) k (left_by (is_restart_mode mode) a place rs) mid (new_run rs a mode place order env) g own in
-          calls-joined k (left_by (is_restart_mode mode) a place rs) (new_run rs a mode place order env) g os waiting at refl own size
-          (subst (λ F. AreAwaited (told_by nobody k (left_by (is_restart_mode mode) a place rs)) (joined mode a place rs (new_run rs a mode place order env)) waiting (suc (length rs)) F)
+          (let none : spots k (new_run rs a mode place order number env).serial ≡ [] = nowhere (told_by nobody k rs) k (left_by (is_restart_mode mode) a place rs) mid (new_run rs a mode place order number env) g own in
+          calls-joined k (left_by (is_restart_mode mode) a place rs) (new_run rs a mode place order number env) g os waiting at refl own size
+          (subst (λ F. AreAwaited (told_by nobody k (left_by (is_restart_mode mode) a place rs)) (joined mode a place rs (new_run rs a mode place order number env)) waiting (suc (length rs)) F)
           (sym (ap (fronts g) none ∙ own_first g same))
-          (first-awaited (told_by nobody k (left_by (is_restart_mode mode) a place rs)) (joined mode a place rs (new_run rs a mode place order env)) waiting (suc (length rs)) (actions_of (units k) a))) behind)
+          (first-awaited (told_by nobody k (left_by (is_restart_mode mode) a place rs)) (joined mode a place rs (new_run rs a mode place order number env)) waiting (suc (length rs)) (actions_of (units k) a))) behind)
 
       one-slot : Begins mode (length (live_of a rs)) place (suc (length rs)) f acts said ⊎ Waits' mode (length (live_of a rs)) place (suc (length rs)) f acts said → OneSlot (suc (length rs)) f os os'
       one-slot (inl b) = b.slots os os' slots
       one-slot (inr b) = b.slots os os' slots
 
       by : (b : Bool) → lets_in mode max (live_count a rs) ≡ b → said ≡ (if b then says mode (suc (length rs)) (first_of (live_of a rs)) else Admission.Refused)
-          → CallsKept (told_by nobody k (if b then joined mode a place rs (new_run rs a mode place order env) else rs)) k (if b then joined mode a place rs (new_run rs a mode place order env) else rs) waiting os'
+          → CallsKept (told_by nobody k (if b then joined mode a place rs (new_run rs a mode place order number env) else rs)) k (if b then joined mode a place rs (new_run rs a mode place order number env) else rs) waiting os'
       by true e is =
           (let one = one-slot (subst (λ (t : Admission). Begins mode (length (live_of a rs)) place (suc (length rs)) f acts t ⊎ Waits' mode (length (live_of a rs)) place (suc (length rs)) f acts t) (sym is)
           (begins-or-waits mode (live_of a rs) place (suc (length rs)) f acts)) in
-          subst (λ (l : List (Option Frames)). CallsKept (told_by nobody k (joined mode a place rs (new_run rs a mode place order env))) k (joined mode a place rs (new_run rs a mode place order env)) waiting l) (sym one.1) (with-one one.0 one.2))
+          subst (λ (l : List (Option Frames)). CallsKept (told_by nobody k (joined mode a place rs (new_run rs a mode place order number env))) k (joined mode a place rs (new_run rs a mode place order number env)) waiting l) (sym one.1) (with-one one.0 one.2))
       by false e is =
           (let same : os' ≡ os = subst (λ (t : Admission). SlotsBy t f os os') is slots in
           subst (λ (l : List (Option Frames)). CallsKept (told_by nobody k rs) k rs waiting l) (sym same)
           (subst (λ (g : Gone). CallsKept (told_by g k rs) k rs waiting os) (not-restart mode max (live_count a rs) a rs e) calls))
 
 -- LAW: so it is with one that is prepared
-pub prepared-kept : (told : CallEnds) (k : Journal) (rs : Records) → IsTable k rs → (x : ℕ × Attempt) (p : Prepared) → IsPrepared k x p → (place : ℕ) → place < length k → (said : Admission) → said ≡ admission p.automation p.mode p.max rs
+pub prepared-kept : (told : CallEnds) (k : Journal) (rs : Records) → IsTable k rs → (x : ℕ × Attempt) (p : Prepared) → IsPrepared k x p → (place number : ℕ) → place < length k → (said : Admission) → said ≡ admission p.automation p.mode p.max rs
     → (delays : List Timer) (w : Waits) (os os' : List (Option Frames)) (pairs : List (ℕ × Branch)) → SlotsBy said p.frames.value os os' → RunsKept told (gone_by p.mode p.automation rs) k rs delays w os pairs
-    → IsTable k (attempted p.automation p.mode p.max place p.order p.env rs) × RunsKept told nobody k (attempted p.automation p.mode p.max place p.order p.env rs) delays w os' (pairs ++ pairs_by said p.acts)
-prepared-kept told k rs table x p is place here said answer delays w os os' pairs slots kept =
+    → IsTable k (attempted p.automation p.mode p.max place p.order number p.env rs) × RunsKept told nobody k (attempted p.automation p.mode p.max place p.order number p.env rs) delays w os' (pairs ++ pairs_by said p.acts)
+prepared-kept told k rs table x p is place number here said answer delays w os os' pairs slots kept =
     let script : actions_of (units k) x.1.automation ≡ actions_of (units k) p.automation = ap (actions_of (units k)) (sym is.automation) in
-    attempted-runs k rs table p.automation p.mode place p.order p.env here p.frames.value p.acts
+    attempted-runs k rs table p.automation p.mode place p.order number p.env here p.frames.value p.acts
     (subst (λ (actions : List Action). Stands p.frames.value actions p.env []) script (subst (λ (env : Pairs). Stands p.frames.value (actions_of (units k) x.1.automation) env []) (sym is.env) is.stands))
     (is.first ∙ ap first_fronts script) (is.acts ∙ ap has_action script) (is.script ∙ sym is.automation) told p.max said answer delays w os os' pairs slots kept
 
 -- LAW: and what is told of called runs, and who waits, is so too
-pub prepared-calls : (k : Journal) (rs : Records) → IsTable k rs → (x : ℕ × Attempt) (p : Prepared) → IsPrepared k x p → (place : ℕ) → place < length k → place ≡ last_place k → (said : Admission) → said ≡ admission p.automation p.mode p.max rs
+pub prepared-calls : (k : Journal) (rs : Records) → IsTable k rs → (x : ℕ × Attempt) (p : Prepared) → IsPrepared k x p → (place number : ℕ) → place < length k → place ≡ last_place k → (said : Admission) → said ≡ admission p.automation p.mode p.max rs
     → (delays : List Timer) (w : Waits) (os os' : List (Option Frames)) (pairs : List (ℕ × Branch)) (waiting : Waiting) → SlotsBy said p.frames.value os os'
     → RunsKept (told_by (gone_by p.mode p.automation rs) k rs) (gone_by p.mode p.automation rs) k rs delays w os pairs → CallsKept (told_by (gone_by p.mode p.automation rs) k rs) k rs waiting os
-    → (told_by (gone_by p.mode p.automation rs) k rs ≡ told_by nobody k (attempted p.automation p.mode p.max place p.order p.env rs))
-    × CallsKept (told_by nobody k (attempted p.automation p.mode p.max place p.order p.env rs)) k (attempted p.automation p.mode p.max place p.order p.env rs) waiting os'
-prepared-calls k rs table x p is place here at said answer delays w os os' pairs waiting slots kept calls =
+    → (told_by (gone_by p.mode p.automation rs) k rs ≡ told_by nobody k (attempted p.automation p.mode p.max place p.order number p.env rs))
+    × CallsKept (told_by nobody k (attempted p.automation p.mode p.max place p.order number p.env rs)) k (attempted p.automation p.mode p.max place p.order number p.env rs) waiting os'
+prepared-calls k rs table x p is place number here at said answer delays w os os' pairs waiting slots kept calls =
     let script : actions_of (units k) x.1.automation ≡ actions_of (units k) p.automation = ap (actions_of (units k)) (sym is.automation) in
     let stands : Stands p.frames.value (actions_of (units k) p.automation) p.env []
     = subst (λ (actions : List Action). Stands p.frames.value actions p.env []) script (subst (λ (env : Pairs). Stands p.frames.value (actions_of (units k) x.1.automation) env []) (sym is.env) is.stands) in (
-      attempted-told k rs table p.automation p.mode place p.order p.env here p.frames.value p.acts stands (is.first ∙ ap first_fronts script) (is.acts ∙ ap has_action script) (is.script ∙ sym is.automation) p.max at,
-      attempted-calls k rs table p.automation p.mode place p.order p.env here p.frames.value p.acts stands (is.first ∙ ap first_fronts script) (is.acts ∙ ap has_action script) (is.script ∙ sym is.automation) p.max said answer at
+      attempted-told k rs table p.automation p.mode place p.order number p.env here p.frames.value p.acts stands (is.first ∙ ap first_fronts script) (is.acts ∙ ap has_action script) (is.script ∙ sym is.automation) p.max at,
+      attempted-calls k rs table p.automation p.mode place p.order number p.env here p.frames.value p.acts stands (is.first ∙ ap first_fronts script) (is.acts ∙ ap has_action script) (is.script ∙ sym is.automation) p.max said answer at
           delays w os os' pairs waiting slots kept calls,
     )
 
--- LAW: the call is that of the definition
-pub prepared-tried : (k : Journal) (rs : Records) (x : ℕ × Attempt) (p : Prepared) → IsPrepared k x p → (place : ℕ) → place ≡ last_place k → attempted p.automation p.mode p.max place p.order p.env rs ≡ tried k rs x
-prepared-tried k rs x p is place at = (λ i. attempted (is.automation i) (is.mode i) (is.max i) (at i) (is.order i) (is.env i) rs)
+-- LAW: the call is that of the definition, where the run is numbered by its name
+pub prepared-tried : (k : Journal) (rs : Records) (x : ℕ × Attempt) (p : Prepared) → IsPrepared k x p → (place number : ℕ) → place ≡ last_place k → number ≡ suc (count_by (has_name k (name_of (units k) p.automation)) rs)
+    → attempted p.automation p.mode p.max place p.order number p.env rs ≡ tried k rs x
+prepared-tried k rs x p is place number at num =
+    (λ i. attempted p.automation p.mode p.max place p.order (num i) p.env rs)
+    ∙ (λ i. attempted (is.automation i) (is.mode i) (is.max i) (at i) (is.order i) (suc (count_by (has_name k (name_of (units k) (is.automation i))) rs)) (is.env i) rs)
 
 -- ---- a stack
 
@@ -331,3 +339,30 @@ none-prepared k (x ∷ zs) h = absurd h
 pub no-items : (xs : List Prepared) → length xs ≡ 0 → xs ≡ []
 no-items [] e = refl
 no-items (x ∷ xs) e = absurd (omega (arith, e))
+
+-- ---- known units
+
+pub known-snoc : (n : ℕ) (ps : List Prepared) (p : Prepared) → AreKnown n (ps ++ (p ∷ [])) → AreKnown n ps × (p.automation < n)
+known-snoc n [] p h = (tt, h.0)
+known-snoc n (q ∷ ps) p h = let rest = known-snoc n ps p h.1 in ((h.0, rest.0), rest.1)
+
+known-join : (n : ℕ) (ps : List Prepared) (p : Prepared) → AreKnown n ps → p.automation < n → AreKnown n (ps ++ (p ∷ []))
+known-join n [] p h lt = (lt, tt)
+known-join n (q ∷ ps) p h lt = (h.0, known-join n ps p h.1 lt)
+
+-- LAW: those that pass are of units that were in force at some time
+pub known-prepared : (k : Journal) (xs : List (ℕ × Attempt)) (ps : List Prepared) → ArePrepared k xs ps → AllNamed (length (units k)) xs → AreKnown (length (units k)) ps
+known-prepared k [] [] h named = tt
+known-prepared k [] (p ∷ ps) h named = absurd h
+known-prepared k (x ∷ xs) [] h named = absurd h
+known-prepared k (x ∷ xs) (p ∷ ps) h named = (subst (λ a. a < length (units k)) (sym h.0.automation) named.0, known-prepared k xs ps h.1 named.1)
+
+known-turned : (n : ℕ) (ps : List Prepared) → AreKnown n (from_end ps) → AreKnown n ps
+known-turned n [] h = tt
+known-turned n (p ∷ ps) h = let parts = known-snoc n (from_end ps) p h in (parts.1, known-turned n ps parts.0)
+
+-- LAW: so it is of a stack
+pub known-stack : (k : Journal) (firsts : List ℕ) (ps : List Prepared) → AreFirsts k firsts → ArePrepared k (passing k) (from_end ps) → AreKnown (length firsts) ps
+known-stack k firsts ps is h =
+    let many : length firsts ≡ length (units k) = ap length is ∙ firsts-many (names k) ∙ names-many k in
+    known-turned (length firsts) ps (subst (λ n. AreKnown n (from_end ps)) (sym many) (known-prepared k (passing k) (from_end ps) h (passing-named k)))

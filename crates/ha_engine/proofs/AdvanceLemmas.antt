@@ -17,7 +17,7 @@ use Rattle.ha_ready.specs.Picked.{IsPicked}
 use Rattle.ha_ready.specs.ReadyPairs.{ends_at}
 use Rattle.std.proofs.lemmas.Option.{slice_get_within}
 use Rattle.segment_runs.specs.Goes.{moved_all}
-use Rattle.segment_runs.specs.Segment.{Closed, all_of, runs_of}
+use Rattle.segment_runs.specs.Segment.{Closed, all_of, number_at}
 use Rattle.script_step.specs.declared.frames.Frames.{Frames}
 use Rattle.script_step.specs.Frames.{ask_of, asked_by, may}
 use Rattle.wait_set.specs.Asked.{is_of}
@@ -26,7 +26,6 @@ use Rattle.engine_parts.specs.Runs.{LiveKept}
 use Rattle.engine_entry.specs.Stepping.{MaySlot, SlotStep, StepPushed, StepRuns, Stepping}
 use Rattle.engine_parts.specs.Waiting.{TellsEnds, ends}
 use Rattle.ha_engine.proofs.AskSound.{ask-sound}
-use Rattle.ha_engine.proofs.BeginGoing.{actions-sound}
 use Rattle.engine_parts.proofs.KeptLemmas.{kept-ready}
 use Rattle.ha_engine.proofs.StepBegins.{may-step, own, runner, the_pair}
 use Rattle.ha_engine.proofs.StepMade.{live, made, picked}
@@ -39,7 +38,7 @@ some-pair (x ∷ xs) h = omega arith
 true-is : (b : Bool) → b ≡ true → IsTrue b
 true-is b h = search (rules, h)
 
-module _ (j : Journal) (rs : Records) (p : Parts) (h : Stepping j rs p) where
+module _ (j : Journal) (rs : Records) (p : Parts) (h : Stepping j rs p) (acts : (a : ℕ) → are_sound_actions (actions_of (units j) a) ≡ true) where
   same-pairs : p.ready.pairs.items ≡ ready rs j
   same-pairs = kept-ready j rs p h.right h.kept
 
@@ -57,9 +56,9 @@ module _ (j : Journal) (rs : Records) (p : Parts) (h : Stepping j rs p) where
     within-all c base e =
         (let pair : IsPicked rs j s b = the_pair j rs worker s b h.right picks in
         let within : s - 1 < length rs = slice_get_within rs (s - 1) pair.run pair.found in
-        omega (arith, e, within, length-append c.records (moved_all c.entries (length c.records) (runs_of c.records) rs), long rs))
+        omega (arith, e, within, length-append c.records (moved_all c.entries (length c.records) (number_at c.numbers) rs), long rs))
       where
-        long : (xs : Records) → length (moved_all c.entries (length c.records) (runs_of c.records) xs) ≡ length xs
+        long : (xs : Records) → length (moved_all c.entries (length c.records) (number_at c.numbers) xs) ≡ length xs
         long [] = refl
         long (x ∷ xs) = ap suc (long xs)
 
@@ -89,7 +88,7 @@ module _ (j : Journal) (rs : Records) (p : Parts) (h : Stepping j rs p) where
             lives = live j rs worker s b h.right picks p.delays p.waits p.frames.items p.ready.pairs.items p.calls h.kept.going.runs_kept h.kept.going.calls_kept h.kept.going.waits_stand wait wait_is frames'.items out due step
 
             script : are_sound_actions step.new.script.value ≡ true
-            script = ap are_sound_actions (step.step.steps.script ∙ lives.stands.stands.script) ∙ actions-sound j (the_pair j rs worker s b h.right picks).run.automation h.kept.going.sees.sound
+            script = ap are_sound_actions (step.step.steps.script ∙ lives.stands.stands.script) ∙ acts (the_pair j rs worker s b h.right picks).run.automation
 
             by : (o : Option Ask) → ((q : Ask) → o ≡ Some q → ask_of step.new b ≡ Some q) → Some ask ≡ option_map (asked_by step.old.serial b (sight j (length j)).now) o → IsTrue (are_sound_triggers ask.triggers)
             by None is f = absurd (let bad : ◌≡◌ {A = Option WaitAsk} (Some ask) None = f in cc)
@@ -114,7 +113,7 @@ module _ (j : Journal) (rs : Records) (p : Parts) (h : Stepping j rs p) where
             record {
               runs = runs;
               room = h.room;
-              sees = record { looks = sees.looks; helpers_stand = sees.helpers_stand; switches_stand = sees.switches_stand; changed_is = sees.changed_is; sound = sees.sound };
+              sees = record { looks = sees.looks; helpers_stand = sees.helpers_stand; switches_stand = sees.switches_stand; changed_is = sees.changed_is; sound = sees.sound; few = sees.few; free_is = sees.free_is; ascending_is = sees.ascending_is };
               triggers_stand = h.kept.going.triggers_stand;
               owned = h.kept.going.owned;
               keys_early = h.kept.going.keys_early;

@@ -3,10 +3,9 @@ use Rattle.std.proofs.Common.{◌≡◌, ℕ, suc, ◌-◌, ◌<◌, ◌≤◌, 
 use Rattle.std.specs.Prelude.{Option, Some, None, nat_eq, slice_get, option_map, if◌then◌else◌}
 use Rattle.std.specs.Option.{option_map_or}
 use Rattle.std.proofs.lemmas.Option.{slice_get_within}
-use Rattle.ha_config.specs.declared.config.Automation.{Automation}
 use Rattle.ha_model.specs.declared.record.EndCause.{EndCause}
 use Rattle.ha_model.specs.declared.record.Record.{Record}
-use Rattle.ha_journal.specs.Journal.{Journal, units, configured, last_place}
+use Rattle.ha_journal.specs.Journal.{Journal, units, last_place}
 use Rattle.ha_model.specs.Lawful.{is_running, record_of}
 use Rattle.ha_model.specs.Records.{CallEnds, Records, actions_of, spots}
 use Rattle.ha_config.specs.Words.{or_else}
@@ -19,22 +18,13 @@ use Rattle.run_modes.proofs.ChangeLaws.{called-record, ended-record}
 use Rattle.script_step.proofs.SoundFew.{sound-few}
 use Rattle.engine_parts.specs.declared.parts.Parts.{Parts}
 use Rattle.engine_parts.specs.Called.{AreAlike, CallsKept, told_by}
-use Rattle.engine_parts.specs.Kept.{AreSound, Going, RunsKept, left_branches, nobody}
+use Rattle.engine_parts.specs.Kept.{Going, RunsKept, left_branches, nobody}
 use Rattle.engine_parts.specs.Records.{also, first_branches}
 use Rattle.engine_entry.specs.Stepping.{StepEnds}
 use Rattle.engine_parts.proofs.ToldLemmas.{told-alike}
 use Rattle.engine_parts.proofs.CalledLemmas.{calls-alike}
 use Rattle.engine_entry.proofs.EndLemmas.{called-length, called-table, end-alike, none-before, none-begun, one-begun}
-use Rattle.ha_engine.proofs.PrepareLemmas.{unit-sound}
 use Rattle.engine_entry.proofs.QueuedLemmas.{Queued, begun-found, first-ready}
-
--- LAW: the actions of a unit are sound
-pub actions-sound : (k : Journal) (a : ℕ) → AreSound k → are_sound_actions (actions_of (units k) a) ≡ true
-actions-sound k a sound = by (slice_get (units k) a) (unit-sound (configured k) a sound)
-  where
-    by : (o : Option Automation) → option_map_or (λ (x : Automation). are_sound_actions x.actions) o true ≡ true → are_sound_actions (option_map_or (λ (x : Automation). x.actions) o []) ≡ true
-    by None h = refl
-    by (Some x) h = h
 
 module _ (k : Journal) (rs : Records) (s : ℕ) (cause : EndCause) (h : StepEnds k rs s) (live : (i : ℕ) (r : Record) → slice_get rs i ≡ Some r → r.serial ≡ s → r.end ≡ None) (p : Parts) (going : Going (also nobody s) k rs p) where
   last : length k ≡ suc (length k - 1)
@@ -115,27 +105,27 @@ module _ (k : Journal) (rs : Records) (s : ℕ) (cause : EndCause) (h : StepEnds
     nowhere : spots k new.serial ≡ []
     nowhere = ap (spots k) queued.own ∙ h.nowhere q queued.run found queued.waits queued.live (λ e. omega (arith, e, behind))
 
-    branches : branches_with so (ended_at s (length k - 1) cause rs) k q ≡ first_branches (actions_of (units k) queued.run.automation)
-    branches =
+    branches : are_sound_actions (actions_of (units k) queued.run.automation) ≡ true → branches_with so (ended_at s (length k - 1) cause rs) k q ≡ first_branches (actions_of (units k) queued.run.automation)
+    branches acts =
         ap (λ o. option_map_or (ready_with so k) o []) found-behind
-        ∙ first-ready so k new runs nowhere (sound-few (actions_of (units k) queued.run.automation) (actions-sound k queued.run.automation going.sees.sound))
+        ∙ first-ready so k new runs nowhere (sound-few (actions_of (units k) queued.run.automation) acts)
 
     pub before-none : left_branches (also nobody s) so rs k q ≡ []
     before-none = none-before so k p.delays p.waits rs h.table.numbered s (length k - 1) cause last p.frames.items p.ready.pairs.items going.runs_kept q is
 
     -- LAW: where one begins, whose pairs are put in
-    pub going-begun : (p' : Parts) → p' ≡ record p { ready = p'.ready }
+    pub going-begun : are_sound_actions (actions_of (units k) queued.run.automation) ≡ true → (p' : Parts) → p' ≡ record p { ready = p'.ready }
         → p'.ready.pairs.items ≡ pairs_from 0 (length rs) (changed_at q (first_branches (actions_of (units k) new.automation)) (left_branches (also nobody s) so rs k)) → Going nobody k (ended_at s (length k - 1) cause rs) p'
-    going-begun p' rest pairs =
+    going-begun acts p' rest pairs =
         subst (Going nobody k (ended_at s (length k - 1) cause rs)) (sym rest)
         (record {
-          sees = record { looks = going.sees.looks; helpers_stand = going.sees.helpers_stand; switches_stand = going.sees.switches_stand; changed_is = going.sees.changed_is; sound = going.sees.sound };
+          sees = record { looks = going.sees.looks; helpers_stand = going.sees.helpers_stand; switches_stand = going.sees.switches_stand; changed_is = going.sees.changed_is; sound = going.sees.sound; few = going.sees.few; free_is = going.sees.free_is; ascending_is = going.sees.ascending_is };
           triggers_stand = going.triggers_stand;
           waits_stand = going.waits_stand;
           owned = going.owned;
           keys_early = going.keys_early;
           runs_kept = subst (λ (told : CallEnds). RunsKept told nobody k (ended_at s (length k - 1) cause rs) p.delays p.waits p.frames.items p'.ready.pairs.items) same-told
-              (one-begun so k p.delays p.waits rs h.table.numbered s (length k - 1) cause last p.frames.items p.ready.pairs.items going.runs_kept q (first_branches (actions_of (units k) queued.run.automation)) p'.ready.pairs.items is branches pairs);
+              (one-begun so k p.delays p.waits rs h.table.numbered s (length k - 1) cause last p.frames.items p.ready.pairs.items going.runs_kept q (first_branches (actions_of (units k) queued.run.automation)) p'.ready.pairs.items is (branches acts) pairs);
           calls_kept = calls-behind;
         })
 

@@ -1,6 +1,6 @@
 -- The records of a line that changes no switch, and what is kept behind it.
 use Rattle.std.proofs.Common.{◌≡◌, ℕ, suc, rules, ◌-◌, ◌<◌, ◌≤◌, List, [], ◌∷◌, length, Bool, true, false, refl, sym, ap, subst, ◌∙◌, arith}
-use Rattle.std.specs.Prelude.{Option, Some, None, filter, nat_eq, slice_get, ◌||◌, if◌then◌else◌}
+use Rattle.std.specs.Prelude.{Option, Some, None, filter, nat_eq, slice_get, if◌then◌else◌}
 use Rattle.std.specs.List.{enumerate_from}
 use Rattle.std.specs.Option.{option_map_or}
 use Rattle.ha_value.specs.declared.value.EntityId.{EntityId}
@@ -10,10 +10,10 @@ use Rattle.ha_journal.specs.declared.entry.Entry.TheVariants.{Line}
 use Rattle.ha_journal.specs.Attempts.{Attempt, attempts_of, fired, passes, passing}
 use Rattle.ha_config.specs.Fair.{IsPlain}
 use Rattle.ha_journal.specs.Commands.{IsFair}
-use Rattle.ha_journal.specs.Journal.{Journal, automations, last_place, more}
+use Rattle.ha_journal.specs.Journal.{Journal, last_place, more}
 use Rattle.ha_config.specs.Words.{Text, Pairs}
-use Rattle.ha_journal.specs.Entries.{Turning, step_of}
-use Rattle.ha_model.specs.Records.{CallEnds, Records, call_end, stops_turned}
+use Rattle.ha_journal.specs.Entries.{step_of}
+use Rattle.ha_model.specs.Records.{CallEnds, Records, call_end}
 use Rattle.ha_model.specs.RecordSteps.{records_after}
 use Rattle.ha_model.specs.Lawful.{Right}
 use Rattle.ha_model.proofs.LawfulLaws.{right-more}
@@ -36,7 +36,6 @@ use Rattle.engine_parts.proofs.CalledLemmas.{none-waits}
 use Rattle.engine_parts.proofs.EndedCallLemmas.{calls-after}
 use Rattle.engine_parts.proofs.WokenLemmas.{unwoken-runs}
 use Rattle.ha_ready.specs.Agree.{step_at}
-use Rattle.engine_entry.proofs.EnterLemmas.{plain-leaves}
 use Rattle.ha_ready.proofs.RunPast.{all-past}
 use Rattle.engine_parts.proofs.SteppersRun.{line-steps, stepper-runs}
 use Rattle.std.proofs.lemmas.Option.{slice_get_within}
@@ -46,10 +45,22 @@ pub plain-records : (j : Journal) (rs : Records) (source number : ℕ) (cmd : Cm
     → all_tried (more j (Line source number cmd)) rs (passing (more j (Line source number cmd))) ≡ records_after j rs (Line source number cmd)
 plain-records j rs source number cmd right plain fair =
     let x : Entry = Line source number cmd in
-    let nobody : AreTurned j x [] = (λ a. ap (λ (t : Turning). stops_turned (automations j) a t || false) (plain-leaves source number cmd plain)) in
     same-stops cmd plain
-    ∙ by-calls j rs x [] right (λ boot. boot) fair nobody ∙ records-more j x ∙ ap (λ l. records_after j l x) (sym right.records_are)
+    ∙ by-calls j rs x [] right (λ boot. boot) fair (none-turned cmd plain) ∙ records-more j x ∙ ap (λ l. records_after j l x) (sym right.records_are)
   where
+    none-turned : (c : Cmd) → IsPlain c → AreTurned j (Line source number c) []
+    none-turned (Cmd.Report entity text attributes) h a lt = refl
+    none-turned (Cmd.Gone entity) h a lt = refl
+    none-turned (Cmd.Event kind pairs) h a lt = refl
+    none-turned (Cmd.Moment at) h a lt = refl
+    none-turned (Cmd.Switch name on stop) h a lt = absurd h
+    none-turned (Cmd.Trigger name skip) h a lt = refl
+    none-turned Cmd.Restart h a lt = absurd h
+    none-turned (Cmd.Reload text config) h a lt = absurd h
+    none-turned (Cmd.Refused code) h a lt = refl
+    none-turned Cmd.Lost h a lt = refl
+    none-turned Cmd.TooLong h a lt = refl
+
     same-stops : (c : Cmd) → IsPlain c → all_tried (more j (Line source number cmd)) rs (passing (more j (Line source number cmd))) ≡ all_tried (more j (Line source number cmd)) (stops_done (length j) (Line source number c) [] rs) (passing (more j (Line source number cmd)))
     same-stops (Cmd.Report entity text attributes) h = refl
     same-stops (Cmd.Gone entity) h = refl
@@ -58,6 +69,7 @@ plain-records j rs source number cmd right plain fair =
     same-stops (Cmd.Switch name on stop) h = absurd h
     same-stops (Cmd.Trigger name skip) h = refl
     same-stops Cmd.Restart h = absurd h
+    same-stops (Cmd.Reload text config) h = absurd h
     same-stops (Cmd.Refused code) h = refl
     same-stops Cmd.Lost h = refl
     same-stops Cmd.TooLong h = refl

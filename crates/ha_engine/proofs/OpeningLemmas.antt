@@ -2,21 +2,25 @@
 use Rattle.std.proofs.Common.{◌≡◌, ℕ, ◌-◌, [], ◌∷◌, length, refl, sym, subst}
 use Rattle.std.specs.Prelude.{Option}
 use Rattle.ha_config.specs.declared.config.Config.{Config}
-use Rattle.ha_config.specs.Words.{Text}
+use Rattle.ha_config.specs.Units.{units_of}
+use Rattle.ha_config.specs.Words.{Text, up_to}
 use Rattle.ha_journal.specs.declared.carry.Carry.{Carry}
 use Rattle.ha_journal.specs.declared.entry.Entry.TheVariants.{Boot, Line, Step, Again}
 use Rattle.ha_journal.specs.Attempts.{attempts, fired, passing}
-use Rattle.ha_journal.specs.Journal.{Journal, HasEntry, last_place}
+use Rattle.ha_journal.specs.Force.{force, opened}
+use Rattle.ha_journal.specs.Journal.{Journal, HasEntry, configured, last_place}
 use Rattle.ha_model.specs.Records.{Records, records_of}
 use Rattle.ha_model.specs.Lawful.{Right}
 use Rattle.run_modes.specs.Calls.{all_tried}
 use Rattle.run_laws.proofs.EntryLaws.{by-first-calls}
 use Rattle.ha_ready.specs.RestedFlags.{RestedKept}
 use Rattle.store_text.specs.Store.{Switches}
+use Rattle.ha_sight.specs.Sight.{Automations}
 use Rattle.segment_view.specs.Views.{HasBoot, seen_at}
+use Rattle.engine_parts.specs.Numbers.{numbers_in}
 use Rattle.engine_parts.specs.Records.{IsTable}
 use Rattle.ha_engine.specs.Begun.{Begun, IsBegun, trues}
-use Rattle.ha_engine.proofs.BeginLemmas.{boot-rested, boot-right, boot-table}
+use Rattle.ha_engine.proofs.BeginLemmas.{boot-rested, boot-right, boot-table, boot-up-to}
 
 -- what is so of each Boot alone
 pub each-begun : (P : Journal → Type 0) → ((text : Text) (config : Config) (stored : Option Switches) (start : ℕ) (zone : Text) (carry : Carry) → P (Boot text config stored start zone carry ∷ [])) → (k : Journal) → IsBegun k → P k
@@ -27,7 +31,7 @@ each-begun P f (Step worker serial branch item ∷ []) h = absurd h
 each-begun P f (Again number start stored carry ∷ []) h = absurd h
 each-begun P f (e ∷ x ∷ es) h = absurd h
 
-pub begun-is : (k : Journal) (s : Switches) (zone : Text) (at : ℕ) → Begun k s zone at → IsBegun k
+pub begun-is : (k : Journal) (s : Automations) (zone : Text) (at : ℕ) → Begun k s zone at → IsBegun k
 begun-is k s zone at h = subst IsBegun (sym h.journal_is) tt
 
 pub begun-some : (k : Journal) → IsBegun k → HasEntry k
@@ -35,6 +39,14 @@ begun-some = each-begun HasEntry (λ text config stored start zone carry. tt)
 
 pub begun-length : (k : Journal) → IsBegun k → length k ≡ 1
 begun-length k h = each-begun (λ i. length i ≡ 1) (λ text config stored start zone carry. refl) k h
+
+-- LAW: its units have the first numbers
+pub begun-numbers : (k : Journal) → IsBegun k → numbers_in k ≡ up_to (length (units_of (configured k)))
+begun-numbers k h = each-begun (λ i. numbers_in i ≡ up_to (length (units_of (configured i)))) boot-up-to k h
+
+-- LAW: what is in force is what its configuration opens
+pub begun-force : (k : Journal) → IsBegun k → opened (configured k) ≡ force k
+begun-force k h = each-begun (λ i. opened (configured i) ≡ force i) (λ text config stored start zone carry. refl) k h
 
 -- LAW: its attempts are by its triggers
 pub begun-attempts : (k : Journal) → IsBegun k → attempts k (last_place k) ≡ fired k (last_place k)

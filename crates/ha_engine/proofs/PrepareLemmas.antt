@@ -1,6 +1,6 @@
 -- Attempts that are prepared, from the last on.
 use Rattle.std.proofs.Common.{◌≡◌, ℕ, zero, suc, ◌+◌, ◌<◌, ◌≤◌, List, [], ◌∷◌, ◌++◌, length, map, filter, take, get_or, Bool, true, false, refl, sym, ap, subst, ◌∙◌, arith}
-use Rattle.std.specs.Prelude.{Option, Some, None, OnOk, Result, nat_le, option_map, slice_get, ◌-◌, ◌&&◌, ◌||◌, if◌then◌else◌}
+use Rattle.std.specs.Prelude.{Option, Some, None, IfSome, IsTrue, OnOk, Result, nat_le, option_map, slice_get, ◌-◌, ◌&&◌, ◌||◌, if◌then◌else◌}
 use Rattle.std.specs.List.{enumerate_from, list_all}
 use Rattle.std.specs.Option.{option_map_or}
 use Rattle.ha_sight.specs.Sight.{Sight}
@@ -14,12 +14,11 @@ use Rattle.ha_journal.specs.declared.entry.Entry.{Entry}
 use Rattle.ha_journal.specs.declared.firing.Firing.{Firing}
 use Rattle.ha_journal.specs.Attempts.{Attempt, passes}
 use Rattle.ha_config.specs.ValueFacts.{all_distinct}
-use Rattle.ha_journal.specs.Journal.{Journal, IsJournal, automations, configured, scripts, units, more, last_place}
+use Rattle.ha_journal.specs.Journal.{Journal, IsJournal, units, more, last_place}
 use Rattle.ha_config.specs.Names.{unit_of}
 use Rattle.ha_value.specs.Ids.{is_name}
 use Rattle.ha_config.specs.declared.config.Script.{Script}
 use Rattle.ha_config.specs.Units.{as_unit, units_of}
-use Rattle.ha_config.proofs.UnitLemmas.{unit-there as rule-unit, unit-behind as called-unit}
 use Rattle.ha_config.specs.Sound.{IsSoundConfig, is_sound_script, are_sound_actions, are_sound_conditions, are_sound_triggers, is_sound_automation}
 use Rattle.ha_config.specs.Words.{Pairs}
 use Rattle.script_step.specs.Gates.{first_fronts}
@@ -28,7 +27,7 @@ use Rattle.ha_engine.specs.Admits.{ArePassing, ArePrepared, IsPrepared, IsPut, I
 use Rattle.engine_parts.specs.Fronts.{Stands}
 use Rattle.engine_parts.specs.Owners.{attempt_by, attempts_by, is_attempt}
 use Rattle.ha_engine.proofs.AdmitLemmas.{from-end-snoc}
-use Rattle.engine_parts.proofs.ViewLemmas.{both, sound-automations, sound-scripts}
+use Rattle.engine_parts.proofs.ViewLemmas.{both, sound-automations, sound-scripts, true-of}
 
 -- ---- one attempt
 
@@ -100,50 +99,31 @@ unit-sound c n h =
 
 -- ---- units by their numbers
 
--- LEMMA: a number that names no automation is none of theirs
-pub past-automations : (all : List Automation) (n : ℕ) → slice_get all n ≡ None → length all ≤ n
-past-automations [] n e = omega arith
-past-automations (a ∷ all) zero e = absurd (let bad : ◌≡◌ {A = Option Automation} (Some a) None = e in cc)
-past-automations (a ∷ all) (suc n) e = omega (arith, past-automations all n e)
+-- LAW: the actions of an automation that is sound are, and so are those of a script
+pub rule-acts : (o : Option Automation) (x : Automation) → IfSome o (λ a. IsTrue (is_sound_automation a)) → o ≡ Some x → are_sound_actions x.actions ≡ true
+rule-acts o x h e =
+    last-of ((((is_name x.name && nat_le 1 x.max) && nat_le x.max 1_000) && are_sound_triggers x.triggers) && are_sound_conditions x.tests) (are_sound_actions x.actions)
+    (true-of (is_sound_automation x) (subst (λ (p : Option Automation). IfSome p (λ a. IsTrue (is_sound_automation a))) e h))
 
--- LAW: the unit of an automation's number, and of one behind all automations
-pub unit-there : (k : Journal) (c : Config) (n : ℕ) (x : Automation) → c.automations ≡ automations k → c.scripts ≡ scripts k → slice_get c.automations n ≡ Some x → unit_of (units k) n ≡ Some x
-unit-there k c n x same also found = rule-unit (configured k) n x ((λ i. slice_get (sym same i) n) ∙ found)
-
-pub unit-behind : (k : Journal) (c : Config) (n : ℕ) → c.automations ≡ automations k → c.scripts ≡ scripts k → length c.automations ≤ n
-    → unit_of (units k) n ≡ option_map {T = Script} {U = Automation} as_unit (slice_get c.scripts (n - length c.automations))
-unit-behind k c n same also past =
-    called-unit (configured k) n (subst (λ (l : List Automation). length l ≤ n) same past)
-    ∙ (λ i. option_map {T = Script} {U = Automation} as_unit (slice_get (sym also i) (n - length (sym same i))))
-
--- LAW: of a sound configuration each script's actions are sound
-pub script-sound : (c : Config) (n : ℕ) → IsSoundConfig c → option_map_or (λ (s : Script). are_sound_actions s.actions) (slice_get c.scripts n) true ≡ true
-script-sound c n h =
-    by c.scripts n (last-of (nat_le (length c.scripts) 1_024 && all_distinct (map (λ (s : Script). s.name) c.scripts)) (list_all is_sound_script c.scripts) (sound-scripts c h))
-  where
-    by : (ss : List Script) (n : ℕ) → list_all is_sound_script ss ≡ true → option_map_or (λ (s : Script). are_sound_actions s.actions) (slice_get ss n) true ≡ true
-    by [] n e = refl
-    by (s ∷ ss) zero e = last-of ((is_name s.name && nat_le 1 s.max) && nat_le s.max 1_000) (are_sound_actions s.actions) (both (is_sound_script s) (list_all is_sound_script ss) e).0
-    by (s ∷ ss) (suc n) e = by ss n (both (is_sound_script s) (list_all is_sound_script ss) e).1
+pub script-acts : (o : Option Script) → IfSome o (λ s. IsTrue (are_sound_actions s.actions)) → option_map_or (λ (s : Script). are_sound_actions s.actions) o true ≡ true
+script-acts None h = refl
+script-acts (Some s) h = true-of (are_sound_actions s.actions) h
 
 or-true : (b : Bool) → (b || true) ≡ true
 or-true true = refl
 or-true false = refl
 
--- LAW: an attempt behind all automations is put there where there is its script
-pub called-put : (S : Sight) {E : Type 0} (r : Result (Unit {0}) E) (script : Option Script) (c : Config) (n order : ℕ) (env : Pairs) (skip : Bool) (old new : List Prepared) → length c.automations ≤ n
-    → script ≡ slice_get c.scripts (n - length c.automations)
+-- LAW: an attempt of a unit that is no automation is put there where there is its script
+pub called-put : (S : Sight) {E : Type 0} (r : Result (Unit {0}) E) (script : Option Script) (n order : ℕ) (env : Pairs) (skip : Bool) (old new : List Prepared)
     → ((s : Script) → script ≡ Some s → OnOk r ((p : Prepared) × (new ≡ old ++ (p ∷ [])) × IsReady n order env s.mode s.max s.actions p)) → (script ≡ None → OnOk r (new ≡ old))
-    → OnOk r ((k : Journal) → S ≡ sight k (suc (last_place k)) → c.automations ≡ automations k → c.scripts ≡ scripts k
+    → OnOk r ((k : Journal) → S ≡ sight k (suc (last_place k)) → unit_of (units k) n ≡ option_map {T = Script} {U = Automation} as_unit script
     → IsPut (passes k (last_place k) (asked_for n env skip)) k (order, asked_for n env skip) old new)
-called-put S r (Some s) c n order env skip old new past is there none = ok-then r (λ h k seen same also.
-    (let unit : unit_of (units k) n ≡ Some (as_unit s) = unit-behind k c n same also past ∙ ap (option_map {T = Script} {U = Automation} as_unit) (sym is) in
-    let on : passes k (last_place k) (asked_for n env skip) ≡ true
+called-put S r (Some s) n order env skip old new there none = ok-then r (λ h k seen unit.
+    (let on : passes k (last_place k) (asked_for n env skip) ≡ true
     = (λ i. option_map_or (λ (x : Automation). skip || hold_all (sight k (suc (last_place k))) x.tests env) (unit i) false) ∙ or-true skip in
     subst (λ b. IsPut b k (order, asked_for n env skip) old new) (sym on) (h.0, h.1, ready-prepared k n order env skip h.0 (Some (as_unit s)) unit h.2))) (there s refl)
-called-put S r None c n order env skip old new past is there none = ok-then r (λ h k seen same also.
-    (let unit : unit_of (units k) n ≡ None = unit-behind k c n same also past ∙ ap (option_map {T = Script} {U = Automation} as_unit) (sym is) in
-    let off : passes k (last_place k) (asked_for n env skip) ≡ false
+called-put S r None n order env skip old new there none = ok-then r (λ h k seen unit.
+    (let off : passes k (last_place k) (asked_for n env skip) ≡ false
     = (λ i. option_map_or (λ (x : Automation). skip || hold_all (sight k (suc (last_place k))) x.tests env) (unit i) false) in
     subst (λ b. IsPut b k (order, asked_for n env skip) old new) (sym off) h)) (none refl)
 

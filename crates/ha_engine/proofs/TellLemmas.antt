@@ -53,16 +53,16 @@ use Rattle.engine_parts.proofs.SteppersRun.{stepper-runs}
 -- ---- the stops
 
 -- LAW: of each target in turn
-pub each-turned : (p : ℕ) (targets : List (ℕ × Bool × Bool)) (rs : Records) → stops_each p targets rs ≡ fold (stop_turned p) rs (turned_in targets)
+pub each-turned : (p : ℕ) (targets : List (ℕ × Bool × Bool)) (rs : Records) → stops_each p targets rs ≡ fold (stop_turned p EndCause.SwitchedOff) rs (turned_in targets)
 each-turned p [] rs = refl
 each-turned p (t ∷ ts) rs = by (not t.1 && t.2) (λ l. each-turned p ts l)
   where
-    by : (c : Bool) → ((l : Records) → stops_each p ts l ≡ fold (stop_turned p) l (turned_in ts))
-        → stops_each p ts (if c then stopped (Some t.0) p EndCause.SwitchedOff rs else rs) ≡ fold (stop_turned p) rs (if c then t.0 ∷ turned_in ts else turned_in ts)
+    by : (c : Bool) → ((l : Records) → stops_each p ts l ≡ fold (stop_turned p EndCause.SwitchedOff) l (turned_in ts))
+        → stops_each p ts (if c then stopped (Some t.0) p EndCause.SwitchedOff rs else rs) ≡ fold (stop_turned p EndCause.SwitchedOff) rs (if c then t.0 ∷ turned_in ts else turned_in ts)
     by true rec = rec (stopped (Some t.0) p EndCause.SwitchedOff rs)
     by false rec = rec rs
 
-each-halted : (p : ℕ) (scripts : List ℕ) (rs : Records) → halts_each p scripts rs ≡ fold (stop_turned p) rs scripts
+each-halted : (p : ℕ) (scripts : List ℕ) (rs : Records) → halts_each p scripts rs ≡ fold (stop_turned p EndCause.SwitchedOff) rs scripts
 each-halted p [] rs = refl
 each-halted p (s ∷ ss) rs = each-halted p ss (stopped (Some s) p EndCause.SwitchedOff rs)
 
@@ -102,15 +102,15 @@ or-false true = refl
 or-false false = refl
 
 are-turned : (j : Journal) (w s : ℕ) (b : Branch) (item : Item) → AreTurned j (Step w s b item) (turned_by item)
-are-turned j w s b (Item.Switched targets) a = or-false (list_any (λ t. nat_eq t.0 a && not t.1 && t.2) targets) ∙ any-turned a targets
-are-turned j w s b Item.Nothing a = refl
-are-turned j w s b (Item.Call service target fields) a = refl
-are-turned j w s b (Item.Fired kind pairs) a = refl
-are-turned j w s b (Item.Triggered automations skip) a = refl
-are-turned j w s b (Item.Failed code) a = refl
-are-turned j w s b (Item.Started scripts fields waits) a = refl
-are-turned j w s b (Item.Halted scripts) a = any-halted a scripts
-are-turned j w s b (Item.Helped changes) a = refl
+are-turned j w s b (Item.Switched targets) a lt = or-false (list_any (λ t. nat_eq t.0 a && not t.1 && t.2) targets || false) ∙ or-false (list_any (λ t. nat_eq t.0 a && not t.1 && t.2) targets) ∙ any-turned a targets
+are-turned j w s b Item.Nothing a lt = refl
+are-turned j w s b (Item.Call service target fields) a lt = refl
+are-turned j w s b (Item.Fired kind pairs) a lt = refl
+are-turned j w s b (Item.Triggered rules skip) a lt = refl
+are-turned j w s b (Item.Failed code) a lt = refl
+are-turned j w s b (Item.Started scripts fields waits) a lt = refl
+are-turned j w s b (Item.Halted scripts) a lt = or-false (list_any (nat_eq a) scripts) ∙ any-halted a scripts
+are-turned j w s b (Item.Helped changes) a lt = refl
 
 -- ---- the calls of a run
 

@@ -1,16 +1,31 @@
 -- What stands for a whole journal with one entry more that opens no segment.
-use Rattle.std.proofs.Common.{◌≡◌, suc, ◌+◌, ◌-◌, ◌<◌, ◌≤◌, inl, inr, ◌⊎◌, List, [], ◌∷◌, ◌++◌, length, Bool, true, false, refl, sym, ap, subst, ◌∙◌, arith}
+use Rattle.std.proofs.Common.{◌≡◌, suc, ◌+◌, ◌-◌, ◌<◌, ◌≤◌, inl, inr, ◌⊎◌, ℕ, zero, List, [], ◌∷◌, ◌++◌, length, Bool, true, false, refl, sym, ap, subst, ◌∙◌, arith}
+use Rattle.std.specs.Prelude.{None, map, option_map}
+use Rattle.ha_config.specs.declared.config.Automation.{Automation}
+use Rattle.ha_config.specs.Names.{name_of, names_of}
+use Rattle.ha_config.specs.Words.{Text}
 use Rattle.ha_journal.specs.declared.entry.Entry.{Entry}
-use Rattle.ha_journal.specs.Entries.{is_restart}
-use Rattle.ha_journal.specs.Journal.{Journal, more}
+use Rattle.ha_journal.specs.Entries.{is_restart, reload_in}
+use Rattle.ha_journal.specs.Force.{force}
+use Rattle.ha_journal.specs.Journal.{HasEntry, Journal, more, units}
+use Rattle.ha_journal.proofs.ForceLaws.{force-still, units-more}
 use Rattle.ha_journal.proofs.MoreLemmas.{has-entry, length-more}
+use Rattle.ha_model.specs.declared.record.EndCause.{EndCause}
 use Rattle.ha_model.specs.Lawful as one
 use Rattle.ha_model.specs.Records as all
-use Rattle.ha_whole.specs.Segments.{alone, carried, cut, entries_in, front, segment, segments}
+use Rattle.ha_model.specs.Records.{Records}
+use Rattle.ha_model.proofs.KnownLaws.{AllKnown, all-known}
+use Rattle.ha_whole.specs.Segments.{alone, carried, carried_number, cut, entries_in, front, segment, segments}
 use Rattle.ha_whole.specs.Whole.{AreEntries, CannotRestart, HasRoom, IsFull, Right, most_entries, most_in_segment, most_segments, records_from, records_of}
-use Rattle.segment_runs.specs.Segment.{SegmentTable, all_of}
+use Rattle.segment_runs.specs.Goes.{moved_all}
+use Rattle.segment_runs.specs.Segment.{all_of, number_at}
+use Rattle.segment_carry.proofs.LawLemmas.{table-records}
+use Rattle.named_runs.specs.Named.{NamedTable}
+use Rattle.unit_book.specs.declared.book.UnitBook.{UnitBook}
+use Rattle.unit_book.specs.Book.{Holds}
+use Rattle.unit_book.proofs.BookLemmas.{holds-front}
 use Rattle.whole_laws.specs.Puts.{IsPut}
-use Rattle.whole_laws.proofs.CutLemmas.{IsCut, carried-on, closed-on, is-cut, segment-on}
+use Rattle.whole_laws.proofs.CutLemmas.{IsCut, alone-reload, carried-on, closed-on, is-cut, segment-on}
 use Rattle.whole_laws.proofs.LiftLemmas.{right-lifts}
 use Rattle.whole_laws.proofs.PutLemmas.{put-on}
 use Rattle.whole_laws.proofs.SeenLemmas.{front-below}
@@ -63,13 +78,38 @@ module _ (j : Journal) (b : Bounds) (lies : Lies j b) (bounded : IsBounded j b) 
 
 -- ---- one entry more
 
--- what stands behind the records of closed segments, which the table has
-pub all-is : (j : Journal) (t : SegmentTable) → AreRuns j t → all_of t.closed t.list ≡ all_of (record { records = records_from 0 (cut j).closed; entries = front j }) (all.records_of (segment j))
-all-is j t h = (λ i. all_of (record { records = h.records i; entries = h.entries i }) (h.own i))
+-- records go on by the same numbers of known units
+moved-alike : (n b : ℕ) (f g : ℕ → ℕ) (m : ℕ) → ((a : ℕ) → a < m → f a ≡ g a) → (rs : Records) → AllKnown m rs → moved_all n b f rs ≡ moved_all n b g rs
+moved-alike n b f g m alike [] known = refl
+moved-alike n b f g m alike (r ∷ rs) known =
+    (λ i. record r {
+      serial = b + r.serial;
+      number = alike r.automation known.0 i + r.number;
+      place = n + r.place;
+      begin = option_map (λ p. n + p) r.begin;
+      end = option_map {T = ℕ × EndCause} (λ e. (n + e.0, e.1)) r.end;
+    } ∷ moved-alike n b f g m alike rs known.1 i)
 
-module _ (j : Journal) (x : Entry) (b : Bounds) (t t' : SegmentTable) (is_put : IsPut x) (stays : is_restart x ≡ false) (told : IsTold j b t)
-    (own : one.Right (more (segment j) (alone (segment j) x)) t'.list) (closed : t'.closed ≡ t.closed) (room : length j < b.limit)
-    (go_on : AreEntries (more j x) → records_of (more j x) ≡ all_of (record { records = records_from 0 (cut (more j x)).closed; entries = front (more j x) }) (all.records_of (segment (more j x)))) where
+number-mapped : (f : Text → ℕ) (us : List Automation) (a : ℕ) → a < length us → number_at (map f (names_of us)) a ≡ f (name_of us a)
+number-mapped f [] a lt = absurd (omega (arith, lt))
+number-mapped f (x ∷ us) zero lt = refl
+number-mapped f (x ∷ us) (suc a) lt = number-mapped f us a (omega (arith, lt))
+
+-- LAW: the records of all segments, where a table has what closed ones left
+pub all-records : (j : Journal) (t : NamedTable) → AreEntries j → AreRuns j t → records_of j ≡ all_of t.closed t.list
+all-records j t entries h =
+    let s : Journal = segment j in
+    let ns : List ℕ = map (carried_number s) (names_of (units s)) in
+    table-records j ns entries refl
+    ∙ (λ i. records_from 0 (cut j).closed ++ moved-alike (front j) (length (records_from 0 (cut j).closed)) (number_at ns) (number_at t.closed.numbers) (length (units s))
+    (λ a lt. number-mapped (carried_number s) (units s) a lt ∙ sym (h.numbers a lt)) (all.records_of s) (all-known s) i)
+    ∙ (λ i. all_of (record { records = sym h.records i; entries = sym h.entries i; numbers = t.closed.numbers }) (sym h.own i))
+
+module _ (j : Journal) (x : Entry) (b : Bounds) (u u' : UnitBook) (t t' : NamedTable) (is_put : IsPut x) (stays : is_restart x ≡ false) (told : IsTold j b u t)
+    (own : one.Right (more (segment j) (alone (segment j) x)) t'.list) (records_is : t'.closed.records ≡ t.closed.records) (entries_is : t'.closed.entries ≡ t.closed.entries)
+    (numbers_are : (a : ℕ) → a < length (units (more (segment j) (alone (segment j) x)))
+    → number_at t'.closed.numbers a ≡ carried_number (more (segment j) (alone (segment j) x)) (name_of (units (more (segment j) (alone (segment j) x))) a))
+    (holds : Holds (more j x) (force (more (segment j) (alone (segment j) x))) u') (room : length j < b.limit) where
   abbrev s : Journal
   s = segment j
 
@@ -100,12 +140,13 @@ module _ (j : Journal) (x : Entry) (b : Bounds) (t t' : SegmentTable) (is_put : 
   pub runs-on : AreRuns k t'
   runs-on = record {
     own = own-right.records_are;
-    records = (λ i. (closed i).records) ∙ told.runs.records ∙ (λ i. records_from 0 (sym closed_same i));
-    entries = (λ i. (closed i).entries) ∙ told.runs.entries ∙ sym front-same;
+    records = records_is ∙ told.runs.records ∙ (λ i. records_from 0 (sym closed_same i));
+    entries = entries_is ∙ told.runs.entries ∙ sym front-same;
+    numbers = subst (λ q. (a : ℕ) → a < length (units q) → number_at t'.closed.numbers a ≡ carried_number q (name_of (units q) a)) (sym on) numbers_are;
   }
 
   all-on : all_of t'.closed t'.list ≡ records_of k
-  all-on = all-is k t' runs-on ∙ sym (go_on lifted.journal.entries)
+  all-on = sym (all-records k t' lifted.journal.entries runs-on)
 
   pub lies-on : Lies k b
   lies-on = record {
@@ -128,9 +169,49 @@ module _ (j : Journal) (x : Entry) (b : Bounds) (t t' : SegmentTable) (is_put : 
       same-count (s ∷ ss) a b = ap suc (same-count ss a b)
 
   -- LAW: all of it goes on
-  pub told-on : IsTold k b t'
-  told-on = record { right = subst (Right k) (sym all-on) lifted; own_right = own-right; runs = runs-on; lies = lies-on; bounded = bounded-on }
+  pub told-on : IsTold k b u' t'
+  told-on = record {
+    right = subst (Right k) (sym all-on) lifted;
+    own_right = own-right;
+    runs = runs-on;
+    lies = lies-on;
+    bounded = bounded-on;
+    holds = subst (λ q. Holds k (force q) u') (sym on) holds;
+  }
 
   -- LAW: the entry opens no segment
   pub not-opening : length k ≡ suc (front k) → ⊥
   not-opening e = omega (arith, e, front-same, length-more j x, front-below j told.lies.entries)
+
+pub number-on : (s : Journal) (x : Entry) → HasEntry s → (name : Text) → carried_number s name ≡ carried_number (more s x) name
+number-on [] x h name = absurd h
+number-on (e ∷ es) x h name = refl
+
+-- ---- an entry that changes nothing of what is in force
+
+module _ (j : Journal) (x : Entry) (u : UnitBook) (t t' : NamedTable) (entries : AreEntries j) (quiet : reload_in x ≡ None) (runs : AreRuns j t) (closed : t'.closed ≡ t.closed) where
+  abbrev here : Journal
+  here = more (segment j) (alone (segment j) x)
+
+  has : HasEntry (segment j)
+  has = has-entry (segment j) (is-cut j entries).alone
+
+  pub alone-quiet : reload_in (alone (segment j) x) ≡ None
+  alone-quiet = alone-reload (carried (segment j)) x ∙ quiet
+
+  pub units-quiet : units here ≡ units (segment j)
+  units-quiet = sym (units-more (segment j) (alone (segment j) x) has alone-quiet)
+
+  -- LAW: the numbers of closed segments are the same
+  pub numbers-quiet : (a : ℕ) → a < length (units here) → number_at t'.closed.numbers a ≡ carried_number here (name_of (units here) a)
+  numbers-quiet a lt =
+      (λ i. number_at (closed i).numbers a) ∙ runs.numbers a (subst (λ (us : List Automation). a < length us) units-quiet lt)
+      ∙ (λ i. number-on (segment j) (alone (segment j) x) has (name_of (sym units-quiet i) a) i)
+
+  -- LAW: a book holds the same
+  pub holds-quiet : Holds j (force (segment j)) u → Holds (more j x) (force here) u
+  holds-quiet h = subst (λ f. Holds (more j x) f u) (force-still (segment j) (alone (segment j) x) has alone-quiet) (holds-front j (x ∷ []) (force (segment j)) u h)
+
+-- LAW: so a book holds the same behind an entry of the last segment, as the segment has it
+pub holds-still : (j s : Journal) (x y : Entry) (u : UnitBook) → HasEntry s → reload_in y ≡ None → Holds j (force s) u → Holds (more j x) (force (more s y)) u
+holds-still j s x y u has none h = subst (λ f. Holds (more j x) f u) (force-still s y has none) (holds-front j (x ∷ []) (force s) u h)

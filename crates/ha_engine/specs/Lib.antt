@@ -2,8 +2,15 @@ pub mod Admits
 pub mod Begun
 pub mod Core
 pub mod Engines
+pub mod GoesOn
+pub mod Knows
 pub mod Lies
+pub mod Named
+pub mod Next
 pub mod Noted
+pub mod Places
 pub mod Put
+pub mod Reloads
 pub mod Restarts
+pub mod Settled
 pub mod Told

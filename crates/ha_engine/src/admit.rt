@@ -7,6 +7,7 @@ ghost use Rattle.ha_ready.specs.ReadyPairs.{pairs_of};
 ghost use Rattle.engine_parts.specs.Records.{HasRoom, IsTable};
 ghost use Rattle.run_modes.specs.Table.{live_of};
 ghost use Rattle.engine_parts.specs.Kept.{Going, nobody};
+ghost use Rattle.ha_engine.specs.Named.{AreFirsts, AreKnown};
 ghost use Rattle.ha_engine.specs.Admits.{ArePrepared, IsPrepared, OneSlot, SlotsBy, are_in, branches_if, from_end, gone_by, pairs_by};
 
 use engine_parts::forget::forget;
@@ -14,9 +15,9 @@ use engine_parts::parts::Parts;
 use ha_config::Mode;
 use ha_sight::Env;
 use ha_value::Many;
+use named_runs::NamedRuns;
 use run_modes::Admission;
 use script_step::Frames;
-use segment_runs::SegmentRuns;
 use std::alloc::Global;
 
 /// An attempt that passes, with the frames that its run begins with.
@@ -34,7 +35,7 @@ pub struct Prepared {
 }
 
 /// All live runs of an automation go at the last place.
-pub(crate) fn forget_live(runs: &SegmentRuns, parts: &mut Parts, automation: u32, place: u64)
+pub(crate) fn forget_live(runs: &NamedRuns, parts: &mut Parts, automation: u32, place: u64)
     requires { HasRoom 0 parts.old }
     ensures going { (k : Journal) → place ≡ last_place k → IsTable k runs.now.list → Going nobody k runs.now.list parts.old → Going (are_in (live_of automation runs.now.list)) k runs.now.list parts.new }
     ensures rested { parts.new.rested ≡ parts.old.rested }
@@ -50,7 +51,7 @@ pub(crate) fn forget_live(runs: &SegmentRuns, parts: &mut Parts, automation: u32
 }
 
 /// Those that a new run replaces go.
-fn clear_way(runs: &SegmentRuns, parts: &mut Parts, mode: Mode, automation: u32, place: u64)
+fn clear_way(runs: &NamedRuns, parts: &mut Parts, mode: Mode, automation: u32, place: u64)
     requires { HasRoom 0 parts.old }
     ensures going { (k : Journal) → place ≡ last_place k → IsTable k runs.now.list → Going nobody k runs.now.list parts.old → Going (gone_by mode automation runs.now.list) k runs.now.list parts.new }
     ensures rested { parts.new.rested ≡ parts.old.rested }
@@ -97,20 +98,16 @@ fn take_in(parts: &mut Parts, alloc: Global, told: Admission, frames: Box<Frames
 }
 
 /// One attempt. There is room for its run.
-fn admit_one(
-    runs: &mut SegmentRuns,
-    parts: &mut Parts,
-    alloc: Global,
-    place: u64,
-    prepared: Prepared,
-)
+fn admit_one(runs: &mut NamedRuns, parts: &mut Parts, alloc: Global, place: u64, prepared: Prepared)
     requires place { place < 2 ^ 56 }
     requires runs { 0 < runs.old.spare }
     requires parts { HasRoom 1 parts.old }
-    ensures list { (k : Journal) (x : ℕ × Tried) → IsPrepared k x prepared → place ≡ last_place k → runs.new.list ≡ tried k runs.old.list x }
-    ensures going { (k : Journal) (x : ℕ × Tried) → IsPrepared k x prepared → place ≡ last_place k → 0 < length k → IsTable k runs.old.list → Going nobody k runs.old.list parts.old
+    requires known { prepared.automation < length runs.old.firsts }
+    ensures list { (k : Journal) (x : ℕ × Tried) → IsPrepared k x prepared → AreFirsts k runs.old.firsts → place ≡ last_place k → runs.new.list ≡ tried k runs.old.list x }
+    ensures going { (k : Journal) (x : ℕ × Tried) → IsPrepared k x prepared → AreFirsts k runs.old.firsts → place ≡ last_place k → 0 < length k → IsTable k runs.old.list → Going nobody k runs.old.list parts.old
         → IsTable k runs.new.list × Going nobody k runs.new.list parts.new }
     ensures closed { runs.new.closed ≡ runs.old.closed }
+    ensures firsts { runs.new.firsts ≡ runs.old.firsts }
     ensures spare { runs.old.spare ≤ suc runs.new.spare }
     ensures room { (n : ℕ) → HasRoom (suc n) parts.old → HasRoom n parts.new }
     ensures rested { parts.new.rested ≡ parts.old.rested }
@@ -133,7 +130,7 @@ fn admit_one(
 
 /// All of them, from the end of the list on: the first attempt stands last.
 pub(crate) fn admit_all(
-    runs: &mut SegmentRuns,
+    runs: &mut NamedRuns,
     parts: &mut Parts,
     alloc: Global,
     place: u64,
@@ -142,10 +139,12 @@ pub(crate) fn admit_all(
     requires place { place < 2 ^ 56 }
     requires runs { vec_len stack ≤ runs.old.spare }
     requires parts { HasRoom (vec_len stack) parts.old }
-    ensures all { (k : Journal) (xs : List (ℕ × Tried)) → ArePrepared k xs (from_end stack.items) → place ≡ last_place k → 0 < length k → IsTable k runs.old.list → Going nobody k runs.old.list parts.old
+    requires known { AreKnown (length runs.old.firsts) stack.items }
+    ensures all { (k : Journal) (xs : List (ℕ × Tried)) → ArePrepared k xs (from_end stack.items) → AreFirsts k runs.old.firsts → place ≡ last_place k → 0 < length k → IsTable k runs.old.list → Going nobody k runs.old.list parts.old
         → (runs.new.list ≡ all_tried k runs.old.list xs) × IsTable k runs.new.list × Going nobody k runs.new.list parts.new }
     ensures room { HasRoom 0 parts.new }
     ensures closed { runs.new.closed ≡ runs.old.closed }
+    ensures firsts { runs.new.firsts ≡ runs.old.firsts }
     ensures rested { parts.new.rested ≡ parts.old.rested }
 {
     let mut stack = stack;

@@ -13,6 +13,9 @@ ghost use Rattle.engine_parts.specs.Kept.{AreSound, Kept, Looks};
 ghost use Rattle.engine_parts.specs.Waiting.{ends};
 ghost use Rattle.engine_entry.specs.Stepping.{MaySlot, SlotStep, Stepping};
 ghost use Rattle.ha_engine.specs.Lies.{Lies};
+ghost use Rattle.ha_engine.specs.Named.{AreFirsts};
+ghost use Rattle.ha_journal.specs.Force.{force};
+ghost use Rattle.unit_book.specs.Book.{Holds};
 ghost use Rattle.ha_engine.specs.Put.{IsAdvanced, Makes};
 
 use crate::bounds::Bounds;
@@ -26,10 +29,11 @@ use ha_journal::Entry;
 use ha_model::Record;
 use ha_sight::{Branch, Ended, Item, Progress, WaitAsk, WaitEnd};
 use ha_value::Plain;
+use named_runs::NamedRuns;
 use script_step::{Held, Taken};
-use segment_runs::SegmentRuns;
 use segment_view::{Behind, Segment};
 use std::alloc::{AllocError, Global};
+use unit_book::UnitBook;
 use wait_set::Waits;
 
 /// The pair at the place of the worker's number, modulo how many there are.
@@ -120,25 +124,28 @@ fn make_step<'a>(
     alloc: Global,
     journal: &'a [Entry],
     bounds: Bounds,
+    book: &'a UnitBook,
     parts: &mut Parts,
     serial: u64,
     branch: &Branch,
     wait: Option<Held<WaitEnd>>,
 ) -> Result<(Taken, Option<Moment>), AllocError>
     requires lies { Lies journal.now bounds }
-    requires looks { Looks (segment journal.now) parts.old.states parts.old.zone parts.old.at }
+    requires holds { Holds journal.now (force (segment journal.now)) book.now }
+    requires looks { Looks (segment journal.now) parts.old.states parts.old.numbers parts.old.zone parts.old.at }
     requires helpers { StandsFor parts.old.helpers (segment journal.now) }
     requires sound { AreSound (segment journal.now) }
     requires slot { MaySlot (segment journal.now) serial branch.now parts.old.at wait parts.old.frames.items }
     ensures step { IfOk result (λ x. SlotStep (sight (segment journal.entry.now) (length (segment journal.entry.now))) serial branch.now wait parts.old.frames.items parts.new.frames.items (out_of x.0) x.1) }
     ensures rest { OnOk result (parts.new ≡ record parts.old { frames = parts.new.frames }) }
 {
-    let behind = Behind::make(journal, bounds.front, bounds.base);
+    let behind = Behind::make(journal, bounds.front, bounds.base, book);
     step_slot(
         &mut parts.frames,
         alloc,
         &behind,
         &parts.states,
+        &parts.numbers,
         &parts.helpers,
         &parts.zone,
         parts.at,
@@ -153,18 +160,20 @@ fn follow_made<'a>(
     alloc: Global,
     journal: &'a [Entry],
     bounds: Bounds,
-    runs: &mut SegmentRuns,
+    book: &'a UnitBook,
+    runs: &mut NamedRuns,
     parts: &mut Parts,
     progress: Progress,
     wait: Option<Held<WaitAsk>>,
     due: Option<Moment>,
 ) -> Result<(), AllocError>
-    requires { Makes journal.now bounds runs.old.list parts.old progress wait due }
+    requires { Makes journal.now bounds book.now runs.old.firsts runs.old.list parts.old progress wait due }
     ensures ok { OnOk result ((j : Journal) (x : Put) → Lies j bounds → journal.entry.now ≡ more j x → Right (more (segment j) x) runs.new.list × Kept (more (segment j) x) runs.new.list parts.new) }
     ensures err { OnErr result (runs.new.list ≡ runs.old.list) }
     ensures closed { runs.new.closed ≡ runs.old.closed }
+    ensures firsts { runs.new.firsts ≡ runs.old.firsts }
 {
-    let segment = Segment::of_list(journal, bounds.front, bounds.base);
+    let segment = Segment::of_list(journal, bounds.front, bounds.base, book);
     follow_step(alloc, &segment, runs, parts, progress, wait, due)
 }
 
@@ -174,18 +183,22 @@ pub fn advance(
     alloc: Global,
     journal: &mut Vec<Entry>,
     bounds: Bounds,
-    runs: &mut SegmentRuns,
+    book: &UnitBook,
+    runs: &mut NamedRuns,
     parts: &mut Parts,
     worker: u32,
 ) -> Result<(), AllocError>
     requires room { vec_len journal.old < vec_capacity journal.old }
     requires lies { Lies journal.old.items bounds }
+    requires holds { Holds journal.old.items (force (segment journal.old.items)) book.now }
+    requires named { AreFirsts (segment journal.old.items) runs.old.firsts }
     requires counted { length runs.old.closed.records ≡ bounds.base }
     requires stepping { Stepping (segment journal.old.items) runs.old.list parts.old }
     ensures ok { OnOk result (IsAdvanced worker bounds.base runs.old.list runs.new.list parts.new journal.old.items journal.new.items) }
     ensures journal { OnErr result (journal.new.items ≡ journal.old.items) }
     ensures records { OnErr result (runs.new.list ≡ runs.old.list) }
     ensures closed { runs.new.closed ≡ runs.old.closed }
+    ensures firsts { runs.new.firsts ≡ runs.old.firsts }
 {
     let (serial, branch) = picked(alloc, &parts.ready, worker)?;
     let wait = end_told(alloc, &parts.waits, serial, &branch)?;
@@ -193,6 +206,7 @@ pub fn advance(
         alloc,
         journal.as_slice(),
         bounds,
+        book,
         parts,
         serial,
         &branch,
@@ -209,6 +223,7 @@ pub fn advance(
         alloc,
         journal.as_slice(),
         bounds,
+        book,
         runs,
         parts,
         progress,

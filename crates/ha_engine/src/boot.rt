@@ -1,5 +1,5 @@
 //! What an opening begins, and the engine after its first entry, the boot.
-ghost use Rattle.std.specs.Prelude.{◌≡◌, ◌≤◌, ◌∷◌, [], None, Some, false, map, IfOk, IsSome, OnOk, vec_len};
+ghost use Rattle.std.specs.Prelude.{◌≡◌, ◌<◌, ◌≤◌, ◌^◌, ◌∷◌, [], None, Some, false, map, slice_get, IfOk, IsSome, OnOk, length, vec_len};
 ghost use Rattle.std.specs.Option.{option_map_or};
 ghost use Rattle.ha_value.specs.declared.value.EntityId.{EntityId as Id};
 ghost use Rattle.ha_sight.specs.StateStep.{next_object};
@@ -8,10 +8,11 @@ ghost use Rattle.state_table.specs.Table.{at};
 ghost use Rattle.engine_parts.specs.Texts.{first_change, first_of};
 ghost use Rattle.ha_clock.specs.Local.{last_moment};
 ghost use Rattle.ha_clock.specs.Zone.{zone_of};
+ghost use Rattle.ha_journal.specs.declared.entry.Entry.{Entry as Item};
 ghost use Rattle.ha_journal.specs.declared.entry.Entry.TheVariants.{Boot};
 ghost use Rattle.ha_journal.specs.Attempts.{fired as fired_lem, passing};
-ghost use Rattle.ha_journal.specs.Entries.{first_carry};
-ghost use Rattle.ha_journal.specs.Journal.{Journal, last_place};
+ghost use Rattle.ha_journal.specs.Entries.{BeginsSegment, first_carry};
+ghost use Rattle.ha_journal.specs.Journal.{Journal, automations, last_place};
 ghost use Rattle.ha_model.specs.Records.{records_of};
 ghost use Rattle.ha_model.specs.Lawful.{Right};
 ghost use Rattle.ha_config.specs.Names.{of_automations};
@@ -19,16 +20,26 @@ ghost use Rattle.ha_config.specs.Sound.{AreSoundMoments, IsSoundConfig};
 ghost use Rattle.trig_set.specs.Stands.{StandsFor, attached};
 ghost use Rattle.ha_whole.specs.Whole.{Right as RightWhole, records_of as records_whole};
 ghost use Rattle.ha_engine.specs.Admits.{ArePrepared, from_end};
-ghost use Rattle.ha_engine.specs.Begun.{Begun, BegunWith, IsBegun, trues};
+ghost use Rattle.ha_engine.specs.Begun.{Begun, BegunWith, Boots, IsBegun, trues};
+ghost use Rattle.ha_engine.specs.Noted.{known_lasts};
+ghost use Rattle.ha_engine.specs.Reloads.{lasts_at};
+ghost use Rattle.segment_carry.specs.ByName.{rule_order};
 ghost use Rattle.engine_parts.specs.Kept.{Going, Kept, nobody};
+ghost use Rattle.ha_config.specs.Units.{units_of};
+ghost use Rattle.ha_config.specs.Words.{up_to};
+ghost use Rattle.ha_journal.specs.Force.{force};
+ghost use Rattle.ha_engine.specs.Named.{AreFirsts, AreKnown};
+ghost use Rattle.unit_book.specs.Book.{Holds};
+ghost use Rattle.engine_parts.specs.Numbers.{numbers_in};
 ghost use Rattle.engine_parts.specs.Owners.{attempts_by};
 ghost use Rattle.engine_parts.specs.Records.{HasRoom};
 
 use crate::admit::{Prepared, admit_all};
 use crate::bounds::Bounds;
+use crate::carried::carry_at;
 use crate::conclude::{drop_refused, make_room};
-use crate::engine::Engine;
-use crate::lasts::{known_moments, note_lasts};
+use crate::engine::Machine;
+use crate::lasts::{known_moments, lasts_by_name, note_lasts};
 use crate::prepare::prepare_opening;
 use engine_entry::open::open_all;
 use engine_parts::parts::Parts;
@@ -40,15 +51,16 @@ use ha_config::{Config, Helper};
 use ha_journal::{Carry, Entry, Firing};
 use ha_value::{Boxed, Many, Word};
 use helper_set::Helpers;
+use named_runs::NamedRuns;
 use script_calls::{Calls, Seeing};
-use segment_carry::{lasts, names, rule_order};
-use segment_runs::SegmentRuns;
+use segment_carry::rule_order;
 use segment_view::Behind;
 use state_table::StateTable;
 use std::alloc::{AllocError, Global};
 use switch_book::Switches;
 use timer_queue::TimerQueue;
 use trig_set::TrigSet;
+use unit_book::UnitBook;
 use wait_set::Waits;
 
 /// The zone of a text that can be read.
@@ -109,7 +121,11 @@ fn open_first(
     requires { Begun journal.now switches.now zone.now start }
     ensures { IfOk result (λ x. BegunWith journal.now switches.now zone.now start x.0 x.1) }
 {
-    let mut states = first_states(alloc, journal.configuration().helpers.as_slice(), start)?;
+    let mut states = first_states(
+        alloc,
+        journal.first_configuration().helpers.as_slice(),
+        start,
+    )?;
     let mut triggers = TrigSet::make(alloc);
     open_all(
         &mut states,
@@ -130,17 +146,26 @@ fn note_first<'a>(
     journal: &'a Behind<'_>,
     switches: &'a Switches,
     states: &'a StateTable,
+    numbers: &'a Many<u32>,
     helpers: &'a Helpers,
     zone: &'a Zone,
     start: Moment,
 ) -> Result<Many<Firing>, AllocError>
     requires begun { BegunWith journal.now switches.now zone.now start states.now triggers.old }
     requires helpers { helped.StandsFor helpers.now journal.now }
+    requires numbers { numbers.now ≡ numbers_in journal.now }
     ensures attached { OnOk result (attached triggers.new ≡ attached triggers.old) }
     ensures stands { OnOk result (StandsFor triggers.new journal.entry.now) }
     ensures fired { IfOk result (λ fired. attempts_by fired ≡ fired_lem journal.entry.now (last_place journal.entry.now)) }
 {
-    let view = Seeing::make(states, journal.configuration(), zone, start, helpers);
+    let view = Seeing::make(
+        states,
+        journal.configuration(),
+        numbers,
+        zone,
+        start,
+        helpers,
+    );
     // The borrow checker builds its plan only where a place has the type that the view holds.
     let _ = &view.view;
     let fired = triggers.open_segment(alloc, zone, &view)?;
@@ -165,20 +190,23 @@ fn first_parts(
     switches: Switches,
     zone: Zone,
     start: Moment,
+    numbers: Many<u32>,
 ) -> Result<(Parts, Many<Firing>), AllocError>
-    requires { Begun journal.now switches zone start }
+    requires begun { Begun journal.now switches zone start }
+    requires numbers { numbers ≡ numbers_in journal.now }
     ensures going { IfOk result (λ x. Going nobody journal.now [] x.0) }
     ensures rested { IfOk result (λ x. x.0.rested.items ≡ trues 16) }
     ensures fired { IfOk result (λ x. attempts_by x.1 ≡ fired_lem journal.now (last_place journal.now)) }
 {
     let (states, mut triggers) = open_first(alloc, journal, &switches, &zone, start)?;
-    let helpers = Helpers::make(alloc, journal.configuration())?;
+    let helpers = Helpers::make(alloc, journal.first_configuration())?;
     let fired = note_first(
         &mut triggers,
         alloc,
         journal,
         &switches,
         &states,
+        &numbers,
         &helpers,
         &zone,
         start,
@@ -189,9 +217,13 @@ fn first_parts(
     let calls = Calls::make(alloc);
     let frames = Slots::make(alloc);
     let delays = TimerQueue::make(alloc);
+    let free = numbers.len() as u32;
     let parts = Parts {
         at: start,
         zone,
+        numbers,
+        free,
+        ascending: true,
         states,
         helpers,
         given,
@@ -217,13 +249,15 @@ pub(crate) fn begin_parts(
     switches: Switches,
     zone: Zone,
     start: Moment,
+    numbers: Many<u32>,
 ) -> Result<(Parts, Vec<Prepared>), AllocError>
-    requires { Begun journal.now switches zone start }
+    requires begun { Begun journal.now switches zone start }
+    requires numbers { numbers ≡ numbers_in journal.now }
     ensures going { IfOk result (λ x. Going nobody journal.now [] x.0) }
     ensures rested { IfOk result (λ x. x.0.rested.items ≡ trues 16) }
     ensures prepared { IfOk result (λ x. ArePrepared journal.now (passing journal.now) (from_end x.1.items)) }
 {
-    let (parts, fired) = first_parts(alloc, journal, switches, zone, start)?;
+    let (parts, fired) = first_parts(alloc, journal, switches, zone, start, numbers)?;
     let stack = prepare_opening(alloc, journal, &parts, fired)?;
     Ok((parts, stack))
 }
@@ -231,16 +265,18 @@ pub(crate) fn begin_parts(
 /// The attempts of an opening are made, for which there is room: behind it no run is there yet.
 pub(crate) fn admit_first(
     alloc: Global,
-    runs: &mut SegmentRuns,
+    runs: &mut NamedRuns,
     parts: &mut Parts,
     stack: Vec<Prepared>,
 )
     requires none { runs.old.list ≡ [] }
     requires spare { vec_len stack ≤ runs.old.spare }
     requires room { HasRoom (vec_len stack) parts.old }
-    ensures begun { (k : Journal) → IsBegun k → Going nobody k [] parts.old → parts.old.rested.items ≡ trues 16 → ArePrepared k (passing k) (from_end stack.items)
+    requires known { AreKnown (length runs.old.firsts) stack.items }
+    ensures begun { (k : Journal) → IsBegun k → AreFirsts k runs.old.firsts → Going nobody k [] parts.old → parts.old.rested.items ≡ trues 16 → ArePrepared k (passing k) (from_end stack.items)
         → (runs.new.list ≡ records_of k) × Right k runs.new.list × Kept k runs.new.list parts.new }
     ensures closed { runs.new.closed ≡ runs.old.closed }
+    ensures firsts { runs.new.firsts ≡ runs.old.firsts }
 {
     admit_all(runs, parts, alloc, 0, stack);
     drop_refused(parts, 0);
@@ -250,18 +286,23 @@ pub(crate) fn admit_first(
 fn begin(
     alloc: Global,
     journal: &Behind<'_>,
+    firsts: &[u32],
     switches: Switches,
     zone: Zone,
     start: Moment,
-) -> Result<(SegmentRuns, Parts), AllocError>
-    requires { Begun journal.now switches zone start }
+    numbers: Many<u32>,
+) -> Result<(NamedRuns, Parts), AllocError>
+    requires begun { Begun journal.now switches zone start }
+    requires numbers { numbers ≡ numbers_in journal.now }
+    requires firsts { AreFirsts journal.now firsts.now }
     ensures runs { IfOk result (λ x. x.0.list ≡ records_of journal.now) }
     ensures right { IfOk result (λ x. Right journal.now x.0.list) }
     ensures kept { IfOk result (λ x. Kept journal.now x.0.list x.1) }
-    ensures closed { IfOk result (λ x. x.0.closed ≡ record { records = []; entries = 0 }) }
+    ensures closed { IfOk result (λ x. x.0.closed ≡ record { records = []; entries = 0; numbers = [] }) }
+    ensures firsts { IfOk result (λ x. x.0.firsts ≡ firsts.now) }
 {
-    let (mut parts, stack) = begin_parts(alloc, journal, switches, zone, start)?;
-    let mut runs = SegmentRuns::make(alloc);
+    let (mut parts, stack) = begin_parts(alloc, journal, switches, zone, start, numbers)?;
+    let mut runs = NamedRuns::make(alloc, firsts)?;
     make_room(&mut runs, &mut parts, stack.len())?;
     admit_first(alloc, &mut runs, &mut parts, stack);
     Ok((runs, parts))
@@ -271,22 +312,118 @@ fn begin(
 fn begin_first<'a>(
     alloc: Global,
     journal: &'a [Entry],
+    book: &'a UnitBook,
     switches: Switches,
     zone: Zone,
     start: Moment,
-) -> Result<(SegmentRuns, Parts), AllocError>
-    requires { Begun journal.now switches zone start }
+    numbers: Many<u32>,
+) -> Result<(NamedRuns, Parts), AllocError>
+    requires begun { Begun journal.now switches zone start }
+    requires numbers { numbers ≡ numbers_in journal.now }
+    requires holds { Holds journal.now (force journal.now) book.now }
     ensures runs { IfOk result (λ x. x.0.list ≡ records_of journal.entry.now) }
     ensures right { IfOk result (λ x. Right journal.entry.now x.0.list) }
     ensures kept { IfOk result (λ x. Kept journal.entry.now x.0.list x.1) }
-    ensures closed { IfOk result (λ x. x.0.closed ≡ record { records = []; entries = 0 }) }
+    ensures closed { IfOk result (λ x. x.0.closed ≡ record { records = []; entries = 0; numbers = [] }) }
+    ensures firsts { IfOk result (λ x. x.0.firsts ≡ book.now.firsts.items) }
 {
-    let segment = Behind::make(journal, 0, 0);
-    begin(alloc, &segment, switches, zone, start)
+    let segment = Behind::make(journal, 0, 0, book);
+    begin(
+        alloc,
+        &segment,
+        book.firsts(),
+        switches,
+        zone,
+        start,
+        numbers,
+    )
 }
 
-impl Engine {
-    /// The engine after its first entry, the boot: the switches are the initial ones, else those stored, else on, and start triggers fire.
+/// How many units a configuration has.
+pub(crate) fn unit_count(config: &Config) -> usize
+    requires { length (units_of config.now) ≤ 2_048 }
+    ensures count { result ≡ length (units_of config.now) }
+    ensures few { result ≤ 2_048 }
+{
+    config.automations.len() + config.scripts.len()
+}
+
+/// The numbers from 0 on.
+pub(crate) fn first_numbers(alloc: Global, count: usize) -> Result<Many<u32>, AllocError>
+    requires { count < 2 ^ 32 }
+    ensures { IfOk result (λ numbers. numbers ≡ up_to count) }
+{
+    let mut numbers = Many::with_room(alloc, count)?;
+    'each: for at in 0..count {
+        numbers.push(at as u32)?;
+    }
+    Ok(numbers)
+}
+
+/// The moments that the opening at a place takes over, by the names of its units.
+pub(crate) fn first_lasts(
+    alloc: Global,
+    journal: &[Entry],
+    front: usize,
+    book: &UnitBook,
+) -> Result<Vec<Option<Moment>>, AllocError>
+    requires { (e : Item) × (slice_get journal.now front ≡ Some e) × BeginsSegment e }
+    ensures { IfOk result (λ lasts. lasts.items ≡ known_lasts [] book.now.names (lasts_at journal.now front)) }
+{
+    let carried = carry_at(journal, front).last.as_slice();
+    let lasts = lasts_by_name(alloc, &[], book.names().as_slice(), carried)?;
+    Ok(lasts)
+}
+
+/// The machine whose journal is the boot alone.
+fn first_machine(
+    alloc: Global,
+    journal: Vec<Entry>,
+    switches: Switches,
+    zone: Zone,
+    start: Moment,
+    order: Many<u32>,
+    numbers: Many<u32>,
+) -> Result<Machine, AllocError>
+    requires boots { Boots journal.items switches zone start }
+    requires order { order ≡ rule_order (automations journal.items) }
+    requires numbers { numbers ≡ numbers_in journal.items }
+    ensures entries { IfOk result (λ e. e.entries ≡ journal.items) }
+    ensures runs { IfOk result (λ e. e.runs ≡ records_whole journal.items) }
+    ensures right { IfOk result (λ e. RightWhole e.entries e.runs) }
+    ensures spent { IfOk result (λ e. e.is_spent ≡ false) }
+{
+    let book = UnitBook::open(alloc, journal.as_slice(), 0, &numbers)?;
+    let mut lasts = first_lasts(alloc, journal.as_slice(), 0, &book)?;
+    let (runs, parts) = begin_first(
+        alloc,
+        journal.as_slice(),
+        &book,
+        switches,
+        zone,
+        start,
+        numbers,
+    )?;
+    let moved = note_lasts(&mut lasts, book.listed(), &runs, 0, start);
+    Ok(Machine {
+        alloc,
+        journal,
+        book,
+        runs,
+        parts,
+        lasts,
+        order,
+        bounds: Bounds::first(),
+        reloads: 0,
+        reset: true,
+        moved,
+        kept: None,
+        spent: false,
+    })
+}
+
+impl Machine {
+    /// The machine after its first entry, the boot: the switches are the initial ones, else those stored, else on, and start triggers fire.
     /// `zone` is `UTC`, an offset or a POSIX rule text. Of the moments at which automations last triggered those are taken over whose names
     /// automations have. The error is want of memory alone.
     pub fn boot(
@@ -297,7 +434,7 @@ impl Engine {
         start: Moment,
         zone: Word,
         last: Many<(Word, Moment)>,
-    ) -> Result<Engine, AllocError>
+    ) -> Result<Machine, AllocError>
         requires config { IsSoundConfig config }
         requires zone { IsSome (zone_of zone) }
         requires start { start ≤ last_moment }
@@ -311,25 +448,11 @@ impl Engine {
         let switches = Switches::restore(alloc, &config, stored.as_ref())?;
         let automations = config.automations.as_slice();
         let known = known_moments(alloc, automations, last.as_slice())?;
-        let mut lasts = lasts(alloc, automations, known.as_slice())?;
         let order = rule_order(alloc, automations)?;
-        let names = names(alloc, &config)?;
+        let numbers = first_numbers(alloc, unit_count(&config))?;
         let carry = Carry::first(alloc, known)?;
         let journal = first_journal(alloc, text, config, stored, start, zone, carry)?;
-        let (runs, parts) = begin_first(alloc, journal.as_slice(), switches, read, start)?;
-        let moved = note_lasts(&mut lasts, &runs, 0, start);
-        Ok(Engine {
-            alloc,
-            journal,
-            runs,
-            parts,
-            lasts,
-            order,
-            names,
-            bounds: Bounds::first(),
-            reset: true,
-            moved,
-            spent: false,
-        })
+        let machine = first_machine(alloc, journal, switches, read, start, order, numbers)?;
+        Ok(machine)
     }
 }

@@ -1,13 +1,15 @@
 //! The engine as a core that can be booted.
 
-use crate::engine::Engine;
+use crate::engine::Machine;
+use crate::reader::Engine;
 use ha_boot::Boots;
 use ha_clock::Moment;
 use ha_config::Config;
+use ha_model::Prepare;
 use ha_value::{Many, Word};
 use std::alloc::{AllocError, Global};
 
-impl Boots for Engine {
+impl<P: Prepare + Drop + Send> Boots for Engine<P> {
     fn boot(
         alloc: Global,
         text: Word,
@@ -16,7 +18,9 @@ impl Boots for Engine {
         start: Moment,
         zone: Word,
         last: Many<(Word, Moment)>,
-    ) -> Result<Engine, AllocError> {
-        Engine::boot(alloc, text, config, stored, start, zone, last)
+        prepare: P,
+    ) -> Result<Engine<P>, AllocError> {
+        let machine = Machine::boot(alloc, text, config, stored, start, zone, last)?;
+        Ok(Engine { machine, prepare })
     }
 }

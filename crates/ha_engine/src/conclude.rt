@@ -7,6 +7,7 @@ ghost use Rattle.ha_model.specs.Records.{Records, call_end};
 ghost use Rattle.ha_model.specs.RecordSteps.{records_after};
 ghost use Rattle.ha_model.specs.Lawful.{Right};
 ghost use Rattle.ha_engine.specs.Admits.{ArePrepared, from_end};
+ghost use Rattle.ha_engine.specs.Named.{AreFirsts};
 ghost use Rattle.engine_parts.specs.Kept.{Going, GoingWith, Kept, nobody};
 ghost use Rattle.ha_ready.specs.RestedFlags.{RestedKept};
 ghost use Rattle.engine_parts.specs.Owners.{attempts_by};
@@ -22,8 +23,8 @@ use engine_parts::rested::note_flags;
 use engine_parts::slots::Slots;
 use ha_journal::{Entry, Firing};
 use ha_value::Many;
+use named_runs::NamedRuns;
 use script_step::Frames;
-use segment_runs::SegmentRuns;
 use segment_view::Segment;
 use std::alloc::{AllocError, Global};
 
@@ -42,12 +43,13 @@ fn reserve_pairs(parts: &mut Parts, more: usize) -> Result<(), AllocError>
 
 /// Room for so many runs more, each with its frames and a pair, and for a pair of each call that waits.
 pub(crate) fn make_room(
-    runs: &mut SegmentRuns,
+    runs: &mut NamedRuns,
     parts: &mut Parts,
     more: usize,
 ) -> Result<(), AllocError>
     ensures list { runs.new.list ≡ runs.old.list }
     ensures closed { runs.new.closed ≡ runs.old.closed }
+    ensures firsts { runs.new.firsts ≡ runs.old.firsts }
     ensures going { OnOk result ((k : Journal) (rs : Records) → Going nobody k rs parts.old → Going nobody k rs parts.new) }
     ensures rested { OnOk result (parts.new.rested ≡ parts.old.rested) }
     ensures spare { OnOk result (more ≤ runs.new.spare) }
@@ -110,16 +112,18 @@ pub(crate) fn conclude_left(journal: &Segment<'_>, parts: &mut Parts)
 pub(crate) fn settle(
     alloc: Global,
     journal: &Segment<'_>,
-    runs: &mut SegmentRuns,
+    runs: &mut NamedRuns,
     parts: &mut Parts,
     stack: Vec<Prepared>,
 )
     requires stopped { Stopped journal.now runs.old.list parts.old }
+    requires named { AreFirsts journal.now runs.old.firsts }
     requires prepared { ArePrepared journal.now (passing journal.now) (from_end stack.items) }
     requires spare { vec_len stack ≤ runs.old.spare }
     requires room { HasRoom (vec_len stack) parts.old }
     ensures kept { Right journal.now runs.new.list × Kept journal.now runs.new.list parts.new }
     ensures closed { runs.new.closed ≡ runs.old.closed }
+    ensures firsts { runs.new.firsts ≡ runs.old.firsts }
 {
     let place = journal.place();
     admit_all(runs, parts, alloc, place, stack);
@@ -131,15 +135,17 @@ pub(crate) fn settle(
 pub(crate) fn conclude(
     alloc: Global,
     journal: &Segment<'_>,
-    runs: &mut SegmentRuns,
+    runs: &mut NamedRuns,
     parts: &mut Parts,
     fired: Many<Firing>,
 ) -> Result<(), AllocError>
     requires told { LineTold journal.now runs.old.list parts.old }
+    requires named { AreFirsts journal.now runs.old.firsts }
     requires fired { attempts_by fired ≡ fired_lem journal.now (last_place journal.now) }
     ensures ok { OnOk result (Right journal.now runs.new.list × Kept journal.now runs.new.list parts.new) }
     ensures err { OnErr result (runs.new.list ≡ runs.old.list) }
     ensures closed { runs.new.closed ≡ runs.old.closed }
+    ensures firsts { runs.new.firsts ≡ runs.old.firsts }
 {
     let stack = prepare(alloc, &*journal, parts, fired)?;
     if stack.is_empty() {

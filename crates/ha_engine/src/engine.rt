@@ -1,29 +1,24 @@
-//! The engine: the journal with its records, and the parts that stand for it.
-ghost use Rattle.std.specs.Prelude.{◌≡◌, ◌↔◌, ◌+◌, ◌<◌, ◌≤◌, ◌-◌, ◌++◌, ◌∷◌, [], ℕ, List, Some, IfOk, IfErr, OnOk, OnErr, Err, true, false, vec_len, vec_capacity};
+//! The machine of an engine: the journal with its records, and the parts that stand for it. It puts commands that were prepared.
+ghost use Rattle.std.specs.Prelude.{◌≡◌, ◌↔◌, ◌<◌, ◌++◌, ◌∷◌, ◌&&◌, [], ℕ, List, Some, IfErr, IfSome, OnOk, OnErr, Err, is_some, nat_lt, true, false};
 ghost use Rattle.ha_config.specs.declared.command.Cmd.TheVariants.{Restart};
-ghost use Rattle.ha_journal.specs.declared.entry.Entry.{Entry as Put};
-ghost use Rattle.ha_journal.specs.declared.entry.Entry.TheVariants.{Line};
-ghost use Rattle.ha_journal.specs.Entries.{restarts as restarts_lem};
-ghost use Rattle.ha_journal.specs.Journal.{more, Journal, automations, configured, names};
-ghost use Rattle.ha_journal.specs.Commands.{put_as as put_as_lem, IsFair};
+ghost use Rattle.ha_config.specs.Fair.{most_reloads};
+ghost use Rattle.ha_journal.specs.Entries.{reloads_to, restarts as restarts_lem};
+ghost use Rattle.ha_journal.specs.Force.{IsAlike};
+ghost use Rattle.ha_journal.specs.Journal.{automations, configured};
+ghost use Rattle.ha_config.specs.Sound.{IsSoundConfig};
+ghost use Rattle.ha_journal.specs.Commands.{lets_reload, put_as as put_as_lem, IsFair};
 ghost use Rattle.ha_sight.specs.declared.item.Item as item_lem;
 ghost use Rattle.ha_journal.specs.declared.entry.Entry.{Entry as Item};
-ghost use Rattle.ha_model.specs.Lawful.{Right as RightAlone, pick};
-ghost use Rattle.ha_config.specs.StoreText.{in_name_order};
-ghost use Rattle.store_text.specs.Store.{AreMoments};
-ghost use Rattle.ha_whole.specs.Lasts.{lasts};
-ghost use Rattle.ha_whole.specs.Segments.{segment};
-ghost use Rattle.ha_whole.specs.Whole.{CannotRestart, HasRoom, IsFull, LacksRoom, Right, changes_store, is_quiet, is_rested, put, ready, store_text, switch_of};
-ghost use Rattle.engine_parts.specs.Kept.{Kept};
-ghost use Rattle.ha_engine.specs.Lies.{Lies};
-ghost use Rattle.ha_engine.specs.Noted.{changes_switches};
-ghost use Rattle.ha_engine.specs.Put.{Adds};
+ghost use Rattle.ha_model.specs.Lawful.{pick};
+ghost use Rattle.ha_whole.specs.Trace.{names};
+ghost use Rattle.ha_whole.specs.Whole.{CannotRestart, HasRoom, IsFull, LacksRoom, Right, is_quiet, is_rested, put, ready, switch_of};
 
 use crate::advance::advance;
 use crate::bounds::Bounds;
-use crate::follow::follow_line;
-use crate::lasts::note_lasts;
-use crate::restart::{config_in, either, follow_restart};
+use crate::kept::Kept;
+use crate::lasts::{both, note_lasts};
+use crate::line::{brings, follow_pushed, let_go, push_line, restarts};
+use crate::restart::follow_restart;
 use crate::settle::settle_last;
 use engine_parts::last::drop_last;
 use engine_parts::parts::Parts;
@@ -33,36 +28,49 @@ use ha_journal::Entry;
 use ha_model::Record;
 use ha_value::{Many, Word};
 use ha_whole::CoreFault;
-use segment_carry::rule_moments;
-use segment_runs::SegmentRuns;
-use segment_view::Segment;
+use named_runs::NamedRuns;
 use std::alloc::{AllocError, Global};
 use std::marker::Model;
+use unit_book::UnitBook;
 
-/// The engine.
+/// How many reloads a journal has at most.
+const MOST_RELOADS: u32 = 64;
+
+/// Whether one more may stand behind so many.
+fn lets_more(reloads: u32) -> bool
+    ensures { result ≡ nat_lt reloads most_reloads }
+{
+    reloads < MOST_RELOADS
+}
+
+/// The machine.
 #[derive(Drop)]
-pub struct Engine {
+pub struct Machine {
     pub(crate) alloc: Global,
     /// All entries.
     pub(crate) journal: Vec<Entry>,
-    pub(crate) runs: SegmentRuns,
+    /// Where the units of the last segment stand among them.
+    pub(crate) book: UnitBook,
+    pub(crate) runs: NamedRuns,
     /// What stands for the last segment alone.
     pub(crate) parts: Parts,
-    /// By automation, when it last triggered.
+    /// By the first unit of a name, when one of the name last triggered.
     pub(crate) lasts: Vec<Option<Moment>>,
-    /// The automations in the byte order of their names.
+    /// The places of the automations in force in the byte order of their names.
     pub(crate) order: Many<u32>,
-    /// The names that the runs of all units have, by the units' numbers.
-    pub(crate) names: Many<Word>,
     pub(crate) bounds: Bounds,
+    /// How many reloads there are.
+    pub(crate) reloads: u32,
     /// Whether the opening of the last segment changed a switch.
     pub(crate) reset: bool,
     /// Whether the last put changed when an automation last triggered.
     pub(crate) moved: bool,
+    /// Behind a reload, what the store kept before it.
+    pub(crate) kept: Option<Kept>,
     pub(crate) spent: bool,
 }
 
-impl Model for Engine {
+impl Model for Machine {
     ghost use Rattle.ha_engine.specs.Core.{Core};
     ghost use Rattle.std.specs.Coded.{codes};
     ghost use Rattle.ha_model.specs.contracts.record.Record as run;
@@ -79,60 +87,23 @@ impl Model for Engine {
     ghost invariant = { IsKept };
 }
 
-/// Appends a line; there is room for it.
-#[inline(always)]
-fn push_line(journal: &mut Vec<Entry>, source: u32, number: u64, cmd: Cmd)
-    requires { vec_len journal.old < vec_capacity journal.old }
-    ensures items { journal.new.items ≡ more journal.old.items (Line source number cmd) }
-    ensures len { vec_len journal.new ≡ vec_len journal.old + 1 }
-    ensures capacity { vec_capacity journal.old ≤ vec_capacity journal.new }
-{
-    journal.push_reserved(Entry::Line {
-        source,
-        number,
-        cmd,
-    });
-}
-
-/// Lets a command go that is not put. It stands apart, so that one that is put moves as a whole.
-#[inline(never)]
-fn let_go(cmd: Cmd) {
-    drop(cmd);
-}
-
-/// Whether a command restarts.
-fn restarts(cmd: &Cmd) -> bool
-    ensures { result ≡ restarts_lem cmd.now }
-{
-    matches!(cmd, Cmd::Restart)
-}
-
-/// What follows from the line that was pushed last to the list of all entries. After an error the records are as before, and the parts may
-/// only be dropped.
-fn follow_pushed<'a>(
-    alloc: Global,
-    journal: &'a [Entry],
-    bounds: Bounds,
-    runs: &mut SegmentRuns,
-    parts: &mut Parts,
-) -> Result<(), AllocError>
-    requires { Adds journal.now bounds runs.old.list parts.old }
-    ensures ok { OnOk result ((j : Journal) (x : Put) → Lies j bounds → journal.entry.now ≡ more j x → RightAlone (more (segment j) x) runs.new.list × Kept (more (segment j) x) runs.new.list parts.new) }
-    ensures err { OnErr result (runs.new.list ≡ runs.old.list) }
-    ensures closed { runs.new.closed ≡ runs.old.closed }
-{
-    let segment = Segment::of_list(journal, bounds.front, bounds.base);
-    follow_line(alloc, &segment, runs, parts)
-}
-
-impl Engine {
+impl Machine {
     /// Whether one more entry has room, if it is no restart.
     #[inline(always)]
-    fn has_room(&self) -> bool
+    pub(crate) fn has_room(&self) -> bool
         ensures room { result ≡ true → HasRoom self.now.entries false }
         ensures full { result ≡ false → IsFull self.now.entries }
     {
         self.journal.len() < self.bounds.limit
+    }
+
+    /// Memory ran out before a put.
+    pub(crate) fn spend(&mut self)
+        ensures entries { self.new.entries ≡ self.old.entries }
+        ensures runs { self.new.runs ≡ self.old.runs }
+        ensures spent { self.new.is_spent ≡ true }
+    {
+        self.spent = true;
     }
 
     /// Whether a restart has room with the entry behind it, where one entry has.
@@ -144,13 +115,14 @@ impl Engine {
         self.bounds.lets_restart(self.journal.len())
     }
 
-    /// Puts a line that is no restart, for which there is room.
+    /// Puts a line that is no restart and brings no configuration, for which there is room.
     #[inline(always)]
     fn append_plain(&mut self, source: u32, number: u64, cmd: Cmd) -> Result<(), AllocError>
         requires usable { self.old.is_spent ≡ false }
         requires known { source < 16 }
         requires fair { IsFair self.old.entries (put_as_lem self.old.entries cmd) }
         requires plain { restarts_lem cmd ≡ false }
+        requires quiet { (is_some (reloads_to cmd) && lets_reload self.old.entries) ≡ false }
         requires room { HasRoom self.old.entries false }
         ensures put { OnOk result (self.new.entries ≡ put self.old.entries (Item.Line source number (put_as_lem self.old.entries cmd))) }
         ensures right { OnOk result (Right self.new.entries self.new.runs) }
@@ -164,17 +136,32 @@ impl Engine {
             return Err(AllocError);
         }
         push_line(&mut self.journal, source, number, cmd);
-        settle_last(self.alloc, &self.parts.helpers, self.journal.as_mut_slice());
+        let lets = lets_more(self.reloads);
+        settle_last(
+            self.alloc,
+            &self.parts.helpers,
+            self.journal.as_mut_slice(),
+            &self.book,
+            lets,
+        );
         let before = self.runs.len();
         match follow_pushed(
             self.alloc,
             self.journal.as_slice(),
             self.bounds,
+            &self.book,
             &mut self.runs,
             &mut self.parts,
         ) {
             Ok(()) => {
-                self.moved = note_lasts(&mut self.lasts, &self.runs, before, self.parts.at);
+                self.moved = note_lasts(
+                    &mut self.lasts,
+                    self.book.listed(),
+                    &self.runs,
+                    before,
+                    self.parts.at,
+                );
+                self.kept = None;
                 Ok(())
             }
             Err(error) => {
@@ -206,6 +193,7 @@ impl Engine {
             self.alloc,
             &mut self.journal,
             &mut self.bounds,
+            &mut self.book,
             &mut self.runs,
             &mut self.parts,
             &mut self.lasts,
@@ -213,6 +201,7 @@ impl Engine {
         ) {
             Ok(reset) => {
                 self.reset = reset;
+                self.kept = None;
                 Ok(())
             }
             Err(error) => {
@@ -223,12 +212,41 @@ impl Engine {
         }
     }
 
+    /// Puts a line that is no restart, for which there is room.
+    #[inline(always)]
+    fn append_other(&mut self, source: u32, number: u64, cmd: Cmd) -> Result<(), AllocError>
+        requires usable { self.old.is_spent ≡ false }
+        requires known { source < 16 }
+        requires fair { IsFair self.old.entries (put_as_lem self.old.entries cmd) }
+        requires sound { IfSome (reloads_to cmd) IsSoundConfig }
+        requires plain { restarts_lem cmd ≡ false }
+        requires room { HasRoom self.old.entries false }
+        ensures put { OnOk result (self.new.entries ≡ put self.old.entries (Item.Line source number (put_as_lem self.old.entries cmd))) }
+        ensures right { OnOk result (Right self.new.entries self.new.runs) }
+        ensures stays { OnErr result ((self.new.entries ≡ self.old.entries) × (self.new.runs ≡ self.old.runs)) }
+        ensures fresh { OnOk result (self.new.is_spent ≡ false) }
+        ensures spent { OnErr result (self.new.is_spent ≡ true) }
+    {
+        if self.enters(&cmd) {
+            return self.append_reload(source, number, cmd);
+        }
+        self.append_plain(source, number, cmd)
+    }
+
+    /// Whether a command brings a configuration, and one more reload may stand.
+    fn enters(&self, cmd: &Cmd) -> bool
+        ensures { result ≡ (is_some (reloads_to cmd.now) && lets_reload self.now.entries) }
+    {
+        both(brings(cmd), lets_more(self.reloads))
+    }
+
     /// Puts a line of a source, for which there is room if it is no restart.
     #[inline(always)]
     fn append_by_kind(&mut self, source: u32, number: u64, cmd: Cmd) -> Result<(), CoreFault>
         requires usable { self.old.is_spent ≡ false }
         requires known { source < 16 }
         requires fair { IsFair self.old.entries (put_as_lem self.old.entries cmd) }
+        requires sound { IfSome (reloads_to cmd) IsSoundConfig }
         requires room { HasRoom self.old.entries false }
         ensures put { OnOk result (self.new.entries ≡ put self.old.entries (Item.Line source number (put_as_lem self.old.entries cmd))) }
         ensures right { OnOk result (Right self.new.entries self.new.runs) }
@@ -238,7 +256,7 @@ impl Engine {
         ensures spent { (self.new.is_spent ≡ true) ↔ (result ≡ Err CoreFault.Memory) }
     {
         if !restarts(&cmd) {
-            return match self.append_plain(source, number, cmd) {
+            return match self.append_other(source, number, cmd) {
                 Ok(()) => Ok(()),
                 Err(_) => Err(CoreFault::Memory),
             };
@@ -264,6 +282,7 @@ impl Engine {
         requires usable { self.old.is_spent ≡ false }
         requires known { source < 16 }
         requires fair { IsFair self.old.entries (put_as_lem self.old.entries cmd) }
+        requires sound { IfSome (reloads_to cmd) IsSoundConfig }
         ensures put { OnOk result (self.new.entries ≡ put self.old.entries (Item.Line source number (put_as_lem self.old.entries cmd))) }
         ensures right { OnOk result (Right self.new.entries self.new.runs) }
         ensures room { OnOk result (HasRoom self.old.entries (restarts_lem cmd)) }
@@ -318,12 +337,20 @@ impl Engine {
             self.alloc,
             &mut self.journal,
             self.bounds,
+            &self.book,
             &mut self.runs,
             &mut self.parts,
             worker,
         ) {
             Ok(()) => {
-                self.moved = note_lasts(&mut self.lasts, &self.runs, before, self.parts.at);
+                self.moved = note_lasts(
+                    &mut self.lasts,
+                    self.book.listed(),
+                    &self.runs,
+                    before,
+                    self.parts.at,
+                );
+                self.kept = None;
                 Ok(())
             }
             Err(error) => {
@@ -360,19 +387,19 @@ impl Engine {
         self.journal.as_slice()
     }
 
-    /// The configuration of the boot.
+    /// The configuration in force.
     pub(crate) fn configuration(&self) -> &Config
         ensures automations { result.now.automations ≡ automations self.now.entries }
-        ensures configured { result.now ≡ configured self.now.entries }
+        ensures configured { IsAlike result.now (configured self.now.entries) }
     {
-        config_in(self.journal.as_slice())
+        self.book.configuration(self.journal.as_slice())
     }
 
     /// The names that the runs of all units have, by the units' numbers.
     pub(crate) fn unit_names(&self) -> &Many<Word>
         ensures { result.now ≡ names self.now.entries }
     {
-        &self.names
+        self.book.names()
     }
 
     /// The records of its runs.
@@ -398,69 +425,26 @@ impl Engine {
         self.parts.switches.is_on(automation)
     }
 
-    /// When automations last triggered, in the byte order of their names.
-    fn last_moments(&self, alloc: Global) -> Result<Many<(Word, Moment)>, AllocError>
-        requires { self.now.is_spent ≡ false }
-        ensures moments { IfOk result (λ last. last ≡ in_name_order (lasts (segment self.now.entries))) }
-        ensures storable { IfOk result AreMoments }
-    {
-        let automations = self.configuration().automations.as_slice();
-        rule_moments(
-            alloc,
-            automations,
-            self.order.as_slice(),
-            self.lasts.as_slice(),
-        )
-    }
-
-    /// The text that keeps the switches, and when automations last triggered.
-    pub(crate) fn stored_text(&self, alloc: Global) -> Result<Word, AllocError>
-        requires { self.now.is_spent ≡ false }
-        ensures { IfOk result (λ text. text ≡ store_text self.now.entries) }
-    {
-        let last = self.last_moments(alloc)?;
-        self.parts.switches.store_text(alloc, &last)
-    }
-
-    /// Whether the last put, or the boot, changed a switch.
-    fn has_switched(&self) -> bool
-        requires { self.now.is_spent ≡ false }
-        ensures { result ≡ changes_switches self.now.entries }
-    {
-        let opening = self.journal.len() == self.bounds.front + 1;
-        if opening {
-            self.reset
-        } else {
-            self.parts.changed
-        }
-    }
-
-    /// Whether the last put, or the boot, changed what is stored.
-    pub(crate) fn has_changed(&self) -> bool
-        requires { self.now.is_spent ≡ false }
-        ensures { result ≡ changes_store self.now.entries }
-    {
-        either(self.has_switched(), self.moved)
-    }
-
     /// The journal and the records.
     pub(crate) fn taken_apart(self) -> (Many<Entry>, Many<Record>)
         ensures journal { result.0 ≡ self.entries }
         ensures records { result.1 ≡ self.runs }
     {
-        let Engine {
+        let Machine {
             journal,
+            book,
             runs,
             parts,
             lasts,
             order,
-            names,
+            kept,
             ..
         } = self;
+        drop(book);
         drop(parts);
         drop(lasts);
         drop(order);
-        drop(names);
+        drop(kept);
         (Many::from_vec(journal), runs.into_all())
     }
 }

@@ -10,6 +10,7 @@ ghost use Rattle.ha_model.specs.Lawful.{Right};
 ghost use Rattle.trig_set.specs.Left.{Leaves};
 ghost use Rattle.engine_parts.specs.Kept.{Kept};
 ghost use Rattle.engine_parts.specs.Stages.{Entered, IsLine, Pushed, PushedAs, RunsBefore};
+ghost use Rattle.ha_engine.specs.Named.{AreFirsts};
 
 use crate::conclude::{conclude, conclude_left};
 use crate::switch::follow_switch;
@@ -20,7 +21,7 @@ use engine_parts::parts::Parts;
 use ha_config::Cmd;
 use ha_journal::Entry;
 use ha_value::{EntityId, Many, Value, Word};
-use segment_runs::SegmentRuns;
+use named_runs::NamedRuns;
 use segment_view::Segment;
 use std::alloc::{AllocError, Global};
 use trig_set::Before;
@@ -53,6 +54,7 @@ fn enter_plain(parts: &mut Parts, alloc: Global, cmd: &Cmd) -> Result<Before, Al
         Cmd::Switch { .. } => Ok(enter_other(parts, alloc)),
         Cmd::Trigger { .. } => Ok(enter_other(parts, alloc)),
         Cmd::Restart => Ok(enter_other(parts, alloc)),
+        Cmd::Reload { .. } => Ok(enter_other(parts, alloc)),
         Cmd::Refused(_) => Ok(enter_other(parts, alloc)),
         Cmd::Lost => Ok(enter_other(parts, alloc)),
         Cmd::TooLong => Ok(enter_other(parts, alloc)),
@@ -63,16 +65,18 @@ fn enter_plain(parts: &mut Parts, alloc: Global, cmd: &Cmd) -> Result<Before, Al
 fn follow_plain(
     alloc: Global,
     journal: &Segment<'_>,
-    runs: &mut SegmentRuns,
+    runs: &mut NamedRuns,
     parts: &mut Parts,
     cmd: &Cmd,
     near: usize,
 ) -> Result<(), AllocError>
     requires pushed { PushedAs cmd.now journal.now runs.old.list parts.old }
     requires plain { IsPlain cmd.now }
+    requires named { AreFirsts journal.now runs.old.firsts }
     ensures ok { OnOk result (Right journal.now runs.new.list × Kept journal.now runs.new.list parts.new) }
     ensures err { OnErr result (runs.new.list ≡ runs.old.list) }
     ensures closed { runs.new.closed ≡ runs.old.closed }
+    ensures firsts { runs.new.firsts ≡ runs.old.firsts }
 {
     let mut before = enter_plain(parts, alloc, cmd)?;
     before.look_at(near);
@@ -84,7 +88,7 @@ fn follow_plain(
 fn follow_left(
     alloc: Global,
     journal: &Segment<'_>,
-    runs: &mut SegmentRuns,
+    runs: &mut NamedRuns,
     parts: &mut Parts,
     entity: &EntityId,
     text: &Word,
@@ -95,6 +99,7 @@ fn follow_left(
     ensures ok { OnOk result (Right journal.now runs.new.list × Kept journal.now runs.new.list parts.new) }
     ensures err { OnErr result (runs.new.list ≡ runs.old.list) }
     ensures closed { runs.new.closed ≡ runs.old.closed }
+    ensures firsts { runs.new.firsts ≡ runs.old.firsts }
 {
     enter_left(parts, alloc, entity, text, attributes)?;
     attend_left(parts, alloc, journal, entity, text, attributes)?;
@@ -106,17 +111,19 @@ fn follow_left(
 fn follow_seen(
     alloc: Global,
     journal: &Segment<'_>,
-    runs: &mut SegmentRuns,
+    runs: &mut NamedRuns,
     parts: &mut Parts,
     entity: &EntityId,
     text: &Word,
     attributes: &Many<(Word, Value)>,
     near: usize,
 ) -> Result<(), AllocError>
-    requires { PushedAs (Said.Report entity.now text.now attributes.now) journal.now runs.old.list parts.old }
+    requires pushed { PushedAs (Said.Report entity.now text.now attributes.now) journal.now runs.old.list parts.old }
+    requires named { AreFirsts journal.now runs.old.firsts }
     ensures ok { OnOk result (Right journal.now runs.new.list × Kept journal.now runs.new.list parts.new) }
     ensures err { OnErr result (runs.new.list ≡ runs.old.list) }
     ensures closed { runs.new.closed ≡ runs.old.closed }
+    ensures firsts { runs.new.firsts ≡ runs.old.firsts }
 {
     let mut before = enter_report(parts, alloc, entity, text, attributes)?;
     before.look_at(near);
@@ -128,16 +135,18 @@ fn follow_seen(
 fn follow_report(
     alloc: Global,
     journal: &Segment<'_>,
-    runs: &mut SegmentRuns,
+    runs: &mut NamedRuns,
     parts: &mut Parts,
     entity: &EntityId,
     text: &Word,
     attributes: &Many<(Word, Value)>,
 ) -> Result<(), AllocError>
-    requires { PushedAs (Said.Report entity.now text.now attributes.now) journal.now runs.old.list parts.old }
+    requires pushed { PushedAs (Said.Report entity.now text.now attributes.now) journal.now runs.old.list parts.old }
+    requires named { AreFirsts journal.now runs.old.firsts }
     ensures ok { OnOk result (Right journal.now runs.new.list × Kept journal.now runs.new.list parts.new) }
     ensures err { OnErr result (runs.new.list ≡ runs.old.list) }
     ensures closed { runs.new.closed ≡ runs.old.closed }
+    ensures firsts { runs.new.firsts ≡ runs.old.firsts }
 {
     match parts.triggers.asked(entity) {
         None => follow_left(alloc, journal, runs, parts, entity, text, attributes),
@@ -160,14 +169,16 @@ fn last_command<'a>(journal: &'a Segment<'_>) -> &'a Cmd
 pub fn follow_line(
     alloc: Global,
     journal: &Segment<'_>,
-    runs: &mut SegmentRuns,
+    runs: &mut NamedRuns,
     parts: &mut Parts,
 ) -> Result<(), AllocError>
     requires pushed { Pushed journal.now runs.old.list parts.old }
     requires stays { last_is is_restart journal.now ≡ false }
+    requires named { AreFirsts journal.now runs.old.firsts }
     ensures ok { OnOk result (Right journal.now runs.new.list × Kept journal.now runs.new.list parts.new) }
     ensures err { OnErr result (runs.new.list ≡ runs.old.list) }
     ensures closed { runs.new.closed ≡ runs.old.closed }
+    ensures firsts { runs.new.firsts ≡ runs.old.firsts }
 {
     let cmd = last_command(journal);
     match cmd {
@@ -175,6 +186,7 @@ pub fn follow_line(
             follow_switch(alloc, journal, runs, parts, name, *on, *stop)
         }
         Cmd::Restart => unreachable!(),
+        Cmd::Reload { .. } => unreachable!(),
         Cmd::Report {
             entity,
             text,

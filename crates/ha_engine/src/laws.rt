@@ -20,15 +20,15 @@ ghost use Rattle.ha_ready.specs.ReadyPairs.{pairs_of, ready_with};
 /// The records with one that its mode admits are a table again; those that it replaces went, and all runs are kept: the new one with its
 /// outer branch, where it begins, and with none where it waits.
 pub fn admitted_runs_are_kept()
-    ensures table { (k : Journal) (rs : Records) → IsTable k rs → (a : ℕ) (mode : Mode) (place order : ℕ) (env : Pairs) → place < length k → IsTable k (joined mode a place rs (new_run rs a mode place order env)) }
-    ensures kept { (k : Journal) (rs : Records) → IsTable k rs → (a : ℕ) (mode : Mode) (place order : ℕ) (env : Pairs) → place < length k → (f : Frames) → f.serial ≡ suc (length rs)
+    ensures table { (k : Journal) (rs : Records) → IsTable k rs → (a : ℕ) (mode : Mode) (place order number : ℕ) (env : Pairs) → place < length k → IsTable k (joined mode a place rs (new_run rs a mode place order number env)) }
+    ensures kept { (k : Journal) (rs : Records) → IsTable k rs → (a : ℕ) (mode : Mode) (place order number : ℕ) (env : Pairs) → place < length k → (f : Frames) → f.serial ≡ suc (length rs)
         → Stands f (actions_of (units k) a) env [] → fronts f [] ≡ first_fronts (actions_of (units k) a) → (told : CallEnds) → f.automation ≡ a → (delays : List Timer) (w : Waits) (os : List (Option Frames)) (pairs : List (ℕ × Branch)) (bs : List Branch)
-        → ready_with told k (new_run rs a mode place order env) ≡ bs → RunsKept told (gone_by mode a rs) k rs delays w os pairs
-        → RunsKept told nobody k (joined mode a place rs (new_run rs a mode place order env)) delays w (os ++ Some f ∷ []) (pairs ++ pairs_of (suc (length rs)) bs) }
-    ensures begun { (k : Journal) (rs : Records) → IsTable k rs → (a : ℕ) (mode : Mode) (place order : ℕ) (env : Pairs) → place < length k → (f : Frames) → f.serial ≡ suc (length rs)
+        → ready_with told k (new_run rs a mode place order number env) ≡ bs → RunsKept told (gone_by mode a rs) k rs delays w os pairs
+        → RunsKept told nobody k (joined mode a place rs (new_run rs a mode place order number env)) delays w (os ++ Some f ∷ []) (pairs ++ pairs_of (suc (length rs)) bs) }
+    ensures begun { (k : Journal) (rs : Records) → IsTable k rs → (a : ℕ) (mode : Mode) (place order number : ℕ) (env : Pairs) → place < length k → (f : Frames) → f.serial ≡ suc (length rs)
         → Stands f (actions_of (units k) a) env [] → fronts f [] ≡ first_fronts (actions_of (units k) a) → (told : CallEnds) → begin_now mode (live_count a rs) place ≡ Some place
-        → ready_with told k (new_run rs a mode place order env) ≡ first_branches (actions_of (units k) a) }
-    ensures waiting { (k : Journal) (rs : Records) → IsTable k rs → (a : ℕ) (mode : Mode) (place order : ℕ) (env : Pairs) → place < length k → (f : Frames) → f.serial ≡ suc (length rs)
+        → ready_with told k (new_run rs a mode place order number env) ≡ first_branches (actions_of (units k) a) }
+    ensures waiting { (k : Journal) (rs : Records) → IsTable k rs → (a : ℕ) (mode : Mode) (place order number : ℕ) (env : Pairs) → place < length k → (f : Frames) → f.serial ≡ suc (length rs)
         → Stands f (actions_of (units k) a) env [] → fronts f [] ≡ first_fronts (actions_of (units k) a) → (told : CallEnds) → begin_now mode (live_count a rs) place ≡ None
-        → ready_with told k (new_run rs a mode place order env) ≡ [] }
+        → ready_with told k (new_run rs a mode place order number env) ≡ [] }
 {}

@@ -1,29 +1,31 @@
 //! The attempts of an entry that pass, each with the frames that its run begins with.
-ghost use Rattle.std.specs.Prelude.{◌≡◌, ◌+◌, ◌-◌, ◌<◌, ◌≤◌, ◌^◌, ◌∷◌, [], ◌++◌, ◌||◌, ℕ, suc, true, false, IsTrue, List, Some, None, IfOk, OnOk, codes, length, map, slice_get, if◌then◌else◌};
+ghost use Rattle.std.specs.Prelude.{◌≡◌, ◌+◌, ◌≤◌, ◌∷◌, [], ◌++◌, ◌||◌, ℕ, suc, true, false, IsTrue, List, Some, None, IfOk, OnOk, codes, length, map, slice_get, if◌then◌else◌};
 ghost use Rattle.std.specs.List.{enumerate_from};
 ghost use Rattle.std.specs.Option.{option_copied, option_map_or};
 ghost use Rattle.ha_journal.specs.declared.firing.Firing.{Firing as Fire};
 ghost use Rattle.ha_journal.specs.Attempts.{attempts, by_hand, fired as fired_lem, passes as passes_lem, passing};
 ghost use Rattle.ha_sight.specs.Conditions.{hold_all};
 ghost use Rattle.ha_journal.specs.Entries.{asked_in};
-ghost use Rattle.ha_journal.specs.Journal.{Journal, IsJournal, automations, more, last_place, scripts, units};
-ghost use Rattle.ha_config.specs.Sound.{IsSoundConfig, are_sound_actions};
+ghost use Rattle.ha_journal.specs.Journal.{Journal, IsJournal, in_force, last_place, units};
+ghost use Rattle.ha_config.specs.Sound.{are_sound_actions};
 ghost use Rattle.ha_config.specs.declared.config.Script.{Script as Called};
-ghost use Rattle.ha_config.specs.Names.{automation_named, unit_of};
+ghost use Rattle.ha_config.specs.Names.{named_among, unit_of};
 ghost use Rattle.ha_journal.specs.Moves.{sight};
 ghost use Rattle.script_step.specs.Few.{has_few_lists};
 ghost use Rattle.script_step.specs.Gates.{first_fronts};
 ghost use Rattle.engine_parts.specs.Fronts.{Stands, fronts};
 ghost use Rattle.ha_engine.specs.Admits.{ArePrepared, IsReady, IsPut, ArePassing, asked_for, from_end, has_action};
 ghost use Rattle.engine_parts.specs.Kept.{Sees};
+ghost use Rattle.ha_engine.specs.Knows.{IsKnown};
 ghost use Rattle.engine_parts.specs.Owners.{attempts_by, is_attempt};
 ghost use Rattle.ha_engine.specs.Begun.{IsBegun};
 ghost use Rattle.ha_engine.specs.declared.admit.Prepared.{Prepared as Made};
 
 use crate::admit::Prepared;
+use engine_entry::names::number_named;
 use engine_parts::attempts::hold_all;
-use engine_parts::parts::Parts;
-use ha_config::{Action, Automation, Cmd, Config, Mode, Script, same_text};
+use engine_parts::parts::{FIRST_WAIT, Parts};
+use ha_config::{Action, Automation, Cmd, Config, Mode, Script};
 use ha_journal::{Entry, Firing};
 use ha_sight::{Answers, Env, Item, TriggerData};
 use ha_value::{Many, Value, Word, copy_pairs};
@@ -31,6 +33,7 @@ use script_calls::Seeing;
 use script_step::Frames;
 use segment_view::{Behind, Segment};
 use std::alloc::{AllocError, Global};
+use unit_book::UnitBook;
 
 /// Whether an attempt of an automation passes: its conditions are skipped, or all hold.
 fn passes<A: Answers>(
@@ -127,12 +130,16 @@ fn put(
     )
 }
 
-/// The script at a place behind the automations.
-fn script_at(config: &Config, at: usize) -> Option<&Script>
-    requires { length config.now.automations ≤ at }
-    ensures { option_copied result ≡ slice_get config.now.scripts (at - length config.now.automations) }
-{
-    config.scripts.get(at - config.automations.len())
+/// What is known of the units where attempts are made.
+#[derive(Drop)]
+pub(crate) struct Known<'a> {
+    /// All entries.
+    journal: &'a [Entry],
+    /// Where the units stand among them.
+    book: &'a UnitBook,
+    /// The configuration in force, and the numbers of its units, automations first.
+    config: &'a Config,
+    numbers: &'a Many<u32>,
 }
 
 /// An attempt of a script is put there, where there is one: a script has no conditions.
@@ -189,27 +196,21 @@ fn prepare_rule<A: Answers>(
 fn prepare_one<A: Answers>(
     alloc: Global,
     stack: &mut Vec<Prepared>,
-    config: &Config,
+    known: &Known<'_>,
     answers: &A,
     unit: u32,
     order: u64,
     env: Env,
     skip: bool,
 ) -> Result<(), AllocError>
-    requires { IsSoundConfig config.now }
-    ensures { OnOk result ((k : Journal) → A.sight answers.now ≡ sight k (suc (last_place k)) → config.now.automations ≡ automations k → config.now.scripts ≡ scripts k
+    requires { (j : Journal) × IsKnown j known.now }
+    ensures { OnOk result ((k : Journal) → A.sight answers.now ≡ sight k (suc (last_place k)) → IsKnown k known.now
         → IsPut (passes_lem k (last_place k) (asked_for unit env skip)) k (order, asked_for unit env skip) stack.old.items stack.new.items) }
 {
-    match config.automations.get(unit as usize) {
+    let found = known.book.unit(known.journal, unit);
+    match found.0 {
         Some(rule) => prepare_rule(alloc, stack, rule, answers, unit, order, env, skip),
-        None => put_called(
-            alloc,
-            stack,
-            script_at(config, unit as usize),
-            unit,
-            order,
-            env,
-        ),
+        None => put_called(alloc, stack, found.1, unit, order, env),
     }
 }
 
@@ -217,7 +218,7 @@ fn prepare_one<A: Answers>(
 fn is_attempt(firing: &Firing) -> bool
     ensures { result ≡ is_attempt firing.now }
 {
-    firing.owner < 1024
+    firing.owner < FIRST_WAIT
 }
 
 /// One where the firing is an attempt.
@@ -242,15 +243,15 @@ fn count_attempts(fired: &[Firing]) -> usize
 fn prepare_firing<A: Answers>(
     alloc: Global,
     stack: &mut Vec<Prepared>,
-    config: &Config,
+    known: &Known<'_>,
     answers: &A,
     left: u64,
     firing: Firing,
 ) -> Result<u64, AllocError>
-    requires sound { IsSoundConfig config.now }
+    requires known { (j : Journal) × IsKnown j known.now }
     requires left { (if is_attempt firing then 1 else 0) ≤ left }
     ensures order { IfOk result (λ order. order + (if is_attempt firing then 1 else 0) ≡ left) }
-    ensures done { IfOk result (λ order. (k : Journal) (fs : List Fire) → A.sight answers.now ≡ sight k (suc (last_place k)) → config.now.automations ≡ automations k → config.now.scripts ≡ scripts k
+    ensures done { IfOk result (λ order. (k : Journal) (fs : List Fire) → A.sight answers.now ≡ sight k (suc (last_place k)) → IsKnown k known.now
         → ArePassing k left (attempts_by fs) stack.old.items → ArePassing k order (attempts_by (firing ∷ fs)) stack.new.items) }
 {
     if !is_attempt(&firing) {
@@ -261,7 +262,7 @@ fn prepare_firing<A: Answers>(
     prepare_one(
         alloc,
         stack,
-        config,
+        known,
         answers,
         owner as u32,
         order,
@@ -274,19 +275,19 @@ fn prepare_firing<A: Answers>(
 /// The attempts by triggers, of which the firings of automations tell, from the last on.
 fn prepare_fired<A: Answers>(
     alloc: Global,
-    config: &Config,
+    known: &Known<'_>,
     answers: &A,
     fired: Many<Firing>,
 ) -> Result<Vec<Prepared>, AllocError>
-    requires { IsSoundConfig config.now }
-    ensures { IfOk result (λ stack. (k : Journal) → A.sight answers.now ≡ sight k (suc (last_place k)) → config.now.automations ≡ automations k → config.now.scripts ≡ scripts k
+    requires { (j : Journal) × IsKnown j known.now }
+    ensures { IfOk result (λ stack. (k : Journal) → A.sight answers.now ≡ sight k (suc (last_place k)) → IsKnown k known.now
         → ArePassing k 0 (attempts_by fired) stack.items) }
 {
     let mut fired = fired;
     let mut order = count_attempts(fired.as_slice()) as u64;
     let mut stack = Vec::new(alloc);
     'firings: while let Some(firing) = fired.pop() {
-        order = prepare_firing(alloc, &mut stack, config, answers, order, firing)?;
+        order = prepare_firing(alloc, &mut stack, known, answers, order, firing)?;
     }
     Ok(stack)
 }
@@ -308,36 +309,23 @@ fn env_by_hand(alloc: Global) -> Result<Env, AllocError>
     Ok(Env::of_trigger(alloc, trigger))
 }
 
-/// The place of the automation of this name.
-pub(crate) fn named(all: &[Automation], name: &Word) -> Option<u32>
-    requires { length all.now ≤ 1_024 }
-    ensures { result ≡ automation_named all.now name.now }
-{
-    'rules: for at in 0..all.len() {
-        if same_text(&all[at].name, name) {
-            return Some(at as u32);
-        }
-    }
-    None
-}
-
 /// The attempt that a line asks for by name.
 fn prepare_named<A: Answers>(
     alloc: Global,
-    config: &Config,
+    known: &Known<'_>,
     answers: &A,
     name: &Word,
     skip: bool,
 ) -> Result<Vec<Prepared>, AllocError>
-    requires { IsSoundConfig config.now }
-    ensures { IfOk result (λ stack. (k : Journal) → A.sight answers.now ≡ sight k (suc (last_place k)) → config.now.automations ≡ automations k → config.now.scripts ≡ scripts k
-        → ArePassing k 0 (option_map_or (λ a. asked_for a by_hand skip ∷ []) (automation_named (automations k) name.now) []) stack.items) }
+    requires { (j : Journal) × IsKnown j known.now }
+    ensures { IfOk result (λ stack. (k : Journal) → A.sight answers.now ≡ sight k (suc (last_place k)) → IsKnown k known.now
+        → ArePassing k 0 (option_map_or (λ a. asked_for a by_hand skip ∷ []) (named_among (in_force k) name.now) []) stack.items) }
 {
     let mut stack = Vec::new(alloc);
-    match named(config.automations.as_slice(), name) {
+    match number_named(known.config, known.numbers, name) {
         Some(automation) => {
             let env = env_by_hand(alloc)?;
-            prepare_one(alloc, &mut stack, config, answers, automation, 0, env, skip)?;
+            prepare_one(alloc, &mut stack, known, answers, automation, 0, env, skip)?;
             Ok(stack)
         }
         None => Ok(stack),
@@ -347,13 +335,13 @@ fn prepare_named<A: Answers>(
 /// The attempts that a step asks for by number, from the last on.
 fn prepare_chosen<A: Answers>(
     alloc: Global,
-    config: &Config,
+    known: &Known<'_>,
     answers: &A,
     chosen: &[u32],
     skip: bool,
 ) -> Result<Vec<Prepared>, AllocError>
-    requires { IsSoundConfig config.now }
-    ensures { IfOk result (λ stack. (k : Journal) → A.sight answers.now ≡ sight k (suc (last_place k)) → config.now.automations ≡ automations k → config.now.scripts ≡ scripts k
+    requires { (j : Journal) × IsKnown j known.now }
+    ensures { IfOk result (λ stack. (k : Journal) → A.sight answers.now ≡ sight k (suc (last_place k)) → IsKnown k known.now
         → ArePassing k 0 (map (λ a. asked_for a by_hand skip) chosen.now) stack.items) }
 {
     let mut stack = Vec::new(alloc);
@@ -364,7 +352,7 @@ fn prepare_chosen<A: Answers>(
         prepare_one(
             alloc,
             &mut stack,
-            config,
+            known,
             answers,
             chosen[left],
             left as u64,
@@ -387,13 +375,13 @@ fn env_called(alloc: Global, fields: &[(Word, Value)]) -> Result<Env, AllocError
 /// The attempts that a step asks scripts for, from the last on.
 fn prepare_called<A: Answers>(
     alloc: Global,
-    config: &Config,
+    known: &Known<'_>,
     answers: &A,
     chosen: &[u32],
     fields: &[(Word, Value)],
 ) -> Result<Vec<Prepared>, AllocError>
-    requires { IsSoundConfig config.now }
-    ensures { IfOk result (λ stack. (k : Journal) → A.sight answers.now ≡ sight k (suc (last_place k)) → config.now.automations ≡ automations k → config.now.scripts ≡ scripts k
+    requires { (j : Journal) × IsKnown j known.now }
+    ensures { IfOk result (λ stack. (k : Journal) → A.sight answers.now ≡ sight k (suc (last_place k)) → IsKnown k known.now
         → ArePassing k 0 (map (λ a. asked_for a (by_hand ++ fields.now) true) chosen.now) stack.items) }
 {
     let mut stack = Vec::new(alloc);
@@ -404,7 +392,7 @@ fn prepare_called<A: Answers>(
         prepare_one(
             alloc,
             &mut stack,
-            config,
+            known,
             answers,
             chosen[left],
             left as u64,
@@ -418,24 +406,24 @@ fn prepare_called<A: Answers>(
 /// Those of an entry: what it asks for itself, else those by triggers.
 fn prepare_asked<A: Answers>(
     alloc: Global,
-    config: &Config,
+    known: &Known<'_>,
     answers: &A,
     entry: &Entry,
     fired: Many<Firing>,
 ) -> Result<Vec<Prepared>, AllocError>
-    requires { IsSoundConfig config.now }
-    ensures { IfOk result (λ stack. (k : Journal) → A.sight answers.now ≡ sight k (suc (last_place k)) → config.now.automations ≡ automations k → config.now.scripts ≡ scripts k
+    requires { (j : Journal) × IsKnown j known.now }
+    ensures { IfOk result (λ stack. (k : Journal) → A.sight answers.now ≡ sight k (suc (last_place k)) → IsKnown k known.now
         → slice_get k (last_place k) ≡ Some entry.now → attempts_by fired ≡ fired_lem k (last_place k) → ArePassing k 0 (attempts k (last_place k)) stack.items) }
 {
     match entry {
         Entry::Line {
             cmd: Cmd::Trigger { name, skip },
             ..
-        } => prepare_named(alloc, config, answers, name, *skip),
+        } => prepare_named(alloc, known, answers, name, *skip),
         Entry::Step {
             item: Item::Triggered { automations, skip },
             ..
-        } => prepare_chosen(alloc, config, answers, automations.as_slice(), *skip),
+        } => prepare_chosen(alloc, known, answers, automations.as_slice(), *skip),
         Entry::Step {
             item: Item::Started {
                 scripts,
@@ -443,14 +431,8 @@ fn prepare_asked<A: Answers>(
                 ..
             },
             ..
-        } => prepare_called(
-            alloc,
-            config,
-            answers,
-            scripts.as_slice(),
-            fields.as_slice(),
-        ),
-        _ => prepare_fired(alloc, config, answers, fired),
+        } => prepare_called(alloc, known, answers, scripts.as_slice(), fields.as_slice()),
+        _ => prepare_fired(alloc, known, answers, fired),
     }
 }
 
@@ -467,10 +449,24 @@ pub(crate) fn prepare<'a>(
     ensures { IfOk result (λ stack. ArePrepared journal.entry.now (passing journal.entry.now) (from_end stack.items)) }
 {
     let config = journal.configuration();
-    let view = Seeing::make(&parts.states, config, &parts.zone, parts.at, &parts.helpers);
+    let (list, book) = journal.known();
+    let known = Known {
+        journal: list,
+        book,
+        config,
+        numbers: &parts.numbers,
+    };
+    let view = Seeing::make(
+        &parts.states,
+        config,
+        &parts.numbers,
+        &parts.zone,
+        parts.at,
+        &parts.helpers,
+    );
     // The borrow checker builds its plan only where a place has the type that the view holds.
     let _ = &view.view;
-    prepare_asked(alloc, config, &view, journal.last_entry(), fired)
+    prepare_asked(alloc, &known, &view, journal.last_entry(), fired)
 }
 
 /// Those of an opening.
@@ -486,8 +482,22 @@ pub(crate) fn prepare_opening<'a>(
     ensures { IfOk result (λ stack. ArePrepared journal.entry.now (passing journal.entry.now) (from_end stack.items)) }
 {
     let config = journal.configuration();
-    let view = Seeing::make(&parts.states, config, &parts.zone, parts.at, &parts.helpers);
+    let (list, book) = journal.known();
+    let known = Known {
+        journal: list,
+        book,
+        config,
+        numbers: &parts.numbers,
+    };
+    let view = Seeing::make(
+        &parts.states,
+        config,
+        &parts.numbers,
+        &parts.zone,
+        parts.at,
+        &parts.helpers,
+    );
     // The borrow checker builds its plan only where a place has the type that the view holds.
     let _ = &view.view;
-    prepare_fired(alloc, config, &view, fired)
+    prepare_fired(alloc, &known, &view, fired)
 }

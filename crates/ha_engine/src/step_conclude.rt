@@ -7,6 +7,7 @@ ghost use Rattle.engine_parts.specs.Kept.{Going, Kept, nobody};
 ghost use Rattle.engine_parts.specs.Owners.{attempts_by};
 ghost use Rattle.engine_parts.specs.Records.{HasRoom, IsTable};
 ghost use Rattle.engine_parts.specs.Stages.{Stopped};
+ghost use Rattle.ha_engine.specs.Named.{AreFirsts};
 ghost use Rattle.engine_entry.specs.Stepping.{StepTold, StepTelling, halts_each, stops_by, stops_each};
 
 use crate::conclude::{make_room, settle};
@@ -16,19 +17,21 @@ use crate::stop::{stop_if, stop_runs};
 use crate::switch::ends_runs;
 use engine_parts::parts::Parts;
 use ha_journal::{Entry, Firing};
+use ha_model::EndCause;
 use ha_sight::{Item, Progress};
 use ha_value::Many;
-use segment_runs::SegmentRuns;
+use named_runs::NamedRuns;
 use segment_view::Segment;
 use std::alloc::{AllocError, Global};
 
 /// The runs of one automation end, where it is turned off with stop.
-fn stop_target(runs: &mut SegmentRuns, parts: &mut Parts, target: &(u32, bool, bool), place: u64)
+fn stop_target(runs: &mut NamedRuns, parts: &mut Parts, target: &(u32, bool, bool), place: u64)
     requires place { place < 2 ^ 56 }
     requires room { HasRoom 0 parts.old }
     ensures list { runs.new.list ≡ stops_each place (target.now ∷ []) runs.old.list }
     ensures kept { (k : Journal) → place ≡ last_place k → 0 < length k → IsTable k runs.old.list → Going nobody k runs.old.list parts.old → IsTable k runs.new.list × Going nobody k runs.new.list parts.new }
     ensures closed { runs.new.closed ≡ runs.old.closed }
+    ensures firsts { runs.new.firsts ≡ runs.old.firsts }
     ensures spare { runs.old.spare ≤ runs.new.spare }
     ensures room { (n : ℕ) → HasRoom n parts.old → HasRoom n parts.new }
     ensures rested { parts.new.rested ≡ parts.old.rested }
@@ -38,17 +41,13 @@ fn stop_target(runs: &mut SegmentRuns, parts: &mut Parts, target: &(u32, bool, b
 }
 
 /// The runs of those that are turned off with stop end, one automation after the other.
-fn stop_targets(
-    runs: &mut SegmentRuns,
-    parts: &mut Parts,
-    targets: &[(u32, bool, bool)],
-    place: u64,
-)
+fn stop_targets(runs: &mut NamedRuns, parts: &mut Parts, targets: &[(u32, bool, bool)], place: u64)
     requires place { place < 2 ^ 56 }
     requires room { HasRoom 0 parts.old }
     ensures list { runs.new.list ≡ stops_each place targets.now runs.old.list }
     ensures kept { (k : Journal) → place ≡ last_place k → 0 < length k → IsTable k runs.old.list → Going nobody k runs.old.list parts.old → IsTable k runs.new.list × Going nobody k runs.new.list parts.new }
     ensures closed { runs.new.closed ≡ runs.old.closed }
+    ensures firsts { runs.new.firsts ≡ runs.old.firsts }
     ensures spare { runs.old.spare ≤ runs.new.spare }
     ensures room { (n : ℕ) → HasRoom n parts.old → HasRoom n parts.new }
     ensures rested { parts.new.rested ≡ parts.old.rested }
@@ -59,28 +58,30 @@ fn stop_targets(
 }
 
 /// The runs of these scripts end, one script after the other.
-fn halt_scripts(runs: &mut SegmentRuns, parts: &mut Parts, scripts: &[u32], place: u64)
+fn halt_scripts(runs: &mut NamedRuns, parts: &mut Parts, scripts: &[u32], place: u64)
     requires place { place < 2 ^ 56 }
     requires room { HasRoom 0 parts.old }
     ensures list { runs.new.list ≡ halts_each place scripts.now runs.old.list }
     ensures kept { (k : Journal) → place ≡ last_place k → 0 < length k → IsTable k runs.old.list → Going nobody k runs.old.list parts.old → IsTable k runs.new.list × Going nobody k runs.new.list parts.new }
     ensures closed { runs.new.closed ≡ runs.old.closed }
+    ensures firsts { runs.new.firsts ≡ runs.old.firsts }
     ensures spare { runs.old.spare ≤ runs.new.spare }
     ensures room { (n : ℕ) → HasRoom n parts.old → HasRoom n parts.new }
     ensures rested { parts.new.rested ≡ parts.old.rested }
 {
     'scripts: for script in scripts {
-        stop_runs(runs, parts, *script, place);
+        stop_runs(runs, parts, *script, place, EndCause::SwitchedOff);
     }
 }
 
 /// The same of an item, where it switches automations or ends runs of scripts.
-fn stop_switched(runs: &mut SegmentRuns, parts: &mut Parts, item: &Item, place: u64)
+fn stop_switched(runs: &mut NamedRuns, parts: &mut Parts, item: &Item, place: u64)
     requires place { place < 2 ^ 56 }
     requires room { HasRoom 0 parts.old }
     ensures list { runs.new.list ≡ stops_by place item.now runs.old.list }
     ensures kept { (k : Journal) → place ≡ last_place k → 0 < length k → IsTable k runs.old.list → Going nobody k runs.old.list parts.old → IsTable k runs.new.list × Going nobody k runs.new.list parts.new }
     ensures closed { runs.new.closed ≡ runs.old.closed }
+    ensures firsts { runs.new.firsts ≡ runs.old.firsts }
     ensures spare { runs.old.spare ≤ runs.new.spare }
     ensures room { (n : ℕ) → HasRoom n parts.old → HasRoom n parts.new }
     ensures rested { parts.new.rested ≡ parts.old.rested }
@@ -100,7 +101,7 @@ fn stop_switched(runs: &mut SegmentRuns, parts: &mut Parts, item: &Item, place: 
 
 /// The calls of a step on the records: its call, its end and its stops.
 fn tell_step(
-    runs: &mut SegmentRuns,
+    runs: &mut NamedRuns,
     parts: &mut Parts,
     alloc: Global,
     journal: &Segment<'_>,
@@ -112,6 +113,7 @@ fn tell_step(
     requires room { HasRoom 1 parts.old }
     ensures stopped { Stopped journal.now runs.new.list parts.new }
     ensures closed { runs.new.closed ≡ runs.old.closed }
+    ensures firsts { runs.new.firsts ≡ runs.old.firsts }
     ensures spare { runs.old.spare ≤ runs.new.spare }
     ensures room { (n : ℕ) → HasRoom (suc n) parts.old → HasRoom n parts.new }
 {
@@ -122,7 +124,7 @@ fn tell_step(
 
 /// The same for the step that the last entry is.
 fn tell_records(
-    runs: &mut SegmentRuns,
+    runs: &mut NamedRuns,
     parts: &mut Parts,
     alloc: Global,
     journal: &Segment<'_>,
@@ -132,6 +134,7 @@ fn tell_records(
     requires room { HasRoom 1 parts.old }
     ensures stopped { Stopped journal.now runs.new.list parts.new }
     ensures closed { runs.new.closed ≡ runs.old.closed }
+    ensures firsts { runs.new.firsts ≡ runs.old.firsts }
     ensures spare { runs.old.spare ≤ runs.new.spare }
     ensures room { (n : ℕ) → HasRoom (suc n) parts.old → HasRoom n parts.new }
 {
@@ -147,16 +150,18 @@ fn tell_records(
 pub(crate) fn conclude_step(
     alloc: Global,
     journal: &Segment<'_>,
-    runs: &mut SegmentRuns,
+    runs: &mut NamedRuns,
     parts: &mut Parts,
     progress: Progress,
     fired: Many<Firing>,
 ) -> Result<(), AllocError>
     requires told { StepTold journal.now runs.old.list parts.old progress }
     requires fired { attempts_by fired ≡ fired_lem journal.now (last_place journal.now) }
+    requires named { AreFirsts journal.now runs.old.firsts }
     ensures ok { OnOk result (Right journal.now runs.new.list × Kept journal.now runs.new.list parts.new) }
     ensures err { OnErr result (runs.new.list ≡ runs.old.list) }
     ensures closed { runs.new.closed ≡ runs.old.closed }
+    ensures firsts { runs.new.firsts ≡ runs.old.firsts }
 {
     let stack = prepare(alloc, &*journal, parts, fired)?;
     make_room(runs, parts, stack.len() + 1)?;

@@ -1,6 +1,7 @@
 //! The records of a step: its call is counted, its run ends where its script does, and the run that was queued behind it begins.
-ghost use Rattle.std.specs.Prelude.{◌≡◌, ◌+◌, ◌-◌, ◌<◌, ◌≤◌, ◌^◌, ◌∷◌, [], ◌++◌, ℕ, suc, List, None, Some, take, drop, length, vec_len, vec_capacity};
+ghost use Rattle.std.specs.Prelude.{◌≡◌, ◌+◌, ◌-◌, ◌<◌, ◌≤◌, ◌^◌, ◌∷◌, [], ◌++◌, ℕ, suc, true, List, None, Some, take, drop, length, vec_len, vec_capacity};
 ghost use Rattle.ha_model.specs.declared.record.Record.{Record as Run};
+ghost use Rattle.ha_config.specs.Sound.{are_sound_actions};
 ghost use Rattle.ha_sight.specs.Items.{is_call};
 ghost use Rattle.ha_journal.specs.Journal.{IsJournal, last_place, units};
 ghost use Rattle.ha_model.specs.Lawful.{record_of};
@@ -21,7 +22,7 @@ use ha_config::Action;
 use ha_model::EndCause;
 use ha_sight::{Item, Progress};
 use ha_value::Many;
-use segment_runs::SegmentRuns;
+use named_runs::NamedRuns;
 use segment_view::Segment;
 use std::alloc::Global;
 
@@ -38,10 +39,11 @@ pub(crate) fn cause_of(progress: Progress) -> Option<EndCause>
 }
 
 /// The call of a step is counted, if it made one.
-pub(crate) fn count_call(runs: &mut SegmentRuns, serial: u64, item: &Item)
+pub(crate) fn count_call(runs: &mut NamedRuns, serial: u64, item: &Item)
     requires { (r : Run) × (record_of runs.old.list serial ≡ Some r) × (r.serial ≡ serial) × (r.calls < 2 ^ 64 - 1) }
     ensures list { runs.new.list ≡ call_counted (is_call item.now) serial runs.old.list }
     ensures closed { runs.new.closed ≡ runs.old.closed }
+    ensures firsts { runs.new.firsts ≡ runs.old.firsts }
     ensures spare { runs.new.spare ≡ runs.old.spare }
 {
     match item {
@@ -64,12 +66,22 @@ fn has_some(actions: &[Action]) -> bool
     actions.len() > 0
 }
 
+/// The actions of a unit, which are sound.
+fn script_of<'a>(journal: &'a Segment<'_>, unit: u32) -> &'a [Action]
+    ensures script { result.now ≡ actions_of (units journal.now) unit }
+    ensures sound { are_sound_actions (actions_of (units journal.now) unit) ≡ true }
+{
+    let (list, book) = journal.known();
+    book.actions(list, unit)
+}
+
 /// Whether the script of a run has one.
-fn acts(journal: &Segment<'_>, runs: &SegmentRuns, serial: u64) -> bool
-    ensures { (r : Run) → record_of runs.now.list serial ≡ Some r → result ≡ has_action (actions_of (units journal.now) r.automation) }
+fn acts(journal: &Segment<'_>, runs: &NamedRuns, serial: u64) -> bool
+    ensures value { (r : Run) → record_of runs.now.list serial ≡ Some r → result ≡ has_action (actions_of (units journal.now) r.automation) }
+    ensures sound { (r : Run) → record_of runs.now.list serial ≡ Some r → are_sound_actions (actions_of (units journal.now) r.automation) ≡ true }
 {
     match runs.automation(serial) {
-        Some(automation) => has_some(journal.script(automation)),
+        Some(automation) => has_some(script_of(journal, automation)),
         None => false,
     }
 }
@@ -100,16 +112,11 @@ fn put_first(ready: &mut Ready, alloc: Global, serial: u64)
 }
 
 /// A queued run begins.
-fn begin_run(
-    runs: &SegmentRuns,
-    parts: &mut Parts,
-    alloc: Global,
-    journal: &Segment<'_>,
-    serial: u64,
-)
+fn begin_run(runs: &NamedRuns, parts: &mut Parts, alloc: Global, journal: &Segment<'_>, serial: u64)
     requires { HasRoom 1 parts.old }
     ensures pairs { (m : ℕ) (by : ℕ → List Path) (r : Run) → parts.old.ready.pairs.items ≡ pairs_from 0 m by → by serial ≡ [] → 0 < serial → serial ≤ m → record_of runs.now.list serial ≡ Some r
         → parts.new.ready.pairs.items ≡ pairs_from 0 m (changed_at serial (first_branches (actions_of (units journal.now) r.automation)) by) }
+    ensures sound { (r : Run) → record_of runs.now.list serial ≡ Some r → are_sound_actions (actions_of (units journal.now) r.automation) ≡ true }
     ensures rest { parts.new ≡ record parts.old { ready = parts.new.ready } }
     ensures room { (n : ℕ) → HasRoom (suc n) parts.old → HasRoom n parts.new }
 {
@@ -120,7 +127,7 @@ fn begin_run(
 
 /// The run ends at the last entry, and the one that was queued behind it begins.
 fn end_run(
-    runs: &mut SegmentRuns,
+    runs: &mut NamedRuns,
     parts: &mut Parts,
     alloc: Global,
     journal: &Segment<'_>,
@@ -133,6 +140,7 @@ fn end_run(
     requires room { HasRoom 1 parts.old }
     ensures list { runs.new.list ≡ ended_at serial (last_place journal.now) cause runs.old.list }
     ensures closed { runs.new.closed ≡ runs.old.closed }
+    ensures firsts { runs.new.firsts ≡ runs.old.firsts }
     ensures kept { StepEnds journal.now runs.old.list serial → Going nobody journal.now runs.old.list parts.old → Going nobody journal.now runs.new.list parts.new }
     ensures spare { runs.old.spare ≤ runs.new.spare }
     ensures room { (n : ℕ) → HasRoom (suc n) parts.old → HasRoom n parts.new }
@@ -148,7 +156,7 @@ fn end_run(
 
 /// The same where its script has come to an end.
 pub(crate) fn end_if(
-    runs: &mut SegmentRuns,
+    runs: &mut NamedRuns,
     parts: &mut Parts,
     alloc: Global,
     journal: &Segment<'_>,
@@ -161,6 +169,7 @@ pub(crate) fn end_if(
     requires room { HasRoom 1 parts.old }
     ensures list { runs.new.list ≡ own_ended (last_place journal.now) serial cause runs.old.list }
     ensures closed { runs.new.closed ≡ runs.old.closed }
+    ensures firsts { runs.new.firsts ≡ runs.old.firsts }
     ensures kept { StepEnds journal.now runs.old.list serial → Going nobody journal.now runs.old.list parts.old → IsTable journal.now runs.new.list × Going nobody journal.now runs.new.list parts.new }
     ensures spare { runs.old.spare ≤ runs.new.spare }
     ensures room { (n : ℕ) → HasRoom (suc n) parts.old → HasRoom n parts.new }

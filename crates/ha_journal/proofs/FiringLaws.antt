@@ -13,13 +13,13 @@ use Rattle.ha_journal.specs.declared.entry.Entry.{Entry}
 use Rattle.ha_sight.specs.declared.state.StateObject.{StateObject}
 use Rattle.ha_config.specs.Words.{Text, same, first_pair, numbers_from}
 use Rattle.ha_journal.specs.Entries.{Asked, asked_in, Turning, turning, boot_of, report_in, gone_in, is_restart, opens_segment}
-use Rattle.ha_journal.specs.Journal.{Journal, HasEntry, automations, helpers, now, last_place, more, units}
+use Rattle.ha_journal.specs.Journal.{Journal, HasEntry, automations, helpers, in_force, now, last_place, more, through, units}
 use Rattle.ha_journal.specs.Switches.{is_on, since, switched_at}
 use Rattle.ha_config.specs.declared.helper.Helper.{Helper}
 use Rattle.ha_config.specs.Helpers.{helper_named}
 use Rattle.ha_journal.specs.Helpers.{text_of}
 use Rattle.ha_journal.specs.States.{states, reported, of_helper, of_automation as state_of_automation}
-use Rattle.ha_config.specs.Names.{automation_named}
+use Rattle.ha_config.specs.Names.{named_among}
 use Rattle.ha_sight.specs.Conditions.{hold_all, watched_text}
 use Rattle.ha_journal.specs.Moves.{sight, moves}
 use Rattle.ha_sight.specs.Rules.{matches, is_absent, same_optional, state_moves, starts}
@@ -29,9 +29,11 @@ use Rattle.ha_journal.specs.Triggers.{Fired, entities_at, firing_for, firings_by
 use Rattle.ha_journal.specs.Attempts.{Attempt, attempt_for, fired_for, fired, attempts_asked, attempts_of, attempts, passes, passing}
 use Rattle.ha_config.proofs.EqualLemmas.{same-refl, same_value-refl, same_pairs-refl}
 use Rattle.ha_journal.proofs.StateLemmas.{reported-other}
-use Rattle.ha_journal.proofs.MoreLemmas.{automations-more, helpers-more, length-more, through-last}
+use Rattle.ha_journal.proofs.ForceLaws.{in-force-are, in-force-more}
+use Rattle.ha_journal.proofs.MoreLemmas.{helpers-more, length-more, through-last}
 use Rattle.ha_journal.proofs.HelperLaws.{helper-left}
 use Rattle.ha_journal.proofs.SinceLaws.{take-more, take-before, on-left, switched-left, switched-within}
+use Rattle.ha_journal.proofs.SwitchLemmas.{leaves-none}
 use Rattle.ha_config.proofs.ListLemmas.{get-last}
 
 -- ---- where a trigger without `for` fires
@@ -103,18 +105,18 @@ state-stays None from to held (Some s) =
 -- the state of an entity that is no automation and no helper is the one that was reported
 pub states-outside : (j : Journal) (e : EntityId) → same e.domain (codes "automation") ≡ false → helper_named (helpers j) e ≡ None → states j e ≡ reported j e
 states-outside j e outside none =
-    (λ i. if outside i then option_map (state_of_automation j) (automation_named (automations j) e.object) else option_map_or (of_helper j) (none i) (reported j e))
+    (λ i. if outside i then option_map (state_of_automation j) (named_among (in_force j) e.object) else option_map_or (of_helper j) (none i) (reported j e))
 
 -- LAW: an entry that reports nothing, at which no entity goes, and that turns no switch, opens no segment and gives the helper of this id no
 -- new text leaves its state as it was
 pub states-left : (j : Journal) (x : Entry) (e : EntityId) → HasEntry j → report_in x ≡ None → gone_in x ≡ None → turning x ≡ Turning.Leaves → opens_segment x ≡ false
     → ((h : Helper) → helper_named (helpers j) e ≡ Some h → text_of (more j x) h ≡ text_of j h) → states (more j x) e ≡ states j e
 states-left j x e h report gone leaves opens still =
-    (λ i. if same e.domain (codes "automation") then option_map (state_of_automation (more j x)) (automation_named (sym (automations-more j x h) i) e.object)
+    (λ i. if same e.domain (codes "automation") then option_map (state_of_automation (more j x)) (named_among (sym (in-force-more j x h (leaves-none x leaves)) i) e.object)
     else option_map_or (of_helper (more j x)) (helper_named (sym (helpers-more j x h) i) e) (reported-other j e x report gone (or-right (is_some (boot_of x)) (is_restart x) opens) i))
-    ∙ (λ i. if same e.domain (codes "automation") then option_map (state_of_automation (more j x)) (automation_named (automations j) e.object)
+    ∙ (λ i. if same e.domain (codes "automation") then option_map (state_of_automation (more j x)) (named_among (in_force j) e.object)
     else helpers-left (helper_named (helpers j) e) refl i)
-    ∙ by (automation_named (automations j) e.object)
+    ∙ by (named_among (in_force j) e.object)
   where
     helpers-left : (o : Option Helper) → helper_named (helpers j) e ≡ o → option_map_or (of_helper (more j x)) o (reported j e) ≡ option_map_or (of_helper j) o (reported j e)
     helpers-left None q = refl
@@ -198,11 +200,11 @@ module _ (j : Journal) (p : ℕ) where
   none-of since n [] h = refl
   none-of since n (t ∷ ts) h = (λ i. none-for since (n, t) h.0 (entities_at j p t.rule) i ++ none-of since (n + 1) ts h.1 i)
 
-  none-from : (n : ℕ) (all : List Automation) → EachTrigger (FiresNot j p) all → flat_map (fired_for j p) (enumerate_from n all) ≡ []
-  none-from n [] h = refl
-  none-from n (a ∷ all) h =
-      (λ i. (if is_on (take (suc p) j) n then map (attempt_for n) (none-of (since (take (suc p) j) n) 0 a.triggers h.0 i) else []) ++ none-from (n + 1) all h.1 i)
-      ∙ by (is_on (take (suc p) j) n)
+  none-from : (ps : List (ℕ × Automation)) → EachTrigger (FiresNot j p) (map {A = ℕ × Automation} {B = Automation} (λ q. q.1) ps) → flat_map (fired_for j p) ps ≡ []
+  none-from [] h = refl
+  none-from (a ∷ all) h =
+      (λ i. (if is_on (take (suc p) j) a.0 then map (attempt_for a.0) (none-of (since (take (suc p) j) a.0) 0 a.1.triggers h.0 i) else []) ++ none-from all h.1 i)
+      ∙ by (is_on (take (suc p) j) a.0)
     where
       by : (b : Bool) → (if b then nobody else nobody) ++ nobody ≡ nobody
       by true = refl
@@ -210,7 +212,11 @@ module _ (j : Journal) (p : ℕ) where
 
 -- LAW: an entry that names nobody, and at which no trigger fires, has no attempts
 pub attempts-none : (j : Journal) (x : Entry) → asked_in x ≡ Asked.Nobody → EachTrigger (FiresNot (more j x) (length j)) (automations (more j x)) → attempts (more j x) (length j) ≡ []
-attempts-none j x nobody h = attempts-unasked j x nobody ∙ none-from (more j x) (length j) 0 (automations (more j x)) h
+attempts-none j x nobody h =
+    let at : map {A = ℕ × Automation} {B = Automation} (λ q. q.1) (in_force (through (more j x) (length j))) ≡ automations (more j x)
+    = (λ i. map {A = ℕ × Automation} {B = Automation} (λ q. q.1) (in_force (through-last j x i))) ∙ in-force-are (more j x) in
+    attempts-unasked j x nobody
+    ∙ none-from (more j x) (length j) (in_force (through (more j x) (length j))) (subst (EachTrigger (FiresNot (more j x) (length j))) (sym at) h)
 
 -- ---- state triggers where nothing changes
 

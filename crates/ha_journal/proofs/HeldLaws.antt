@@ -1,6 +1,6 @@
 -- What a hold watches is compared with what it was when the trigger moved. A numeric trigger moves into its bounds, and a template trigger where it
 -- becomes true; so for them it is enough to ask whether the number is still in the bounds, and whether the template is still true.
-use Rattle.std.proofs.Common.{◌≡◌, ℕ, zero, suc, List, [], ◌∷◌, ◌++◌, take, Bool, true, false, refl, sym, ap, ◌∙◌, Option}
+use Rattle.std.proofs.Common.{◌≡◌, ℕ, zero, suc, List, [], ◌∷◌, ◌++◌, take, Bool, true, false, refl, sym, ap, ◌∙◌, Option, append-nil}
 use Rattle.std.specs.Prelude.{Some, None, not, slice_get, is_some, is_none, nat_le, nat_lt, filter_map, option_and_then, ◌&&◌, ◌+◌, ◌-◌, if◌then◌else◌}
 use Rattle.std.specs.List.{list_all, list_any, cons_option}
 use Rattle.std.specs.Option.{option_map_or}
@@ -23,16 +23,12 @@ use Rattle.ha_config.proofs.EqualLemmas.{and_left, and_right}
 use Rattle.ha_config.proofs.ListLemmas.{none-some, some-same, true-false}
 use Rattle.ha_journal.proofs.StateLemmas.{longest_end-ends, longest_end-keeps, last_of-snoc}
 
-append-none : {X : Type 0} (xs : List X) → xs ++ [] ≡ xs
-append-none [] = refl
-append-none (x ∷ xs) = ap (λ l. x ∷ l) (append-none xs)
-
 -- LAW: the latest number of an entity with one more entry
 pub latest-more : (j : Journal) (x : Entry) (e : EntityId) (name : Option Text) → latest_number e name (more j x) ≡ (if opens_segment x then None else or_else (report_number e name x) (latest_number e name j))
 latest-more j x e name = by (opens_segment x) refl
   where
     last-one : (xs : List Num) (o : Option Num) → last_of (xs ++ cons_option o []) ≡ or_else o (last_of xs)
-    last-one xs None = ap last_of (append-none xs)
+    last-one xs None = ap last_of (append-nil xs)
     last-one xs (Some n) = last_of-snoc xs n
 
     by : (b : Bool) → opens_segment x ≡ b → latest_number e name (more j x) ≡ (if b then None else or_else (report_number e name x) (latest_number e name j))

@@ -1,5 +1,5 @@
 -- Helpers with one more entry: their last changes, texts and states, and the timers that finish.
-use Rattle.std.proofs.Common.{◌≡◌, ℕ, zero, suc, ◌+◌, ◌<◌, List, [], ◌∷◌, ◌++◌, length, take, Bool, true, false, refl, sym, ap, subst, ◌∙◌, arith}
+use Rattle.std.proofs.Common.{◌≡◌, ℕ, zero, suc, ◌+◌, ◌<◌, List, [], ◌∷◌, ◌++◌, length, take, Bool, true, false, refl, sym, ap, subst, ◌∙◌, arith, append-nil}
 use Rattle.std.specs.Prelude.{Option, Some, None, is_none, filter_map, find, map, nat_le, option_map, option_and_then, codes, ◌&&◌, ◌||◌, if◌then◌else◌}
 use Rattle.std.specs.List.{list_any, cons_option}
 use Rattle.std.specs.Option.{option_map_or}
@@ -43,10 +43,6 @@ last-some [] x = refl
 last-some (y ∷ []) x = refl
 last-some (y ∷ z ∷ xs) x = last-some (z ∷ xs) x
 
-append-none : {X : Type 0} (xs : List X) → xs ++ [] ≡ xs
-append-none [] = refl
-append-none (x ∷ xs) = ap (λ l. x ∷ l) (append-none xs)
-
 map-alike : {X : Type 0} (f g : ℕ → X) (low n : ℕ) → ((i : ℕ) → i < low + n → f i ≡ g i) → map f (numbers_from low n) ≡ map g (numbers_from low n)
 map-alike f g low zero h = refl
 map-alike f g low (suc n) h =
@@ -75,7 +71,7 @@ last-change-more j x e =
     before = filter_map (changed_at e) (stamped j)
 
     by : (o : Option HelperChange) → last_of (before ++ cons_option (option_map (λ c. record { change = c; at = now (more j x) }) o) []) ≡ changed_with o (now (more j x)) (last_of before)
-    by None = ap last_of (append-none before)
+    by None = ap last_of (append-nil before)
     by (Some c) = last-some before (record { change = c; at = now (more j x) })
 
 abbrev unchanged : EntityId → ℕ × Entry → Bool

@@ -1,9 +1,14 @@
+pub mod AlikeLaws
 pub mod EventLaws
 pub mod FiringLaws
+pub mod ForceLaws
 pub mod HeldLaws
 pub mod HelperLaws
 pub mod MoreLemmas
 pub mod NamedLaws
+pub mod NamedStates
+pub mod ReloadLemmas
+pub mod ReloadSwitches
 pub mod SinceLaws
 pub mod StateLemmas
 pub mod SwitchLemmas

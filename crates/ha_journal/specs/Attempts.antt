@@ -8,8 +8,8 @@ use Rattle.ha_config.specs.declared.config.Automation.{Automation}
 use Rattle.ha_journal.specs.declared.entry.Entry.{Entry}
 use Rattle.ha_journal.specs.Entries.{Asked, asked_in}
 use Rattle.ha_config.specs.Words.{Pairs}
-use Rattle.ha_journal.specs.Journal.{Journal, automations, units, last_place}
-use Rattle.ha_config.specs.Names.{unit_of, automation_named}
+use Rattle.ha_journal.specs.Journal.{Journal, in_force, last_place, through, units}
+use Rattle.ha_config.specs.Names.{named_among, unit_of}
 use Rattle.ha_journal.specs.Switches.{is_on, since}
 use Rattle.ha_sight.specs.Conditions.{hold_all}
 use Rattle.ha_journal.specs.Triggers.{Fired, firings}
@@ -35,11 +35,11 @@ module _ (j : Journal) (p : ℕ) where
   fired_for x = if is_on (take (suc p) j) x.0 then map (attempt_for x.0) (firings j x.1.triggers (since (take (suc p) j) x.0) p) else []
 
   abbrev pub fired : List Attempt
-  fired = flat_map fired_for (enumerate_from 0 (automations j))
+  fired = flat_map fired_for (in_force (through j p))
 
   abbrev pub attempts_asked : Asked → List Attempt
   attempts_asked (Asked.ByName name skip) =
-      option_map_or (λ a. record { automation = a; env = by_hand; skip = skip } ∷ []) (automation_named (automations j) name) []
+      option_map_or (λ a. record { automation = a; env = by_hand; skip = skip } ∷ []) (named_among (in_force (through j p)) name) []
   attempts_asked (Asked.ByNumber chosen skip) = map (λ a. record { automation = a; env = by_hand; skip = skip }) chosen
   attempts_asked (Asked.OfScripts chosen fields) = map (λ a. record { automation = a; env = by_hand ++ fields; skip = true }) chosen
   attempts_asked Asked.Nobody = fired

@@ -1,6 +1,6 @@
 -- What an entry is, and what its command or item does. The other definitions ask here, or `Fair` of commands and `Items` of items, so that
 -- few files know all kinds of entries, commands and items; elsewhere a match on these types names every kind.
-use Rattle.std.specs.Prelude.{ℕ, Bool, true, false, ◌||◌, List, [], ◌++◌, map, find, replicate, Option, Some, None, is_some}
+use Rattle.std.specs.Prelude.{ℕ, Bool, true, false, ◌||◌, List, [], ◌++◌, map, find, replicate, Option, Some, None, is_some, option_and_then}
 use Rattle.std.specs.Option.{option_to_list}
 use Rattle.ha_value.specs.declared.value.EntityId.{EntityId}
 use Rattle.ha_config.specs.declared.config.Config.{Config}
@@ -101,6 +101,7 @@ report_in (Line source number (Cmd.Moment at)) = None
 report_in (Line source number (Cmd.Switch name on stop)) = None
 report_in (Line source number (Cmd.Trigger name skip)) = None
 report_in (Line source number Cmd.Restart) = None
+report_in (Line source number (Cmd.Reload text config)) = None
 report_in (Line source number (Cmd.Refused code)) = None
 report_in (Line source number Cmd.Lost) = None
 report_in (Line source number Cmd.TooLong) = None
@@ -116,6 +117,7 @@ gone_in (Line source number (Cmd.Moment at)) = None
 gone_in (Line source number (Cmd.Switch name on stop)) = None
 gone_in (Line source number (Cmd.Trigger name skip)) = None
 gone_in (Line source number Cmd.Restart) = None
+gone_in (Line source number (Cmd.Reload text config)) = None
 gone_in (Line source number (Cmd.Refused code)) = None
 gone_in (Line source number Cmd.Lost) = None
 gone_in (Line source number Cmd.TooLong) = None
@@ -132,6 +134,7 @@ moment_in (Line source number (Cmd.Event kind pairs)) = None
 moment_in (Line source number (Cmd.Switch name on stop)) = None
 moment_in (Line source number (Cmd.Trigger name skip)) = None
 moment_in (Line source number Cmd.Restart) = None
+moment_in (Line source number (Cmd.Reload text config)) = None
 moment_in (Line source number (Cmd.Refused code)) = None
 moment_in (Line source number Cmd.Lost) = None
 moment_in (Line source number Cmd.TooLong) = None
@@ -152,6 +155,7 @@ event_in (Line source number (Cmd.Moment at)) = None
 event_in (Line source number (Cmd.Switch name on stop)) = None
 event_in (Line source number (Cmd.Trigger name skip)) = None
 event_in (Line source number Cmd.Restart) = None
+event_in (Line source number (Cmd.Reload text config)) = None
 event_in (Line source number (Cmd.Refused code)) = None
 event_in (Line source number Cmd.Lost) = None
 event_in (Line source number Cmd.TooLong) = None
@@ -173,6 +177,7 @@ is_boot x = is_some (boot_of x)
 
 abbrev pub is_restart : Entry → Bool
 is_restart (Line source number Cmd.Restart) = true
+is_restart (Line source number (Cmd.Reload text config)) = false
 is_restart (Line source number (Cmd.Report entity text attributes)) = false
 is_restart (Line source number (Cmd.Gone entity)) = false
 is_restart (Line source number (Cmd.Event kind pairs)) = false
@@ -188,6 +193,7 @@ is_restart (Step worker serial branch item) = false
 
 abbrev pub restarts : Cmd → Bool
 restarts Cmd.Restart = true
+restarts (Cmd.Reload text config) = false
 restarts (Cmd.Report entity text attributes) = false
 restarts (Cmd.Gone entity) = false
 restarts (Cmd.Event kind pairs) = false
@@ -198,14 +204,36 @@ restarts (Cmd.Refused code) = false
 restarts Cmd.Lost = false
 restarts Cmd.TooLong = false
 
+-- the configuration that a Reload brings into force
+abbrev pub reloads_to : Cmd → Option Config
+reloads_to (Cmd.Reload text config) = config
+reloads_to (Cmd.Report entity text attributes) = None
+reloads_to (Cmd.Gone entity) = None
+reloads_to (Cmd.Event kind pairs) = None
+reloads_to (Cmd.Moment at) = None
+reloads_to (Cmd.Switch name on stop) = None
+reloads_to (Cmd.Trigger name skip) = None
+reloads_to Cmd.Restart = None
+reloads_to (Cmd.Refused code) = None
+reloads_to Cmd.Lost = None
+reloads_to Cmd.TooLong = None
+
+abbrev pub reload_in : Entry → Option Config
+reload_in x = option_and_then (λ l. reloads_to l.cmd) (line_of x)
+
+abbrev pub is_reload : Entry → Bool
+is_reload x = is_some (reload_in x)
+
 -- a Boot or a Restart
 abbrev pub opens_segment : Entry → Bool
 opens_segment x = is_boot x || is_restart x
 
--- what an entry does to switches: a Boot and a Restart set all, a Switch command that of a name, a Switched item those of its targets
+-- what an entry does to switches: a Boot and a Restart set all, a Reload those that come into force, a Switch command that of a name, a
+-- Switched item those of its targets
 pub data Turning : Type 0 where
   Opens : Option (List (Text × Bool)) → Turning
   Restarts : Turning
+  Reloads : Turning
   Turns : Text → Bool → Bool → Turning
   TurnsEach : List (ℕ × Bool × Bool) → Turning
   Leaves : Turning
@@ -214,6 +242,7 @@ abbrev pub turning : Entry → Turning
 turning (Boot text config stored start zone carry) = Turning.Opens stored
 turning (Again number start stored carry) = Turning.Leaves
 turning (Line source number Cmd.Restart) = Turning.Restarts
+turning (Line source number (Cmd.Reload text config)) = Turning.Reloads
 turning (Line source number (Cmd.Switch name on stop)) = Turning.Turns name on stop
 turning (Step worker serial branch (Item.Switched targets)) = Turning.TurnsEach targets
 turning (Line source number (Cmd.Report entity text attributes)) = Turning.Leaves
@@ -251,6 +280,7 @@ asked_in (Line source number (Cmd.Event kind pairs)) = Asked.Nobody
 asked_in (Line source number (Cmd.Moment at)) = Asked.Nobody
 asked_in (Line source number (Cmd.Switch name on stop)) = Asked.Nobody
 asked_in (Line source number Cmd.Restart) = Asked.Nobody
+asked_in (Line source number (Cmd.Reload text config)) = Asked.Nobody
 asked_in (Line source number (Cmd.Refused code)) = Asked.Nobody
 asked_in (Line source number Cmd.Lost) = Asked.Nobody
 asked_in (Line source number Cmd.TooLong) = Asked.Nobody

@@ -7,7 +7,7 @@ use Rattle.ha_journal.specs.declared.entry.Entry.{Entry}
 use Rattle.ha_journal.specs.declared.entry.Entry.TheVariants.{Boot, Line, Step, Again}
 use Rattle.ha_config.specs.Words.{Text}
 use Rattle.ha_sight.specs.Items.{Called, failure_in}
-use Rattle.ha_journal.specs.Journal.{Journal, names}
+use Rattle.ha_journal.specs.Journal.{Journal}
 use Rattle.ha_config.specs.ValueText.{quoted, list_text, map_text}
 use Rattle.ha_config.specs.CommandText.{one_key, cmd_text, line_code}
 use Rattle.ha_sight.specs.ItemText.{call_pairs, item_text, failure_code}
@@ -38,6 +38,7 @@ refusal_text (Cmd.Moment at) = None
 refusal_text (Cmd.Switch name on stop) = None
 refusal_text (Cmd.Trigger name skip) = None
 refusal_text Cmd.Restart = None
+refusal_text (Cmd.Reload text config) = None
 refusal_text (Cmd.Refused code) = Some (line_code code)
 refusal_text Cmd.Lost = Some (codes "lost")
 refusal_text Cmd.TooLong = Some (codes "too long")
@@ -86,6 +87,6 @@ trace_line all (Again number start stored carry) = as_line (one_key (codes "agai
 abbrev pub end_line : ℕ → Text
 end_line n = as_line (one_key (codes "end") (decimal n))
 
--- the trace of a journal, with its end line where it has ended
-abbrev pub trace_text : Journal → Bool → Text
-trace_text j ended = texts_after (λ before x. trace_line (names j) x) [] j ++ (if ended then end_line (length j) else [])
+-- the trace of a journal, with its end line where it has ended; by the entries before a line `names_at` gives the names in it
+abbrev pub trace_by : (Journal → List Text) → Journal → Bool → Text
+trace_by names_at j ended = texts_after (λ before x. trace_line (names_at before) x) [] j ++ (if ended then end_line (length j) else [])

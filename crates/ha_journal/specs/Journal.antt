@@ -1,5 +1,5 @@
 -- The journal: a list of entries, of which the first alone is a Boot.
-use Rattle.std.specs.Prelude.{ℕ, List, [], ◌∷◌, max, unwrap_or, ◌++◌, suc, ◌-◌, length, take}
+use Rattle.std.specs.Prelude.{ℕ, List, [], ◌∷◌, map, max, unwrap_or, ◌++◌, suc, ◌-◌, length, take}
 use Rattle.std.specs.Option.{option_map_or}
 use Rattle.ha_config.specs.declared.config.Automation.{Automation}
 use Rattle.ha_config.specs.declared.config.Config.{Config}
@@ -7,9 +7,9 @@ use Rattle.ha_config.specs.declared.config.Script.{Script}
 use Rattle.ha_config.specs.declared.helper.Helper.{Helper}
 use Rattle.ha_journal.specs.declared.entry.Entry.{Entry}
 use Rattle.ha_config.specs.Names.{names_of}
-use Rattle.ha_config.specs.Units.{units_of}
 use Rattle.ha_config.specs.Words.{Text, EachFrom}
 use Rattle.ha_journal.specs.Entries.{boot_of, moment_in, IsBoot, BeginsSegment}
+use Rattle.ha_journal.specs.Force.{force}
 
 abbrev pub Journal : Type 0
 Journal = List Entry
@@ -24,25 +24,32 @@ abbrev pub HasEntry : Journal → Type 0
 HasEntry [] = ⊥
 HasEntry (e ∷ es) = Unit {0}
 
--- the automations of the Boot, in order, its scripts and its helpers
+-- the configuration in force: that of the last Reload, else the Boot's, with the Boot's helpers
+abbrev pub configured : Journal → Config
+configured j = (force j).config
+
 abbrev pub automations : Journal → List Automation
-automations [] = []
-automations (e ∷ es) = option_map_or (λ b. b.config.automations) (boot_of e) []
+automations j = (configured j).automations
 
 abbrev pub scripts : Journal → List Script
-scripts [] = []
-scripts (e ∷ es) = option_map_or (λ b. b.config.scripts) (boot_of e) []
+scripts j = (configured j).scripts
 
+-- the helpers of the Boot: a Reload brings none
 abbrev pub helpers : Journal → List Helper
 helpers [] = []
 helpers (e ∷ es) = option_map_or (λ b. b.config.helpers) (boot_of e) []
 
-abbrev pub configured : Journal → Config
-configured j = record { automations = automations j; scripts = scripts j; helpers = helpers j }
+-- the automations in force, each with its number, as configured
+abbrev pub in_force : Journal → List (ℕ × Automation)
+in_force j = (force j).rules
 
--- what has runs: the automations, and behind them the scripts
+-- the scripts in force, each by its name and its number
+abbrev pub scripts_in : Journal → List (Text × ℕ)
+scripts_in j = map (λ p. (p.1.name, p.0)) (force j).scripts
+
+-- what has runs: all units that were in force at some time, each at its number
 abbrev pub units : Journal → List Automation
-units j = units_of (configured j)
+units j = (force j).units
 
 -- their names, each at its number
 abbrev pub names : Journal → List Text

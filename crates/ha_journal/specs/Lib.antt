@@ -4,6 +4,7 @@ pub mod Entries
 pub mod EntryText
 pub mod HelperSteps
 pub mod Helpers
+pub mod Force
 pub mod Holds
 pub mod Journal
 pub mod Moves

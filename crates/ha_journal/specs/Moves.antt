@@ -10,11 +10,10 @@ use Rattle.ha_journal.specs.declared.entry.Entry.{Entry}
 use Rattle.ha_journal.specs.Entries.{Reported, texts_in, is_boot, is_moment, opens_segment}
 use Rattle.ha_config.specs.Words.{Text, same_entity, longest_end, last_of, first_of_list, one_of}
 use Rattle.ha_config.specs.Numbers.{in_bounds}
-use Rattle.ha_config.specs.Units.{scripts_of}
-use Rattle.ha_journal.specs.Journal.{Journal, configured, zone_of, now}
+use Rattle.ha_journal.specs.Journal.{Journal, scripts_in, zone_of, now}
 use Rattle.ha_sight.specs.Sight.{Sight}
 use Rattle.ha_journal.specs.Helpers.{known, event_for, events_of}
-use Rattle.ha_journal.specs.States.{states, switches_of}
+use Rattle.ha_journal.specs.States.{states, switches_seen}
 use Rattle.ha_sight.specs.Templates.{rendered, says}
 use Rattle.ha_sight.specs.Conditions.{number_watched}
 use Rattle.ha_sight.specs.Rules.{starts, passed, state_moves, pair_holds}
@@ -25,8 +24,8 @@ sight j n = record {
   states = states (take n j);
   now = now (take n j);
   zone = zone_of j;
-  automations = switches_of (take n j);
-  scripts = scripts_of (configured j);
+  automations = switches_seen (take n j);
+  scripts = scripts_in (take n j);
   helpers = known (take n j);
 }
 

@@ -1,6 +1,5 @@
 -- States: what is known of each entity after a journal.
 use Rattle.std.specs.Prelude.{ℕ, suc, Bool, true, not, ◌&&◌, List, [], Option, Some, None, take, length, map, filter_map, option_map, option_and_then, codes, if◌then◌else◌}
-use Rattle.std.specs.List.{enumerate_from}
 use Rattle.std.specs.Option.{option_map_or}
 use Rattle.ha_value.specs.declared.value.EntityId.{EntityId}
 use Rattle.ha_journal.specs.declared.entry.Entry.{Entry}
@@ -9,11 +8,12 @@ use Rattle.ha_sight.specs.declared.state.StateObject.{StateObject}
 use Rattle.ha_config.specs.declared.helper.Helper.{Helper}
 use Rattle.ha_config.specs.Helpers.{helper_named}
 use Rattle.ha_config.specs.Words.{Text, Pairs, same, same_entity, longest_end, last_of, first_of_list, up_to}
-use Rattle.ha_journal.specs.Journal.{Journal, automations, helpers, now, stamped, through}
+use Rattle.ha_journal.specs.Journal.{Journal, in_force, helpers, now, stamped, through}
 use Rattle.ha_journal.specs.Helpers.{text_of}
-use Rattle.ha_journal.specs.Switches.{is_on, switched_at}
+use Rattle.ha_journal.specs.Switches.{is_on, name_switched_at, switched_at}
 use Rattle.ha_config.specs.Equal.{same_pairs}
-use Rattle.ha_config.specs.Names.{automation_named}
+use Rattle.ha_config.specs.Names.{named_among}
+use Rattle.ha_sight.specs.Sight.{Automations}
 
 -- a Report of an entity, with Now after it
 pub record Seen : Type 0 where
@@ -75,8 +75,21 @@ of_helper j h = object_of (texts_of j h)
 -- S: the states after a journal
 abbrev pub states : Journal → EntityId → Option StateObject
 states j e =
-    if same e.domain (codes "automation") then option_map (of_automation j) (automation_named (automations j) e.object)
+    if same e.domain (codes "automation") then option_map (of_automation j) (named_among (in_force j) e.object)
     else option_map_or (of_helper j) (helper_named (helpers j) e) (reported j e)
 
+-- the switches of the automations in force, by their names, as configured
 abbrev pub switches_of : Journal → List (Text × Bool)
-switches_of j = map (λ p. (p.1.name, is_on j p.0)) (enumerate_from 0 (automations j))
+switches_of j = map (λ p. (p.1.name, is_on j p.0)) (in_force j)
+
+-- the same, with the numbers
+abbrev pub switches_seen : Journal → Automations
+switches_seen j = map (λ p. (p.0, p.1.name, is_on j p.0)) (in_force j)
+
+-- a switch as a state, since that moment
+abbrev pub switch_state : ℕ → Bool → StateObject
+switch_state at on = record { text = if on then codes "on" else codes "off"; attributes = []; changed = at; updated = at }
+
+-- Now after the latest entry that changed the switch of a name, or brought the name into force
+abbrev pub since_moment : Journal → Text → ℕ
+since_moment j name = now (take (suc (name_switched_at j name)) j)

@@ -1,8 +1,9 @@
 -- A script that is one call of literal texts.
-use Rattle.std.proofs.Common.{◌≡◌, ℕ, List, [], ◌∷◌, ◌++◌, length, map, Bool, true, false, refl, sym, ap, subst, ◌∙◌, ◌&&◌, arith}
+use Rattle.std.proofs.Common.{◌≡◌, ℕ, List, [], ◌∷◌, ◌++◌, length, map, take, Bool, true, false, refl, sym, ap, subst, ◌∙◌, ◌&&◌, arith}
 use Rattle.std.specs.Prelude.{Option, Some, None, Ok, Err, ok_or, nat_le, nat_eq, not, option_and_then, option_map, is_some, codes, drop, if◌then◌else◌}
 use Rattle.std.specs.List.{list_all, slice_split, onto_first, starts_with}
 use Rattle.std.specs.Option.{option_map_or}
+use Rattle.std.proofs.Math.Seq.{take-length}
 use Rattle.std.proofs.lemmas.Bool.{eqb-true}
 use Rattle.std.proofs.lemmas.Bool.Decides.{nat_tests}
 use Rattle.ha_value.specs.declared.value.EntityId.{EntityId}
@@ -16,16 +17,14 @@ use Rattle.ha_config.specs.declared.config.ActionKind.{ActionKind}
 use Rattle.ha_config.specs.declared.config.ActionKind.TheViews.{out-ActionKind, out-Action}
 use Rattle.ha_config.specs.declared.config.ActionKind.TheFolds.{fold_out-ActionKind, fold_out-Action, map-ActionKind}
 use Rattle.ha_config.specs.declared.config.ActionKind.TheVariants.{outs-Call}
-use Rattle.ha_config.specs.declared.config.Script.{Script}
 use Rattle.ha_sight.specs.declared.item.Item.{Item}
 use Rattle.ha_sight.specs.declared.steps.Inner.{Inner}
 use Rattle.ha_model.specs.declared.record.Record.{Record}
-use Rattle.ha_config.specs.Units.{numbered_from}
 use Rattle.ha_config.specs.Words.{Text, Pairs, same, without_breaks, without_blanks, is_empty_text, parts_between_commas}
 use Rattle.ha_sight.specs.Values.{bounded}
-use Rattle.ha_sight.specs.Sight.{Sight}
+use Rattle.ha_sight.specs.Sight.{Automations, Sight}
 use Rattle.ha_sight.specs.Templates.{pieces_of, rendered}
-use Rattle.ha_journal.specs.Journal.{Journal, automations, scripts, units}
+use Rattle.ha_journal.specs.Journal.{Journal, scripts_in, units}
 use Rattle.ha_journal.specs.Moves.{sight}
 use Rattle.ha_sight.specs.Scripts.{Branch, Outcome, Status, whole, called, behind_call, ends}
 use Rattle.ha_sight.specs.Branches.{action_branches, branches_of, kind_branches}
@@ -192,7 +191,7 @@ reads-trigger : read_entity (codes "automation.trigger") ≡ Some (named (codes 
 unfolding read_entity named
 reads-trigger = refl
 
-called-outside : (all : List (Text × Bool)) (id : EntityId) → IsCallable id → (es : List EntityId) (ps : Pairs) → item_of all (entity_text id) es ps ≡ Item.Call (entity_text id) es ps
+called-outside : (all : Automations) (id : EntityId) → IsCallable id → (es : List EntityId) (ps : Pairs) → item_of all (entity_text id) es ps ≡ Item.Call (entity_text id) es ps
 unfolding named
 called-outside all id h es ps =
     let on : same (entity_text id) (codes "automation.turn_on") ≡ false = not-automation id h (codes "automation.turn_on") (named (codes "turn_on")) reads-on refl in
@@ -220,11 +219,11 @@ not-begun text name begun none = by (same text name) refl
     by false e = refl
     by true e = absurd (true-false (sym begun ∙ (λ i. starts_with nat_eq (sym (same-sound text name e) i) (codes "script.")) ∙ none))
 
--- where no script is configured, or the id is of another domain, the core does not do the call itself
-not-own : (n : ℕ) (ss : List Script) (id : EntityId) → is_entity id ≡ true → IsNoScript ss id → (es : List EntityId) (ps : Pairs) → own_item (numbered_from n ss) (entity_text id) es ps ≡ None
-not-own n [] id form h es ps = refl
-not-own n (s ∷ ss) id form h es ps =
-    let all = numbered_from n (s ∷ ss) in
+-- where no script is in force, or the id is of another domain, the core does not do the call itself
+not-own : (ss : List (Text × ℕ)) (id : EntityId) → is_entity id ≡ true → IsNoScript ss id → (es : List EntityId) (ps : Pairs) → own_item ss (entity_text id) es ps ≡ None
+not-own [] id form h es ps = refl
+not-own (s ∷ ss) id form h es ps =
+    let all : List (Text × ℕ) = s ∷ ss in
     let other : id.domain ≡ codes "script" → ⊥
     = λ e. true-false (sym (same-refl id.domain) ∙ (λ i. same id.domain (e i)) ∙ yes-no (same id.domain (codes "script")) h) in
     let plain : starts_with nat_eq (entity_text id) (codes "script.") ≡ false = no-start id.domain (codes "script") id.object (name-bytes id.domain (and_left _ _ form)) refl other in
@@ -244,12 +243,13 @@ call-is s env service target h g outer =
     ∙ called-outside s.automations service h (target ∷ []) [])
 
 -- LAW: such a script makes its call at its first place, and is done, where no helper is configured for which the service is
-pub one-call-ran : (j : Journal) (r : Record) (service target : EntityId) → IsCallable service → IsCallable target → IsNoScript (scripts j) service
+pub one-call-ran : (j : Journal) (r : Record) (service target : EntityId) → IsCallable service → IsCallable target → IsNoScript (scripts_in j) service
     → is_of_helpers (sight j (length j)) (entity_text service) ≡ false → actions_of (units j) r.automation ≡ one_call (entity_text service) (entity_text target) → spots j r.serial ≡ []
     → ran_on j r (spots j r.serial ++ (next_spot j [] ∷ [])) ≡ Some (call_made service target)
 one-call-ran j r service target h g written unhelped script fresh =
     let outer : inner_of (sight j (length j)) (entity_text service) (target ∷ []) [] ≡ Inner.Outer
-    = (λ i. option_map_or Inner.Does (not-own (length (automations j)) (scripts j) service h.form written (target ∷ []) [] i) (inner_of_helpers (sight j (length j)) (entity_text service) (target ∷ []) []))
+    = (let none = not-own (scripts_in (take (length j) j)) service h.form (subst (λ (k : Journal). IsNoScript (scripts_in k) service) (sym (take-length j)) written) (target ∷ []) [] in
+    λ i. option_map_or Inner.Does (none i) (inner_of_helpers (sight j (length j)) (entity_text service) (target ∷ []) []))
     ∙ left-if (sight j (length j)) (entity_text service) (target ∷ []) [] unhelped in
     (λ i. whole (script i) r.env (fresh i ++ (next_spot j [] ∷ [])))
     ∙ one-whole (entity_text service) (entity_text target) r.env j

@@ -14,11 +14,11 @@ use Rattle.ha_journal.specs.declared.entry.Entry.TheVariants.{Line}
 use Rattle.ha_model.specs.declared.record.Record.{Record}
 use Rattle.ha_config.specs.Words.{one_of, up_to, or_else}
 use Rattle.ha_config.specs.Numbers.{in_bounds}
-use Rattle.ha_journal.specs.Entries.{Asked, asked_in, Turning, turning, report_in, gone_in, event_in, is_boot, is_moment, is_restart, opens_segment, step_of, halted_in, changes_in}
-use Rattle.ha_config.specs.Units.{scripts_of}
-use Rattle.ha_journal.specs.Journal.{Journal, HasEntry, automations, brings, configured, zone_of, now, last_place, more, units}
+use Rattle.ha_journal.specs.Entries.{Asked, asked_in, Turning, turning, report_in, gone_in, event_in, is_boot, is_moment, is_reload, is_restart, opens_segment, reload_in, step_of, halted_in, changes_in}
+use Rattle.ha_journal.specs.Force.{force, has_unit}
+use Rattle.ha_journal.specs.Journal.{Journal, HasEntry, automations, brings, zone_of, now, last_place, more, in_force, scripts_in, units}
 use Rattle.ha_journal.specs.Switches.{is_on}
-use Rattle.ha_journal.specs.States.{states, switches_of}
+use Rattle.ha_journal.specs.States.{states, switches_seen}
 use Rattle.ha_sight.specs.Templates.{rendered, says}
 use Rattle.ha_sight.specs.Rules.{state_moves, pair_holds, passed, starts}
 use Rattle.ha_journal.specs.Moves.{latest_number, before, after, rule_moves, moves}
@@ -30,7 +30,8 @@ use Rattle.ha_journal.proofs.StateLemmas.{now-snoc}
 use Rattle.ha_journal.proofs.SinceLaws.{take-before, on-left}
 use Rattle.ha_config.proofs.ListLemmas.{get-last}
 use Rattle.ha_model.proofs.RecordGrowth.{AllBelow, below-bare}
-use Rattle.ha_journal.proofs.MoreLemmas.{automations-more, length-more, through-last, units-more}
+use Rattle.ha_journal.proofs.ForceLaws.{in-force-more, scripts-in-more, units-more}
+use Rattle.ha_journal.proofs.MoreLemmas.{length-more, through-last}
 use Rattle.ha_model.proofs.RecordLaws.{at_place, ended-more}
 use Rattle.ha_model.proofs.FoldLaws.{records-passes}
 use Rattle.ha_model.proofs.Passes.{end_here, with_ends, with_begins, bare, ended, end_now, admit_now}
@@ -52,6 +53,7 @@ record IsStill (x : Entry) : Type 0 where
   turns : turning x ≡ Turning.Leaves
   restart : is_restart x ≡ false
   opens : opens_segment x ≡ false
+  reload : reload_in x ≡ None
   asks : asked_in x ≡ Asked.Nobody
   step : step_of x ≡ None
   halts : halted_in x ≡ []
@@ -65,9 +67,10 @@ idle-still source number (Cmd.Moment at) h = absurd h
 idle-still source number (Cmd.Switch name on stop) h = absurd h
 idle-still source number (Cmd.Trigger name skip) h = absurd h
 idle-still source number Cmd.Restart h = absurd h
-idle-still source number (Cmd.Refused code) h = record { report = refl; gone = refl; event = refl; moment = refl; start = refl; turns = refl; restart = refl; opens = refl; asks = refl; step = refl; halts = refl; helps = refl }
-idle-still source number Cmd.Lost h = record { report = refl; gone = refl; event = refl; moment = refl; start = refl; turns = refl; restart = refl; opens = refl; asks = refl; step = refl; halts = refl; helps = refl }
-idle-still source number Cmd.TooLong h = record { report = refl; gone = refl; event = refl; moment = refl; start = refl; turns = refl; restart = refl; opens = refl; asks = refl; step = refl; halts = refl; helps = refl }
+idle-still source number (Cmd.Reload text config) h = absurd h
+idle-still source number (Cmd.Refused code) h = record { report = refl; gone = refl; event = refl; moment = refl; start = refl; turns = refl; restart = refl; opens = refl; reload = refl; asks = refl; step = refl; halts = refl; helps = refl }
+idle-still source number Cmd.Lost h = record { report = refl; gone = refl; event = refl; moment = refl; start = refl; turns = refl; restart = refl; opens = refl; reload = refl; asks = refl; step = refl; halts = refl; helps = refl }
+idle-still source number Cmd.TooLong h = record { report = refl; gone = refl; event = refl; moment = refl; start = refl; turns = refl; restart = refl; opens = refl; reload = refl; asks = refl; step = refl; halts = refl; helps = refl }
 
 find-none : (test : ℕ → Bool) (ns : List ℕ) → ((n : ℕ) → test n ≡ false) → find test ns ≡ None
 find-none test [] h = refl
@@ -114,14 +117,14 @@ module _ (j : Journal) (x : Entry) (h : HasEntry j) (s : IsStill x) where
   states-still : (e : EntityId) → states k e ≡ states j e
   states-still e = states-left j x e h s.report s.gone s.turns s.opens (λ a named. text-left j x (record { changes = s.helps; moment = s.moment }) a)
 
-  switches-still : switches_of k ≡ switches_of j
-  switches-still = (λ i. map (λ a. (a.1.name, on-still a.0 i)) (enumerate_from 0 (sym (automations-more j x h) i)))
+  switches-still : switches_seen k ≡ switches_seen j
+  switches-still = (λ i. map (λ p. (p.0, p.1.name, on-still p.0 i)) (sym (in-force-more j x h s.reload) i))
 
   sight-still : after k p ≡ before k p
   sight-still =
-      (let all = through-last j x in λ i. record { states = states (all i); now = now (all i); zone = zone_of k; automations = switches_of (all i); scripts = scripts_of (configured k); helpers = known (all i) })
-      ∙ (λ i. record { states = λ e. states-still e i; now = now-still i; zone = zone_of k; automations = switches-still i; scripts = scripts_of (configured k); helpers = known-left j x h s.helps i })
-      ∙ (let all = sym (take-before j x) in λ i. record { states = states (all i); now = now (all i); zone = zone_of k; automations = switches_of (all i); scripts = scripts_of (configured k); helpers = known (all i) })
+      (let all = through-last j x in λ i. record { states = states (all i); now = now (all i); zone = zone_of k; automations = switches_seen (all i); scripts = scripts_in (all i); helpers = known (all i) })
+      ∙ (λ i. record { states = λ e. states-still e i; now = now-still i; zone = zone_of k; automations = switches-still i; scripts = sym (scripts-in-more j x h s.reload) i; helpers = known-left j x h s.helps i })
+      ∙ (let all = sym (take-before j x) in λ i. record { states = states (all i); now = now (all i); zone = zone_of k; automations = switches_seen (all i); scripts = scripts_in (all i); helpers = known (all i) })
 
   -- ---- nothing moves, and nothing fires
 
@@ -189,9 +192,15 @@ module _ (j : Journal) (x : Entry) (h : HasEntry j) (s : IsStill x) where
   cause-still : (r : Record) → own_cause k r ≡ None
   cause-still r =
       (λ i. or_else (if last-is (is_step_of r.serial) j x i then option_and_then (λ o. script_end o.status) (ran k r) else None)
-      (if last-is (stops (automations k) r.automation) j x i then Some EndCause.SwitchedOff else if last-is is_restart j x i then Some EndCause.Restarted else None))
+      (if last-is (stops (units k) r.automation) j x i then Some EndCause.SwitchedOff
+      else if last-is is_restart j x i then Some EndCause.Restarted
+      else if last-is is_reload j x i && not (has_unit (force k) r.automation) then Some EndCause.Reloaded
+      else None))
       ∙ (λ i. or_else (if option_map_or (λ y. nat_eq y.serial r.serial) (s.step i) false then option_and_then (λ o. script_end o.status) (ran k r) else None)
-      (if stops_turned (automations k) r.automation (s.turns i) || list_any (nat_eq r.automation) (s.halts i) then Some EndCause.SwitchedOff else if s.restart i then Some EndCause.Restarted else None))
+      (if stops_turned (units k) r.automation (s.turns i) || list_any (nat_eq r.automation) (s.halts i) then Some EndCause.SwitchedOff
+      else if s.restart i then Some EndCause.Restarted
+      else if is_some (s.reload i) && not (has_unit (force k) r.automation) then Some EndCause.Reloaded
+      else None))
 
   -- none of these has the place of the entry
   next-earlier : (a : ℕ) (rs : Records) → AllBelow p rs → option_map_or (λ q. nat_eq q (last_place k)) (next_place a rs) false ≡ false
@@ -226,7 +235,7 @@ module _ (j : Journal) (x : Entry) (h : HasEntry j) (s : IsStill x) where
   begins-still : (back rs : Records) → with_begins k back rs ≡ with_begins j back rs
   begins-still back [] = refl
   begins-still back (r ∷ rs) =
-      (λ i. record r { begin = begin_of (mode_of (sym (units-more j x h) i) r.automation) (last_record r.automation back) r; calls = calls-still r.serial i } ∷ begins-still (r ∷ back) rs i)
+      (λ i. record r { begin = begin_of (mode_of (sym (units-more j x h s.reload) i) r.automation) (last_record r.automation back) r; calls = calls-still r.serial i } ∷ begins-still (r ∷ back) rs i)
 
   abbrev admit_these : List (ℕ × Attempt) → Records
   admit_these xs = admit_now k (end_now k (ended j)) xs

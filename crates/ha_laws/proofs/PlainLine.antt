@@ -1,17 +1,19 @@
 -- What a line that ends nobody does to the records, where all units are of mode single.
 use Rattle.std.proofs.Common.{◌≡◌, ℕ, suc, ◌+◌, ◌-◌, ◌<◌, List, [], ◌∷◌, ◌++◌, length, Bool, true, false, cond, refl, sym, ap, subst, ◌∙◌, arith, Option, length-append}
-use Rattle.std.specs.Prelude.{Some, None, is_none, option_and_then, nat_eq, nat_lt, fold, ◌&&◌, if◌then◌else◌}
+use Rattle.std.specs.Prelude.{Some, None, is_none, not, option_and_then, nat_eq, nat_lt, fold, ◌&&◌, if◌then◌else◌}
 use Rattle.std.specs.Option.{option_map_or}
 use Rattle.ha_config.specs.declared.command.Cmd.{Cmd}
 use Rattle.ha_journal.specs.declared.entry.Entry.{Entry}
 use Rattle.ha_journal.specs.declared.entry.Entry.TheVariants.{Line}
 use Rattle.ha_model.specs.declared.record.EndCause.{EndCause}
 use Rattle.ha_model.specs.declared.record.Record.{Record}
-use Rattle.ha_journal.specs.Journal.{Journal, automations, last_place, more, HasEntry, units}
+use Rattle.ha_journal.specs.Force.{force, has_unit}
+use Rattle.ha_journal.specs.Journal.{Journal, last_place, more, HasEntry, units}
 use Rattle.ha_journal.specs.Attempts.{Attempt, passing}
 use Rattle.ha_model.specs.Records.{Records, mode_of, max_of, script_end, own_cause, is_restart_mode, is_step_of, stops, next_place, lets_in, live_count, new_record, last_record, begin_of, calls_of, ran}
-use Rattle.ha_config.specs.Words.{or_else}
-use Rattle.ha_journal.specs.Entries.{is_restart}
+use Rattle.ha_config.specs.Names.{name_of}
+use Rattle.ha_config.specs.Words.{or_else, same}
+use Rattle.ha_journal.specs.Entries.{is_reload, is_restart, reload_in}
 use Rattle.ha_model.specs.RecordSteps.{records_after}
 use Rattle.ha_laws.specs.SingleMode.{AllSingle, IsPlain, started, admit_started}
 use Rattle.ha_journal.specs.Commands.{IsFair}
@@ -19,7 +21,8 @@ use Rattle.ha_model.specs.Lawful.{IsTurn, Right, Running}
 use Rattle.ha_model.proofs.RecordLaws.{at_place, ended-more}
 use Rattle.ha_model.proofs.FoldLaws.{records-more, records-passes}
 use Rattle.ha_model.proofs.Passes.{replaced, end_here, with_begins, ended, end_now, admit_now}
-use Rattle.ha_journal.proofs.MoreLemmas.{has-entry, units-more}
+use Rattle.ha_journal.proofs.ForceLaws.{units-more}
+use Rattle.ha_journal.proofs.MoreLemmas.{has-entry}
 use Rattle.ha_model.proofs.LawfulLaws.{running-more}
 use Rattle.ha_model.proofs.LastEntry.{last-is, or-none, calls-more, no-calls}
 
@@ -72,10 +75,16 @@ plain-line j source number cmd plain r =
     let k = more j x in
     let is_step = last-is (is_step_of r.serial) j x in
     (λ i. or_else (if is_step i then option_and_then (λ o. script_end o.status) (ran k r) else None)
-    (if last-is (stops (automations k) r.automation) j x i then Some EndCause.SwitchedOff else if last-is is_restart j x i then Some EndCause.Restarted else None))
+    (if last-is (stops (units k) r.automation) j x i then Some EndCause.SwitchedOff
+    else if last-is is_restart j x i then Some EndCause.Restarted
+    else if last-is is_reload j x i && not (has_unit (force k) r.automation) then Some EndCause.Reloaded
+    else None))
     ∙ by cmd plain
   where
-    by : (cmd : Cmd) → IsPlain cmd → (if stops (automations (more j (Line source number cmd))) r.automation (Line source number cmd) then Some EndCause.SwitchedOff else if is_restart (Line source number cmd) then Some EndCause.Restarted else None) ≡ None
+    by : (cmd : Cmd) → IsPlain cmd → (if stops (units (more j (Line source number cmd))) r.automation (Line source number cmd) then Some EndCause.SwitchedOff
+        else if is_restart (Line source number cmd) then Some EndCause.Restarted
+        else if is_reload (Line source number cmd) && not (has_unit (force (more j (Line source number cmd))) r.automation) then Some EndCause.Reloaded
+        else None) ≡ None
     by (Cmd.Report e t a) h = refl
     by (Cmd.Gone e) h = refl
     by (Cmd.Event kind pairs) h = refl
@@ -83,6 +92,7 @@ plain-line j source number cmd plain r =
     by (Cmd.Switch name on stop) h = absurd h
     by (Cmd.Trigger name skip) h = refl
     by Cmd.Restart h = absurd h
+    by (Cmd.Reload text config) h = absurd h
     by (Cmd.Refused code) h = refl
     by Cmd.Lost h = refl
     by Cmd.TooLong h = refl
@@ -107,16 +117,17 @@ length-filled : (k : Journal) (rs : Records) → length (filled k rs) ≡ length
 length-filled k [] = refl
 length-filled k (r ∷ rs) = (λ i. suc (length-filled k rs i))
 
-count-filled : (k : Journal) (a n : ℕ) (rs : Records) → fold (λ m r. m + cond (nat_eq r.automation a) 1 0) n (filled k rs) ≡ fold (λ m r. m + cond (nat_eq r.automation a) 1 0) n rs
-count-filled k a n [] = refl
-count-filled k a n (r ∷ rs) = count-filled k a (n + cond (nat_eq r.automation a) 1 0) rs
+-- a test of a record looks at its unit alone
+count-filled : (k : Journal) (test : ℕ → Bool) (n : ℕ) (rs : Records) → fold (λ m r. m + cond (test r.automation) 1 0) n (filled k rs) ≡ fold (λ m r. m + cond (test r.automation) 1 0) n rs
+count-filled k test n [] = refl
+count-filled k test n (r ∷ rs) = count-filled k test (n + cond (test r.automation) 1 0) rs
 
 live-filled : (k : Journal) (a n : ℕ) (rs : Records) → fold (λ m r. m + cond (nat_eq r.automation a && is_none r.end) 1 0) n (filled k rs) ≡ fold (λ m r. m + cond (nat_eq r.automation a && is_none r.end) 1 0) n rs
 live-filled k a n [] = refl
 live-filled k a n (r ∷ rs) = live-filled k a (n + cond (nat_eq r.automation a && is_none r.end) 1 0) rs
 
 new-filled : (k : Journal) (rs : Records) (x : ℕ × Attempt) → new_record k (filled k rs) x ≡ new_record k rs x
-new-filled k rs x = (λ i. record (new_record k rs x) { serial = suc (length-filled k rs i); number = suc (count-filled k x.1.automation 0 rs i) })
+new-filled k rs x = (λ i. record (new_record k rs x) { serial = suc (length-filled k rs i); number = suc (count-filled k (λ a. same (name_of (units k) a) (name_of (units k) x.1.automation)) 0 rs i) })
 
 filled-snoc : (k : Journal) (rs : Records) (r : Record) → calls_of k r.serial ≡ r.calls → filled k (rs ++ (r ∷ [])) ≡ filled k rs ++ (started r ∷ [])
 filled-snoc k [] r e = (λ i. record r { begin = Some r.place; calls = e i } ∷ [])
@@ -137,8 +148,22 @@ filled-admit k rs (x ∷ xs) h =
     by true = filled-snoc k rs (new_record k rs x) (h (suc (length rs)) (omega arith)) ∙ (λ i. filled k rs ++ (started (sym (new-filled k rs x) i) ∷ []))
     by false = refl
 
-pub single-more : (j : Journal) (x : Entry) → HasEntry j → AllSingle j → AllSingle (more j x)
-single-more j x h single a = (λ i. mode_of (sym (units-more j x h) i) a) ∙ single a
+pub single-more : (j : Journal) (x : Entry) → HasEntry j → reload_in x ≡ None → AllSingle j → AllSingle (more j x)
+single-more j x h keeps single a = (λ i. mode_of (sym (units-more j x h keeps) i) a) ∙ single a
+
+-- such a line is no reload
+plain-keeps : (source number : ℕ) (cmd : Cmd) → IsPlain cmd → reload_in (Line source number cmd) ≡ None
+plain-keeps source number (Cmd.Report e t a) h = refl
+plain-keeps source number (Cmd.Gone e) h = refl
+plain-keeps source number (Cmd.Event kind pairs) h = refl
+plain-keeps source number (Cmd.Moment m) h = refl
+plain-keeps source number (Cmd.Switch name on stop) h = absurd h
+plain-keeps source number (Cmd.Trigger name skip) h = refl
+plain-keeps source number Cmd.Restart h = absurd h
+plain-keeps source number (Cmd.Reload text config) h = absurd h
+plain-keeps source number (Cmd.Refused code) h = refl
+plain-keeps source number Cmd.Lost h = refl
+plain-keeps source number Cmd.TooLong h = refl
 
 -- LAW: such a line adds the records of its attempts that are admitted, which begin at once
 pub plain-records : (j : Journal) (rs : Records) (source number : ℕ) (cmd : Cmd) → Right j rs → AllSingle j → IsPlain cmd
@@ -147,7 +172,7 @@ plain-records j rs source number cmd right single plain =
     let x : Entry = Line source number cmd in
     let k = more j x in
     let xs = passing k in
-    let single' : AllSingle k = single-more j x (has-entry j right.journal) single in
+    let single' : AllSingle k = single-more j x (has-entry j right.journal) (plain-keeps source number cmd plain) single in
     let same : rs ≡ filled j (ended j) = right.records_are ∙ records-passes j ∙ single-begins j single [] (ended j) in
     let count : length rs ≡ length (ended j) = ap length same ∙ length-filled j (ended j) in
     let quiet : (s : ℕ) → length (ended j) < s → calls_of k s ≡ 0 = λ s lt. omega (arith, calls-more j x s, no-calls j rs right s (omega (arith, count, lt))) in

@@ -1,17 +1,18 @@
 -- What a Step does to the records, where all units are of mode single and no attempt passes.
 use Rattle.std.proofs.Common.{◌≡◌, ℕ, zero, suc, ◌+◌, ◌-◌, ◌%◌, ◌<◌, ◌≤◌, List, [], ◌∷◌, length, set, Bool, true, false, cond, refl, sym, subst, ◌∙◌, rules, arith, Option}
-use Rattle.std.specs.Prelude.{Some, None, option_and_then, nat_eq, slice_get, ◌&&◌, if◌then◌else◌}
+use Rattle.std.specs.Prelude.{Some, None, not, option_and_then, nat_eq, slice_get, ◌&&◌, if◌then◌else◌}
 use Rattle.ha_sight.specs.declared.item.Item.{Item}
 use Rattle.ha_journal.specs.declared.entry.Entry.{Entry}
 use Rattle.ha_journal.specs.declared.entry.Entry.TheVariants.{Step}
 use Rattle.ha_model.specs.declared.record.EndCause.{EndCause}
 use Rattle.ha_model.specs.declared.record.Record.{Record}
-use Rattle.ha_journal.specs.Journal.{Journal, automations, last_place, more, HasEntry}
+use Rattle.ha_journal.specs.Force.{force, has_unit}
+use Rattle.ha_journal.specs.Journal.{Journal, last_place, more, HasEntry, units}
 use Rattle.ha_sight.specs.Scripts.{Branch}
 use Rattle.ha_model.specs.Records.{Records, own_cause, script_end, ran, is_step_of, stops, next_place, calls_of}
 use Rattle.ha_journal.specs.Attempts.{passing}
 use Rattle.ha_config.specs.Words.{or_else}
-use Rattle.ha_journal.specs.Entries.{is_restart}
+use Rattle.ha_journal.specs.Entries.{is_reload, is_restart}
 use Rattle.ha_sight.specs.Items.{is_call}
 use Rattle.ha_model.specs.RecordSteps.{records_after}
 use Rattle.ha_laws.specs.SingleMode.{AllSingle, EndsNone, with_step, step_all}
@@ -44,12 +45,18 @@ module _ (j : Journal) (h : HasEntry j) (single : AllSingle j) (w s : ℕ) (bran
   cause-of : (r : Record) → own_cause k r ≡ (if nat_eq s r.serial then next_end j r branch else None)
   cause-of r =
       (λ i. or_else (if last-is (is_step_of r.serial) j x i then option_and_then (λ o. script_end o.status) (ran k r) else None)
-      (if last-is (stops (automations k) r.automation) j x i then Some EndCause.SwitchedOff else if last-is is_restart j x i then Some EndCause.Restarted else None))
+      (if last-is (stops (units k) r.automation) j x i then Some EndCause.SwitchedOff
+      else if last-is is_restart j x i then Some EndCause.Restarted
+      else if last-is is_reload j x i && not (has_unit (force k) r.automation) then Some EndCause.Reloaded
+      else None))
       ∙ (λ i. or_else (if nat_eq s r.serial then option_and_then (λ o. script_end o.status) (ran k r) else None) (quiet item plain i))
       ∙ or-none (if nat_eq s r.serial then option_and_then (λ o. script_end o.status) (ran k r) else None)
       ∙ by (nat_eq s r.serial) refl
     where
-      quiet : (item : Item) → EndsNone item → (if stops (automations k) r.automation (Step w s branch item) then Some EndCause.SwitchedOff else if is_restart (Step w s branch item) then Some EndCause.Restarted else None) ≡ None
+      quiet : (item : Item) → EndsNone item → (if stops (units k) r.automation (Step w s branch item) then Some EndCause.SwitchedOff
+          else if is_restart (Step w s branch item) then Some EndCause.Restarted
+          else if is_reload (Step w s branch item) && not (has_unit (force k) r.automation) then Some EndCause.Reloaded
+          else None) ≡ None
       quiet Item.Nothing p = refl
       quiet (Item.Call service target fields) p = refl
       quiet (Item.Fired kind pairs) p = refl
@@ -71,7 +78,7 @@ module _ (j : Journal) (h : HasEntry j) (single : AllSingle j) (w s : ℕ) (bran
       let place : last_place k ≡ length j = omega (arith, length-more j x) in
       let own : own_end k r ≡ own_cause k r = (let e = is-below r.place (last_place k) (omega arith) in λ i. if e i then own_cause k r else None) in
       let cause : or_else (own_end k r) (replaced k r next) ≡ (if nat_eq s r.serial then next_end j r branch else None)
-      = (λ i. or_else (own i) (single-replaced k (single-more j x h single) r next i)) ∙ or-none (own_cause k r) ∙ cause-of r in
+      = (λ i. or_else (own i) (single-replaced k (single-more j x h refl single) r next i)) ∙ or-none (own_cause k r) ∙ cause-of r in
       (λ i. record r { begin = Some r.place; end = or_else r.end (at_place (place i) (cause i)); calls = calls-more j x r.serial i })
       ∙ by (nat_eq s r.serial)
     where
@@ -97,7 +104,7 @@ step-records j rs w s branch item right single plain passes =
     (λ i. records_after j (right.records_are i) x)
     ∙ sym (records-more j x)
     ∙ records-passes k
-    ∙ single-begins k (single-more j x h single) [] (ended k)
+    ∙ single-begins k (single-more j x h refl single) [] (ended k)
     ∙ (λ i. filled k (ended-more j x i))
     ∙ (λ i. filled k (admit_now k (end_now k (ended j)) (sym passes i)))
     ∙ all-steps j h single w s branch item plain (ended j) (below-ends j (length j) (bare j) (below-bare j (length j) (length j) (omega arith) (omega arith)))

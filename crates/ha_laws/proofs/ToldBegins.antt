@@ -19,11 +19,11 @@ use Rattle.ha_config.proofs.EqualLemmas.{and_left}
 use Rattle.ha_model.proofs.RecordLaws.{at_place, last-through}
 use Rattle.ha_model.proofs.RecordGrowth.{AllBelow, is-at-most}
 use Rattle.ha_config.proofs.ListLemmas.{true-false, none-some, some-same}
-use Rattle.ha_model.proofs.RunLaws.{is-below, units-through}
+use Rattle.ha_model.proofs.RunLaws.{is-below}
 use Rattle.ha_model.proofs.StepLaws.{serial-at}
 use Rattle.ha_model.proofs.FoldLaws.{records-passes}
 use Rattle.ha_model.proofs.Passes.{own_end, replaced, end_here, end_below, with_ends, admitted, bare_below, bare, ended, with_begins}
-use Rattle.ha_laws.proofs.ToldAdmitted.{ended-by, end-any-next, records-admitted}
+use Rattle.ha_laws.proofs.ToldAdmitted.{ended-by, end-any-next, records-admitted, restart-front}
 use Rattle.ha_laws.proofs.ToldSteps.{step-runs, begins-late}
 
 pub below : (a b : ℕ) → nat_lt a b ≡ true → a < b
@@ -88,8 +88,8 @@ ends-told j r e b c next late (suc p) le =
     place : last_place k ≡ p
     place = last-through j p le
 
-    replaced_told : replaced k r next ≡ (if is_restart_mode (mode_of (units j) r.automation) && option_map_or (λ q. nat_eq q p) next false then Some EndCause.Replaced else None)
-    replaced_told = (λ i. if is_restart_mode (mode_of (units-through j p i) r.automation) && option_map_or (λ q. nat_eq q (place i)) next false then Some EndCause.Replaced else None)
+    replaced_told : replaced k r next ≡ (if is_restart_mode (mode_of (units k) r.automation) && option_map_or (λ q. nat_eq q p) next false then Some EndCause.Replaced else None)
+    replaced_told = (λ i. if is_restart_mode (mode_of (units k) r.automation) && option_map_or (λ q. nat_eq q (place i)) next false then Some EndCause.Replaced else None)
 
     own : (t : Bool) → nat_lt r.place p ≡ t → (s : Bool) → last_is (is_step_of r.serial) k ≡ s
         → (if t then or_else (if s then option_and_then (λ o. script_end o.status) (ran k r) else None) (outer_cause k r) else None)
@@ -105,7 +105,7 @@ ends-told j r e b c next late (suc p) le =
     here =
         (λ i. option_map {T = EndCause} {U = ℕ × EndCause} (λ x. (place i, x)) (or_else (own_told i) (replaced_told i)))
         ∙ (λ i. option_map {T = EndCause} {U = ℕ × EndCause} (λ x. (p, x)) (or-assoc (ended_by_script k r) (if nat_lt r.place p then outer_cause k r else None)
-        (if is_restart_mode (mode_of (units j) r.automation) && option_map_or (λ q. nat_eq q p) next false then Some EndCause.Replaced else None) i))
+        (if is_restart_mode (mode_of (units k) r.automation) && option_map_or (λ q. nat_eq q p) next false then Some EndCause.Replaced else None) i))
 
 -- in an automation that is not of mode restart, an end at q is the entry's own
 record OwnEnd (j : Journal) (r : Record) (n q : ℕ) (c : EndCause) : Type 0 where
@@ -119,7 +119,7 @@ own-of j r (suc p) le m q c h = by (end_below j r None p) refl (own_end (through
     plain : or_else (end_below j r None p) (at_place p (own_end (through j p) r)) ≡ end_below j r None (suc p)
     plain =
         let none : replaced (through j p) r None ≡ None
-        = (λ i. if ((λ i. is_restart_mode (mode_of (units-through j p i) r.automation)) ∙ m) i && false then Some EndCause.Replaced else None) in
+        = (λ i. if restart-front j p r.automation m i && false then Some EndCause.Replaced else None) in
         let or_none : or_else (own_end (through j p) r) None ≡ own_end (through j p) r = both (own_end (through j p) r) in
         (λ i. or_else (end_below j r None p) (at_place (sym (last-through j p le) i) (sym or_none i)))
         ∙ (λ i. or_else (end_below j r None p) (at_place (last_place (through j p)) (or_else (own_end (through j p) r) (sym none i))))
@@ -141,7 +141,7 @@ owns-end : (j : Journal) (r : Record) (q : ℕ) → q < length j → is_restart_
     → option_map_or (λ e. nat_le e.0 q) (end_below j r next (length j)) false ≡ true
 owns-end j r q lt m next c h =
     (λ i. option_map_or (λ e. nat_le e.0 q) (end-any-next j r next (length j) m i) false)
-    ∙ ended-by j r q (length j) lt (omega arith)
+    ∙ ended-by j r None q (length j) lt (omega arith)
     ∙ (λ i. is_some (or_else (end_below j r None q) (at_place (last_place (through j q)) (or_else (h i) (replaced (through j q) r None)))))
     ∙ there (end_below j r None q)
   where

@@ -7,12 +7,13 @@ use Rattle.std.proofs.lemmas.Bool.Decides.{leb_tells}
 use Rattle.ha_config.specs.declared.config.Mode.{Mode}
 use Rattle.ha_model.specs.declared.record.EndCause.{EndCause}
 use Rattle.ha_model.specs.declared.record.Record.{Record}
-use Rattle.ha_config.specs.Words.{EachAfter, or_else}
+use Rattle.ha_config.specs.Names.{name_of}
+use Rattle.ha_config.specs.Words.{EachAfter, or_else, same}
 use Rattle.ha_journal.specs.Journal.{Journal, through, units}
 use Rattle.ha_journal.specs.Attempts.{Attempt, passing}
 use Rattle.ha_model.specs.Records.{Records, mode_of, is_restart_mode, last_is, is_step_of, next_place, records_of, last_record, begin_of, calls_of}
 use Rattle.ha_model.specs.Lawful.{IsRightEntry}
-use Rattle.ha_laws.specs.Told.{Tried, tried_at, passing_below, has_ended_by, is_unended, IsRecordOf, HaveRecords, last_among, begins_behind, told_begin, AreTold, ByTheRules}
+use Rattle.ha_laws.specs.Told.{Tried, tried_at, passing_below, has_ended_by, is_unended, IsRecordOf, HaveRecords, units_then, last_among, begins_behind, told_begin, AreTold, ByTheRules}
 use Rattle.ha_config.proofs.EqualLemmas.{and_left}
 use Rattle.ha_model.proofs.RecordLaws.{last-through}
 use Rattle.ha_model.proofs.FoldLaws.{records-passes}
@@ -28,7 +29,7 @@ abbrev AreNumbered : Records → Records → Type 0
 AreNumbered before [] = Unit {0}
 AreNumbered before (r ∷ rs) = (r.serial ≡ suc (length before)) × AreNumbered (before ++ (r ∷ [])) rs
 
-numbered : (j : Journal) (before : Records) (ts : List Tried) (rs : Records) → HaveRecords (units j) before ts rs → AreNumbered before rs
+numbered : (j : Journal) (before : Records) (ts : List Tried) (rs : Records) → HaveRecords j before ts rs → AreNumbered before rs
 numbered j before [] [] h = tt
 numbered j before [] (r ∷ rs) h = absurd h
 numbered j before (t ∷ ts) [] h = tt
@@ -43,7 +44,7 @@ sorted-less : (m n : ℕ) → m ≤ n → (ts : List Tried) → SortedTs n ts �
 sorted-less m n le [] h = tt
 sorted-less m n le (t ∷ ts) h = (omega (arith, h.0), h.1)
 
-sorted-records : (j : Journal) (m : ℕ) (before : Records) (ts : List Tried) (rs : Records) → SortedTs m ts → HaveRecords (units j) before ts rs → SortedFrom m rs
+sorted-records : (j : Journal) (m : ℕ) (before : Records) (ts : List Tried) (rs : Records) → SortedTs m ts → HaveRecords j before ts rs → SortedFrom m rs
 sorted-records j m before [] [] s h = tt
 sorted-records j m before [] (r ∷ rs) s h = absurd h
 sorted-records j m before (t ∷ ts) [] s h = tt
@@ -153,7 +154,7 @@ stripped-snoc (x ∷ xs) r = (λ i. strip x ∷ stripped-snoc xs r i)
 
 -- each has its end by its own entries, where it is not of mode restart
 abbrev HasEnds : Journal → Record → Type 0
-HasEnds j r = (p : ℕ) → p < length j → is_restart_mode (mode_of (units j) r.automation) ≡ false → has_ended_by p r ≡ is_some (end_below j (strip r) None (suc p))
+HasEnds j r = (p : ℕ) → p < length j → is_restart_mode (mode_of (units (through j p)) r.automation) ≡ false → has_ended_by p r ≡ is_some (end_below j (strip r) None (suc p))
 
 abbrev AllEnds : Journal → Records → Type 0
 AllEnds j [] = Unit {0}
@@ -172,21 +173,22 @@ length-stripped : (rs : Records) → length (stripped rs) ≡ length rs
 length-stripped [] = refl
 length-stripped (r ∷ rs) = (λ i. suc (length-stripped rs i))
 
-count-stripped : (a : ℕ) (rs : Records) → count_by (λ x. nat_eq x.automation a) (stripped rs) ≡ count_by (λ x. nat_eq x.automation a) rs
-count-stripped a rs = go 0 rs
+count-stripped : (test : ℕ → Bool) (rs : Records) → count_by (λ x. test x.automation) (stripped rs) ≡ count_by (λ x. test x.automation) rs
+count-stripped test rs = go 0 rs
   where
-    go : (m : ℕ) (rs : Records) → fold (λ n r. n + cond (nat_eq r.automation a) 1 0) m (stripped rs) ≡ fold (λ n r. n + cond (nat_eq r.automation a) 1 0) m rs
+    go : (m : ℕ) (rs : Records) → fold (λ n r. n + cond (test r.automation) 1 0) m (stripped rs) ≡ fold (λ n r. n + cond (test r.automation) 1 0) m rs
     go m [] = refl
-    go m (r ∷ rs) = go (m + cond (nat_eq r.automation a) 1 0) rs
+    go m (r ∷ rs) = go (m + cond (test r.automation) 1 0) rs
 
-strip-new : (j : Journal) (t : Tried) → t.place < length j → (before : Records) (r : Record) → IsRecordOf before t r → strip r ≡ new_of j (stripped before) t
+strip-new : (j : Journal) (t : Tried) → t.place < length j → (before : Records) (r : Record) → IsRecordOf (units_then j t) before t r → strip r ≡ new_of j (stripped before) t
 strip-new j t lt before r h =
     let s : r.serial ≡ suc (length (stripped before)) = h.serial ∙ (λ i. suc (sym (length-stripped before) i)) in
-    let n : r.number ≡ suc (count_by (λ x. nat_eq x.automation t.attempt.automation) (stripped before)) = h.number ∙ (λ i. suc (sym (count-stripped t.attempt.automation before) i)) in
+    let test : ℕ → Bool = λ a. same (name_of (units_then j t) a) (name_of (units_then j t) t.attempt.automation) in
+    let n : r.number ≡ suc (count_by (λ x. test x.automation) (stripped before)) = h.number ∙ (λ i. suc (sym (count-stripped test before) i)) in
     let p = h.place ∙ sym (last-through j t.place lt) in
     (λ i. record { serial = s i; automation = h.automation i; number = n i; place = p i; order = h.order i; env = h.env i; begin = None; end = None; calls = 0 })
 
-admitted-only : (j : Journal) (ts : List Tried) → AllBelowPlace (length j) ts → (before rs : Records) → AllEnds j before → AllEnds j rs → HaveRecords (units j) before ts rs
+admitted-only : (j : Journal) (ts : List Tried) → AllBelowPlace (length j) ts → (before rs : Records) → AllEnds j before → AllEnds j rs → HaveRecords j before ts rs
     → stripped rs ≡ admit_each j (stripped before) ts
 admitted-only j [] low before [] b h g = refl
 admitted-only j [] low before (r ∷ rs) b h g = absurd g

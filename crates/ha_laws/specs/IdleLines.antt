@@ -16,6 +16,7 @@ IsIdle (Cmd.Moment at) = ⊥
 IsIdle (Cmd.Switch name on stop) = ⊥
 IsIdle (Cmd.Trigger name skip) = ⊥
 IsIdle Cmd.Restart = ⊥
+IsIdle (Cmd.Reload text config) = ⊥
 IsIdle (Cmd.Refused code) = Unit {0}
 IsIdle Cmd.Lost = Unit {0}
 IsIdle Cmd.TooLong = Unit {0}

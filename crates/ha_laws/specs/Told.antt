@@ -8,11 +8,12 @@ use Rattle.ha_config.specs.declared.config.Mode.{Mode}
 use Rattle.ha_config.specs.declared.config.Automation.{Automation}
 use Rattle.ha_model.specs.declared.record.EndCause.{EndCause}
 use Rattle.ha_model.specs.declared.record.Record.{Record}
-use Rattle.ha_journal.specs.Journal.{Journal, automations, through, units}
+use Rattle.ha_config.specs.Names.{name_of}
+use Rattle.ha_journal.specs.Journal.{Journal, through, units}
 use Rattle.ha_journal.specs.Attempts.{Attempt, passing}
-use Rattle.ha_model.specs.Records.{Records, mode_of, max_of, lets_in, ended_by_script, stops, last_is, is_restart_mode, next_place, begin_of, calls_of}
+use Rattle.ha_model.specs.Records.{Records, mode_of, max_of, lets_in, ended_by_script, stops, is_dropped, last_is, is_restart_mode, next_place, begin_of, calls_of}
 use Rattle.ha_journal.specs.Entries.{is_restart}
-use Rattle.ha_config.specs.Words.{or_else}
+use Rattle.ha_config.specs.Words.{or_else, same}
 
 -- ---- which attempts have a record
 
@@ -41,45 +42,50 @@ is_unended a p r = nat_eq r.automation a && not (has_ended_by p r)
 abbrev pub unended_count : ℕ → ℕ → Records → ℕ
 unended_count a p rs = count_by (is_unended a p) rs
 
--- an attempt is admitted by the mode of its automation and by how many earlier records of it have no end up to its place
+-- an attempt is admitted by the mode of its unit and by how many earlier records of it have no end up to its place
 abbrev pub is_admitted : List Automation → Records → Tried → Bool
 is_admitted all before t =
     lets_in (mode_of all t.attempt.automation) (max_of all t.attempt.automation) (unended_count t.attempt.automation t.place before)
 
--- the record of an attempt, behind those before it
-pub record IsRecordOf (before : Records) (t : Tried) (r : Record) : Type 0 where
+-- the record of an attempt, behind those before it; runs are numbered by the names of their units
+pub record IsRecordOf (all : List Automation) (before : Records) (t : Tried) (r : Record) : Type 0 where
   pub serial : r.serial ≡ suc (length before)
   pub automation : r.automation ≡ t.attempt.automation
-  pub number : r.number ≡ suc (count_by (λ x. nat_eq x.automation t.attempt.automation) before)
+  pub number : r.number ≡ suc (count_by (λ x. same (name_of all x.automation) (name_of all t.attempt.automation)) before)
   pub place : r.place ≡ t.place
   pub order : r.order ≡ t.order
   pub env : r.env ≡ t.attempt.env
 
+-- the units that were in force up to the place of an attempt
+abbrev pub units_then : Journal → Tried → List Automation
+units_then j t = units (through j t.place)
+
 -- exactly the admitted ones of these attempts have these records, in order, behind those before them
-abbrev pub HaveRecords : List Automation → Records → List Tried → Records → Type 0
-HaveRecords all before [] [] = Unit {0}
-HaveRecords all before [] (r ∷ rs) = ⊥
-HaveRecords all before (t ∷ ts) [] = (is_admitted all before t ≡ false) × HaveRecords all before ts []
-HaveRecords all before (t ∷ ts) (r ∷ rs) =
-    ((is_admitted all before t ≡ true) × IsRecordOf before t r × HaveRecords all (before ++ (r ∷ [])) ts rs)
-    ⊎ ((is_admitted all before t ≡ false) × HaveRecords all before ts (r ∷ rs))
+abbrev pub HaveRecords : Journal → Records → List Tried → Records → Type 0
+HaveRecords j before [] [] = Unit {0}
+HaveRecords j before [] (r ∷ rs) = ⊥
+HaveRecords j before (t ∷ ts) [] = (is_admitted (units_then j t) before t ≡ false) × HaveRecords j before ts []
+HaveRecords j before (t ∷ ts) (r ∷ rs) =
+    ((is_admitted (units_then j t) before t ≡ true) × IsRecordOf (units_then j t) before t r × HaveRecords j (before ++ (r ∷ [])) ts rs)
+    ⊎ ((is_admitted (units_then j t) before t ≡ false) × HaveRecords j before ts (r ∷ rs))
 
 -- ---- how a record ends
 
 -- after its own place, an entry ends it that turns its automation off and stops its runs, or ends the runs of its script; and so does a
--- Restart
+-- Restart, and a Reload behind which its unit is not in force
 abbrev pub outer_cause : Journal → Record → Option EndCause
 outer_cause k r =
-    if last_is (stops (automations k) r.automation) k then Some EndCause.SwitchedOff
+    if last_is (stops (units k) r.automation) k then Some EndCause.SwitchedOff
     else if last_is is_restart k then Some EndCause.Restarted
+    else if is_dropped k r.automation then Some EndCause.Reloaded
     else None
 
--- why it ends at place p, if it does: its Step there ends its script; or one of those two does; or, in mode restart, the next record of its
+-- why it ends at place p, if it does: its Step there ends its script; or one of those three does; or, in mode restart, the next record of its
 -- automation has this place
 abbrev pub cause_at : Journal → Record → Option ℕ → ℕ → Option EndCause
 cause_at j r next p = or_else (ended_by_script (through j p) r) (or_else
     (if nat_lt r.place p then outer_cause (through j p) r else None)
-    (if is_restart_mode (mode_of (units j) r.automation) && option_map_or (λ q. nat_eq q p) next false
+    (if is_restart_mode (mode_of (units (through j p)) r.automation) && option_map_or (λ q. nat_eq q p) next false
     then Some EndCause.Replaced else None))
 
 -- the first place below n at which there is something
@@ -124,7 +130,7 @@ AreTold j before (r ∷ rs) = IsTold j before r rs × AreTold j (before ++ (r �
 
 -- the records of a journal, by the rules
 pub record ByTheRules (j : Journal) (rs : Records) : Type 0 where
-  pub admitted : HaveRecords (units j) [] (passing_below j (length j)) rs
+  pub admitted : HaveRecords j [] (passing_below j (length j)) rs
   pub told : AreTold j [] rs
 
 -- each begin is also told by the record of its automation just before it alone: in mode queued it is the same to ask whether an earlier

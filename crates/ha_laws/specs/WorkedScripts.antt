@@ -27,7 +27,7 @@ use Rattle.ha_laws.specs.WorkedHall.{text_template, show, act, call}
 
 -- two automations, of which the second is off, and no states
 abbrev pub seen : ℕ → Sight
-seen n = record { states = λ e. None; now = n; zone = codes "UTC"; automations = (codes "a", true) ∷ (codes "b", false) ∷ []; scripts = []; helpers = [] }
+seen n = record { states = λ e. None; now = n; zone = codes "UTC"; automations = (0, codes "a", true) ∷ (1, codes "b", false) ∷ []; scripts = []; helpers = [] }
 
 abbrev pub at : ℕ → List ℕ → Spot
 at n b = record { place = n; branch = b; sight = seen n; wait_end = λ ask p. None }

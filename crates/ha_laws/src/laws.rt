@@ -12,9 +12,10 @@ ghost use Rattle.ha_journal.specs.declared.entry.Entry.TheVariants.{Line};
 ghost use Rattle.ha_sight.specs.declared.item.Item.{Item};
 ghost use Rattle.ha_model.specs.declared.record.Record.{Record};
 ghost use Rattle.ha_config.specs.Words.{Text, Pairs, EachAfter, same_entity};
-ghost use Rattle.ha_journal.specs.Entries.{report_in, gone_in, is_restart};
-ghost use Rattle.ha_journal.specs.Journal.{Journal, HasEntry, automations, brings, now as now_lem, more, scripts as configured_scripts, units};
-ghost use Rattle.ha_journal.specs.Switches.{is_on, on_after};
+ghost use Rattle.ha_journal.specs.Entries.{report_in, gone_in, is_restart, reload_in};
+ghost use Rattle.ha_journal.specs.Force.{force};
+ghost use Rattle.ha_journal.specs.Journal.{Journal, HasEntry, brings, now as now_lem, more, scripts_in, units};
+ghost use Rattle.ha_journal.specs.Switches.{is_on, on_after, switches_after};
 ghost use Rattle.ha_journal.specs.States.{reported};
 ghost use Rattle.ha_sight.specs.StateStep.{next_object};
 ghost use Rattle.ha_sight.specs.Scripts.{Status, whole};
@@ -60,9 +61,11 @@ pub fn states_of_one_more()
         → reported (more j x) e ≡ reported j e }
 {}
 
-/// A switch after one more entry.
+/// A switch after one more entry; `kept` says it of an entry that is no reload.
 pub fn switches_of_one_more()
-    ensures { (j : Journal) (x : Entry) (a : ℕ) → HasEntry j → is_on (more j x) a ≡ on_after (automations j) a (is_on j a) x }
+    ensures told { (j : Journal) (x : Entry) (a : ℕ) → HasEntry j → is_on (more j x) a ≡ switches_after (force j) (is_on j) x a }
+    ensures kept { (j : Journal) (x : Entry) (a : ℕ) → HasEntry j → reload_in x ≡ None
+        → is_on (more j x) a ≡ on_after (units j) a (is_on j a) x }
 {}
 
 /// The records after one more entry: first the ends that it gives, then its attempts in turn,
@@ -130,11 +133,11 @@ pub fn calls_of_grown_records()
 {}
 
 /// A script that is one call of literal texts, of a service and for a target outside `automation`, has the outer branch
-/// alone. At its first place it makes that call, and is done; where scripts are configured, the service is outside `script` too,
+/// alone. At its first place it makes that call, and is done; where scripts are in force, the service is outside `script` too,
 /// and no helper is configured for which it is.
 pub fn one_call_is_made()
     ensures branch { (service target : Text) → branches_of (one_call service target) ≡ [] ∷ [] }
-    ensures call { (j : Journal) (r : Record) (service target : EntityId) → IsCallable service → IsCallable target → IsNoScript (configured_scripts j) service
+    ensures call { (j : Journal) (r : Record) (service target : EntityId) → IsCallable service → IsCallable target → IsNoScript (scripts_in j) service
         → is_of_helpers (sight j (length j)) (entity_text service) ≡ false → actions_of (units j) r.automation ≡ one_call (entity_text service) (entity_text target) → spots j r.serial ≡ []
         → ran_on j r (spots j r.serial ++ (next_spot j [] ∷ [])) ≡ Some (call_made service target) }
 {}

@@ -1,12 +1,12 @@
 -- The texts that are written of a journal with its records: its calls, and the counts of `rehearse`. `EntryText` has the others.
-use Rattle.std.specs.Prelude.{suc, false, [], ◌++◌, length, count_by, is_some, codes}
+use Rattle.std.specs.Prelude.{suc, false, List, [], ◌++◌, length, count_by, is_some, codes}
 use Rattle.std.specs.Option.{option_map_or}
 use Rattle.ha_journal.specs.declared.entry.Entry.{Entry}
 use Rattle.ha_config.specs.Words.{Text}
 use Rattle.ha_sight.specs.Items.{Called, call_in, is_call}
 use Rattle.ha_journal.specs.Entries.{Stepped, step_of, line_of}
-use Rattle.ha_journal.specs.Journal.{Journal, units}
-use Rattle.ha_config.specs.Names.{name_of}
+use Rattle.ha_journal.specs.Journal.{Journal, names}
+use Rattle.ha_config.specs.Names.{name_in}
 use Rattle.ha_model.specs.Records.{Records, calls_of}
 use Rattle.ha_model.specs.Lawful.{record_of}
 use Rattle.ha_journal.specs.EntryText.{call_line, texts_after}
@@ -14,17 +14,21 @@ use Rattle.ha_config.specs.CheckText.{count_line}
 
 -- ---- calls
 
--- the line of a Step that calls; the calls of its run count from 1
-abbrev pub call_of_step : Records → Journal → Stepped → Called → Text
-call_of_step records before s call =
+-- the line of a Step that calls, where units have these names by their numbers; the calls of its run count from 1
+abbrev pub call_of_step : List Text → Records → Journal → Stepped → Called → Text
+call_of_step all records before s call =
     option_map_or
-    (λ r. call_line (name_of (units before) r.automation) r.number (suc (calls_of before s.serial)) call)
+    (λ r. call_line (name_in all r.automation) r.number (suc (calls_of before s.serial)) call)
     (record_of records s.serial) []
 
-abbrev pub call_text_of : Records → Journal → Entry → Text
-call_text_of records before x = option_map_or (λ s. option_map_or (call_of_step records before s) (call_in s.item) []) (step_of x) []
+abbrev pub call_line_of : List Text → Records → Journal → Entry → Text
+call_line_of all records before x = option_map_or (λ s. option_map_or (call_of_step all records before s) (call_in s.item) []) (step_of x) []
 
--- the call lines of a journal
+-- that of one segment
+abbrev pub call_text_of : Records → Journal → Entry → Text
+call_text_of records before x = call_line_of (names before) records before x
+
+-- the call lines of one segment
 abbrev pub call_text : Journal → Records → Text
 call_text j records = texts_after (call_text_of records) [] j
 

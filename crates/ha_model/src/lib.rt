@@ -2,6 +2,7 @@
 #![tactic(auto)]
 
 mod copies;
+mod prepare;
 mod record;
 
 pub use ha_clock::{Moment, Span};
@@ -19,4 +20,5 @@ pub use ha_sight::{
 pub use ha_value::{
     Boxed, EntityId, Many, Num, Plain, Value, Word, copy_pairs, push_text, push_value,
 };
+pub use prepare::Prepare;
 pub use record::{EndCause, Record};

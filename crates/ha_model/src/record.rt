@@ -17,6 +17,8 @@ pub enum EndCause {
     SwitchedOff,
     /// Everything was restarted.
     Restarted,
+    /// A reload brought another configuration, and its unit was not in it as it was.
+    Reloaded,
 }
 
 /// An admitted attempt, and the run that it makes.

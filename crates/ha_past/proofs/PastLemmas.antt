@@ -1,5 +1,5 @@
 -- What is seen, moves and is watched at the places of a journal stays as it is with one more entry.
-use Rattle.std.proofs.Common.{◌≡◌, ℕ, suc, ◌+◌, ◌<◌, ◌≤◌, [], ◌∷◌, length, Bool, false, refl, sym, ◌∙◌, arith}
+use Rattle.std.proofs.Common.{◌≡◌, ℕ, suc, ◌+◌, ◌<◌, ◌≤◌, [], ◌∷◌, length, Bool, false, refl, ◌∙◌, arith}
 use Rattle.std.specs.Prelude.{Option, is_some, is_none, slice_get, option_map, nat_le, ◌&&◌, if◌then◌else◌}
 use Rattle.std.specs.Option.{option_map_or}
 use Rattle.ha_value.specs.declared.value.EntityId.{EntityId}
@@ -7,17 +7,16 @@ use Rattle.ha_config.specs.declared.config.Trigger.{Trigger}
 use Rattle.ha_config.specs.declared.config.TriggerRule.{TriggerRule}
 use Rattle.ha_journal.specs.declared.entry.Entry.{Entry}
 use Rattle.ha_journal.specs.Entries.{is_boot, is_moment, opens_segment}
-use Rattle.ha_config.specs.Units.{scripts_of}
-use Rattle.ha_journal.specs.Journal.{Journal, HasEntry, zone_of, now, more}
+use Rattle.ha_journal.specs.Journal.{Journal, HasEntry, scripts_in, zone_of, now, more}
 use Rattle.ha_journal.specs.Helpers.{known, event_for, events_at, events_of}
-use Rattle.ha_journal.specs.States.{states, switches_of}
+use Rattle.ha_journal.specs.States.{states, switches_seen}
 use Rattle.ha_journal.specs.Moves.{sight, moves, rule_moves, looks}
 use Rattle.ha_sight.specs.Rules.{starts, given}
 use Rattle.ha_journal.specs.Holds.{same_watched, watches}
 use Rattle.ha_journal.specs.Variables.{variables}
 use Rattle.ha_journal.proofs.SinceLaws.{take-before, take-more}
 use Rattle.ha_config.proofs.ListLemmas.{get-last, get-more}
-use Rattle.ha_journal.proofs.MoreLemmas.{configured-more, length-more}
+use Rattle.ha_journal.proofs.MoreLemmas.{length-more}
 use Rattle.ha_past.specs.Holds.{is_over}
 
 pub zone-more : (j : Journal) (x : Entry) → HasEntry j → zone_of (more j x) ≡ zone_of j
@@ -30,7 +29,7 @@ has-place (e ∷ es) n lt = tt
 
 -- what the entries before a place show is the same
 pub sight-more : (j : Journal) (x : Entry) → HasEntry j → (n : ℕ) → n ≤ length j → sight (more j x) n ≡ sight j n
-sight-more j x h n le = let t = take-more j x n le in let z = zone-more j x h in λ i. record { states = states (t i); now = now (t i); zone = z i; automations = switches_of (t i); scripts = scripts_of (sym (configured-more j x h) i); helpers = known (t i) }
+sight-more j x h n le = let t = take-more j x n le in let z = zone-more j x h in λ i. record { states = states (t i); now = now (t i); zone = z i; automations = switches_seen (t i); scripts = scripts_in (t i); helpers = known (t i) }
 
 -- the last sight of the journal, and the new one
 pub sight-whole : (j : Journal) (x : Entry) → sight (more j x) (suc (length j)) ≡ sight (more j x) (length (more j x))

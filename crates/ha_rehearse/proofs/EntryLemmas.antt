@@ -9,7 +9,7 @@ use Rattle.ha_config.specs.declared.command.Cmd.{Cmd}
 use Rattle.ha_journal.specs.declared.entry.Entry.{Entry}
 use Rattle.ha_journal.specs.declared.entry.Entry.TheVariants.{Boot, Line, Step, Again}
 use Rattle.ha_sight.specs.declared.item.Item.{Item}
-use Rattle.ha_journal.specs.Commands.{ArePutFrom, Placed, has_automation, lines_of, put_as}
+use Rattle.ha_journal.specs.Commands.{ArePutFrom, Placed, has_automation, lets_reload, lines_of, put_as}
 use Rattle.ha_config.specs.Fair.{of_helper, shuts_source}
 use Rattle.ha_config.specs.Helpers.{is_helper}
 use Rattle.ha_journal.specs.Journal.{Journal, helpers, more}
@@ -130,6 +130,12 @@ put_shuts j (Cmd.Trigger name skip) = by (has_automation j name)
     by true = refl
     by false = refl
 put_shuts j Cmd.Restart = refl
+put_shuts j (Cmd.Reload text None) = refl
+put_shuts j (Cmd.Reload text (Some config)) = by (lets_reload j)
+  where
+    by : (b : Bool) → shuts_source (if b then Cmd.Reload text (Some config) else Cmd.Refused 13) ≡ false
+    by true = refl
+    by false = refl
 put_shuts j (Cmd.Refused code) = refl
 put_shuts j Cmd.Lost = refl
 put_shuts j Cmd.TooLong = refl

@@ -12,6 +12,7 @@ use Rattle.ha_journal.specs.Commands.{ArePutFrom, put_as}
 use Rattle.ha_config.specs.Fair.{shuts_source}
 use Rattle.ha_journal.specs.Entries.{restarts}
 use Rattle.ha_journal.specs.Journal.{Journal, more}
+use Rattle.ha_journal.proofs.ReloadLemmas.{put-lets}
 use Rattle.ha_model.specs.Lawful.{pick}
 use Rattle.ha_whole.specs.Whole.{IsFull, LacksRoom, Lawful, Right, Running, appended, is_quiet, is_rested, put, ready}
 use Rattle.ha_model.specs.Records.{Records}
@@ -78,7 +79,7 @@ module _ (boot : Entry) (n : ℕ) (j : Journal) (c : Cmd) (rs rs' : Records) (re
   line_on rested right o =
       let p = o.put in
       record {
-        running = right-runs j rs rs' line o.running (line-put 0 n (put_as j c)) right (lit< tt, rested, sym p.number, p.unshut) tt;
+        running = right-runs j rs rs' line o.running (line-put 0 n (put_as j c)) right (lit< tt, rested, sym p.number, p.unshut, put-lets j c) tt;
         put = record {
           later = p.later ++ appended j line;
           begins = put-appends j line ∙ ap (λ (k : Journal). k ++ appended j line) p.begins;

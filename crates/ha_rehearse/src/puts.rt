@@ -1,6 +1,9 @@
 //! The lines of a rehearsal, put to a core.
-ghost use Rattle.std.specs.Prelude.{◌≡◌, ◌≤◌, ◌<◌, ◌+◌, ℕ, true, false, IfErr, IfOk, OnOk};
+ghost use Rattle.std.specs.Prelude.{◌≡◌, ◌≤◌, ◌<◌, ◌+◌, ℕ, true, false, IfErr, IfOk, OnOk, Option};
 ghost use Rattle.flow_line.specs.Command.{cmd_of};
+ghost use Rattle.ha_config.specs.declared.config.Config.{Config as Configuration};
+ghost use Rattle.ha_config.specs.Fair.{prepared};
+ghost use Rattle.ha_config.specs.Words.{Text};
 ghost use Rattle.ha_journal.specs.Commands.{IsFair, put_as};
 ghost use Rattle.ha_journal.specs.Journal.{Journal};
 ghost use Rattle.ha_journal.specs.declared.entry.Entry.{Entry};
@@ -49,20 +52,44 @@ fn close<C: Core>(core: &mut C) -> Result<(), CoreFault>
     Ok(())
 }
 
+/// Whether a command reloads. Each other one stands as it was read, whatever texts are read as.
+fn reloads(cmd: &Cmd) -> bool
+    ensures { result ≡ false → (read : Text → Option Configuration) → prepared read cmd.now ≡ cmd.now }
+{
+    match cmd {
+        Cmd::Reload { .. } => true,
+        Cmd::Report { .. }
+        | Cmd::Gone { .. }
+        | Cmd::Event { .. }
+        | Cmd::Moment(_)
+        | Cmd::Switch { .. }
+        | Cmd::Trigger { .. }
+        | Cmd::Restart
+        | Cmd::Refused(_)
+        | Cmd::Lost
+        | Cmd::TooLong => false,
+    }
+}
+
 /// The command of line `i`, where `x` is its number.
 fn cmd_at(alloc: Global, i: u32, x: u32) -> Result<Cmd, CoreFault>
     requires few { i < 100_000 }
     ensures cmd { IfOk result (λ cmd. cmd ≡ cmd_of (line_text i x)) }
-    ensures fair { IfOk result (λ cmd. (j : Journal) → IsFair j (put_as j cmd)) }
+    ensures fair { IfOk result (λ cmd. (read : Text → Option Configuration) (j : Journal) → IsFair j (put_as j (prepared read cmd))) }
+    ensures still { IfOk result (λ cmd. (read : Text → Option Configuration) → prepared read cmd ≡ cmd) }
     ensures memory { IfErr result (λ fault. fault ≡ CoreFault.Memory) }
 {
     let Ok(line) = rehearse_line(alloc, i, x) else {
         return Err(CoreFault::Memory);
     };
-    match read_cmd(alloc, line.bytes()) {
-        Ok(cmd) => Ok(cmd),
-        Err(_) => Err(CoreFault::Memory),
+    let Ok(cmd) = read_cmd(alloc, line.bytes()) else {
+        return Err(CoreFault::Memory);
+    };
+    // it never does: to look is shorter than to prove it of the texts of all lines
+    if reloads(&cmd) {
+        return Err(CoreFault::Memory);
     }
+    Ok(cmd)
 }
 
 /// Puts the line of this command, and the steps that it begins.
@@ -71,7 +98,8 @@ fn put_cmd<C: Core>(core: &mut C, i: u32, cmd: Cmd) -> Result<(), CoreFault>
     requires on { (boot : Entry) × On boot i (C.entries core.old) (C.runs core.old) }
     requires rested { is_rested (C.runs core.old) 0 (C.entries core.old) ≡ true }
     requires cmd { cmd ≡ cmd_of (line_at i) }
-    requires fair { (j : Journal) → IsFair j (put_as j cmd) }
+    requires fair { (read : Text → Option Configuration) (j : Journal) → IsFair j (put_as j (prepared read cmd)) }
+    requires still { (read : Text → Option Configuration) → prepared read cmd ≡ cmd }
     ensures on { OnOk result ((boot : Entry) → On boot i (C.entries core.old) (C.runs core.old) → On boot (i + 1) (C.entries core.new) (C.runs core.new)) }
     ensures rested { OnOk result (is_rested (C.runs core.new) 0 (C.entries core.new) ≡ true) }
     ensures usable { OnOk result (C.is_spent core.new ≡ false) }

@@ -13,6 +13,7 @@ ghost use Rattle.ha_rehearse.specs.Rehearsed.{IsCounted, IsRehearseFault, IsRehe
 use crate::puts::rehearse_lines;
 use crate::text::rehearse_text;
 use conf_auto::read_config;
+use conf_reader::Reader;
 use ha_boot::Boots;
 use ha_clock::Moment;
 use ha_config::Config;
@@ -43,7 +44,7 @@ fn read_text(alloc: Global, text: &[u8]) -> Result<Config, Status>
 }
 
 /// A core whose journal is the boot of the generated configuration alone.
-fn booted<C: Boots>(alloc: Global) -> Result<C, Status>
+fn booted<C: Boots<Prepare = Reader>>(alloc: Global) -> Result<C, Status>
     ensures boot { IfOk result (λ core. (config : Configuration) × (config_of config_text ≡ Ok config) × (C.Core.entries core ≡ boot_of config ∷ [])) }
     ensures usable { IfOk result (λ core. C.Core.is_spent core ≡ false) }
     ensures fault { IfErr result (λ status. status ≡ Status.Memory) }
@@ -66,6 +67,7 @@ fn booted<C: Boots>(alloc: Global) -> Result<C, Status>
         Moment::at(START),
         zone,
         Many::make(alloc),
+        Reader,
     ) {
         Ok(core) => Ok(core),
         Err(_) => Err(Status::Memory),
@@ -73,7 +75,7 @@ fn booted<C: Boots>(alloc: Global) -> Result<C, Status>
 }
 
 /// A core to which all generated lines were put, with all steps.
-fn rehearsed<C: Boots>(alloc: Global, lines: u32) -> Result<C, Status>
+fn rehearsed<C: Boots<Prepare = Reader>>(alloc: Global, lines: u32) -> Result<C, Status>
     requires few { lines ≤ 100_000 }
     ensures rehearsed { IfOk result (λ core. Rehearsed lines (C.Core.entries core) (C.Core.runs core)) }
     ensures fault { IfErr result (IsRehearseFault lines) }
@@ -110,7 +112,7 @@ fn show<K: Sink>(alloc: Global, journal: &[Entry], records: &[Record], out: &mut
 }
 
 /// What came about, before it is told on the error sink.
-fn tried<C: Boots, K: Sink>(alloc: Global, lines: u32, out: &mut K) -> Status
+fn tried<C: Boots<Prepare = Reader>, K: Sink>(alloc: Global, lines: u32, out: &mut K) -> Status
     requires few { lines ≤ 100_000 }
     ensures answer { IsRehearseStatus lines result }
     ensures output { IsCounted lines result (K.written out.old) (K.written out.new) }
@@ -126,7 +128,7 @@ fn tried<C: Boots, K: Sink>(alloc: Global, lines: u32, out: &mut K) -> Status
 
 /// `rehearse`: boots the generated configuration, puts so many generated lines with their steps and the closing steps, and writes to `out` how many
 /// lines, entries, runs and calls there are. Where something failed, the status line goes to `err`.
-pub fn rehearse_call<C: Boots, K: Sink>(
+pub fn rehearse_call<C: Boots<Prepare = Reader>, K: Sink>(
     alloc: Global,
     lines: u32,
     out: &mut K,

@@ -1,18 +1,24 @@
 -- What follows of a line that is the next lawful one, and that a core's own entry is such a one.
 use Rattle.std.proofs.Common.{◌≡◌, ◌∙◌, ap, sym, subst, refl, ℕ, zero, suc, ◌+◌, ◌-◌, ◌<◌, ◌≤◌, inl, inr, List, [], ◌∷◌, ◌++◌, length, Bool, true, false, rules, arith, append_assoc}
 use Rattle.std.proofs.lemmas.List.Folds.{list_any-append}
-use Rattle.std.specs.Prelude.{◌⊎◌, ◌||◌, nat_eq, nat_lt, Some, None, count_by, map, slice_get, if◌then◌else◌}
+use Rattle.std.proofs.lemmas.List.Sums.{sum_by-append}
+use Rattle.std.specs.Prelude.{◌⊎◌, ◌||◌, cond, nat_eq, nat_lt, Option, Some, None, count_by, is_some, map, slice_get, if◌then◌else◌}
 use Rattle.std.specs.List.{list_all, list_any}
 use Rattle.std.specs.Option.{option_map_or}
+use Rattle.ha_config.specs.declared.config.Automation.{Automation}
+use Rattle.ha_config.specs.declared.config.Config.{Config}
 use Rattle.ha_config.specs.declared.command.Cmd.{Cmd}
 use Rattle.ha_sight.specs.declared.item.Item.{Item}
 use Rattle.ha_journal.specs.declared.entry.Entry.{Entry}
 use Rattle.ha_journal.specs.declared.entry.Entry.TheVariants.{Boot, Line, Step, Again}
-use Rattle.ha_config.specs.Words.{Text, EachAfter, EachWith, last_below}
-use Rattle.ha_journal.specs.Journal.{Journal, names, more}
-use Rattle.ha_journal.specs.Entries.{Reopening, is_restart, restarts}
-use Rattle.ha_journal.specs.Commands.{IsFair}
-use Rattle.ha_journal.proofs.MoreLemmas.{fair-alike}
+use Rattle.ha_config.specs.Words.{Text, EachAfter, EachWith, last_below, same}
+use Rattle.ha_config.specs.Fair.{most_reloads, prepared}
+use Rattle.ha_journal.specs.Journal.{Journal, helpers, more}
+use Rattle.ha_journal.specs.Entries.{Reopening, is_reload, is_restart, reloads_to, restarts}
+use Rattle.ha_journal.specs.Commands.{IsFair, has_automation, lets_reload}
+use Rattle.ha_journal.proofs.ReloadLemmas.{fair-lets}
+use Rattle.ha_config.specs.Helpers.{is_helper}
+use Rattle.ha_journal.proofs.ForceLaws.{helpers-are}
 use Rattle.ha_config.specs.CommandText.{cmd_text}
 use Rattle.ha_sight.specs.Scripts.{Branch}
 use Rattle.ha_model.specs.Records as all
@@ -27,13 +33,14 @@ use Rattle.ha_model.proofs.LawfulLaws as one_laws
 use Rattle.ha_laws.specs.Makers.{makers, maker, cmds_of}
 use Rattle.ha_laws.proofs.PrefixLaws.{same-less}
 use Rattle.ha_laws.proofs.RightMore.{each-last}
-use Rattle.ha_whole.specs.Segments.{carried, cut, reopened, segment}
+use Rattle.ha_whole.specs.Segments.{alone, carried, cut, reopened, segment}
+use Rattle.ha_whole.specs.Trace.{names}
 use Rattle.ha_whole.specs.Whole.{AreEntries, IsBusy, IsDue, IsFirst, IsJournal, IsOpen, IsRightEntry, IsTurn, Lawful, Right, again_of, appended, is_quiet, is_rested, own, put, ready, records_of}
 use Rattle.whole_laws.specs.Puts.{IsPut}
 use Rattle.whole_laws.specs.Segments.{EachRight}
 use Rattle.whole_laws.proofs.AnswerLemmas.{one_answer}
 use Rattle.whole_laws.proofs.ClosingLemmas.{put-step, right-closes}
-use Rattle.whole_laws.proofs.CutLemmas.{IsCut, cut-first, is-cut, segment-again, segment-on}
+use Rattle.whole_laws.proofs.CutLemmas.{IsCut, alone-reload, cut-first, is-cut, segment-again, segment-on}
 use Rattle.whole_laws.proofs.EachLemmas.{each-right}
 use Rattle.whole_laws.proofs.LiftLemmas.{entries-have, right-lifts, right-runs, same-put}
 use Rattle.whole_laws.proofs.PrefixLemmas.{each-cut, ready-told, rested-told}
@@ -41,6 +48,7 @@ use Rattle.whole_laws.proofs.PutLemmas.{line-put, put-appends, step-is-put}
 use Rattle.flow_printed.specs.Printed.{line_text}
 use Rattle.ha_replay.specs.Traces.{IsNext, IsNoNext, Reached, Stands, TellsClosing, reached}
 use Rattle.ha_replay.specs.Steps.{IsAllowed, IsOf}
+use Rattle.ha_replay.proofs.CmdLemmas.{fair-moved, has-by}
 use Rattle.ha_replay.proofs.SeamLemmas.{again-put, behind-of, each-front, put-first, with-behind}
 use Rattle.ha_replay.proofs.TextLemmas.{line-text, step-is-of}
 
@@ -133,24 +141,74 @@ next-closing r x rs' stands p lawful =
 
 -- ---- the next line of a source
 
-pub record LineFacts (r : Reached) (line : Text) (k n : ℕ) (cmd : Cmd) : Type 0 where
+pub record LineFacts (read : Text → Option Config) (r : Reached) (line : Text) (k n : ℕ) (cmd : Cmd) : Type 0 where
   pub is_open : r.closing ≡ false
   pub known : k < 16
   pub rested : is_rested r.records k r.journal ≡ true
   pub next : n ≡ count_by (is_line_of k) r.journal
   pub unshut : list_any (shuts k) r.journal ≡ false
   pub fair : IsFair r.journal cmd
+  pub read_is : prepared read cmd ≡ cmd
   pub line_is : line ≡ line_text k n (cmd_text cmd)
 
--- a command is fair in a journal where it is so in its last segment, which has the same configuration
-fair-whole : (j : Journal) (cmd : Cmd) → IsCut j → IsFair (segment j) cmd → IsFair j cmd
-fair-whole j cmd c h = fair-alike (segment j) j cmd c.configured_are h
+-- the last segment has the names of the whole, and no more Reloads
+same-has : (j : Journal) → IsCut j → has_automation (segment j) ≡ has_automation j
+same-has j c = (λ i name. (has-by (segment j) name ∙ (λ k. list_any (λ (a : Automation). same a.name name) (c.automations_are k)) ∙ sym (has-by j name)) i)
+
+count-snoc : (d : Journal) (x : Entry) → count_by is_reload (more d x) ≡ count_by is_reload d + cond (is_reload x) 1 0
+count-snoc d x = sum_by-append (λ y. cond (is_reload y) 1 0) d (x ∷ []) ∙ last (cond (is_reload x) 1 0)
+  where
+    last : (n : ℕ) → count_by is_reload d + (0 + n) ≡ count_by is_reload d + n
+    last n = omega arith
+
+same-reload : (s : Journal) (x : Entry) → cond {A = ℕ} (is_reload (alone s x)) 1 0 ≡ cond {A = ℕ} (is_reload x) 1 0
+same-reload s x = (λ i. cond {A = ℕ} (is_some (alone-reload (carried s) x i)) 1 0)
+
+reopened-reloads : (s : Journal) (a : Reopening) → count_by is_reload (reopened s a) ≡ 0
+reopened-reloads [] a = refl
+reopened-reloads (Boot text config stored start zone carry ∷ es) a = refl
+reopened-reloads (Line source number cmd ∷ es) a = refl
+reopened-reloads (Step worker serial branch item ∷ es) a = refl
+reopened-reloads (Again number start stored carry ∷ es) a = refl
+
+reloads-on : (d : Journal) (x : Entry) → count_by is_reload (segment d) ≤ count_by is_reload d → count_by is_reload (segment (more d x)) ≤ count_by is_reload (more d x)
+reloads-on d (Boot text config stored start zone carry) h =
+    (let x : Entry = Boot text config stored start zone carry in omega (arith, h, ap (count_by is_reload) (segment-on d x refl), count-snoc (segment d) (alone (segment d) x), count-snoc d x, same-reload (segment d) x))
+reloads-on d (Line source number cmd) h =
+    (let x : Entry = Line source number cmd in omega (arith, h, ap (count_by is_reload) (segment-on d x refl), count-snoc (segment d) (alone (segment d) x), count-snoc d x, same-reload (segment d) x))
+reloads-on d (Step worker serial branch item) h =
+    (let x : Entry = Step worker serial branch item in omega (arith, h, ap (count_by is_reload) (segment-on d x refl), count-snoc (segment d) (alone (segment d) x), count-snoc d x, same-reload (segment d) x))
+reloads-on d (Again number start stored carry) h =
+    let a : Reopening = record { number = number; start = start; stored = stored; carry = carry } in
+    omega (arith, ap (count_by is_reload) (segment-again d (Again number start stored carry) a refl), reopened-reloads (segment d) a)
+
+reloads-along : (d xs : Journal) → count_by is_reload (segment d) ≤ count_by is_reload d → count_by is_reload (segment (d ++ xs)) ≤ count_by is_reload (d ++ xs)
+reloads-along d [] h = subst (λ (l : Journal). count_by is_reload (segment l) ≤ count_by is_reload l) (sym (append-nil d)) h
+reloads-along d (x ∷ xs) h = subst (λ (l : Journal). count_by is_reload (segment l) ≤ count_by is_reload l) (append_assoc d (x ∷ []) xs) (reloads-along (more d x) xs (reloads-on d x h))
+
+lets-below : (m n : ℕ) → m ≤ n → nat_lt n most_reloads ≡ true → nat_lt m most_reloads ≡ true
+lets-below m n le h = (let lt : n < most_reloads = search (rules, h) in below (omega (arith, le, lt)))
+  where
+    below : m < most_reloads → nat_lt m most_reloads ≡ true
+    below lt = search (rules, lt)
+
+lets-alone : (j : Journal) → lets_reload j ≡ true → lets_reload (segment j) ≡ true
+lets-alone j h = lets-below (count_by is_reload (segment j)) (count_by is_reload j) (reloads-along [] j (omega arith)) h
+
+-- it has the helpers of the whole
+same-helps : (j : Journal) → IsCut j → is_helper (helpers (segment j)) ≡ is_helper (helpers j)
+same-helps j c = ap is_helper (sym (helpers-are (segment j)) ∙ ap (λ (d : Config). d.helpers) c.configured_are ∙ helpers-are j)
+
+-- a command is fair in a journal where it is so in its last segment, which has the same names and helpers, and where one Reload more may stand in it
+fair-whole : (j : Journal) (cmd : Cmd) → IsCut j → (is_some (reloads_to cmd) ≡ true → lets_reload j ≡ true) → IsFair (segment j) cmd → IsFair j cmd
+fair-whole j cmd c lets h = fair-moved (has_automation (segment j)) (has_automation j) (is_helper (helpers (segment j))) (is_helper (helpers j)) (lets_reload (segment j)) (lets_reload j) cmd (same-has j c) (same-helps j c) lets h
 
 fair-alone : (j : Journal) (cmd : Cmd) → IsCut j → IsFair j cmd → IsFair (segment j) cmd
-fair-alone j cmd c h = fair-alike j (segment j) cmd (sym c.configured_are) h
+fair-alone j cmd c h =
+    fair-moved (has_automation j) (has_automation (segment j)) (is_helper (helpers j)) (is_helper (helpers (segment j))) (lets_reload j) (lets_reload (segment j)) cmd (sym (same-has j c)) (sym (same-helps j c)) (λ e. lets-alone j (fair-lets j cmd h e)) h
 
-line-facts : (r : Reached) (line : Text) (k n : ℕ) (cmd : Cmd) (rs' : Records) → Stands r → IsNext r.journal line (Line k n cmd) rs' → LineFacts r line k n cmd
-line-facts r line k n cmd rs' stands next =
+line-facts : (read : Text → Option Config) (r : Reached) (line : Text) (k n : ℕ) (cmd : Cmd) (rs' : Records) → Stands r → IsNext read r.journal line (Line k n cmd) rs' → LineFacts read r line k n cmd
+line-facts read r line k n cmd rs' stands next =
     let x : Entry = Line k n cmd in
     let p : IsPut x = line-put k n cmd in
     let turn : IsTurn rs' r.journal x = put-first (IsTurn rs') r.journal x next.lawful.turns in
@@ -160,7 +218,8 @@ line-facts r line k n cmd rs' stands next =
       rested = same-rested r.journal r.records rs' x stands.lawful.right p next.lawful.right k ∙ turn.1;
       next = turn.2;
       unshut = turn.3;
-      fair = fair-whole r.journal cmd (is-cut r.journal stands.lawful.right.journal.entries) (put-first (IsRightEntry rs') r.journal x next.lawful.right.entries);
+      fair = fair-whole r.journal cmd (is-cut r.journal stands.lawful.right.journal.entries) turn.4 (put-first (IsRightEntry rs') r.journal x next.lawful.right.entries);
+      read_is = next.read_is;
       line_is = line-text (names r.journal) line k n cmd next.line_is;
     }
   where
@@ -266,8 +325,8 @@ busy-whole j rs lt = busy-of (carried (segment j)) (one.ready (own j rs) (segmen
 ready-whole : (j : Journal) (rs : Records) → is_quiet rs j ≡ false → 0 < length (ready rs j)
 ready-whole j rs e = busy-length (carried (segment j)) (one.ready (own j rs) (segment j)) e
 
-step-facts : (r : Reached) (line : Text) (k serial : ℕ) (branch : Branch) (item : Item) (rs' : Records) → Stands r → IsNext r.journal line (Step k serial branch item) rs' → StepFacts r line k serial branch
-step-facts r line k serial branch item rs' stands next =
+step-facts : (read : Text → Option Config) (r : Reached) (line : Text) (k serial : ℕ) (branch : Branch) (item : Item) (rs' : Records) → Stands r → IsNext read r.journal line (Step k serial branch item) rs' → StepFacts r line k serial branch
+step-facts read r line k serial branch item rs' stands next =
     let x : Entry = Step k serial branch item in
     let p : IsPut x = step-is-put k serial branch item in
     let turn : IsTurn rs' r.journal x = put-first (IsTurn rs') r.journal x next.lawful.turns in
@@ -299,17 +358,17 @@ step-facts r line k serial branch item rs' stands next =
 -- ---- nothing else may stand next
 
 -- no line of a source and no step is the next one
-pub nothing-next : (r : Reached) (line : Text) → Stands r
-    → ((k n : ℕ) (cmd : Cmd) → LineFacts r line k n cmd → ⊥)
-    → ((k serial : ℕ) (branch : Branch) (item : Item) (rs' : Records) → IsNext r.journal line (Step k serial branch item) rs' → StepFacts r line k serial branch → ⊥)
-    → IsNoNext r.journal line
-nothing-next r line stands no_line no_step (Boot text config stored start zone carry) rs' next =
+pub nothing-next : (read : Text → Option Config) (r : Reached) (line : Text) → Stands r
+    → ((k n : ℕ) (cmd : Cmd) → LineFacts read r line k n cmd → ⊥)
+    → ((k serial : ℕ) (branch : Branch) (item : Item) (rs' : Records) → IsNext read r.journal line (Step k serial branch item) rs' → StepFacts r line k serial branch → ⊥)
+    → IsNoNext read r.journal line
+nothing-next read r line stands no_line no_step (Boot text config stored start zone carry) rs' next =
     behind-of r.journal (Boot text config stored start zone carry) (entries-have r.journal stands.lawful.right.journal.entries) next.lawful.right.journal.entries
-nothing-next r line stands no_line no_step (Again number start stored carry) rs' next =
+nothing-next read r line stands no_line no_step (Again number start stored carry) rs' next =
     (let h = behind-of r.journal (Again number start stored carry) (entries-have r.journal stands.lawful.right.journal.entries) next.lawful.right.journal.entries in
     true-false (sym h.0 ∙ stands.lawful.right.journal.opened))
-nothing-next r line stands no_line no_step (Line k n cmd) rs' next = no_line k n cmd (line-facts r line k n cmd rs' stands next)
-nothing-next r line stands no_line no_step (Step k serial branch item) rs' next = no_step k serial branch item rs' next (step-facts r line k serial branch item rs' stands next)
+nothing-next read r line stands no_line no_step (Line k n cmd) rs' next = no_line k n cmd (line-facts read r line k n cmd rs' stands next)
+nothing-next read r line stands no_line no_step (Step k serial branch item) rs' next = no_step k serial branch item rs' next (step-facts read r line k serial branch item rs' stands next)
 
 -- ---- the core's own line
 
@@ -321,6 +380,7 @@ line-restarts k n (Cmd.Moment at) = refl
 line-restarts k n (Cmd.Switch name on stop) = refl
 line-restarts k n (Cmd.Trigger name skip) = refl
 line-restarts k n Cmd.Restart = refl
+line-restarts k n (Cmd.Reload text config) = refl
 line-restarts k n (Cmd.Refused code) = refl
 line-restarts k n Cmd.Lost = refl
 line-restarts k n Cmd.TooLong = refl

@@ -1,5 +1,6 @@
 -- Who may put the next entry, and what a refused put comes to.
 use Rattle.std.specs.Prelude.{ℕ, ◌≡◌, ◌<◌, ◌^◌, ◌⊎◌, Bool, true, false, not, nat_eq, count_by, ◌∷◌}
+use Rattle.std.specs.Option.{option_map_or}
 use Rattle.std.specs.Prelude.{◌++◌, Option, None, Some, codes, decimal, if◌then◌else◌}
 use Rattle.std.specs.List.{list_any}
 use Rattle.ha_whole.specs.declared.faults.CoreFault.{CoreFault}
@@ -9,6 +10,7 @@ use Rattle.ha_journal.specs.declared.entry.Entry.TheVariants.{Boot, Line, Step, 
 use Rattle.ha_config.specs.Words.{Text}
 use Rattle.ha_config.specs.Fair.{shuts_source}
 use Rattle.ha_config.specs.Helpers.{is_helper}
+use Rattle.ha_journal.specs.Entries.{line_of}
 use Rattle.ha_journal.specs.Journal.{Journal, helpers}
 use Rattle.ha_journal.specs.Commands.{has_automation}
 use Rattle.ha_model.specs.Lawful.{is_line_of, shuts}
@@ -27,9 +29,28 @@ is_named j (Cmd.Gone entity) = not (is_helper (helpers j) entity)
 is_named j (Cmd.Event kind pairs) = true
 is_named j (Cmd.Moment at) = true
 is_named j Cmd.Restart = true
+is_named j (Cmd.Reload text config) = true
 is_named j (Cmd.Refused code) = true
 is_named j Cmd.Lost = true
 is_named j Cmd.TooLong = true
+
+-- the command reloads, whatever its text is read as
+abbrev pub reloads : Cmd → Bool
+reloads (Cmd.Reload text config) = true
+reloads (Cmd.Report entity text attributes) = false
+reloads (Cmd.Gone entity) = false
+reloads (Cmd.Event kind pairs) = false
+reloads (Cmd.Moment at) = false
+reloads (Cmd.Switch name on stop) = false
+reloads (Cmd.Trigger name skip) = false
+reloads Cmd.Restart = false
+reloads (Cmd.Refused code) = false
+reloads Cmd.Lost = false
+reloads Cmd.TooLong = false
+
+-- the entry is a line that does
+abbrev pub is_reload_line : Entry → Bool
+is_reload_line x = option_map_or (λ l. reloads l.cmd) (line_of x) false
 
 -- the number of a source's line, and whether it shuts the source
 abbrev pub line_by : ℕ → Entry → Option (ℕ × Bool)

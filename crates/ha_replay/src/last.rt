@@ -1,5 +1,5 @@
 //! What a source's next line has to be.
-ghost use Rattle.std.specs.Prelude.{◌≡◌, ◌<◌, ◌^◌, None, IfSome, count_by, false, length, true};
+ghost use Rattle.std.specs.Prelude.{◌≡◌, ◌<◌, ◌^◌, ◌∷◌, [], None, IfSome, count_by, false, length, true};
 ghost use Rattle.std.specs.List.{list_any};
 ghost use Rattle.ha_model.specs.Records.{Records};
 ghost use Rattle.ha_model.specs.Lawful.{is_line_of, shuts};
@@ -57,11 +57,31 @@ fn has_automation(all: &[Automation], name: &Word) -> bool
         .any(|automation| same_text(&automation.name, name))
 }
 
-/// Whether an id is that of a helper.
+/// Whether an id is that of a helper that begins with this entry, as the first of a journal.
+fn helps_here(entry: &Entry, entity: &EntityId) -> bool
+    ensures { result ≡ is_helper (helpers (entry.now ∷ [])) entity.now }
+{
+    match entry {
+        Entry::Boot { config, .. } => is_helper(config.helpers.as_slice(), entity),
+        Entry::Line { .. } | Entry::Step { .. } | Entry::Again { .. } => false,
+    }
+}
+
+/// Whether an id is that of a helper: a reload brings none, those of the boot stay.
+fn is_first_helper(journal: &[Entry], entity: &EntityId) -> bool
+    ensures { result ≡ is_helper (helpers journal.now) entity.now }
+{
+    match journal.first() {
+        Some(entry) => helps_here(entry, entity),
+        None => false,
+    }
+}
+
+/// The same of a core's.
 fn is_of_helper<C: Core>(core: &C, entity: &EntityId) -> bool
     ensures { result ≡ is_helper (helpers (C.entries core.now)) entity.now }
 {
-    is_helper(core.config().helpers.as_slice(), entity)
+    is_first_helper(core.journal(), entity)
 }
 
 /// Whether the automation that a command names, if it names one, is there, and the entity that it reports is no helper.

@@ -2,17 +2,19 @@
 //!
 //! A line of a source gives the command that is put. Of a step the line names the worker alone: the core makes the step, and the line is
 //! compared with the one that is printed of it.
-ghost use Rattle.std.specs.Prelude.{◌≡◌, ◌<◌, ◌^◌, ◌-◌, ◌++◌, ◌||◌, ◌↔◌, ℕ, codes, false, true, length, slice_get, IfOk, IfSome, OnErr, OnOk, IsTrue};
+ghost use Rattle.std.specs.Prelude.{◌≡◌, ◌<◌, ◌^◌, ◌-◌, ◌++◌, ◌||◌, ◌↔◌, ℕ, codes, false, true, length, not, slice_get, IfOk, IfSome, OnErr, OnOk, IsTrue};
 ghost use Rattle.ha_config.specs.Words.{Text};
+ghost use Rattle.ha_journal.specs.declared.entry.Entry.{Entry as Item};
 ghost use Rattle.ha_journal.specs.Entries.{restarts as restarts_lem};
-ghost use Rattle.ha_journal.specs.Journal.{Journal, names, more};
+ghost use Rattle.ha_journal.specs.Journal.{Journal, more};
 ghost use Rattle.ha_config.specs.CheckText.{as_line};
 ghost use Rattle.ha_journal.specs.EntryText.{trace_line as trace_line_lem};
 ghost use Rattle.ha_texts.specs.Lines.{AreDated};
 ghost use Rattle.flow_printed.specs.Printed.{IsFairButForName, IsPrintOfLine};
+ghost use Rattle.ha_whole.specs.Trace.{names};
 ghost use Rattle.ha_whole.specs.Whole.{AreEntries, ends_segment, is_rested};
 ghost use Rattle.ha_replay.specs.Traces.{Answers, IsEnd, IsFrontOf, IsUnfit, Stands, reached};
-ghost use Rattle.ha_replay.specs.Steps.{IsAllowed, IsNextLine, IsOf, IsOnlyPrint, fault_of};
+ghost use Rattle.ha_replay.specs.Steps.{IsAllowed, IsNextLine, IsOf, IsOnlyPrint, fault_of, is_reload_line, reloads as reloads_lem};
 
 use crate::fault::TraceFault;
 use crate::last::{is_named, next_number};
@@ -99,7 +101,44 @@ fn is_restart(cmd: &Cmd) -> bool
     matches!(cmd, Cmd::Restart)
 }
 
-/// Puts the command of a source's line, where it stands next. Behind a Restart the line of its Again is due.
+fn is_reload(cmd: &Cmd) -> bool
+    ensures { result ≡ reloads_lem cmd.now }
+{
+    matches!(cmd, Cmd::Reload { .. })
+}
+
+fn reloads_here(entry: &Entry) -> bool
+    ensures { result ≡ is_reload_line entry.now }
+{
+    match entry {
+        Entry::Line { cmd, .. } => is_reload(cmd),
+        Entry::Boot { .. } | Entry::Step { .. } | Entry::Again { .. } => false,
+    }
+}
+
+/// Whether the last entry is a reload, and not the refusal of one.
+fn has_reloaded<C: Core>(core: &C) -> bool
+    ensures { (j : Journal) (x : Item) → C.entries core.now ≡ more j x → result ≡ is_reload_line x }
+{
+    match core.journal().last() {
+        Some(entry) => reloads_here(entry),
+        None => false,
+    }
+}
+
+/// Whether a reload was put as a refusal, which has another line.
+fn was_refused<C: Core>(core: &C, reloads: bool) -> bool
+    ensures other { reloads ≡ false → result ≡ false }
+    ensures reload { reloads ≡ true → (j : Journal) (x : Item) → C.entries core.now ≡ more j x → result ≡ not (is_reload_line x) }
+{
+    if !reloads {
+        return false;
+    }
+    !has_reloaded(core)
+}
+
+/// Puts the command of a source's line, where it stands next. Behind a Restart the line of its Again is due. A reload that is put as a
+/// refusal has another line than this one.
 fn put_source<C: Core>(
     core: &mut C,
     line: PrintedLine,
@@ -112,7 +151,7 @@ fn put_source<C: Core>(
     requires fair { IsFairButForName line.cmd }
     ensures answer { let before = reached (C.entries core.old) (C.runs core.old) closing false in
         let after = reached (C.entries core.new) (C.runs core.new) closing again.new in
-        (text : Text) → IsPrintOfLine text line → IsOnlyPrint text line → (IsEnd (C.entries core.old) (C.runs core.old) text → ⊥) → Answers text before after result }
+        (text : Text) → IsPrintOfLine text line → IsOnlyPrint text line → (IsEnd (C.entries core.old) (C.runs core.old) text → ⊥) → Answers C.Prepare.reads text before after result }
     ensures usable { OnOk result (C.is_spent core.new ≡ false) }
     ensures stays { OnErr result (IsFrontOf (C.entries core.old) (C.entries core.new)) }
 {
@@ -125,8 +164,12 @@ fn put_source<C: Core>(
         cmd,
     } = line;
     let restarts = is_restart(&cmd);
+    let reloads = is_reload(&cmd);
     match core.put_line(source, number, cmd) {
         Ok(()) => {
+            if was_refused(core, reloads) {
+                return Err(TraceFault::Refused);
+            }
             *again = restarts;
             Ok(false)
         }
@@ -198,7 +241,7 @@ fn put_worker<C: Core>(
     requires unended { IsEnd (C.entries core.old) (C.runs core.old) line.now → ⊥ }
     requires begins { (rest : Text) × (line.now ≡ codes "{\"worker\":" ++ rest) }
     requires whose { (k : ℕ) → k < 16 → IsOf line.now k → k ≡ worker }
-    ensures answer { Answers line.now (reached (C.entries core.old) (C.runs core.old) closing.old false) (reached (C.entries core.new) (C.runs core.new) closing.new false) result }
+    ensures answer { Answers C.Prepare.reads line.now (reached (C.entries core.old) (C.runs core.old) closing.old false) (reached (C.entries core.new) (C.runs core.new) closing.new false) result }
     ensures usable { OnOk result (C.is_spent core.new ≡ false) }
     ensures stays { OnErr result (IsFrontOf (C.entries core.old) (C.entries core.new)) }
 {
@@ -231,7 +274,7 @@ fn take_again<C: Core>(
 ) -> Result<bool, TraceFault>
     requires stands { Stands (reached (C.entries core.now) (C.runs core.now) closing again.old) }
     requires due { again.old ≡ true }
-    ensures { Answers line.now (reached (C.entries core.now) (C.runs core.now) closing again.old) (reached (C.entries core.now) (C.runs core.now) closing again.new) result }
+    ensures { Answers C.Prepare.reads line.now (reached (C.entries core.now) (C.runs core.now) closing again.old) (reached (C.entries core.now) (C.runs core.now) closing again.new) result }
 {
     match is_last(alloc, shown, core, line) {
         Ok(true) => {
@@ -260,7 +303,7 @@ pub fn replay_line<C: Core>(
     requires usable { C.is_spent core.old ≡ false }
     requires stands { Stands (reached (C.entries core.old) (C.runs core.old) closing.old again.old) }
     requires short { length line.now < 2 ^ 32 }
-    ensures answer { Answers line.now (reached (C.entries core.old) (C.runs core.old) closing.old again.old) (reached (C.entries core.new) (C.runs core.new) closing.new again.new) result }
+    ensures answer { Answers C.Prepare.reads line.now (reached (C.entries core.old) (C.runs core.old) closing.old again.old) (reached (C.entries core.new) (C.runs core.new) closing.new again.new) result }
     ensures usable { OnOk result (C.is_spent core.new ≡ false) }
     ensures stays { OnErr result (IsFrontOf (C.entries core.old) (C.entries core.new)) }
 {

@@ -2,7 +2,9 @@
 use Rattle.std.proofs.Common.{◌≡◌, ◌∙◌, ◌<◌, ◌≤◌, ◌+◌, ℕ, zero, suc, true, List, [], ◌∷◌, ◌++◌, length, map, None, ap, append_assoc, arith, length-append, refl, sym, subst, slice_index_or}
 use Rattle.std.proofs.lemmas.List.{append-nil, length-map}
 use Rattle.std.proofs.lemmas.List.Elements.{All-push}
-use Rattle.std.specs.Prelude.{All}
+use Rattle.std.specs.Prelude.{All, Option}
+use Rattle.ha_config.specs.declared.config.Config.{Config}
+use Rattle.ha_config.specs.Words.{Text}
 use Rattle.bus_pass.specs.declared.hand.Hand.{Hand}
 use Rattle.bus_pass.specs.declared.hand.Origin.{Origin}
 use Rattle.bus_pass.specs.Rule.{both, parent}
@@ -36,11 +38,11 @@ ready_length k [] (y ∷ seats) h = absurd h
 ready_length k (t ∷ taken) [] h = absurd h
 ready_length k (t ∷ taken) (y ∷ seats) h = let e = ready_length (suc k) taken seats h.1 in omega (arith, e)
 
-done_length : (k : ℕ) (before : List SourceState) (seats : List Seat) → AreDone k before seats → length seats ≡ length before
-done_length k [] [] h = refl
-done_length k [] (y ∷ seats) h = absurd h
-done_length k (t ∷ before) [] h = absurd h
-done_length k (t ∷ before) (y ∷ seats) h = let e = done_length (suc k) before seats h.1 in omega (arith, e)
+done_length : (reading : Text → Option Config) (k : ℕ) (before : List SourceState) (seats : List Seat) → AreDone reading k before seats → length seats ≡ length before
+done_length reading k [] [] h = refl
+done_length reading k [] (y ∷ seats) h = absurd h
+done_length reading k (t ∷ before) [] h = absurd h
+done_length reading k (t ∷ before) (y ∷ seats) h = let e = done_length reading (suc k) before seats h.1 in omega (arith, e)
 
 -- ---- hiring
 
@@ -113,34 +115,35 @@ module _ {W : Type 0} (seat : W → Seat) (OnTurn : W → Type 0) where
       })
       (able_of (suc k) before workers h.1 (omega (arith, few)))
 
+  pub ready_count : (before : List SourceState) (workers : List W) → AreReady 0 before (map seat workers) → length workers ≡ length before
+  ready_count before workers h = sym (length-map workers seat) ∙ ready_length 0 before (map seat workers) h
+
+module _ {W : Type 0} (reading : Text → Option Config) (seat : W → Seat) where
   pub done_of : (k : ℕ) (before : List SourceState) (old new : List W) → length new ≡ length old → AreReady k before (map seat old)
-      → ((i : ℕ) (d : W) → i < length old → Works (seat (slice_index_or old i d)) (seat (slice_index_or new i d))) → AreDone k before (map seat new)
+      → ((i : ℕ) (d : W) → i < length old → Works reading (seat (slice_index_or old i d)) (seat (slice_index_or new i d))) → AreDone reading k before (map seat new)
   done_of k [] [] [] n h each = tt
   done_of k [] [] (y ∷ new) n h each = absurd (omega (arith, n))
   done_of k [] (x ∷ old) new n h each = absurd h
   done_of k (s ∷ before) [] new n h each = absurd h
   done_of k (s ∷ before) (x ∷ old) [] n h each = absurd (omega (arith, n))
   done_of k (s ∷ before) (x ∷ old) (y ∷ new) n h each =
-      let w : Works (seat x) (seat y) = each 0 x (omega arith) in (
+      let w : Works reading (seat x) (seat y) = each 0 x (omega arith) in (
         record {
           end = w.end;
           end_is = w.end_is;
-          worked = subst (λ z. Worked k w.end (seat y).hand z (seat y).source) h.0.source_is (subst (λ z. Worked z w.end (seat y).hand (seat x).source (seat y).source) h.0.id w.worked);
+          worked = subst (λ z. Worked reading k w.end (seat y).hand z (seat y).source) h.0.source_is (subst (λ z. Worked reading z w.end (seat y).hand (seat x).source (seat y).source) h.0.id w.worked);
         },
         done_of (suc k) before old new (omega (arith, n)) h.1 (λ i d below. each (suc i) d (omega (arith, below))),
       )
 
-  pub later_of : (k : ℕ) (before : List SourceState) (workers : List W) → AreDone k before (map seat workers) → All (λ w. IsLater (seat w).hand) workers
+  pub later_of : (k : ℕ) (before : List SourceState) (workers : List W) → AreDone reading k before (map seat workers) → All (λ w. IsLater (seat w).hand) workers
   later_of k before [] h = λ i d below. absurd (omega (arith, below))
   later_of k [] (w ∷ workers) h = absurd h
   later_of k (s ∷ before) (w ∷ workers) h =
       all_cons (λ x. IsLater (seat x).hand) w workers (record { later = h.0.worked.one.one.later; idle = h.0.worked.one.idle }) (later_of (suc k) before workers h.1)
 
-  pub done_count : (before : List SourceState) (workers : List W) → AreDone 0 before (map seat workers) → length workers ≡ length before
-  done_count before workers h = sym (length-map workers seat) ∙ done_length 0 before (map seat workers) h
-
-  pub ready_count : (before : List SourceState) (workers : List W) → AreReady 0 before (map seat workers) → length workers ≡ length before
-  ready_count before workers h = sym (length-map workers seat) ∙ ready_length 0 before (map seat workers) h
+  pub done_count : (before : List SourceState) (workers : List W) → AreDone reading 0 before (map seat workers) → length workers ≡ length before
+  done_count before workers h = sym (length-map workers seat) ∙ done_length reading 0 before (map seat workers) h
 
 -- ---- taking in
 

@@ -10,15 +10,16 @@ use Rattle.ha_io.specs.Told.{told_as}
 use Rattle.ha_io.proofs.ToldLemmas.{Gives-nothing}
 use Rattle.ha_journal.specs.declared.entry.Entry.{Entry}
 use Rattle.ha_journal.specs.declared.entry.Entry.TheVariants.{Boot, Line, Step, Again}
-use Rattle.ha_journal.specs.Commands.{ArePutFrom}
+use Rattle.ha_journal.specs.Commands.{ArePutFrom, AreRead}
 use Rattle.ha_journal.specs.Entries.{restarts}
 use Rattle.ha_journal.specs.Journal.{Journal}
 use Rattle.ha_model.specs.Lawful.{is_by_worker_0}
+use Rattle.ha_whole.specs.Trace.{call_text, trace_text}
 use Rattle.ha_whole.specs.Whole.{AreEntries, CannotRestart, IsFull, Lawful, Right, changes_store, is_quiet, put, store_text}
 use Rattle.ha_model.specs.Records.{Records}
-use Rattle.ha_model.specs.Texts.{call_text}
-use Rattle.ha_journal.specs.EntryText.{error_text, trace_text}
+use Rattle.ha_journal.specs.EntryText.{error_text}
 use Rattle.ha_config.specs.declared.command.Cmd.{Cmd}
+use Rattle.ha_config.specs.declared.config.Config.{Config}
 use Rattle.ha_config.specs.Words.{Text}
 use Rattle.flow_line.specs.Command.{cmd_of}
 use Rattle.ha_status.specs.declared.status.Status.{Status}
@@ -172,9 +173,9 @@ part_written : (old : Outside) (b : BusView) → Store old b → IsCut b → IsP
 unfolding seen_cut
 part_written old b store c = inr (record { cut = seen_cut b c; store = λ h. store c h })
 
-module _ (B : List Entry → Type 0) (files : Option Files) (names : List Text) (old : Outside) (b : BusView) (after : List SourceState) (feeds : List Feed) where
+module _ (reading : Text → Option Config) (B : List Entry → Type 0) (files : Option Files) (names : List Text) (old : Outside) (b : BusView) (after : List SourceState) (feeds : List Feed) where
   abbrev Stood : Status → Type 0
-  Stood = StandsAt B (scene files names b after b.out) (writings old (view_of b.journal b.records b.out))
+  Stood = StandsAt reading B (scene files names b after b.out) (writings old (view_of b.journal b.records b.out))
 
   abbrev Owes : Type 0
   Owes = (IsFull b.journal × ((is_quiet b.records b.journal ≡ false) ⊎ OwesLine feeds)) ⊎ OwesRestart feeds
@@ -185,7 +186,7 @@ module _ (B : List Entry → Type 0) (files : Option Files) (names : List Text) 
   had_no_room (inr restart) (inl full) = inl (full, inr (owes_line feeds restart))
   had_no_room (inr restart) (inr cannot) = inr (cannot, restart)
 
-  stopped : (fault : BusFault) → Stands b (Some fault) → Store old b → Ran B (scene files names b after b.out) feeds → (fault ≡ BusFault.Full → Owes) → Stood (status_of fault)
+  stopped : (fault : BusFault) → Stands b (Some fault) → Store old b → Ran reading B (scene files names b after b.out) feeds → (fault ≡ BusFault.Full → Owes) → Stood (status_of fault)
   stopped (BusFault.Write z) h store ran due = inl (part_written old b store h.0, record { feeds = feeds; ran = ran })
   stopped BusFault.Keep h store ran due = inr (part_written old b store h.0, record { feeds = feeds; ran = ran })
   stopped BusFault.Memory h store ran due = inr (inl (part_written old b store h, record { feeds = feeds; ran = ran }))
@@ -235,10 +236,10 @@ end_cause j out told (Some BusFault.Keep) h told_cause = absurd h
 end_cause j out told (Some BusFault.Full) h told_cause = absurd h
 end_cause j out told (Some BusFault.Memory) h told_cause = tt
 
-module _ (B : List Entry → Type 0) (s : Scene) (old out : Outside) (written : IfSome out.trace (HasTaken (trace_text s.journal true)) → IsEndWritten (view_of s.journal s.records out))
-    (cut : IfSome out.trace (HasTakenFront (trace_text s.journal false) (trace_text s.journal true)) → IsEndCut (view_of s.journal s.records out)) (through : (feeds : List Feed) × RanThrough B s feeds) where
+module _ (reading : Text → Option Config) (B : List Entry → Type 0) (s : Scene) (old out : Outside) (written : IfSome out.trace (HasTaken (trace_text s.journal true)) → IsEndWritten (view_of s.journal s.records out))
+    (cut : IfSome out.trace (HasTakenFront (trace_text s.journal false) (trace_text s.journal true)) → IsEndCut (view_of s.journal s.records out)) (through : (feeds : List Feed) × RanThrough reading B s feeds) where
   abbrev Over : Status → Type 0
-  Over = StandsAt B s (writings old (view_of s.journal s.records out))
+  Over = StandsAt reading B s (writings old (view_of s.journal s.records out))
 
   end_stands : (told : Status) (first : Option BusFault) → HasEnded s.journal first out.trace → (IsEndWritten (view_of s.journal s.records out) → Over told) → Over (ended_status first told)
   end_stands told None h by_told = by_told (written h)
@@ -249,10 +250,10 @@ module _ (B : List Entry → Type 0) (s : Scene) (old out : Outside) (written : 
 
 -- ---- a bus that did not go round
 
-still_worked : (j : Journal) (first : Option BusFault) → ((first ≡ None) → ⊥) → ((k : ℕ) → ArePutFrom k j []) → (k : ℕ) (before : List SourceState)
-    → AreWorked j first k before before (map (λ (s : SourceState). None) before) (map (λ (s : SourceState). record { course = Course.Goes; unput = [] }) before)
-still_worked j first fault puts k [] = tt
-still_worked j first fault puts k (s ∷ before) = (
+still_worked : (reading : Text → Option Config) (j : Journal) (first : Option BusFault) → ((first ≡ None) → ⊥) → ((k : ℕ) → ArePutFrom k j []) → (k : ℕ) (before : List SourceState)
+    → AreWorked reading j first k before before (map (λ (s : SourceState). None) before) (map (λ (s : SourceState). record { course = Course.Goes; unput = [] }) before)
+still_worked reading j first fault puts k [] = tt
+still_worked reading j first fault puts k (s ∷ before) = (
   record {
     bytes = [];
     put = [];
@@ -261,16 +262,16 @@ still_worked j first fault puts k (s ∷ before) = (
     puts = puts k;
     over = λ free. absurd (fault free);
   },
-  still_worked j first fault puts (suc k) before,
+  still_worked reading j first fault puts (suc k) before,
 )
 
 -- ---- a run
 
-module _ (boot : Entry) (old : Outside) (base : BusView) (at_boot : base.journal ≡ boot ∷ []) (shown : Shows (texts_of base.records [] boot) old base.first base.out) (base_bus : IsBus base) (before : List SourceState) where
+module _ (reading : Text → Option Config) (boot : Entry) (old : Outside) (base : BusView) (at_boot : base.journal ≡ boot ∷ []) (shown : Shows (texts_of base.records [] boot) old base.first base.out) (base_bus : IsBus base) (before : List SourceState) where
   start_same : SameOutside old base.out
   start_same = grown_out old base.out (shows-grow (texts_of base.records [] boot) old base.first base.out shown)
 
-  module _ (b : BusView) (after : List SourceState) (ends : List (Option WorkerEnd)) (r : WentRound base b before after ends) where
+  module _ (b : BusView) (after : List SourceState) (ends : List (Option WorkerEnd)) (r : WentRound reading base b before after ends) where
     begun : BeginsWith boot b.journal
     begun = starts b.journal boot (ap (λ (o : Origin). o.boot) r.same ∙ ap (λ (z : Journal). slice_get z 0) at_boot)
 
@@ -278,51 +279,53 @@ module _ (boot : Entry) (old : Outside) (base : BusView) (at_boot : base.journal
     round_out = same_then old base.out b.out start_same (round_same base b r.same)
 
     module _ (files : Option Files) (names : List Text) (new : AreNew files names before) where
-      ran : IsBus b → Ran (BeginsWith boot) (scene files names b after b.out) r.feeds
-      ran bus = record {
+      ran : IsBus b → AreRead reading b.journal → Ran reading (BeginsWith boot) (scene files names b after b.out) r.feeds
+      ran bus read = record {
         begins = begun;
         lawful = r.running.lawful;
+        read = read;
         room = bus.room;
         named = subst (λ n. Each (IsOf n) b.journal) (sym (new_length files names before new)) r.named;
-        served = all_served files b.journal b.first 0 names before after ends r.feeds new r.worked;
+        served = all_served reading files b.journal b.first 0 names before after ends r.feeds new r.worked;
       }
 
-      ran_closed : (last : BusView) → IsBus last → 0 < length before → Closed b last → Ran (BeginsWith boot) (scene files names last after last.out) r.feeds
-      ran_closed last bus some c = record {
+      ran_closed : (last : BusView) → IsBus last → AreRead reading last.journal → 0 < length before → Closed b last → Ran reading (BeginsWith boot) (scene files names last after last.out) r.feeds
+      ran_closed last bus read some c = record {
         begins = begins_later boot b.journal last.journal c.later c.behind begun;
         lawful = c.lawful;
+        read = read;
         room = bus.room;
         named = subst (λ n. Each (IsOf n) last.journal) (sym (new_length files names before new)) (closed_named (length before) b last some c r.named);
-        served = all_served files last.journal b.first 0 names before after ends r.feeds new
-            (worked_later b.journal last.journal b.first (λ k cmds p. closed_puts b last k cmds c p) 0 before after ends r.feeds r.worked);
+        served = all_served reading files last.journal b.first 0 names before after ends r.feeds new
+            (worked_later reading b.journal last.journal b.first (λ k cmds p. closed_puts b last k cmds c p) 0 before after ends r.feeds r.worked);
       }
 
-      ran_through : (last : BusView) (out : Outside) → IsBus last → 0 < length before → Closed b last → b.first ≡ None → is_quiet last.records last.journal ≡ true
-          → RanThrough (BeginsWith boot) (scene files names last after out) r.feeds
-      ran_through last out bus some c free quiet =
-          record { ran = ran_closed last bus some c; through = all_through b.journal b.first free 0 before after ends r.feeds r.worked; quiet = quiet }
+      ran_through : (last : BusView) (out : Outside) → IsBus last → AreRead reading last.journal → 0 < length before → Closed b last → b.first ≡ None → is_quiet last.records last.journal ≡ true
+          → RanThrough reading (BeginsWith boot) (scene files names last after out) r.feeds
+      ran_through last out bus read some c free quiet =
+          record { ran = ran_closed last bus read some c; through = all_through reading b.journal b.first free 0 before after ends r.feeds r.worked; quiet = quiet }
 
       -- the status by the ends of the workers
-      told_stands : (last : BusView) (out : Outside) → b.first ≡ None → RanThrough (BeginsWith boot) (scene files names last after out) r.feeds → IsEndWritten (view_of last.journal last.records out)
-          → StandsAt (BeginsWith boot) (scene files names last after out) (writings old (view_of last.journal last.records out)) (told_by 0 ends)
+      told_stands : (last : BusView) (out : Outside) → b.first ≡ None → RanThrough reading (BeginsWith boot) (scene files names last after out) r.feeds → IsEndWritten (view_of last.journal last.records out)
+          → StandsAt reading (BeginsWith boot) (scene files names last after out) (writings old (view_of last.journal last.records out)) (told_by 0 ends)
       told_stands last out free through written =
-          told_cases b.journal b.first free (StandsAt (BeginsWith boot) (scene files names last after out) (writings old (view_of last.journal last.records out))) 0 before after ends r.feeds r.worked
+          told_cases reading b.journal b.first free (StandsAt reading (BeginsWith boot) (scene files names last after out) (writings old (view_of last.journal last.records out))) 0 before after ends r.feeds r.worked
           (λ each. (written, (r.feeds, through, each)))
           (λ i h. let e : i ≡ 0 + i = omega arith in let P : ℕ → Type 0 = λ z. IsFirst Course.Fails z r.feeds in (written, (r.feeds, through, subst P e h)))
           (λ i h. let e : i ≡ 0 + i = omega arith in let P : ℕ → Type 0 = λ z. IsFirst Course.Exceeds z r.feeds in (written, (r.feeds, through, subst P e h)))
 
     told_cause : (out : Outside) → b.first ≡ None → OutCause (told_by 0 ends) out
-    told_cause out free = told_cases b.journal b.first free (λ z. OutCause z out) 0 before after ends r.feeds r.worked (λ each. tt) (λ i h. tt) (λ i h. tt)
+    told_cause out free = told_cases reading b.journal b.first free (λ z. OutCause z out) 0 before after ends r.feeds r.worked (λ each. tt) (λ i h. tt) (λ i h. tt)
 
   -- a bus that keeps a fault is left as it is
   stop_ran : (last : BusView) (after : List SourceState) (feeds : List Feed) (fault : BusFault) (status : Status) → IsBus last → last.first ≡ Some fault → status ≡ status_of fault → Store old last
-      → SameOutside old last.out → ((files : Option Files) (names : List Text) → AreNew files names before → Ran (BeginsWith boot) (scene files names last after last.out) feeds)
-      → (last.first ≡ Some BusFault.Full → (IsFull last.journal × ((is_quiet last.records last.journal ≡ false) ⊎ OwesLine feeds)) ⊎ OwesRestart feeds) → CoreRan boot old before status last.journal last.records after last.out
+      → SameOutside old last.out → ((files : Option Files) (names : List Text) → AreNew files names before → Ran reading (BeginsWith boot) (scene files names last after last.out) feeds)
+      → (last.first ≡ Some BusFault.Full → (IsFull last.journal × ((is_quiet last.records last.journal ≡ false) ⊎ OwesLine feeds)) ⊎ OwesRestart feeds) → CoreRan reading boot old before status last.journal last.records after last.out
   stop_ran last after feeds fault status bus is status_is store same each due =
       let stands = subst (Stands last) is bus.stands in
-      let P : Status → Type 0 = λ s. CoreRan boot old before s last.journal last.records after last.out in
+      let P : Status → Type 0 = λ s. CoreRan reading boot old before s last.journal last.records after last.out in
       subst P (sym status_is) (record {
-        stands = λ files names new. stopped (BeginsWith boot) files names old last after feeds fault stands store (each files names new)
+        stands = λ files names new. stopped reading (BeginsWith boot) files names old last after feeds fault stands store (each files names new)
             (λ full. due (is ∙ ap (λ (f : BusFault). Some f) full));
         same = same;
         cause = stop_cause last fault stands;
@@ -330,45 +333,45 @@ module _ (boot : Entry) (old : Outside) (base : BusView) (at_boot : base.journal
 
   -- it is told with other words
   told_with : (status : Status) (last : BusView) (after : List SourceState) (j : List Entry) (rs : Records) (out : Outside) → j ≡ last.journal → rs ≡ last.records
-      → CoreRan boot old before status last.journal last.records after out → CoreRan boot old before status j rs after out
+      → CoreRan reading boot old before status last.journal last.records after out → CoreRan reading boot old before status j rs after out
   told_with status last after j rs out e f r =
-      let P : List Entry → Type 0 = λ z. CoreRan boot old before status z rs after out in
-      let Q : Records → Type 0 = λ z. CoreRan boot old before status last.journal z after out in
+      let P : List Entry → Type 0 = λ z. CoreRan reading boot old before status z rs after out in
+      let Q : Records → Type 0 = λ z. CoreRan reading boot old before status last.journal z after out in
       subst P (sym e) (subst Q (sym f) r)
 
   stop_told : (told status : Status) (last : BusView) (after : List SourceState) (j : List Entry) (rs : Records) (out : Outside) → IsStop told status j rs out last
-      → CoreRan boot old before status last.journal last.records after last.out → CoreRan boot old before status j rs after out
+      → CoreRan reading boot old before status last.journal last.records after last.out → CoreRan reading boot old before status j rs after out
   stop_told told status last after j rs out s r =
-      let P : Outside → Type 0 = λ z. CoreRan boot old before status last.journal last.records after z in
+      let P : Outside → Type 0 = λ z. CoreRan reading boot old before status last.journal last.records after z in
       told_with status last after j rs out s.journal_is s.records_are (subst P (sym s.out_is) r)
 
   -- the bus went round
-  round_ran : (b : BusView) (after : List SourceState) (ends : List (Option WorkerEnd)) (status : Status) (j : List Entry) (rs : Records) (out : Outside) → 0 < length before → WentRound base b before after ends
-      → (last : BusView) → MayClose b last → StopsOrEnds (told_by 0 ends) status j rs out last → CoreRan boot old before status j rs after out
-  round_ran b after ends status j rs out some r last (inl c) (inl s) =
+  round_ran : (b : BusView) (after : List SourceState) (ends : List (Option WorkerEnd)) (status : Status) (j : List Entry) (rs : Records) (out : Outside) → 0 < length before → WentRound reading base b before after ends
+      → (last : BusView) → MayClose b last → StopsOrEnds (told_by 0 ends) status j rs out last → AreRead reading j → CoreRan reading boot old before status j rs after out
+  round_ran b after ends status j rs out some r last (inl c) (inl s) read =
       stop_told (told_by 0 ends) status last after j rs out s
       (stop_ran last after r.feeds s.fault status s.bus s.is s.status_is (stored_store old last s.bus.right.journal.entries (closed_stored boot b last (begun b after ends r) c.closed r.stored))
       (same_then old b.out last.out (round_out b after ends r) (grown_out b.out last.out c.closed.grows))
-      (λ files names new. ran_closed b after ends r files names new last s.bus some c.closed) (λ full. let o = c.owes full in inl (o.0, inl o.1)))
-  round_ran b after ends status j rs out some r last (inl c) (inr e) =
+      (λ files names new. ran_closed b after ends r files names new last s.bus (subst (AreRead reading) s.journal_is read) some c.closed) (λ full. let o = c.owes full in inl (o.0, inl o.1)))
+  round_ran b after ends status j rs out some r last (inl c) (inr e) read =
       told_with status last after j rs out e.journal_is e.records_are
-      (let P : Status → Type 0 = λ s. CoreRan boot old before s last.journal last.records after out in
+      (let P : Status → Type 0 = λ s. CoreRan reading boot old before s last.journal last.records after out in
       let whole = seen_whole last (subst (Stands last) e.free e.bus.stands).1 in
       subst P (sym e.status_is) (record {
         stands = λ files names new.
-            end_stands (BeginsWith boot) (scene files names last after out) old out
+            end_stands reading (BeginsWith boot) (scene files names last after out) old out
             (λ h. end_written last.journal last.out out e.ends.calls e.ends.errors e.ends.keep last.records whole h) (λ h. end_cut last.journal last.out out e.ends.calls e.ends.errors e.ends.keep last.records whole h)
-            (r.feeds, ran_through b after ends r files names new last out e.bus some c.closed c.free e.quiet) (told_by 0 ends) e.first e.has
-            (λ written. told_stands b after ends r files names new last out c.free (ran_through b after ends r files names new last out e.bus some c.closed c.free e.quiet) written);
+            (r.feeds, ran_through b after ends r files names new last out e.bus (subst (AreRead reading) e.journal_is read) some c.closed c.free e.quiet) (told_by 0 ends) e.first e.has
+            (λ written. told_stands b after ends r files names new last out c.free (ran_through b after ends r files names new last out e.bus (subst (AreRead reading) e.journal_is read) some c.closed c.free e.quiet) written);
         same = same_then old last.out out (same_then old b.out last.out (round_out b after ends r) (grown_out b.out last.out c.closed.grows)) (ended_same last.journal last.out out e.first e.ends);
         cause = end_cause last.journal out (told_by 0 ends) e.first e.has (told_cause b after ends r out c.free);
       }))
-  round_ran b after ends status j rs out some r last (inr n) (inl s) =
+  round_ran b after ends status j rs out some r last (inr n) (inl s) read =
       let P : BusView → Type 0 = λ z. IsStop (told_by 0 ends) status j rs out z in
       let t = subst P n.same s in
       stop_told (told_by 0 ends) status b after j rs out t
-      (stop_ran b after r.feeds t.fault status t.bus t.is t.status_is (stored_store old b t.bus.right.journal.entries r.stored) (round_out b after ends r) (λ files names new. ran b after ends r files names new t.bus) r.due)
-  round_ran b after ends status j rs out some r last (inr n) (inr e) = absurd (n.fault (ap (λ (z : BusView). z.first) (sym n.same) ∙ e.free))
+      (stop_ran b after r.feeds t.fault status t.bus t.is t.status_is (stored_store old b t.bus.right.journal.entries r.stored) (round_out b after ends r) (λ files names new. ran b after ends r files names new t.bus (subst (AreRead reading) t.journal_is read)) r.due)
+  round_ran b after ends status j rs out some r last (inr n) (inr e) read = absurd (n.fault (ap (λ (z : BusView). z.first) (sym n.same) ∙ e.free))
 
   -- it did not go round
   module _ (b : BusView) (after : List SourceState) (s : StoodStill base b before after) where
@@ -403,32 +406,33 @@ module _ (boot : Entry) (old : Outside) (base : BusView) (at_boot : base.journal
     abbrev unread : List Feed
     unread = map (λ (x : SourceState). record { course = Course.Goes; unput = [] }) before
 
-    still_ran : IsBus b → (files : Option Files) (names : List Text) → AreNew files names before → Ran (BeginsWith boot) (scene files names b after b.out) unread
-    still_ran bus files names new =
+    still_ran : IsBus b → AreRead reading b.journal → (files : Option Files) (names : List Text) → AreNew files names before → Ran reading (BeginsWith boot) (scene files names b after b.out) unread
+    still_ran bus read files names new =
         let right : Right (boot ∷ []) b.records = subst (λ z. Right z b.records) one bus.right in
         record {
           begins = ([], one);
           lawful = (let P : Journal → Type 0 = λ z. Lawful z b.records in subst P (sym one) (boot_lawful b.records boot right));
+          read = read;
           room = bus.room;
           named = (let P : Journal → Type 0 = λ z. Each (IsOf (length names)) z in subst P (sym one) (boot_named b.records boot (length names) right));
-          served = (let P : List SourceState → Type 0 = λ z. AreServed files b.journal 0 names z unread in
-              subst P (sym s.same_sources) (all_served files b.journal b.first 0 names before before (map (λ (x : SourceState). None) before) unread new
-              (still_worked b.journal b.first s.fault (λ k. let Q : Journal → Type 0 = λ z. ArePutFrom k z [] in subst Q (sym one) (boot_puts b.records boot k right)) 0 before)));
+          served = (let P : List SourceState → Type 0 = λ z. AreServed reading files b.journal 0 names z unread in
+              subst P (sym s.same_sources) (all_served reading files b.journal b.first 0 names before before (map (λ (x : SourceState). None) before) unread new
+              (still_worked reading b.journal b.first s.fault (λ k. let Q : Journal → Type 0 = λ z. ArePutFrom k z [] in subst Q (sym one) (boot_puts b.records boot k right)) 0 before)));
         }
 
-    still_stop : (told status : Status) (j : List Entry) (rs : Records) (out : Outside) → IsStop told status j rs out b → CoreRan boot old before status j rs after out
-    still_stop told status j rs out t =
+    still_stop : (told status : Status) (j : List Entry) (rs : Records) (out : Outside) → IsStop told status j rs out b → AreRead reading j → CoreRan reading boot old before status j rs after out
+    still_stop told status j rs out t read =
         stop_told told status b after j rs out t
-        (stop_ran b after unread t.fault status t.bus t.is t.status_is (still_store t.fault t.is) (subst (λ z. SameOutside old z) (sym same_out) start_same) (still_ran t.bus)
+        (stop_ran b after unread t.fault status t.bus t.is t.status_is (still_store t.fault t.is) (subst (λ z. SameOutside old z) (sym same_out) start_same) (still_ran t.bus (subst (AreRead reading) t.journal_is read))
         (λ full. absurd (never_full full)))
 
   -- what stands after a run of a booted core
-  pub core_ran : (b : BusView) (after : List SourceState) (ends : List (Option WorkerEnd)) (status : Status) (j : List Entry) (rs : Records) (out : Outside) → 0 < length before → Teamed base b before after ends
-      → Finishes (told_by 0 ends) status j rs out b → CoreRan boot old before status j rs after out
-  core_ran b after ends status j rs out some (inl r) f = round_ran b after ends status j rs out some r f.0 f.1 f.2
-  core_ran b after ends status j rs out some (inr s) f = by f.1 f.2
+  pub core_ran : (b : BusView) (after : List SourceState) (ends : List (Option WorkerEnd)) (status : Status) (j : List Entry) (rs : Records) (out : Outside) → 0 < length before → Teamed reading base b before after ends
+      → Finishes (told_by 0 ends) status j rs out b → AreRead reading j → CoreRan reading boot old before status j rs after out
+  core_ran b after ends status j rs out some (inl r) f read = round_ran b after ends status j rs out some r f.0 f.1 f.2 read
+  core_ran b after ends status j rs out some (inr s) f read = by f.1 f.2
     where
-      by : MayClose b f.0 → StopsOrEnds (told_by 0 ends) status j rs out f.0 → CoreRan boot old before status j rs after out
+      by : MayClose b f.0 → StopsOrEnds (told_by 0 ends) status j rs out f.0 → CoreRan reading boot old before status j rs after out
       by (inl c) t = absurd (s.fault c.free)
-      by (inr n) (inl t) = still_stop b after s (told_by 0 ends) status j rs out (let P : BusView → Type 0 = λ z. IsStop (told_by 0 ends) status j rs out z in subst P n.same t)
+      by (inr n) (inl t) = still_stop b after s (told_by 0 ends) status j rs out (let P : BusView → Type 0 = λ z. IsStop (told_by 0 ends) status j rs out z in subst P n.same t) read
       by (inr n) (inr e) = absurd (n.fault (ap (λ (z : BusView). z.first) (sym n.same) ∙ e.free))

@@ -1,5 +1,5 @@
 -- What became of the sources.
-use Rattle.std.proofs.Common.{◌≡◌, ◌⊎◌, inl, inr, ◌∙◌, ◌<◌, ◌+◌, ℕ, suc, List, [], ◌∷◌, ◌++◌, length, Option, Some, None, ap, append_assoc, arith, refl, sym, subst}
+use Rattle.std.proofs.Common.{map, ◌≡◌, ◌⊎◌, inl, inr, ◌∙◌, ◌<◌, ◌+◌, ℕ, suc, List, [], ◌∷◌, ◌++◌, length, Option, Some, None, ap, append_assoc, arith, refl, sym, subst}
 use Rattle.std.proofs.lemmas.List.{append-nil}
 use Rattle.std.specs.Prelude.{IfSome, IsSomeAnd}
 use Rattle.std.specs.Io.KnownBytes.{IsAtEnd}
@@ -8,6 +8,8 @@ use Rattle.ha_io.specs.Told.{HasFile}
 use Rattle.ha_io.proofs.CountLemmas.{Rose-from_zero}
 use Rattle.ha_io.proofs.ToldLemmas.{Gives-told}
 use Rattle.ha_config.specs.declared.command.Cmd.{Cmd}
+use Rattle.ha_config.specs.declared.config.Config.{Config}
+use Rattle.ha_config.specs.Fair.{prepared}
 use Rattle.ha_journal.specs.Commands.{ArePutFrom}
 use Rattle.ha_journal.specs.Journal.{Journal}
 use Rattle.ha_config.specs.Words.{Text}
@@ -57,56 +59,57 @@ told_of (Some f) name course bytes s s' h g = by (f name) h
     by None e = e
     by (Some file) e = read_of course bytes file s s' g e
 
-one_served : (files : Option Files) (j : Journal) (first : Option BusFault) (k : ℕ) (name : Text) (s s' : SourceState) (end : Option WorkerEnd) (feed : Feed) → IsOpened files name s
-    → IsWorked j first k s s' end feed → IsServed files j k name s' feed
-one_served files j first k name s s' end feed o w = record {
-  bytes = w.bytes;
-  put = w.put;
-  named = subst (λ z. IfSome z (λ told. told ≡ name)) (sym w.given.same_name) o.named;
-  read = told_of files name feed.course w.bytes s s' o.holds w.given.gave;
-  within = w.given.within;
-  cmds_are = w.cmds_are;
-  puts = w.puts;
-  failed = failed_of feed.course w.bytes s s' w.given.gave o.new;
-  left = ended_of feed.course w.bytes s s' w.given.gave;
-}
-
--- ---- all sources
-
-pub all_served : (files : Option Files) (j : Journal) (first : Option BusFault) (k : ℕ) (names : List Text) (before after : List SourceState) (ends : List (Option WorkerEnd)) (feeds : List Feed)
-    → AreNew files names before → AreWorked j first k before after ends feeds → AreServed files j k names after feeds
-all_served files j first k [] [] [] [] [] n w = tt
-all_served files j first k [] [] [] [] (f ∷ feeds) n w = absurd w
-all_served files j first k [] [] [] (e ∷ ends) feeds n w = absurd w
-all_served files j first k [] [] (t ∷ after) ends feeds n w = absurd w
-all_served files j first k [] (s ∷ before) after ends feeds n w = absurd n
-all_served files j first k (name ∷ names) [] after ends feeds n w = absurd n
-all_served files j first k (name ∷ names) (s ∷ before) [] ends feeds n w = absurd w
-all_served files j first k (name ∷ names) (s ∷ before) (t ∷ after) [] feeds n w = absurd w
-all_served files j first k (name ∷ names) (s ∷ before) (t ∷ after) (e ∷ ends) [] n w = absurd w
-all_served files j first k (name ∷ names) (s ∷ before) (t ∷ after) (e ∷ ends) (f ∷ feeds) n w =
-    (one_served files j first k name s t e f n.0 w.0, all_served files j first (suc k) names before after ends feeds n.1 w.1)
-
 pub new_length : (files : Option Files) (names : List Text) (before : List SourceState) → AreNew files names before → length names ≡ length before
 new_length files [] [] n = refl
 new_length files [] (s ∷ before) n = absurd n
 new_length files (name ∷ names) [] n = absurd n
 new_length files (name ∷ names) (s ∷ before) n = let e = new_length files names before n.1 in omega (arith, e)
 
--- their lines stand in a journal that goes on without lines
-pub worked_later : (j j' : Journal) (first : Option BusFault) → ((k : ℕ) (cmds : List Cmd) → ArePutFrom k j cmds → ArePutFrom k j' cmds) → (k : ℕ) (before after : List SourceState)
-    (ends : List (Option WorkerEnd)) (feeds : List Feed) → AreWorked j first k before after ends feeds → AreWorked j' first k before after ends feeds
-worked_later j j' first puts k [] [] [] [] w = tt
-worked_later j j' first puts k [] [] [] (f ∷ feeds) w = absurd w
-worked_later j j' first puts k [] [] (e ∷ ends) feeds w = absurd w
-worked_later j j' first puts k [] (t ∷ after) ends feeds w = absurd w
-worked_later j j' first puts k (s ∷ before) [] ends feeds w = absurd w
-worked_later j j' first puts k (s ∷ before) (t ∷ after) [] feeds w = absurd w
-worked_later j j' first puts k (s ∷ before) (t ∷ after) (e ∷ ends) [] w = absurd w
-worked_later j j' first puts k (s ∷ before) (t ∷ after) (e ∷ ends) (f ∷ feeds) w = (
-  record { bytes = w.0.bytes; put = w.0.put; given = w.0.given; cmds_are = w.0.cmds_are; puts = puts k w.0.put w.0.puts; over = w.0.over },
-  worked_later j j' first puts (suc k) before after ends feeds w.1,
-)
+module _ (reading : Text → Option Config) where
+  one_served : (files : Option Files) (j : Journal) (first : Option BusFault) (k : ℕ) (name : Text) (s s' : SourceState) (end : Option WorkerEnd) (feed : Feed) → IsOpened files name s
+      → IsWorked reading j first k s s' end feed → IsServed reading files j k name s' feed
+  one_served files j first k name s s' end feed o w = record {
+    bytes = w.bytes;
+    put = w.put;
+    named = subst (λ z. IfSome z (λ told. told ≡ name)) (sym w.given.same_name) o.named;
+    read = told_of files name feed.course w.bytes s s' o.holds w.given.gave;
+    within = w.given.within;
+    cmds_are = w.cmds_are;
+    puts = w.puts;
+    failed = failed_of feed.course w.bytes s s' w.given.gave o.new;
+    left = ended_of feed.course w.bytes s s' w.given.gave;
+  }
+
+  -- ---- all sources
+
+  pub all_served : (files : Option Files) (j : Journal) (first : Option BusFault) (k : ℕ) (names : List Text) (before after : List SourceState) (ends : List (Option WorkerEnd)) (feeds : List Feed)
+      → AreNew files names before → AreWorked reading j first k before after ends feeds → AreServed reading files j k names after feeds
+  all_served files j first k [] [] [] [] [] n w = tt
+  all_served files j first k [] [] [] [] (f ∷ feeds) n w = absurd w
+  all_served files j first k [] [] [] (e ∷ ends) feeds n w = absurd w
+  all_served files j first k [] [] (t ∷ after) ends feeds n w = absurd w
+  all_served files j first k [] (s ∷ before) after ends feeds n w = absurd n
+  all_served files j first k (name ∷ names) [] after ends feeds n w = absurd n
+  all_served files j first k (name ∷ names) (s ∷ before) [] ends feeds n w = absurd w
+  all_served files j first k (name ∷ names) (s ∷ before) (t ∷ after) [] feeds n w = absurd w
+  all_served files j first k (name ∷ names) (s ∷ before) (t ∷ after) (e ∷ ends) [] n w = absurd w
+  all_served files j first k (name ∷ names) (s ∷ before) (t ∷ after) (e ∷ ends) (f ∷ feeds) n w =
+      (one_served files j first k name s t e f n.0 w.0, all_served files j first (suc k) names before after ends feeds n.1 w.1)
+
+  -- their lines stand in a journal that goes on without lines
+  pub worked_later : (j j' : Journal) (first : Option BusFault) → ((k : ℕ) (cmds : List Cmd) → ArePutFrom k j cmds → ArePutFrom k j' cmds) → (k : ℕ) (before after : List SourceState)
+      (ends : List (Option WorkerEnd)) (feeds : List Feed) → AreWorked reading j first k before after ends feeds → AreWorked reading j' first k before after ends feeds
+  worked_later j j' first puts k [] [] [] [] w = tt
+  worked_later j j' first puts k [] [] [] (f ∷ feeds) w = absurd w
+  worked_later j j' first puts k [] [] (e ∷ ends) feeds w = absurd w
+  worked_later j j' first puts k [] (t ∷ after) ends feeds w = absurd w
+  worked_later j j' first puts k (s ∷ before) [] ends feeds w = absurd w
+  worked_later j j' first puts k (s ∷ before) (t ∷ after) [] feeds w = absurd w
+  worked_later j j' first puts k (s ∷ before) (t ∷ after) (e ∷ ends) [] w = absurd w
+  worked_later j j' first puts k (s ∷ before) (t ∷ after) (e ∷ ends) (f ∷ feeds) w = (
+    record { bytes = w.0.bytes; put = w.0.put; given = w.0.given; cmds_are = w.0.cmds_are; puts = puts k (map (prepared reading) w.0.put) w.0.puts; over = w.0.over },
+    worked_later j j' first puts (suc k) before after ends feeds w.1,
+  )
 
 -- ---- how they ended
 
@@ -122,8 +125,8 @@ through_of WorkerEnd.TooLong feed h = record { all = h.1; over = λ e. goes_not 
 through_of WorkerEnd.Stopped feed h = absurd h
 through_of WorkerEnd.Memory feed h = absurd h
 
-module _ (j : Journal) (first : Option BusFault) (free : first ≡ None) where
-  pub all_through : (k : ℕ) (before after : List SourceState) (ends : List (Option WorkerEnd)) (feeds : List Feed) → AreWorked j first k before after ends feeds → Each IsThrough feeds
+module _ (reading : Text → Option Config) (j : Journal) (first : Option BusFault) (free : first ≡ None) where
+  pub all_through : (k : ℕ) (before after : List SourceState) (ends : List (Option WorkerEnd)) (feeds : List Feed) → AreWorked reading j first k before after ends feeds → Each IsThrough feeds
   all_through k [] [] [] [] w = tt
   all_through k [] [] [] (f ∷ feeds) w = absurd w
   all_through k [] [] (e ∷ ends) feeds w = absurd w
@@ -135,7 +138,7 @@ module _ (j : Journal) (first : Option BusFault) (free : first ≡ None) where
       let o = w.0.over free in (through_of o.0 f o.2, all_through (suc k) before after ends feeds w.1)
 
   -- the status by the ends of the workers: all came to their ends, or this is the first that did not
-  pub told_cases : (P : Status → Type 0) (k : ℕ) (before after : List SourceState) (ends : List (Option WorkerEnd)) (feeds : List Feed) → AreWorked j first k before after ends feeds
+  pub told_cases : (P : Status → Type 0) (k : ℕ) (before after : List SourceState) (ends : List (Option WorkerEnd)) (feeds : List Feed) → AreWorked reading j first k before after ends feeds
       → (Each IsEnded feeds → P Status.Ok) → ((i : ℕ) → IsFirst Course.Fails i feeds → P (Status.ReadFault (Some (k + i))))
       → ((i : ℕ) → IsFirst Course.Exceeds i feeds → P (Status.SourceTooLong (k + i))) → P (told_by k ends)
   told_cases P k [] [] [] [] w ok lost long = ok tt

@@ -1,5 +1,7 @@
 -- What stands where the status line is written, or memory ran out last.
-use Rattle.std.proofs.Common.{inl, inr, sym, subst, List, Some, None}
+use Rattle.std.proofs.Common.{inl, inr, sym, subst, List, Option, Some, None}
+use Rattle.ha_config.specs.declared.config.Config.{Config}
+use Rattle.ha_config.specs.Words.{Text}
 use Rattle.ha_journal.specs.declared.entry.Entry.{Entry}
 use Rattle.ha_status.specs.declared.status.Status.{Status}
 use Rattle.ha_run.specs.Served.{AreOpened, Feed}
@@ -9,26 +11,26 @@ use Rattle.ha_run.specs.Stands.{IsCutShort, OpenedNone, Ran, RanFull, RanNothing
 none_opened : (s : Scene) → OpenedNone s → RanNothing s
 none_opened s h = record { no_entry = h.no_entry; no_record = h.no_record; opened = subst (AreOpened s.names) (sym h.no_source) tt }
 
-module _ (B B' : List Entry → Type 0) (s : Scene) (begins : B s.journal → B' s.journal) (w w' : Writings) (ended : w.Ended → w'.Ended) (cut : w.EndCut → w'.EndCut) (whole : w.Whole → w'.Whole)
+module _ (reading : Text → Option Config) (B B' : List Entry → Type 0) (s : Scene) (begins : B s.journal → B' s.journal) (w w' : Writings) (ended : w.Ended → w'.Ended) (cut : w.EndCut → w'.EndCut) (whole : w.Whole → w'.Whole)
     (part : w.Part → w'.Part) (nothing : w.Nothing → w'.Nothing) where
-  ran_in : (feeds : List Feed) → Ran B s feeds → Ran B' s feeds
-  ran_in feeds r = record { begins = begins r.begins; lawful = r.lawful; room = r.room; named = r.named; served = r.served }
+  ran_in : (feeds : List Feed) → Ran reading B s feeds → Ran reading B' s feeds
+  ran_in feeds r = record { begins = begins r.begins; lawful = r.lawful; read = r.read; room = r.room; named = r.named; served = r.served }
 
-  through_in : (feeds : List Feed) → RanThrough B s feeds → RanThrough B' s feeds
+  through_in : (feeds : List Feed) → RanThrough reading B s feeds → RanThrough reading B' s feeds
   through_in feeds r = record { ran = ran_in feeds r.ran; through = r.through; quiet = r.quiet }
 
-  some_in : RanSome B s → RanSome B' s
+  some_in : RanSome reading B s → RanSome reading B' s
   some_in r = record { feeds = r.feeds; ran = ran_in r.feeds r.ran }
 
-  full_in : RanFull B s → RanFull B' s
+  full_in : RanFull reading B s → RanFull reading B' s
   full_in r = record { feeds = r.feeds; ran = ran_in r.feeds r.ran; full = r.full }
 
-  short_in : IsCutShort B s w → IsCutShort B' s w'
+  short_in : IsCutShort reading B s w → IsCutShort reading B' s w'
   short_in (inl h) = inl (part h.0, some_in h.1)
   short_in (inr h) = inr (cut h.0, (h.1.0, through_in h.1.0 h.1.1))
 
   -- in other words on what was written
-  pub stands_in : (x : Status) → StandsAt B s w x → StandsAt B' s w' x
+  pub stands_in : (x : Status) → StandsAt reading B s w x → StandsAt reading B' s w' x
   stands_in Status.Ok h = (ended h.0, (h.1.0, through_in h.1.0 h.1.1, h.1.2))
   stands_in Status.Usage h = h
   stands_in (Status.ConfigRefused line code) h = (nothing h.0, h.1)
@@ -46,13 +48,13 @@ module _ (B B' : List Entry → Type 0) (s : Scene) (begins : B s.journal → B'
   stands_in (Status.TraceRefused line) h = h
 
 -- want of memory came last: the same stands
-module _ (B : List Entry → Type 0) (s : Scene) (w w' : Writings) (cut : w.EndCut → w'.EndCut) (part : w.Part → w'.Part) (nothing : w.Nothing → w'.Nothing) (ended_cut : w.Ended → w'.EndCut)
+module _ (reading : Text → Option Config) (B : List Entry → Type 0) (s : Scene) (w w' : Writings) (cut : w.EndCut → w'.EndCut) (part : w.Part → w'.Part) (nothing : w.Nothing → w'.Nothing) (ended_cut : w.Ended → w'.EndCut)
     (whole_part : w.Whole → w'.Part) where
-  still_short : IsCutShort B s w → IsCutShort B s w'
+  still_short : IsCutShort reading B s w → IsCutShort reading B s w'
   still_short (inl h) = inl (part h.0, h.1)
   still_short (inr h) = inr (cut h.0, h.1)
 
-  pub stands_memory : (x : Status) → StandsAt B s w x → StandsAt B s w' Status.Memory
+  pub stands_memory : (x : Status) → StandsAt reading B s w x → StandsAt reading B s w' Status.Memory
   stands_memory Status.Ok h = inr (inr (ended_cut h.0, (h.1.0, h.1.1)))
   stands_memory Status.Usage h = absurd h
   stands_memory (Status.ConfigRefused line code) h = inl (nothing h.0, inl (none_opened s h.1))

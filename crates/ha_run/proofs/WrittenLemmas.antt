@@ -5,8 +5,8 @@ use Rattle.std.proofs.lemmas.Option.{IfSome_then, none-some, same_Some}
 use Rattle.std.specs.Prelude.{is_some}
 use Rattle.std.specs.Option.{option_map}
 use Rattle.ha_io.specs.Told.{Takes}
-use Rattle.ha_journal.specs.Journal.{Journal, names}
-use Rattle.ha_journal.specs.EntryText.{end_line, texts_after, trace_line, trace_text}
+use Rattle.ha_journal.specs.Journal.{Journal}
+use Rattle.ha_journal.specs.EntryText.{end_line, texts_after, trace_line}
 use Rattle.ha_config.specs.Words.{Text}
 use Rattle.bus_turn.specs.declared.fault.BusFault.{BusFault}
 use Rattle.bus_turn.specs.Buses.{HasTaken, HasTakenFront, IsBetween, IsCut, IsWritten}
@@ -19,11 +19,12 @@ use Rattle.bus_pass.specs.declared.hand.Origin.{Origin}
 use Rattle.bus_pass.specs.declared.hand.SinkMark.{SinkMark}
 use Rattle.bus_pass.specs.Origins.{mark_of, origin_of}
 use Rattle.ha_run.specs.Core.{IsEndCut, IsEndWritten, SameOutside, SameSink, SameTrace, view_of}
+use Rattle.ha_whole.specs.Trace.{names, trace_text}
 
 -- ---- the end of the trace
 
 trace_whole : (j : Journal) → trace_text j true ≡ trace_text j false ++ end_line (length j)
-trace_whole j = sym (ap (λ (z : Text). z ++ end_line (length j)) (append-nil (texts_after (λ before x. trace_line (names j) x) [] j)))
+trace_whole j = sym (ap (λ (z : Text). z ++ end_line (length j)) (append-nil (texts_after (λ before x. trace_line (names before) x) [] j)))
 
 between_whole : (done whole more t : Text) → whole ≡ done ++ more → t ≡ whole → IsBetween done t whole
 between_whole done whole more t e f = record { more_done = more; missing = []; begins = f ∙ e; ends = sym f ∙ sym (append-nil t) }

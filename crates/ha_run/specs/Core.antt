@@ -1,9 +1,9 @@
 -- What a run of a booted core leaves of what lies outside, before the status line.
 use Rattle.std.specs.Prelude.{ℕ, ◌≡◌, ◌⊎◌, true, false, List, [], ◌∷◌, Option, None, Some, IfSome, is_some}
+use Rattle.ha_config.specs.declared.config.Config.{Config}
 use Rattle.ha_journal.specs.declared.entry.Entry.{Entry}
 use Rattle.ha_model.specs.Records.{Records}
-use Rattle.ha_model.specs.Texts.{call_text}
-use Rattle.ha_journal.specs.EntryText.{error_text, trace_text}
+use Rattle.ha_journal.specs.EntryText.{error_text}
 use Rattle.ha_status.specs.declared.status.Status.{Status}
 use Rattle.ha_status.specs.Files.{Files}
 use Rattle.ha_config.specs.Words.{Text}
@@ -14,6 +14,7 @@ use Rattle.bus_turn.specs.States.{Outside, SinkState}
 use Rattle.ha_worker.specs.Courses.{SourceState}
 use Rattle.ha_run.specs.Opened.{AreNew}
 use Rattle.ha_run.specs.Stands.{StandsAt, Writings}
+use Rattle.ha_whole.specs.Trace.{call_text, trace_text}
 
 -- ---- what was written
 
@@ -90,10 +91,10 @@ OutCause status out = Unit {0}
 
 -- A core that was booted so ran on sources that are these before: what stands at its status, whatever the files and the names are for which
 -- the sources were opened.
-pub record CoreRan (boot : Entry) (before : Outside) (opened : List SourceState) (status : Status)
+pub record CoreRan (reading : Text → Option Config) (boot : Entry) (before : Outside) (opened : List SourceState) (status : Status)
     (journal : List Entry) (records : Records) (sources : List SourceState) (after : Outside) : Type 0 where
   pub stands : (files : Option Files) (names : List Text) → AreNew files names opened
-      → StandsAt (BeginsWith boot) (record { files = files; names = names; journal = journal; records = records; sources = sources })
+      → StandsAt reading (BeginsWith boot) (record { files = files; names = names; journal = journal; records = records; sources = sources })
       (writings before (view_of journal records after)) status
   pub same : SameOutside before after
   pub cause : OutCause status after

@@ -1,6 +1,8 @@
 -- What becomes of the sources of a run, and of their lines.
-use Rattle.std.specs.Prelude.{ℕ, zero, suc, ◌≡◌, ◌≢◌, ◌<◌, ◌≤◌, ◌⊎◌, true, List, [], ◌∷◌, ◌++◌, length, Option, Some, IfSome, IsSomeAnd, slice_get}
+use Rattle.std.specs.Prelude.{ℕ, zero, suc, ◌≡◌, ◌≢◌, ◌<◌, ◌≤◌, ◌⊎◌, true, List, [], ◌∷◌, ◌++◌, length, map, Option, Some, IfSome, IsSomeAnd, slice_get}
 use Rattle.ha_config.specs.declared.command.Cmd.{Cmd}
+use Rattle.ha_config.specs.declared.config.Config.{Config}
+use Rattle.ha_config.specs.Fair.{prepared}
 use Rattle.ha_journal.specs.declared.entry.Entry.{Entry}
 use Rattle.ha_journal.specs.declared.entry.Entry.TheVariants.{Boot, Line, Step, Again}
 use Rattle.ha_journal.specs.Commands.{ArePutFrom}
@@ -33,24 +35,24 @@ IsReadOf Course.Exceeds bytes left file =
     (length bytes ≡ most_bytes) × ((next : ℕ) × (rest : Text) × (left ≡ Some rest) × (file ≡ bytes ++ next ∷ rest))
 
 -- Of source k, which has this name, these bytes were read, within its bound; its lines in the journal are put from all their commands, in
--- order, each once, but for the last ones, which are not put. At its end nothing is left in it; where a read failed, its count tells.
-pub record IsServed (files : Option Files) (journal : List Entry) (k : ℕ) (name : Text) (source : SourceState) (feed : Feed) : Type 0 where
+-- order, each once, each Reload with what its text is read as, but for the last ones, which are not put. At its end nothing is left in it; where a read failed, its count tells.
+pub record IsServed (reading : Text → Option Config) (files : Option Files) (journal : List Entry) (k : ℕ) (name : Text) (source : SourceState) (feed : Feed) : Type 0 where
   pub bytes : Text
   pub put : List Cmd
   pub named : IfSome source.name (λ told. told ≡ name)
   pub read : IfSome files (λ f. IsSomeAnd (f name) (IsReadOf feed.course bytes source.left))
   pub within : length bytes ≤ most_bytes
   pub cmds_are : cmds_by feed.course bytes ≡ put ++ feed.unput
-  pub puts : ArePutFrom k journal put
+  pub puts : ArePutFrom k journal (map (prepared reading) put)
   pub failed : feed.course ≡ Course.Fails → 0 < source.faults
   pub left : feed.course ≡ Course.Ends → IfSome source.left (λ left. left ≡ [])
 
 -- so of each source, by its name, from source k on
-abbrev pub AreServed : Option Files → List Entry → ℕ → List Text → List SourceState → List Feed → Type 0
-AreServed files journal k [] [] [] = Unit {0}
-AreServed files journal k (name ∷ names) (source ∷ sources) (feed ∷ feeds) =
-    IsServed files journal k name source feed × AreServed files journal (suc k) names sources feeds
-AreServed files journal k names sources feeds = ⊥
+abbrev pub AreServed : (Text → Option Config) → Option Files → List Entry → ℕ → List Text → List SourceState → List Feed → Type 0
+AreServed reading files journal k [] [] [] = Unit {0}
+AreServed reading files journal k (name ∷ names) (source ∷ sources) (feed ∷ feeds) =
+    IsServed reading files journal k name source feed × AreServed reading files journal (suc k) names sources feeds
+AreServed reading files journal k names sources feeds = ⊥
 
 -- each entry is of one of the first n sources, or of its worker; a Boot and an Again are of none
 abbrev pub IsOf : ℕ → Entry → Type 0

@@ -1,6 +1,8 @@
 -- What stands at each status of a run.
 use Rattle.std.specs.Prelude.{◌≡◌, ◌⊎◌, true, false, List, [], length, Option, Some, None}
+use Rattle.ha_config.specs.declared.config.Config.{Config}
 use Rattle.ha_journal.specs.declared.entry.Entry.{Entry}
+use Rattle.ha_journal.specs.Commands.{AreRead}
 use Rattle.ha_whole.specs.Whole.{CannotRestart, IsFull, IsWithin, Lawful, is_quiet}
 use Rattle.ha_model.specs.Records.{Records}
 use Rattle.ha_config.specs.Words.{Text}
@@ -17,16 +19,17 @@ pub record Scene : Type 0 where
   pub records : Records
   pub sources : List SourceState
 
--- the journal begins as it must
-module _ (Begins : List Entry → Type 0) where
-  -- The journal is lawful with its records and within its bounds, and each entry is of a source that was named. The lines of each source
-  -- are put from the commands of the bytes that were read of it.
+-- what texts of configurations are read as; the journal begins as it must
+module _ (reading : Text → Option Config) (Begins : List Entry → Type 0) where
+  -- The journal is lawful with its records and within its bounds, the configuration of each Reload is the one that its text is read as, and
+  -- each entry is of a source that was named. The lines of each source are put from the commands of the bytes that were read of it.
   pub record Ran (s : Scene) (feeds : List Feed) : Type 0 where
     pub begins : Begins s.journal
     pub lawful : Lawful s.journal s.records
+    pub read : AreRead reading s.journal
     pub room : IsWithin s.journal
     pub named : Each (IsOf (length s.names)) s.journal
-    pub served : AreServed s.files s.journal 0 s.names s.sources feeds
+    pub served : AreServed reading s.files s.journal 0 s.names s.sources feeds
 
   -- all sources are through, and no run can go on
   pub record RanThrough (s : Scene) (feeds : List Feed) : Type 0 where
@@ -74,22 +77,22 @@ pub record Writings : Type 1 where
   pub Nothing : Type 0
 
 -- What stands at each status.
-module _ (Begins : List Entry → Type 0) (s : Scene) (w : Writings) where
+module _ (reading : Text → Option Config) (Begins : List Entry → Type 0) (s : Scene) (w : Writings) where
   -- a fault cut the run; or all sources were through and no run could go on, and the fault came no earlier than at the end of the trace
   abbrev pub IsCutShort : Type 0
-  IsCutShort = (w.Part × RanSome Begins s) ⊎ (w.EndCut × ((feeds : List Feed) × RanThrough Begins s feeds))
+  IsCutShort = (w.Part × RanSome reading Begins s) ⊎ (w.EndCut × ((feeds : List Feed) × RanThrough reading Begins s feeds))
 
   abbrev pub StandsAt : Status → Type 0
-  StandsAt Status.Ok = w.Ended × ((feeds : List Feed) × RanThrough Begins s feeds × Each IsEnded feeds)
+  StandsAt Status.Ok = w.Ended × ((feeds : List Feed) × RanThrough reading Begins s feeds × Each IsEnded feeds)
   StandsAt Status.Usage = ⊥
   StandsAt (Status.ConfigRefused line code) = w.Nothing × OpenedNone s
   StandsAt (Status.OpenFault name) = w.Nothing × RanNothing s
   StandsAt (Status.ReadFault None) = w.Nothing × NotRead s
-  StandsAt (Status.ReadFault (Some k)) = w.Ended × ((feeds : List Feed) × RanThrough Begins s feeds × IsFirst Course.Fails k feeds)
+  StandsAt (Status.ReadFault (Some k)) = w.Ended × ((feeds : List Feed) × RanThrough reading Begins s feeds × IsFirst Course.Fails k feeds)
   StandsAt (Status.WriteFault zero) = IsCutShort
-  StandsAt Status.KeepFault = (w.Nothing × OpenedNone s) ⊎ (w.Part × RanSome Begins s)
-  StandsAt Status.JournalFull = w.Whole × RanFull Begins s
-  StandsAt (Status.SourceTooLong k) = w.Ended × ((feeds : List Feed) × RanThrough Begins s feeds × IsFirst Course.Exceeds k feeds)
+  StandsAt Status.KeepFault = (w.Nothing × OpenedNone s) ⊎ (w.Part × RanSome reading Begins s)
+  StandsAt Status.JournalFull = w.Whole × RanFull reading Begins s
+  StandsAt (Status.SourceTooLong k) = w.Ended × ((feeds : List Feed) × RanThrough reading Begins s feeds × IsFirst Course.Exceeds k feeds)
   StandsAt (Status.StoreRefused code) = w.Nothing × OpenedNone s
   StandsAt Status.Memory = (w.Nothing × (RanNothing s ⊎ NotRead s)) ⊎ IsCutShort
   StandsAt (Status.TraceRefused line) = ⊥

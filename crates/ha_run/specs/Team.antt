@@ -1,7 +1,9 @@
 -- The workers of a run: what is seen of each, and what they leave. (Stages of the code, no part of what it promises.)
-use Rattle.std.specs.Prelude.{ℕ, suc, ◌≡◌, ◌<◌, ◌⊎◌, true, false, List, [], ◌∷◌, ◌++◌, length, Option, None, Some}
+use Rattle.std.specs.Prelude.{ℕ, suc, ◌≡◌, ◌<◌, ◌⊎◌, true, false, List, [], ◌∷◌, ◌++◌, length, map, Option, None, Some}
 use Rattle.crossbeam_channel.specs.Claims.{view}
 use Rattle.ha_config.specs.declared.command.Cmd.{Cmd}
+use Rattle.ha_config.specs.declared.config.Config.{Config}
+use Rattle.ha_config.specs.Fair.{prepared}
 use Rattle.ha_journal.specs.Commands.{ArePutFrom}
 use Rattle.ha_journal.specs.Journal.{Journal}
 use Rattle.ha_whole.specs.Whole.{IsFull, Running, is_quiet}
@@ -52,7 +54,7 @@ pub record Seat : Type 0 where
 abbrev pub seat : ℕ → ℕ → Option WorkerEnd → SourceState → Hand → Seat
 seat id next end source hand = record { id = id; next = next; end = end; source = source; hand = hand }
 
-abbrev pub seat_of : {S C K Q : Type 0} → (S → SourceState) → Worker S C K Q → Seat
+abbrev pub seat_of : {S C K Q P : Type 0} → (S → SourceState) → Worker S C K Q P → Seat
 seat_of state w = seat w.id w.next w.end (state w.source) (view w.pass)
 
 -- before its work
@@ -77,21 +79,21 @@ pub record IsAble (s : Seat) : Type 0 where
   pub end : s.end ≡ None
 
 -- what its work makes of it
-pub record Works (old new : Seat) : Type 0 where
+pub record Works (reading : Text → Option Config) (old new : Seat) : Type 0 where
   pub end : WorkerEnd
   pub end_is : new.end ≡ Some end
-  pub worked : Worked old.id end new.hand old.source new.source
+  pub worked : Worked reading old.id end new.hand old.source new.source
 
 -- after its work
-pub record IsDone (k : ℕ) (before : SourceState) (s : Seat) : Type 0 where
+pub record IsDone (reading : Text → Option Config) (k : ℕ) (before : SourceState) (s : Seat) : Type 0 where
   pub end : WorkerEnd
   pub end_is : s.end ≡ Some end
-  pub worked : Worked k end s.hand before s.source
+  pub worked : Worked reading k end s.hand before s.source
 
-abbrev pub AreDone : ℕ → List SourceState → List Seat → Type 0
-AreDone k [] [] = Unit {0}
-AreDone k (source ∷ sources) (s ∷ seats) = IsDone k source s × AreDone (suc k) sources seats
-AreDone k sources seats = ⊥
+abbrev pub AreDone : (Text → Option Config) → ℕ → List SourceState → List Seat → Type 0
+AreDone reading k [] [] = Unit {0}
+AreDone reading k (source ∷ sources) (s ∷ seats) = IsDone reading k source s × AreDone reading (suc k) sources seats
+AreDone reading k sources seats = ⊥
 
 -- the first pass, after it has split off n, when it has taken in none
 pub record IsLead (n : ℕ) (origin : Origin) (v : Hand) : Type 0 where
@@ -123,26 +125,26 @@ IsOver WorkerEnd.TooLong feed = (feed.course ≡ Course.Exceeds) × (feed.unput 
 IsOver WorkerEnd.Stopped feed = ⊥
 IsOver WorkerEnd.Memory feed = ⊥
 
--- Source k was read, and its lines were put. Where the bus keeps no fault, its worker came to an end.
-pub record IsWorked (journal : Journal) (first : Option BusFault) (k : ℕ)
+-- Source k was read, and its lines were put, each Reload with what its text is read as. Where the bus keeps no fault, its worker came to an end.
+pub record IsWorked (reading : Text → Option Config) (journal : Journal) (first : Option BusFault) (k : ℕ)
     (before after : SourceState) (end : Option WorkerEnd) (feed : Feed) : Type 0 where
   pub bytes : Text
   pub put : List Cmd
   pub given : HasGiven feed.course bytes before after
   pub cmds_are : cmds_by feed.course bytes ≡ put ++ feed.unput
-  pub puts : ArePutFrom k journal put
+  pub puts : ArePutFrom k journal (map (prepared reading) put)
   pub over : first ≡ None → (e : WorkerEnd) × (end ≡ Some e) × IsOver e feed
 
-abbrev pub AreWorked : Journal → Option BusFault → ℕ → List SourceState → List SourceState → List (Option WorkerEnd) → List Feed → Type 0
-AreWorked journal first k [] [] [] [] = Unit {0}
-AreWorked journal first k (s ∷ before) (t ∷ after) (e ∷ ends) (f ∷ feeds) =
-    IsWorked journal first k s t e f × AreWorked journal first (suc k) before after ends feeds
-AreWorked journal first k before after ends feeds = ⊥
+abbrev pub AreWorked : (Text → Option Config) → Journal → Option BusFault → ℕ → List SourceState → List SourceState → List (Option WorkerEnd) → List Feed → Type 0
+AreWorked reading journal first k [] [] [] [] = Unit {0}
+AreWorked reading journal first k (s ∷ before) (t ∷ after) (e ∷ ends) (f ∷ feeds) =
+    IsWorked reading journal first k s t e f × AreWorked reading journal first (suc k) before after ends feeds
+AreWorked reading journal first k before after ends feeds = ⊥
 
 -- the bus went round among the workers
-pub record WentRound (base b : BusView) (before after : List SourceState) (ends : List (Option WorkerEnd)) : Type 0 where
+pub record WentRound (reading : Text → Option Config) (base b : BusView) (before after : List SourceState) (ends : List (Option WorkerEnd)) : Type 0 where
   pub feeds : List Feed
-  pub worked : AreWorked b.journal b.first 0 before after ends feeds
+  pub worked : AreWorked reading b.journal b.first 0 before after ends feeds
   pub named : Each (IsOf (length before)) b.journal
   pub running : Running b.journal b.records
   pub same : origin_of b ≡ origin_of base
@@ -157,5 +159,5 @@ pub record StoodStill (base b : BusView) (before after : List SourceState) : Typ
   pub fault : (b.first ≡ None) → ⊥
   pub stopped : (f : BusFault) → b.first ≡ Some f → (base.first ≡ Some f) ⊎ ((base.first ≡ None) × (f ≡ BusFault.Memory))
 
-abbrev pub Teamed : BusView → BusView → List SourceState → List SourceState → List (Option WorkerEnd) → Type 0
-Teamed base b before after ends = WentRound base b before after ends ⊎ StoodStill base b before after
+abbrev pub Teamed : (Text → Option Config) → BusView → BusView → List SourceState → List SourceState → List (Option WorkerEnd) → Type 0
+Teamed reading base b before after ends = WentRound reading base b before after ends ⊎ StoodStill base b before after

@@ -56,7 +56,7 @@ fn without_memory<S: Source, C: Core + Drop, K: Sink, Q: Keeper>(
     sources: Many<S>,
 ) -> Round<S, C, K, Q>
     requires free { bus.first ≡ None }
-    ensures { Teamed bus result.bus (map (source_of S.faults S.left S.name) sources) (map (source_of S.faults S.left S.name) result.sources) [] × (result.told ≡ Status.Ok) }
+    ensures { Teamed C.Prepare.reads bus result.bus (map (source_of S.faults S.left S.name) sources) (map (source_of S.faults S.left S.name) result.sources) [] × (result.told ≡ Status.Ok) }
 {
     let mut bus = bus;
     bus.run_out();
@@ -92,7 +92,7 @@ fn send_round<
     requires seats { length sources ≤ vec_capacity seats }
     requires no_source { back.items ≡ [] }
     requires back { length sources ≤ vec_capacity back }
-    ensures { (base : BusView) → IsLead 0 (origin_of base) (view pass) → (ends : List (Option End)) × WentRound base result.bus (map (source_of S.faults S.left S.name) sources) (map (source_of S.faults S.left S.name) result.sources) ends × (result.told ≡ told_by 0 ends) }
+    ensures { (base : BusView) → IsLead 0 (origin_of base) (view pass) → (ends : List (Option End)) × WentRound C.Prepare.reads base result.bus (map (source_of S.faults S.left S.name) sources) (map (source_of S.faults S.left S.name) result.sources) ends × (result.told ≡ told_by 0 ends) }
 {
     let mut pass = pass;
     let workers = hire(&turn, &mut pass, sources, seats);
@@ -115,7 +115,7 @@ fn go_round<
 >(rt: &R, alloc: Global, bus: Bus<C, K, Q>, sources: Many<S>, gate: &G) -> Round<S, C, K, Q>
     requires boot { (boot : Entry) × (bus.journal ≡ boot ∷ []) }
     requires few { length sources ≤ 16 }
-    ensures { (ends : List (Option End)) × Teamed bus result.bus (map (source_of S.faults S.left S.name) sources) (map (source_of S.faults S.left S.name) result.sources) ends × (result.told ≡ told_by 0 ends) }
+    ensures { (ends : List (Option End)) × Teamed C.Prepare.reads bus result.bus (map (source_of S.faults S.left S.name) sources) (map (source_of S.faults S.left S.name) result.sources) ends × (result.told ≡ told_by 0 ends) }
 {
     if bus.first().is_some() {
         return Round {
@@ -168,7 +168,7 @@ pub fn run_core<
     ensures ran { let s = sink_of K.written K.faults K.zeros K.name in
         let q = keeper_of Q.kept Q.faults in
         (boot : Entry) → C.entries core ≡ boot ∷ []
-        → CoreRan boot (outside_of s q out err trace keep) (map (source_of S.faults S.left S.name) sources) result.status result.journal result.records
+        → CoreRan C.Prepare.reads boot (outside_of s q out err trace keep) (map (source_of S.faults S.left S.name) sources) result.status result.journal result.records
         (map (source_of S.faults S.left S.name) result.sources) (outside_of s q result.out result.err result.trace result.keep) }
 {
     let bus = Bus::start(alloc, core, out, err, trace, keep);

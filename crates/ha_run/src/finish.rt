@@ -1,5 +1,6 @@
 //! The end of a run, when the workers have ended.
 ghost use Rattle.std.specs.Prelude.{◌≡◌, None, option_map, true};
+ghost use Rattle.ha_journal.specs.Commands.{AreRead};
 ghost use Rattle.ha_whole.specs.Whole.{Lawful, is_quiet};
 ghost use Rattle.bus_turn.specs.States.{keeper_of, outside_of, sink_of};
 ghost use Rattle.ha_run.specs.Core.{IsHandedOn};
@@ -43,11 +44,13 @@ fn stopped<C: Core, K: Sink, Q: Keeper>(bus: Bus<C, K, Q>, status: Status) -> Re
     ensures status { result.status ≡ status }
     ensures journal { result.journal ≡ bus.journal }
     ensures records { result.records ≡ bus.records }
+    ensures read { AreRead C.Prepare.reads result.journal }
     ensures out { let s = sink_of K.written K.faults K.zeros K.name in
         let q = keeper_of Q.kept Q.faults in
         outside_of s q result.calls result.errors result.trace result.keep ≡ bus.out }
 {
     let (core, calls, errors, trace, keep) = bus.into_parts();
+    let _ = core.journal();
     let (journal, records) = core.into_parts();
     Rest {
         status,
@@ -75,6 +78,7 @@ fn status_behind(first: Option<BusFault>, told: Status) -> Status
 fn ended<C: Core, K: Sink, Q: Keeper>(alloc: Global, bus: Bus<C, K, Q>, told: Status) -> Rest<K, Q>
     requires free { bus.first ≡ None }
     requires quiet { is_quiet bus.records bus.journal ≡ true }
+    ensures read { AreRead C.Prepare.reads result.journal }
     ensures handed { IsHandedOn (option_map K.kept result.trace) result.status }
     ensures ends { let s = sink_of K.written K.faults K.zeros K.name in
         let q = keeper_of Q.kept Q.faults in
@@ -90,6 +94,7 @@ fn ended<C: Core, K: Sink, Q: Keeper>(alloc: Global, bus: Bus<C, K, Q>, told: St
         first,
     } = bus.end(alloc);
     let status = status_behind(first, told);
+    let _ = core.journal();
     let (journal, records) = core.into_parts();
     Rest {
         status,
@@ -105,6 +110,7 @@ fn ended<C: Core, K: Sink, Q: Keeper>(alloc: Global, bus: Bus<C, K, Q>, told: St
 /// Ends a bus: the status is that of its first fault, and else `told`.
 fn end<C: Core, K: Sink, Q: Keeper>(alloc: Global, bus: Bus<C, K, Q>, told: Status) -> Rest<K, Q>
     requires quiet { bus.first ≡ None → is_quiet bus.records bus.journal ≡ true }
+    ensures read { AreRead C.Prepare.reads result.journal }
     ensures handed { IsHandedOn (option_map K.kept result.trace) result.status }
     ensures ends { let s = sink_of K.written K.faults K.zeros K.name in
         let q = keeper_of Q.kept Q.faults in
@@ -123,6 +129,7 @@ pub(crate) fn finish<C: Core, K: Sink, Q: Keeper>(
     told: Status,
 ) -> Rest<K, Q>
     requires lawful { bus.first ≡ None → Lawful bus.journal bus.records }
+    ensures read { AreRead C.Prepare.reads result.journal }
     ensures handed { IsHandedOn (option_map K.kept result.trace) result.status }
     ensures finishes { let s = sink_of K.written K.faults K.zeros K.name in
         let q = keeper_of Q.kept Q.faults in

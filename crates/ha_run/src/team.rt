@@ -87,7 +87,7 @@ fn work_one<W: Wait, S: Source, C: Core + Drop, K: Sink, Q: Keeper, G: Gate>(
     worker: &mut Worker<S, C, K, Q>,
 )
     requires { IsPassOf turn.now worker.old.pass × IsAble (seat_of (source_of S.faults S.left S.name) worker.old) }
-    ensures { IsPassOf turn.now worker.new.pass × Works (seat_of (source_of S.faults S.left S.name) worker.old) (seat_of (source_of S.faults S.left S.name) worker.new) }
+    ensures { IsPassOf turn.now worker.new.pass × Works C.Prepare.reads (seat_of (source_of S.faults S.left S.name) worker.old) (seat_of (source_of S.faults S.left S.name) worker.new) }
 {
     let end = worker.work(rt, alloc, turn, gate);
     worker.end = Some(end);
@@ -106,7 +106,7 @@ pub(crate) fn work_all<
     requires able { All (λ w. IsAble (seat_of (source_of S.faults S.left S.name) w)) workers.old }
     ensures len { length workers.new ≡ length workers.old }
     ensures passes { All (λ w. IsPassOf turn.now w.pass) workers.new }
-    ensures done { (before : _) → AreReady 0 before (map (seat_of (source_of S.faults S.left S.name)) workers.old) → AreDone 0 before (map (seat_of (source_of S.faults S.left S.name)) workers.new) }
+    ensures done { (before : _) → AreReady 0 before (map (seat_of (source_of S.faults S.left S.name)) workers.old) → AreDone C.Prepare.reads 0 before (map (seat_of (source_of S.faults S.left S.name)) workers.new) }
 {
     let threads = workers.len().max(1);
     thread::for_each_mut(
@@ -115,7 +115,7 @@ pub(crate) fn work_all<
         threads,
         &|_place: usize, worker: &mut Worker<S, C, K, Q>|
             requires { IsPassOf turn.now worker.old.pass × IsAble (seat_of (source_of S.faults S.left S.name) worker.old) }
-            ensures { IsPassOf turn.entry.now worker.new.pass × Works (seat_of (source_of S.faults S.left S.name) worker.old) (seat_of (source_of S.faults S.left S.name) worker.new) }
+            ensures { IsPassOf turn.entry.now worker.new.pass × Works C.Prepare.reads (seat_of (source_of S.faults S.left S.name) worker.old) (seat_of (source_of S.faults S.left S.name) worker.new) }
         { work_one(rt, alloc, turn, gate, worker) },
     );
 }

@@ -1,6 +1,5 @@
 -- What the fields of an action stand for: the item that a call gives, or the code of its failure.
-use Rattle.std.specs.Prelude.{ℕ, ◌+◌, ◌*◌, Bool, true, false, not, ◌&&◌, nat_le, List, [], ◌∷◌, ◌++◌, map, filter_map, find, slice_get, Option, Some, None, Ok, Err, ok_or, is_some, option_map, option_and_then, codes, if◌then◌else◌}
-use Rattle.std.specs.List.{enumerate_from}
+use Rattle.std.specs.Prelude.{ℕ, ◌+◌, ◌*◌, Bool, true, false, not, ◌&&◌, nat_le, List, [], ◌∷◌, ◌++◌, map, filter_map, find, Option, Some, None, Result, Ok, Err, ok_or, is_some, option_map, option_and_then, unwrap_or, pos, negsuc, codes, if◌then◌else◌}
 use Rattle.std.specs.Option.{option_map_or}
 use Rattle.ha_value.specs.declared.value.EntityId.{EntityId}
 use Rattle.ha_value.specs.declared.value.Value.{Value}
@@ -18,7 +17,7 @@ use Rattle.ha_config.specs.Words.{Text, Pairs, same, last_pair, is_empty_text, p
 use Rattle.ha_config.specs.Numbers.{read_number}
 pub use Rattle.ha_sight.specs.Checks.{Checked, checked_map, checked_then, template_fault, no_service, no_target, no_duration, no_count, too_many_turns, no_value, turns_in, natural_in, whole_in}
 use Rattle.ha_sight.specs.Once.{each_number_once}
-use Rattle.ha_sight.specs.Sight.{Sight}
+use Rattle.ha_sight.specs.Sight.{Automations, Sight, switch_at}
 use Rattle.ha_sight.specs.Inner.{inner_of}
 use Rattle.ha_sight.specs.Templates.{rendered, data_of}
 
@@ -34,13 +33,12 @@ entities_in t = if is_empty_text t then Some [] else all_read (parts_between_com
 
 -- ---- the services of automations, which the engine does itself
 
--- the place of the automation that an entity id names, if it names one
-abbrev pub automation_at : List (Text × Bool) → EntityId → Option ℕ
-automation_at all e =
-    if same e.domain (codes "automation") then option_map (λ p. p.0) (find (λ p. same p.1.0 e.object) (enumerate_from 0 all)) else None
+-- the number of the automation that an entity id names, if it names one
+abbrev pub automation_at : Automations → EntityId → Option ℕ
+automation_at all e = if same e.domain (codes "automation") then option_map (λ p. p.0) (find (λ p. same p.1 e.object) all) else None
 
 -- the automations that the targets name, each once, in the order of the targets
-abbrev pub automations_of : List (Text × Bool) → List EntityId → List ℕ
+abbrev pub automations_of : Automations → List EntityId → List ℕ
 automations_of all targets = each_number_once (filter_map (automation_at all) targets)
 
 -- the flag of this name in the data; what is no flag counts as true
@@ -59,11 +57,11 @@ flag_named name ps = option_map_or (λ v. flag_or_true (out-Value v)) (last_pair
 abbrev pub switched_to : Bool → Pairs → ℕ → ℕ × Bool × Bool
 switched_to on ps a = (a, on, not on && flag_named (codes "stop_actions") ps)
 
-abbrev pub was_on : List (Text × Bool) → ℕ → Bool
-was_on all a = option_map_or (λ p. p.1) (slice_get all a) false
+abbrev pub was_on : Automations → ℕ → Bool
+was_on all a = unwrap_or (switch_at all a) false
 
 -- the item of a call: the four services of automations are done by the engine, from the switches seen
-abbrev pub item_of : List (Text × Bool) → Text → List EntityId → Pairs → Item
+abbrev pub item_of : Automations → Text → List EntityId → Pairs → Item
 item_of all service targets ps =
     if same service (codes "automation.turn_on") then Item.Switched (map (switched_to true ps) (automations_of all targets))
     else if same service (codes "automation.turn_off") then Item.Switched (map (switched_to false ps) (automations_of all targets))

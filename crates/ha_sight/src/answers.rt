@@ -1,5 +1,5 @@
 //! Answers on one place, and ends of waits.
-ghost use Rattle.std.specs.Prelude.{◌≡◌, ◌<◌, ℕ, List, Option, Some, None, length, option_map, IfOk, IfErr};
+ghost use Rattle.std.specs.Prelude.{◌≡◌, ℕ, List, Option, Some, None, option_map, IfOk, IfErr, IsSome};
 ghost use Rattle.std.specs.Option.{option_copied};
 ghost use Rattle.ha_value.specs.declared.value.Value.{Value};
 ghost use Rattle.ha_sight.specs.declared.waiting.WaitEnd.{WaitEnd};
@@ -38,13 +38,13 @@ pub trait Answers {
     fn now(&self) -> Moment
         ensures { result ≡ (sight self.now).now };
 
-    /// The place of the automation that has this id as its entity.
+    /// The number of the automation that has this id as its entity.
     fn automation(&self, id: &EntityId) -> Option<u32>
         ensures { result ≡ automation_at (sight self.now).automations id.now };
 
     /// Whether the automation is on.
     fn is_on(&self, automation: u32) -> bool
-        requires { automation < length (sight self.now).automations }
+        requires { IsSome (switch_seen (sight self.now) automation) }
         ensures { switch_seen (sight self.now) automation ≡ Some result };
 
     /// What the core does with a call of this service, with these targets and this data, itself.

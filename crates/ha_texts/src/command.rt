@@ -1,8 +1,9 @@
 //! Commands in the trace.
-ghost use Rattle.std.specs.Prelude.{◌≡◌, ◌≤◌, ◌++◌, OnOk};
+ghost use Rattle.std.specs.Prelude.{◌≡◌, ◌≤◌, ◌++◌, OnOk, Option};
 ghost use Rattle.ha_clock.specs.Local.{last_moment};
 ghost use Rattle.ha_config.specs.CommandText.{cmd_text};
-ghost use Rattle.ha_config.specs.declared.command.Cmd.TheVariants.{Event, Gone, Moment as At, Refused, Report, Switch, Trigger};
+ghost use Rattle.ha_config.specs.declared.config.Config.{Config as Configuration};
+ghost use Rattle.ha_config.specs.declared.command.Cmd.TheVariants.{Event, Gone, Moment as At, Refused, Reload, Report, Switch, Trigger};
 ghost use Rattle.ha_texts.specs.Lines.{IsDated, turned_text};
 
 use crate::names::{push_automation, push_flag, push_line_code, push_moment};
@@ -107,6 +108,15 @@ fn push_trigger(text: &mut Word, name: &Word, skip: bool) -> Result<(), AllocErr
     Ok(())
 }
 
+fn push_reload(text: &mut Word, shown: &Word) -> Result<(), AllocError>
+    ensures { (config : Option Configuration) → OnOk result (text.new ≡ text.old ++ cmd_text (Reload shown.now config)) }
+{
+    text.push_str("{\"reload\":")?;
+    push_quoted(text, shown.as_str())?;
+    text.push_byte(b'}')?;
+    Ok(())
+}
+
 fn push_refused(alloc: Global, text: &mut Word, code: u8) -> Result<(), AllocError>
     ensures { OnOk result (text.new ≡ text.old ++ cmd_text (Refused code)) }
 {
@@ -133,6 +143,7 @@ pub(crate) fn push_cmd(alloc: Global, text: &mut Word, cmd: &Cmd) -> Result<(), 
         Cmd::Switch { name, on, stop } => push_switch(text, name, *on, *stop),
         Cmd::Trigger { name, skip } => push_trigger(text, name, *skip),
         Cmd::Restart => text.push_str("{\"restart\":true}"),
+        Cmd::Reload { text: shown, .. } => push_reload(text, shown),
         Cmd::Refused(code) => push_refused(alloc, text, *code),
         Cmd::Lost => text.push_str("{\"lost\":true}"),
         Cmd::TooLong => text.push_str("{\"too_long\":true}"),

@@ -16,7 +16,7 @@ use Rattle.bus_turn.specs.States.{SinkState}
 use Rattle.ha_run.specs.Served.{AreOpened}
 use Rattle.ha_run.specs.Stands.{OpenedNone, RanNothing, StandsAt}
 use Rattle.ha_top.specs.Opening.{IsOpenFault, TraceOpenCause}
-use Rattle.conf_auto.specs.Config.{config_of}
+use Rattle.conf_auto.specs.Config.{config_in, config_of}
 use Rattle.ha_check.specs.Configured.{RefusedCause}
 use Rattle.ha_top.specs.Views.{After, Before}
 use Rattle.ha_top.specs.Written.{AreTheSame}
@@ -132,7 +132,7 @@ no_trace_yet name journal trace none is = subst (λ j. IsTraceOf name j trace) (
 
 module _ (words : RunWords) (b : Before) (a : After) (e : IsEarly b a) where
   abbrev Stood : Status → Type 0
-  Stood = StandsAt (IsBooted words b) (scene words b a) (unlined b a)
+  Stood = StandsAt config_in (IsBooted words b) (scene words b a) (unlined b a)
 
   abbrev Counts : List ℕ
   Counts = map (λ s. s.faults) a.sources

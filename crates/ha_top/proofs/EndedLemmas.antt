@@ -12,6 +12,7 @@ use Rattle.ha_status.specs.Files.{IsHandedBack, IsTextFault}
 use Rattle.ha_words.specs.declared.plan.Plan.{Plan}
 use Rattle.ha_words.specs.declared.plan.RunWords.{RunWords}
 use Rattle.bus_turn.specs.States.{KeeperState}
+use Rattle.conf_auto.specs.Config.{config_in}
 use Rattle.ha_run.specs.Core.{IsHandedOn}
 use Rattle.ha_run.specs.Served.{AreOpened}
 use Rattle.ha_run.specs.Stands.{StandsAt}
@@ -84,7 +85,7 @@ module _ (b : Before) (a : After) (l : IsLeft b a) where
   unread words = record {
     stops = at (λ s. StopsAt words b.place.files a.journal a.sources b.place.asked a.place.asked s) tt;
     handed = at (λ s. IsHandedOn a.kept_back s) (memory_handed a.kept_back);
-    stands = at (λ s. StandsAt (IsBooted words b) (scene words b a) (written b a) s) (inl (
+    stands = at (λ s. StandsAt config_in (IsBooted words b) (scene words b a) (written b a) s) (inl (
       none,
       inl (record {
         no_entry = l.no_entry;

@@ -27,7 +27,7 @@ use Rattle.ha_run.specs.Opened.{AreNew}
 use Rattle.ha_run.specs.Served.{AreServed, Feed, IsFirst}
 use Rattle.ha_run.specs.Stands.{IsCutShort, Scene, StandsAt, Writings}
 use Rattle.ha_run.proofs.TellLemmas.{stands_in}
-use Rattle.conf_auto.specs.Config.{config_of}
+use Rattle.conf_auto.specs.Config.{config_in, config_of}
 use Rattle.ha_check.specs.Configured.{RefusedCause}
 use Rattle.ha_top.specs.Views.{After, Before}
 use Rattle.ha_top.specs.Written.{handed, seen}
@@ -41,11 +41,11 @@ use Rattle.ha_top.proofs.OpenLemmas.{opened_all}
 -- ---- the statuses of a run
 
 module _ (B : List Entry → Type 0) (s : Scene) (w : Writings) (never : w.Nothing → ⊥) where
-  begins_short : IsCutShort B s w → B s.journal
+  begins_short : IsCutShort config_in B s w → B s.journal
   begins_short (inl h) = h.1.ran.begins
   begins_short (inr h) = h.1.1.ran.begins
 
-  begins_so : (x : Status) → StandsAt B s w x → B s.journal
+  begins_so : (x : Status) → StandsAt config_in B s w x → B s.journal
   begins_so Status.Ok h = h.1.1.ran.begins
   begins_so Status.Usage h = absurd h
   begins_so (Status.ConfigRefused line code) h = absurd (never h.0)
@@ -64,9 +64,9 @@ module _ (B : List Entry → Type 0) (s : Scene) (w : Writings) (never : w.Nothi
 
   -- what follows a boot
   module _ (P : Status → Type 0) (write : (z : Bool) → P (Status.WriteFault z)) (keeps : P Status.KeepFault)
-      (lost : (k : ℕ) (feeds : List Feed) → AreServed s.files s.journal 0 s.names s.sources feeds → IsFirst Course.Fails k feeds → P (Status.ReadFault (Some k)))
+      (lost : (k : ℕ) (feeds : List Feed) → AreServed config_in s.files s.journal 0 s.names s.sources feeds → IsFirst Course.Fails k feeds → P (Status.ReadFault (Some k)))
       (ok : P Status.Ok) (full : P Status.JournalFull) (memory : P Status.Memory) (long : (k : ℕ) → P (Status.SourceTooLong k)) where
-    run_cases : (x : Status) → StandsAt B s w x → P x
+    run_cases : (x : Status) → StandsAt config_in B s w x → P x
     run_cases Status.Ok h = ok
     run_cases Status.Usage h = absurd h
     run_cases (Status.ConfigRefused line code) h = absurd (never h.0)
@@ -111,7 +111,7 @@ lost_later n names s sources k (name, is, u) =
     (name, is, record { count = u.count; told = u.told; count_is = u.count_is; failed = u.failed; told_is = u.told_is; name_is = u.name_is })
 
 -- the first source that failed is there, and its count tells
-lost_source : (files : Option Files) (j : List Entry) (from k : ℕ) (names : List Text) (sources : List SourceState) (feeds : List Feed) → AreServed files j from names sources feeds
+lost_source : (files : Option Files) (j : List Entry) (from k : ℕ) (names : List Text) (sources : List SourceState) (feeds : List Feed) → AreServed config_in files j from names sources feeds
     → IsFirst Course.Fails k feeds → Lost names sources k
 lost_source files j from k names sources [] h first = absurd first
 lost_source files j from k [] [] (f ∷ feeds) h first = absurd h
@@ -193,8 +193,8 @@ module _ (words : RunWords) (b : Before) (a : After) (keep : KeeperState) (text 
   abbrev view : BusView
   view = view_of a.journal a.records left
 
-  module _ (r : CoreRan boot old opened a.status a.journal a.records a.sources left) where
-    from_core : StandsAt (BeginsWith boot) (scene words b a) (writings old view) a.status
+  module _ (r : CoreRan config_in boot old opened a.status a.journal a.records a.sources left) where
+    from_core : StandsAt config_in (BeginsWith boot) (scene words b a) (writings old view) a.status
     from_core = r.stands b.place.files words.sources new_sources
 
     begins : BeginsWith boot a.journal → IsBooted words b a.journal
@@ -222,7 +222,7 @@ module _ (words : RunWords) (b : Before) (a : After) (keep : KeeperState) (text 
         by (inr h) = inr h
 
     by_status : (P : Status → Type 0) → ((z : Bool) → P (Status.WriteFault z)) → P Status.KeepFault
-        → ((k : ℕ) (feeds : List Feed) → AreServed b.place.files a.journal 0 words.sources a.sources feeds → IsFirst Course.Fails k feeds → P (Status.ReadFault (Some k)))
+        → ((k : ℕ) (feeds : List Feed) → AreServed config_in b.place.files a.journal 0 words.sources a.sources feeds → IsFirst Course.Fails k feeds → P (Status.ReadFault (Some k)))
         → P Status.Ok → P Status.JournalFull → P Status.Memory → ((k : ℕ) → P (Status.SourceTooLong k)) → P a.status
     by_status P write keeps lost ok full memory long =
         run_cases (BeginsWith boot) (scene words b a) (writings old view) (λ u. u) P write keeps lost ok full memory long a.status from_core
@@ -237,7 +237,7 @@ module _ (words : RunWords) (b : Before) (a : After) (keep : KeeperState) (text 
     -- the run as it is before its status line
     lived_run : Lived words b a
     lived_run = record {
-      stands = stands_in (BeginsWith boot) (IsBooted words b) (scene words b a) begins (writings old view) (unlined b a) (λ w. w) (λ w. w) (λ w. w) part (λ u. absurd u) a.status from_core;
+      stands = stands_in config_in (BeginsWith boot) (IsBooted words b) (scene words b a) begins (writings old view) (unlined b a) (λ w. w) (λ w. w) (λ w. w) part (λ u. absurd u) a.status from_core;
       traced = (let h = begins_so (BeginsWith boot) (scene words b a) (writings old view) (λ u. u) a.status from_core in traced h.0 h.1);
       same = record {
         out = sink_grows b.out a.out new.out_faults new.out_zeros r.same.calls;

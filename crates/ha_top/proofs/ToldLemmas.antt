@@ -15,6 +15,7 @@ use Rattle.ha_words.specs.declared.plan.RunWords.{RunWords}
 use Rattle.bus_turn.specs.Buses.{IsWritten}
 use Rattle.bus_turn.specs.States.{SinkState}
 use Rattle.ha_worker.specs.Courses.{SourceState}
+use Rattle.conf_auto.specs.Config.{config_in}
 use Rattle.ha_run.specs.Core.{IsEndCut, IsEndWritten, IsHandedOn, IsPartWritten}
 use Rattle.ha_run.specs.Stands.{StandsAt}
 use Rattle.ha_run.proofs.TellLemmas.{stands_in, stands_memory}
@@ -87,14 +88,14 @@ module _ (words : RunWords) (b : Before) (a : After) (r : Status) (err : SinkSta
     line = subst (λ (s : SinkState). LineBehind b told_after s.took) u.no_error behind;
   }
 
-  stood : StandsAt (IsBooted words b) (scene words b told_after) (written b told_after) r
+  stood : StandsAt config_in (IsBooted words b) (scene words b told_after) (written b told_after) r
   stood = by is
     where
-      by : (r ≡ a.status) ⊎ (r ≡ Status.Memory) → StandsAt (IsBooted words b) (scene words b told_after) (written b told_after) r
-      by (inl e) = subst (StandsAt (IsBooted words b) (scene words b told_after) (written b told_after)) (sym e)
-          (stands_in (IsBooted words b) (IsBooted words b) (scene words b a) (λ h. h) (unlined b a) (written b told_after) ended end_cut all some none a.status l.stands)
-      by (inr e) = subst (StandsAt (IsBooted words b) (scene words b told_after) (written b told_after)) (sym e)
-          (stands_memory (IsBooted words b) (scene words b a) (unlined b a) (written b told_after) end_cut some none (λ w. end_cut (end_cut_of_end (seen a a.err.took) w))
+      by : (r ≡ a.status) ⊎ (r ≡ Status.Memory) → StandsAt config_in (IsBooted words b) (scene words b told_after) (written b told_after) r
+      by (inl e) = subst (StandsAt config_in (IsBooted words b) (scene words b told_after) (written b told_after)) (sym e)
+          (stands_in config_in (IsBooted words b) (IsBooted words b) (scene words b a) (λ h. h) (unlined b a) (written b told_after) ended end_cut all some none a.status l.stands)
+      by (inr e) = subst (StandsAt config_in (IsBooted words b) (scene words b told_after) (written b told_after)) (sym e)
+          (stands_memory config_in (IsBooted words b) (scene words b a) (unlined b a) (written b told_after) end_cut some none (λ w. end_cut (end_cut_of_end (seen a a.err.took) w))
           (λ w. some (inl w)) a.status l.stands)
 
   later : (x x' y : ℕ) → OneRose x x' y a.err.faults → OneRose x x' y err.faults

@@ -23,7 +23,7 @@ use Rattle.ha_worker.specs.Courses.{SourceState}
 use Rattle.ha_run.specs.Core.{IsHandedOn}
 use Rattle.ha_run.specs.Opened.{AreNew}
 use Rattle.ha_run.specs.Stands.{Scene, StandsAt}
-use Rattle.conf_auto.specs.Config.{config_of}
+use Rattle.conf_auto.specs.Config.{config_in, config_of}
 use Rattle.ha_check.specs.Configured.{RefusedCause}
 use Rattle.ha_top.specs.Views.{After, Before}
 use Rattle.ha_top.specs.Written.{AreTheSame, written}
@@ -162,8 +162,9 @@ WriteTookNone b a = OneRose b.out.zeros a.out.zeros b.err.zeros a.err.zeros ⊎ 
 -- ---- all of it
 
 pub record Answered (words : RunWords) (b : Before) (a : After) : Type 0 where
-  -- the journal, the lines of each source, the calls, the errors, the trace and the store, by the status
-  pub stands : StandsAt (IsBooted words b) (scene words b a) (written b a) a.status
+  -- the journal, in which each Reload has the configuration that its text is read as, the lines of each source, the calls, the errors, the
+  -- trace and the store, by the status
+  pub stands : StandsAt config_in (IsBooted words b) (scene words b a) (written b a) a.status
   pub traced : IsTraceOf words.trace a.journal a.trace
   pub asked : IsAskedFor (opens words) a.journal b.place.asked a.place.asked
   pub stops : StopsAt words b.place.files a.journal a.sources b.place.asked a.place.asked a.status

@@ -5,6 +5,7 @@ use Rattle.ha_model.specs.Records.{Records}
 use Rattle.ha_status.specs.declared.status.Status.{Status}
 use Rattle.bus_turn.specs.States.{Outside}
 use Rattle.ha_worker.specs.Courses.{SourceState}
+use Rattle.conf_auto.specs.Config.{config_in}
 use Rattle.ha_run.specs.Core.{CoreRan}
 
 -- memory ran out before the boot; the sources are handed back, and no trace
@@ -18,4 +19,4 @@ pub record IsUnbooted (old : Outside) (opened : List SourceState) (status : Stat
 
 abbrev pub RanOrNot : Entry → Outside → List SourceState → Status → List Entry → Records → List SourceState → Outside → Type 0
 RanOrNot boot old opened status journal records sources out =
-    IsUnbooted old opened status journal records sources out ⊎ CoreRan boot old opened status journal records sources out
+    IsUnbooted old opened status journal records sources out ⊎ CoreRan config_in boot old opened status journal records sources out

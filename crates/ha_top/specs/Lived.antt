@@ -4,6 +4,7 @@ use Rattle.bus_turn.specs.Buses.{IsWritten}
 use Rattle.ha_status.specs.Causes.{KeepCause, ReadCause, WriteCause}
 use Rattle.ha_status.specs.Files.{IsTextFault}
 use Rattle.ha_words.specs.declared.plan.RunWords.{RunWords}
+use Rattle.conf_auto.specs.Config.{config_in}
 use Rattle.ha_run.specs.Core.{IsEndCut, IsEndWritten, IsPartWritten}
 use Rattle.ha_run.specs.Stands.{StandsAt, Writings}
 use Rattle.ha_check.specs.Configured.{RefusedCause}
@@ -32,7 +33,7 @@ unlined b a =
     }
 
 pub record Lived (words : RunWords) (b : Before) (a : After) : Type 0 where
-  pub stands : StandsAt (IsBooted words b) (scene words b a) (unlined b a) a.status
+  pub stands : StandsAt config_in (IsBooted words b) (scene words b a) (unlined b a) a.status
   pub traced : IsTraceOf words.trace a.journal a.trace
   pub same : AreTheSame b a
   pub refused : RefusedCause b.place.files words.config a.status

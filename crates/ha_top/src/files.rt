@@ -17,6 +17,7 @@ ghost use Rattle.ha_top.specs.Views.{after_run, before_run, place_state};
 
 use crate::outcome::Outcome;
 use crate::prepare::{Opened, Taken, load_store, open_sources, open_trace};
+use conf_reader::Reader;
 use ha_boot::Boots;
 use ha_check::{Configured, read_config_at};
 use ha_config::Config;
@@ -77,7 +78,7 @@ fn given_back<S: Source>(alloc: Global, end: Unready<S>) -> (Status, Many<S>)
 }
 
 /// Boots the core, and runs it on the sources.
-fn run_booted<R: Threads + Wait + Sync, E: Boots, P: Place, Q: Keeper, G: Gate>(
+fn run_booted<R: Threads + Wait + Sync, E: Boots<Prepare = Reader>, P: Place, Q: Keeper, G: Gate>(
     rt: &R,
     alloc: Global,
     words: &RunWords,
@@ -111,7 +112,16 @@ fn run_booted<R: Threads + Wait + Sync, E: Boots, P: Place, Q: Keeper, G: Gate>(
         return unbooted(alloc, Status::Memory, sources, out, err, keep);
     };
     let Taken { switches, last } = taken;
-    let Ok(core) = E::boot(alloc, text, config, switches, words.start, zone, last) else {
+    let Ok(core) = E::boot(
+        alloc,
+        text,
+        config,
+        switches,
+        words.start,
+        zone,
+        last,
+        Reader,
+    ) else {
         return unbooted(alloc, Status::Memory, sources, out, err, keep);
     };
     let CoreRun {
@@ -137,7 +147,13 @@ fn run_booted<R: Threads + Wait + Sync, E: Boots, P: Place, Q: Keeper, G: Gate>(
 }
 
 /// Reads the configuration and the store, opens the sources and the trace, boots, and runs, before the status line.
-pub(crate) fn run_files<R: Threads + Wait + Sync, E: Boots, P: Place, Q: Keeper, G: Gate>(
+pub(crate) fn run_files<
+    R: Threads + Wait + Sync,
+    E: Boots<Prepare = Reader>,
+    P: Place,
+    Q: Keeper,
+    G: Gate,
+>(
     rt: &R,
     alloc: Global,
     words: &RunWords,

@@ -14,6 +14,7 @@ ghost use Rattle.ha_top.specs.Views.{after_run, before_run, place_state};
 
 use crate::outcome::Outcome;
 use crate::top::run_live;
+use conf_reader::Reader;
 use ha_boot::Boots;
 use ha_check::check_call;
 use ha_io::{Gate, Keeper, Place, Source};
@@ -107,7 +108,7 @@ fn check<P: Place, Q: Keeper>(
 }
 
 /// `replay` of the trace in the file of this name.
-fn replay<E: Boots, P: Place, Q: Keeper>(
+fn replay<E: Boots<Prepare = Reader>, P: Place, Q: Keeper>(
     alloc: Global,
     name: &Word,
     place: &mut P,
@@ -141,7 +142,7 @@ fn replay<E: Boots, P: Place, Q: Keeper>(
 }
 
 /// `rehearse` of so many lines.
-fn rehearse<E: Boots, P: Place, Q: Keeper>(
+fn rehearse<E: Boots<Prepare = Reader>, P: Place, Q: Keeper>(
     alloc: Global,
     lines: u32,
     out: P::Sink,
@@ -177,7 +178,7 @@ fn rehearse<E: Boots, P: Place, Q: Keeper>(
 }
 
 /// The program: what its words ask for, on the outside that it is handed. A run may wait for a worker's turn.
-pub fn hearth<R: Threads + Wait + Sync, E: Boots, P: Place, Q: Keeper, G: Gate>(
+pub fn hearth<R: Threads + Wait + Sync, E: Boots<Prepare = Reader>, P: Place, Q: Keeper, G: Gate>(
     rt: &R,
     alloc: Global,
     words: &[String],

@@ -8,6 +8,7 @@ ghost use Rattle.ha_top.specs.Views.{after_run, before_run, place_state};
 
 use crate::files::run_files;
 use crate::outcome::Outcome;
+use conf_reader::Reader;
 use ha_boot::Boots;
 use ha_io::{Gate, Keeper, Place};
 use ha_status::told;
@@ -20,7 +21,7 @@ use std::thread::Threads;
 /// comes, with the steps that it begins, and writes the service calls to `out`, the errors and the status line to `err`, the journal to the
 /// trace, and the switches to `keep`. Each source has a worker, in a thread of its own where one can be made. It may wait for a worker's
 /// turn.
-pub fn run_live<R: Threads + Wait + Sync, E: Boots, P: Place, Q: Keeper, G: Gate>(
+pub fn run_live<R: Threads + Wait + Sync, E: Boots<Prepare = Reader>, P: Place, Q: Keeper, G: Gate>(
     rt: &R,
     alloc: Global,
     words: &RunWords,

@@ -3,10 +3,11 @@ use Rattle.std.specs.Prelude.{ℕ, ◌+◌, ◌-◌, List, [], ◌∷◌, ◌++�
 use Rattle.std.specs.Option.{option_map_or}
 use Rattle.ha_journal.specs.declared.entry.Entry.{Entry}
 use Rattle.ha_journal.specs.declared.entry.Entry.TheVariants.{Boot, Line, Step, Again}
+use Rattle.ha_config.specs.declared.config.Config.{Config}
 use Rattle.ha_config.specs.Words.{Text}
 use Rattle.ha_whole.specs.Named.{named}
 use Rattle.ha_journal.specs.Entries.{Opening, Reopening, boot_of, again_in}
-use Rattle.ha_journal.specs.Journal.{Journal, more}
+use Rattle.ha_journal.specs.Journal.{Journal, configured, more}
 
 -- ---- what a segment took over
 
@@ -31,13 +32,13 @@ counted_from n (Again number start stored carry) = Again number start stored car
 abbrev pub alone : Journal → Entry → Entry
 alone segment x = counted_from (carried segment) x
 
--- an Again is read as a Boot with the text, the configuration and the zone of the segment before it
-abbrev pub boot_again : Reopening → Opening → Entry
-boot_again a b = Boot b.text b.config (Some a.stored) a.start b.zone a.carry
+-- an Again is read as a Boot with the text and the zone of the segment before it, and the configuration in force at its end
+abbrev pub boot_again : Reopening → Opening → Config → Entry
+boot_again a b config = Boot b.text config (Some a.stored) a.start b.zone a.carry
 
 abbrev pub reopened : Journal → Reopening → Journal
 reopened [] a = []
-reopened (e ∷ es) a = option_map_or (λ b. boot_again a b ∷ []) (boot_of e) []
+reopened (e ∷ es) a = option_map_or (λ b. boot_again a b (configured (e ∷ es)) ∷ []) (boot_of e) []
 
 -- ---- the segments of a journal
 

@@ -1,24 +1,25 @@
 -- A whole journal: its records, which journals are right and which are lawful, by what its segments are, each read alone.
 use Rattle.std.specs.Prelude.{ℕ, suc, ◌+◌, ◌-◌, ◌≡◌, ◌<◌, ◌≤◌, ◌⊎◌, Bool, true, false, not, ◌&&◌, ◌||◌, nat_eq, List, [], ◌∷◌, ◌++◌, length, take, drop, replicate}
-use Rattle.std.specs.Prelude.{map, filter, filter_map, count_by, Option, Some, None, option_map, is_some, if◌then◌else◌}
-use Rattle.std.specs.List.{list_any, list_all, enumerate_from}
+use Rattle.std.specs.Prelude.{map, filter, count_by, Option, Some, None, option_map, is_some, if◌then◌else◌}
+use Rattle.std.specs.List.{list_any, list_all}
+use Rattle.std.specs.Option.{option_map_or}
 use Rattle.ha_config.specs.declared.config.Automation.{Automation}
 use Rattle.ha_journal.specs.declared.carry.Carry.{Carry}
 use Rattle.ha_journal.specs.declared.entry.Entry.{Entry}
 use Rattle.ha_journal.specs.declared.entry.Entry.TheVariants.{Boot, Line, Step, Again}
 use Rattle.ha_model.specs.declared.record.Record.{Record}
-use Rattle.ha_config.specs.Words.{Text, up_to, EachAfter, EachWith}
-use Rattle.ha_whole.specs.Named.{in_name_order, are_in_name_order}
-use Rattle.ha_journal.specs.Entries.{is_again, is_restart}
-use Rattle.ha_journal.specs.Journal.{Journal, automations, now, more, units}
+use Rattle.ha_config.specs.Words.{Text, same, up_to, EachAfter, EachWith}
+use Rattle.ha_whole.specs.Named.{in_name_order, are_in_name_order, last_of_each}
+use Rattle.ha_journal.specs.Commands.{lets_reload}
+use Rattle.ha_journal.specs.Entries.{boot_of, is_again, is_reload, is_restart}
 use Rattle.ha_config.specs.Equal.{same_flag}
-use Rattle.ha_journal.specs.Switches.{is_on}
+use Rattle.ha_journal.specs.Journal.{Journal, now, more, units}
 use Rattle.ha_config.specs.Names.{name_of, automation_named}
 use Rattle.ha_journal.specs.States.{switches_of}
 use Rattle.ha_sight.specs.Scripts.{Branch}
 use Rattle.ha_model.specs.Records as one
 use Rattle.ha_model.specs.Records.{Records, last_is}
-use Rattle.ha_whole.specs.Lasts.{last_run, last_triggered, lasts}
+use Rattle.ha_whole.specs.Lasts.{lasts}
 use Rattle.ha_model.specs.Lawful as alone
 use Rattle.ha_model.specs.Lawful.{is_line_of, shuts, is_by_worker_0, pick}
 use Rattle.ha_journal.specs.Sights as here
@@ -66,9 +67,18 @@ own j rs = map {A = Record} {B = Record} (taken_back (front j) (segment j)) (dro
 
 -- ---- what stands behind a Restart
 
--- the last number of each unit that has a run, by the name of its runs
+-- the numbers that the segment's Boot carries, by the names of runs
+abbrev pub numbers_carried : Journal → List (Text × ℕ)
+numbers_carried [] = []
+numbers_carried (e ∷ es) = option_map_or (λ b. b.carry.numbers) (boot_of e) []
+
+-- the number of each run of a segment, with the run's name
+abbrev pub run_numbers : Journal → Records → List (Text × ℕ)
+run_numbers s rs = map {A = Record} {B = Text × ℕ} (λ r. (name_of (units s) r.automation, carried_number s (name_of (units s) r.automation) + r.number)) rs
+
+-- the last number of each name that has a run: in the last segment, else as it was carried
 abbrev pub numbers_of : Journal → List (Text × ℕ)
-numbers_of j = filter_map (λ p. option_map (λ r. (p.1.name, r.number)) (last_run p.0 (records_of j))) (enumerate_from 0 (units j))
+numbers_of j = last_of_each (numbers_carried (segment j) ++ run_numbers (segment j) (one.records_of (segment j)))
 
 abbrev pub carry_of : Journal → Carry
 carry_of j = record {
@@ -151,11 +161,12 @@ module _ (rs : Records) where
   abbrev pub is_rested : ℕ → Journal → Bool
   is_rested k j = alone.is_rested (own j rs) k (segment j)
 
-  -- the entry stands by the order of turns after these
+  -- the entry stands by the order of turns after these, and no more Reloads than there may be
   abbrev pub IsTurn : Journal → Entry → Type 0
   IsTurn before (Boot text config stored start zone carry) = Unit {0}
   IsTurn before (Line k number cmd) =
       (k < 16) × (is_rested k before ≡ true) × (number ≡ count_by (is_line_of k) before) × (list_any (shuts k) before ≡ false)
+      × (is_reload (Line k number cmd) ≡ true → lets_reload before ≡ true)
   IsTurn before (Step k serial branch item) = (0 < length (ready before)) × (pick k (ready before) ≡ Some (serial, branch))
   IsTurn before (Again number start stored carry) = Unit {0}
 
@@ -203,19 +214,22 @@ store_text j = store_of (switches_of (segment j)) (in_name_order (lasts (segment
 abbrev pub before_put : Journal → Journal
 before_put j = take (length j - (if last_is is_again j then 2 else 1)) j
 
-abbrev pub same_moment : Option ℕ → Option ℕ → Bool
-same_moment None None = true
-same_moment None (Some n) = false
-same_moment (Some m) None = false
-same_moment (Some m) (Some n) = nat_eq m n
+-- two lists have the same names with alike values
+abbrev pub same_pairs_by : {X : Type 0} → (X → X → Bool) → List (Text × X) → List (Text × X) → Bool
+same_pairs_by alike [] [] = true
+same_pairs_by alike (p ∷ ps) (q ∷ qs) = same p.0 q.0 && alike p.1 q.1 && same_pairs_by alike ps qs
+same_pairs_by alike [] (q ∷ qs) = false
+same_pairs_by alike (p ∷ ps) [] = false
 
--- what the store keeps of automation a is the same after both
-abbrev pub is_kept_same : Journal → Journal → ℕ → Bool
-is_kept_same s t a = same_flag (is_on s a) (is_on t a) && same_moment (last_triggered s a) (last_triggered t a)
+-- what the store keeps is the same after both segments: the switches in force, and when automations last triggered
+abbrev pub is_kept_same : Journal → Journal → Bool
+is_kept_same s t =
+    same_pairs_by same_flag (in_name_order (switches_of s)) (in_name_order (switches_of t))
+    && same_pairs_by nat_eq (in_name_order (lasts s)) (in_name_order (lasts t))
 
 -- the journal is the first Boot alone, or the last put changed what the store keeps
 abbrev pub changes_store : Journal → Bool
-changes_store j = nat_eq (length j) 1 || list_any (λ a. not (is_kept_same (segment (before_put j)) (segment j) a)) (up_to (length (automations j)))
+changes_store j = nat_eq (length j) 1 || not (is_kept_same (segment (before_put j)) (segment j))
 
 -- ---- room
 

@@ -10,6 +10,7 @@ use Rattle.ha_journal.specs.Commands.{put_as}
 use Rattle.ha_config.specs.Fair.{shuts_source}
 use Rattle.ha_journal.specs.Entries.{is_restart, restarts}
 use Rattle.ha_journal.specs.Journal.{Journal, more}
+use Rattle.ha_journal.proofs.ReloadLemmas.{put-lets}
 use Rattle.ha_model.specs.Lawful.{is_line_of, shuts}
 use Rattle.ha_whole.specs.Whole.{IsFull, IsWithin, LacksRoom, Right, Running, again_of, appended, is_rested, put, ready}
 use Rattle.whole_laws.proofs.ClosingLemmas.{put-step}
@@ -168,7 +169,7 @@ module _ (k n : ℕ) (a b : BusView) (at : IsAt n k a) (right : Right b.journal 
         origin = put_origin (restarts c) (IsLineOf n k c a) a b at.running.lawful.right (inl p);
         at = record {
           running = subst (λ z. Running z b.records) (sym e)
-              (right-runs a.journal a.records b.records y at.running (line-put k n (put_as a.journal c)) (subst (λ z. Right z b.records) e right) (low, rested, at.next, unshut) tt);
+              (right-runs a.journal a.records b.records y at.running (line-put k n (put_as a.journal c)) (subst (λ z. Right z b.records) e right) (low, rested, at.next, unshut, put-lets a.journal c) tt);
           stored = put_stored (restarts c) (IsLineOf n k c a) a b at.running.lawful.right at.stored (inl p);
           next = sym (counted y e ∙ ap (λ (z : Bool). n + cond z 1 0) (eqb_self k));
         };

@@ -10,8 +10,8 @@ use Rattle.ha_config.specs.declared.command.Cmd.TheVariants as cmd
 use Rattle.ha_config.specs.Fair.{shuts_source}
 use Rattle.ha_config.specs.Words.{Text, Pairs, first_pair}
 use Rattle.flow_line.specs.declared.keys.Command.{Command}
-use Rattle.flow_line.specs.declared.keys.Command.TheVariants.{Report, Gone, Event, Moment, Switch, Trigger, Restart}
-use Rattle.flow_line.specs.Command.{Checked, ◌>>=◌, as_cmd, as_true, at_moment, automation, flag_in, flag_of, map_of, named, only, reportable, state_of, text_of, turned, value_of, with_keys, cmd_by, cmd_of, cmd_of_pairs, command_of, event_of, gone_of, moment_of_pairs, pairs_of, report_of, restart_of, restarts, switch_of, trigger_of}
+use Rattle.flow_line.specs.declared.keys.Command.TheVariants.{Report, Gone, Event, Moment, Switch, Trigger, Restart, Reload}
+use Rattle.flow_line.specs.Command.{Checked, ◌>>=◌, as_cmd, as_true, at_moment, automation, flag_in, flag_of, map_of, named, only, reportable, state_of, text_of, turned, value_of, with_keys, cmd_by, cmd_of, cmd_of_pairs, command_of, event_of, gone_of, moment_of_pairs, pairs_of, reload_of, report_of, restart_of, restarts, switch_of, trigger_of}
 
 abbrev pub StaysOpen : Checked Cmd → Type 0
 StaysOpen (Ok c) = shuts_source c ≡ false
@@ -87,6 +87,10 @@ restart : (pairs : Pairs) → StaysOpen (restart_of pairs)
 unfolding restart_of
 restart pairs = restarting (value_of Restart pairs)
 
+reload : (pairs : Pairs) → StaysOpen (reload_of pairs)
+unfolding reload_of
+reload pairs = bound1 (text_of (value_of Reload pairs)) (λ text. cmd.Reload text None) (λ text. refl)
+
 by_command : (command : Command) (pairs : Pairs) → StaysOpen (cmd_by command pairs)
 by_command Report pairs = report pairs
 by_command Gone pairs = gone pairs
@@ -95,6 +99,7 @@ by_command Moment pairs = moment pairs
 by_command Switch pairs = switch pairs
 by_command Trigger pairs = trigger pairs
 by_command Restart pairs = restart pairs
+by_command Reload pairs = reload pairs
 
 by_pairs : (pairs : Pairs) → StaysOpen (cmd_of_pairs pairs)
 unfolding cmd_of_pairs

@@ -7,19 +7,23 @@ use Rattle.ha_io.specs.Counts.{Rose}
 use Rattle.ha_io.specs.Told.{Gives}
 use Rattle.ha_io.proofs.CountLemmas.{Rose-within}
 use Rattle.ha_io.proofs.ToldLemmas.{Gives-Gives, Gives-nothing}
+use Rattle.std.specs.Prelude.{Option}
 use Rattle.ha_config.specs.declared.command.Cmd.{Cmd}
+use Rattle.ha_config.specs.declared.config.Config.{Config}
+use Rattle.ha_config.specs.Fair.{prepared}
 use Rattle.ha_config.specs.Words.{Text}
 use Rattle.ha_text.specs.Lines.{SameLines, lines_of, whole_lines}
 use Rattle.flow_line.specs.Command.{cmd_of}
 use Rattle.bus_pass.specs.declared.hand.Hand.{Hand}
-use Rattle.ha_worker.specs.Courses.{Course, GaveBytes, HasGiven, SourceState, cmds_by, most_bytes}
+use Rattle.ha_worker.specs.Courses.{Course, GaveBytes, HasGiven, SourceState, cmd_read, cmds_by, most_bytes}
 use Rattle.ha_worker.specs.Puts.{PutAll, PutSome}
 use Rattle.ha_worker.specs.Taken.{AtBound, Fed, FedSome, Took, TookAll, rest_by}
 use Rattle.ha_worker.proofs.CourseLemmas.{same_whole, took_all, took_piece, took_pushed, took_then, took_whole, whole_empty}
 use Rattle.ha_worker.proofs.LineLemmas.{all_then, put_nothing, some_held, some_then}
+use Rattle.ha_worker.proofs.ReadLemmas.{all_prepared}
 
 -- so many bytes were read, their whole lines were put, and so many may still come
-pub record Reading (k : ℕ) (a b : Hand) (first now : SourceState) (cut : Text) (room : ℕ) : Type 0 where
+pub record Reading (read : Text → Option Config) (k : ℕ) (a b : Hand) (first now : SourceState) (cut : Text) (room : ℕ) : Type 0 where
   pub bytes : Text
   pub lines : List Text
   pub gives : Gives first.left bytes now.left
@@ -28,10 +32,10 @@ pub record Reading (k : ℕ) (a b : Hand) (first now : SourceState) (cut : Text)
   pub same_name : now.name ≡ first.name
   pub took : Took bytes lines cut
   pub none : whole_lines cut ≡ []
-  pub put : PutAll k (map cmd_of lines) a b
+  pub put : PutAll k (map (cmd_read read) lines) a b
 
-pub start_reading : (k : ℕ) (a : Hand) (s : SourceState) (cut : Text) (room : ℕ) → cut ≡ [] → room ≡ most_bytes → Reading k a a s s cut room
-start_reading k a s cut room fresh all = record {
+pub start_reading : (read : Text → Option Config) (k : ℕ) (a : Hand) (s : SourceState) (cut : Text) (room : ℕ) → cut ≡ [] → room ≡ most_bytes → Reading read k a a s s cut room
+start_reading read k a s cut room fresh all = record {
   bytes = [];
   lines = [];
   gives = Gives-nothing s.left;
@@ -44,7 +48,7 @@ start_reading k a s cut room fresh all = record {
 }
 
 -- a piece was read
-module _ (k : ℕ) (a b : Hand) (first now after : SourceState) (cut piece : Text) (room : ℕ) (r : Reading k a b first now cut room) (fits : length piece ≤ room)
+module _ (read : Text → Option Config) (k : ℕ) (a b : Hand) (first now after : SourceState) (cut piece : Text) (room : ℕ) (r : Reading read k a b first now cut room) (fits : length piece ≤ room)
     (gives : Gives now.left piece after.left) (stay : now.faults ≤ after.faults) (name : after.name ≡ now.name) where
   goes_on : HasGiven Course.Goes (r.bytes ++ piece) first after
   goes_on = record {
@@ -55,11 +59,11 @@ module _ (k : ℕ) (a b : Hand) (first now after : SourceState) (cut piece : Tex
   }
 
   -- it was not handed to the cut
-  pub read_lost : FedSome k a b first after
+  pub read_lost : FedSome read k a b first after
   read_lost = record {
     bytes = r.bytes ++ piece;
     given = goes_on;
-    some = some_held k (r.bytes ++ piece) (cut ++ piece) r.lines a b (took_piece r.bytes cut piece r.lines r.took) r.put;
+    some = some_held read k (r.bytes ++ piece) (cut ++ piece) r.lines a b (took_piece r.bytes cut piece r.lines r.took) r.put;
   }
 
   module _ (cut' : Text) (same : SameLines cut' (cut ++ piece)) where
@@ -67,17 +71,17 @@ module _ (k : ℕ) (a b : Hand) (first now after : SourceState) (cut piece : Tex
     pushed = took_pushed r.bytes cut cut' piece r.lines r.took same
 
     -- its whole lines were not all put
-    pub read_some : (c : Hand) → PutSome k (map cmd_of (whole_lines cut')) b c → FedSome k a c first after
+    pub read_some : (c : Hand) → PutSome k (map (cmd_read read) (whole_lines cut')) b c → FedSome read k a c first after
     read_some c some = record {
       bytes = r.bytes ++ piece;
       given = goes_on;
       some = subst (λ z. PutSome k z a c)
-          (sym (ap (map cmd_of) (took_whole (r.bytes ++ piece) cut' r.lines pushed) ∙ map-append cmd_of r.lines (whole_lines cut')))
-          (some_then k (map cmd_of r.lines) (map cmd_of (whole_lines cut')) a b c r.put some);
+          (sym (ap (map (cmd_read read)) (took_whole (r.bytes ++ piece) cut' r.lines pushed) ∙ map-append (cmd_read read) r.lines (whole_lines cut')))
+          (some_then k (map (cmd_read read) r.lines) (map (cmd_read read) (whole_lines cut')) a b c r.put some);
     }
 
     -- they were
-    pub read_on : (c : Hand) (cut'' : Text) (room' : ℕ) → room' + length piece ≡ room → TookAll k cut' cut'' b c → Reading k a c first after cut'' room'
+    pub read_on : (c : Hand) (cut'' : Text) (room' : ℕ) → room' + length piece ≡ room → TookAll read k cut' cut'' b c → Reading read k a c first after cut'' room'
     read_on c cut'' room' left t = record {
       bytes = r.bytes ++ piece;
       lines = r.lines ++ t.lines;
@@ -87,11 +91,11 @@ module _ (k : ℕ) (a b : Hand) (first now after : SourceState) (cut piece : Tex
       same_name = goes_on.same_name;
       took = took_then (r.bytes ++ piece) cut' cut'' r.lines t.lines pushed t.took;
       none = t.none;
-      put = subst (λ z. PutAll k z a c) (sym (map-append cmd_of r.lines t.lines)) (all_then k (map cmd_of r.lines) (map cmd_of t.lines) a b c r.put t.put);
+      put = subst (λ z. PutAll k z a c) (sym (map-append (cmd_read read) r.lines t.lines)) (all_then k (map (cmd_read read) r.lines) (map (cmd_read read) t.lines) a b c r.put t.put);
     }
 
     -- it was the end
-    pub read_end : length piece ≡ 0 → IsAtEnd after.left → Fed k Course.Ends a b cut' first after
+    pub read_end : length piece ≡ 0 → IsAtEnd after.left → Fed read k Course.Ends a b cut' first after
     read_end empty end = record {
       bytes = r.bytes ++ piece;
       lines = r.lines;
@@ -106,9 +110,9 @@ module _ (k : ℕ) (a b : Hand) (first now after : SourceState) (cut piece : Tex
         no_bytes (x ∷ xs) e = absurd (omega (arith, e))
 
 -- the read failed
-pub read_failed : (k : ℕ) (a b : Hand) (first now after : SourceState) (cut cut' : Text) (room : ℕ) → Reading k a b first now cut room → after.left ≡ now.left → Rose now.faults after.faults
-    → now.faults ≤ after.faults → after.name ≡ now.name → cut' ≡ cut → Fed k Course.Fails a b cut' first after
-read_failed k a b first now after cut cut' room r left rose stay name same = record {
+pub read_failed : (read : Text → Option Config) (k : ℕ) (a b : Hand) (first now after : SourceState) (cut cut' : Text) (room : ℕ) → Reading read k a b first now cut room → after.left ≡ now.left → Rose now.faults after.faults
+    → now.faults ≤ after.faults → after.name ≡ now.name → cut' ≡ cut → Fed read k Course.Fails a b cut' first after
+read_failed read k a b first now after cut cut' room r left rose stay name same = record {
   bytes = r.bytes;
   lines = r.lines;
   given = record {
@@ -123,9 +127,9 @@ read_failed k a b first now after cut cut' room r left rose stay name same = rec
 }
 
 -- all bytes that may come were read
-pub read_past : (k : ℕ) (a b : Hand) (first now after : SourceState) (cut : Text) (room : ℕ) (course : Course) → Reading k a b first now cut room → room ≡ 0 → AtBound course now after
-    → now.faults ≤ after.faults → after.name ≡ now.name → Fed k course a b cut first after
-read_past k a b first now after cut room course r full at stay name = record {
+pub read_past : (read : Text → Option Config) (k : ℕ) (a b : Hand) (first now after : SourceState) (cut : Text) (room : ℕ) (course : Course) → Reading read k a b first now cut room → room ≡ 0 → AtBound course now after
+    → now.faults ≤ after.faults → after.name ≡ now.name → Fed read k course a b cut first after
+read_past read k a b first now after cut room course r full at stay name = record {
   bytes = r.bytes;
   lines = r.lines;
   given = record {
@@ -147,14 +151,18 @@ read_past k a b first now after cut room course r full at stay name = record {
 
 -- ---- the commands of what was read
 
-pub fed_cmds : (k : ℕ) (course : Course) (a b : Hand) (cut : Text) (s s' : SourceState) → (f : Fed k course a b cut s s') → cmds_by course f.bytes ≡ map cmd_of f.lines ++ rest_by course cut
-fed_cmds k course a b cut s s' f = by course
+pub fed_cmds : (read : Text → Option Config) (k : ℕ) (course : Course) (a b : Hand) (cut : Text) (s s' : SourceState) → (f : Fed read k course a b cut s s')
+    → map (prepared read) (cmds_by course f.bytes) ≡ map (cmd_read read) f.lines ++ rest_by read course cut
+fed_cmds read k course a b cut s s' f = by course
   where
-    whole : map cmd_of (whole_lines f.bytes) ≡ map cmd_of f.lines
-    whole = ap (map cmd_of) (took_whole f.bytes cut f.lines f.took ∙ ap (λ (z : List Text). f.lines ++ z) f.none ∙ append-nil f.lines)
+    lines : map cmd_of (whole_lines f.bytes) ≡ map cmd_of f.lines
+    lines = ap (map cmd_of) (took_whole f.bytes cut f.lines f.took ∙ ap (λ (z : List Text). f.lines ++ z) f.none ∙ append-nil f.lines)
 
-    by : (x : Course) → cmds_by x f.bytes ≡ map cmd_of f.lines ++ rest_by x cut
-    by Course.Goes = whole ∙ sym (append-nil (map cmd_of f.lines))
-    by Course.Ends = ap (map cmd_of) (took_all f.bytes cut f.lines f.took) ∙ map-append cmd_of f.lines (lines_of cut)
-    by Course.Fails = ap (λ (z : List Cmd). z ++ (Cmd.Lost ∷ [])) whole
-    by Course.Exceeds = ap (λ (z : List Cmd). z ++ (Cmd.TooLong ∷ [])) whole
+    whole : map (prepared read) (map cmd_of (whole_lines f.bytes)) ≡ map (cmd_read read) f.lines
+    whole = ap (map (prepared read)) lines ∙ all_prepared read f.lines
+
+    by : (x : Course) → map (prepared read) (cmds_by x f.bytes) ≡ map (cmd_read read) f.lines ++ rest_by read x cut
+    by Course.Goes = whole ∙ sym (append-nil (map (cmd_read read) f.lines))
+    by Course.Ends = all_prepared read (lines_of f.bytes) ∙ ap (map (cmd_read read)) (took_all f.bytes cut f.lines f.took) ∙ map-append (cmd_read read) f.lines (lines_of cut)
+    by Course.Fails = map-append (prepared read) (map cmd_of (whole_lines f.bytes)) (Cmd.Lost ∷ []) ∙ ap (λ (z : List Cmd). z ++ (Cmd.Lost ∷ [])) whole
+    by Course.Exceeds = map-append (prepared read) (map cmd_of (whole_lines f.bytes)) (Cmd.TooLong ∷ []) ∙ ap (λ (z : List Cmd). z ++ (Cmd.TooLong ∷ [])) whole

@@ -2,11 +2,13 @@
 use Rattle.std.proofs.Common.{◌≡◌, ◌∙◌, inl, inr, ⊎_elim, ℕ, List, [], ◌∷◌, ◌++◌, ap, refl, sym, subst, append_assoc, map}
 use Rattle.std.proofs.lemmas.List.{append-nil, map-append}
 use Rattle.ha_config.specs.declared.command.Cmd.{Cmd}
+use Rattle.ha_config.specs.declared.config.Config.{Config}
+use Rattle.std.specs.Prelude.{Option}
 use Rattle.ha_config.specs.Words.{Text}
 use Rattle.ha_text.specs.Lines.{IsTaken, whole_lines}
-use Rattle.flow_line.specs.Command.{cmd_of}
 use Rattle.bus_pass.specs.Rule.{Dues}
 use Rattle.bus_pass.specs.declared.hand.Hand.{Hand}
+use Rattle.ha_worker.specs.Courses.{cmd_read}
 use Rattle.ha_worker.specs.Puts.{NoLine, PutAll, PutSome}
 use Rattle.ha_worker.specs.Taken.{Took}
 use Rattle.ha_worker.specs.Views.{HasPut, list_of}
@@ -65,11 +67,12 @@ pub took_more : (old cut cut' line sliced : Text) (lines : List Text) → Took o
 took_more old cut cut' line sliced lines p t e =
     let P : Text → Type 0 = λ z. Took old (lines ++ (z ∷ [])) cut' in subst P (sym e) (took_then old cut cut' lines (line ∷ []) p (took_one cut line cut' t))
 
-whole_cmds : (old cut : Text) (lines : List Text) → Took old lines cut → map cmd_of (whole_lines old) ≡ map cmd_of lines ++ map cmd_of (whole_lines cut)
-whole_cmds old cut lines p = ap (map cmd_of) (took_whole old cut lines p) ∙ map-append cmd_of lines (whole_lines cut)
+whole_cmds : (f : Text → Cmd) (old cut : Text) (lines : List Text) → Took old lines cut → map f (whole_lines old) ≡ map f lines ++ map f (whole_lines cut)
+whole_cmds f old cut lines p = ap (map f) (took_whole old cut lines p) ∙ map-append f lines (whole_lines cut)
 
 -- no further line was taken
-pub some_held : (k : ℕ) (old cut : Text) (lines : List Text) (u v : Hand) → Took old lines cut → PutAll k (map cmd_of lines) u v → PutSome k (map cmd_of (whole_lines old)) u v
-some_held k old cut lines u v p all =
-    subst (λ z. PutSome k z u v) (sym (whole_cmds old cut lines p))
-    (some_then k (map cmd_of lines) (map cmd_of (whole_lines cut)) u v v all (none_put k (map cmd_of (whole_lines cut)) v))
+pub some_held : (read : Text → Option Config) (k : ℕ) (old cut : Text) (lines : List Text) (u v : Hand) → Took old lines cut → PutAll k (map (cmd_read read) lines) u v
+    → PutSome k (map (cmd_read read) (whole_lines old)) u v
+some_held read k old cut lines u v p all =
+    subst (λ z. PutSome k z u v) (sym (whole_cmds (cmd_read read) old cut lines p))
+    (some_then k (map (cmd_read read) lines) (map (cmd_read read) (whole_lines cut)) u v v all (none_put k (map (cmd_read read) (whole_lines cut)) v))

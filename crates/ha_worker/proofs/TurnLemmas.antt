@@ -6,9 +6,11 @@ use Rattle.std.proofs.lemmas.Bool.{false≢true}
 use Rattle.ha_config.specs.declared.command.Cmd.{Cmd}
 use Rattle.ha_journal.specs.declared.entry.Entry.{Entry}
 use Rattle.ha_journal.specs.declared.entry.Entry.TheVariants.{Line, Step}
-use Rattle.ha_journal.specs.Commands.{has_automation, put_as}
-use Rattle.ha_config.specs.Fair.{of_helper, shuts_source}
+use Rattle.ha_journal.specs.Commands.{has_automation, lets_reload, put_as}
+use Rattle.ha_config.specs.declared.config.Config.{Config}
+use Rattle.ha_config.specs.Fair.{of_helper, prepared, shuts_source}
 use Rattle.ha_config.specs.Helpers.{is_helper}
+use Rattle.ha_config.specs.Words.{Text}
 use Rattle.ha_journal.specs.Entries.{restarts}
 use Rattle.ha_journal.specs.Journal.{HasEntry, Journal, helpers}
 use Rattle.ha_model.specs.Lawful.{pick, shuts}
@@ -120,9 +122,29 @@ put_shuts j (Cmd.Trigger name skip) = by (has_automation j name)
     by true = refl
     by false = refl
 put_shuts j Cmd.Restart = refl
+put_shuts j (Cmd.Reload text None) = refl
+put_shuts j (Cmd.Reload text (Some config)) = by (lets_reload j)
+  where
+    by : (b : Bool) → shuts_source (if b then Cmd.Reload text (Some config) else Cmd.Refused 13) ≡ false
+    by true = refl
+    by false = refl
 put_shuts j (Cmd.Refused code) = refl
 put_shuts j Cmd.Lost = refl
 put_shuts j Cmd.TooLong = refl
+
+-- what the text of a Reload is read as shuts no source
+pub read_shuts : (read : Text → Option Config) (c : Cmd) → shuts_source (prepared read c) ≡ shuts_source c
+read_shuts read (Cmd.Report entity text attributes) = refl
+read_shuts read (Cmd.Gone entity) = refl
+read_shuts read (Cmd.Event kind pairs) = refl
+read_shuts read (Cmd.Moment at) = refl
+read_shuts read (Cmd.Switch name on stop) = refl
+read_shuts read (Cmd.Trigger name skip) = refl
+read_shuts read Cmd.Restart = refl
+read_shuts read (Cmd.Reload text config) = refl
+read_shuts read (Cmd.Refused code) = refl
+read_shuts read Cmd.Lost = refl
+read_shuts read Cmd.TooLong = refl
 
 abbrev pub IsLineOf : ℕ → ℕ → Cmd → BusView → Entry → Type 0
 IsLineOf n k c a x = x ≡ Line k n (put_as a.journal c)

@@ -4,6 +4,8 @@ use Rattle.std.specs.Io.KnownBytes.{IsAtEnd}
 use Rattle.ha_io.specs.Counts.{Rose}
 use Rattle.ha_io.specs.Told.{Gives}
 use Rattle.ha_config.specs.declared.command.Cmd.{Cmd}
+use Rattle.ha_config.specs.declared.config.Config.{Config}
+use Rattle.ha_config.specs.Fair.{prepared}
 use Rattle.ha_config.specs.Words.{Text}
 use Rattle.ha_text.specs.Lines.{lines_of, whole_lines}
 use Rattle.flow_line.specs.Command.{cmd_of}
@@ -39,6 +41,10 @@ cmds_by Goes bytes = map cmd_of (whole_lines bytes)
 cmds_by Ends bytes = map cmd_of (lines_of bytes)
 cmds_by Fails bytes = map cmd_of (whole_lines bytes) ++ (Cmd.Lost ∷ [])
 cmds_by Exceeds bytes = map cmd_of (whole_lines bytes) ++ (Cmd.TooLong ∷ [])
+
+-- the command of a line, with what the text of a Reload is read as
+abbrev pub cmd_read : (Text → Option Config) → Text → Cmd
+cmd_read read line = prepared read (cmd_of line)
 
 -- what the source gave: these bytes, at its end nothing further, after a failure whatever there is more, and past its bound one byte more
 abbrev pub GaveBytes : Course → Text → SourceState → SourceState → Type 0

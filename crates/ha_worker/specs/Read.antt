@@ -1,17 +1,18 @@
 -- The commands that are read of the lines that a cut holds.
-use Rattle.std.specs.Prelude.{◌≡◌, false, List, [], ◌∷◌, map}
+use Rattle.std.specs.Prelude.{◌≡◌, false, List, [], ◌∷◌, map, Option}
 use Rattle.ha_config.specs.declared.command.Cmd.{Cmd}
+use Rattle.ha_config.specs.declared.config.Config.{Config}
 use Rattle.ha_journal.specs.Commands.{IsFair, put_as}
-use Rattle.ha_config.specs.Fair.{shuts_source}
+use Rattle.ha_config.specs.Fair.{prepared, shuts_source}
 use Rattle.ha_journal.specs.Journal.{Journal}
 use Rattle.ha_config.specs.Words.{Text}
 use Rattle.ha_text.specs.Lines.{whole_lines}
 use Rattle.flow_line.specs.Command.{cmd_of}
 use Rattle.ha_worker.specs.Taken.{Took}
 
--- the command may be put on every journal, and does not say that its source was lost or is too long
+-- the command may be put on every journal, whatever a Reload's text is read as, and does not say that its source was lost or is too long
 abbrev pub IsOpen : Cmd → Type 0
-IsOpen c = (shuts_source c ≡ false) × ((j : Journal) → IsFair j (put_as j c))
+IsOpen c = (shuts_source c ≡ false) × ((read : Text → Option Config) (j : Journal) → IsFair j (put_as j (prepared read c)))
 
 abbrev pub AreOpen : List Cmd → Type 0
 AreOpen [] = Unit {0}

@@ -1,9 +1,11 @@
 //! What a worker puts on a bus that it holds. Nobody else comes between: the bus is given back behind all of it.
-ghost use Rattle.std.specs.Prelude.{◌≡◌, ◌<◌, ◌∷◌, [], ℕ, length, true, false, None, Some, option_to_list, IfSome, IsSome, is_none};
+ghost use Rattle.std.specs.Prelude.{◌≡◌, ◌<◌, ◌∷◌, [], ℕ, length, true, false, None, Some, option_to_list, IfSome, IsSome, is_none, Option, map};
 ghost use Rattle.std.specs.List.{list_any};
 ghost use Rattle.std.specs.VecDeque.{deque_len};
+ghost use Rattle.ha_config.specs.declared.config.Config.{Config as Configuration};
+ghost use Rattle.ha_config.specs.Words.{Text};
 ghost use Rattle.ha_journal.specs.Commands.{IsFair, put_as};
-ghost use Rattle.ha_config.specs.Fair.{shuts_source};
+ghost use Rattle.ha_config.specs.Fair.{prepared, shuts_source};
 ghost use Rattle.ha_journal.specs.Journal.{Journal};
 ghost use Rattle.ha_model.specs.Lawful.{shuts};
 ghost use Rattle.ha_whole.specs.Whole.{IsFull, is_rested};
@@ -60,8 +62,8 @@ fn put_line<C: Core + Drop, K: Sink, Q: Keeper>(
     requires at { IsAt next.old id bus.old }
     requires rested { is_rested bus.old.records id bus.old.journal ≡ true }
     requires unshut { list_any (shuts id) bus.old.journal ≡ false }
-    requires fair { (j : Journal) → IsFair j (put_as j cmd) }
-    ensures some { CameUntil id next.old next.new (cmd ∷ []) result [] bus.old bus.new }
+    requires fair { (read : Text → Option Configuration) (j : Journal) → IsFair j (put_as j (prepared read cmd)) }
+    ensures some { CameUntil id next.old next.new (prepared C.Prepare.reads cmd ∷ []) result [] bus.old bus.new }
     ensures unshut { shuts_source cmd ≡ false → list_any (shuts id) bus.new.journal ≡ false }
     ensures fault { result ≡ is_none bus.new.first }
 {
@@ -89,8 +91,8 @@ pub(crate) fn put_held<C: Core + Drop, K: Sink, Q: Keeper>(
     requires at { IsAt next.old id bus.old }
     requires unshut { list_any (shuts id) bus.old.journal ≡ false }
     requires held { IsSome held.old }
-    requires fair { IfSome held.old (λ cmd. (j : Journal) → IsFair j (put_as j cmd)) }
-    ensures some { CameUntil id next.old next.new (option_to_list held.old) result [] bus.old bus.new }
+    requires fair { IfSome held.old (λ cmd. (read : Text → Option Configuration) (j : Journal) → IsFair j (put_as j (prepared read cmd))) }
+    ensures some { CameUntil id next.old next.new (map (prepared C.Prepare.reads) (option_to_list held.old)) result [] bus.old bus.new }
     ensures unshut { IfSome held.old (λ cmd. shuts_source cmd ≡ false → list_any (shuts id) bus.new.journal ≡ false) }
     ensures fault { result ≡ is_none bus.new.first }
 {
@@ -117,7 +119,7 @@ fn put_next<C: Core + Drop, K: Sink, Q: Keeper>(
     requires unshut { list_any (shuts id) bus.old.journal ≡ false }
     requires some { 0 < deque_len cmds.old }
     requires open_all { AreOpen cmds.old.items }
-    ensures some { CameUntil id next.old next.new cmds.old.items result cmds.new.items bus.old bus.new }
+    ensures some { CameUntil id next.old next.new (map (prepared C.Prepare.reads) cmds.old.items) result (map (prepared C.Prepare.reads) cmds.new.items) bus.old bus.new }
     ensures unshut { list_any (shuts id) bus.new.journal ≡ false }
     ensures open_all { AreOpen cmds.new.items }
     ensures fewer { result ≡ true → length cmds.new.items < length cmds.old.items }
@@ -147,7 +149,7 @@ pub(crate) fn put_all<C: Core + Drop, K: Sink, Q: Keeper>(
     requires at { IsAt next.old id bus.old }
     requires unshut { list_any (shuts id) bus.old.journal ≡ false }
     requires open_all { AreOpen cmds.old.items }
-    ensures some { CameUntil id next.old next.new cmds.old.items result [] bus.old bus.new }
+    ensures some { CameUntil id next.old next.new (map (prepared C.Prepare.reads) cmds.old.items) result [] bus.old bus.new }
     ensures unshut { list_any (shuts id) bus.new.journal ≡ false }
     ensures empty { result ≡ true → cmds.new.items ≡ [] }
     ensures fault { result ≡ is_none bus.new.first }

@@ -1,14 +1,15 @@
 //! A worker and its work.
-ghost use Rattle.std.specs.Prelude.{◌≡◌, ◌<◌, ◌≤◌, ◌∷◌, [], false, None, length, map, IfOk, IfErr, OnOk, OnErr};
+ghost use Rattle.std.specs.Prelude.{◌≡◌, ◌<◌, ◌≤◌, ◌∷◌, [], false, None, length, map, IfOk, IfErr, OnOk, OnErr, Option};
 ghost use Rattle.std.specs.Prelude.{option_to_list, IfSome, IsSome};
 ghost use Rattle.crossbeam_channel.specs.Claims.{view};
+ghost use Rattle.ha_config.specs.declared.config.Config.{Config as Configuration};
+ghost use Rattle.ha_config.specs.Words.{Text};
 ghost use Rattle.ha_journal.specs.Commands.{IsFair, put_as};
-ghost use Rattle.ha_config.specs.Fair.{shuts_source};
+ghost use Rattle.ha_config.specs.Fair.{prepared, shuts_source};
 ghost use Rattle.ha_journal.specs.Journal.{Journal};
 ghost use Rattle.ha_text.specs.Lines.{lines_of, whole_lines};
-ghost use Rattle.flow_line.specs.Command.{cmd_of};
 ghost use Rattle.bus_pass.specs.Turns.{IsPassOf};
-ghost use Rattle.ha_worker.specs.Courses.{most_bytes, source_of};
+ghost use Rattle.ha_worker.specs.Courses.{cmd_read, most_bytes, source_of};
 ghost use Rattle.ha_worker.specs.Ends.{ended_by, Halts, Notes};
 ghost use Rattle.ha_worker.specs.Views.{IsFresh, Sits, Takes};
 ghost use Rattle.ha_worker.specs.Puts.{NoLine, PutAll, PutSome};
@@ -105,7 +106,7 @@ impl<S: Source, C: Core + Drop, K: Sink, Q: Keeper> Worker<S, C, K, Q> {
         ensures same { (self.new.id ≡ self.old.id) × (self.new.end ≡ self.old.end) }
         ensures sits { Sits self.new.next self.old.id (view self.new.pass) }
         ensures worked { let s = source_of S.faults S.left S.name in
-            Worked self.old.id result (view self.new.pass) (s self.old.source) (s self.new.source) }
+            Worked C.Prepare.reads self.old.id result (view self.new.pass) (s self.old.source) (s self.new.source) }
     {
         let mut cut = LineCut::make(alloc);
         let Ok(mut buffer) = Vec::from_elem(alloc, 0u8, PIECE) else {
@@ -141,10 +142,10 @@ impl<S: Source, C: Core + Drop, K: Sink, Q: Keeper> Worker<S, C, K, Q> {
         ensures same { (self.new.id ≡ self.old.id) × (self.new.end ≡ self.old.end) }
         ensures sits { Sits self.new.next self.old.id (view self.new.pass) }
         ensures ok { let s = source_of S.faults S.left S.name in
-            IfOk result (λ ending. Fed self.old.id (course_of ending) (view self.old.pass) (view self.new.pass) cut.new (s self.old.source) (s self.new.source)) }
+            IfOk result (λ ending. Fed C.Prepare.reads self.old.id (course_of ending) (view self.old.pass) (view self.new.pass) cut.new (s self.old.source) (s self.new.source)) }
         ensures takes { OnOk result (Takes self.new.next self.old.id (view self.new.pass)) }
         ensures some { let s = source_of S.faults S.left S.name in
-            OnErr result (FedSome self.old.id (view self.old.pass) (view self.new.pass) (s self.old.source) (s self.new.source)) }
+            OnErr result (FedSome C.Prepare.reads self.old.id (view self.old.pass) (view self.new.pass) (s self.old.source) (s self.new.source)) }
         ensures halt { IfErr result (λ halt. Halts halt (view self.new.pass).noted) }
     {
         let mut cmds = VecDeque::new(alloc);
@@ -186,9 +187,9 @@ impl<S: Source, C: Core + Drop, K: Sink, Q: Keeper> Worker<S, C, K, Q> {
         ensures turn { IsPassOf turn.now self.new.pass }
         ensures same { (self.new.id ≡ self.old.id) × (self.new.source ≡ self.old.source) × (self.new.end ≡ self.old.end) }
         ensures sits { Sits self.new.next self.old.id (view self.new.pass) }
-        ensures ok { OnOk result (TookAll self.old.id cut.old cut.new (view self.old.pass) (view self.new.pass)) }
+        ensures ok { OnOk result (TookAll C.Prepare.reads self.old.id cut.old cut.new (view self.old.pass) (view self.new.pass)) }
         ensures takes { OnOk result (Takes self.new.next self.old.id (view self.new.pass)) }
-        ensures some { OnErr result (PutSome self.old.id (map cmd_of (whole_lines cut.old)) (view self.old.pass) (view self.new.pass)) }
+        ensures some { OnErr result (PutSome self.old.id (map (cmd_read C.Prepare.reads) (whole_lines cut.old)) (view self.old.pass) (view self.new.pass)) }
         ensures empty { OnOk result (cmds.new.items ≡ []) }
         ensures halt { IfErr result (λ halt. Halts halt (view self.new.pass).noted) }
     {
@@ -224,9 +225,9 @@ impl<S: Source, C: Core + Drop, K: Sink, Q: Keeper> Worker<S, C, K, Q> {
         ensures turn { IsPassOf turn.now self.new.pass }
         ensures same { (self.new.id ≡ self.old.id) × (self.new.source ≡ self.old.source) × (self.new.end ≡ self.old.end) }
         ensures sits { Sits self.new.next self.old.id (view self.new.pass) }
-        ensures ok { OnOk result (PutAll self.old.id cmds.old.items (view self.old.pass) (view self.new.pass)) }
+        ensures ok { OnOk result (PutAll self.old.id (map (prepared C.Prepare.reads) cmds.old.items) (view self.old.pass) (view self.new.pass)) }
         ensures takes { OnOk result (Takes self.new.next self.old.id (view self.new.pass)) }
-        ensures some { OnErr result (PutSome self.old.id cmds.old.items (view self.old.pass) (view self.new.pass)) }
+        ensures some { OnErr result (PutSome self.old.id (map (prepared C.Prepare.reads) cmds.old.items) (view self.old.pass) (view self.new.pass)) }
         ensures empty { OnOk result (cmds.new.items ≡ []) }
         ensures halt { IfErr result (λ halt. Halts halt (view self.new.pass).noted) }
     {
@@ -256,14 +257,14 @@ impl<S: Source, C: Core + Drop, K: Sink, Q: Keeper> Worker<S, C, K, Q> {
         requires known { self.old.id < 16 }
         requires takes { Takes self.old.next self.old.id (view self.old.pass) }
         requires held { IsSome held.old }
-        requires fair { IfSome held.old (λ cmd. (j : Journal) → IsFair j (put_as j cmd)) }
+        requires fair { IfSome held.old (λ cmd. (read : Text → Option Configuration) (j : Journal) → IsFair j (put_as j (prepared read cmd))) }
         ensures turn { IsPassOf turn.now self.new.pass }
         ensures same { (self.new.id ≡ self.old.id) × (self.new.source ≡ self.old.source) × (self.new.end ≡ self.old.end) }
         ensures sits { Sits self.new.next self.old.id (view self.new.pass) }
-        ensures ok { OnOk result (PutAll self.old.id (option_to_list held.old) (view self.old.pass) (view self.new.pass)) }
+        ensures ok { OnOk result (PutAll self.old.id (map (prepared C.Prepare.reads) (option_to_list held.old)) (view self.old.pass) (view self.new.pass)) }
         ensures takes { OnOk result (IfSome held.old (λ cmd.
             shuts_source cmd ≡ false → Takes self.new.next self.old.id (view self.new.pass))) }
-        ensures some { OnErr result (PutSome self.old.id (option_to_list held.old) (view self.old.pass) (view self.new.pass)) }
+        ensures some { OnErr result (PutSome self.old.id (map (prepared C.Prepare.reads) (option_to_list held.old)) (view self.old.pass) (view self.new.pass)) }
         ensures halt { IfErr result (λ halt. Halts halt (view self.new.pass).noted) }
     {
         let _floor = turn.floor(rt);
@@ -295,9 +296,9 @@ impl<S: Source, C: Core + Drop, K: Sink, Q: Keeper> Worker<S, C, K, Q> {
         ensures turn { IsPassOf turn.now self.new.pass }
         ensures same { (self.new.id ≡ self.old.id) × (self.new.source ≡ self.old.source) × (self.new.end ≡ self.old.end) }
         ensures sits { Sits self.new.next self.old.id (view self.new.pass) }
-        ensures ok { OnOk result (PutAll self.old.id (cmd_of line.now ∷ []) (view self.old.pass) (view self.new.pass)) }
+        ensures ok { OnOk result (PutAll self.old.id (cmd_read C.Prepare.reads line.now ∷ []) (view self.old.pass) (view self.new.pass)) }
         ensures takes { OnOk result (Takes self.new.next self.old.id (view self.new.pass)) }
-        ensures some { OnErr result (PutSome self.old.id (cmd_of line.now ∷ []) (view self.old.pass) (view self.new.pass)) }
+        ensures some { OnErr result (PutSome self.old.id (cmd_read C.Prepare.reads line.now ∷ []) (view self.old.pass) (view self.new.pass)) }
         ensures halt { IfErr result (λ halt. Halts halt (view self.new.pass).noted) }
     {
         match read_cmd(alloc, line) {
@@ -318,13 +319,13 @@ impl<S: Source, C: Core + Drop, K: Sink, Q: Keeper> Worker<S, C, K, Q> {
         requires turn { IsPassOf turn.now self.old.pass }
         requires known { self.old.id < 16 }
         requires takes { Takes self.old.next self.old.id (view self.old.pass) }
-        requires fair { (j : Journal) → IsFair j (put_as j cmd) }
+        requires fair { (read : Text → Option Configuration) (j : Journal) → IsFair j (put_as j (prepared read cmd)) }
         ensures turn { IsPassOf turn.now self.new.pass }
         ensures same { (self.new.id ≡ self.old.id) × (self.new.source ≡ self.old.source) × (self.new.end ≡ self.old.end) }
         ensures sits { Sits self.new.next self.old.id (view self.new.pass) }
-        ensures ok { OnOk result (PutAll self.old.id (cmd ∷ []) (view self.old.pass) (view self.new.pass)) }
+        ensures ok { OnOk result (PutAll self.old.id (prepared C.Prepare.reads cmd ∷ []) (view self.old.pass) (view self.new.pass)) }
         ensures takes { OnOk result (shuts_source cmd ≡ false → Takes self.new.next self.old.id (view self.new.pass)) }
-        ensures some { OnErr result (PutSome self.old.id (cmd ∷ []) (view self.old.pass) (view self.new.pass)) }
+        ensures some { OnErr result (PutSome self.old.id (prepared C.Prepare.reads cmd ∷ []) (view self.old.pass) (view self.new.pass)) }
         ensures halt { IfErr result (λ halt. Halts halt (view self.new.pass).noted) }
     {
         gate.before(self.id, self.next);
@@ -348,8 +349,8 @@ impl<S: Source, C: Core + Drop, K: Sink, Q: Keeper> Worker<S, C, K, Q> {
         ensures turn { IsPassOf turn.now self.new.pass }
         ensures same { (self.new.id ≡ self.old.id) × (self.new.source ≡ self.old.source) × (self.new.end ≡ self.old.end) }
         ensures sits { Sits self.new.next self.old.id (view self.new.pass) }
-        ensures ok { OnOk result (PutAll self.old.id (map cmd_of (lines_of cut.old)) (view self.old.pass) (view self.new.pass)) }
-        ensures some { OnErr result (PutSome self.old.id (map cmd_of (lines_of cut.old)) (view self.old.pass) (view self.new.pass)) }
+        ensures ok { OnOk result (PutAll self.old.id (map (cmd_read C.Prepare.reads) (lines_of cut.old)) (view self.old.pass) (view self.new.pass)) }
+        ensures some { OnErr result (PutSome self.old.id (map (cmd_read C.Prepare.reads) (lines_of cut.old)) (view self.old.pass) (view self.new.pass)) }
         ensures halt { IfErr result (λ halt. Halts halt (view self.new.pass).noted) }
     {
         match cut.finish() {
@@ -376,8 +377,8 @@ impl<S: Source, C: Core + Drop, K: Sink, Q: Keeper> Worker<S, C, K, Q> {
         ensures turn { IsPassOf turn.now self.new.pass }
         ensures same { (self.new.id ≡ self.old.id) × (self.new.source ≡ self.old.source) × (self.new.end ≡ self.old.end) }
         ensures sits { Sits self.new.next self.old.id (view self.new.pass) }
-        ensures ok { OnOk result (PutAll self.old.id (rest_by (course_of ending) cut.old) (view self.old.pass) (view self.new.pass)) }
-        ensures some { OnErr result (PutSome self.old.id (rest_by (course_of ending) cut.old) (view self.old.pass) (view self.new.pass)) }
+        ensures ok { OnOk result (PutAll self.old.id (rest_by C.Prepare.reads (course_of ending) cut.old) (view self.old.pass) (view self.new.pass)) }
+        ensures some { OnErr result (PutSome self.old.id (rest_by C.Prepare.reads (course_of ending) cut.old) (view self.old.pass) (view self.new.pass)) }
         ensures halt { IfErr result (λ halt. Halts halt (view self.new.pass).noted) }
     {
         match ending {

@@ -1,6 +1,7 @@
 //! The program `hearth`: its words, the system's files and standard streams, the file of its store, and the status that the run ends with.
 #![tactic(auto)]
 
+use conf_reader::Reader;
 use ha_engine::Engine;
 use ha_io::{DirPlace, FileKeeper, FileSink, OpenGate};
 use ha_status::{Status, told};
@@ -43,7 +44,7 @@ fn main(rt: HostRuntime) -> ExitCode {
     let Ok(keep) = FileKeeper::make(alloc, rt, STORE) else {
         return end(alloc, err, Status::Memory);
     };
-    let outcome = hearth::<_, Engine, _, _, _>(
+    let outcome = hearth::<_, Engine<Reader>, _, _, _>(
         &rt,
         alloc,
         words.as_slice(),

@@ -1,5 +1,5 @@
 -- A counter has a number within its bounds after each entry.
-use Rattle.std.proofs.Common.{◌≡◌, ℕ, zero, suc, Bool, true, false, ℤ, List, [], ◌∷◌, ◌++◌, length, map, take, refl, sym, ap, subst, ◌∙◌, arith, append_assoc}
+use Rattle.std.proofs.Common.{◌≡◌, ℕ, zero, suc, Bool, true, false, ℤ, List, [], ◌∷◌, ◌++◌, length, map, take, refl, sym, ap, subst, ◌∙◌, arith, append_assoc, append-nil}
 use Rattle.std.specs.Prelude.{Option, Some, None, ◌+ℤ◌, ◌-ℤ◌, pos, ◌&&◌, int_le, int_lt, nat_le, IsTrue, is_some, find, option_map, option_and_then, codes, if◌then◌else◌}
 use Rattle.std.specs.List.{list_all}
 use Rattle.std.specs.Option.{option_map_or}
@@ -150,10 +150,6 @@ no-span r none = (λ i. same r.text (codes "active") && is_some (none i)) ∙ by
     by true = refl
     by false = refl
 
-append-none : {X : Type 0} (xs : List X) → xs ++ [] ≡ xs
-append-none [] = refl
-append-none (x ∷ xs) = (λ i. x ∷ append-none xs i)
-
 module _ (c : Counter) (apt : is_within c c.initial ≡ true) (h : Helper) (counts : counter_in h.kind ≡ Some c) where
   -- it has no due, and a number within its bounds
   record Keeps (j : Journal) : Type 0 where
@@ -199,8 +195,8 @@ module _ (c : Counter) (apt : is_within c c.initial ≡ true) (h : Helper) (coun
       one-more j x keeps (λ r found. (let m = found-made (sight j (length j)) (changes_in x) h.entity r made found in made-counts j named r m.0 m.1))
 
   keeps-behind : (j xs : Journal) → HasEntry j → helper_named (helpers j) h.entity ≡ Some h → Keeps j → EachAfter ChangesMade j xs → (n : ℕ) → Keeps (j ++ take n xs)
-  keeps-behind j xs some named keeps made zero = subst Keeps (sym (append-none j)) keeps
-  keeps-behind j [] some named keeps made (suc n) = subst Keeps (sym (append-none j)) keeps
+  keeps-behind j xs some named keeps made zero = subst Keeps (sym (append-nil j)) keeps
+  keeps-behind j [] some named keeps made (suc n) = subst Keeps (sym (append-nil j)) keeps
   keeps-behind j (x ∷ xs) some named keeps made (suc n) =
       subst Keeps (append_assoc j (x ∷ []) (take n xs))
       (keeps-behind (more j x) xs (more-has j x some) ((λ i. helper_named (sym (helpers-more j x some) i) h.entity) ∙ named) (entry-keeps j x named made.0 keeps) made.1 n)

@@ -1,5 +1,5 @@
 -- A timer that is not active is so until an entry starts it.
-use Rattle.std.proofs.Common.{◌≡◌, ℕ, ◌+◌, Bool, true, false, List, [], ◌∷◌, ◌++◌, refl, sym, ap, subst, ◌∙◌, append_assoc}
+use Rattle.std.proofs.Common.{◌≡◌, ℕ, ◌+◌, Bool, true, false, List, [], ◌∷◌, ◌++◌, refl, sym, ap, subst, ◌∙◌, append_assoc, append-nil}
 use Rattle.std.specs.Prelude.{Option, Some, None, ◌&&◌, ◌||◌, is_some, nat_le, option_map, option_and_then, codes, if◌then◌else◌}
 use Rattle.std.specs.List.{list_any}
 use Rattle.std.specs.Option.{option_map_or}
@@ -43,11 +43,7 @@ any-parts false b h = (refl, h)
 
 -- and so do several
 pub none-behind : (e : EntityId) (j : Journal) (xs : List Entry) → due_in j e ≡ None → list_any (starts e) xs ≡ false → due_in (j ++ xs) e ≡ None
-none-behind e j [] none h = subst (λ (k : Journal). due_in k e ≡ None) (sym (append-none j)) none
-  where
-    append-none : (ys : List Entry) → ys ++ [] ≡ ys
-    append-none [] = refl
-    append-none (y ∷ ys) = (λ i. y ∷ append-none ys i)
+none-behind e j [] none h = subst (λ (k : Journal). due_in k e ≡ None) (sym (append-nil j)) none
 none-behind e j (x ∷ xs) none h =
     let two = any-parts (starts e x) (list_any (starts e) xs) h in
     subst (λ (k : Journal). due_in k e ≡ None) (append_assoc j (x ∷ []) xs)

@@ -7,7 +7,7 @@ ghost use Rattle.ha_value.specs.declared.value.EntityId.{EntityId};
 ghost use Rattle.ha_config.specs.declared.command.Cmd.{Cmd};
 ghost use Rattle.ha_config.specs.declared.helper.Helper.{Helper};
 ghost use Rattle.ha_config.specs.Helpers.{Counter, counter_in, helper_named};
-ghost use Rattle.ha_config.specs.Names.{automation_named};
+ghost use Rattle.ha_config.specs.Names.{named_among};
 ghost use Rattle.ha_config.specs.Sound.{are_sound_helpers};
 ghost use Rattle.ha_config.specs.Words.{EachAfter, Pairs, Text, same};
 ghost use Rattle.ha_sight.specs.declared.steps.Inner.{Inner};
@@ -20,7 +20,7 @@ ghost use Rattle.ha_journal.specs.Commands.{put_as};
 ghost use Rattle.ha_journal.specs.Entries.{change_of, changes_in, event_in, report_in};
 ghost use Rattle.ha_journal.specs.Helpers.{due_in, event_for, events_of, finishes, known, last_change, own_event, text_of};
 ghost use Rattle.ha_journal.specs.HelperSteps.{IsBare, changed_with, due_with, text_with};
-ghost use Rattle.ha_journal.specs.Journal.{HasEntry, Journal, automations, helpers, more, now};
+ghost use Rattle.ha_journal.specs.Journal.{HasEntry, Journal, helpers, in_force, more, now};
 ghost use Rattle.ha_journal.specs.Moves.{number_in_text, report_number, sight};
 ghost use Rattle.ha_journal.specs.States.{of_automation, of_helper, reported, states};
 ghost use Rattle.ha_model.specs.Lawful.{Right};
@@ -71,7 +71,7 @@ pub fn counters_stay_in_their_bounds()
 /// Where no helper is configured the states are those of automations and of reports.
 pub fn without_helpers_states_are_reported()
     ensures { (j : Journal) → helpers j ≡ [] → (e : EntityId) → states j e
-        ≡ (if same e.domain (codes "automation") then option_map (of_automation j) (automation_named (automations j) e.object) else reported j e) }
+        ≡ (if same e.domain (codes "automation") then option_map (of_automation j) (named_among (in_force j) e.object) else reported j e) }
 {}
 
 /// Where no helper is configured, and the entry changes none, it gives the number of its report and its own event alone.

@@ -1,5 +1,5 @@
 -- Places taken out of a set, the least first, and the keys of timers that are due.
-use Rattle.std.proofs.Common.{◌≡◌, ℕ, zero, suc, ◌+◌, ◌<◌, ◌≤◌, List, [], ◌∷◌, ◌++◌, length, take, get_or, Bool, true, false, refl, sym, ap, subst, ◌∙◌, arith, nat_cmp, inl, inr, append_assoc}
+use Rattle.std.proofs.Common.{◌≡◌, ℕ, zero, suc, ◌+◌, ◌<◌, ◌≤◌, List, [], ◌∷◌, ◌++◌, length, take, get_or, Bool, true, false, refl, sym, ap, subst, ◌∙◌, arith, nat_cmp, inl, inr, append_assoc, append-nil}
 use Rattle.std.specs.Prelude.{IsSome, IsTrue, MatchOption, ◌↔◌, None, Option, Some, flat_map, nat_eq, nat_le, ◌||◌, if◌then◌else◌}
 use Rattle.std.specs.List.{list_any}
 use Rattle.std.specs.Option.{option_map_or}
@@ -61,16 +61,12 @@ none-left set variant n = by set.keys variant
     by [] v = refl
     by (k ∷ ks) v = absurd (let bad : ◌≡◌ {A = Bool} false true = v.1 (omega arith) in cc)
 
-pub append-none : {Y : Type 0} (xs : List Y) → xs ++ [] ≡ xs
-append-none [] = refl
-append-none (x ∷ xs) = (λ i. x ∷ append-none xs i)
-
 numbers-snoc : (low n : ℕ) → numbers_from low (suc n) ≡ numbers_from low n ++ ((low + n) ∷ [])
 numbers-snoc low zero = (let e : low ≡ low + 0 = omega arith in λ i. e i ∷ [])
 numbers-snoc low (suc n) = (let e : low + 1 + n ≡ low + suc n = omega arith in (λ i. low ∷ numbers-snoc (low + 1) n i) ∙ (λ i. low ∷ (numbers_from (low + 1) n ++ (e i ∷ []))))
 
 flat-snoc : {X Y : Type 0} (f : X → List Y) (xs : List X) (x : X) → flat_map f (xs ++ (x ∷ [])) ≡ flat_map f xs ++ f x
-flat-snoc f [] x = append-none (f x)
+flat-snoc f [] x = append-nil (f x)
 flat-snoc f (y ∷ ys) x = (λ i. f y ++ flat-snoc f ys x i) ∙ sym (append_assoc (f y) (flat_map f ys) (f x))
 
 pub flat-up : {Y : Type 0} (f : ℕ → List Y) (n : ℕ) → flat_map f (up_to (n + 1)) ≡ flat_map f (up_to n) ++ f n
@@ -90,7 +86,7 @@ flat-skip f a (suc b) le none = elim (eqb_tells a (suc b)) [
       (let e : suc b ≡ b + 1 = omega arith in λ i. flat_map f (up_to (e i)))
       ∙ flat-up f b
       ∙ (λ i. flat_map f (up_to b) ++ none b (omega (arith, le, apart)) (omega arith) i)
-      ∙ append-none (flat_map f (up_to b))
+      ∙ append-nil (flat_map f (up_to b))
       ∙ flat-skip f a b (omega (arith, le, apart)) (λ n from lt. none n from (omega (arith, lt))))
 ]
 

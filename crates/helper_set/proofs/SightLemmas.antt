@@ -10,8 +10,8 @@ use Rattle.ha_config.specs.Words.{same, same_entity}
 use Rattle.ha_journal.specs.Entries.{changes_in, is_moment}
 use Rattle.ha_config.specs.Helpers.{helper_named}
 use Rattle.ha_journal.specs.Helpers.{known, last_change}
-use Rattle.ha_journal.specs.Journal.{Journal, HasEntry, automations, helpers, now, more}
-use Rattle.ha_config.specs.Names.{automation_named}
+use Rattle.ha_journal.specs.Journal.{Journal, HasEntry, helpers, in_force, now, more}
+use Rattle.ha_config.specs.Names.{named_among}
 use Rattle.ha_journal.specs.States.{of_automation, of_helper, reported, states}
 use Rattle.ha_journal.specs.Moves.{sight}
 use Rattle.ha_journal.proofs.HelperLaws.{helper-seen}
@@ -49,7 +49,7 @@ module _ (j : Journal) (some : HasEntry j) (kept : List Kept) (timers : List Tim
       let out : same k.helper.entity.domain (codes "automation") ≡ false = ap (λ (x : Helper). same x.entity.domain (codes "automation")) t.helper ∙ outside in
       let bare = helper-seen j h some in
       ap (λ o. option_map_or (λ o. o.text) o [])
-      ((λ i. if out i then option_map (of_automation j) (automation_named (automations j) k.helper.entity.object) else option_map_or (of_helper j) (named i) (reported j k.helper.entity)) ∙ bare.is)
+      ((λ i. if out i then option_map (of_automation j) (named_among (in_force j) k.helper.entity.object) else option_map_or (of_helper j) (named i) (reported j k.helper.entity)) ∙ bare.is)
       ∙ bare.text_is ∙ sym t.text
 
   -- LAW: what is kept of helpers that stand for a journal is what its next place sees of them

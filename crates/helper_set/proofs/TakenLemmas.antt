@@ -1,5 +1,5 @@
 -- One place more is taken out of a set, and its timer finishes.
-use Rattle.std.proofs.Common.{◌≡◌, ℕ, ◌+◌, ◌<◌, ◌≤◌, List, [], ◌∷◌, ◌++◌, length, take, drop, Bool, true, false, refl, sym, ap, subst, ◌∙◌, arith, nat_cmp, inl, inr}
+use Rattle.std.proofs.Common.{◌≡◌, ℕ, ◌+◌, ◌<◌, ◌≤◌, List, [], ◌∷◌, ◌++◌, length, take, drop, Bool, true, false, refl, sym, ap, subst, ◌∙◌, arith, nat_cmp, inl, inr, append-nil}
 use Rattle.std.specs.Prelude.{Option, None, Result, Ok, Err, IfOk, OnOk, IsTrue, nat_eq, flat_map, slice_get, option_map, if◌then◌else◌}
 use Rattle.std.specs.Option.{option_map_or}
 use Rattle.std.specs.BTreeSet.{BTreeSet, IsLowerBound}
@@ -10,7 +10,7 @@ use Rattle.ha_config.specs.Words.{up_to}
 use Rattle.helper_set.specs.declared.kept.Kept.{Kept}
 use Rattle.helper_set.specs.Passes.{Turns, entity_at, has, idled}
 use Rattle.helper_set.proofs.BootLemmas.{past}
-use Rattle.helper_set.proofs.PlaceSets.{append-none, flat-skip, flat-up, left-before, left-else, left-here}
+use Rattle.helper_set.proofs.PlaceSets.{flat-skip, flat-up, left-before, left-else, left-here}
 
 pub ok-then : {T E : Type 0} {P Q : Type 0} (r : Result T E) → (P → Q) → OnOk r P → OnOk r Q
 ok-then (Ok x) f h = f h
@@ -88,7 +88,7 @@ module _ (first old new : BTreeSet ℕ) (p : ℕ) (there : IsTrue (has old p)) (
 
 -- LAW: behind the last place there is nothing to find or to finish
 pub found-past : (kept : List Kept) (n : ℕ) (found : List EntityId) → length kept ≤ n → found ≡ found ++ entity_at kept n
-found-past kept n found le = sym (append-none found) ∙ (λ i. found ++ option_map_or (λ (k : Kept). k.helper.entity ∷ []) (sym (past kept n le) i) [])
+found-past kept n found le = sym (append-nil found) ∙ (λ i. found ++ option_map_or (λ (k : Kept). k.helper.entity ∷ []) (sym (past kept n le) i) [])
 
 pub kept-past : (kept : List Kept) (p : ℕ) → length kept ≤ p → (n : ℕ) → slice_get kept n ≡ (if nat_eq p n then option_map idled (slice_get kept n) else slice_get kept n)
 kept-past kept p le n = elim (eqb_tells p n) [

@@ -13,6 +13,7 @@ ghost use Rattle.ha_sight.specs.Inner.{helped, helped_by, inner_of_helpers};
 ghost use Rattle.ha_journal.specs.Journal.{HasEntry, Journal, helpers, now as now_of, more};
 ghost use Rattle.ha_sight.specs.Services as services;
 ghost use Rattle.ha_config.specs.Sound.{IsSoundConfig};
+ghost use Rattle.ha_config.specs.declared.config.Config.{Config as Settings};
 ghost use Rattle.ha_sight.specs.Sight.{Sight};
 ghost use Rattle.ha_config.specs.Words.{Text};
 ghost use Rattle.timer_queue.specs.Timers.{due_of};
@@ -235,9 +236,9 @@ impl Helpers {
         }
     }
 
-    /// The helpers at the Boot of a configuration.
+    /// The helpers at the Boot of a configuration, or of another with the same helpers.
     pub fn make(alloc: Global, config: &Config) -> Result<Helpers, AllocError>
-        ensures { IfOk result (λ s. IsSoundConfig config.now → (text : Text) (stored : Option (List (Text × Bool))) (start : ℕ) (zone : Text) (carry : Carry) → StandsFor s (Boot text config.now stored start zone carry ∷ [])) }
+        ensures { IfOk result (λ s. (c : Settings) → c.helpers ≡ config.now.helpers → IsSoundConfig c → (text : Text) (stored : Option (List (Text × Bool))) (start : ℕ) (zone : Text) (carry : Carry) → StandsFor s (Boot text c stored start zone carry ∷ [])) }
     {
         let begun = all_begun(alloc, config.helpers.as_slice())?;
         let kept = KeptList::make(alloc, begun)?;

@@ -11,7 +11,8 @@ use std::sync::Wait;
 use std::thread::Threads;
 
 /// A home with the lines that come in. A line may be short: `r E S` reports that entity E has the state S, `m T` is the moment T of
-/// the first of May 2024, `e X` is an event of type X; every other line stands as it is.
+/// the first of May 2024, `e X` is an event of type X, `reload C` brings the configuration C, in which nothing has to be escaped; every
+/// other line stands as it is.
 #[derive(Drop)]
 pub struct Day<'a> {
     /// The whole configuration.
@@ -61,6 +62,8 @@ fn push_line(text: &mut String, said: &str) -> Result<(), AllocError> {
         push_all(text, &["{\"moment\":\"2024-05-01T", rest, "Z\"}\n"])
     } else if let Some(rest) = said.strip_prefix("e ") {
         push_all(text, &["{\"event\":\"", rest, "\"}\n"])
+    } else if let Some(rest) = said.strip_prefix("reload ") {
+        push_all(text, &["{\"reload\":\"", rest, "\"}\n"])
     } else {
         push_all(text, &[said, "\n"])
     }
@@ -250,6 +253,8 @@ pub enum Fact<'a> {
     End(u64, EndCause),
     /// The first run ended by this cause.
     Cause(EndCause),
+    /// The second run ended at this entry, by this cause.
+    SecondEnd(u64, EndCause),
 }
 
 fn are_calls(alloc: Global, found: &[u8], wanted: &[&str]) -> bool {
@@ -279,6 +284,14 @@ fn first_end(records: &[Record]) -> Option<(u64, EndCause)> {
         Some(run) => run.end,
         None => None,
     }
+}
+
+/// Where the second run ended, and by what.
+fn second_end(records: &[Record]) -> Option<(u64, EndCause)> {
+    if records.len() < 2 {
+        return None;
+    }
+    records[1].end
 }
 
 fn is_cause(found: Option<(u64, EndCause)>, wanted: EndCause) -> bool {
@@ -344,6 +357,7 @@ fn is(alloc: Global, outcome: &Outcome<MemPlace, MemKeeper>, fact: Fact<'_>) -> 
         Fact::Runs(count) => outcome.records.len() == count,
         Fact::End(at, cause) => first_end(outcome.records.as_slice()) == Some((at, cause)),
         Fact::Cause(cause) => is_cause(first_end(outcome.records.as_slice()), cause),
+        Fact::SecondEnd(at, cause) => second_end(outcome.records.as_slice()) == Some((at, cause)),
     }
 }
 

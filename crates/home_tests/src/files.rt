@@ -2,6 +2,7 @@
 ghost use Rattle.std.specs.Prelude.{◌≡◌, [], IfOk, None};
 ghost use Rattle.ha_io.specs.MemSink.{new_sink};
 
+use conf_reader::Reader;
 use ha_engine::Engine;
 use ha_io::{Gate, MemFile, MemKeeper, MemPlace, MemSink, have_distinct_names};
 use ha_top::{Outcome, hearth};
@@ -95,7 +96,7 @@ pub fn run_files<R: Abort + Threads + Wait + Sync + Alloc<A = Global>, G: Gate>(
     let out = sink(alloc, outside.failing_writes, outside.zero_writes)?;
     let err = sink(alloc, outside.failing_error_writes, &[])?;
     let keep = keeper(alloc, outside)?;
-    Ok(hearth::<_, Engine, _, _, _>(
+    Ok(hearth::<_, Engine<Reader>, _, _, _>(
         rt,
         alloc,
         given.as_slice(),

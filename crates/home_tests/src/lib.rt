@@ -8,6 +8,8 @@ mod day;
 #[cfg(test)]
 mod files;
 #[cfg(test)]
+mod helped_reloads;
+#[cfg(test)]
 mod helpers;
 #[cfg(test)]
 mod lines;
@@ -17,6 +19,8 @@ mod moments;
 mod outside;
 #[cfg(test)]
 mod rehearsals;
+#[cfg(test)]
+mod reloads;
 #[cfg(test)]
 mod restarts;
 #[cfg(test)]

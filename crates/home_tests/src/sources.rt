@@ -182,7 +182,7 @@ const SECOND: &str =
     "{\"boot\":{\"config\":\"[]\\n\",\"stored\":null,\"start\":\"2024-05-01T20:00:00.000Z\",\"zone\":\"UTC\"}}\n{\"source\":0,\"number\":0,\"cmd\":{\"moment\":\"2024-05-01T20:00:01.000Z\"}}\n{\"end\":2}\n";
 
 /// Whether the evening of each home, with these lines, is traced so.
-fn are_traced<R: Abort + Threads + Wait + Sync + Alloc<A = Global>>(
+pub fn are_traced<R: Abort + Threads + Wait + Sync + Alloc<A = Global>>(
     rt: &R,
     rows: &[(&str, &[&str], &str)],
 ) -> bool {

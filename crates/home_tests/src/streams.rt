@@ -2,6 +2,7 @@
 ghost use Rattle.std.specs.Prelude.{◌≡◌, None};
 
 use crate::outside::{DOOR, PORCH};
+use conf_reader::Reader;
 use ha_engine::Engine;
 use ha_io::{Failed, IoFault, MemKeeper, MemSink, OpenGate, Place, Source};
 use ha_top::hearth;
@@ -126,7 +127,7 @@ fn ends<R: Abort + Threads + Wait + Sync + Alloc<A = Global>>(
     let out = MemSink::make(Vec::new(alloc), Vec::new(alloc), Vec::new(alloc));
     let err = MemSink::make(Vec::new(alloc), Vec::new(alloc), Vec::new(alloc));
     let keep = MemKeeper::make(alloc, None, Vec::new(alloc));
-    let outcome = hearth::<_, Engine, _, _, _>(
+    let outcome = hearth::<_, Engine<Reader>, _, _, _>(
         rt,
         alloc,
         given.as_slice(),

@@ -1,7 +1,7 @@
 -- A line that is only noted moves no trigger, and each hold that is pending stays so.
 use Rattle.std.proofs.Common.{◌≡◌, ℕ, zero, suc, ◌+◌, ◌-◌, ◌<◌, [], ◌∷◌, ◌++◌, length, take, map, Bool, true, false, refl, sym, ◌∙◌, arith}
 use Rattle.std.specs.Prelude.{Option, Some, None, is_some, is_none, find, not, nat_lt, nat_le, option_and_then, ◌&&◌, ◌||◌, if◌then◌else◌}
-use Rattle.std.specs.List.{list_all, list_any, enumerate_from}
+use Rattle.std.specs.List.{list_all, list_any}
 use Rattle.std.specs.Option.{option_map_or}
 use Rattle.ha_value.specs.declared.value.EntityId.{EntityId}
 use Rattle.ha_config.specs.declared.config.Trigger.{Trigger}
@@ -12,14 +12,13 @@ use Rattle.ha_journal.specs.declared.entry.Entry.TheVariants.{Line}
 use Rattle.ha_config.specs.Words.{Text, numbers_from, up_to, one_of, or_else}
 use Rattle.ha_config.specs.Numbers.{in_bounds}
 use Rattle.ha_config.specs.Equal.{same_flag}
-use Rattle.ha_journal.specs.Entries.{changes_in, event_in, is_boot, is_moment, opens_segment}
-use Rattle.ha_config.specs.Units.{scripts_of}
-use Rattle.ha_journal.specs.Journal.{Journal, HasEntry, configured, now, zone_of, more}
+use Rattle.ha_journal.specs.Entries.{changes_in, event_in, is_boot, is_moment, opens_segment, reload_in}
+use Rattle.ha_journal.specs.Journal.{Journal, HasEntry, now, scripts_in, zone_of, more}
 use Rattle.ha_sight.specs.Sight.{Sight}
 use Rattle.ha_journal.specs.declared.event.BusEvent.{BusEvent}
 use Rattle.ha_journal.specs.Helpers.{event_for, known}
 use Rattle.ha_journal.proofs.EventLaws.{events-none}
-use Rattle.ha_journal.specs.States.{states, switches_of}
+use Rattle.ha_journal.specs.States.{states, switches_seen}
 use Rattle.ha_sight.specs.Templates.{rendered, says}
 use Rattle.ha_journal.specs.Moves.{sight, moves, after, report_number, latest_number, looks}
 use Rattle.ha_sight.specs.Rules.{starts, pair_holds, passed}
@@ -28,7 +27,8 @@ use Rattle.ha_journal.proofs.HelperLaws.{known-left}
 use Rattle.ha_journal.proofs.HeldLaws.{latest-more}
 use Rattle.ha_journal.proofs.FiringLaws.{state-stays}
 use Rattle.ha_model.proofs.LastEntry.{or-none}
-use Rattle.ha_journal.proofs.MoreLemmas.{automations-more, length-more, through-last}
+use Rattle.ha_journal.proofs.ForceLaws.{in-force-more, scripts-in-more}
+use Rattle.ha_journal.proofs.MoreLemmas.{length-more, through-last}
 use Rattle.ha_journal.proofs.SinceLaws.{take-before}
 use Rattle.ha_config.proofs.ListLemmas.{get-last}
 use Rattle.ha_past.specs.Holds.{is_over, holds_to, pending}
@@ -44,6 +44,7 @@ record IsQuiet (x : Entry) : Type 0 where
   opens : opens_segment x ≡ false
   moment : is_moment x ≡ false
   event : event_in x ≡ None
+  reload : reload_in x ≡ None
   number : (e : EntityId) (name : Option Text) → report_number e name x ≡ None
   helps : changes_in x ≡ []
 
@@ -55,9 +56,10 @@ idle-quiet source number (Cmd.Moment at) h = absurd h
 idle-quiet source number (Cmd.Switch name on stop) h = absurd h
 idle-quiet source number (Cmd.Trigger name skip) h = absurd h
 idle-quiet source number Cmd.Restart h = absurd h
-idle-quiet source number (Cmd.Refused code) h = record { opens = refl; moment = refl; event = refl; number = λ e name. refl; helps = refl }
-idle-quiet source number Cmd.Lost h = record { opens = refl; moment = refl; event = refl; number = λ e name. refl; helps = refl }
-idle-quiet source number Cmd.TooLong h = record { opens = refl; moment = refl; event = refl; number = λ e name. refl; helps = refl }
+idle-quiet source number (Cmd.Reload text config) h = absurd h
+idle-quiet source number (Cmd.Refused code) h = record { opens = refl; moment = refl; event = refl; reload = refl; number = λ e name. refl; helps = refl }
+idle-quiet source number Cmd.Lost h = record { opens = refl; moment = refl; event = refl; reload = refl; number = λ e name. refl; helps = refl }
+idle-quiet source number Cmd.TooLong h = record { opens = refl; moment = refl; event = refl; reload = refl; number = λ e name. refl; helps = refl }
 
 not-itself : (b : Bool) → (b && not b) ≡ false
 not-itself true = refl
@@ -118,15 +120,15 @@ module _ (j : Journal) (x : Entry) (h : HasEntry j) (s : IsQuiet x) (same : Noth
   abbrev p : ℕ
   p = length j
 
-  switches-still : switches_of k ≡ switches_of j
-  switches-still = (λ i. map (λ a. (a.1.name, same.switches_stay a.0 i)) (enumerate_from 0 (sym (automations-more j x h) i)))
+  switches-still : switches_seen k ≡ switches_seen j
+  switches-still = (λ i. map (λ p. (p.0, p.1.name, same.switches_stay p.0 i)) (sym (in-force-more j x h s.reload) i))
 
   -- what is seen after the line is what was seen before it
   sight-still : sight k (suc p) ≡ sight k p
   sight-still =
-      (let all = through-last j x in λ i. record { states = states (all i); now = now (all i); zone = zone_of k; automations = switches_of (all i); scripts = scripts_of (configured k); helpers = known (all i) })
-      ∙ (λ i. record { states = λ e. same.states_stay e i; now = same.now_stays i; zone = zone_of k; automations = switches-still i; scripts = scripts_of (configured k); helpers = known-left j x h s.helps i })
-      ∙ (let all = sym (take-before j x) in λ i. record { states = states (all i); now = now (all i); zone = zone_of k; automations = switches_of (all i); scripts = scripts_of (configured k); helpers = known (all i) })
+      (let all = through-last j x in λ i. record { states = states (all i); now = now (all i); zone = zone_of k; automations = switches_seen (all i); scripts = scripts_in (all i); helpers = known (all i) })
+      ∙ (λ i. record { states = λ e. same.states_stay e i; now = same.now_stays i; zone = zone_of k; automations = switches-still i; scripts = sym (scripts-in-more j x h s.reload) i; helpers = known-left j x h s.helps i })
+      ∙ (let all = sym (take-before j x) in λ i. record { states = states (all i); now = now (all i); zone = zone_of k; automations = switches_seen (all i); scripts = scripts_in (all i); helpers = known (all i) })
 
   moves-here : (t : Trigger) (e : Option EntityId) → moves k t e p ≡ false
   moves-here t e =

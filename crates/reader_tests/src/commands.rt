@@ -43,6 +43,13 @@ fn each_refusal_has_its_code(rt: HostRuntime) {
                 ("{\"gone\":\"automation.a\"}", 6),
                 ("{\"switch\":\"light.a\",\"to\":\"on\"}", 6),
                 ("{\"switch\":\"automation.a\",\"to\":\"On\"}", 5),
+                ("{\"reload\":\"[]\"}", 0),
+                ("{\"reload\":\"\\tx\"}", 0),
+                ("{\"reload\":5}", 5),
+                ("{\"reload\":null}", 5),
+                ("{\"reload\":[\"[]\"]}", 5),
+                ("{\"reload\":\"[]\",\"to\":\"on\"}", 4),
+                ("{\"reload\":\"[]\",\"restart\":true}", 3),
             ]
         ) && is_refused(rt.alloc(), b"\xff", 1)
     );
@@ -86,6 +93,31 @@ fn long_states_and_lines_are_refused(rt: HostRuntime) {
             && is_too_long(alloc, 65_537, 10)
             && is_too_long(alloc, 65_536, 2)
     );
+}
+
+/// Whether a reload in a line of so many characters has this code.
+fn is_long_reload(alloc: Global, count: usize, code: u8) -> bool {
+    match reload_of(alloc, count) {
+        Ok(line) => is_refused(alloc, line.as_bytes(), code),
+        Err(_) => false,
+    }
+}
+
+/// A reload's line of so many characters, at least 13.
+fn reload_of(alloc: Global, count: usize) -> Result<String, AllocError> {
+    let mut line = String::from_str(alloc, "{\"reload\":\"")?;
+    for _i in 13..count {
+        line.push_str("x")?;
+    }
+    line.push_str("\"}")?;
+    Ok(line)
+}
+
+/// The text is read where the line is put, and not before.
+#[test]
+fn the_longest_reload_is_read(rt: HostRuntime) {
+    let alloc = rt.alloc();
+    assert!(rt; is_long_reload(alloc, 65_536, 0) && is_long_reload(alloc, 65_537, 10));
 }
 
 /// An event whose data has so many lists in one another. They stand in two maps, that of the line and that of the data.

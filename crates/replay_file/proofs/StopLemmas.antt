@@ -10,12 +10,14 @@ use Rattle.ha_io.specs.Whole.{IsFrontTaken}
 use Rattle.ha_io.proofs.ToldLemmas.{Takes-Takes, Takes-nothing}
 use Rattle.ha_journal.specs.declared.entry.Entry.{Entry}
 use Rattle.ha_config.specs.Words.{Text}
+use Rattle.ha_journal.specs.Commands.{AreRead}
 use Rattle.ha_journal.specs.Journal.{HasEntry, Journal, more}
 use Rattle.ha_model.specs.Records.{Records}
-use Rattle.ha_model.specs.Texts.{call_text}
-use Rattle.ha_journal.specs.EntryText.{error_text, trace_line, trace_text}
-use Rattle.ha_journal.proofs.MoreLemmas.{names-more}
+use Rattle.ha_journal.specs.EntryText.{error_text}
+use Rattle.ha_model.proofs.ReadLaws.{read-more}
+use Rattle.conf_auto.specs.Config.{config_in}
 use Rattle.ha_config.proofs.ListLemmas.{true-false}
+use Rattle.ha_whole.specs.Trace.{call_text, trace_text}
 use Rattle.ha_whole.specs.Whole.{IsFull as IsFullJournal, IsWithin, Lawful, ends_segment, opened, put}
 use Rattle.ha_status.specs.declared.status.Status.{Status}
 use Rattle.ha_replay.specs.Traces.{IsEnd, IsNext, IsNoNext}
@@ -25,7 +27,7 @@ use Rattle.trace_laws.specs.Runs.{Begins, GoesOn, IsRun, MayFollow, line_count}
 use Rattle.trace_laws.specs.Tells.{GoesNoFurther, HasNoAgain, HasNoEnd, HasNoRoom, IsFarthest, IsNoTrace}
 use Rattle.trace_laws.proofs.CutLemmas.{no_feed, one_cut}
 use Rattle.trace_laws.proofs.EntryLemmas.{no_end}
-use Rattle.trace_laws.proofs.RunLemmas.{full_further, no_further, no_trace}
+use Rattle.trace_laws.proofs.RunLemmas.{full_further, no_further, no_trace, read_next}
 use Rattle.replay_file.specs.Fronts.{IsFrontOf}
 use Rattle.replay_file.specs.Judged.{IsAt, IsCutShort, IsFull, IsJudged, IsRefused, IsStatusOf, IsTaken, Judged, OfFile}
 
@@ -57,27 +59,32 @@ has_more : (j : Journal) (x : Entry) → HasEntry (more j x)
 has_more [] x = tt
 has_more (first ∷ behind) x = tt
 
--- one more entry, with which the journal is lawful, opened where it is a Restart
-pub run_more : (j k : Journal) (rs rs' : Records) (x : Entry) → HasEntry j → k ≡ more j x → IsRun j rs → Lawful (opened k) rs' → IsRun k rs'
-run_more [] k rs rs' x h e run lawful = absurd h
-run_more (first ∷ behind) k rs rs' x h e run lawful = subst (λ l. IsRun l rs') (sym e) (run.0, subst (λ l. Lawful (opened l) rs') e lawful)
+-- one more entry, with which the journal is lawful, opened where it is a Restart, and read
+pub run_more : (j k : Journal) (rs rs' : Records) (x : Entry) → HasEntry j → k ≡ more j x → IsRun j rs → Lawful (opened k) rs' → AreRead config_in k → IsRun k rs'
+run_more [] k rs rs' x h e run lawful read = absurd h
+run_more (first ∷ behind) k rs rs' x h e run lawful read =
+    subst (λ l. IsRun l rs') (sym e) (run.0, subst (λ l. Lawful (opened l) rs') e lawful, subst (AreRead config_in) e read)
 
 lawful_next : (j : Journal) (x : Entry) (rs : Records) → HasEntry j → IsRun (more j x) rs → Lawful (put j x) rs
 lawful_next [] x rs h run = absurd h
 lawful_next (first ∷ behind) x rs h run = run.1
 
--- a run goes on with the entry of a line that is the next one
-pub is_next : (j : Journal) (line : Text) (x : Entry) (rs : Records) → HasEntry j → GoesOn j line x rs → IsNext j line x rs
-is_next j line x rs h g = record { lawful = lawful_next j x rs h g.run; line_is = g.line_is ∙ (λ i. trace_line (sym (names-more j x h) i) x) }
+run_read : (j : Journal) (rs : Records) → HasEntry j → IsRun j rs → AreRead config_in j
+run_read [] rs h run = absurd h
+run_read (first ∷ behind) rs h run = run.2
 
-pub goes_next : (j : Journal) (line : Text) (rs : Records) (x : Entry) (rs' : Records) → HasEntry j → IsRun j rs → IsNext j line x rs' → GoesOn j line x rs'
+-- a run goes on with the entry of a line that is the next one
+pub is_next : (j : Journal) (line : Text) (x : Entry) (rs : Records) → HasEntry j → GoesOn j line x rs → IsNext config_in j line x rs
+is_next j line x rs h g = record { lawful = lawful_next j x rs h g.run; read_is = read_next j x rs h g.run; line_is = g.line_is }
+
+pub goes_next : (j : Journal) (line : Text) (rs : Records) (x : Entry) (rs' : Records) → HasEntry j → IsRun j rs → IsNext config_in j line x rs' → GoesOn j line x rs'
 goes_next j line rs x rs' h run next = record {
-  run = run_more j (more j x) rs rs' x h refl run next.lawful;
-  line_is = next.line_is ∙ (λ i. trace_line (names-more j x h i) x);
+  run = run_more j (more j x) rs rs' x h refl run next.lawful (read-more config_in j x (run_read j rs h run) next.read_is);
+  line_is = next.line_is;
 }
 
 -- a line that may follow is the next lawful entry's, or the end
-pub follows : (j : Journal) (rs : Records) (line : Text) → HasEntry j → (IsEnd j rs line → ⊥) → IsNoNext j line → MayFollow j rs line → ⊥
+pub follows : (j : Journal) (rs : Records) (line : Text) → HasEntry j → (IsEnd j rs line → ⊥) → IsNoNext config_in j line → MayFollow j rs line → ⊥
 follows j rs line h no_end no_next (inl end) = no_end end.1
 follows j rs line h no_end no_next (inr next) = no_next next.0 next.1 (is_next j line next.0 next.1 h next.2)
 

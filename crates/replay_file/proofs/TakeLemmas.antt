@@ -8,19 +8,21 @@ use Rattle.ha_journal.specs.declared.entry.Entry.{Entry}
 use Rattle.ha_journal.specs.declared.entry.Entry.TheVariants.{Boot, Line, Step, Again}
 use Rattle.ha_config.specs.Words.{Text}
 use Rattle.ha_journal.specs.Entries.{is_restart}
-use Rattle.ha_config.specs.Names.{names_of}
-use Rattle.ha_journal.specs.Journal.{HasEntry, Journal, names, more}
+use Rattle.ha_journal.specs.Commands.{AreRead, IsReadEntry}
+use Rattle.ha_journal.specs.Journal.{HasEntry, Journal, more}
+use Rattle.conf_auto.specs.Config.{config_in}
 use Rattle.ha_model.specs.Records.{Records}
 use Rattle.ha_config.specs.CheckText.{as_line}
-use Rattle.ha_model.specs.Texts.{call_text, call_text_of}
-use Rattle.ha_journal.specs.EntryText.{end_line, error_text, error_text_of, texts_after, trace_line, trace_text}
+use Rattle.ha_journal.specs.EntryText.{end_line, error_text, error_text_of, texts_after, trace_line}
 use Rattle.ha_config.proofs.ListLemmas.{true-false}
-use Rattle.ha_laws.proofs.TextLemmas.{calls-more, errors-more, trace-more}
-use Rattle.ha_whole.specs.Whole.{CannotRestart, HasRoom, IsFull as IsFullJournal, IsWithin, Lawful, Right, again_of, ends_segment, opened}
+use Rattle.ha_laws.proofs.TextLemmas.{errors-more, texts-more, trace-more}
+use Rattle.ha_whole.specs.Trace.{call_text, call_text_of, names, trace_text}
+use Rattle.ha_whole.specs.Whole.{AreEntries, CannotRestart, HasRoom, IsBehind, IsFull as IsFullJournal, IsWithin, Lawful, Right, again_of, ends_segment, opened}
 use Rattle.whole_laws.proofs.PutLemmas.{within-put}
 use Rattle.ha_status.specs.declared.status.Status.{Status}
 use Rattle.ha_replay.specs.declared.fault.TraceFault.{TraceFault}
 use Rattle.ha_replay.specs.Traces.{Answers, HasNoRoom as HasNoRoomFor, IsAgainDue, IsEnd, IsNext, IsNoNext, Reached, Stands, Takes as TakesEntry, reached, told}
+use Rattle.ha_replay.proofs.AnswerLemmas.{restart-read}
 use Rattle.ha_replay.proofs.SeamLemmas.{again-behind, behind-of}
 use Rattle.replay_file.specs.declared.front.FrontEnd.{FrontEnd}
 use Rattle.trace_laws.specs.Lines.{Cuts, is_one_line}
@@ -33,7 +35,7 @@ use Rattle.replay_file.specs.Boot.{IsBooted, IsUnbooted}
 use Rattle.replay_file.specs.Steps.{IsReady}
 use Rattle.replay_file.specs.Judged.{IsAt, IsCutShort, IsTaken, Judged}
 use Rattle.replay_file.proofs.StopLemmas.{cut_status, follows, front_taken, goes_next, is_next, journal_full, judged_here, line_refused, nothing_at, run_more, same_cut}
-use Rattle.replay_file.proofs.ToldLemmas.{AgainLine, Grown, OnePut, again_of_told, calls_grown, few_lines, grown, opened_told, told_units, told_ends, told_front, told_has}
+use Rattle.replay_file.proofs.ToldLemmas.{AgainLine, Grown, OnePut, again_of_told, calls_grown, few_lines, grown, opened_told, told_behind, told_ends, told_front, told_has, told_line, told_read}
 
 -- ---- a line that is taken
 
@@ -51,7 +53,7 @@ end_taken text line behind j rs o o' e e' has end at = record {
     room = at.begins.room;
     ends = λ _. (has, end.opened, end.quiet);
     text_is = behind_trace text (trace_text j false) line behind (end_line (length j)) at.begins.text_is end.line_is
-        ∙ (λ i. (append-nil (texts_after (λ before x. trace_line (names j) x) [] j) i ++ end_line (length j)) ++ behind);
+        ∙ (λ i. (append-nil (texts_after (λ before x. trace_line (names before) x) [] j) i ++ end_line (length j)) ++ behind);
   };
   calls_taken = at.calls_taken;
   errors_taken = at.errors_taken;
@@ -64,7 +66,7 @@ module _ (text line behind : Text) (r r' : Reached) (t : TakesEntry line r r') (
 
   pub calls_now : call_text (told r') r'.records ≡ call_text (told r) r.records ++ call_text_of r'.records (told r) t.entry
   calls_now =
-      ap (λ l. call_text l r'.records) t.journal ∙ calls-more (told r) t.entry r'.records
+      ap (λ l. call_text l r'.records) t.journal ∙ texts-more (call_text_of r'.records) [] (told r) t.entry
       ∙ ap (λ z. z ++ call_text_of r'.records (told r) t.entry) (sym (calls_grown r r' t.entry stands t.stands way))
 
   pub errors_now : error_text (told r') ≡ error_text (told r) ++ error_text_of t.entry
@@ -79,19 +81,19 @@ module _ (text line behind : Text) (r r' : Reached) (t : TakesEntry line r r') (
       by (OnePut open_run all p is) (inl due) = absurd (true-false (sym due ∙ open_run))
       by (OnePut open_run all p is) (inr room) = subst IsWithin (sym is) (within-put r.journal t.entry p.none within room)
 
-  pub begins_now : Begins text (told r) r.records false (line ++ (10 ∷ behind)) → Begins text (told r') r'.records false behind
-  begins_now b = record {
-    run = run_more (told r) (told r') r.records r'.records t.entry (told_has r stands) t.journal b.run (subst (λ l. Lawful l r'.records) (sym (opened_told r' t.stands)) t.stands.lawful);
+  pub begins_now : AreRead config_in r'.journal → Begins text (told r) r.records false (line ++ (10 ∷ behind)) → Begins text (told r') r'.records false behind
+  begins_now read b = record {
+    run = run_more (told r) (told r') r.records r'.records t.entry (told_has r stands) t.journal b.run (subst (λ l. Lawful l r'.records) (sym (opened_told r' t.stands)) t.stands.lawful) (told_read r' read);
     room = subst IsWithin (sym (opened_told r' t.stands)) (within_now (subst IsWithin (opened_told r stands) b.room));
     ends = λ bad. absurd (true-false (sym bad));
-    text_is = behind_trace text (trace_text (told r) false) line behind (trace_line (names (told r)) t.entry) b.text_is (t.line_is ∙ (λ i. trace_line (names_of (told_units r stands i)) t.entry))
-        ∙ (λ i. sym (trace-more (told r) t.entry (told_has r stands)) i ++ behind) ∙ (λ i. trace_text (sym t.journal i) false ++ behind);
+    text_is = behind_trace text (trace_text (told r) false) line behind (trace_line (names (told r)) t.entry) b.text_is (t.line_is ∙ told_line r t.entry stands (told_behind r r' t.entry stands t.stands t.journal))
+        ∙ (λ i. sym (trace-more names (told r) t.entry) i ++ behind) ∙ (λ i. trace_text (sym t.journal i) false ++ behind);
   }
 
-  module _ (o o' o'' e e' e'' : Option Text) (at : IsAt text (told r) r.records false (line ++ (10 ∷ behind)) o o' e e') where
+  module _ (o o' o'' e e' e'' : Option Text) (at : IsAt text (told r) r.records false (line ++ (10 ∷ behind)) o o' e e') (read : AreRead config_in r'.journal) where
     pub entry_taken : Takes o' (call_text_of r'.records (told r) t.entry) o'' → Takes e' (error_text_of t.entry) e'' → IsAt text (told r') r'.records false behind o o'' e e''
     entry_taken calls errors = record {
-      begins = begins_now at.begins;
+      begins = begins_now read at.begins;
       calls_taken = subst (λ z. Takes o z o'') (sym calls_now) (Takes-Takes o o' o'' _ _ at.calls_taken calls);
       errors_taken = subst (λ z. Takes e z e'') (sym errors_now) (Takes-Takes e e' e'' _ _ at.errors_taken errors);
     }
@@ -103,7 +105,7 @@ module _ (text line behind : Text) (r r' : Reached) (t : TakesEntry line r r') (
       records = r'.records;
       ended = false;
       left = behind;
-      begins = begins_now at.begins;
+      begins = begins_now read at.begins;
       status_is = cut_status text end (told r') r'.records false behind s cut;
       calls = subst (λ z. IsTaken s z o o'') (sym calls_now) (front_taken s _ _ o o' o'' cut at.calls_taken calls);
       errors = subst (λ z. IsTaken s z e e'') (sym errors_now) (front_taken s _ _ e e' e'' cut at.errors_taken errors);
@@ -132,11 +134,11 @@ ready_taken line r r' spent spent' lines t usable h =
     record { usable = usable; stands = t.stands; counted = counted; few = few_lines r' false (lines + 1) counted room; room = room }
 
 -- what the core says of a line that it took
-pub end_of : (line : Text) (r r' : Reached) (b : Bool) → b ≡ true → Answers line r r' (Ok b) → IsEnd (told r) r.records line × (r' ≡ r)
-end_of line r r' b is h = subst (λ (z : Bool). Answers line r r' (Ok z)) is h
+pub end_of : (line : Text) (r r' : Reached) (b : Bool) → b ≡ true → Answers config_in line r r' (Ok b) → IsEnd (told r) r.records line × (r' ≡ r)
+end_of line r r' b is h = subst (λ (z : Bool). Answers config_in line r r' (Ok z)) is h
 
-pub entry_of : (line : Text) (r r' : Reached) (b : Bool) → b ≡ false → Answers line r r' (Ok b) → TakesEntry line r r'
-entry_of line r r' b is h = subst (λ (z : Bool). Answers line r r' (Ok z)) is h
+pub entry_of : (line : Text) (r r' : Reached) (b : Bool) → b ≡ false → Answers config_in line r r' (Ok b) → TakesEntry line r r'
+entry_of line r r' b is h = subst (λ (z : Bool). Answers config_in line r r' (Ok z)) is h
 
 -- ---- a line that the core did not take
 
@@ -152,23 +154,35 @@ again_due r line x rs' stands ends goes =
       due = due;
       entry = x;
       is = last.is ∙ (λ i. more (sym front i) (again_of (sym front i))) ∙ (λ i. more (told r) (sym again i));
-      line_is = next.line_is ∙ (λ i. trace_line (names_of (sym (told_units r stands) i)) x);
+      line_is = next.line_is ∙ sym (told_line r x stands (behind-of (told r) x (told_has r stands) next.lawful.right.journal.entries));
     }
 
+-- what was told ends with a Restart where an Again is due
+told_due : (r : Reached) → Stands r → r.again ≡ true → ends_segment (told r) ≡ true
+told_due r stands due = (λ i. ends_segment (told_front r stands due i)) ∙ (again_of_told r stands due).ends
+
+-- an Again reads no text
+again_read : (d : Journal) (x : Entry) → x ≡ again_of d → IsReadEntry config_in x
+again_read d x is = subst (IsReadEntry config_in) (sym is) tt
+
 -- and the other way round
-due_next : (r : Reached) (line : Text) → Stands r → IsAgainDue r line → (x : Entry) × (rs' : Records) × IsNext (told r) line x rs'
-due_next r line stands d = (
-  d.entry,
-  r.records,
-  record {
-    lawful = subst (λ l. Lawful l r.records) (sym (opened_on r.journal stands.lawful.right.journal.opened) ∙ ap opened d.is) stands.lawful;
-    line_is = d.line_is ∙ (λ i. trace_line (names_of (told_units r stands i)) d.entry);
-  },
-)
+due_next : (r : Reached) (line : Text) → Stands r → IsAgainDue r line → (x : Entry) × (rs' : Records) × IsNext config_in (told r) line x rs'
+due_next r line stands d =
+    let whole : r.journal ≡ opened (more (told r) d.entry) = sym (opened_on r.journal stands.lawful.right.journal.opened) ∙ ap opened d.is in
+    let due : ends_segment (told r) ≡ true = told_due r stands d.due in
+    let behind : IsBehind (told r) d.entry = behind-of (told r) d.entry (told_has r stands) (subst AreEntries whole stands.lawful.right.journal.entries) in (
+      d.entry,
+      r.records,
+      record {
+        lawful = subst (λ l. Lawful l r.records) whole stands.lawful;
+        read_is = again_read (told r) d.entry (again-behind (told r) d.entry due behind);
+        line_is = d.line_is ∙ told_line r d.entry stands behind;
+      },
+    )
 
 module _ (line behind : Text) (r : Reached) (stands : Stands r) (one : is_one_line line ≡ true) where
   -- a line that is refused had room
-  room_there : (HasNoRoomFor line r → ⊥) → (IsEnd (told r) r.records line → ⊥) → IsNoNext (told r) line → HasNoRoom (told r) (line ++ (10 ∷ behind)) → ⊥
+  room_there : (HasNoRoomFor line r → ⊥) → (IsEnd (told r) r.records line → ⊥) → IsNoNext config_in (told r) line → HasNoRoom (told r) (line ++ (10 ∷ behind)) → ⊥
   room_there room unended no_next (inl full) =
       room (inl (subst IsFullJournal (opened_told r stands) full, unended, (λ due. let next = due_next r line stands due in no_next next.0 next.1 next.2)))
   room_there room unended no_next (inr cannot) =
@@ -190,7 +204,7 @@ module _ (line behind : Text) (r : Reached) (stands : Stands r) (one : is_one_li
           entry = n.entry;
           records = n.records;
           restarts = n.restarts;
-          goes_on = goes_next (told r) line r.records n.entry n.records (told_has r stands) run n.next;
+          goes_on = goes_next (told r) line r.records n.entry n.records (told_has r stands) run (record { lawful = n.next.lawful; read_is = restart-read config_in n.entry n.restarts; line_is = n.next.line_is });
         },
       )
 
@@ -207,7 +221,7 @@ module _ (line behind : Text) (r : Reached) (stands : Stands r) (one : is_one_li
 
 module _ (text line behind : Text) (end : FrontEnd) (r r' : Reached) (lines : ℕ) (o o' e e' : Option Text) where
   pub not_taken : is_one_line line ≡ true → IsAt text (told r) r.records false (line ++ (10 ∷ behind)) o o' e e' → Stands r → lines ≡ line_count (told r) false
-      → (fault : TraceFault) → Answers line r r' (Err fault)
+      → (fault : TraceFault) → Answers config_in line r r' (Err fault)
       → (s : Status) → (fault ≡ TraceFault.Refused → s ≡ Status.TraceRefused (lines + 1)) → (fault ≡ TraceFault.Full → s ≡ Status.JournalFull) → (fault ≡ TraceFault.Memory → s ≡ Status.Memory)
       → Judged text end s (λ t. IsTaken s t o o') (λ t. IsTaken s t e e')
   not_taken one at stands counted TraceFault.Refused never s refused full memory =
@@ -228,6 +242,12 @@ first_stands (Boot text config stored start zone carry) rs is right =
 first_stands (Again number start stored carry) rs is right = absurd is
 first_stands (Line source number cmd) rs is right = absurd is
 first_stands (Step worker serial branch item) rs is right = absurd is
+
+first_read : (first : Entry) → IsFirst first → AreRead config_in (first ∷ [])
+first_read (Boot text config stored start zone carry) is = (tt, tt)
+first_read (Again number start stored carry) is = absurd is
+first_read (Line source number cmd) is = absurd is
+first_read (Step worker serial branch item) is = absurd is
 
 first_within : (first : Entry) → IsFirst first → IsWithin (first ∷ [])
 first_within (Boot text config stored start zone carry) is = record { segment_room = (omega arith, tt); room = omega arith; segments_room = omega arith }
@@ -265,12 +285,11 @@ booted_at text line behind j rs o e b cuts =
     let one : opened (first ∷ []) ≡ first ∷ [] = opened_on (first ∷ []) right.journal.opened in
     subst (λ l. IsAt text l rs false behind o o e e) (sym b.journal) (record {
       begins = record {
-        run = (b.is_first, subst (λ l. Lawful l rs) (sym one) (first_stands first rs b.is_first right).lawful);
+        run = (b.is_first, subst (λ l. Lawful l rs) (sym one) (first_stands first rs b.is_first right).lawful, first_read first b.is_first);
         room = subst IsWithin (sym one) (first_within first b.is_first);
         ends = λ bad. absurd (true-false (sym bad));
-        text_is = behind_trace text [] line behind (trace_line (names j) first) cuts.text_is b.line_is
-            ∙ (λ i. trace_line (names (b.journal i)) first ++ behind)
-            ∙ ap (λ z. z ++ behind) (sym (append-nil (trace_line (names (first ∷ [])) first)) ∙ sym (append-nil (trace_line (names (first ∷ [])) first ++ [])));
+        text_is = behind_trace text [] line behind (trace_line (names []) first) cuts.text_is b.line_is
+            ∙ ap (λ z. z ++ behind) (sym (append-nil (trace_line (names []) first)) ∙ sym (append-nil (trace_line (names []) first ++ [])));
       };
       calls_taken = subst (λ t. Takes o t o) (sym (no_calls first rs b.is_first)) (Takes-nothing o);
       errors_taken = subst (λ t. Takes e t e) (sym (no_errors first b.is_first)) (Takes-nothing e);

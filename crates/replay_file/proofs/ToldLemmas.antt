@@ -1,17 +1,18 @@
 -- The entries whose lines were taken, and how one more makes them grow.
-use Rattle.std.proofs.Common.{◌≡◌, ◌≤◌, ◌∙◌, ap, sym, subst, refl, ℕ, ◌-◌, [], take, length, Bool, true, false, arith}
-use Rattle.std.proofs.lemmas.List.{length-take-le}
+use Rattle.std.proofs.Common.{◌≡◌, ◌≤◌, ◌∙◌, ap, sym, subst, refl, ℕ, ◌-◌, [], drop, take, length, Bool, true, false, arith}
+use Rattle.std.proofs.lemmas.List.{length-take-le, take-append-drop}
 use Rattle.std.specs.Prelude.{if◌then◌else◌}
 use Rattle.ha_config.specs.declared.command.Cmd.{Cmd}
 use Rattle.ha_journal.specs.declared.entry.Entry.{Entry}
 use Rattle.ha_journal.specs.declared.entry.Entry.TheVariants.{Boot, Line, Step, Again}
 use Rattle.ha_journal.specs.Entries.{is_restart}
-use Rattle.ha_journal.specs.EntryText.{error_text_of}
-use Rattle.ha_journal.specs.Journal.{HasEntry, Journal, units, more}
+use Rattle.ha_journal.specs.Commands.{AreRead, IsReadEntry}
+use Rattle.ha_journal.specs.EntryText.{error_text_of, trace_line}
+use Rattle.ha_journal.specs.Journal.{HasEntry, Journal, more}
 use Rattle.ha_model.specs.Records.{Records}
-use Rattle.ha_model.specs.Texts.{call_text, call_text_of}
 use Rattle.ha_config.proofs.ListLemmas.{true-false}
-use Rattle.ha_journal.proofs.MoreLemmas.{units-more}
+use Rattle.conf_auto.specs.Config.{config_in}
+use Rattle.ha_whole.specs.Trace.{call_text, call_text_of, names}
 use Rattle.ha_whole.specs.Whole.{AreEntries, IsBehind, IsFull, IsWithin, Right, again_of, ends_segment, opened, put, records_of}
 use Rattle.whole_laws.specs.Puts.{IsPut}
 use Rattle.whole_laws.proofs.CallLemmas.{calls-same}
@@ -19,7 +20,7 @@ use Rattle.whole_laws.proofs.LiftLemmas.{ends-more, entries-have}
 use Rattle.whole_laws.proofs.NumberLemmas.{numbers-more}
 use Rattle.whole_laws.proofs.PutLemmas.{put-on}
 use Rattle.ha_replay.specs.Traces.{Reached, Stands, told}
-use Rattle.ha_replay.proofs.SeamLemmas.{AgainLast, again-behind, again-last, behind-of}
+use Rattle.ha_replay.proofs.SeamLemmas.{AgainLast, again-behind, again-last, behind-of, each-front}
 use Rattle.trace_laws.specs.Runs.{line_count}
 use Rattle.trace_laws.proofs.FrontLemmas.{opened_on}
 
@@ -53,14 +54,30 @@ told_has r stands = by r.again refl
     by false e = subst HasEntry (sym (told_all r e)) (entries-have r.journal stands.lawful.right.journal.entries)
     by true e = subst HasEntry (sym (told_front r stands e)) (again_of_told r stands e).has
 
-pub told_units : (r : Reached) → Stands r → units r.journal ≡ units (told r)
-told_units r stands = by r.again refl
+-- what stands next to them has the same line by the names of the journal: it is an Again where one is due
+pub told_line : (r : Reached) (x : Entry) → Stands r → IsBehind (told r) x → trace_line (names r.journal) x ≡ trace_line (names (told r)) x
+told_line r x stands behind = by r.again refl
   where
-    by : (b : Bool) → r.again ≡ b → units r.journal ≡ units (told r)
-    by false e = ap units (sym (told_all r e))
+    again_line : (all all' : _) (d : Journal) → trace_line all (again_of d) ≡ trace_line all' (again_of d)
+    again_line all all' d = refl
+
+    by : (b : Bool) → r.again ≡ b → trace_line (names r.journal) x ≡ trace_line (names (told r)) x
+    by false e = (λ i. trace_line (names (sym (told_all r e) i)) x)
     by true e =
-        (let last = again_of_told r stands e in
-        ap units last.is ∙ sym (units-more last.front (again_of last.front) last.has) ∙ ap units (sym (told_front r stands e)))
+        let last = again_of_told r stands e in
+        let front : told r ≡ last.front = told_front r stands e in
+        let again : x ≡ again_of last.front = again-behind last.front x last.ends (subst (λ d. IsBehind d x) front behind) in
+        (λ i. trace_line (names r.journal) (again i)) ∙ again_line (names r.journal) (names (told r)) last.front ∙ (λ i. trace_line (names (told r)) (sym again i))
+
+-- each Reload of them is what its text is read as, where those of the journal are
+pub told_read : (r : Reached) → AreRead config_in r.journal → AreRead config_in (told r)
+told_read r read = by r.again
+  where
+    by : (b : Bool) → AreRead config_in (if b then take (length r.journal - 1) r.journal else r.journal)
+    by false = read
+    by true =
+        let n : ℕ = length r.journal - 1 in
+        each-front (λ before y. IsReadEntry config_in y) [] (take n r.journal) (drop n r.journal) (subst (AreRead config_in) (sym (take-append-drop n r.journal)) read)
 
 -- they are no more than the journal has entries
 pub told_short : (r : Reached) → length (told r) ≤ length r.journal
@@ -95,6 +112,11 @@ plain_put j (Boot text config stored start zone carry) h e = absurd h
 plain_put j (Line source number cmd) h e = record { none = refl; not_boot = λ b. b }
 plain_put j (Step worker serial branch item) h e = record { none = refl; not_boot = λ b. b }
 plain_put j (Again number start stored carry) h e = absurd (true-false (sym h.0 ∙ e))
+
+-- what is told next stands behind what was told
+pub told_behind : (r r' : Reached) (x : Entry) → Stands r → Stands r' → told r' ≡ more (told r) x → IsBehind (told r) x
+told_behind r r' x stands stands' is =
+    behind-of (told r) x (told_has r stands) (subst AreEntries (sym (opened_told r' stands') ∙ ap opened is) stands'.lawful.right.journal.entries)
 
 -- it is the Again of the journal that stood, or what was put to it
 pub data Grown (r r' : Reached) (x : Entry) : Type 0 where
@@ -140,6 +162,7 @@ no_calls_of rs d (Step worker serial branch item) e = absurd (true-false (sym e)
 
 pub no_errors_of : (x : Entry) → is_restart x ≡ true → error_text_of x ≡ []
 no_errors_of (Line source number Cmd.Restart) e = refl
+no_errors_of (Line source number (Cmd.Reload text config)) e = absurd (true-false (sym e))
 no_errors_of (Line source number (Cmd.Report entity text attributes)) e = absurd (true-false (sym e))
 no_errors_of (Line source number (Cmd.Gone entity)) e = absurd (true-false (sym e))
 no_errors_of (Line source number (Cmd.Event kind pairs)) e = absurd (true-false (sym e))

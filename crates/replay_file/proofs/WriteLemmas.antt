@@ -8,7 +8,6 @@ use Rattle.ha_journal.specs.declared.entry.Entry.{Entry}
 use Rattle.ha_config.specs.Words.{Text}
 use Rattle.ha_journal.specs.Journal.{Journal, more}
 use Rattle.ha_model.specs.Records.{Records}
-use Rattle.ha_model.specs.Texts.{call_text_of}
 use Rattle.ha_journal.specs.EntryText.{error_text_of}
 use Rattle.ha_config.proofs.ListLemmas.{none-some, some-same}
 use Rattle.bus_turn.specs.declared.fault.BusFault.{BusFault}
@@ -22,6 +21,7 @@ use Rattle.ha_status.proofs.CauseLemmas.{wider_write}
 use Rattle.ha_replay.specs.Traces.{Reached, Takes as TakesEntry, told}
 use Rattle.replay_file.specs.Steps.{IfWrite, WritesBoth}
 use Rattle.replay_file.proofs.ToldLemmas.{last_gives}
+use Rattle.ha_whole.specs.Trace.{call_text_of}
 
 -- ---- one sink
 

@@ -2,8 +2,9 @@
 use Rattle.std.specs.Prelude.{◌≡◌, [], ◌∷◌}
 use Rattle.ha_journal.specs.declared.entry.Entry.{Entry}
 use Rattle.ha_config.specs.Words.{Text}
-use Rattle.ha_journal.specs.Journal.{Journal, names}
+use Rattle.ha_journal.specs.Journal.{Journal}
 use Rattle.ha_model.specs.Records.{Records}
+use Rattle.ha_whole.specs.Trace.{names}
 use Rattle.ha_whole.specs.Whole.{Right}
 use Rattle.ha_config.specs.CheckText.{as_line}
 use Rattle.ha_journal.specs.EntryText.{trace_line}
@@ -15,7 +16,7 @@ pub record IsBooted (line : Text) (j : Journal) (rs : Records) : Type 0 where
   pub first : Entry
   pub journal : j ≡ first ∷ []
   pub is_first : IsFirst first
-  pub line_is : as_line line ≡ trace_line (names j) first
+  pub line_is : as_line line ≡ trace_line (names []) first
   pub right : Right j rs
 
 -- the line may not stand first, unless memory ran out

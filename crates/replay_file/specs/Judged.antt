@@ -3,7 +3,6 @@ use Rattle.std.specs.Prelude.{ℕ, suc, ◌≡◌, ◌⊎◌, Bool, true, false,
 use Rattle.ha_config.specs.Words.{Text}
 use Rattle.ha_journal.specs.Journal.{Journal}
 use Rattle.ha_model.specs.Records.{Records}
-use Rattle.ha_model.specs.Texts.{call_text}
 use Rattle.ha_journal.specs.EntryText.{error_text}
 use Rattle.ha_io.specs.Told.{Takes}
 use Rattle.ha_status.specs.declared.status.Status.{Status}
@@ -13,6 +12,7 @@ use Rattle.replay_file.specs.Fronts.{IsFrontOf}
 use Rattle.trace_laws.specs.Lines.{is_one_line}
 use Rattle.trace_laws.specs.Runs.{Begins, line_count}
 use Rattle.trace_laws.specs.Tells.{HasNoRoom, IsFarthest, IsNoTrace}
+use Rattle.ha_whole.specs.Trace.{call_text}
 
 -- ---- the status
 

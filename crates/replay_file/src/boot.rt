@@ -12,6 +12,7 @@ ghost use Rattle.trace_laws.specs.Runs.{IsConfigured, boot_line};
 ghost use Rattle.replay_file.specs.Boot.{IsBooted, IsUnbooted};
 
 use conf_auto::read_config;
+use conf_reader::Reader;
 use ha_boot::Boots;
 use ha_clock::Moment;
 use ha_config::{Automation, Config, is_automation};
@@ -126,7 +127,7 @@ fn read_first(alloc: Global, line: &[u8]) -> Result<First, TraceFault>
 
 /// Boots a core by the first line, without its LF. Refused where it is no first line, or its configuration is refused, or a name under `last`
 /// is that of no automation.
-pub(crate) fn boot<E: Boots>(alloc: Global, line: &[u8]) -> Result<E, TraceFault>
+pub(crate) fn boot<E: Boots<Prepare = Reader>>(alloc: Global, line: &[u8]) -> Result<E, TraceFault>
     requires short { length line.now < 2 ^ 32 }
     ensures booted { IfOk result (λ core. IsBooted line.now (E.entries core) (E.runs core)) }
     ensures usable { IfOk result (λ core. E.is_spent core ≡ false) }
@@ -143,7 +144,7 @@ pub(crate) fn boot<E: Boots>(alloc: Global, line: &[u8]) -> Result<E, TraceFault
         Ok(made) => made,
         Err(fault) => return Err(fault),
     };
-    match E::boot(alloc, text, config, stored, start, zone, last) {
+    match E::boot(alloc, text, config, stored, start, zone, last, Reader) {
         Ok(core) => {
             let _ = core.journal();
             Ok(core)

@@ -3,7 +3,6 @@ ghost use Rattle.std.specs.Prelude.{◌≡◌, ◌<◌, ◌≤◌, ◌+◌, ◌^
 ghost use Rattle.ha_journal.specs.declared.entry.Entry.{Entry};
 ghost use Rattle.ha_config.specs.Words.{Text};
 ghost use Rattle.ha_journal.specs.Journal.{Journal, more};
-ghost use Rattle.ha_model.specs.Texts.{call_text_of};
 ghost use Rattle.ha_journal.specs.EntryText.{error_text_of};
 ghost use Rattle.bus_turn.specs.States.{sink_of};
 ghost use Rattle.bus_turn.specs.Writes.{fault_of};
@@ -14,11 +13,13 @@ ghost use Rattle.replay_file.specs.Fronts.{most_bytes};
 ghost use Rattle.trace_laws.specs.Lines.{is_one_line};
 ghost use Rattle.replay_file.specs.Judged.{IsAt, IsCutShort, IsTaken, Judged};
 ghost use Rattle.replay_file.specs.Steps.{IfWrite, IsReady, WritesBoth};
+ghost use Rattle.ha_whole.specs.Trace.{call_text_of};
 
 use crate::boot::boot;
 use crate::cut::cut_line;
 use crate::front::FrontEnd;
 use bus_turn::{BusFault, write_call, write_error};
+use conf_reader::Reader;
 use ha_boot::Boots;
 use ha_io::Sink;
 use ha_replay::{TraceFault, is_full, replay_line};
@@ -91,7 +92,7 @@ fn write_last<C: Core, K: Sink>(
 }
 
 /// Takes a whole line as the next entry, and writes what that gives; or as the end of the trace, and gives true.
-fn take_line<C: Core, K: Sink>(
+fn take_line<C: Core<Prepare = Reader>, K: Sink>(
     alloc: Global,
     shown: &mut Word,
     core: &mut C,
@@ -118,15 +119,18 @@ fn take_line<C: Core, K: Sink>(
 {
     match replay_line(alloc, shown, core, line, closing, again) {
         Ok(true) => Ok(true),
-        Ok(false) => match write_last(alloc, shown, core, out, err) {
-            Ok(()) => Ok(false),
-            Err(fault) => Err(unwritten(fault)),
-        },
+        Ok(false) => {
+            let _ = core.journal();
+            match write_last(alloc, shown, core, out, err) {
+                Ok(()) => Ok(false),
+                Err(fault) => Err(unwritten(fault)),
+            }
+        }
         Err(fault) => Err(status_of(fault, lines)),
     }
 }
 
-impl<E: Boots> Replay<E> {
+impl<E: Boots<Prepare = Reader>> Replay<E> {
     /// Takes a whole line, and writes what its entry gives. Nothing may follow the end line.
     fn take<K: Sink>(
         &mut self,
@@ -230,7 +234,7 @@ impl<E: Boots> Replay<E> {
 }
 
 /// The status of what was read of a trace, with the lines of its calls and errors written.
-pub(crate) fn judge<E: Boots, K: Sink>(
+pub(crate) fn judge<E: Boots<Prepare = Reader>, K: Sink>(
     alloc: Global,
     text: &[u8],
     end: FrontEnd,

@@ -9,6 +9,7 @@ ghost use Rattle.replay_file.specs.Replays.{IsReplay};
 
 use crate::front::read_front;
 use crate::judge::judge;
+use conf_reader::Reader;
 use ha_boot::Boots;
 use ha_io::{IoFault, Place};
 use ha_status::{Status, told};
@@ -19,7 +20,7 @@ use std::alloc::Global;
 const MOST_BYTES: usize = 268_435_456;
 
 /// What was found, before it is told on the error sink.
-fn replayed<E: Boots, P: Place>(
+fn replayed<E: Boots<Prepare = Reader>, P: Place>(
     alloc: Global,
     name: &str,
     place: &mut P,
@@ -62,7 +63,7 @@ fn replayed<E: Boots, P: Place>(
 /// `replay`: judges the trace in a file line by line, and writes the lines of its calls to `out` and those of its errors to `err`, and
 /// behind them, where it is no trace of a finished lawful run, or something failed, the status line. The source of the file is handed back
 /// where it was opened.
-pub fn replay_call<E: Boots, P: Place>(
+pub fn replay_call<E: Boots<Prepare = Reader>, P: Place>(
     alloc: Global,
     name: &str,
     place: &mut P,

@@ -1,4 +1,5 @@
 //! How a trace is judged: its status, and what is written to the sinks of calls and errors.
+use conf_reader::Reader;
 use ha_engine::Engine;
 use ha_io::{MemFile, MemPlace, MemSink, have_distinct_names};
 use replay_file::replay_call;
@@ -39,7 +40,9 @@ fn replayed(
     let mut place = MemPlace::make(alloc, files, Vec::new(alloc));
     let mut out = MemSink::make(Vec::new(alloc), Vec::new(alloc), Vec::new(alloc));
     let mut err = MemSink::make(Vec::new(alloc), Vec::new(alloc), Vec::new(alloc));
-    let (status, _) = replay_call::<Engine, MemPlace>(alloc, "t", &mut place, &mut out, &mut err);
+    let (status, _) = replay_call::<Engine<Reader>, MemPlace>(
+        alloc, "t", &mut place, &mut out, &mut err,
+    );
     Ok(Some((status.number(), out, err)))
 }
 

@@ -8,6 +8,8 @@ mod called;
 #[cfg(test)]
 mod judged;
 #[cfg(test)]
+mod reloads;
+#[cfg(test)]
 mod restarts;
 #[cfg(test)]
 mod traces;

@@ -10,12 +10,13 @@ use Rattle.ha_model.specs.declared.record.Record.{Record}
 use Rattle.ha_journal.specs.Journal.{Journal, last_place, units}
 use Rattle.ha_journal.specs.Attempts.{Attempt}
 use Rattle.ha_model.specs.Records.{Records, mode_of, max_of, last_record, begin_of, begin_behind, is_restart_mode, calls_of, lets_in, lets_in_after, live_count, new_record}
-use Rattle.ha_config.specs.Words.{or_else}
+use Rattle.ha_config.specs.Names.{name_of}
+use Rattle.ha_config.specs.Words.{or_else, same}
 use Rattle.ha_model.specs.RunSteps.{ends_for, replace_all, begins_here, begin_at, settled, joined, attempt_all}
 use Rattle.ha_model.proofs.RecordGrowth.{EndBelow, is-at-most}
 use Rattle.run_modes.specs.Table.{is_live, begin_now, new_run}
 use Rattle.ha_laws.specs.Order.{InOrderBehind, InOrder}
-use Rattle.run_modes.specs.Calls.{tried, all_tried}
+use Rattle.run_modes.specs.Calls.{all_tried, run_number, tried}
 use Rattle.run_laws.proofs.CallLaws.{LastAlike}
 
 equal-self : (a : ℕ) → nat_eq a a ≡ true
@@ -195,9 +196,9 @@ module _ (k : Journal) where
   settled-length back [] = refl
   settled-length back (r ∷ rs) = ap suc (settled-length (r ∷ back) rs)
 
-  settled-count : (a n : ℕ) (back rs : Records) → fold (λ n r. n + cond (nat_eq r.automation a) 1 0) n (settled k back rs) ≡ fold (λ n r. n + cond (nat_eq r.automation a) 1 0) n rs
-  settled-count a n back [] = refl
-  settled-count a n back (r ∷ rs) = settled-count a (n + cond (nat_eq r.automation a) 1 0) (r ∷ back) rs
+  settled-count : (test : ℕ → Bool) (n : ℕ) (back rs : Records) → fold (λ n r. n + cond (test r.automation) 1 0) n (settled k back rs) ≡ fold (λ n r. n + cond (test r.automation) 1 0) n rs
+  settled-count test n back [] = refl
+  settled-count test n back (r ∷ rs) = settled-count test (n + cond (test r.automation) 1 0) (r ∷ back) rs
 
   settled-live : (a n : ℕ) (back rs : Records) → fold (λ n r. n + cond (is_live a r) 1 0) n (settled k back rs) ≡ fold (λ n r. n + cond (is_live a r) 1 0) n rs
   settled-live a n back [] = refl
@@ -257,7 +258,7 @@ module _ (k : Journal) where
 
   -- the record of an admitted attempt, as it begins
   new-settled : (rs : Records) (x : Tried) → InOrder (units k) rs → EndsBelow (suc (last_place k)) rs → calls_of k (suc (length rs)) ≡ 0
-      → new_run (settled k [] rs) x.1.automation (mode_of (units k) x.1.automation) (last_place k) x.0 x.1.env ≡ settle k (pushed rs []) (new_record k rs x)
+      → new_run (settled k [] rs) x.1.automation (mode_of (units k) x.1.automation) (last_place k) x.0 (run_number k (settled k [] rs) x) x.1.env ≡ settle k (pushed rs []) (new_record k rs x)
   new-settled rs x order below calls =
       let a = x.1.automation in
       let m = mode_of (units k) x.1.automation in
@@ -271,7 +272,7 @@ module _ (k : Journal) where
       (λ queued. queue-tells (units k) x.1.automation queued (λ b. false) [] rs order refl) count in
       (λ i. record (new_record k rs x) {
         serial = suc (settled-length k [] rs i);
-        number = suc (settled-count k x.1.automation 0 [] rs i);
+        number = suc (settled-count k (λ a. same (name_of (units k) a) (name_of (units k) x.1.automation)) 0 [] rs i);
         begin = sym begin i;
         calls = sym calls i;
       })
@@ -282,15 +283,15 @@ module _ (k : Journal) where
       })
 
   joined-settled : (m : Mode) (rs : Records) (x : Tried) → mode_of (units k) x.1.automation ≡ m → InOrder (units k) rs → EndsBelow (suc (last_place k)) rs → calls_of k (suc (length rs)) ≡ 0
-      → joined m x.1.automation (last_place k) (settled k [] rs) (new_run (settled k [] rs) x.1.automation (mode_of (units k) x.1.automation) (last_place k) x.0 x.1.env)
+      → joined m x.1.automation (last_place k) (settled k [] rs) (new_run (settled k [] rs) x.1.automation (mode_of (units k) x.1.automation) (last_place k) x.0 (run_number k (settled k [] rs) x) x.1.env)
       ≡ settled k [] (joined m x.1.automation (last_place k) rs (new_record k rs x))
   joined-settled m rs x e order below calls = by m e (new-settled rs x order below calls)
     where
       new : Record
-      new = new_run (settled k [] rs) x.1.automation (mode_of (units k) x.1.automation) (last_place k) x.0 x.1.env
+      new = new_run (settled k [] rs) x.1.automation (mode_of (units k) x.1.automation) (last_place k) x.0 (run_number k (settled k [] rs) x) x.1.env
 
-      plain : new_run (settled k [] rs) x.1.automation (mode_of (units k) x.1.automation) (last_place k) x.0 x.1.env ≡ settle k (pushed rs []) (new_record k rs x)
-          → settled k [] rs ++ (new_run (settled k [] rs) x.1.automation (mode_of (units k) x.1.automation) (last_place k) x.0 x.1.env ∷ []) ≡ settled k [] (rs ++ (new_record k rs x ∷ []))
+      plain : new_run (settled k [] rs) x.1.automation (mode_of (units k) x.1.automation) (last_place k) x.0 (run_number k (settled k [] rs) x) x.1.env ≡ settle k (pushed rs []) (new_record k rs x)
+          → settled k [] rs ++ (new_run (settled k [] rs) x.1.automation (mode_of (units k) x.1.automation) (last_place k) x.0 (run_number k (settled k [] rs) x) x.1.env ∷ []) ≡ settled k [] (rs ++ (new_record k rs x ∷ []))
       plain one = (λ i. settled k [] rs ++ (one i ∷ [])) ∙ sym (settled-snoc k [] rs (new_record k rs x))
 
       begins : mode_of (units k) x.1.automation ≡ Mode.Restart → (back back' : Records) → settle k back (new_record k rs x) ≡ settle k back' (new_record k rs x)
@@ -298,8 +299,8 @@ module _ (k : Journal) where
           (λ i. record (new_record k rs x) { begin = begin_at (last_place k) (e i) (last_record x.1.automation back) (new_record k rs x); calls = calls_of k (suc (length rs)) })
           ∙ (λ i. record (new_record k rs x) { begin = begin_at (last_place k) (sym e i) (last_record x.1.automation back') (new_record k rs x); calls = calls_of k (suc (length rs)) })
 
-      by : (m : Mode) → mode_of (units k) x.1.automation ≡ m → new_run (settled k [] rs) x.1.automation (mode_of (units k) x.1.automation) (last_place k) x.0 x.1.env ≡ settle k (pushed rs []) (new_record k rs x)
-          → joined m x.1.automation (last_place k) (settled k [] rs) (new_run (settled k [] rs) x.1.automation (mode_of (units k) x.1.automation) (last_place k) x.0 x.1.env)
+      by : (m : Mode) → mode_of (units k) x.1.automation ≡ m → new_run (settled k [] rs) x.1.automation (mode_of (units k) x.1.automation) (last_place k) x.0 (run_number k (settled k [] rs) x) x.1.env ≡ settle k (pushed rs []) (new_record k rs x)
+          → joined m x.1.automation (last_place k) (settled k [] rs) (new_run (settled k [] rs) x.1.automation (mode_of (units k) x.1.automation) (last_place k) x.0 (run_number k (settled k [] rs) x) x.1.env)
           ≡ settled k [] (joined m x.1.automation (last_place k) rs (new_record k rs x))
       by Mode.Single e one = plain one
       by Mode.Queued e one = plain one
@@ -311,11 +312,11 @@ module _ (k : Journal) where
   next-settled : (rs : Records) (x : Tried) → InOrder (units k) rs → EndsBelow (suc (last_place k)) rs → calls_of k (suc (length rs)) ≡ 0 → tried k (settled k [] rs) x ≡ settled k [] (next rs x)
   next-settled rs x order below calls =
       (λ i. if lets_in (mode_of (units k) x.1.automation) (max_of (units k) x.1.automation) (settled-live k x.1.automation 0 [] rs i)
-      then joined (mode_of (units k) x.1.automation) x.1.automation (last_place k) (settled k [] rs) (new_run (settled k [] rs) x.1.automation (mode_of (units k) x.1.automation) (last_place k) x.0 x.1.env)
+      then joined (mode_of (units k) x.1.automation) x.1.automation (last_place k) (settled k [] rs) (new_run (settled k [] rs) x.1.automation (mode_of (units k) x.1.automation) (last_place k) x.0 (run_number k (settled k [] rs) x) x.1.env)
       else settled k [] rs)
       ∙ by (lets_in_after (units k) rs x.1.automation)
     where
-      by : (b : Bool) → (if b then joined (mode_of (units k) x.1.automation) x.1.automation (last_place k) (settled k [] rs) (new_run (settled k [] rs) x.1.automation (mode_of (units k) x.1.automation) (last_place k) x.0 x.1.env) else settled k [] rs)
+      by : (b : Bool) → (if b then joined (mode_of (units k) x.1.automation) x.1.automation (last_place k) (settled k [] rs) (new_run (settled k [] rs) x.1.automation (mode_of (units k) x.1.automation) (last_place k) x.0 (run_number k (settled k [] rs) x) x.1.env) else settled k [] rs)
           ≡ settled k [] (if b then joined (mode_of (units k) x.1.automation) x.1.automation (last_place k) rs (new_record k rs x) else rs)
       by true = joined-settled (mode_of (units k) x.1.automation) rs x refl order below calls
       by false = refl

@@ -1,6 +1,6 @@
 -- LAW of the calls for one entry: after its calls, ends, stops and attempts, in this order, the records are those of the journal with it.
 use Rattle.std.proofs.Common.{◌≡◌, ℕ, zero, suc, ◌+◌, ◌-◌, ◌<◌, List, [], ◌∷◌, length, map, Bool, true, false, cond, refl, sym, ap, subst, ◌∙◌, rules, arith, Option}
-use Rattle.std.specs.Prelude.{Some, None, nat_eq, is_none, slice_get, fold, option_map, option_and_then, ◌&&◌, ◌||◌, if◌then◌else◌}
+use Rattle.std.specs.Prelude.{Some, None, not, nat_eq, is_none, slice_get, fold, option_map, option_and_then, ◌&&◌, ◌||◌, if◌then◌else◌}
 use Rattle.std.specs.List.{list_any}
 use Rattle.std.specs.Option.{option_map_or}
 use Rattle.std.proofs.lemmas.Bool.{eqb-true}
@@ -12,23 +12,26 @@ use Rattle.ha_journal.specs.declared.entry.Entry.{Entry}
 use Rattle.ha_journal.specs.declared.entry.Entry.TheVariants.{Boot, Line, Step, Again}
 use Rattle.ha_model.specs.declared.record.EndCause.{EndCause}
 use Rattle.ha_model.specs.declared.record.Record.{Record}
-use Rattle.ha_journal.specs.Entries.{step_of, is_restart}
+use Rattle.ha_journal.specs.Entries.{Turning, turning, halted_in, step_of, is_reload, is_restart}
+use Rattle.ha_journal.specs.Force.{force, has_unit}
 use Rattle.ha_sight.specs.Items.{is_call}
-use Rattle.ha_journal.specs.Journal.{Journal, automations, HasEntry, last_place, more, units}
+use Rattle.ha_journal.specs.Journal.{Journal, HasEntry, last_place, more, units}
 use Rattle.ha_sight.specs.Scripts.{Branch}
-use Rattle.ha_model.specs.Records.{Records, mode_of, own_cause, last_record, begin_of, is_step_of, is_call_of, ended_by_script, script_end, ran, stops, calls_of}
-use Rattle.ha_config.specs.Words.{or_else}
+use Rattle.ha_model.specs.Records.{Records, mode_of, own_cause, last_record, begin_of, is_step_of, is_call_of, ended_by_script, script_end, ran, stops, stops_turned, calls_of}
+use Rattle.ha_config.specs.Words.{or_else, same}
 use Rattle.ha_model.specs.RunSteps.{ends_for, own_ends, begins_here, begin_at, settled}
 use Rattle.ha_model.specs.NextPlace.{next_end}
 use Rattle.ha_model.specs.Lawful.{record_of}
-use Rattle.ha_journal.proofs.MoreLemmas.{length-more, automations-more, units-more}
+use Rattle.ha_journal.proofs.ForceLaws.{unit-more}
+use Rattle.ha_journal.proofs.MoreLemmas.{length-more}
+use Rattle.ha_model.proofs.KnownLaws.{AllKnown}
 use Rattle.ha_model.proofs.LastEntry.{last-is, calls-more}
 use Rattle.ha_model.proofs.StepLaws.{ran-step}
-use Rattle.run_modes.specs.Table.{is_live, end_one, stopped, called_on, ended_at}
+use Rattle.run_modes.specs.Table.{is_live, begin_first, begins_at, end_one, stopped, called_on, ended_at}
 use Rattle.ha_laws.specs.Order.{InOrderBehind, InOrder}
 use Rattle.run_modes.specs.Fits.{AreNumbered}
-use Rattle.run_modes.specs.Calls.{stop_turned, stops_done, AreTurned}
-use Rattle.run_laws.proofs.OldLaws.{OldOne, AllOld, AllCounted}
+use Rattle.run_modes.specs.Calls.{stop_cause, stop_turned, stops_done, AreTurned}
+use Rattle.run_laws.proofs.OldLaws.{BegunIn, OldOne, AllOld, AllCounted}
 use Rattle.run_laws.proofs.EndsLaws.{ending, lazy, begun_behind, stopper, stop_by, NoOwn, plain, ends-at}
 use Rattle.run_modes.proofs.StopLemmas.{lanes-end, end_of}
 
@@ -200,54 +203,112 @@ step-counted j w s branch item (r ∷ rs) made h = by (step-counted j w s branch
 -- ---- the stops
 
 abbrev pub stop_for : Entry → List ℕ → ℕ → Option EndCause
-stop_for x turned a = if list_any (λ b. nat_eq b a) turned then Some EndCause.SwitchedOff else if is_restart x then Some EndCause.Restarted else None
+stop_for x turned a = if list_any (λ b. nat_eq b a) turned then Some (stop_cause x) else if is_restart x then Some EndCause.Restarted else None
 
-restart-turns-none : (j : Journal) (x : Entry) (a : ℕ) → is_restart x ≡ true → stops (automations j) a x ≡ false
-restart-turns-none j (Boot text config stored start zone carry) a e = refl
-restart-turns-none j (Again number start stored carry) a e = refl
-restart-turns-none j (Step worker serial branch item) a e = cc
-restart-turns-none j (Line source number (Cmd.Report entity text attributes)) a e = cc
-restart-turns-none j (Line source number (Cmd.Gone entity)) a e = cc
-restart-turns-none j (Line source number (Cmd.Event kind pairs)) a e = cc
-restart-turns-none j (Line source number (Cmd.Moment m)) a e = cc
-restart-turns-none j (Line source number (Cmd.Switch name on stop)) a e = cc
-restart-turns-none j (Line source number (Cmd.Trigger name skip)) a e = cc
-restart-turns-none j (Line source number Cmd.Restart) a e = refl
-restart-turns-none j (Line source number (Cmd.Refused code)) a e = cc
-restart-turns-none j (Line source number Cmd.Lost) a e = cc
-restart-turns-none j (Line source number Cmd.TooLong) a e = cc
+-- an entry that restarts, or reloads, turns off none
+abbrev TurnsNone : Entry → Type 0
+TurnsNone x = (all : List Automation) (a : ℕ) → stops all a x ≡ false
 
-module _ (j : Journal) (x : Entry) (turned : List ℕ) (p s : ℕ) (cause : Option EndCause) where
-  abbrev stops_one : Record → Record
-  stops_one r = stopper (units j) p s cause (stop_for x turned) r
+restart-turns-none : (x : Entry) → is_restart x ≡ true → TurnsNone x
+restart-turns-none (Boot text config stored start zone carry) e all a = refl
+restart-turns-none (Again number start stored carry) e all a = refl
+restart-turns-none (Step worker serial branch item) e all a = cc
+restart-turns-none (Line source number (Cmd.Report entity text attributes)) e all a = refl
+restart-turns-none (Line source number (Cmd.Gone entity)) e all a = refl
+restart-turns-none (Line source number (Cmd.Event kind pairs)) e all a = refl
+restart-turns-none (Line source number (Cmd.Moment m)) e all a = refl
+restart-turns-none (Line source number (Cmd.Switch name on stop)) e all a = cc
+restart-turns-none (Line source number (Cmd.Trigger name skip)) e all a = refl
+restart-turns-none (Line source number Cmd.Restart) e all a = refl
+restart-turns-none (Line source number (Cmd.Reload text config)) e all a = refl
+restart-turns-none (Line source number (Cmd.Refused code)) e all a = refl
+restart-turns-none (Line source number Cmd.Lost) e all a = refl
+restart-turns-none (Line source number Cmd.TooLong) e all a = refl
 
-  stops-all : AreTurned j x turned → is_restart x ≡ true → (rs : Records) → stopped None p EndCause.Restarted rs ≡ map {A = Record} {B = Record} (stopper (units j) p s cause (stop_for x turned)) rs
-  stops-all are e [] = refl
-  stops-all are e (r ∷ rs) = (λ i. one i ∷ stops-all are e rs i)
+reload-turns-none : (x : Entry) → is_reload x ≡ true → TurnsNone x
+reload-turns-none (Boot text config stored start zone carry) e all a = refl
+reload-turns-none (Again number start stored carry) e all a = refl
+reload-turns-none (Step worker serial branch item) e all a = cc
+reload-turns-none (Line source number (Cmd.Report entity text attributes)) e all a = refl
+reload-turns-none (Line source number (Cmd.Gone entity)) e all a = refl
+reload-turns-none (Line source number (Cmd.Event kind pairs)) e all a = refl
+reload-turns-none (Line source number (Cmd.Moment m)) e all a = refl
+reload-turns-none (Line source number (Cmd.Switch name on stop)) e all a = cc
+reload-turns-none (Line source number (Cmd.Trigger name skip)) e all a = refl
+reload-turns-none (Line source number Cmd.Restart) e all a = refl
+reload-turns-none (Line source number (Cmd.Reload text config)) e all a = refl
+reload-turns-none (Line source number (Cmd.Refused code)) e all a = refl
+reload-turns-none (Line source number Cmd.Lost) e all a = refl
+reload-turns-none (Line source number Cmd.TooLong) e all a = refl
+
+or-none : (b : Bool) → (b || false) ≡ b
+or-none true = refl
+or-none false = refl
+
+-- no entry is both
+reload-no-restart : (x : Entry) → is_reload x ≡ true → is_restart x ≡ false
+reload-no-restart (Boot text config stored start zone carry) e = refl
+reload-no-restart (Again number start stored carry) e = refl
+reload-no-restart (Step worker serial branch item) e = refl
+reload-no-restart (Line source number (Cmd.Report entity text attributes)) e = refl
+reload-no-restart (Line source number (Cmd.Gone entity)) e = refl
+reload-no-restart (Line source number (Cmd.Event kind pairs)) e = refl
+reload-no-restart (Line source number (Cmd.Moment m)) e = refl
+reload-no-restart (Line source number (Cmd.Switch name on stop)) e = refl
+reload-no-restart (Line source number (Cmd.Trigger name skip)) e = refl
+reload-no-restart (Line source number Cmd.Restart) e = cc
+reload-no-restart (Line source number (Cmd.Reload text config)) e = refl
+reload-no-restart (Line source number (Cmd.Refused code)) e = refl
+reload-no-restart (Line source number Cmd.Lost) e = refl
+reload-no-restart (Line source number Cmd.TooLong) e = refl
+
+restart-no-reload : (x : Entry) → is_restart x ≡ true → is_reload x ≡ false
+restart-no-reload (Boot text config stored start zone carry) e = refl
+restart-no-reload (Again number start stored carry) e = refl
+restart-no-reload (Step worker serial branch item) e = refl
+restart-no-reload (Line source number (Cmd.Report entity text attributes)) e = refl
+restart-no-reload (Line source number (Cmd.Gone entity)) e = refl
+restart-no-reload (Line source number (Cmd.Event kind pairs)) e = refl
+restart-no-reload (Line source number (Cmd.Moment m)) e = refl
+restart-no-reload (Line source number (Cmd.Switch name on stop)) e = refl
+restart-no-reload (Line source number (Cmd.Trigger name skip)) e = refl
+restart-no-reload (Line source number Cmd.Restart) e = refl
+restart-no-reload (Line source number (Cmd.Reload text config)) e = cc
+restart-no-reload (Line source number (Cmd.Refused code)) e = refl
+restart-no-reload (Line source number Cmd.Lost) e = refl
+restart-no-reload (Line source number Cmd.TooLong) e = refl
+
+module _ (all : List Automation) (j : Journal) (x : Entry) (turned : List ℕ) (p s : ℕ) (cause : Option EndCause) where
+  stops-all : AreTurned j x turned → is_restart x ≡ true → (rs : Records) → AllKnown (length (units j)) rs
+      → stopped None p EndCause.Restarted rs ≡ map {A = Record} {B = Record} (stopper all p s cause (stop_for x turned)) rs
+  stops-all are e [] known = refl
+  stops-all are e (r ∷ rs) known = (λ i. one i ∷ stops-all are e rs known.1 i)
     where
       none : list_any (λ b. nat_eq b r.automation) turned ≡ false
-      none = sym (are r.automation) ∙ restart-turns-none j x r.automation e
+      none =
+          sym (are r.automation known.0)
+          ∙ (λ i. restart-turns-none x e (units j) r.automation i || (restart-no-reload x e i && not (has_unit (force (more j x)) r.automation)))
 
-      one : (if is_none r.end then end_one true p EndCause.Restarted r else r) ≡ stopper (units j) p s cause (stop_for x turned) r
-      one = (λ i. if is_none r.end then stop_by p (if sym none i then Some EndCause.SwitchedOff else if sym e i then Some EndCause.Restarted else None) r else r)
+      one : (if is_none r.end then end_one true p EndCause.Restarted r else r) ≡ stopper all p s cause (stop_for x turned) r
+      one = (λ i. if is_none r.end then stop_by p (if sym none i then Some (stop_cause x) else if sym e i then Some EndCause.Restarted else None) r else r)
 
-  stops-some : is_restart x ≡ false → (rs : Records) → map {A = Record} {B = Record} (end_of p EndCause.SwitchedOff turned) rs ≡ map {A = Record} {B = Record} (stopper (units j) p s cause (stop_for x turned)) rs
+  stops-some : is_restart x ≡ false → (rs : Records) → map {A = Record} {B = Record} (end_of p (stop_cause x) turned) rs ≡ map {A = Record} {B = Record} (stopper all p s cause (stop_for x turned)) rs
   stops-some e [] = refl
   stops-some e (r ∷ rs) = (λ i. by (list_any (λ b. nat_eq b r.automation) turned) refl (is_none r.end) refl i ∷ stops-some e rs i)
     where
       by : (b : Bool) → list_any (λ b. nat_eq b r.automation) turned ≡ b → (c : Bool) → is_none r.end ≡ c
-          → (if b && c then end_one true p EndCause.SwitchedOff r else r) ≡ stopper (units j) p s cause (stop_for x turned) r
-      by true f true g = (λ i. if sym g i then stop_by p (if sym f i then Some EndCause.SwitchedOff else if is_restart x then Some EndCause.Restarted else None) r else r)
-      by false f true g = (λ i. if sym g i then stop_by p (if sym f i then Some EndCause.SwitchedOff else if sym e i then Some EndCause.Restarted else None) r else r)
+          → (if b && c then end_one true p (stop_cause x) r else r) ≡ stopper all p s cause (stop_for x turned) r
+      by true f true g = (λ i. if sym g i then stop_by p (if sym f i then Some (stop_cause x) else if is_restart x then Some EndCause.Restarted else None) r else r)
+      by false f true g = (λ i. if sym g i then stop_by p (if sym f i then Some (stop_cause x) else if sym e i then Some EndCause.Restarted else None) r else r)
       by true f false g = (λ i. if sym g i then stop_by p (stop_for x turned r.automation) r else r)
       by false f false g = (λ i. if sym g i then stop_by p (stop_for x turned r.automation) r else r)
 
-  stops-map : AreTurned j x turned → (rs : Records) → stops_done p x turned rs ≡ map {A = Record} {B = Record} (stopper (units j) p s cause (stop_for x turned)) rs
-  stops-map are rs = by (is_restart x) refl
+  stops-map : AreTurned j x turned → (rs : Records) → AllKnown (length (units j)) rs → stops_done p x turned rs ≡ map {A = Record} {B = Record} (stopper all p s cause (stop_for x turned)) rs
+  stops-map are rs known = by (is_restart x) refl
     where
-      by : (b : Bool) → is_restart x ≡ b → (if b then stopped None p EndCause.Restarted rs else fold (stop_turned p) rs turned) ≡ map {A = Record} {B = Record} (stopper (units j) p s cause (stop_for x turned)) rs
-      by true e = stops-all are e rs
-      by false e = lanes-end p EndCause.SwitchedOff turned rs ∙ stops-some e rs
+      by : (b : Bool) → is_restart x ≡ b → (if b then stopped None p EndCause.Restarted rs else fold (stop_turned p (stop_cause x)) rs turned) ≡ map {A = Record} {B = Record} (stopper all p s cause (stop_for x turned)) rs
+      by true e = stops-all are e rs known
+      by false e = lanes-end p (stop_cause x) turned rs ∙ stops-some e rs
 
 -- ---- why each record ends
 
@@ -260,15 +321,57 @@ module _ (j : Journal) (x : Entry) (turned : List ℕ) (some : HasEntry j) (are 
   abbrev k : Journal
   k = more j x
 
-  outer-caused : (r : Record) → own_cause (more j x) r ≡ or_else (ended_by_script (more j x) r) (stop_for x turned r.automation)
-  outer-caused r =
-      (λ i. or_else (ended_by_script (more j x) r)
-      (if last-is (stops (automations (more j x)) r.automation) j x i then Some EndCause.SwitchedOff else if last-is is_restart j x i then Some EndCause.Restarted else None))
-      ∙ (λ i. or_else (ended_by_script (more j x) r) (if ((λ i. stops (sym (automations-more j x some) i) r.automation x) ∙ are r.automation) i then Some EndCause.SwitchedOff else if is_restart x then Some EndCause.Restarted else None))
+  -- what turns off a unit that there is before the entry
+  turned-known : (a : ℕ) → a < length (units j) → (t : Turning) → stops_turned (units (more j x)) a t ≡ stops_turned (units j) a t
+  turned-known a lt (Turning.Opens stored) = refl
+  turned-known a lt Turning.Restarts = refl
+  turned-known a lt (Turning.Turns name on stop) =
+      (let e = unit-more j x a lt in λ i. same name (option_map_or (λ (y : Automation). y.name) (e i) []) && not on && stop)
+  turned-known a lt (Turning.TurnsEach targets) = refl
+  turned-known a lt Turning.Reloads = refl
+  turned-known a lt Turning.Leaves = refl
 
-  all-caused : (s : ℕ) (cause : Option EndCause) (rs : Records) → EachOwn (more j x) s cause rs → AllCaused (more j x) (length j) s cause (stop_for x turned) rs
-  all-caused s cause [] h = tt
-  all-caused s cause (r ∷ rs) h = (outer-caused r ∙ (λ i. or_else (h.0 i) (stop_for x turned r.automation)), all-caused s cause rs h.1)
+  outer-caused : (r : Record) → r.automation < length (units j) → own_cause (more j x) r ≡ or_else (ended_by_script (more j x) r) (stop_for x turned r.automation)
+  outer-caused r lt =
+      (λ i. or_else (ended_by_script (more j x) r)
+      (if last-is (stops (units (more j x)) r.automation) j x i then Some EndCause.SwitchedOff
+      else if last-is is_restart j x i then Some EndCause.Restarted
+      else if last-is is_reload j x i && not (has_unit (force (more j x)) r.automation) then Some EndCause.Reloaded
+      else None))
+      ∙ (λ i. or_else (ended_by_script (more j x) r)
+      (if turned-known r.automation lt (turning x) i || list_any (nat_eq r.automation) (halted_in x) then Some EndCause.SwitchedOff
+      else if is_restart x then Some EndCause.Restarted
+      else if is_reload x && not (has_unit (force (more j x)) r.automation) then Some EndCause.Reloaded
+      else None))
+      ∙ (λ i. or_else (ended_by_script (more j x) r) (by (is_reload x) refl i))
+    where
+      by : (l : Bool) → is_reload x ≡ l
+          → (if stops (units j) r.automation x then Some EndCause.SwitchedOff
+          else if is_restart x then Some EndCause.Restarted
+          else if is_reload x && not (has_unit (force (more j x)) r.automation) then Some EndCause.Reloaded
+          else None) ≡ stop_for x turned r.automation
+      by true e =
+          let quiet = reload-turns-none x e (units j) r.automation in
+          let told : list_any (λ b. nat_eq b r.automation) turned ≡ not (has_unit (force (more j x)) r.automation)
+          = sym (are r.automation lt) ∙ (λ i. quiet i || (e i && not (has_unit (force (more j x)) r.automation))) in
+          let no_restart : is_restart x ≡ false = reload-no-restart x e in
+          (λ i. if quiet i then Some EndCause.SwitchedOff
+          else if no_restart i then Some EndCause.Restarted
+          else if e i && not (has_unit (force (more j x)) r.automation) then Some EndCause.Reloaded
+          else None)
+          ∙ (λ i. if sym told i then Some (if sym e i then EndCause.Reloaded else EndCause.SwitchedOff) else if sym no_restart i then Some EndCause.Restarted else None)
+      by false e =
+          let told : list_any (λ b. nat_eq b r.automation) turned ≡ stops (units j) r.automation x
+          = sym (are r.automation lt) ∙ (λ i. stops (units j) r.automation x || (e i && not (has_unit (force (more j x)) r.automation))) ∙ or-none (stops (units j) r.automation x) in
+          (λ i. if stops (units j) r.automation x then Some EndCause.SwitchedOff
+          else if is_restart x then Some EndCause.Restarted
+          else if e i && not (has_unit (force (more j x)) r.automation) then Some EndCause.Reloaded
+          else None)
+          ∙ (λ i. if sym told i then Some (if sym e i then EndCause.Reloaded else EndCause.SwitchedOff) else if is_restart x then Some EndCause.Restarted else None)
+
+  all-caused : (s : ℕ) (cause : Option EndCause) (rs : Records) → AllKnown (length (units j)) rs → EachOwn (more j x) s cause rs → AllCaused (more j x) (length j) s cause (stop_for x turned) rs
+  all-caused s cause [] known h = tt
+  all-caused s cause (r ∷ rs) known h = (outer-caused r known.0 ∙ (λ i. or_else (h.0 i) (stop_for x turned r.automation)), all-caused s cause rs known.1 h.1)
 
 -- an entry that is no Step ends no script
 pub no-script : (j : Journal) (x : Entry) → step_of x ≡ None → (rs : Records) → EachOwn (more j x) 0 None rs
@@ -302,6 +405,45 @@ own-script j w s branch item some whole n (r ∷ rs) at numbered =
         ∙ (λ i. option_and_then (λ r. next_end j r branch) (sym found i))
     by false e = (λ i. if (last-is (is_step_of r.serial) j (Step w s branch item) ∙ back false e) i then option_and_then (λ o. script_end o.status) (ran (more j (Step w s branch item)) r) else None)
 
+-- ---- the modes of their units stay
+
+mode-grown : (j : Journal) (x : Entry) (a : ℕ) → a < length (units j) → mode_of (units j) a ≡ mode_of (units (more j x)) a
+mode-grown j x a lt = (let e = sym (unit-more j x a lt) in λ i. option_map_or (λ (y : Automation). y.mode) (e i) Mode.Single)
+
+old-grown : (j : Journal) (x : Entry) (n : ℕ) (rs : Records) → AllKnown (length (units j)) rs → AllOld (units j) n rs → AllOld (units (more j x)) n rs
+old-grown j x n [] known h = tt
+old-grown j x n (r ∷ rs) known h =
+    (record { place = h.0.place; end = h.0.end; begin = h.0.begin; begun = subst (λ (m : Mode). BegunIn m r.begin) (mode-grown j x r.automation known.0) h.0.begun }, old-grown j x n rs known.1 h.1)
+
+order-grown : (j : Journal) (x : Entry) (live : ℕ → Bool) (rs : Records) → AllKnown (length (units j)) rs → InOrderBehind (units j) live rs → InOrderBehind (units (more j x)) live rs
+order-grown j x live [] known h = tt
+order-grown j x live (r ∷ rs) known h =
+    ((λ queued alive. h.0 (mode-grown j x r.automation known.0 ∙ queued) alive), order-grown j x (λ a. is_live a r || live a) rs known.1 h.1)
+
+pub called-known : (s n : ℕ) (rs : Records) → AllKnown n rs → AllKnown n (called_on s rs)
+called-known s n [] h = tt
+called-known s n (r ∷ rs) h = by (called-known s n rs h.1) (nat_eq r.serial s)
+  where
+    by : AllKnown n (called_on s rs) → (b : Bool) → AllKnown n ((if b then record r { calls = suc r.calls } else r) ∷ called_on s rs)
+    by ih true = (h.0, ih)
+    by ih false = (h.0, ih)
+
+first-known : (n a p : ℕ) (rs : Records) → AllKnown n rs → AllKnown n (begin_first a p rs)
+first-known n a p [] h = tt
+first-known n a p (r ∷ rs) h = by (is_live a r) (first-known n a p rs h.1)
+  where
+    by : (b : Bool) → AllKnown n (begin_first a p rs) → AllKnown n (if b then begins_at p r ∷ rs else r ∷ begin_first a p rs)
+    by true ih = (h.0, h.1)
+    by false ih = (h.0, ih)
+
+ended-known : (n s p : ℕ) (c : EndCause) (rs : Records) → AllKnown n rs → AllKnown n (ended_at s p c rs)
+ended-known n s p c [] h = tt
+ended-known n s p c (r ∷ rs) h = by (nat_eq r.serial s) (ended-known n s p c rs h.1)
+  where
+    by : (b : Bool) → AllKnown n (ended_at s p c rs) → AllKnown n (if b then record r { end = Some (p, c) } ∷ begin_first r.automation p rs else r ∷ ended_at s p c rs)
+    by true ih = (h.0, first-known n r.automation p rs h.1)
+    by false ih = (h.0, ih)
+
 -- ---- THE LAW of the ends
 
 ends-none : (all : List Automation) (p s : ℕ) (stop : ℕ → Option EndCause) (rs : Records) → NoOwn all p s None stop rs
@@ -312,30 +454,30 @@ module _ (j : Journal) (x : Entry) (turned : List ℕ) (some : HasEntry j) (are 
   place : last_place (more j x) ≡ length j
   place = omega (arith, length-more j x)
 
-  same : units j ≡ units (more j x)
-  same = units-more j x some
-
   -- where no run ends by itself
-  pub settled-plain : (s : ℕ) (rs counted : Records) → EachOwn (more j x) s None rs → AllOld (units j) (length j) rs → AllOld (units j) (length j) counted
+  pub settled-plain : (s : ℕ) (rs counted : Records) → EachOwn (more j x) s None rs → AllKnown (length (units j)) rs → AllKnown (length (units j)) counted
+      → AllOld (units j) (length j) rs → AllOld (units j) (length j) counted
       → map {A = Record} {B = Record} (recounted (more j x)) rs ≡ counted → stops_done (length j) x turned counted ≡ settled (more j x) [] (own_ends (more j x) rs)
-  settled-plain s rs counted own old old' is =
+  settled-plain s rs counted own known known' old old' is =
       let stop = stop_for x turned in
-      let old_k : AllOld (units (more j x)) (length j) rs = subst (λ all. AllOld all (length j) rs) same old in
-      let lazily = settle-lazy (more j x) (length j) s None stop place [] [] tt rs (all-caused j x turned some are s None rs own) old_k in
-      stops-map j x turned (length j) s None are counted
-      ∙ sym (plain (units j) (length j) s None stop [] counted (ends-none (units j) (length j) s stop counted) old' (λ a h m. refl))
-      ∙ (λ i. lazy (same i) (length j) s None stop [] (sym is i))
+      let all = units (more j x) in
+      let lazily = settle-lazy (more j x) (length j) s None stop place [] [] tt rs (all-caused j x turned some are s None rs known own) (old-grown j x (length j) rs known old) in
+      stops-map all j x turned (length j) s None are counted known'
+      ∙ sym (plain all (length j) s None stop [] counted (ends-none all (length j) s stop counted) (old-grown j x (length j) counted known' old') (λ a h m. refl))
+      ∙ (λ i. lazy all (length j) s None stop [] (sym is i))
       ∙ sym lazily
 
   -- where the run with this serial does
-  pub settled-ends : (s i : ℕ) (c : EndCause) (r : Record) (rs counted : Records) → EachOwn (more j x) s (Some c) rs → AllOld (units j) (length j) rs → AllOld (units j) (length j) counted
+  pub settled-ends : (s i : ℕ) (c : EndCause) (r : Record) (rs counted : Records) → EachOwn (more j x) s (Some c) rs → AllKnown (length (units j)) rs → AllKnown (length (units j)) counted
+      → AllOld (units j) (length j) rs → AllOld (units j) (length j) counted
       → map {A = Record} {B = Record} (recounted (more j x)) rs ≡ counted → AreNumbered 0 counted → InOrder (units j) counted → slice_get counted i ≡ Some r → s ≡ suc i → r.end ≡ None
       → stops_done (length j) x turned (ended_at s (length j) c counted) ≡ settled (more j x) [] (own_ends (more j x) rs)
-  settled-ends s i c r rs counted own old old' is numbered order found at live =
+  settled-ends s i c r rs counted own known known' old old' is numbered order found at live =
       let stop = stop_for x turned in
-      let old_k : AllOld (units (more j x)) (length j) rs = subst (λ all. AllOld all (length j) rs) same old in
-      let lazily = settle-lazy (more j x) (length j) s (Some c) stop place [] [] tt rs (all-caused j x turned some are s (Some c) rs own) old_k in
-      stops-map j x turned (length j) s (Some c) are (ended_at s (length j) c counted)
-      ∙ sym (ends-at (units j) (length j) s (Some c) stop c refl (λ a. false) [] counted 0 i r numbered found (omega (arith, at)) live old' order (λ a h m. refl))
-      ∙ (λ i. lazy (same i) (length j) s (Some c) stop [] (sym is i))
+      let all = units (more j x) in
+      let lazily = settle-lazy (more j x) (length j) s (Some c) stop place [] [] tt rs (all-caused j x turned some are s (Some c) rs known own) (old-grown j x (length j) rs known old) in
+      stops-map all j x turned (length j) s (Some c) are (ended_at s (length j) c counted) (ended-known (length (units j)) s (length j) c counted known')
+      ∙ sym (ends-at all (length j) s (Some c) stop c refl (λ a. false) [] counted 0 i r numbered found (omega (arith, at)) live (old-grown j x (length j) counted known' old')
+      (order-grown j x (λ a. false) counted known' order) (λ a h m. refl))
+      ∙ (λ i. lazy all (length j) s (Some c) stop [] (sym is i))
       ∙ sym lazily

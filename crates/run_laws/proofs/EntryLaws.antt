@@ -28,6 +28,7 @@ use Rattle.ha_model.proofs.LastEntry.{calls-more, no-calls}
 use Rattle.ha_model.proofs.StepLaws.{serial-at}
 use Rattle.ha_model.proofs.LawfulLaws.{right-more}
 use Rattle.ha_model.proofs.FoldLaws.{records-more, first-records}
+use Rattle.ha_model.proofs.KnownLaws.{AllKnown, all-known}
 use Rattle.run_modes.specs.Table.{called_on}
 use Rattle.ha_laws.specs.Order.{InOrder}
 use Rattle.run_modes.specs.Fits.{AreNumbered}
@@ -36,7 +37,7 @@ use Rattle.run_modes.proofs.TableLemmas.{serial-at as serial-in}
 use Rattle.run_modes.proofs.StopLemmas.{called-numbered}
 use Rattle.ha_laws.proofs.OrderLaws.{in-order}
 use Rattle.run_laws.proofs.OldLaws.{OldOne, AllOld, AllCounted, all-old, all-counted}
-use Rattle.run_laws.proofs.CallLaws.{recounted, recounted-same, called-recounted, called-old, called-order, called-get, counted_one, counted-end, plain-counted, step-counted, EachOwn, no-script, own-script, settled-plain, settled-ends}
+use Rattle.run_laws.proofs.CallLaws.{recounted, recounted-same, called-known, called-recounted, called-old, called-order, called-get, counted_one, counted-end, plain-counted, step-counted, EachOwn, no-script, own-script, settled-plain, settled-ends}
 use Rattle.run_laws.proofs.AttemptLaws.{EndsBelow, settled-order, attempts-settled}
 
 not-equal : (a b : ℕ) → a < b → nat_eq a b ≡ false
@@ -57,6 +58,7 @@ numbered-from n (r ∷ rs) h = (h 0 r refl ∙ here, numbered-from (suc n) rs (�
 pub record Known (j : Journal) (rs : Records) : Type 0 where
   pub some : HasEntry j
   pub numbered : AreNumbered 0 rs
+  pub there : AllKnown (length (units j)) rs
   pub old : AllOld (units j) (length j) rs
   pub counted : AllCounted j rs
   pub order : InOrder (units j) rs
@@ -65,6 +67,7 @@ known : (j : Journal) (rs : Records) → Right j rs → Known j rs
 known j rs right = record {
   some = has-entry j right.journal;
   numbered = subst (AreNumbered 0) (sym right.records_are) (numbered-from 0 (records_of j) (λ i r e. serial-at j i r e ∙ zero-less i));
+  there = subst (AllKnown (length (units j))) (sym right.records_are) (all-known j);
   old = subst (AllOld (units j) (length j)) (sym right.records_are) (all-old j);
   counted = subst (AllCounted j) (sym right.records_are) (all-counted j);
   order = in-order j rs right;
@@ -97,7 +100,7 @@ module _ (j : Journal) (rs : Records) (turned : List ℕ) (known : Known j rs) w
       → stops_done (length j) (Line source number cmd) turned rs ≡ settled (more j (Line source number cmd)) [] (own_ends (more j (Line source number cmd)) rs)
   line-settled source number cmd are =
       let x : Entry = Line source number cmd in
-      settled-plain j x turned known.some are 0 rs rs (no-script j x refl rs) known.old known.old (recounted-same (more j x) rs (plain-counted j x rs (λ s. refl) known.counted))
+      settled-plain j x turned known.some are 0 rs rs (no-script j x refl rs) known.there known.there known.old known.old (recounted-same (more j x) rs (plain-counted j x rs (λ s. refl) known.counted))
 
   module _ (w s : ℕ) (branch : Branch) (item : Item) where
     abbrev x : Entry
@@ -116,6 +119,10 @@ module _ (j : Journal) (rs : Records) (turned : List ℕ) (known : Known j rs) w
         and-false : (b : Bool) → (b && false) ≡ false
         and-false true = refl
         and-false false = refl
+
+    counted-there : (b : Bool) → AllKnown (length (units j)) (call_counted b s rs)
+    counted-there true = called-known s (length (units j)) rs known.there
+    counted-there false = known.there
 
     counted-old : (b : Bool) → AllOld (units j) (length j) (call_counted b s rs)
     counted-old true = called-old s (units j) (length j) rs known.old
@@ -165,10 +172,10 @@ module _ (j : Journal) (rs : Records) (turned : List ℕ) (known : Known j rs) w
         by : (c : Option EndCause) → option_and_then (λ r. next_end j r branch) (record_of rs s) ≡ c
             → stops_done (length j) (Step w s branch item) turned (own_ended (length j) s c (call_counted (is_call item) s rs)) ≡ settled (more j (Step w s branch item)) [] (own_ends (more j (Step w s branch item)) rs)
         by None e =
-            settled-plain j x turned known.some are s rs counted (subst (λ c. EachOwn (more j (Step w s branch item)) s c rs) e own) known.old (counted-old (is_call item)) (counted-is (is_call item) refl)
+            settled-plain j x turned known.some are s rs counted (subst (λ c. EachOwn (more j (Step w s branch item)) s c rs) e own) known.there (counted-there (is_call item)) known.old (counted-old (is_call item)) (counted-is (is_call item) refl)
         by (Some c) e =
             let steps = counted-run (is_call item) right.0 right.1 live in
-            settled-ends j x turned known.some are s (s - 1) c steps.run rs counted (subst (λ c. EachOwn (more j (Step w s branch item)) s c rs) e own) known.old (counted-old (is_call item)) (counted-is (is_call item) refl)
+            settled-ends j x turned known.some are s (s - 1) c steps.run rs counted (subst (λ c. EachOwn (more j (Step w s branch item)) s c rs) e own) known.there (counted-there (is_call item)) known.old (counted-old (is_call item)) (counted-is (is_call item) refl)
             (counted-numbered (is_call item)) (counted-order (is_call item)) steps.found at steps.live
 
   ends-settled : (x : Entry) → (BeginsSegment x → ⊥) → IsRightEntry rs j x → AreTurned j x turned → stops_done (length j) x turned (steps_done j rs x) ≡ settled (more j x) [] (own_ends (more j x) rs)

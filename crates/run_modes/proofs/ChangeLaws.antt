@@ -161,10 +161,10 @@ length-replaced : (a place : ℕ) (rs : Records) → length (replace_all a place
 length-replaced a place [] = refl
 length-replaced a place (r ∷ rs) = ap suc (length-replaced a place rs)
 
-pub attempted-record : (a max place order s : ℕ) (mode : Mode) (env : Pairs) (rs : Records) → lets_in mode max (live_count a rs) ≡ true → 0 < s → s ≤ length rs
-    → record_of (attempted a mode max place order env rs) s ≡ option_map (after_attempt a mode place) (record_of rs s)
-attempted-record a max place order s mode env rs h some le =
-    ap (λ b. record_of (if b then joined mode a place rs (new_run rs a mode place order env) else rs) s) h ∙ by mode (new_run rs a mode place order env)
+pub attempted-record : (a max place order number s : ℕ) (mode : Mode) (env : Pairs) (rs : Records) → lets_in mode max (live_count a rs) ≡ true → 0 < s → s ≤ length rs
+    → record_of (attempted a mode max place order number env rs) s ≡ option_map (after_attempt a mode place) (record_of rs s)
+attempted-record a max place order number s mode env rs h some le =
+    ap (λ b. record_of (if b then joined mode a place rs (new_run rs a mode place order number env) else rs) s) h ∙ by mode (new_run rs a mode place order number env)
   where
     by : (mode : Mode) (new : Record) → record_of (joined mode a place rs new) s ≡ option_map (after_attempt a mode place) (record_of rs s)
     by Mode.Single new = front rs (new ∷ []) (s - 1) (omega arith) ∙ option-same (record_of rs s)
@@ -172,10 +172,10 @@ attempted-record a max place order s mode env rs h some le =
     by Mode.Queued new = front rs (new ∷ []) (s - 1) (omega arith) ∙ option-same (record_of rs s)
     by Mode.Parallel new = front rs (new ∷ []) (s - 1) (omega arith) ∙ option-same (record_of rs s)
 
-pub attempted-newest : (a max place order : ℕ) (mode : Mode) (env : Pairs) (rs : Records) → lets_in mode max (live_count a rs) ≡ true
-    → record_of (attempted a mode max place order env rs) (suc (length rs)) ≡ Some (new_run rs a mode place order env)
-attempted-newest a max place order mode env rs h =
-    ap (λ b. record_of (if b then joined mode a place rs (new_run rs a mode place order env) else rs) (suc (length rs))) h ∙ by mode (new_run rs a mode place order env)
+pub attempted-newest : (a max place order number : ℕ) (mode : Mode) (env : Pairs) (rs : Records) → lets_in mode max (live_count a rs) ≡ true
+    → record_of (attempted a mode max place order number env rs) (suc (length rs)) ≡ Some (new_run rs a mode place order number env)
+attempted-newest a max place order number mode env rs h =
+    ap (λ b. record_of (if b then joined mode a place rs (new_run rs a mode place order number env) else rs) (suc (length rs))) h ∙ by mode (new_run rs a mode place order number env)
   where
     at : suc (length rs) - 1 ≡ length rs
     at = omega arith
@@ -208,8 +208,8 @@ replaced-numbered a place rs h =
     by r true = refl
     by r false = refl
 
-pub attempted-numbered : (a max place order : ℕ) (mode : Mode) (env : Pairs) (rs : Records) → AreNumbered 0 rs → AreNumbered 0 (attempted a mode max place order env rs)
-attempted-numbered a max place order mode env rs h = by (lets_in mode max (live_count a rs)) mode (new_run rs a mode place order env) refl
+pub attempted-numbered : (a max place order number : ℕ) (mode : Mode) (env : Pairs) (rs : Records) → AreNumbered 0 rs → AreNumbered 0 (attempted a mode max place order number env rs)
+attempted-numbered a max place order number mode env rs h = by (lets_in mode max (live_count a rs)) mode (new_run rs a mode place order number env) refl
   where
     by : (b : Bool) (mode : Mode) (new : Record) → new.serial ≡ suc (length rs) → AreNumbered 0 (if b then joined mode a place rs new else rs)
     by false mode new e = h

@@ -18,10 +18,10 @@ pub fn calls_change_records()
     ensures ended { (serial s place : ℕ) (cause : EndCause) (rs : Records) → AreNumbered 0 rs
         → record_of (ended_at serial place cause rs) s ≡ option_map (after_end serial place cause (begun_by serial rs)) (record_of rs s) }
     ensures stopped { (which : Option ℕ) (s place : ℕ) (cause : EndCause) (rs : Records) → record_of (stopped which place cause rs) s ≡ option_map (after_stop which place cause) (record_of rs s) }
-    ensures attempted { (a max place order s : ℕ) (mode : Mode) (env : Pairs) (rs : Records) → lets_in mode max (live_count a rs) ≡ true → 0 < s → s ≤ length rs
-        → record_of (attempted a mode max place order env rs) s ≡ option_map (after_attempt a mode place) (record_of rs s) }
-    ensures newest { (a max place order : ℕ) (mode : Mode) (env : Pairs) (rs : Records) → lets_in mode max (live_count a rs) ≡ true
-        → record_of (attempted a mode max place order env rs) (suc (length rs)) ≡ Some (new_run rs a mode place order env) }
+    ensures attempted { (a max place order number s : ℕ) (mode : Mode) (env : Pairs) (rs : Records) → lets_in mode max (live_count a rs) ≡ true → 0 < s → s ≤ length rs
+        → record_of (attempted a mode max place order number env rs) s ≡ option_map (after_attempt a mode place) (record_of rs s) }
+    ensures newest { (a max place order number : ℕ) (mode : Mode) (env : Pairs) (rs : Records) → lets_in mode max (live_count a rs) ≡ true
+        → record_of (attempted a mode max place order number env rs) (suc (length rs)) ≡ Some (new_run rs a mode place order number env) }
 {}
 
 /// Records that are numbered from 1 stay so with each call.
@@ -29,5 +29,5 @@ pub fn calls_keep_the_numbers()
     ensures called { (serial : ℕ) (rs : Records) → AreNumbered 0 rs → AreNumbered 0 (called_on serial rs) }
     ensures ended { (serial place : ℕ) (cause : EndCause) (rs : Records) → AreNumbered 0 rs → AreNumbered 0 (ended_at serial place cause rs) }
     ensures stopped { (which : Option ℕ) (place : ℕ) (cause : EndCause) (rs : Records) → AreNumbered 0 rs → AreNumbered 0 (stopped which place cause rs) }
-    ensures attempted { (a max place order : ℕ) (mode : Mode) (env : Pairs) (rs : Records) → AreNumbered 0 rs → AreNumbered 0 (attempted a mode max place order env rs) }
+    ensures attempted { (a max place order number : ℕ) (mode : Mode) (env : Pairs) (rs : Records) → AreNumbered 0 rs → AreNumbered 0 (attempted a mode max place order number env rs) }
 {}

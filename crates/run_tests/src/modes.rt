@@ -19,7 +19,8 @@ fn attempt(
     max: u32,
     place: u64,
 ) -> Result<Admission, AllocError> {
-    runs.attempt(0, mode, max, place, 0, Env::none(alloc))
+    let number = (runs.list().len() as u64).saturating_add(1);
+    runs.attempt(0, mode, max, place, 0, number, Env::none(alloc))
 }
 
 /// Whether the attempts at one entry are told these in turn.

@@ -1,7 +1,7 @@
 //! Switches, and the texts that store them.
-ghost use Rattle.std.specs.Prelude.{◌≡◌, true, IfOk, length};
+ghost use Rattle.std.specs.Prelude.{◌≡◌, true, IfOk, IsTrue, length};
 ghost use Rattle.ha_value.specs.Ids.{is_name};
-ghost use Rattle.ha_config.specs.Sound.{IsSoundConfig, is_sound_automation};
+ghost use Rattle.ha_config.specs.Sound.{are_sound_automations, is_sound_automation};
 
 use ha_clock::{Moment, read_moment};
 use ha_config::{Automation, Config, Mode};
@@ -28,7 +28,7 @@ fn automation(alloc: Global, name: &str, initial: Option<bool>) -> Result<Automa
 
 /// Automations `porch` and `attic`, of which the second may have an initial state.
 fn house(alloc: Global, initial: Option<bool>) -> Result<Config, AllocError>
-    ensures sound { IfOk result (λ c. IsSoundConfig c) }
+    ensures sound { IfOk result (λ c. IsTrue (are_sound_automations c.automations)) }
     ensures two { IfOk result (λ c. length c.automations ≡ 2) }
 {
     let porch = automation(alloc, "porch", None)?;
@@ -236,12 +236,22 @@ fn are(switches: &Switches, porch: bool, attic: bool) -> bool {
         && switches.is_on(2).is_none()
 }
 
+/// Sets a switch that there is, and says whether it changed.
+fn turn(switches: &mut Switches, automation: u32, on: bool) -> bool {
+    match switches.is_on(automation) {
+        Some(_) => switches.set(automation, on),
+        None => false,
+    }
+}
+
 /// Whether the switches go as wanted: set, set as they are, and at a restart, where the attic has an initial state.
 fn go(alloc: Global) -> Result<bool, AllocError> {
     let house = house(alloc, Some(false))?;
     let mut switches = Switches::restore(alloc, &house, None)?;
     let booted = are(&switches, true, false);
-    let changed = switches.set(0, false) && switches.set(1, true) && !switches.set(1, true);
+    let changed = turn(&mut switches, 0, false)
+        && turn(&mut switches, 1, true)
+        && !turn(&mut switches, 1, true);
     let set = are(&switches, false, true);
     switches.restart(&house);
     Ok(booted && changed && set && are(&switches, false, false))
@@ -250,6 +260,47 @@ fn go(alloc: Global) -> Result<bool, AllocError> {
 #[test]
 fn a_restart_sets_the_initial_states_alone(rt: HostRuntime) {
     assert!(rt; go(rt.alloc()).unwrap_or(false));
+}
+
+/// Automations `attic`, `porch` and `cellar`.
+fn larger_house(alloc: Global) -> Result<Config, AllocError>
+    ensures sound { IfOk result (λ c. IsTrue (are_sound_automations c.automations)) }
+    ensures three { IfOk result (λ c. length c.automations ≡ 3) }
+{
+    let attic = automation(alloc, "attic", None)?;
+    let porch = automation(alloc, "porch", None)?;
+    let cellar = automation(alloc, "cellar", None)?;
+    let mut automations = Many::make(alloc);
+    automations.push(attic)?;
+    automations.push(porch)?;
+    automations.push(cellar)?;
+    Ok(Config {
+        automations,
+        scripts: Many::make(alloc),
+        helpers: Many::make(alloc),
+    })
+}
+
+/// Whether the switches go on behind a reload: by the number that the attic keeps, by the name of the porch, which has another number
+/// then, and the new cellar is on.
+fn reload(alloc: Global) -> Result<bool, AllocError> {
+    let mut switches = Switches::restore(alloc, &house(alloc, None)?, None)?;
+    let turned = turn(&mut switches, 0, false) && turn(&mut switches, 1, false);
+    let numbers = [1u32, 2, 3];
+    let after = switches.reload(alloc, &larger_house(alloc)?, numbers.as_slice())?;
+    Ok(
+        turned
+            && after.is_on(0).is_none()
+            && after.is_on(1) == Some(false)
+            && after.is_on(2) == Some(false)
+            && after.is_on(3) == Some(true)
+            && after.at(0) == Some(false),
+    )
+}
+
+#[test]
+fn switches_go_on_by_numbers_and_names(rt: HostRuntime) {
+    assert!(rt; reload(rt.alloc()).unwrap_or(false));
 }
 
 /// Whether a text that is read has these moments, by name.

@@ -32,24 +32,33 @@ fn are(records: &[Record], wanted: &[Wanted]) -> bool {
     true
 }
 
-/// A run of the automation, which calls the script at the entry behind its own.
+/// A run of the automation, which calls the script at the entry behind its own; both have this number.
 fn call(
     alloc: Global,
     runs: &mut Runs,
     mode: Mode,
     place: u64,
     behind: u64,
+    number: u64,
 ) -> Result<(), AllocError> {
-    let _ = runs.attempt(CALLER, Mode::Parallel, 10, place, 0, Env::none(alloc))?;
-    let _ = runs.attempt(SCRIPT, mode, 10, behind, 0, Env::none(alloc))?;
+    let _ = runs.attempt(
+        CALLER,
+        Mode::Parallel,
+        10,
+        place,
+        0,
+        number,
+        Env::none(alloc),
+    )?;
+    let _ = runs.attempt(SCRIPT, mode, 10, behind, 0, number, Env::none(alloc))?;
     Ok(())
 }
 
 /// The runs after two such calls.
 fn called(alloc: Global, mode: Mode) -> Result<Runs, AllocError> {
     let mut runs = Runs::make(alloc);
-    call(alloc, &mut runs, mode, 1, 2)?;
-    call(alloc, &mut runs, mode, 3, 4)?;
+    call(alloc, &mut runs, mode, 1, 2, 1)?;
+    call(alloc, &mut runs, mode, 3, 4, 2)?;
     Ok(runs)
 }
 
@@ -57,7 +66,7 @@ fn called(alloc: Global, mode: Mode) -> Result<Runs, AllocError> {
 fn halted(alloc: Global) -> Result<bool, AllocError> {
     let mut runs = called(alloc, Mode::Queued)?;
     runs.stop_all(Some(SCRIPT), 5, EndCause::SwitchedOff);
-    let told = runs.attempt(SCRIPT, Mode::Queued, 10, 6, 0, Env::none(alloc))?;
+    let told = runs.attempt(SCRIPT, Mode::Queued, 10, 6, 0, 3, Env::none(alloc))?;
     let end = Some((5, EndCause::SwitchedOff));
     Ok(
         told == Admission::Begun(5)

@@ -1,9 +1,10 @@
 //! What one place of the journal sees with the scripts of its configuration and its helpers: the core does the calls of these itself.
-ghost use Rattle.std.specs.Prelude.{◌≡◌, ◌+◌, ◌<◌, ◌≤◌, ◌^◌, IfOk, length};
+ghost use Rattle.std.specs.Prelude.{◌≡◌, ◌+◌, ◌≤◌, IfOk, length};
 ghost use Rattle.std.specs.Option.{option_map_or};
 ghost use Rattle.ha_clock.specs.Local.{last_moment};
 ghost use Rattle.ha_sight.specs.Inner.{inner_of_helpers};
 ghost use Rattle.helper_set.specs.Kept.{AreSeen, kept_in};
+ghost use Rattle.script_calls.specs.Numbered.{scripts_seen};
 ghost use Rattle.script_calls.specs.Seen.{sees};
 ghost use Rattle.script_calls.specs.With.{sight_with};
 
@@ -19,22 +20,23 @@ use state_table::StateTable;
 use std::alloc::{AllocError, Global};
 
 impl<'a> Seeing<'a> {
-    /// What these parts see.
+    /// What these parts see; the numbers are those of the configuration's units, automations first.
     pub fn make(
         states: &'a StateTable,
         config: &'a Config,
+        numbers: &'a Many<u32>,
         zone: &'a Zone,
         at: Moment,
         helpers: &'a Helpers,
     ) -> Seeing<'a>
         requires timely { at ≤ last_moment }
-        requires few { length config.now.automations + length config.now.scripts < 2 ^ 32 }
-        requires seen { AreSeen (kept_in helpers.now) (sight_with states.now config.now zone.now at helpers.now) at }
-        ensures sees { sees result ≡ sight_with states.entry.now config.entry.now zone.entry.now at helpers.entry.now }
+        requires numbered { length config.now.automations + length config.now.scripts ≤ length numbers.now }
+        requires seen { AreSeen (kept_in helpers.now) (sight_with states.now numbers.now config.now zone.now at helpers.now) at }
+        ensures sees { sees result ≡ sight_with states.entry.now numbers.entry.now config.entry.now zone.entry.now at helpers.entry.now }
         ensures timely { (sees result).now ≤ last_moment }
     {
         Seeing {
-            view: View::make(states, config, zone, at),
+            view: View::make(states, config, numbers, zone, at),
             helpers,
         }
     }
@@ -103,7 +105,8 @@ impl<'a> Answers for Seeing<'a> {
         target: &Many<EntityId>,
         fields: &Many<(Word, Value)>,
     ) -> Result<Inner, AllocError> {
-        let own = resolve(alloc, self.view.config, service, target, fields)?;
+        let view = &self.view;
+        let own = resolve(alloc, view.config, view.numbers, service, target, fields)?;
         let inner = self.inner_by(alloc, own, service, target, fields)?;
         Ok(inner)
     }

@@ -1,5 +1,5 @@
 //! A view with the scripts of its configuration, and its helpers.
-ghost use Rattle.std.specs.Prelude.{◌+◌, ◌<◌, ◌^◌, length};
+ghost use Rattle.std.specs.Prelude.{◌+◌, ◌≤◌, length};
 ghost use Rattle.std.proofs.Props.{props};
 ghost use Rattle.helper_set.specs.Kept.{AreSeen, kept_in};
 ghost use Rattle.script_calls.specs.With.{sees_with};
@@ -12,6 +12,6 @@ use helper_set::Helpers;
 pub struct Seeing<'a> {
     pub view: View<'a>,
     pub helpers: &'a Helpers,
-    pub ghost few: { length view.config.now.automations + length view.config.now.scripts < 2 ^ 32 },
+    pub ghost numbered: { length view.config.now.automations + length view.config.now.scripts ≤ length view.numbers.now },
     pub ghost seen: { AreSeen (kept_in helpers.now) (sees_with view helpers.now) view.at } by { Prim.hlevel props },
 }

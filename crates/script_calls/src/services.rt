@@ -1,10 +1,10 @@
 //! Which calls the core does itself, in place of writing them: those of scripts that are configured.
-ghost use Rattle.std.specs.Prelude.{◌≡◌, ◌<◌, ◌+◌, ◌^◌, ◌∷◌, [], true, false, IfOk, length, unwrap_or};
-ghost use Rattle.ha_config.specs.Units.{numbered_from, scripts_of};
+ghost use Rattle.std.specs.Prelude.{◌≡◌, ◌+◌, ◌≤◌, ◌∷◌, [], true, false, drop, IfOk, length, unwrap_or};
 ghost use Rattle.ha_config.specs.Words.{same};
 ghost use Rattle.ha_sight.specs.declared.item.Item.{Item as Made};
 ghost use Rattle.ha_sight.specs.Inner.{number_named, own_item, script_at, script_called, script_item, scripts_named, variables_in};
 ghost use Rattle.ha_sight.specs.Values.{pairs_of_map};
+ghost use Rattle.script_calls.specs.Numbered.{scripts_seen, scripts_with};
 
 use ha_config::{Config, Script, last_pair};
 use ha_sight::{Item, add_once};
@@ -18,38 +18,38 @@ fn has_name(script: &Script, name: &[u8]) -> bool
     script.name.bytes() == name
 }
 
-/// The number of the script of this name, where they are numbered from `first` on.
-fn number_of(scripts: &[Script], first: u32, name: &[u8]) -> Option<u32>
-    requires { first + length scripts.now < 2 ^ 32 }
-    ensures { result ≡ number_named (numbered_from first scripts.now) name.now }
+/// The number of the script of this name; each has its number.
+fn number_of(scripts: &[Script], numbers: &[u32], name: &[u8]) -> Option<u32>
+    requires { length scripts.now ≤ length numbers.now }
+    ensures { result ≡ number_named (scripts_with numbers.now scripts.now) name.now }
 {
     for i in 0..scripts.len() {
         if has_name(&scripts[i], name) {
-            return Some(first + i as u32);
+            return Some(numbers[i]);
         }
     }
     None
 }
 
 /// The number of the script that an id names, if it names one.
-fn script_at(scripts: &[Script], first: u32, id: &EntityId) -> Option<u32>
-    requires { first + length scripts.now < 2 ^ 32 }
-    ensures { result ≡ script_at (numbered_from first scripts.now) id.now }
+fn script_at(scripts: &[Script], numbers: &[u32], id: &EntityId) -> Option<u32>
+    requires { length scripts.now ≤ length numbers.now }
+    ensures { result ≡ script_at (scripts_with numbers.now scripts.now) id.now }
 {
     if id.has_domain("script") {
-        number_of(scripts, first, id.object().as_bytes())
+        number_of(scripts, numbers, id.object().as_bytes())
     } else {
         None
     }
 }
 
 /// The number of the script that a service is.
-fn script_called(scripts: &[Script], first: u32, service: &Word) -> Option<u32>
-    requires { first + length scripts.now < 2 ^ 32 }
-    ensures { result ≡ script_called (numbered_from first scripts.now) service.now }
+fn script_called(scripts: &[Script], numbers: &[u32], service: &Word) -> Option<u32>
+    requires { length scripts.now ≤ length numbers.now }
+    ensures { result ≡ script_called (scripts_with numbers.now scripts.now) service.now }
 {
     if service.bytes().starts_with(b"script.") {
-        number_of(scripts, first, &service.bytes()[7..])
+        number_of(scripts, numbers, &service.bytes()[7..])
     } else {
         None
     }
@@ -59,15 +59,15 @@ fn script_called(scripts: &[Script], first: u32, service: &Word) -> Option<u32>
 fn scripts_named(
     alloc: Global,
     scripts: &[Script],
-    first: u32,
+    numbers: &[u32],
     targets: &[EntityId],
 ) -> Result<Many<u32>, AllocError>
-    requires { first + length scripts.now < 2 ^ 32 }
-    ensures { IfOk result (λ found. found ≡ scripts_named (numbered_from first scripts.now) targets.now) }
+    requires { length scripts.now ≤ length numbers.now }
+    ensures { IfOk result (λ found. found ≡ scripts_named (scripts_with numbers.now scripts.now) targets.now) }
 {
     let mut found = Many::make(alloc);
     for i in 0..targets.len() {
-        add_once(&mut found, script_at(scripts, first, &targets[i]))?;
+        add_once(&mut found, script_at(scripts, numbers, &targets[i]))?;
     }
     Ok(found)
 }
@@ -109,14 +109,14 @@ fn started_one(alloc: Global, number: u32, fields: &[(Word, Value)]) -> Result<I
 fn started_all(
     alloc: Global,
     scripts: &[Script],
-    first: u32,
+    numbers: &[u32],
     target: &[EntityId],
     fields: &[(Word, Value)],
 ) -> Result<Item, AllocError>
-    requires { first + length scripts.now < 2 ^ 32 }
-    ensures { IfOk result (λ item. item ≡ Made.Started (scripts_named (numbered_from first scripts.now) target.now) (variables_in fields.now) false) }
+    requires { length scripts.now ≤ length numbers.now }
+    ensures { IfOk result (λ item. item ≡ Made.Started (scripts_named (scripts_with numbers.now scripts.now) target.now) (variables_in fields.now) false) }
 {
-    let found = scripts_named(alloc, scripts, first, target)?;
+    let found = scripts_named(alloc, scripts, numbers, target)?;
     let variables = variables_in(alloc, fields)?;
     Ok(Item::Started {
         scripts: found,
@@ -129,13 +129,13 @@ fn started_all(
 fn halted(
     alloc: Global,
     scripts: &[Script],
-    first: u32,
+    numbers: &[u32],
     target: &[EntityId],
 ) -> Result<Item, AllocError>
-    requires { first + length scripts.now < 2 ^ 32 }
-    ensures { IfOk result (λ item. item ≡ Made.Halted (scripts_named (numbered_from first scripts.now) target.now)) }
+    requires { length scripts.now ≤ length numbers.now }
+    ensures { IfOk result (λ item. item ≡ Made.Halted (scripts_named (scripts_with numbers.now scripts.now) target.now)) }
 {
-    let found = scripts_named(alloc, scripts, first, target)?;
+    let found = scripts_named(alloc, scripts, numbers, target)?;
     Ok(Item::Halted(found))
 }
 
@@ -143,26 +143,26 @@ fn halted(
 fn script_item(
     alloc: Global,
     scripts: &[Script],
-    first: u32,
+    numbers: &[u32],
     service: &Word,
     target: &[EntityId],
     fields: &[(Word, Value)],
 ) -> Result<Option<Item>, AllocError>
-    requires { first + length scripts.now < 2 ^ 32 }
-    ensures { IfOk result (λ item. item ≡ script_item (numbered_from first scripts.now) service.now target.now fields.now) }
+    requires { length scripts.now ≤ length numbers.now }
+    ensures { IfOk result (λ item. item ≡ script_item (scripts_with numbers.now scripts.now) service.now target.now fields.now) }
 {
     if service.bytes() == b"script.turn_on".as_slice() {
-        let item = started_all(alloc, scripts, first, target, fields)?;
+        let item = started_all(alloc, scripts, numbers, target, fields)?;
         return Ok(Some(item));
     }
     if service.bytes() == b"script.turn_off".as_slice() {
-        let item = halted(alloc, scripts, first, target)?;
+        let item = halted(alloc, scripts, numbers, target)?;
         return Ok(Some(item));
     }
     if service.bytes() == b"script.toggle".as_slice() {
         return Ok(None);
     }
-    match script_called(scripts, first, service) {
+    match script_called(scripts, numbers, service) {
         Some(number) => {
             let item = started_one(alloc, number, fields)?;
             Ok(Some(item))
@@ -171,48 +171,52 @@ fn script_item(
     }
 }
 
-/// The number of the first script: that of the automations.
-fn first_of(config: &Config) -> u32
-    requires { length config.now.automations < 2 ^ 32 }
-    ensures { result ≡ length config.now.automations }
+/// The numbers of the scripts: those behind the automations'.
+fn numbers_of<'a>(config: &Config, numbers: &'a Many<u32>) -> &'a [u32]
+    requires { length config.now.automations ≤ length numbers.now }
+    ensures { result.now ≡ drop (length config.now.automations) numbers.now }
 {
-    config.automations.len() as u32
+    &numbers.as_slice()[config.automations.len()..]
 }
 
 /// The item in place of a call, where there may be no script.
 fn own_item(
     alloc: Global,
     scripts: &[Script],
-    first: u32,
+    numbers: &[u32],
     service: &Word,
     target: &[EntityId],
     fields: &[(Word, Value)],
 ) -> Result<Option<Item>, AllocError>
-    requires { first + length scripts.now < 2 ^ 32 }
-    ensures { IfOk result (λ item. item ≡ own_item (numbered_from first scripts.now) service.now target.now fields.now) }
+    requires { length scripts.now ≤ length numbers.now }
+    ensures { IfOk result (λ item. item ≡ own_item (scripts_with numbers.now scripts.now) service.now target.now fields.now) }
 {
     if scripts.is_empty() {
         return Ok(None);
     }
-    let item = script_item(alloc, scripts, first, service, target, fields)?;
+    let item = script_item(alloc, scripts, numbers, service, target, fields)?;
     Ok(item)
 }
 
-/// The item in place of a call of a script that is configured; none exactly where the call is written.
+/// The item in place of a call of a script that is configured; none exactly where the call is written. The numbers are those of the
+/// configuration's units, automations first.
 pub fn resolve(
     alloc: Global,
     config: &Config,
+    numbers: &Many<u32>,
     service: &Word,
     target: &Many<EntityId>,
     fields: &Many<(Word, Value)>,
 ) -> Result<Option<Item>, AllocError>
-    requires { length config.now.automations + length config.now.scripts < 2 ^ 32 }
-    ensures { IfOk result (λ item. item ≡ own_item (scripts_of config.now) service.now target.now fields.now) }
+    requires { length config.now.automations + length config.now.scripts ≤ length numbers.now }
+    ensures { IfOk result (λ item. item ≡ own_item (scripts_seen numbers.now config.now) service.now target.now fields.now) }
 {
+    let scripts = config.scripts.as_slice();
+    let own = numbers_of(config, numbers);
     own_item(
         alloc,
-        config.scripts.as_slice(),
-        first_of(config),
+        scripts,
+        own,
         service,
         target.as_slice(),
         fields.as_slice(),

@@ -20,7 +20,7 @@ use Rattle.ha_sight.specs.declared.waiting.WaitEnd.{WaitEnd}
 use Rattle.ha_config.specs.declared.config.Form.{Form}
 use Rattle.ha_config.specs.Words.{Text, Pairs, same}
 use Rattle.ha_config.proofs.EqualLemmas.{same-refl}
-use Rattle.ha_sight.specs.Sight.{Sight}
+use Rattle.ha_sight.specs.Sight.{Automations, Sight}
 use Rattle.ha_sight.specs.Conditions.{hold_all, holds}
 use Rattle.ha_sight.specs.Calls.{Checked, automations_of, call_item, checked_then, count_of, done_by, fields_of, flag_named, forms_of, item_of, item_or_failed, service_of, span_of, spans_of, switched_to, targets_of, template_fault, was_on}
 use Rattle.ha_sight.specs.Inner.{inner_of, inner_of_helpers, own_item}
@@ -227,7 +227,7 @@ pub call-names : (s : Sight) (env : Pairs) (service : Template) (target : List T
 call-names s env service target fields none = by-service (service_of s env service)
   where
     -- one of the services of automations, or a call that is written
-    outer : (all : List (Text × Bool)) (name : Text) (es : List EntityId) (ps : Pairs) → NamesNoScript (item_of all name es ps)
+    outer : (all : Automations) (name : Text) (es : List EntityId) (ps : Pairs) → NamesNoScript (item_of all name es ps)
     outer all name es ps = by (same name (codes "automation.turn_on")) (same name (codes "automation.turn_off")) (same name (codes "automation.toggle")) (same name (codes "automation.trigger"))
       where
         by : (a b c d : Bool) → NamesNoScript (

@@ -14,7 +14,7 @@ use Rattle.ha_sight.specs.Calls.{Checked, automations_of, call_item, checked_the
 use Rattle.ha_sight.specs.Inner.{Scripts, helped, helped_by, inner_of, inner_of_helpers, own_item, script_called, scripts_named, variables_in}
 use Rattle.ha_sight.specs.Items.{changes_by}
 use Rattle.ha_sight.specs.Services.{changes_made, is_configured, service_named}
-use Rattle.ha_sight.specs.Sight.{Sight}
+use Rattle.ha_sight.specs.Sight.{Automations, Sight}
 use Rattle.script_laws.specs.Made.{AreMade}
 use Rattle.script_laws.proofs.MadeLemmas.{AllMade, all-made}
 
@@ -58,7 +58,7 @@ own-changes (s ∷ ss) name es ps =
     by false false false None = tt
     by false false false (Some n) = refl
 
-outer-changes : (all : List (Text × Bool)) (name : Text) (es : List EntityId) (ps : Pairs) → changes_by (item_of all name es ps) ≡ []
+outer-changes : (all : Automations) (name : Text) (es : List EntityId) (ps : Pairs) → changes_by (item_of all name es ps) ≡ []
 outer-changes all name es ps = by (same name (codes "automation.turn_on")) (same name (codes "automation.turn_off")) (same name (codes "automation.toggle")) (same name (codes "automation.trigger"))
   where
     by : (a b c d : Bool) → changes_by (

@@ -1,8 +1,7 @@
 -- The automations that targets name, each once, and the flags of a call's data.
-use Rattle.std.proofs.Common.{◌≡◌, ◌∙◌, ap, ℕ, zero, suc, ◌+◌, ◌<◌, Bool, true, false, cond, refl, List, [], ◌∷◌, ◌++◌, length, get_or, take, sym, arith}
-use Rattle.std.proofs.lemmas.Bool.Decides.{nat_tests}
-use Rattle.std.specs.Prelude.{Option, Some, None, ◌&&◌, nat_lt, find, slice_get, option_map, codes, if◌then◌else◌}
-use Rattle.std.specs.List.{list_all, enumerate_from}
+use Rattle.std.proofs.Common.{◌≡◌, ◌∙◌, ap, ℕ, zero, suc, ◌+◌, ◌<◌, Bool, true, false, refl, List, [], ◌∷◌, ◌++◌, length, get_or, take, sym, rules, arith}
+use Rattle.std.specs.Prelude.{IsSome, Option, Some, None, ◌&&◌, nat_eq, find, is_some, option_map, slice_index_or, unwrap_or, codes, if◌then◌else◌}
+use Rattle.std.specs.List.{list_all}
 use Rattle.std.specs.Option.{option_map_or}
 use Rattle.ha_value.specs.declared.value.EntityId.{EntityId}
 use Rattle.ha_value.specs.declared.value.Value.{Value}
@@ -10,6 +9,7 @@ use Rattle.ha_value.specs.declared.value.Value.TheViews.{out-Value}
 use Rattle.ha_config.specs.Words.{Text, Pairs, same, last_pair}
 use Rattle.ha_sight.specs.Calls.{automation_at, flag_or_true, flag_named, was_on}
 use Rattle.ha_sight.specs.Once.{has_number, with_number}
+use Rattle.ha_sight.specs.Sight.{Automations, switch_at}
 use Rattle.ha_sight.proofs.OnceLemmas.{front-more}
 
 -- ---- flags
@@ -34,67 +34,69 @@ flag-more name ps i p lt is = ap (flag_named name) (front-more ps i p lt is) ∙
     by true = refl
     by false = refl
 
--- ---- the automations that targets name are there
+-- ---- the automations that targets name are seen
 
-abbrev pub Below : ℕ → List ℕ → Type 0
-Below n xs = list_all (λ a. nat_lt a n) xs ≡ true
+abbrev pub AreSeen : Automations → List ℕ → Type 0
+AreSeen all xs = list_all (λ a. is_some (switch_at all a)) xs ≡ true
 
-pub below-more : (n : ℕ) (xs : List ℕ) (a : ℕ) → Below n xs → a < n → Below n (xs ++ (a ∷ []))
-below-more n [] a h lt = (let z : nat_lt a n ≡ true = grind (arith, nat_tests) in rw z refl)
-below-more n (x ∷ xs) a h lt = by (nat_lt x n) h (λ e. below-more n xs a e lt)
+pub seen-more : (all : Automations) (xs : List ℕ) (a : ℕ) → AreSeen all xs → is_some (switch_at all a) ≡ true → AreSeen all (xs ++ (a ∷ []))
+seen-more all [] a h one = (λ i. one i && true)
+seen-more all (x ∷ xs) a h one = by (is_some (switch_at all x)) h (λ e. seen-more all xs a e one)
   where
-    by : (b : Bool) → (b && list_all (λ c. nat_lt c n) xs) ≡ true → (Below n xs → Below n (xs ++ (a ∷ []))) → (b && list_all (λ c. nat_lt c n) (xs ++ (a ∷ []))) ≡ true
+    by : (b : Bool) → (b && list_all (λ c. is_some (switch_at all c)) xs) ≡ true → (AreSeen all xs → AreSeen all (xs ++ (a ∷ []))) → (b && list_all (λ c. is_some (switch_at all c)) (xs ++ (a ∷ []))) ≡ true
     by true e more = more e
-    by false e more = absurd (cc)
+    by false e more = absurd (let bad : ◌≡◌ {A = Bool} false true = e in cc)
 
-pub below-with : (n : ℕ) (xs : List ℕ) (o : Option ℕ) → Below n xs → ((a : ℕ) → o ≡ Some a → a < n) → Below n (with_number o xs)
-below-with n xs None h small = h
-below-with n xs (Some a) h small = by (has_number a xs)
+pub seen-with : (all : Automations) (xs : List ℕ) (o : Option ℕ) → AreSeen all xs → ((a : ℕ) → o ≡ Some a → is_some (switch_at all a) ≡ true) → AreSeen all (with_number o xs)
+seen-with all xs None h one = h
+seen-with all xs (Some a) h one = by (has_number a xs)
   where
-    by : (b : Bool) → Below n (if b then xs else xs ++ (a ∷ []))
+    by : (b : Bool) → AreSeen all (if b then xs else xs ++ (a ∷ []))
     by true = h
-    by false = below-more n xs a h (small a refl)
+    by false = seen-more all xs a h (one a refl)
 
-pub below-at : (n : ℕ) (xs : List ℕ) (i a : ℕ) → Below n xs → i < length xs → a ≡ get_or xs i a → a < n
-below-at n [] i a h lt is = absurd (omega (arith, lt))
-below-at n (x ∷ xs) i a h lt is = by (nat_lt x n) refl h (λ e j. below-at n xs j a e) i lt is
+pub seen-at : (all : Automations) (xs : List ℕ) (i a : ℕ) → AreSeen all xs → i < length xs → a ≡ get_or xs i a → IsSome (switch_at all a)
+seen-at all [] i a h lt is = absurd (omega (arith, lt))
+seen-at all (x ∷ xs) i a h lt is = by (is_some (switch_at all x)) refl h (λ e j. seen-at all xs j a e) i lt is
   where
-    first : (x : ℕ) → nat_lt x n ≡ true → x < n
-    first x e = grind (arith, nat_tests)
-
-    by : (b : Bool) → nat_lt x n ≡ b → (b && list_all (λ c. nat_lt c n) xs) ≡ true → (Below n xs → (j : ℕ) → j < length xs → a ≡ get_or xs j a → a < n)
-        → (i : ℕ) → i < length (x ∷ xs) → a ≡ get_or (x ∷ xs) i a → a < n
-    by false f e more i lt is = absurd (cc)
-    by true f e more zero lt is = (let l : x < n = first x f in let z : a ≡ x = is in omega (arith, z, l))
+    by : (b : Bool) → is_some (switch_at all x) ≡ b → (b && list_all (λ c. is_some (switch_at all c)) xs) ≡ true → (AreSeen all xs → (j : ℕ) → j < length xs → a ≡ get_or xs j a → IsSome (switch_at all a))
+        → (i : ℕ) → i < length (x ∷ xs) → a ≡ get_or (x ∷ xs) i a → IsSome (switch_at all a)
+    by false f e more i lt is = absurd (let bad : ◌≡◌ {A = Bool} false true = e in cc)
+    by true f e more zero lt is = (λ k. is_some (switch_at all (is k))) ∙ f
     by true f e more (suc i) lt is = more e i (omega (arith, lt)) is
 
-found-below : {X : Type 0} (test : ℕ × X → Bool) (n : ℕ) (xs : List X) (p : ℕ × X) → find test (enumerate_from n xs) ≡ Some p → p.0 < n + length xs
-found-below test n [] p e = absurd (cc)
-found-below {X} test n (x ∷ xs) p e = by (test (n, x)) e (found-below test (n + 1) xs p)
+-- so is the one at a place
+pub seen-here : (all : Automations) (xs : List ℕ) (i d : ℕ) → AreSeen all xs → i < length xs → IsSome (switch_at all (slice_index_or xs i d))
+seen-here all xs i d h lt = seen-at all xs i (slice_index_or xs i d) h lt (index-here xs i lt)
   where
-    here : (y q : ℕ × X) → y.0 ≡ n → Some y ≡ Some q → q.0 ≡ n
-    here y q f h = (let z : y ≡ q = cc in sym (ap (λ (r : ℕ × X). r.0) z) ∙ f)
+    index-here : (ys : List ℕ) (k : ℕ) → k < length ys → slice_index_or ys k d ≡ get_or ys k (slice_index_or ys k d)
+    index-here [] k lt = absurd (omega (arith, lt))
+    index-here (y ∷ ys) zero lt = refl
+    index-here (y ∷ ys) (suc k) lt = index-here ys k (omega (arith, lt))
 
-    by : (b : Bool) → cond b (Some (n, x)) (find test (enumerate_from (n + 1) xs)) ≡ Some p → (find test (enumerate_from (n + 1) xs) ≡ Some p → p.0 < n + 1 + length xs) → p.0 < n + length (x ∷ xs)
-    by true h more = omega (arith, here (n, x) p refl h)
-    by false h more = omega (arith, more h)
+eq-self : (a b : ℕ) → a ≡ b → nat_eq a b ≡ true
+eq-self a b e = search (rules, e)
 
-pub automation-below : (all : List (Text × Bool)) (e : EntityId) (a : ℕ) → automation_at all e ≡ Some a → a < length all
-automation-below all e a h = by (same e.domain (codes "automation")) h
+-- one that is found is found by its number
+found-seen : (test : ℕ × Text × Bool → Bool) (all : Automations) (a : ℕ) → option_map (λ (p : ℕ × Text × Bool). p.0) (find test all) ≡ Some a → is_some (switch_at all a) ≡ true
+found-seen test [] a h = absurd (let bad : ◌≡◌ {A = Option ℕ} None (Some a) = h in cc)
+found-seen test (p ∷ ps) a h = by (nat_eq p.0 a) (test p) refl refl h (found-seen test ps a)
   where
-    number : (o : Option (ℕ × (Text × Bool))) → find (λ p. same p.1.0 e.object) (enumerate_from 0 all) ≡ o → option_map (λ p. p.0) o ≡ Some a → a < length all
-    number None f g = absurd (cc)
-    number (Some p) f g = (let z : p.0 ≡ a = cc in omega (arith, z, found-below (λ p. same p.1.0 e.object) 0 all p f))
+    by : (b c : Bool) → nat_eq p.0 a ≡ b → test p ≡ c → option_map (λ (q : ℕ × Text × Bool). q.0) (if c then Some p else find test ps) ≡ Some a
+        → (option_map (λ (q : ℕ × Text × Bool). q.0) (find test ps) ≡ Some a → is_some (switch_at ps a) ≡ true)
+        → is_some (option_map (λ (q : ℕ × Text × Bool). q.2) (if b then Some p else find (λ q. nat_eq q.0 a) ps)) ≡ true
+    by true c e t g rec = refl
+    by false true e t g rec = (let own : p.0 ≡ a = cc in absurd (let bad : ◌≡◌ {A = Bool} true false = sym (eq-self p.0 a own) ∙ e in cc))
+    by false false e t g rec = rec g
 
-    by : (b : Bool) → (if b then option_map (λ p. p.0) (find (λ p. same p.1.0 e.object) (enumerate_from 0 all)) else None) ≡ Some a → a < length all
-    by true g = number (find (λ p. same p.1.0 e.object) (enumerate_from 0 all)) refl g
-    by false g = absurd (cc)
+pub automation-seen : (all : Automations) (e : EntityId) (a : ℕ) → automation_at all e ≡ Some a → is_some (switch_at all a) ≡ true
+automation-seen all e a h = by (same e.domain (codes "automation")) h
+  where
+    by : (b : Bool) → (if b then option_map (λ (p : ℕ × Text × Bool). p.0) (find (λ (p : ℕ × Text × Bool). same p.1 e.object) all) else None) ≡ Some a → is_some (switch_at all a) ≡ true
+    by true g = found-seen (λ p. same p.1 e.object) all a g
+    by false g = absurd (let bad : ◌≡◌ {A = Option ℕ} None (Some a) = g in cc)
 
 -- ---- the switch that is seen
 
-pub seen-on : (all : List (Text × Bool)) (a : ℕ) (on : Bool) → option_map (λ p. p.1) (slice_get all a) ≡ Some on → was_on all a ≡ on
-seen-on all a on h = by (slice_get all a) h
-  where
-    by : (o : Option (Text × Bool)) → option_map (λ p. p.1) o ≡ Some on → option_map_or (λ p. p.1) o false ≡ on
-    by None e = absurd (cc)
-    by (Some p) e = cc
+pub seen-on : (all : Automations) (a : ℕ) (on : Bool) → switch_at all a ≡ Some on → was_on all a ≡ on
+seen-on all a on h = (λ i. unwrap_or (h i) false)

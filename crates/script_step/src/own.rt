@@ -1,10 +1,11 @@
 //! The services of automations, which are done by the engine itself.
-ghost use Rattle.std.specs.Prelude.{◌≡◌, ◌<◌, true, not, IfOk, length, map, nat_lt, unwrap_or, codes, if◌then◌else◌};
+ghost use Rattle.std.specs.Prelude.{◌≡◌, true, not, IfOk, IsSome, is_some, map, unwrap_or, codes, if◌then◌else◌};
 ghost use Rattle.std.specs.List.{list_all};
 ghost use Rattle.ha_value.specs.declared.value.Value.TheViews.{out-Value};
 ghost use Rattle.ha_sight.specs.declared.item.Item.{Item};
 ghost use Rattle.ha_config.specs.Words.{same};
 ghost use Rattle.ha_sight.specs.Calls.{automations_of, flag_or_true, flag_named, item_of, switched_to, was_on};
+ghost use Rattle.ha_sight.specs.Sight.{switch_at, switch_seen};
 
 use ha_sight::{Answers, Item, add_once};
 use ha_value::{EntityId, Many, Value, Word};
@@ -49,7 +50,7 @@ fn automations_of<A: Answers>(
     targets: &[EntityId],
 ) -> Result<Many<u32>, AllocError>
     ensures value { IfOk result (λ found. found ≡ automations_of (A.sight answers.now).automations targets.now) }
-    ensures known { IfOk result (λ found. list_all (λ a. nat_lt a (length (A.sight answers.now).automations)) found ≡ true) }
+    ensures known { IfOk result (λ found. list_all (λ a. is_some (switch_at (A.sight answers.now).automations a)) found ≡ true) }
 {
     let mut found = Many::make(alloc);
     for i in 0..targets.len() {
@@ -60,7 +61,7 @@ fn automations_of<A: Answers>(
 
 /// The new value of a switch: this one, else the other than it has.
 fn new_value<A: Answers>(answers: &A, to: Option<bool>, automation: u32) -> bool
-    requires { automation < length (A.sight answers.now).automations }
+    requires { IsSome (switch_seen (A.sight answers.now) automation) }
     ensures { result ≡ unwrap_or to (not (was_on (A.sight answers.now).automations automation)) }
 {
     match to {

@@ -8,6 +8,7 @@ use conf_auto::read_config;
 use flow_line::read_cmd;
 use ha_clock::{Moment, Zone};
 use ha_config::{Cmd, Config};
+use ha_value::Many;
 use helper_set::Helpers;
 use script_calls::Seeing;
 use sound_laws::laws::what_is_read_is_sound;
@@ -21,6 +22,8 @@ const EIGHT: u64 = 1_714_593_600_000;
 #[derive(Drop)]
 pub struct Home {
     pub config: Config,
+    /// Of its units, of which there are eight at most.
+    pub numbers: Many<u32>,
     pub states: StateTable,
     pub millis: u64,
 }
@@ -36,6 +39,15 @@ fn text_of(alloc: Global, tests: &str, actions: &str, scripts: &str) -> Result<S
     text.push_str(actions)?;
     text.push_str("}]")?;
     Ok(text)
+}
+
+/// The numbers of units that came into force first.
+fn eight_numbers(alloc: Global) -> Result<Many<u32>, AllocError> {
+    let mut numbers = Many::make(alloc);
+    for number in 0..8u32 {
+        numbers.push(number)?;
+    }
+    Ok(numbers)
 }
 
 /// The home of an automation with these conditions and actions, at eight in the evening of the first of May 2024; none where they are
@@ -60,6 +72,7 @@ pub fn home_with(
     match read_config(alloc, text.as_bytes()) {
         Ok(config) => Ok(Some(Home {
             config,
+            numbers: eight_numbers(alloc)?,
             states: StateTable::make(alloc),
             millis: EIGHT,
         })),
@@ -137,10 +150,11 @@ pub fn utc(alloc: Global) -> Result<Zone, AllocError> {
 /// What the home shows at its moment; none where that is past the end of time, or the home has more automations than a home of a test.
 pub fn view_of<'a>(home: &'a Home, zone: &'a Zone) -> Option<View<'a>> {
     let at = Moment::of_millis(home.millis)?;
-    if 4 < home.config.automations.len() {
+    if 4 < home.config.automations.len() || home.numbers.len() < 8 {
         return None;
     }
-    Some(View::make(&home.states, &home.config, zone, at))
+    let (config, numbers) = (&home.config, &home.numbers);
+    Some(View::make(&home.states, config, numbers, zone, at))
 }
 
 /// The same with its scripts, of which there are few too, and no helpers.
@@ -148,10 +162,11 @@ pub fn seeing_of<'a>(home: &'a Home, zone: &'a Zone, helpers: &'a Helpers) -> Op
     requires { kept_in helpers.now ≡ [] }
 {
     let at = Moment::of_millis(home.millis)?;
-    if 4 < home.config.automations.len() || 4 < home.config.scripts.len() {
+    let few = home.config.automations.len() <= 4 && home.config.scripts.len() <= 4;
+    if !few || home.numbers.len() < 8 {
         return None;
     }
-    let seeing = Seeing::make(&home.states, &home.config, zone, at, helpers);
+    let seeing = Seeing::make(&home.states, &home.config, &home.numbers, zone, at, helpers);
     // The borrow checker builds its plan only where a place has the type that the view holds.
     let _ = &seeing.view;
     Some(seeing)

@@ -1,6 +1,5 @@
 //! Which calls are done by the core itself, since they are of scripts: in a home of one automation, so that its first script is unit 1.
-use crate::home::home_with;
-use ha_config::Config;
+use crate::home::{Home, home_with};
 use ha_sight::Item;
 use ha_value::{EntityId, Many, Value, Word};
 use script_calls::resolve;
@@ -116,27 +115,29 @@ fn is_wanted(found: &Option<Item>, wanted: &Wanted<'_>) -> bool {
 /// Whether this is done in place of the call. There are few units in a home of a test.
 fn is_done(
     alloc: Global,
-    config: &Config,
+    home: &Home,
     call: &Call<'_>,
     wanted: &Wanted<'_>,
 ) -> Result<bool, AllocError> {
-    if 4 < config.automations.len() || 4 < config.scripts.len() {
+    let config = &home.config;
+    let few = config.automations.len() <= 4 && config.scripts.len() <= 4;
+    if !few || home.numbers.len() < 8 {
         return Ok(false);
     }
     let service = Word::from_str(alloc, call.service)?;
     let target = targets(alloc, call.target)?;
     let fields = fields(alloc, call.data)?;
-    let found = resolve(alloc, config, &service, &target, &fields)?;
+    let found = resolve(alloc, config, &home.numbers, &service, &target, &fields)?;
     Ok(is_wanted(&found, wanted))
 }
 
 fn all_done(
     alloc: Global,
-    config: &Config,
+    home: &Home,
     rows: &[(Call<'_>, Wanted<'_>)],
 ) -> Result<bool, AllocError> {
     for row in rows {
-        if !is_done(alloc, config, &row.0, &row.1)? {
+        if !is_done(alloc, home, &row.0, &row.1)? {
             return Ok(false);
         }
     }
@@ -146,7 +147,7 @@ fn all_done(
 /// Whether each call is done so where these scripts are configured.
 fn are_done(alloc: Global, scripts: &str, rows: &[(Call<'_>, Wanted<'_>)]) -> bool {
     match home_with(alloc, "[]", "[{action: light.x}]", scripts) {
-        Ok(Some(home)) => all_done(alloc, &home.config, rows).unwrap_or(false),
+        Ok(Some(home)) => all_done(alloc, &home, rows).unwrap_or(false),
         _ => false,
     }
 }

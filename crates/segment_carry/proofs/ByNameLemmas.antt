@@ -1,6 +1,6 @@
 -- What is listed by names is in the order of the names.
 use Rattle.std.proofs.Common.{◌≡◌, ◌∙◌, ap, refl, sym, ℕ, zero, suc, ◌+◌, ◌-◌, ◌<◌, ◌≤◌, inl, inr, Bool, true, false, cond, Option, List, [], ◌∷◌, ◌++◌, length, get_or, take, arith}
-use Rattle.std.specs.Prelude.{◌⊎◌, Some, None, filter_map, insert, nat_eq, nat_lt, not, option_map, position, slice_get, unwrap_or, if◌then◌else◌}
+use Rattle.std.specs.Prelude.{◌⊎◌, Some, None, filter_map, insert, map, nat_eq, nat_lt, not, option_map, position, slice_get, unwrap_or, if◌then◌else◌}
 use Rattle.std.specs.List.{cons_option, enumerate_from, position_or_len, prefix_len}
 use Rattle.std.specs.Option.{option_map_or}
 use Rattle.std.proofs.lemmas.Bool.Decides.{nat_tests}
@@ -11,9 +11,10 @@ use Rattle.std.proofs.lemmas.Option.{slice_get-get_or}
 use Rattle.std.specs.Ordering.{nat_cmp, is_lt, is_some_and}
 use Rattle.std.specs.Cmp.Lexicographic.{slice_partial_cmp}
 use Rattle.ha_config.specs.declared.config.Automation.{Automation}
-use Rattle.ha_config.specs.Words.{Text, comes_before, numbers_from, up_to}
+use Rattle.ha_config.specs.Words.{Text, comes_before, numbers_from, same, up_to}
 use Rattle.ha_config.specs.Names.{name_in, name_of, names_of}
-use Rattle.ha_config.proofs.ListLemmas.{none-some, some-same}
+use Rattle.ha_config.proofs.EqualLemmas.{same-refl, same-sound}
+use Rattle.ha_config.proofs.ListLemmas.{none-some, some-same, true-false}
 use Rattle.ha_whole.specs.Named.{in_name_order, placed_by_name}
 use Rattle.segment_carry.specs.ByName.{by_name, listed, put_by_name, sorted}
 
@@ -55,7 +56,7 @@ front-not x y xs ys h = by (nat_lt x y) (nat_eq x y) refl refl h
     by false true e f k = inr (equal x y f, k)
     by false false e f k = inl (above x y e f)
 
-further : (a b c : Text) → comes_before a b ≡ true → comes_before b c ≡ true → comes_before a c ≡ true
+pub further : (a b c : Text) → comes_before a b ≡ true → comes_before b c ≡ true → comes_before a c ≡ true
 further [] [] c h k = absurd (cc)
 further [] (y ∷ b) [] h k = absurd (cc)
 further [] (y ∷ b) (z ∷ c) h k = refl
@@ -72,6 +73,29 @@ further (x ∷ a) (y ∷ b) (z ∷ c) h k = by (front-is x y a b h) (front-is y 
     by (inl p) (inr q) rest = first (omega (arith, p, q.0))
     by (inr p) (inl q) rest = first (omega (arith, p.0, q))
     by (inr p) (inr q) rest = rw (not-less x z (p.0 ∙ q.0), is-equal x z (p.0 ∙ q.0)) (rest p.1 q.1)
+
+-- no text comes before itself
+pub before-itself : (t : Text) → comes_before t t ≡ false
+before-itself [] = refl
+before-itself (x ∷ t) = rw (not-less x x refl, is-equal x x refl) (before-itself t)
+
+-- of two texts that differ one comes before the other
+pub or-before : (a b : Text) → same a b ≡ false → comes_before a b ≡ false → comes_before b a ≡ true
+or-before [] [] h k = absurd (true-false h)
+or-before [] (y ∷ b) h k = absurd (true-false k)
+or-before (x ∷ a) [] h k = refl
+or-before (x ∷ a) (y ∷ b) h k = by (front-not x y a b k) (or-before a b)
+  where
+    by : (y < x) ⊎ ((x ≡ y) × (comes_before a b ≡ false)) → (same a b ≡ false → comes_before a b ≡ false → comes_before b a ≡ true) → comes_before (y ∷ b) (x ∷ a) ≡ true
+    by (inl lt) rest = rw (is-below y x lt) refl
+    by (inr e) rest = rw (not-less y x (sym e.0), is-equal y x (sym e.0)) (rest (differ e.0) e.1)
+      where
+        differ : x ≡ y → same a b ≡ false
+        differ f = other (same a b) refl
+          where
+            other : (c : Bool) → same a b ≡ c → same a b ≡ false
+            other true g = absurd (true-false (sym (same-refl (x ∷ a)) ∙ (λ i. same (x ∷ a) (f i ∷ same-sound a b g i)) ∙ h))
+            other false g = g
 
 -- what comes before a text comes before each that does not
 between : (p q r : Text) → comes_before p q ≡ true → comes_before r q ≡ false → comes_before p r ≡ true
@@ -203,6 +227,21 @@ module _ (all : List Automation) {X : Type 0} (value : ℕ → Option X) where
       ∙ (λ i. in_name_order {X = X} (listed (names_of all) value (up_to (length-map all (λ (a : Automation). a.name) i))))
       ∙ ap (in_name_order {X = X}) (sym listed-all)
 
+-- ---- by the automations in force
+
+-- what each of these has that has one, by what it is, is what is listed of their places
+pub given-each : {Y X : Type 0} (rule : Y → Automation) (value : Y → Option X) (f : ℕ → Option X) (n : ℕ) (ys : List Y) → ((i : ℕ) (y : Y) → slice_get ys i ≡ Some y → f (n + i) ≡ value y)
+    → filter_map (given f) (enumerate_from n (map {A = Y} {B = Automation} rule ys)) ≡ filter_map (λ y. option_map (λ v. ((rule y).name, v)) (value y)) ys
+given-each rule value f n [] h = refl
+given-each {Y} {X} rule value f n (y ∷ ys) h =
+    let here : f n ≡ value y = (let e : n ≡ n + 0 = omega arith in ap f e ∙ h 0 y refl) in
+    λ i. cons_option (option_map {T = X} {U = Text × X} (λ v. ((rule y).name, v)) (here i)) (given-each rule value f (n + 1) ys (λ k z is. (let e : (n + 1) + k ≡ n + suc k = omega arith in ap f e ∙ h (suc k) z is)) i)
+
+-- those that all have one
+pub all-given : {Y X : Type 0} (rule : Y → Automation) (value : Y → X) (ys : List Y) → filter_map (λ y. option_map (λ v. ((rule y).name, v)) (Some (value y))) ys ≡ map {A = Y} {B = Text × X} (λ y. ((rule y).name, value y)) ys
+all-given rule value [] = refl
+all-given rule value (y ∷ ys) = λ i. ((rule y).name, value y) ∷ all-given rule value ys i
+
 -- ---- how they are put in order
 
 pub text-order : (xs ys : Text) (r : Bool) → r ≡ is_some_and is_lt (slice_partial_cmp (λ x y. Some (nat_cmp x y)) xs ys) → r ≡ comes_before xs ys
@@ -221,7 +260,7 @@ inserted names a (b ∷ bs) = by (comes_before (name_in names a) (name_in names 
     by true rest = refl
     by false rest = next (position_or_len (λ b. comes_before (name_in names a) (name_in names b)) bs) ∙ ap (λ (l : List ℕ). b ∷ l) rest
 
-prefix-most : (p : ℕ → Bool) (xs : List ℕ) → prefix_len p xs ≤ length xs
+pub prefix-most : {X : Type 0} (p : X → Bool) (xs : List X) → prefix_len p xs ≤ length xs
 prefix-most p [] = omega arith
 prefix-most p (x ∷ xs) = by (p x) (prefix-most p xs)
   where
@@ -230,7 +269,7 @@ prefix-most p (x ∷ xs) = by (p x) (prefix-most p xs)
     by false le = omega arith
 
 -- the place of the first that passes, else how many there are
-place-is : (p : ℕ → Bool) (xs : List ℕ) → unwrap_or (position p xs) (length xs) ≡ position_or_len p xs
+pub place-is : {X : Type 0} (p : X → Bool) (xs : List X) → unwrap_or (position p xs) (length xs) ≡ position_or_len p xs
 place-is p xs = by (nat_lt (position_or_len p xs) (length xs)) refl (prefix-most (λ x. not (p x)) xs)
   where
     by : (b : Bool) → nat_lt (position_or_len p xs) (length xs) ≡ b → position_or_len p xs ≤ length xs → unwrap_or (cond b (Some (position_or_len p xs)) None) (length xs) ≡ position_or_len p xs

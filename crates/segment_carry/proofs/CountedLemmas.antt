@@ -1,154 +1,153 @@
--- The number of each record is one more than how many of its unit stand before it; so the last one's is how many there are.
-use Rattle.std.proofs.Common.{◌≡◌, ◌∙◌, ap, refl, sym, subst, ℕ, zero, suc, ◌+◌, ◌<◌, inl, inr, Bool, true, false, cond, Option, List, [], ◌∷◌, ◌++◌, arith, append_assoc}
-use Rattle.std.specs.Prelude.{Some, None, filter, length, nat_eq, option_map, unwrap_or, if◌then◌else◌}
-use Rattle.std.proofs.lemmas.Bool.Decides.{nat_tests}
-use Rattle.std.proofs.lemmas.List.Sums.{sum_by-append, sum_by-cons}
+-- The number of each record is one more than how many of its unit's name stand before it.
+use Rattle.std.proofs.Common.{◌≡◌, ◌∙◌, refl, sym, subst, ℕ, suc, ◌+◌, Bool, true, false, cond, List, [], ◌∷◌, ◌++◌, length, map, append_assoc}
+use Rattle.std.specs.Prelude.{count_by, if◌then◌else◌}
+use Rattle.std.specs.Option.{option_map_or}
+use Rattle.std.proofs.lemmas.List.{append-nil, map-append}
+use Rattle.std.proofs.lemmas.List.Sums.{sum_by-cons}
 use Rattle.ha_config.specs.declared.config.Automation.{Automation}
-use Rattle.ha_config.specs.Words.{last_of, or_else}
 use Rattle.ha_config.specs.Names.{name_of}
-use Rattle.ha_config.proofs.ListLemmas.{append-nil}
-use Rattle.ha_journal.specs.Journal.{Journal, units}
-use Rattle.ha_laws.specs.Told.{HaveRecords, Tried, passing_below}
-use Rattle.ha_laws.proofs.ToldAdmitted.{records-admitted}
+use Rattle.ha_config.specs.Words.{Text, same}
+use Rattle.ha_journal.specs.declared.entry.Entry.{Entry}
+use Rattle.ha_journal.specs.Attempts.{Attempt, passing}
+use Rattle.ha_journal.specs.Journal.{Journal, last_place, more, units}
+use Rattle.ha_journal.proofs.ForceLaws.{unit-more}
 use Rattle.ha_model.specs.declared.record.Record.{Record}
-use Rattle.ha_model.specs.Records.{Records, records_of}
-use Rattle.ha_model.proofs.KnownLaws.{AllKnown}
-use Rattle.ha_whole.specs.Lasts.{last_run}
-use Rattle.ha_whole.specs.Segments.{carried_number}
-use Rattle.ha_whole.specs.Whole.{placed, placed_all}
-use Rattle.segment_runs.specs.Segment.{runs_of}
-use Rattle.segment_carry.specs.ByName.{if_some}
+use Rattle.ha_sight.specs.Scripts.{Spot}
+use Rattle.ha_model.specs.Records.{Records, has_name, is_restart_mode, lets_in_after, mode_of, new_record, own_ends_on, records_of, spots}
+use Rattle.ha_model.specs.RunSteps.{attempt_all, joined, own_ends, replace_all, settled}
+use Rattle.ha_model.proofs.FoldLaws.{records-more}
+use Rattle.ha_model.proofs.KnownLaws.{AllKnown, all-known}
 use Rattle.segment_carry.specs.Hands.{Counted}
 
--- ---- those of a journal
+-- of each record its unit and its number
+abbrev Pairs : Type 0
+Pairs = List (ℕ × ℕ)
 
-counted-told : (all : List Automation) (before : Records) (ts : List Tried) (rs : Records) → HaveRecords all before ts rs → Counted before rs
-counted-told all before [] [] h = tt
-counted-told all before [] (r ∷ rs) h = absurd h
-counted-told all before (t ∷ ts) [] h = tt
-counted-told all before (t ∷ ts) (r ∷ rs) (inl h) = (h.1.number ∙ (λ i. suc (runs_of before (sym h.1.automation i))), counted-told all (before ++ (r ∷ [])) ts rs h.2)
-counted-told all before (t ∷ ts) (r ∷ rs) (inr h) = counted-told all before ts (r ∷ rs) h.1
+abbrev pairs_of : Records → Pairs
+pairs_of rs = map {A = Record} {B = ℕ × ℕ} (λ r. (r.automation, r.number)) rs
 
-pub counted-own : (s : Journal) → Counted [] (records_of s)
-counted-own s = counted-told (units s) [] (passing_below s (length s)) (records_of s) (records-admitted s)
+-- how many of these have a name
+abbrev count_in : (ℕ → Text) → Text → Pairs → ℕ
+count_in names name ps = count_by (λ (q : ℕ × ℕ). same (names q.0) name) ps
 
--- ---- counts
+abbrev AreCounted : (ℕ → Text) → Pairs → Pairs → Type 0
+AreCounted names before [] = Unit {0}
+AreCounted names before (p ∷ ps) = (p.1 ≡ suc (count_in names (names p.0) before)) × AreCounted names (before ++ (p ∷ [])) ps
 
-pub runs-append : (xs ys : Records) (a : ℕ) → runs_of (xs ++ ys) a ≡ runs_of xs a + runs_of ys a
-runs-append xs ys a = sum_by-append (λ (r : Record). cond (nat_eq r.automation a) 1 0) xs ys
+count-cons : (names : ℕ → Text) (name : Text) (p : ℕ × ℕ) (ps : Pairs) → count_in names name (p ∷ ps) ≡ cond (same (names p.0) name) 1 0 + count_in names name ps
+count-cons names name p ps = sum_by-cons (λ (q : ℕ × ℕ). cond (same (names q.0) name) 1 0) p ps
 
-runs-cons : (x : Record) (ys : Records) (a : ℕ) → runs_of (x ∷ ys) a ≡ cond (nat_eq x.automation a) 1 0 + runs_of ys a
-runs-cons x ys a = sum_by-cons (λ (r : Record). cond (nat_eq r.automation a) 1 0) x ys
+-- ---- what leaves units and numbers
 
-plain : (n : ℕ) → 0 + n ≡ n
-plain n = omega arith
+pairs-ends : (places : ℕ → List Spot) (k : Journal) (rs : Records) → pairs_of (own_ends_on places k rs) ≡ pairs_of rs
+pairs-ends places k [] = refl
+pairs-ends places k (r ∷ rs) = λ i. (r.automation, r.number) ∷ pairs-ends places k rs i
 
-same-number : (a b : ℕ) → nat_eq a b ≡ true → a ≡ b
-same-number a b h = grind (arith, nat_tests)
+pairs-replaced : (a p : ℕ) (rs : Records) → pairs_of (replace_all a p rs) ≡ pairs_of rs
+pairs-replaced a p [] = refl
+pairs-replaced a p (r ∷ rs) = λ i. (r.automation, r.number) ∷ pairs-replaced a p rs i
 
-pub runs-placed : (n : ℕ) (s : Journal) (rs : Records) (a : ℕ) → runs_of (placed_all n s rs) a ≡ runs_of rs a
-runs-placed n s [] a = refl
-runs-placed n s (r ∷ rs) a = runs-cons (placed n s r) (placed_all n s rs) a ∙ (λ i. cond (nat_eq r.automation a) 1 0 + runs-placed n s rs a i) ∙ sym (runs-cons r rs a)
+pairs-settled : (k : Journal) (before rs : Records) → pairs_of (settled k before rs) ≡ pairs_of rs
+pairs-settled k before [] = refl
+pairs-settled k before (r ∷ rs) = λ i. (r.automation, r.number) ∷ pairs-settled k (r ∷ before) rs i
 
-placed-append : (n : ℕ) (s : Journal) (xs ys : Records) → placed_all n s (xs ++ ys) ≡ placed_all n s xs ++ placed_all n s ys
-placed-append n s [] ys = refl
-placed-append n s (x ∷ xs) ys = (λ i. placed n s x ∷ placed-append n s xs ys i)
+-- ---- one more
 
--- ---- those of a segment among all
+counted-snoc : (names : ℕ → Text) (before ps : Pairs) (p : ℕ × ℕ) → AreCounted names before ps → p.1 ≡ suc (count_in names (names p.0) (before ++ ps)) → AreCounted names before (ps ++ (p ∷ []))
+counted-snoc names before [] p h is = (is ∙ (λ i. suc (count_in names (names p.0) (append-nil before i))), tt)
+counted-snoc names before (q ∷ ps) p h is =
+    (h.0, counted-snoc names (before ++ (q ∷ [])) ps p h.1 (is ∙ (λ i. suc (count_in names (names p.0) (sym (append_assoc before (q ∷ []) ps) i)))))
 
-module _ (n : ℕ) (s : Journal) (c : Records) (bases : (a : ℕ) → a < length (units s) → carried_number s (name_of (units s) a) ≡ runs_of c a) where
-  placed-counted : (before rs : Records) → AllKnown (length (units s)) rs → Counted before rs → Counted (c ++ placed_all n s before) (placed_all n s rs)
-  placed-counted before [] known h = tt
-  placed-counted before (r ∷ rs) known h =
-      let a = r.automation in
-      let base = bases a known.0 in
-      let own = h.0 in
-      let both = runs-append c (placed_all n s before) a in
-      let old = runs-placed n s before a in
-      let number : carried_number s (name_of (units s) a) + r.number ≡ suc (runs_of (c ++ placed_all n s before) a) = omega (arith, base, own, both, old) in
-      let more : c ++ placed_all n s (before ++ (r ∷ [])) ≡ (c ++ placed_all n s before) ++ (placed n s r ∷ [])
-      = (λ i. c ++ placed-append n s before (r ∷ []) i) ∙ sym (append_assoc c (placed_all n s before) (placed n s r ∷ [])) in
-      (number, subst (λ l. Counted l (placed_all n s rs)) more (placed-counted (before ++ (r ∷ [])) rs known.1 h.1))
+count-records : (names : ℕ → Text) (name : Text) (rs : Records) → count_by (λ (r : Record). same (names r.automation) name) rs ≡ count_in names name (pairs_of rs)
+count-records names name [] = refl
+count-records names name (r ∷ rs) =
+    sum_by-cons (λ (x : Record). cond (same (names x.automation) name) 1 0) r rs
+    ∙ (λ i. cond (same (names r.automation) name) 1 0 + count-records names name rs i)
+    ∙ sym (count-cons names name (r.automation, r.number) (pairs_of rs))
 
-counted-both : (before xs ys : Records) → Counted before xs → Counted (before ++ xs) ys → Counted before (xs ++ ys)
-counted-both before [] ys h k = subst (λ l. Counted l ys) (append-nil before) k
-counted-both before (x ∷ xs) ys h k = (h.0, counted-both (before ++ (x ∷ [])) xs ys h.1 (subst (λ l. Counted l ys) (sym (append_assoc before (x ∷ []) xs)) k))
+module _ (k : Journal) where
+  abbrev names_then : ℕ → Text
+  names_then = name_of (units k)
 
--- LAW: so it is of the records of closed segments and those of the next one, placed behind them
-pub counted-placed : (n : ℕ) (s : Journal) (c : Records) → ((a : ℕ) → a < length (units s) → carried_number s (name_of (units s) a) ≡ runs_of c a)
-    → (rs : Records) → AllKnown (length (units s)) rs → Counted [] rs → Counted [] c → Counted [] (c ++ placed_all n s rs)
-counted-placed n s c bases rs known own closed =
-    counted-both [] c (placed_all n s rs) closed (subst (λ l. Counted l (placed_all n s rs)) (append-nil c) (placed-counted n s c bases [] rs known own))
+  counted-joined : (rs with_ends : Records) (x : ℕ × Attempt) → pairs_of with_ends ≡ pairs_of rs → AreCounted names_then [] (pairs_of rs)
+      → AreCounted names_then [] (pairs_of (with_ends ++ (new_record k rs x ∷ [])))
+  counted-joined rs with_ends x same h =
+      (let new : ℕ × ℕ = (x.1.automation, suc (count_by (has_name k (names_then x.1.automation)) rs)) in
+      subst (AreCounted names_then []) (sym (map-append {A = Record} {B = ℕ × ℕ} (λ r. (r.automation, r.number)) with_ends (new_record k rs x ∷ [])))
+      (subst (λ ps. AreCounted names_then [] (ps ++ (new ∷ []))) (sym same)
+      (counted-snoc names_then [] (pairs_of rs) new h (λ i. suc (count-records names_then (names_then x.1.automation) rs i)))))
 
--- ---- the last number
-
-some-more : (n : ℕ) → if_some (suc n) ≡ Some (suc n)
-some-more n = (let e : nat_eq (suc n) 0 ≡ false = grind (arith, nat_tests) in λ i. if e i then None else Some (suc n))
-
-module _ (a : ℕ) where
-  abbrev last_number : Option ℕ → Records → Option ℕ
-  last_number d [] = d
-  last_number d (r ∷ rs) = last_number (if nat_eq r.automation a then Some r.number else d) rs
-
-  last-cons : (x : Record) (xs : Records) → last_of (x ∷ xs) ≡ or_else (last_of xs) (Some x)
-  last-cons x [] = refl
-  last-cons x (y ∷ ys) = (λ i. is-there y ys i)
+  counted-attempts : (rs : Records) (xs : List (ℕ × Attempt)) → AreCounted names_then [] (pairs_of rs) → AreCounted names_then [] (pairs_of (attempt_all k rs xs))
+  counted-attempts rs [] h = h
+  counted-attempts rs (x ∷ xs) h =
+      counted-attempts (if lets_in_after (units k) rs x.1.automation then joined (mode_of (units k) x.1.automation) x.1.automation (last_place k) rs (new_record k rs x) else rs) xs
+      (by (lets_in_after (units k) rs x.1.automation))
     where
-      is-there : (y : Record) (ys : Records) → last_of (y ∷ ys) ≡ or_else (last_of (y ∷ ys)) (Some x)
-      is-there y [] = refl
-      is-there y (z ∷ zs) = is-there z zs
+      one : (b : Bool) → AreCounted names_then [] (pairs_of ((if b then replace_all x.1.automation (last_place k) rs else rs) ++ (new_record k rs x ∷ [])))
+      one true = counted-joined rs (replace_all x.1.automation (last_place k) rs) x (pairs-replaced x.1.automation (last_place k) rs) h
+      one false = counted-joined rs rs x refl h
 
-  number-else : (o : Option Record) (x : Record) → option_map (λ (r : Record). r.number) (or_else o (Some x)) ≡ or_else (option_map (λ (r : Record). r.number) o) (Some x.number)
-  number-else None x = refl
-  number-else (Some r) x = refl
+      by : (b : Bool) → AreCounted names_then [] (pairs_of (if b then joined (mode_of (units k) x.1.automation) x.1.automation (last_place k) rs (new_record k rs x) else rs))
+      by true = one (is_restart_mode (mode_of (units k) x.1.automation))
+      by false = h
 
-  else-else : (o : Option ℕ) (x : ℕ) (d : Option ℕ) → or_else (or_else o (Some x)) d ≡ or_else o (Some x)
-  else-else None x d = refl
-  else-else (Some y) x d = refl
+-- ---- names that are the same
 
-  last-is : (d : Option ℕ) (rs : Records) → or_else (option_map (λ (r : Record). r.number) (last_run a rs)) d ≡ last_number d rs
-  last-is d [] = refl
-  last-is d (r ∷ rs) = by (nat_eq r.automation a) (last-is d rs) (last-is (Some r.number) rs)
-    where
-      by : (b : Bool) → or_else (option_map (λ (r : Record). r.number) (last_run a rs)) d ≡ last_number d rs
-          → or_else (option_map (λ (r : Record). r.number) (last_run a rs)) (Some r.number) ≡ last_number (Some r.number) rs
-          → or_else (option_map (λ (r : Record). r.number) (last_of (if b then r ∷ filter (λ r. nat_eq r.automation a) rs else filter (λ r. nat_eq r.automation a) rs))) d
-          ≡ last_number (if b then Some r.number else d) rs
-      by true same own =
-          (λ i. or_else (option_map (λ (r : Record). r.number) (last-cons r (filter (λ r. nat_eq r.automation a) rs) i)) d)
-          ∙ (λ i. or_else (number-else (last_run a rs) r i) d)
-          ∙ else-else (option_map (λ (r : Record). r.number) (last_run a rs)) r.number d
-          ∙ own
-      by false same own = same
+abbrev Agree : (ℕ → Text) → (ℕ → Text) → Pairs → Type 0
+Agree f g [] = Unit {0}
+Agree f g (p ∷ ps) = (f p.0 ≡ g p.0) × Agree f g ps
 
-  counted-last : (before rs : Records) (d : Option ℕ) → d ≡ if_some (runs_of before a) → Counted before rs → last_number d rs ≡ if_some (runs_of (before ++ rs) a)
-  counted-last before [] d is h = is ∙ (λ i. if_some (runs_of (sym (append-nil before) i) a))
-  counted-last before (r ∷ rs) d is h =
-      counted-last (before ++ (r ∷ [])) rs (if nat_eq r.automation a then Some r.number else d) (by (nat_eq r.automation a) refl) h.1
-      ∙ (λ i. if_some (runs_of (append_assoc before (r ∷ []) rs i) a))
-    where
-      more : runs_of (before ++ (r ∷ [])) a ≡ runs_of before a + cond (nat_eq r.automation a) 1 0
-      more = runs-append before (r ∷ []) a ∙ (λ i. runs_of before a + plain (cond (nat_eq r.automation a) 1 0) i)
+agree-snoc : (f g : ℕ → Text) (ps : Pairs) (p : ℕ × ℕ) → Agree f g ps → f p.0 ≡ g p.0 → Agree f g (ps ++ (p ∷ []))
+agree-snoc f g [] p h e = (e, tt)
+agree-snoc f g (q ∷ ps) p h e = (h.0, agree-snoc f g ps p h.1 e)
 
-      by : (b : Bool) → nat_eq r.automation a ≡ b → (if b then Some r.number else d) ≡ if_some (runs_of (before ++ (r ∷ [])) a)
-      by true e =
-          let plus : runs_of before a + 1 ≡ suc (runs_of before a) = omega arith in
-          let one : runs_of (before ++ (r ∷ [])) a ≡ suc (runs_of before a) = more ∙ (λ i. runs_of before a + cond (e i) 1 0) ∙ plus in
-          let number : r.number ≡ suc (runs_of before a) = h.0 ∙ (λ i. suc (runs_of before (same-number r.automation a e i))) in
-          (λ i. Some (number i)) ∙ sym (some-more (runs_of before a)) ∙ (λ i. if_some (sym one i))
-      by false e =
-          let plus : runs_of before a + 0 ≡ runs_of before a = omega arith in
-          let none : runs_of (before ++ (r ∷ [])) a ≡ runs_of before a = more ∙ (λ i. runs_of before a + cond (e i) 1 0) ∙ plus in
-          is ∙ (λ i. if_some (sym none i))
+count-agree : (f g : ℕ → Text) (name : Text) (ps : Pairs) → Agree f g ps → count_in f name ps ≡ count_in g name ps
+count-agree f g name [] h = refl
+count-agree f g name (p ∷ ps) h =
+    count-cons f name p ps ∙ (λ i. cond (same (h.0 i) name) 1 0 + count-agree f g name ps h.1 i) ∙ sym (count-cons g name p ps)
 
-else-none : {X : Type 0} (o : Option X) → or_else o None ≡ o
-else-none None = refl
-else-none (Some x) = refl
+counted-agree : (f g : ℕ → Text) (before ps : Pairs) → Agree f g before → Agree f g ps → AreCounted f before ps → AreCounted g before ps
+counted-agree f g before [] hb h c = tt
+counted-agree f g before (p ∷ ps) hb h c = (
+  c.0 ∙ (λ i. suc (count_in f (h.0 i) before)) ∙ (λ i. suc (count-agree f g (g p.0) before hb i)),
+  counted-agree f g (before ++ (p ∷ [])) ps (agree-snoc f g before p hb h.0) h.1 c.1,
+)
 
--- LAW: the number of a unit's last record is how many it has
-pub last-number : (rs : Records) (a : ℕ) → Counted [] rs → option_map (λ (r : Record). r.number) (last_run a rs) ≡ if_some (runs_of rs a)
-last-number rs a h = sym (else-none (option_map (λ (r : Record). r.number) (last_run a rs))) ∙ last-is a None rs ∙ counted-last a [] rs None refl h
+agree-known : (s : Journal) (x : Entry) (rs : Records) → AllKnown (length (units s)) rs → Agree (name_of (units s)) (name_of (units (more s x))) (pairs_of rs)
+agree-known s x [] h = tt
+agree-known s x (r ∷ rs) h =
+    ((let e = sym (unit-more s x r.automation h.0) in λ i. option_map_or (λ (y : Automation). y.name) (e i) []), agree-known s x rs h.1)
 
-pub some-or : (n : ℕ) → unwrap_or (if_some n) 0 ≡ n
-some-or zero = refl
-some-or (suc n) = ap (λ o. unwrap_or o 0) (some-more n)
+-- ---- along a journal
+
+counted-step : (before : Journal) (x : Entry) → AreCounted (name_of (units before)) [] (pairs_of (records_of before)) → AreCounted (name_of (units (more before x))) [] (pairs_of (records_of (more before x)))
+counted-step before x h =
+    (let k = more before x in
+    let rs = records_of before in
+    let now : AreCounted (name_of (units k)) [] (pairs_of rs)
+    = counted-agree (name_of (units before)) (name_of (units k)) [] (pairs_of rs) tt (agree-known before x rs (all-known before)) h in
+    let ends : AreCounted (name_of (units k)) [] (pairs_of (own_ends k rs)) = subst (AreCounted (name_of (units k)) []) (sym (pairs-ends (spots k) k rs)) now in
+    subst (λ l. AreCounted (name_of (units k)) [] (pairs_of l)) (sym (records-more before x))
+    (subst (AreCounted (name_of (units k)) []) (sym (pairs-settled k [] (attempt_all k (own_ends k rs) (passing k))))
+    (counted-attempts k (own_ends k rs) (passing k) ends)))
+
+counted-along : (before xs : Journal) → AreCounted (name_of (units before)) [] (pairs_of (records_of before)) → AreCounted (name_of (units (before ++ xs))) [] (pairs_of (records_of (before ++ xs)))
+counted-along before [] h = subst (λ l. AreCounted (name_of (units l)) [] (pairs_of (records_of l))) (sym (append-nil before)) h
+counted-along before (x ∷ xs) h =
+    subst (λ l. AreCounted (name_of (units l)) [] (pairs_of (records_of l))) (append_assoc before (x ∷ []) xs) (counted-along (more before x) xs (counted-step before x h))
+
+counted-all : (s : Journal) → AreCounted (name_of (units s)) [] (pairs_of (records_of s))
+unfolding records_of
+counted-all s = counted-along [] s tt
+
+counted-records : (s : Journal) (before rs : Records) → AreCounted (name_of (units s)) (pairs_of before) (pairs_of rs) → Counted s before rs
+counted-records s before [] h = tt
+counted-records s before (r ∷ rs) h = (
+  h.0 ∙ (λ i. suc (sym (count-records (name_of (units s)) (name_of (units s) r.automation) before) i)),
+  counted-records s (before ++ (r ∷ [])) rs
+      (subst (λ ps. AreCounted (name_of (units s)) ps (pairs_of rs)) (sym (map-append {A = Record} {B = ℕ × ℕ} (λ r. (r.automation, r.number)) before (r ∷ []))) h.1),
+)
+
+-- LAW: the runs of a segment are numbered by the names of their units
+pub counted-own : (s : Journal) → Counted s [] (records_of s)
+counted-own s = counted-records s [] (records_of s) (counted-all s)

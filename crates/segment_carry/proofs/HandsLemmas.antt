@@ -1,41 +1,27 @@
 -- What the last segment of a journal took over, and its entries behind its opening, tell of the whole journal.
-use Rattle.std.proofs.Common.{◌≡◌, ◌∙◌, ap, refl, sym, subst, ℕ, zero, suc, ◌+◌, ◌<◌, Bool, true, false, cond, Option, List, [], ◌∷◌, ◌++◌, length, ◌||◌, arith, append_assoc, length-append}
-use Rattle.std.specs.Prelude.{Some, None, count_by, is_some, filter, filter_map, map, nat_eq, option_map, replicate, slice_get, slice_index, unwrap_or}
-use Rattle.std.specs.List.{enumerate_from, list_any}
-use Rattle.std.specs.Option.{option_map_or}
+use Rattle.std.proofs.Common.{◌≡◌, ◌∙◌, ap, refl, sym, subst, ℕ, zero, suc, ◌+◌, ◌<◌, Bool, true, false, cond, [], ◌∷◌, ◌++◌, length, ◌||◌, arith, append_assoc, length-append}
+use Rattle.std.specs.Prelude.{None, count_by, is_some, filter, map, nat_eq, replicate, slice_index}
+use Rattle.std.specs.List.{list_any}
 use Rattle.std.proofs.lemmas.List.Sums.{sum_by-append}
 use Rattle.std.proofs.lemmas.List.Folds.{list_any-append}
 use Rattle.std.proofs.lemmas.Bool.Decides.{nat_tests}
-use Rattle.ha_config.specs.declared.config.Automation.{Automation}
-use Rattle.ha_config.specs.Words.{Text, EachAfter, numbers_from, up_to}
-use Rattle.ha_config.specs.Names.{name_of, names_of}
-use Rattle.ha_config.specs.Units.{units_of}
-use Rattle.ha_config.specs.ValueFacts.{all_distinct}
+use Rattle.ha_config.specs.Sound.{are_in_name_order}
+use Rattle.ha_config.specs.Words.{EachAfter, numbers_from, up_to}
 use Rattle.ha_config.proofs.ListLemmas.{append-nil}
 use Rattle.ha_journal.specs.declared.entry.Entry.{Entry}
 use Rattle.ha_journal.specs.declared.entry.Entry.TheVariants.{Boot, Line, Step, Again}
 use Rattle.ha_journal.specs.Entries.{Reopening, again_in, is_again}
-use Rattle.ha_journal.specs.Journal.{Journal, HasEntry, more, units}
+use Rattle.ha_journal.specs.Journal.{Journal, HasEntry, more}
 use Rattle.ha_journal.specs.Journal as one
-use Rattle.ha_journal.proofs.MoreLemmas.{has-entry, units-more}
+use Rattle.ha_journal.proofs.MoreLemmas.{has-entry}
 use Rattle.ha_laws.proofs.PrefixLaws.{has-more}
-use Rattle.ha_model.specs.declared.record.Record.{Record}
 use Rattle.ha_model.specs.Lawful.{is_line_of, shuts}
-use Rattle.ha_model.specs.Records as all
-use Rattle.ha_model.proofs.KnownLaws.{all-known}
-use Rattle.ha_whole.specs.Lasts.{last_run}
-use Rattle.ha_whole.specs.Named.{in_name_order, named}
-use Rattle.ha_whole.specs.Segments.{alone, carried_number, cut, entries_in, front, reopened, segment, segments}
-use Rattle.ha_whole.specs.Whole.{AreEntries, IsBehind, IsFirst, again_of, carry_of, numbers_of, records_from, records_of}
-use Rattle.segment_runs.specs.Segment.{runs_of}
-use Rattle.whole_laws.proofs.CutLemmas.{IsCut, closed-again, closed-on, cut-behind, cut-first, entries-snoc, records-cut, segment-again, segment-on, units-are}
-use Rattle.whole_laws.proofs.NamedLemmas.{named-in-order}
-use Rattle.segment_carry.specs.ByName.{if_some}
-use Rattle.segment_carry.specs.Hands.{Counted, Hands, closed_of}
+use Rattle.ha_whole.specs.Segments.{alone, cut, entries_in, reopened, segment, segments}
+use Rattle.ha_whole.specs.Whole.{AreEntries, IsBehind, IsFirst, again_of, carry_of, numbers_carried}
+use Rattle.whole_laws.proofs.CutLemmas.{IsCut, closed-again, closed-on, cut-behind, cut-first, entries-snoc, segment-again, segment-on}
+use Rattle.segment_carry.specs.Hands.{Hands}
 use Rattle.segment_carry.specs.Sources.{carry_in}
-use Rattle.segment_carry.proofs.ByNameLemmas.{given}
-use Rattle.segment_carry.proofs.ListedLemmas.{listed-apart, listed-found}
-use Rattle.segment_carry.proofs.CountedLemmas.{counted-own, counted-placed, last-number, some-or}
+use Rattle.segment_carry.proofs.LastLemmas.{ordered-numbers}
 
 -- ---- lists of numbers
 
@@ -123,8 +109,8 @@ hands-first (Boot text config stored start zone carry) h = record {
   lines = λ s lt. (let none : slice_index carry.lines s ≡ 0 = ap (λ l. slice_index l s) h.lines ∙ no-lines 16 s in omega (arith, none));
   shut = λ s lt. (λ i. list_any (nat_eq s) (sym h.shut i) || false);
   agains = refl;
-  counted = tt;
-  numbers = λ a lt. (λ i. unwrap_or (named (name_of (units_of config) a) (h.numbers i)) 0);
+  carried = refl;
+  ordered = (λ i. are_in_name_order (h.numbers i));
 }
 hands-first (Line source number cmd) h = absurd h
 hands-first (Step worker serial branch item) h = absurd h
@@ -132,15 +118,14 @@ hands-first (Again number start stored carry) h = absurd h
 
 -- ---- behind an entry that opens no segment
 
-carried-more : (s : Journal) (x : Entry) (name : Text) → HasEntry s → carried_number (more s x) name ≡ carried_number s name
-carried-more [] x name h = absurd h
-carried-more (e ∷ es) x name h = refl
+carried-more : (s : Journal) (x : Entry) → HasEntry s → numbers_carried (more s x) ≡ numbers_carried s
+carried-more [] x h = absurd h
+carried-more (e ∷ es) x h = refl
 
 hands-on : (k : Journal) (x : Entry) → IsCut k → HasEntry k → again_in x ≡ None → Hands k → Hands (more k x)
 hands-on k x c has none h =
     let s = segment k in
     let closed = closed-on k x none in
-    let records : closed_of (more k x) ≡ closed_of k = (λ i. records_from 0 (closed i)) in
     record {
       before = h.before;
       opening = h.opening;
@@ -157,66 +142,26 @@ hands-on k x c has none h =
       agains =
           let plus : count_by is_again k + 0 ≡ length (cut k).closed = omega (arith, h.agains) in
           count-more is_again k x ∙ (λ i. count_by is_again k + cond (is_some (none i)) 1 0) ∙ plus ∙ (λ i. length (sym closed i));
-      counted = subst (Counted []) (sym records) h.counted;
-      numbers = λ a lt.
-          let same : units k ≡ units (more k x) = units-more k x has in
-          (λ i. carried_number (segment-on k x none i) (name_of (sym same i) a))
-          ∙ carried-more s (alone s x) (name_of (units k) a) (has-entry s c.alone)
-          ∙ h.numbers a (omega (arith, lt, ap length same))
-          ∙ (λ i. runs_of (sym records i) a);
+      carried = (λ i. numbers_carried (segment-on k x none i)) ∙ carried-more s (alone s x) (has-entry s c.alone) ∙ h.carried;
+      ordered = h.ordered;
     }
 
 -- ---- behind the Again of a journal
 
--- what a segment opened so takes over of a unit's runs
-reopened-number : (s : Journal) (a : Reopening) (name : Text) → one.IsJournal s → carried_number (reopened s a) name ≡ unwrap_or (named name a.carry.numbers) 0
-reopened-number [] a name h = absurd h
-reopened-number (Boot text config stored start zone carry ∷ es) a name h = refl
-reopened-number (Line source number cmd ∷ es) a name h = absurd h.0
-reopened-number (Step worker serial branch item ∷ es) a name h = absurd h.0
-reopened-number (Again number start stored carry ∷ es) a name h = absurd h.0
+-- what a segment opened so takes over of runs
+pub reopened-numbers : (s : Journal) (a : Reopening) → one.IsJournal s → numbers_carried (reopened s a) ≡ a.carry.numbers
+reopened-numbers [] a h = absurd h
+reopened-numbers (Boot text config stored start zone carry ∷ es) a h = refl
+reopened-numbers (Line source number cmd ∷ es) a h = absurd h.0
+reopened-numbers (Step worker serial branch item ∷ es) a h = absurd h.0
+reopened-numbers (Again number start stored carry ∷ es) a h = absurd h.0
 
-named-by : (name : Text) (o : Option Record) → option_map (λ (r : Record). (name, r.number)) o ≡ option_map {T = ℕ} {U = Text × ℕ} (λ v. (name, v)) (option_map (λ (r : Record). r.number) o)
-named-by name None = refl
-named-by name (Some r) = refl
-
--- the numbers that are carried are how many runs each unit has had
-pub numbers-are : (k : Journal) → Counted [] (records_of k) → numbers_of k ≡ filter_map (given (λ a. if_some (runs_of (records_of k) a))) (enumerate_from 0 (units k))
-numbers-are k h =
-    (λ i. filter_map (λ (p : ℕ × Automation). (named-by p.1.name (last_run p.0 (records_of k)) ∙ (λ j. option_map {T = ℕ} {U = Text × ℕ} (λ v. (p.1.name, v)) (last-number (records_of k) p.0 h j))) i) (enumerate_from 0 (units k)))
-
-get-within : {X : Type 0} (xs : List X) (i : ℕ) → i < length xs → (x : X) × (slice_get xs i ≡ Some x)
-get-within [] i lt = absurd (omega (arith, lt))
-get-within (x ∷ xs) zero lt = (x, refl)
-get-within (x ∷ xs) (suc i) lt = get-within xs i (omega (arith, lt))
-
--- what is found under the name of one of the automations, whose names differ, in the order of their names
-pub found-in-order : {X : Type 0} (value : ℕ → Option X) (all : List Automation) (a : ℕ) → all_distinct (names_of all) ≡ true → a < length all
-    → named {X = X} (name_of all a) (in_name_order {X = X} (filter_map (given value) (enumerate_from 0 all))) ≡ value a
-found-in-order {X} value all a d lt =
-    let one = get-within all a lt in
-    let name : name_of all a ≡ one.0.name = (λ i. option_map_or (λ (x : Automation). x.name) (one.1 i) []) in
-    (λ i. named {X = X} (name i) (in_name_order {X = X} (filter_map (given value) (enumerate_from 0 all))))
-    ∙ named-in-order (filter_map (given value) (enumerate_from 0 all)) one.0.name (listed-apart value all d)
-    ∙ listed-found value all a one.0 d one.1
-
--- the records of the whole journal, by their numbers
-pub counted-whole : (k : Journal) → IsCut k → Hands k → Counted [] (records_of k)
-counted-whole k c h =
-    let s = segment k in
-    let bases : (a : ℕ) → a < length (units s) → carried_number s (name_of (units s) a) ≡ runs_of (closed_of k) a
-    = λ a lt. (λ i. carried_number s (name_of (units-are k c i) a)) ∙ h.numbers a (omega (arith, lt, ap length (units-are k c))) in
-    subst (Counted []) (sym (records-cut k))
-    (counted-placed (front k) s (closed_of k) bases (all.records_of s) (all-known s) (counted-own s) h.counted)
-
-pub hands-again : (k : Journal) → IsCut k → HasEntry k → all_distinct (names_of (units k)) ≡ true → Hands k → Hands (more k (again_of k))
-hands-again k c has distinct h =
+pub hands-again : (k : Journal) → IsCut k → Hands k → Hands (more k (again_of k))
+hands-again k c h =
     let x = again_of k in
     let s = segment k in
     let a : Reopening = record { number = _; start = _; stored = _; carry = carry_of k } in
-    let whole = counted-whole k c h in
     let closed : (cut (more k x)).closed ≡ segments k = closed-again k x a refl in
-    let records : closed_of (more k x) ≡ records_of k = (λ i. records_from 0 (closed i)) in
     record {
       before = k;
       opening = x;
@@ -239,39 +184,28 @@ hands-again k c has distinct h =
           let all = ap length closed in
           let more_closed = length-append (cut k).closed (s ∷ []) in
           omega (arith, old, one, all, more_closed);
-      counted = subst (Counted []) (sym records) whole;
-      numbers = λ q lt.
-          let same : units k ≡ units (more k x) = units-more k x has in
-          let within : q < length (units k) = omega (arith, lt, ap length same) in
-          let name = name_of (units k) q in
-          (λ i. carried_number (segment-again k x a refl i) (name_of (sym same i) q))
-          ∙ reopened-number s a name c.alone
-          ∙ (λ i. unwrap_or (named name (in_name_order (numbers-are k whole i))) 0)
-          ∙ (λ i. unwrap_or (found-in-order (λ b. if_some (runs_of (records_of k) b)) (units k) q distinct within i) 0)
-          ∙ some-or (runs_of (records_of k) q)
-          ∙ (λ i. runs_of (sym records i) q);
+      carried = (λ i. numbers_carried (segment-again k x a refl i)) ∙ reopened-numbers s a c.alone;
+      ordered = ordered-numbers s;
     }
 
 -- ---- along a journal
 
-hands-behind : (k : Journal) (x : Entry) → IsCut k → HasEntry k → all_distinct (names_of (units k)) ≡ true → IsBehind k x → Hands k → Hands (more k x)
-hands-behind k (Boot text config stored start zone carry) c has d b h = absurd b
-hands-behind k (Line source number cmd) c has d b h = hands-on k (Line source number cmd) c has refl h
-hands-behind k (Step worker serial branch item) c has d b h = hands-on k (Step worker serial branch item) c has refl h
-hands-behind k (Again number start stored carry) c has d b h = subst (λ y. Hands (more k y)) (sym b.1) (hands-again k c has d h)
+hands-behind : (k : Journal) (x : Entry) → IsCut k → HasEntry k → IsBehind k x → Hands k → Hands (more k x)
+hands-behind k (Boot text config stored start zone carry) c has b h = absurd b
+hands-behind k (Line source number cmd) c has b h = hands-on k (Line source number cmd) c has refl h
+hands-behind k (Step worker serial branch item) c has b h = hands-on k (Step worker serial branch item) c has refl h
+hands-behind k (Again number start stored carry) c has b h = subst (λ y. Hands (more k y)) (sym b.1) (hands-again k c h)
 
-hands-from : (before xs : Journal) → IsCut before → HasEntry before → all_distinct (names_of (units before)) ≡ true → EachAfter IsBehind before xs → Hands before → Hands (before ++ xs)
-hands-from before [] c has d b h = subst Hands (sym (append-nil before)) h
-hands-from before (x ∷ xs) c has d b h =
+hands-from : (before xs : Journal) → IsCut before → HasEntry before → EachAfter IsBehind before xs → Hands before → Hands (before ++ xs)
+hands-from before [] c has b h = subst Hands (sym (append-nil before)) h
+hands-from before (x ∷ xs) c has b h =
     subst Hands (append_assoc before (x ∷ []) xs)
-    (hands-from (more before x) xs (cut-behind before x c has b.0) (has-more before x has)
-    (subst (λ l. all_distinct (names_of l) ≡ true) (units-more before x has) d)
-    b.1 (hands-behind before x c has d b.0 h))
+    (hands-from (more before x) xs (cut-behind before x c has b.0) (has-more before x has) b.1 (hands-behind before x c has b.0 h))
 
 -- THE LAW: the opening of the last segment, and the entries behind it, tell of the whole journal
-pub hands-of : (k : Journal) → AreEntries k → all_distinct (names_of (units k)) ≡ true → Hands k
-hands-of [] h d = absurd h
-hands-of (e ∷ es) h d = hands-from (e ∷ []) es (cut-first e h.0) tt d h.1 (hands-first e h.0)
+pub hands-of : (k : Journal) → AreEntries k → Hands k
+hands-of [] h = absurd h
+hands-of (e ∷ es) h = hands-from (e ∷ []) es (cut-first e h.0) tt h.1 (hands-first e h.0)
 
 pub entries-have : (k : Journal) → AreEntries k → HasEntry k
 entries-have [] h = absurd h

@@ -1,8 +1,11 @@
+pub mod AgainLemmas
 pub mod ByNameLemmas
-pub mod ListedLemmas
 pub mod CountedLemmas
 pub mod HandsLemmas
-pub mod SourceLemmas
-pub mod AgainLemmas
+pub mod JoinLemmas
+pub mod LastLemmas
 pub mod LawLemmas
+pub mod ListedLemmas
 pub mod MomentLemmas
+pub mod NumberLemmas
+pub mod SourceLemmas

@@ -1,24 +1,28 @@
 -- When automations last triggered, in the order of their names: what the store keeps of it.
-use Rattle.std.proofs.Common.{◌≡◌, ◌∙◌, refl, sym, ap, ℕ, ◌+◌, suc, ◌<◌, Bool, true, false, Option, List, [], ◌∷◌, length, map, ◌||◌, arith, true≢false}
+use Rattle.std.proofs.Common.{◌≡◌, ◌∙◌, refl, sym, ap, ℕ, zero, ◌+◌, suc, ◌<◌, Bool, true, false, Option, List, [], ◌∷◌, length, map, ◌||◌, arith, true≢false}
 use Rattle.std.specs.Prelude.{Some, None, filter_map, nat_le, not, option_map, slice_get, unwrap_or, if◌then◌else◌, ◌&&◌}
 use Rattle.std.specs.List.{cons_option, enumerate_from, list_all, list_any}
 use Rattle.std.specs.Option.{option_map_or}
+use Rattle.std.proofs.lemmas.Option.{slice_get-map}
 use Rattle.ha_value.specs.Ids.{is_name}
 use Rattle.ha_clock.specs.Local.{last_moment}
 use Rattle.ha_config.specs.declared.config.Automation.{Automation}
 use Rattle.ha_config.specs.StoreText.{in_name_order, placed_by_name}
-use Rattle.ha_config.specs.Words.{Text, comes_before, same, up_to}
+use Rattle.ha_config.specs.Words.{Text, comes_before, same}
 use Rattle.ha_config.specs.ValueFacts.{all_distinct, keys_of}
 use Rattle.ha_config.proofs.EqualLemmas.{and_left, and_right}
-use Rattle.ha_journal.specs.Journal.{Journal, automations}
+use Rattle.ha_journal.specs.Journal.{Journal, automations, in_force}
+use Rattle.ha_journal.proofs.ForceLaws.{in-force-are}
 use Rattle.ha_whole.specs.Lasts.{last_triggered, lasts}
+use Rattle.ha_whole.specs.Named.{named}
 use Rattle.store_text.specs.Store.{AreMoments}
 use Rattle.store_text.proofs.OrderLemmas.{all-in_name_order}
-use Rattle.ha_config.specs.Names.{names_of}
+use Rattle.ha_config.specs.Names.{name_of, names_of}
 use Rattle.switch_book.proofs.StoredLaws.{ordered-in_name_order}
 use Rattle.segment_carry.specs.ByName.{by_name, listed}
-use Rattle.segment_carry.proofs.AgainLemmas.{given-same, made-at}
-use Rattle.segment_carry.proofs.ByNameLemmas.{given, listed-by-name}
+use Rattle.whole_laws.proofs.NamedLemmas.{named-in-order}
+use Rattle.segment_carry.proofs.ByNameLemmas.{given, given-each, listed-by-name}
+use Rattle.segment_carry.proofs.ListedLemmas.{listed-apart, listed-found}
 
 -- ---- what is listed of automations
 
@@ -96,24 +100,65 @@ pairs-in-order : {X : Type 0} (test : Text × X → Bool) (ps : List (Text × X)
 pairs-in-order test [] = refl
 pairs-in-order test (p ∷ ps) = pairs-placed test p (in_name_order ps) ∙ ap (λ c. test p && c) (pairs-in-order test ps)
 
+-- ---- when the automations in force last triggered
+
+got-name : (f : Text → Option ℕ) (all : List Automation) (ls : List (Option ℕ)) → ls ≡ map {A = Automation} {B = Option ℕ} (λ x. f x.name) all
+    → (i : ℕ) (x : Automation) → slice_get all i ≡ Some x → unwrap_or (slice_get ls i) None ≡ f x.name
+got-name f all ls is i x at =
+    (λ k. unwrap_or (slice_get (is k) i) None)
+    ∙ ap (λ o. unwrap_or o None) (slice_get-map {A = Automation} {B = Option ℕ} (λ x. f x.name) all i)
+    ∙ (λ k. unwrap_or (option_map {T = Automation} {U = Option ℕ} (λ x. f x.name) (at k)) None)
+
+-- of the automations in force what each has, by their places and without their numbers
+lasts-placed : (s : Journal) (f : ℕ → Option ℕ) → ((i : ℕ) (x : Automation) → slice_get (automations s) i ≡ Some x → f i ≡ last_triggered s x.name)
+    → filter_map (given f) (enumerate_from 0 (automations s)) ≡ lasts s
+lasts-placed s f at =
+    (let are = in-force-are s in
+    (λ i. filter_map (given f) (enumerate_from 0 (sym are i)))
+    ∙ given-each {Y = ℕ × Automation} {X = ℕ} (λ p. p.1) (λ p. last_triggered s p.1.name) f 0 (in_force s)
+    (λ i p is. (let e : 0 + i ≡ i = omega arith in
+    ap f e ∙ at i p.1 ((λ k. slice_get (sym are k) i) ∙ slice_get-map {A = ℕ × Automation} {B = Automation} (λ p. p.1) (in_force s) i ∙ ap (option_map {T = ℕ × Automation} {U = Automation} (λ p. p.1)) is))))
+
 -- LAW: the moments that the engine has by automation, listed by name, are those that the store keeps
-pub moments-listed : (s : Journal) (ls : List (Option ℕ)) → ls ≡ map (last_triggered s) (up_to (length (automations s)))
+pub moments-listed : (s : Journal) (ls : List (Option ℕ)) → ls ≡ map {A = Automation} {B = Option ℕ} (λ x. last_triggered s x.name) (automations s)
     → listed (names_of (automations s)) (λ a. unwrap_or (slice_get ls a) None) (by_name (names_of (automations s))) ≡ in_name_order (lasts s)
 moments-listed s ls is =
-    let all : List Automation = automations s in
-    let at : (a : ℕ) → a < length all → unwrap_or (slice_get ls a) None ≡ last_triggered s a
-    = λ a lt. (let e : 0 + a ≡ a = omega arith in (λ i. unwrap_or (slice_get (is i) a) None) ∙ (λ i. unwrap_or (made-at (last_triggered s) 0 (length all) a lt i) None) ∙ ap (last_triggered s) e) in
-    listed-by-name all (λ a. unwrap_or (slice_get ls a) None)
-    ∙ ap in_name_order (given-same (λ a. unwrap_or (slice_get ls a) None) (last_triggered s) 0 all (λ i lt. at (0 + i) (omega (arith, lt))))
+    listed-by-name (automations s) (λ a. unwrap_or (slice_get ls a) None)
+    ∙ ap in_name_order (lasts-placed s (λ a. unwrap_or (slice_get ls a) None) (got-name (last_triggered s) (automations s) ls is))
+
+lasts-at : (s : Journal) → filter_map (given (λ a. last_triggered s (name_of (automations s) a))) (enumerate_from 0 (automations s)) ≡ lasts s
+lasts-at s = lasts-placed s (λ a. last_triggered s (name_of (automations s) a)) (λ i x is. (λ k. last_triggered s (option_map_or (λ (y : Automation). y.name) (is k) [])))
 
 -- LAW: and they can be stored
 pub moments-storable : (s : Journal) → all_distinct (names_of (automations s)) ≡ true → list_all is_name (names_of (automations s)) ≡ true
-    → ((a : ℕ) → a < length (automations s) → option_map_or (λ at. nat_le at last_moment) (last_triggered s a) true ≡ true) → AreMoments (in_name_order (lasts s))
-moments-storable s distinct ids in_time = record {
-  ordered = ordered-in_name_order (lasts s) (listed-distinct (last_triggered s) 0 (automations s) distinct);
-  ids = all-in_name_order is_name (lasts s) ∙ listed-all is_name (last_triggered s) 0 (automations s) ids;
-  in_time =
-      pairs-in-order (λ (p : Text × ℕ). nat_le p.1 last_moment) (lasts s)
-      ∙ listed-values (λ at. nat_le at last_moment) (last_triggered s) 0 (automations s)
-      (λ i lt. (let e : 0 + i ≡ i = omega arith in (λ j. option_map_or (λ at. nat_le at last_moment) (last_triggered s (e j)) true) ∙ in_time i lt));
-}
+    → ((a : ℕ) → a < length (automations s) → option_map_or (λ at. nat_le at last_moment) (last_triggered s (name_of (automations s) a)) true ≡ true) → AreMoments (in_name_order (lasts s))
+moments-storable s distinct ids in_time =
+    let f : ℕ → Option ℕ = λ a. last_triggered s (name_of (automations s) a) in
+    record {
+      ordered = ordered-in_name_order (lasts s) ((λ i. all_distinct (keys_of (sym (lasts-at s) i))) ∙ listed-distinct f 0 (automations s) distinct);
+      ids = all-in_name_order is_name (lasts s) ∙ (λ i. list_all is_name (keys_of (sym (lasts-at s) i))) ∙ listed-all is_name f 0 (automations s) ids;
+      in_time =
+          pairs-in-order (λ (p : Text × ℕ). nat_le p.1 last_moment) (lasts s)
+          ∙ (λ i. list_all (λ (p : Text × ℕ). nat_le p.1 last_moment) (sym (lasts-at s) i))
+          ∙ listed-values (λ at. nat_le at last_moment) f 0 (automations s)
+          (λ i lt. (let e : 0 + i ≡ i = omega arith in (λ j. option_map_or (λ at. nat_le at last_moment) (f (e j)) true) ∙ in_time i lt));
+    }
+
+-- ---- found again
+
+get-within : {X : Type 0} (xs : List X) (i : ℕ) → i < length xs → (x : X) × (slice_get xs i ≡ Some x)
+get-within [] i lt = absurd (omega (arith, lt))
+get-within (x ∷ xs) zero lt = (x, refl)
+get-within (x ∷ xs) (suc i) lt = get-within xs i (omega (arith, lt))
+
+-- LAW: what is found under the name of an automation, in the order of the names, is when it last triggered
+pub found-moments : (s : Journal) → all_distinct (names_of (automations s)) ≡ true → (a : ℕ) → a < length (automations s)
+    → named (name_of (automations s) a) (in_name_order (lasts s)) ≡ last_triggered s (name_of (automations s) a)
+found-moments s d a lt =
+    let all : List Automation = automations s in
+    let f : ℕ → Option ℕ = λ b. last_triggered s (name_of (automations s) b) in
+    let one = get-within all a lt in
+    let name : name_of all a ≡ one.0.name = (λ i. option_map_or (λ (x : Automation). x.name) (one.1 i) []) in
+    (λ i. named (name i) (in_name_order (sym (lasts-at s) i)))
+    ∙ named-in-order (filter_map (given f) (enumerate_from 0 all)) one.0.name (listed-apart f all d)
+    ∙ listed-found f all a one.0 d one.1

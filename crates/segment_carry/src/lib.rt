@@ -4,8 +4,9 @@
 mod closing;
 pub mod laws;
 mod lists;
+mod numbers;
 mod order;
 mod sources;
 
 pub use closing::{Closing, again};
-pub use lists::{lasts, names, rule_moments, rule_order};
+pub use lists::{lasts, names, rule_moments, rule_names, rule_order, switches};

@@ -1,19 +1,17 @@
 //! What is listed of units and automations by their names.
-ghost use Rattle.std.specs.Prelude.{◌≡◌, ◌++◌, ◌∷◌, [], ◌≤◌, ℕ, IfOk, OnOk, None, Some, length, map, nat_eq, slice_get, unwrap_or, if◌then◌else◌};
+ghost use Rattle.std.specs.Prelude.{◌≡◌, ◌++◌, ◌∷◌, [], ◌≤◌, ℕ, IfOk, OnOk, None, Some, length, map, slice_get, unwrap_or};
 ghost use Rattle.std.specs.Option.{option_map_or};
 ghost use Rattle.ha_config.specs.Names.{name_in, name_of, names_of};
 ghost use Rattle.ha_config.specs.Units.{units_of};
 ghost use Rattle.ha_config.specs.Words.{up_to};
 ghost use Rattle.ha_whole.specs.Named.{named};
-ghost use Rattle.segment_runs.specs.Segment.{all_of, runs_of};
-ghost use Rattle.switch_book.specs.Book.{flags};
-ghost use Rattle.segment_carry.specs.ByName.{if_some, listed, rule_order};
+ghost use Rattle.segment_carry.specs.ByName.{listed, rule_order};
+ghost use Rattle.segment_carry.specs.Closing.{flag_in};
 
 use crate::order::by_name;
 use ha_clock::Moment;
 use ha_config::{Automation, Config, run_name, same_text};
 use ha_value::{Many, Plain, Word};
-use segment_runs::SegmentRuns;
 use std::alloc::{AllocError, Global};
 use switch_book::Switches;
 
@@ -69,43 +67,19 @@ fn put<T: Drop>(
     }
 }
 
-/// The switches of these automations, in their order.
+/// The switches of these automations, which are named by their places, in this order of them.
 pub fn switches(
     alloc: Global,
     names: &[Word],
     order: &[u32],
     switches: &Switches,
 ) -> Result<Many<(Word, bool)>, AllocError>
-    ensures { IfOk result (λ made. made ≡ listed names.now (λ a. slice_get (flags switches.now) a) order.now) }
+    ensures { IfOk result (λ made. made ≡ listed names.now (flag_in switches.now) order.now) }
 {
     let mut made = Many::with_room(alloc, order.len())?;
     'chosen: for at in order {
-        let on = switches.is_on(*at);
+        let on = switches.at(*at as usize);
         put(alloc, &mut made, names, *at, on)?;
-    }
-    Ok(made)
-}
-
-/// A number that is not 0.
-fn some_number(number: u64) -> Option<u64>
-    ensures { result ≡ if_some number }
-{
-    if number == 0 { None } else { Some(number) }
-}
-
-/// How many runs each of these units has had, in their order; none where it had none.
-pub fn numbers(
-    alloc: Global,
-    names: &[Word],
-    order: &[u32],
-    runs: &SegmentRuns,
-) -> Result<Many<(Word, u64)>, AllocError>
-    ensures { IfOk result (λ made. made ≡ listed names.now (λ a. if_some (runs_of (all_of runs.now.closed runs.now.list) a)) order.now) }
-{
-    let mut made = Many::make(alloc);
-    'chosen: for at in order {
-        let number = some_number(runs.made(*at));
-        put(alloc, &mut made, names, *at, number)?;
     }
     Ok(made)
 }
@@ -138,7 +112,7 @@ pub fn moments(
 }
 
 /// The names of the automations.
-fn rule_names(alloc: Global, automations: &[Automation]) -> Result<Many<Word>, AllocError>
+pub fn rule_names(alloc: Global, automations: &[Automation]) -> Result<Many<Word>, AllocError>
     ensures { IfOk result (λ names. names ≡ names_of automations.now) }
 {
     let mut names = Many::with_room(alloc, automations.len())?;

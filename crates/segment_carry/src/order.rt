@@ -25,7 +25,7 @@ fn comes_before(names: &[Word], first: u32, second: u32) -> bool
 }
 
 /// Whether a text stands before another in byte order.
-fn is_less(left: &[u8], right: &[u8]) -> bool
+pub fn is_less(left: &[u8], right: &[u8]) -> bool
     ensures { result ≡ comes_lem left.now right.now }
 {
     left < right

@@ -1,5 +1,5 @@
 -- A table that stands over one list of all records, call by call.
-use Rattle.std.proofs.Common.{◌≡◌, ℕ, zero, suc, ◌+◌, ◌-◌, ◌<◌, ◌≤◌, ◌^◌, [], ◌∷◌, ◌++◌, length, refl, sym, ap, subst, ◌∙◌, arith, Option, length-append}
+use Rattle.std.proofs.Common.{◌≡◌, ℕ, zero, suc, ◌+◌, ◌-◌, ◌<◌, ◌≤◌, ◌^◌, List, [], ◌∷◌, ◌++◌, length, refl, sym, ap, subst, ◌∙◌, arith, Option, length-append}
 use Rattle.std.specs.Prelude.{Some, drop, map, option_map, slice_get, take}
 use Rattle.std.proofs.lemmas.Option.{slice_get-map}
 use Rattle.ha_config.specs.Words.{Pairs}
@@ -16,7 +16,7 @@ use Rattle.run_modes.proofs.StopLemmas.{called-numbered}
 use Rattle.run_modes.proofs.TableLemmas.{read-within, serial-at}
 use Rattle.segment_runs.specs.Goes.{GoesOn, SerialsTo, moved, moved_all}
 use Rattle.segment_runs.proofs.TableShift.{attempted-behind, called-behind, ended-behind, live-behind, stopped-behind}
-use Rattle.segment_runs.specs.Segment.{Closed, Splits, StandsOver, all_of, closed_in, own_in, runs_of, taken_back}
+use Rattle.segment_runs.specs.Segment.{Closed, Splits, StandsOver, all_of, closed_in, number_at, own_in, taken_back}
 use Rattle.segment_runs.specs.Told.{lowered}
 use Rattle.segment_runs.proofs.MovedLemmas.{admission-behind, back-all, back-serial, begun-behind, length-moved, own-numbered}
 
@@ -53,13 +53,12 @@ module _ (rs : Records) (c : Closed) (own : Records) (s : Splits rs c own) where
   base = length c.records
 
   abbrev num : ℕ → ℕ
-  num = runs_of c.records
+  num = number_at c.numbers
 
-  goes : GoesOn base num c.records
+  goes : GoesOn base c.records
   goes = record {
     ended = s.ended;
     serials = refl;
-    numbers = λ a. refl;
   }
 
   numbered-all : AreNumbered 0 (all_of c own)
@@ -72,12 +71,12 @@ module _ (rs : Records) (c : Closed) (own : Records) (s : Splits rs c own) where
   numbered-own =
       own-numbered c.entries base num 0 own (let e : 0 + base ≡ base + 0 = omega arith in subst (λ m. AreNumbered m (moved_all c.entries base num own)) e (numbered-behind 0 c.records (moved_all c.entries base num own) numbered-all))
 
-  pub closed-seen : closed_in c.entries base rs ≡ c
-  closed-seen = (λ i. record { records = (ap (take base) s.is ∙ take-all c.records (moved_all c.entries base num own)) i; entries = c.entries })
+  pub closed-seen : closed_in c.entries base c.numbers rs ≡ c
+  closed-seen = (λ i. record { records = (ap (take base) s.is ∙ take-all c.records (moved_all c.entries base num own)) i; entries = c.entries; numbers = c.numbers })
 
-  pub own-seen : own_in c.entries base rs ≡ own
+  pub own-seen : own_in c.entries base c.numbers rs ≡ own
   own-seen =
-      (λ i. map {A = Record} {B = Record} (taken_back c.entries base (runs_of ((closed-seen i).records))) ((ap (drop base) s.is ∙ drop-all c.records (moved_all c.entries base num own)) i))
+      (λ i. map {A = Record} {B = Record} (taken_back c.entries base num) ((ap (drop base) s.is ∙ drop-all c.records (moved_all c.entries base num own)) i))
       ∙ back-all c.entries base num own
 
   pub length-all : length rs ≡ base + length own
@@ -127,11 +126,12 @@ module _ (rs : Records) (c : Closed) (own : Records) (s : Splits rs c own) where
     numbered = stopped-numbered which (c.entries + place) cause rs s.numbered;
   }
 
-  pub attempted-splits : (a : ℕ) (mode : Mode) (max place order : ℕ) (env : Pairs) → Splits (attempted a mode max (c.entries + place) order env rs) c (attempted a mode max place order env own)
-  attempted-splits a mode max place order env = record {
-    is = ap (attempted a mode max (c.entries + place) order env) s.is ∙ attempted-behind c.entries base num a mode max place order env c.records own goes;
+  pub attempted-splits : (a : ℕ) (mode : Mode) (max place order number : ℕ) (env : Pairs)
+      → Splits (attempted a mode max (c.entries + place) order (num a + number) env rs) c (attempted a mode max place order number env own)
+  attempted-splits a mode max place order number env = record {
+    is = ap (attempted a mode max (c.entries + place) order (num a + number) env) s.is ∙ attempted-behind c.entries base num a mode max place order number env c.records own goes;
     ended = s.ended;
-    numbered = attempted-numbered a max (c.entries + place) order mode env rs s.numbered;
+    numbered = attempted-numbered a max (c.entries + place) order (num a + number) mode env rs s.numbered;
   }
 
   pub admission-own : (a : ℕ) (mode : Mode) (max : ℕ) → lowered base (admission a mode max rs) ≡ admission a mode max own
@@ -147,18 +147,19 @@ module _ (rs : Records) (c : Closed) (own : Records) (s : Splits rs c own) where
 -- ---- what a table stands over
 
 -- what is seen of another list that splits alike
-pub record Stands (front base : ℕ) (rs : Records) (c : Closed) (own : Records) : Type 0 where
-  pub over : StandsOver front base rs
-  pub closed : closed_in front base rs ≡ c
-  pub list : own_in front base rs ≡ own
+pub record Stands (front base : ℕ) (numbers : List ℕ) (rs : Records) (c : Closed) (own : Records) : Type 0 where
+  pub over : StandsOver front base numbers rs
+  pub closed : closed_in front base numbers rs ≡ c
+  pub list : own_in front base numbers rs ≡ own
 
-pub stands : (front base : ℕ) (rs : Records) (c : Closed) (own : Records) → Splits rs c own → c.entries ≡ front → length c.records ≡ base → front < 2 ^ 63 → Stands front base rs c own
-stands front base rs c own s at is most =
-    let closed : closed_in front base rs ≡ c = (λ i. closed_in (sym at i) (sym is i) rs) ∙ closed-seen rs c own s in
-    let list : own_in front base rs ≡ own = (λ i. own_in (sym at i) (sym is i) rs) ∙ own-seen rs c own s in
+pub stands : (front base : ℕ) (numbers : List ℕ) (rs : Records) (c : Closed) (own : Records) → Splits rs c own → c.entries ≡ front → length c.records ≡ base → c.numbers ≡ numbers → front < 2 ^ 63
+    → Stands front base numbers rs c own
+stands front base numbers rs c own s at is numbers_are most =
+    let closed : closed_in front base numbers rs ≡ c = (λ i. closed_in (sym at i) (sym is i) (sym numbers_are i) rs) ∙ closed-seen rs c own s in
+    let list : own_in front base numbers rs ≡ own = (λ i. own_in (sym at i) (sym is i) (sym numbers_are i) rs) ∙ own-seen rs c own s in
     record {
       over = record {
-        splits = subst (λ x. Splits rs (closed_in front base rs) x) (sym list) (subst (λ x. Splits rs x own) (sym closed) s);
+        splits = subst (λ x. Splits rs (closed_in front base numbers rs) x) (sym list) (subst (λ x. Splits rs x own) (sym closed) s);
         within = omega (arith, length-all rs c own s, is);
         most = most;
       };

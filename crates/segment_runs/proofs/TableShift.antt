@@ -222,18 +222,14 @@ module _ (n base : ℕ) (num : ℕ → ℕ) where
       stays None h = absurd (true-false h)
       stays (Some e) h = refl
 
-  new-behind : (a : ℕ) (mode : Mode) (place order : ℕ) (env : Pairs) (c rs : Records) → GoesOn base num c
-      → new_run (c ++ moved_all n base num rs) a mode (n + place) order env ≡ moved n base num (new_run rs a mode place order env)
-  new-behind a mode place order env c rs g =
-      let count = sum_by-append (λ (x : Record). cond (nat_eq x.automation a) 1 0) c (moved_all n base num rs) in
-      let own = count-placed (λ x. nat_eq x.automation a) (λ r. refl) rs in
+  new-behind : (a : ℕ) (mode : Mode) (place order number : ℕ) (env : Pairs) (c rs : Records) → GoesOn base c
+      → new_run (c ++ moved_all n base num rs) a mode (n + place) order (num a + number) env ≡ moved n base num (new_run rs a mode place order number env)
+  new-behind a mode place order number env c rs g =
       let serial : suc (length (c ++ moved_all n base num rs)) ≡ base + suc (length rs) = omega (arith, length-append c (moved_all n base num rs), length-placed rs, g.serials) in
-      let number : suc (count_by (λ r. nat_eq r.automation a) (c ++ moved_all n base num rs)) ≡ num a + suc (count_by (λ r. nat_eq r.automation a) rs)
-      = omega (arith, count, own, g.numbers a) in
       (λ i. record {
         serial = serial i;
         automation = a;
-        number = number i;
+        number = num a + number;
         place = n + place;
         order = order;
         env = env;
@@ -258,13 +254,13 @@ module _ (n base : ℕ) (num : ℕ → ℕ) where
       by false = tail rs
 
   -- LAW: an attempt behind ended records is one of the table alone
-  pub attempted-behind : (a : ℕ) (mode : Mode) (max place order : ℕ) (env : Pairs) (c rs : Records) → GoesOn base num c
-      → attempted a mode max (n + place) order env (c ++ moved_all n base num rs) ≡ c ++ moved_all n base num (attempted a mode max place order env rs)
-  attempted-behind a mode max place order env c rs g =
-      (λ i. if lets_in mode max (count-behind a c rs g.ended i) then joined mode a (n + place) (c ++ moved_all n base num rs) (new-behind a mode place order env c rs g i) else c ++ moved_all n base num rs)
+  pub attempted-behind : (a : ℕ) (mode : Mode) (max place order number : ℕ) (env : Pairs) (c rs : Records) → GoesOn base c
+      → attempted a mode max (n + place) order (num a + number) env (c ++ moved_all n base num rs) ≡ c ++ moved_all n base num (attempted a mode max place order number env rs)
+  attempted-behind a mode max place order number env c rs g =
+      (λ i. if lets_in mode max (count-behind a c rs g.ended i) then joined mode a (n + place) (c ++ moved_all n base num rs) (new-behind a mode place order number env c rs g i) else c ++ moved_all n base num rs)
       ∙ by (lets_in mode max (live_count a rs))
     where
-      by : (b : Bool) → (if b then joined mode a (n + place) (c ++ moved_all n base num rs) (moved n base num (new_run rs a mode place order env)) else c ++ moved_all n base num rs)
-          ≡ c ++ moved_all n base num (if b then joined mode a place rs (new_run rs a mode place order env) else rs)
-      by true = joined-behind mode a place c rs (new_run rs a mode place order env) g.ended
+      by : (b : Bool) → (if b then joined mode a (n + place) (c ++ moved_all n base num rs) (moved n base num (new_run rs a mode place order number env)) else c ++ moved_all n base num rs)
+          ≡ c ++ moved_all n base num (if b then joined mode a place rs (new_run rs a mode place order number env) else rs)
+      by true = joined-behind mode a place c rs (new_run rs a mode place order number env) g.ended
       by false = refl

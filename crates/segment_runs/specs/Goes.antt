@@ -1,9 +1,9 @@
 -- A table of runs that goes on behind the records of closed segments.
-use Rattle.std.specs.Prelude.{◌≡◌, ◌≤◌, ◌+◌, ℕ, false, nat_eq, is_none, [], ◌∷◌, length, count_by, map, option_map}
+use Rattle.std.specs.Prelude.{◌≡◌, ◌≤◌, ◌+◌, ℕ, false, is_none, [], ◌∷◌, length, map, option_map}
 use Rattle.ha_model.specs.declared.record.Record.{Record}
 use Rattle.ha_model.specs.Records.{Records}
 
--- a record moved by so many entries and runs, and by so many runs of its automation
+-- a record moved by so many entries and runs, and by so many runs of its unit's name
 abbrev pub moved : ℕ → ℕ → (ℕ → ℕ) → Record → Record
 moved n base num r = record r {
   serial = base + r.serial;
@@ -26,8 +26,12 @@ abbrev pub SerialsTo : ℕ → Records → Type 0
 SerialsTo n [] = Unit {0}
 SerialsTo n (r ∷ rs) = (r.serial ≤ n) × SerialsTo n rs
 
--- a table goes on behind these: they have ended, and the bases are how many there are, and how many of each automation
-pub record GoesOn (base : ℕ) (num : ℕ → ℕ) (c : Records) : Type 0 where
+-- both count alike for the unit of each
+abbrev pub CountAlike : (ℕ → ℕ) → (ℕ → ℕ) → Records → Type 0
+CountAlike num new [] = Unit {0}
+CountAlike num new (r ∷ rs) = (num r.automation ≡ new r.automation) × CountAlike num new rs
+
+-- a table goes on behind these: they have ended, and the base is how many there are
+pub record GoesOn (base : ℕ) (c : Records) : Type 0 where
   pub ended : AllEnded c
   pub serials : base ≡ length c
-  pub numbers : (a : ℕ) → num a ≡ count_by (λ r. nat_eq r.automation a) c

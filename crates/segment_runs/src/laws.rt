@@ -17,6 +17,6 @@ pub fn tables_go_on()
         → ended_at (base + serial) (n + place) cause (c ++ moved_all n base num rs) ≡ c ++ moved_all n base num (ended_at serial place cause rs) }
     ensures called { (n base : ℕ) (num : ℕ → ℕ) (serial : ℕ) (c rs : Records) → SerialsTo base c → 0 < serial
         → called_on (base + serial) (c ++ moved_all n base num rs) ≡ c ++ moved_all n base num (called_on serial rs) }
-    ensures attempted { (n base : ℕ) (num : ℕ → ℕ) (a : ℕ) (mode : Mode) (max place order : ℕ) (env : Pairs) (c rs : Records) → GoesOn base num c
-        → attempted a mode max (n + place) order env (c ++ moved_all n base num rs) ≡ c ++ moved_all n base num (attempted a mode max place order env rs) }
+    ensures attempted { (n base : ℕ) (num : ℕ → ℕ) (a : ℕ) (mode : Mode) (max place order number : ℕ) (env : Pairs) (c rs : Records) → GoesOn base c
+        → attempted a mode max (n + place) order (num a + number) env (c ++ moved_all n base num rs) ≡ c ++ moved_all n base num (attempted a mode max place order number env rs) }
 {}

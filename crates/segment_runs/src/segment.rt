@@ -4,8 +4,8 @@ ghost use Rattle.std.specs.Option.{option_copied};
 ghost use Rattle.ha_model.specs.declared.record.Record.{Record as Run};
 ghost use Rattle.ha_model.specs.Lawful.{record_of};
 ghost use Rattle.run_modes.specs.Table.{admission, attempted, begun_by, called_on, ended_at, live_of, stopped, HasBegun};
-ghost use Rattle.segment_runs.specs.Goes.{AllEnded};
-ghost use Rattle.segment_runs.specs.Segment.{all_of, runs_of};
+ghost use Rattle.segment_runs.specs.Goes.{AllEnded, CountAlike};
+ghost use Rattle.segment_runs.specs.Segment.{all_of, number_at};
 ghost use Rattle.segment_runs.specs.Told.{answered, lowered};
 
 use ha_config::Mode;
@@ -25,6 +25,8 @@ pub struct SegmentRuns {
     front: u64,
     /// How many runs they have.
     base: u64,
+    /// For each unit of the last segment, by its number there, how many runs of its name they have.
+    numbers: Many<u64>,
 }
 
 impl Model for SegmentRuns {
@@ -38,35 +40,49 @@ impl Model for SegmentRuns {
 
     ghost use Rattle.segment_runs.specs.Segment.{closed_in, own_in, StandsOver};
 
-    ghost view = { λ r. record { list = own_in r.front r.base r.all.list; spare = r.all.spare; closed = closed_in r.front r.base r.all.list } };
+    ghost view = { λ r. record { list = own_in r.front r.base r.numbers r.all.list; spare = r.all.spare; closed = closed_in r.front r.base r.numbers r.all.list } };
 
-    ghost invariant = { λ r. StandsOver r.front r.base r.all.list };
+    ghost invariant = { λ r. StandsOver r.front r.base r.numbers r.all.list };
 }
 
 impl SegmentRuns {
-    /// No runs, and no closed segment.
+    /// No runs, and no closed segment: no unit has had a run before.
     pub fn make(alloc: Global) -> SegmentRuns
         ensures list { result.list ≡ [] }
-        ensures closed { result.closed ≡ record { records = []; entries = 0 } }
+        ensures closed { result.closed ≡ record { records = []; entries = 0; numbers = [] } }
     {
         let all = Runs::make(alloc);
         SegmentRuns {
             all,
             front: 0,
             base: 0,
+            numbers: Many::make(alloc),
         }
     }
 
-    /// Closes the segment, whose runs have all ended: the next one has so many entries before it, and no runs yet.
-    pub fn close(&mut self, front: u64)
+    /// Closes the segment, whose runs have all ended: the next one has so many entries before it, and no runs yet. By the number of a unit
+    /// there, `numbers` has how many runs of its name there were; one that it has not has none.
+    pub fn close(&mut self, front: u64, numbers: Many<u64>)
         requires ended { AllEnded self.old.list }
         requires front { front < 2 ^ 63 }
         ensures list { self.new.list ≡ [] }
-        ensures closed { self.new.closed ≡ record { records = all_of self.old.closed self.old.list; entries = front } }
+        ensures closed { self.new.closed ≡ record { records = all_of self.old.closed self.old.list; entries = front; numbers = numbers } }
         ensures spare { self.new.spare ≡ self.old.spare }
     {
         self.base = count_of(self.all.list()) as u64;
         self.front = front;
+        self.numbers = numbers;
+    }
+
+    /// Other units come into force: by the number of a unit, `numbers` has how many runs of its name closed segments have. It says the same
+    /// as before of each unit that has a run here.
+    pub fn enter(&mut self, numbers: Many<u64>)
+        requires { CountAlike (number_at self.old.closed.numbers) (number_at numbers) self.old.list }
+        ensures list { self.new.list ≡ self.old.list }
+        ensures spare { self.new.spare ≡ self.old.spare }
+        ensures closed { self.new.closed ≡ record self.old.closed { numbers = numbers } }
+    {
+        self.numbers = numbers;
     }
 
     /// Takes room for so many more attempts.
@@ -80,8 +96,9 @@ impl SegmentRuns {
         self.all.reserve(more)
     }
 
-    /// An attempt of an automation, whose mode and limit these are: the one that has this order among those of the entry at `place`.
-    /// Refused exactly where the mode does not admit it. It wants no memory where there is room for it; after an error all is as before.
+    /// An attempt of an automation, whose mode and limit these are: the one that has this order among those of the entry at `place`; its
+    /// run has this number, counted in the segment from 1. Refused exactly where the mode does not admit it. It wants no memory where there
+    /// is room for it; after an error all is as before.
     pub fn attempt(
         &mut self,
         automation: u32,
@@ -89,10 +106,12 @@ impl SegmentRuns {
         max: u32,
         place: u64,
         order: u64,
+        number: u64,
         env: Env,
     ) -> Result<Admission, AllocError>
         requires place { place < 2 ^ 56 }
-        ensures ok { OnOk result (self.new.list ≡ attempted automation mode max place order env self.old.list) }
+        requires number { number_at self.old.closed.numbers automation + number < 2 ^ 64 }
+        ensures ok { OnOk result (self.new.list ≡ attempted automation mode max place order number env self.old.list) }
         ensures answer { IfOk result (λ told. told ≡ admission automation mode max self.old.list) }
         ensures err { OnErr result (self.new.list ≡ self.old.list) }
         ensures succeeds { 0 < self.old.spare → IsOk result }
@@ -100,7 +119,10 @@ impl SegmentRuns {
         ensures closed { self.new.closed ≡ self.old.closed }
     {
         let at = self.front + place;
-        let told = self.all.attempt(automation, mode, max, at, order, env);
+        let whole = whole_number(self.numbers.as_slice(), automation, number);
+        let told = self
+            .all
+            .attempt(automation, mode, max, at, order, whole, env);
         own_answer(told, self.base)
     }
 
@@ -156,11 +178,12 @@ impl SegmentRuns {
         count_of(self.all.list()) - self.base as usize
     }
 
-    /// How many runs of the automation all segments have had.
-    pub fn made(&self, automation: u32) -> u64
-        ensures { result ≡ runs_of (all_of self.now.closed self.now.list) automation }
+    /// The same: fewer than what memory holds.
+    pub fn count(&self) -> usize
+        ensures value { result ≡ length self.now.list }
+        ensures few { result < 2 ^ 63 }
     {
-        self.all.made(automation)
+        self.all.count() - self.base as usize
     }
 
     /// The automation of the run with this serial.
@@ -168,6 +191,13 @@ impl SegmentRuns {
         ensures { result ≡ option_map (λ (r : Run). r.automation) (record_of self.now.list serial) }
     {
         automation_at(self.all.list(), self.base, serial)
+    }
+
+    /// How many runs of a unit's name closed segments have.
+    pub fn carried(&self, unit: usize) -> u64
+        ensures { result ≡ number_at self.now.closed.numbers unit }
+    {
+        carried_at(self.numbers.as_slice(), unit)
     }
 
     /// The records of all segments, in the order of their serials.
@@ -200,6 +230,14 @@ fn all_serial(records: &[Record], base: u64, serial: u64) -> u64
 {
     let _count = records.len();
     base + serial
+}
+
+/// The number of a run among those of all segments, where the segment alone has this one.
+fn whole_number(numbers: &[u64], automation: u32, number: u64) -> u64
+    requires { number_at numbers.now automation + number < 2 ^ 64 }
+    ensures { result ≡ number_at numbers.now automation + number }
+{
+    carried_at(numbers, automation as usize) + number
 }
 
 /// The automation of the run with this serial, behind so many others.
@@ -252,5 +290,15 @@ fn own_answer(told: Result<Admission, AllocError>, base: u64) -> Result<Admissio
     match told {
         Ok(told) => Ok(own_admission(told, base)),
         Err(fault) => Err(fault),
+    }
+}
+
+/// The number at a unit's place, and 0 where there is none.
+fn carried_at(numbers: &[u64], unit: usize) -> u64
+    ensures { result ≡ number_at numbers.now unit }
+{
+    match numbers.get(unit) {
+        Some(number) => *number,
+        None => 0,
     }
 }

@@ -2,7 +2,10 @@
 #![tactic(auto)]
 
 mod behind;
+mod entries;
+mod force;
 mod segment;
 
 pub use behind::Behind;
+pub use force::{place_of, rule_of};
 pub use segment::Segment;

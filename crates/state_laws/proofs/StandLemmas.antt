@@ -1,21 +1,20 @@
 -- How a table that changes at one entity stands for a journal with one more entry.
 use Rattle.std.proofs.Common.{◌≡◌, ℕ, Bool, true, false, ◌&&◌, Option, sym, refl, ap, ◌∙◌}
-use Rattle.std.specs.Prelude.{Some, None, [], codes, not, option_map, if◌then◌else◌}
+use Rattle.std.specs.Prelude.{Some, None, not, if◌then◌else◌}
 use Rattle.ha_value.specs.declared.value.EntityId.{EntityId}
 use Rattle.ha_config.specs.declared.command.Cmd.{Cmd}
 use Rattle.ha_journal.specs.declared.entry.Entry.TheVariants.{Line}
 use Rattle.ha_sight.specs.declared.state.StateObject.{StateObject}
-use Rattle.ha_config.specs.Words.{Text, Pairs, same, same_entity}
-use Rattle.std.specs.Option.{option_map_or}
-use Rattle.ha_config.specs.Helpers.{helper_named, is_helper}
-use Rattle.ha_journal.specs.Journal.{Journal, automations, helpers, now, more}
+use Rattle.ha_config.specs.Words.{Text, Pairs, same_entity}
+use Rattle.ha_config.specs.Helpers.{is_helper}
+use Rattle.ha_journal.specs.Journal.{Journal, helpers, now, more}
 use Rattle.ha_sight.specs.StateStep.{next_object}
-use Rattle.ha_config.specs.Names.{automation_named}
-use Rattle.ha_journal.specs.States.{of_automation, of_helper, reported, states}
+use Rattle.ha_journal.specs.States.{states}
 use Rattle.ha_config.proofs.EqualLemmas.{entity-sound}
 use Rattle.state_table.specs.Anew.{is_automation}
 use Rattle.state_laws.specs.Stands.{sets_anew}
 use Rattle.state_laws.proofs.StateLaws.{states-report, states-gone, states-restart}
+pub use Rattle.state_laws.proofs.StateLaws.{states-empty}
 use Rattle.state_table.proofs.TableLemmas.{Seen}
 
 module _ (old new : Seen) (entity : EntityId) where
@@ -54,10 +53,3 @@ module _ (old new : Seen) (entity : EntityId) where
 pub stands-clear : (new : Seen) → ((q : EntityId) → new q ≡ None) → (j : Journal) (k n : ℕ)
     → (q : EntityId) → sets_anew j (Line k n Cmd.Restart) q ≡ false → is_helper (helpers j) q ≡ false → new q ≡ states (more j (Line k n Cmd.Restart)) q
 stands-clear new empty j k n q out free = empty q ∙ sym (states-restart j q k n out free)
-
-pub states-empty : (e : EntityId) → states [] e ≡ None
-states-empty e = by (same e.domain (codes "automation"))
-  where
-    by : (b : Bool) → (if b then option_map (of_automation []) (automation_named (automations []) e.object) else option_map_or (of_helper []) (helper_named [] e) (reported [] e)) ≡ None
-    by true = refl
-    by false = refl

@@ -1,19 +1,17 @@
 //! Laws of the definitions alone. Each is a function that does nothing; its contract is the law.
-ghost use Rattle.std.specs.Prelude.{◌≡◌, [], Bool, true, false, ℕ, None, Some, MatchOption, if◌then◌else◌};
+ghost use Rattle.std.specs.Prelude.{◌≡◌, List, [], Bool, true, false, ℕ, None, Some, option_map, if◌then◌else◌};
 ghost use Rattle.ha_value.specs.declared.value.EntityId.{EntityId};
 ghost use Rattle.ha_config.specs.declared.command.Cmd.{Cmd};
 ghost use Rattle.ha_journal.specs.declared.entry.Entry.{Entry};
 ghost use Rattle.ha_journal.specs.declared.entry.Entry.TheVariants.{Line};
 ghost use Rattle.ha_config.specs.Words.{Text, Pairs, same_entity};
 ghost use Rattle.ha_journal.specs.Entries.{report_in, gone_in, is_restart};
-ghost use Rattle.ha_config.specs.Units.{scripts_of};
 ghost use Rattle.ha_config.specs.declared.helper.Helper.{Helper};
 ghost use Rattle.ha_config.specs.Helpers.{helper_named, is_helper};
 ghost use Rattle.ha_journal.specs.Helpers.{known, text_of};
-ghost use Rattle.ha_journal.specs.Journal.{Journal, automations, helpers, now, more, scripts};
-ghost use Rattle.ha_journal.specs.Switches.{is_on};
+ghost use Rattle.ha_journal.specs.Journal.{Journal, helpers, now, more, scripts_in};
+ghost use Rattle.ha_journal.specs.Switches.{switch_named};
 ghost use Rattle.ha_journal.specs.States.{states};
-ghost use Rattle.ha_config.specs.Names.{automation_named};
 ghost use Rattle.ha_sight.specs.StateStep.{next_object};
 ghost use Rattle.state_table.specs.Anew.{is_automation, switch_object};
 ghost use Rattle.state_laws.specs.Stands.{gives_text, sets, sets_anew};
@@ -35,13 +33,12 @@ pub fn switches_are_left()
 {}
 
 /// The state of an entity after one more entry: of an automation that the entry sets anew, the
-/// state of its switch since Now; of a helper, what a report of its text would make of the state before; of
+/// state of its switch since Now, or none where a reload took it out of force; of a helper, what a report of its text would make of the state before; of
 /// what a Report or Gone of a reported entity, or a Restart, does not touch, the state before. A helper keeps
 /// its state at a Restart, and no line reports it.
 pub fn states_of_one_more()
     ensures anew { (j : Journal) (x : Entry) (e : EntityId) → sets_anew j x e ≡ true
-        → MatchOption (automation_named (automations (more j x)) e.object) ⊥
-        (λ a. states (more j x) e ≡ Some (switch_object (is_on (more j x) a) (now (more j x)))) }
+        → states (more j x) e ≡ option_map (λ on. switch_object on (now (more j x))) (switch_named (more j x) e.object) }
     ensures report { (j : Journal) (e entity : EntityId) (k n : ℕ) (text : Text) (attributes : Pairs) → is_automation entity ≡ false → is_helper (helpers j) entity ≡ false
         → states (more j (Line k n (Cmd.Report entity text attributes))) e
         ≡ (if same_entity entity e
@@ -60,9 +57,9 @@ pub fn states_of_one_more()
 {}
 
 /// A view whose parts are those of a journal sees what the journal's next entry sees, but for its scripts and helpers; and all of it with
-/// the scripts of its configuration, and what is known of the helpers.
+/// the scripts in force, and what is known of the helpers.
 pub fn views_see_the_journal()
-    ensures parts { (v : View) (j : Journal) → IsViewOf v.states.now v.config.now v.zone.now v.at j → seen v ≡ record (sight j (length j)) { scripts = []; helpers = [] } }
-    ensures whole { (v : View) (j : Journal) → IsViewOf v.states.now v.config.now v.zone.now v.at j → v.config.now.scripts ≡ scripts j
-        → record (seen v) { scripts = scripts_of v.config.now; helpers = known j } ≡ sight j (length j) }
+    ensures parts { (v : View) (j : Journal) → IsViewOf v.states.now v.numbers.now v.config.now v.zone.now v.at j → seen v ≡ record (sight j (length j)) { scripts = []; helpers = [] } }
+    ensures whole { (v : View) (j : Journal) (named : List (Text × ℕ)) → IsViewOf v.states.now v.numbers.now v.config.now v.zone.now v.at j → named ≡ scripts_in j
+        → record (seen v) { scripts = named; helpers = known j } ≡ sight j (length j) }
 {}

@@ -1,7 +1,7 @@
 -- The text of the store, `{"last":{name:moment, ..},"switches":{name:flag, ..},"version":2}`, as a text is read; and that of version 1,
 -- `{"switches":{name:flag, ..},"version":1}`, which is read as one without moments.
 use Rattle.std.specs.Prelude.{◌≡◌, ℕ, ◌==◌, nat_le, Bool, true, false, List, [], ◌∷◌, Option, Some, None, Result, Ok}
-use Rattle.std.specs.Prelude.{Err, is_some, option_map, option_and_then, codes, if◌then◌else◌}
+use Rattle.std.specs.Prelude.{Err, is_some, map, option_map, option_and_then, codes, if◌then◌else◌}
 use Rattle.std.specs.List.{list_all}
 use Rattle.std.specs.Str.{is_utf8}
 use Rattle.serde_json.specs.Data.{Data, boolean, number, object, string, Members, no_members, member, Num, unsigned, negative, float, put}
@@ -20,6 +20,13 @@ use Rattle.store_text.specs.declared.stored.Stored.{Stored}
 -- names with their switches, and with moments
 abbrev pub Switches : Type 0
 Switches = List (Text × Bool)
+
+-- the same, each with its automation's number
+abbrev pub Numbered : Type 0
+Numbered = List (ℕ × Text × Bool)
+
+abbrev pub by_names : Numbered → Switches
+by_names s = map {A = ℕ × Text × Bool} {B = Text × Bool} (λ p. (p.1, p.2)) s
 
 abbrev pub Moments : Type 0
 Moments = List (Text × ℕ)

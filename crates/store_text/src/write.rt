@@ -3,23 +3,24 @@ ghost use Rattle.std.specs.Prelude.{◌≡◌, ◌≤◌, IfOk, Ok};
 ghost use Rattle.serde_json.specs.View.{members_view, view};
 ghost use Rattle.ha_clock.specs.Local.{last_moment};
 ghost use Rattle.ha_config.specs.StoreText.{in_name_order, store_of};
-ghost use Rattle.store_text.specs.Store.{AreMoments, AreStorable, moment_data, put_all, put_moments, store_data, stored_in};
+ghost use Rattle.store_text.specs.Store.{AreMoments, AreStorable, by_names, moment_data, put_all, put_moments, store_data, stored_in};
 
 use ha_clock::{Moment, print_moment};
 use ha_value::Word;
 use serde_json::{Map, Value};
 use std::alloc::{AllocError, Global};
 
-/// The store text of switches, one pair for each, in the byte order of the names, and of moments, whose names stand in that order.
+/// The store text of switches, one pair for each, in the byte order of the names, and of moments, whose names stand in that order. The
+/// numbers of the switches' automations are not stored.
 pub fn write_store(
     alloc: Global,
-    switches: &[(Word, bool)],
+    switches: &[(u32, Word, bool)],
     last: &[(Word, Moment)],
 ) -> Result<Word, AllocError>
-    requires switches { AreStorable switches.now }
+    requires switches { AreStorable (by_names switches.now) }
     requires last { AreMoments last.now }
-    ensures text { IfOk result (λ w. w ≡ store_of switches.now last.now) }
-    ensures reads_back { IfOk result (λ w. stored_in w ≡ Ok (record { switches = in_name_order switches.now; last = last.now })) }
+    ensures text { IfOk result (λ w. w ≡ store_of (by_names switches.now) last.now) }
+    ensures reads_back { IfOk result (λ w. stored_in w ≡ Ok (record { switches = in_name_order (by_names switches.now); last = last.now })) }
 {
     let value = store_value(alloc, switches, last)?;
     let text = value.to_string(alloc)?;
@@ -30,11 +31,11 @@ pub fn write_store(
 /// The value whose text that is.
 fn store_value(
     alloc: Global,
-    switches: &[(Word, bool)],
+    switches: &[(u32, Word, bool)],
     last: &[(Word, Moment)],
 ) -> Result<Value, AllocError>
     requires { AreMoments last.now }
-    ensures { IfOk result (λ v. view v ≡ store_data switches.now last.now) }
+    ensures { IfOk result (λ v. view v ≡ store_data (by_names switches.now) last.now) }
 {
     let moments = moments_object(alloc, last)?;
     let flags = flags_object(alloc, switches)?;
@@ -46,15 +47,18 @@ fn store_value(
 }
 
 /// The flags as an object, which keeps its keys in order.
-fn flags_object(alloc: Global, switches: &[(Word, bool)]) -> Result<Map<String, Value>, AllocError>
-    ensures { IfOk result (λ m. members_view m.entries ≡ put_all switches.now) }
+fn flags_object(
+    alloc: Global,
+    switches: &[(u32, Word, bool)],
+) -> Result<Map<String, Value>, AllocError>
+    ensures { IfOk result (λ m. members_view m.entries ≡ put_all (by_names switches.now)) }
 {
     let mut flags = Map::new(alloc);
     let mut left = switches.len();
     while left > 0 {
         left -= 1;
-        let pair = &switches[left];
-        serde_json::put(&mut flags, alloc, pair.0.as_str(), Value::from(pair.1))?;
+        let switch = &switches[left];
+        serde_json::put(&mut flags, alloc, switch.1.as_str(), Value::from(switch.2))?;
     }
     Ok(flags)
 }

@@ -7,7 +7,7 @@ use Rattle.ha_journal.specs.Journal.{Journal}
 use Rattle.ha_config.specs.Words.{Text}
 use Rattle.ha_whole.specs.Whole.{CannotRestart, HasRoom, IsFull}
 use Rattle.store_text.specs.Store.{Moments, Switches, stored_in}
-use Rattle.conf_auto.specs.Config.{config_of}
+use Rattle.conf_auto.specs.Config.{config_in, config_of}
 use Rattle.ha_status.specs.declared.status.Status.{Status}
 use Rattle.ha_status.specs.Causes.{OneRose, IsUnread, ReadCause, OpenCause, WriteCause, KeepCause}
 use Rattle.ha_status.specs.Files.{Files}
@@ -73,7 +73,7 @@ longer bytes file left r le =
     let long = ap length r.1.3 ∙ length-append bytes (r.1.0 ∷ r.1.1) in
     omega (arith, long, r.0, le)
 
-none-exceeds : (f : Files) (journal : List Entry) (n : ℕ) (names : List Text) (sources : List SourceState) (feeds : List Feed) → AreServed (Some f) journal n names sources feeds
+none-exceeds : (f : Files) (journal : List Entry) (n : ℕ) (names : List Text) (sources : List SourceState) (feeds : List Feed) → AreServed config_in (Some f) journal n names sources feeds
     → Each (λ name. IsWithin (f name)) names → (k : ℕ) → IsFirst Course.Exceeds k feeds → ⊥
 none-exceeds f journal n [] [] [] served h k first = first
 none-exceeds f journal n [] [] (feed ∷ feeds) served h k first = served
@@ -119,11 +119,11 @@ run-ends-well words b a x u =
     no_zero status (inr r) = absurd (no-trace-zero a.trace u.trace_well r)
 
     exceeds : (told : Option Files) → IsSomeAnd told (λ f. IsTaken (f words.config)) → IfSome told (λ f. Each (λ name. IsWithin (f name)) words.sources) → (feeds : List Feed)
-        → AreServed told a.journal 0 words.sources a.sources feeds → (k : ℕ) → IsFirst Course.Exceeds k feeds → ⊥
+        → AreServed config_in told a.journal 0 words.sources a.sources feeds → (k : ℕ) → IsFirst Course.Exceeds k feeds → ⊥
     exceeds None t h feeds served k first = t
     exceeds (Some f) t h feeds served k first = none-exceeds f a.journal 0 words.sources a.sources feeds served h k first
 
-    by : (s : Status) → StandsAt (IsBooted words b) (scene words b a) (written b a) s → RefusedCause b.place.files words.config s → StoreCause b.keep.kept s
+    by : (s : Status) → StandsAt config_in (IsBooted words b) (scene words b a) (written b a) s → RefusedCause b.place.files words.config s → StoreCause b.keep.kept s
         → RunOpenCause words b.place.faults a.place.faults a.place.last s → ReadCause words.config words.sources (map (λ y. y.faults) a.sources) (map (λ y. y.name) a.sources) s
         → WriteCause (WriteFailed b a) (WriteTookNone b a) s → KeepCause b.keep.faults a.keep.faults s → Good s
     by Status.Ok stands refused store unopened unread unwritten unkept = inl refl

@@ -4,7 +4,6 @@ use Rattle.std.specs.Prelude.{Option, Some, None, IfSome, IsSomeAnd}
 use Rattle.std.specs.Option.{option_map}
 use Rattle.ha_io.specs.Told.{Takes}
 use Rattle.ha_config.specs.Words.{Text}
-use Rattle.ha_model.specs.Texts.{call_text}
 use Rattle.ha_journal.specs.EntryText.{error_text}
 use Rattle.ha_status.specs.declared.status.Status.{Status}
 use Rattle.ha_status.specs.Causes.{OneRose}
@@ -23,6 +22,7 @@ use Rattle.top_laws.specs.Unhindered.{IsWellReplay, IsWholeTrace}
 use Rattle.top_laws.proofs.Completeness.{Good}
 use Rattle.top_laws.proofs.ReplayEnds.{replay-ends-well}
 use Rattle.top_laws.proofs.RunReplayed.{ran_to_end, run-traced, trace-replayed}
+use Rattle.ha_whole.specs.Trace.{call_text}
 
 -- ---- at Ok
 

@@ -4,17 +4,19 @@ use Rattle.std.proofs.lemmas.Str.{is_utf8-from_IsUtf8}
 use Rattle.std.specs.Prelude.{Option, Some, None, IfSome, IsSomeAnd, if◌then◌else◌}
 use Rattle.ha_config.specs.Words.{Text}
 use Rattle.ha_config.proofs.OrderLemmas.{moments-kept, moments-named}
+use Rattle.ha_journal.specs.Commands.{AreRead}
 use Rattle.ha_journal.specs.Journal.{HasEntry, Journal, more}
+use Rattle.ha_whole.specs.Trace.{call_text, trace_text}
 use Rattle.ha_whole.specs.Whole.{IsWithin, Lawful, again_of, opened}
 use Rattle.ha_model.specs.Records.{Records}
-use Rattle.ha_model.specs.Texts.{call_text}
-use Rattle.ha_journal.specs.EntryText.{error_text, trace_text}
+use Rattle.ha_journal.specs.EntryText.{error_text}
 use Rattle.bus_turn.specs.Buses.{HasTaken}
 use Rattle.bus_turn.specs.States.{SinkState}
 use Rattle.ha_status.specs.declared.status.Status.{Status}
 use Rattle.ha_status.specs.Causes.{OneRose}
 use Rattle.ha_status.specs.Files.{Files}
 use Rattle.ha_words.specs.declared.plan.RunWords.{RunWords}
+use Rattle.conf_auto.specs.Config.{config_in}
 use Rattle.ha_run.specs.Served.{Feed}
 use Rattle.ha_run.specs.Stands.{RanThrough, Scene, StandsAt, Writings}
 use Rattle.trace_laws.specs.Runs.{Begins, IsRun}
@@ -50,8 +52,8 @@ opened_own : (j : Journal) (rs : Records) → Lawful j rs → opened j ≡ j
 opened_own j rs lawful = (λ i. if lawful.right.journal.opened i then more j (again_of j) else j)
 
 -- what is booted may stand first in a trace
-booted_run : (words : RunWords) (b : Before) (j : Journal) (rs : Records) → IsBooted words b j → Lawful j rs → HasEntry j × IsRun j rs
-booted_run words b j rs boot lawful =
+booted_run : (words : RunWords) (b : Before) (j : Journal) (rs : Records) → IsBooted words b j → Lawful j rs → AreRead config_in j → HasEntry j × IsRun j rs
+booted_run words b j rs boot lawful read =
     let known = moments-kept boot.config.automations boot.last boot.last_is_sound in
     let P : Journal → Type 0 = λ z. HasEntry z × IsRun z rs in
     subst P (sym boot.boots) (
@@ -76,12 +78,13 @@ booted_run words b j rs boot lawful =
           refl,
         ),
         subst (λ z. Lawful (opened z) rs) boot.boots (subst (λ z. Lawful z rs) (sym (opened_own j rs lawful)) lawful),
+        subst (AreRead config_in) boot.boots read,
       ),
     )
 
 -- a run that came to its end wrote all, and is through
 module _ (B : Journal → Type 0) (s : Scene) (w : Writings) where
-  pub ran_to_end : (status : Status) → HasEnded status → StandsAt B s w status → w.Ended × ((feeds : List Feed) × RanThrough B s feeds)
+  pub ran_to_end : (status : Status) → HasEnded status → StandsAt config_in B s w status → w.Ended × ((feeds : List Feed) × RanThrough config_in B s feeds)
   ran_to_end Status.Ok ended h = (h.0, (h.1.0, h.1.1))
   ran_to_end (Status.ReadFault (Some source)) ended h = (h.0, (h.1.0, h.1.1))
   ran_to_end (Status.SourceTooLong source) ended h = (h.0, (h.1.0, h.1.1))
@@ -100,7 +103,7 @@ pub run-traced : (words : RunWords) (b : Before) (a : After) (text : Text) → A
 run-traced words b a text x t =
     let end = ran_to_end (IsBooted words b) (scene words b a) (written b a) a.status t.ended x.stands in
     let through = end.1.1 in
-    let run = booted_run words b a.journal a.records through.ran.begins through.ran.lawful in
+    let run = booted_run words b a.journal a.records through.ran.begins through.ran.lawful through.ran.read in
     record {
       run = run.1;
       room = subst IsWithin (sym (opened_own a.journal a.records through.ran.lawful)) through.ran.room;

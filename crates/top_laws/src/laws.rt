@@ -3,7 +3,6 @@ ghost use Rattle.std.specs.Prelude.{ℕ, ◌≡◌, ◌⊎◌};
 ghost use Rattle.ha_config.specs.Words.{Text};
 ghost use Rattle.ha_journal.specs.Journal.{Journal};
 ghost use Rattle.ha_model.specs.Records.{Records};
-ghost use Rattle.ha_model.specs.Texts.{call_text};
 ghost use Rattle.ha_journal.specs.EntryText.{error_text};
 ghost use Rattle.ha_status.specs.declared.status.Status.{Status};
 ghost use Rattle.ha_status.specs.Causes.{OneRose};
@@ -15,6 +14,7 @@ ghost use Rattle.ha_top.specs.Answered.{Answered};
 ghost use Rattle.ha_top.specs.Program.{Checked, Rehearsed, Replayed};
 ghost use Rattle.top_laws.specs.Traced.{IsHeld, IsPlayedAgain, IsTraced, IsTraceHeld};
 ghost use Rattle.top_laws.specs.Unhindered.{IsUnhinderedCheck, IsUnhinderedRehearsal, IsUnhinderedReplay, IsUnhinderedRun, IsWellReplay};
+ghost use Rattle.ha_whole.specs.Trace.{call_text};
 
 /// Where nothing hinders a command, it ends well, but for want of memory: a run whose configuration
 /// is taken, whose store is none or a store's text, whose place, sinks, keeper and sources did not

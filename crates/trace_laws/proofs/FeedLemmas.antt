@@ -229,6 +229,7 @@ cmd_line (Cmd.Switch name on stop) = by on
 cmd_line (Cmd.Trigger name skip) = map_line ((codes "trigger", quoted (codes "automation." ++ name)) ∷ (codes "skip_condition", flag_text skip) ∷ [])
     (quoted_line (codes "automation." ++ name), (flag_line skip, tt))
 cmd_line Cmd.Restart = refl
+cmd_line (Cmd.Reload text config) = map_line ((codes "reload", quoted text) ∷ []) (quoted_line text, tt)
 cmd_line (Cmd.Refused code) = map_line ((codes "refused", quoted (line_code code)) ∷ []) (quoted_line (line_code code), tt)
 cmd_line Cmd.Lost = refl
 cmd_line Cmd.TooLong = refl

@@ -1,10 +1,12 @@
--- A journal opened where it ends with a Restart, and the workers of a lawful one, who are of the 16.
+-- A journal opened where it ends with a Restart; the workers of a lawful one, who are of the 16; and what its Reloads are read as.
 use Rattle.std.proofs.Common.{◌≡◌, ◌∙◌, sym, subst, refl, ◌<◌, inl, inr, [], ◌∷◌, ◌++◌, Bool, true, false, arith, append-nil, append_assoc}
 use Rattle.std.specs.List.{list_all}
 use Rattle.std.specs.Prelude.{◌⊎◌, if◌then◌else◌}
 use Rattle.ha_journal.specs.declared.entry.Entry.{Entry}
 use Rattle.ha_journal.specs.declared.entry.Entry.TheVariants.{Boot, Line, Step, Again}
 use Rattle.ha_config.specs.Words.{EachAfter, EachWith}
+use Rattle.ha_config.specs.Fair.{prepared}
+use Rattle.ha_journal.specs.Commands.{AreRead, IsReadEntry}
 use Rattle.ha_journal.specs.Journal.{HasEntry, Journal, more}
 use Rattle.ha_model.specs.Records.{Records}
 use Rattle.ha_model.specs.Lawful.{is_by_worker_0}
@@ -12,6 +14,7 @@ use Rattle.ha_model.proofs.AppendLemmas.{each-snoc}
 use Rattle.ha_whole.specs.Whole.{AreEntries, IsBehind, IsDue, IsTurn, Lawful, again_of, ends_segment, is_rested, opened, put}
 use Rattle.ha_replay.proofs.NextLemmas.{not-rested-known}
 use Rattle.ha_replay.proofs.SeamLemmas.{again-behind, each-behind}
+use Rattle.conf_auto.specs.Config.{config_in}
 use Rattle.whole_laws.proofs.LiftLemmas.{ends-more}
 use Rattle.whole_laws.proofs.PutLemmas.{put-restart}
 
@@ -56,30 +59,38 @@ pub put_front : (j : Journal) (x : Entry) (xs : Journal) → HasEntry j → AreE
 put_front [] x xs has all = absurd has
 put_front (e ∷ es) x xs has all = put_from e es x (ends_segment (more (e ∷ es) x)) refl xs all
 
--- ---- workers
+-- ---- workers, and Reloads
+
+-- an Again reads no text
+pub read_added : (j : Journal) → AreRead config_in j → AreRead config_in (j ++ added j)
+read_added j read = by (ends_segment j)
+  where
+    by : (b : Bool) → AreRead config_in (j ++ (if b then again_of j ∷ [] else []))
+    by true = each-snoc (λ before y. IsReadEntry config_in y) [] j (again_of j) read tt
+    by false = subst (AreRead config_in) (sym (append-nil j)) read
 
 abbrev pub AllKnown : Journal → Type 0
 AllKnown [] = Unit {0}
 AllKnown (Boot text config stored start zone carry ∷ xs) = AllKnown xs
 AllKnown (Again number start stored carry ∷ xs) = AllKnown xs
-AllKnown (Line source number cmd ∷ xs) = AllKnown xs
+AllKnown (Line source number cmd ∷ xs) = (prepared config_in cmd ≡ cmd) × AllKnown xs
 AllKnown (Step worker serial branch item ∷ xs) = (worker < 16) × AllKnown xs
 
-known-from : (rs : Records) (before xs : Journal) → EachAfter (IsTurn rs) [] before → EachAfter (IsTurn rs) before xs → EachWith (IsDue rs) before xs → AllKnown xs
-known-from rs before [] old new due = tt
-known-from rs before (Boot text config stored start zone carry ∷ xs) old new due =
-    let x : Entry = Boot text config stored start zone carry in known-from rs (before ++ (x ∷ [])) xs (each-snoc (IsTurn rs) [] before x old new.0) new.1 due.1
-known-from rs before (Again number start stored carry ∷ xs) old new due =
-    let x : Entry = Again number start stored carry in known-from rs (before ++ (x ∷ [])) xs (each-snoc (IsTurn rs) [] before x old new.0) new.1 due.1
-known-from rs before (Line source number cmd ∷ xs) old new due =
-    let x : Entry = Line source number cmd in known-from rs (before ++ (x ∷ [])) xs (each-snoc (IsTurn rs) [] before x old new.0) new.1 due.1
-known-from rs before (Step worker serial branch item ∷ xs) old new due =
-    let x : Entry = Step worker serial branch item in (by due.0, known-from rs (before ++ (x ∷ [])) xs (each-snoc (IsTurn rs) [] before x old new.0) new.1 due.1)
+known-from : (rs : Records) (before xs : Journal) → EachAfter (IsTurn rs) [] before → EachAfter (IsTurn rs) before xs → EachWith (IsDue rs) before xs → EachAfter (λ before x. IsReadEntry config_in x) before xs → AllKnown xs
+known-from rs before [] old new due read = tt
+known-from rs before (Boot text config stored start zone carry ∷ xs) old new due read =
+    let x : Entry = Boot text config stored start zone carry in known-from rs (before ++ (x ∷ [])) xs (each-snoc (IsTurn rs) [] before x old new.0) new.1 due.1 read.1
+known-from rs before (Again number start stored carry ∷ xs) old new due read =
+    let x : Entry = Again number start stored carry in known-from rs (before ++ (x ∷ [])) xs (each-snoc (IsTurn rs) [] before x old new.0) new.1 due.1 read.1
+known-from rs before (Line source number cmd ∷ xs) old new due read =
+    let x : Entry = Line source number cmd in (read.0, known-from rs (before ++ (x ∷ [])) xs (each-snoc (IsTurn rs) [] before x old new.0) new.1 due.1 read.1)
+known-from rs before (Step worker serial branch item ∷ xs) old new due read =
+    let x : Entry = Step worker serial branch item in (by due.0, known-from rs (before ++ (x ∷ [])) xs (each-snoc (IsTurn rs) [] before x old new.0) new.1 due.1 read.1)
   where
     by : (is_rested rs worker before ≡ false) ⊎ ((worker ≡ 0) × (list_all is_by_worker_0 xs ≡ true)) → worker < 16
     by (inl busy) = not-rested-known rs worker before old busy
     by (inr closes) = omega (arith, closes.0)
 
--- LAW: each step of a lawful journal is of one of the 16 workers
-pub all_known : (j : Journal) (rs : Records) → Lawful j rs → AllKnown j
-all_known j rs lawful = known-from rs [] j tt lawful.turns lawful.closed
+-- LAW: each step of a lawful journal is of one of the 16 workers, and of one that is read each Reload is what its text is read as
+pub all_known : (j : Journal) (rs : Records) → Lawful j rs → AreRead config_in j → AllKnown j
+all_known j rs lawful read = known-from rs [] j tt lawful.turns lawful.closed read

@@ -1,12 +1,15 @@
 -- What a text begins with tells the run.
-use Rattle.std.proofs.Common.{◌≡◌, ◌≢◌, ◌∙◌, ap, sym, subst, refl, ℕ, suc, ◌+◌, ◌<◌, ◌≤◌, ◌^◌, inl, inr, List, [], ◌∷◌, ◌++◌, length, Bool, true, false, arith, append_assoc, append-nil, length-append}
+use Rattle.std.proofs.Common.{◌≡◌, ◌≢◌, ◌∙◌, ap, sym, subst, refl, ℕ, ◌+◌, ◌<◌, ◌≤◌, ◌^◌, inl, inr, List, [], ◌∷◌, ◌++◌, length, Bool, true, false, arith, append_assoc, append-nil, length-append}
 use Rattle.std.specs.Prelude.{◌⊎◌, None, if◌then◌else◌}
 use Rattle.ha_journal.specs.declared.entry.Entry.{Entry}
 use Rattle.ha_journal.specs.declared.entry.Entry.TheVariants.{Boot, Line, Step, Again}
 use Rattle.ha_config.specs.Words.{Text}
-use Rattle.ha_journal.specs.Journal.{HasEntry, Journal, names, more}
+use Rattle.ha_journal.specs.Commands.{IsReadEntry}
+use Rattle.ha_journal.specs.Journal.{HasEntry, Journal, more}
+use Rattle.ha_laws.proofs.RightMore.{each-last}
 use Rattle.ha_journal.specs.Entries.{again_in, is_restart}
 use Rattle.ha_model.specs.Records.{Records}
+use Rattle.ha_whole.specs.Trace.{names}
 use Rattle.ha_whole.specs.Whole.{CannotRestart, HasRoom, IsBehind, IsFull, IsWithin, LacksRoom, Lawful, ends_segment, is_quiet, opened, put, records_of}
 use Rattle.ha_config.specs.CheckText.{as_line}
 use Rattle.ha_journal.specs.EntryText.{end_line, trace_line}
@@ -15,8 +18,8 @@ use Rattle.whole_laws.proofs.AnswerLemmas.{Rest, whole-rest}
 use Rattle.whole_laws.proofs.CutLemmas.{cut-first}
 use Rattle.whole_laws.proofs.FrontLemmas.{front-lawful}
 use Rattle.ha_replay.specs.Traces.{IsEnd}
-use Rattle.ha_replay.proofs.AnswerLemmas.{names-more}
-use Rattle.ha_replay.proofs.SeamLemmas.{behind-of}
+use Rattle.ha_replay.proofs.SeamLemmas.{behind-of, each-front}
+use Rattle.conf_auto.specs.Config.{config_in}
 use Rattle.trace_laws.specs.Lines.{Cuts}
 use Rattle.trace_laws.specs.Runs.{Begins, GoesOn, IsFirst, IsRun, MayFollow, line_count}
 use Rattle.trace_laws.specs.Tells.{GoesNoFurther, HasNoAgain, HasNoEnd, HasNoRoom, IsFarthest, IsNoTrace, IsTraceOf, RestartsNext}
@@ -24,7 +27,7 @@ use Rattle.trace_laws.proofs.CutLemmas.{line_front, one_cut, one_front}
 use Rattle.trace_laws.proofs.FeedLemmas.{end_feed, entry_feed}
 use Rattle.trace_laws.proofs.FirstLemmas.{one_first}
 use Rattle.trace_laws.proofs.EntryLemmas.{known_tail, same_restart}
-use Rattle.trace_laws.proofs.FrontLemmas.{AllKnown, added, all_known, opened_behind, opened_is, opened_on, put_front}
+use Rattle.trace_laws.proofs.FrontLemmas.{AllKnown, added, all_known, opened_behind, opened_is, opened_on, put_front, read_added}
 use Rattle.trace_laws.proofs.RoomLemmas.{had_room, room_or_none, within_front}
 use Rattle.trace_laws.proofs.WalkLemmas.{IsFront, either_way, told, told_is, walk}
 
@@ -32,17 +35,17 @@ use Rattle.trace_laws.proofs.WalkLemmas.{IsFront, either_way, told, told_is, wal
 
 -- a run, ended or not, with what is left behind its trace, is a front of another
 abbrev pub IsFrontRun : Journal → Bool → Text → Journal → Bool → Text → Type 0
-IsFrontRun j ended left j' ended' left' = IsFront (names j') 0 j ended left j' ended' left'
+IsFrontRun j ended left j' ended' left' = IsFront [] j ended left j' ended' left'
 
-text_told : (text : Text) (j : Journal) (rs : Records) (ended : Bool) (left : Text) → Begins text j rs ended left → text ≡ told (names j) 0 j ended left
-text_told text j rs ended left b = b.text_is ∙ told_is (names j) [] j ended left
+text_told : (text : Text) (j : Journal) (rs : Records) (ended : Bool) (left : Text) → Begins text j rs ended left → text ≡ told [] j ended left
+text_told text j rs ended left b = b.text_is ∙ told_is [] j ended left
 
 -- a run's journal, with the Again that is put behind a Restart at its end
 lawful_run : (x : Entry) (xs : Journal) (rs : Records) → IsRun (x ∷ xs) rs → Lawful (x ∷ (xs ++ added (x ∷ xs))) rs
 lawful_run x xs rs run = subst (λ l. Lawful l rs) (opened_is (x ∷ xs)) run.1
 
 known_behind : (x : Entry) (xs : Journal) (rs : Records) → IsRun (x ∷ xs) rs → AllKnown (xs ++ added (x ∷ xs))
-known_behind x xs rs run = known_tail x (xs ++ added (x ∷ xs)) (all_known (x ∷ (xs ++ added (x ∷ xs))) rs (lawful_run x xs rs run))
+known_behind x xs rs run = known_tail x (xs ++ added (x ∷ xs)) (all_known (x ∷ (xs ++ added (x ∷ xs))) rs (lawful_run x xs rs run) (read_added (x ∷ xs) run.2))
 
 -- LAW: of two runs with whose traces a text begins, one is a front of the other
 pub fronts : (text : Text) (j j' : Journal) (rs rs' : Records) (ended ended' : Bool) (left left' : Text) → Begins text j rs ended left → Begins text j' rs' ended' left'
@@ -52,13 +55,11 @@ fronts text [] j' rs rs' false ended' left left' b b' = inl (inr (refl, (j', ref
 fronts text (x ∷ xs) [] rs rs' ended true left left' b b' = absurd ((b'.ends refl).0)
 fronts text (x ∷ xs) [] rs rs' ended false left left' b b' = inr (inr (refl, (x ∷ xs, refl, sym b'.text_is ∙ text_told text (x ∷ xs) rs ended left b)))
 fronts text (x ∷ xs) (y ∷ ys) rs rs' ended ended' left left' b b' =
-    let all : List Text = names (x ∷ xs) in
-    let all' : List Text = names (y ∷ ys) in
-    let whole : told all 0 (x ∷ xs) ended left ≡ told all' 0 (y ∷ ys) ended' left' = sym (text_told text (x ∷ xs) rs ended left b) ∙ text_told text (y ∷ ys) rs' ended' left' b' in
-    let cut = one_front (trace_line all x) (told all 1 xs ended left) (trace_line all' y) (told all' 1 ys ended' left') (entry_feed all x) (entry_feed all' y) whole in
-    let same : x ≡ y = one_first all all' x y b.run.0 b'.run.0 cut.0 in
-    let alls : all ≡ all' = (λ i. names (same i ∷ xs)) in
-    let behind : told all 1 xs ended left ≡ told all 1 ys ended' left' = cut.1 ∙ (λ i. told (sym alls i) 1 ys ended' left') in
+    let all : List Text = names [] in
+    let whole : told [] (x ∷ xs) ended left ≡ told [] (y ∷ ys) ended' left' = sym (text_told text (x ∷ xs) rs ended left b) ∙ text_told text (y ∷ ys) rs' ended' left' b' in
+    let cut = one_front (trace_line all x) (told (x ∷ []) xs ended left) (trace_line all y) (told (y ∷ []) ys ended' left') (entry_feed all x) (entry_feed all y) whole in
+    let same : x ≡ y = one_first all all x y b.run.0 b'.run.0 cut.0 in
+    let behind : told (x ∷ []) xs ended left ≡ told (x ∷ []) ys ended' left' = cut.1 ∙ (λ i. told (sym same i ∷ []) ys ended' left') in
     let ts : Journal = added (x ∷ xs) in
     let us : Journal = added (y ∷ ys) in
     let lawful = lawful_run x xs rs b.run in
@@ -66,14 +67,9 @@ fronts text (x ∷ xs) (y ∷ ys) rs rs' ended ended' left left' b b' =
     let rest : Rest (x ∷ []) (ys ++ us) rs' = subst (λ z. Rest (z ∷ []) (ys ++ us) rs') (sym same) (whole-rest y (ys ++ us) rs' lawful') in
     let low = b.room.room in
     let count = ap length (opened_is (x ∷ xs)) in
-    let way = walk xs ended ys ended' all (x ∷ []) 1 rs rs' left left' ts us tt (cut-first x lawful.right.journal.entries.0) (omega (arith, low, count, length-append (x ∷ xs) ts)) (whole-rest x (xs ++ ts) rs lawful) rest
+    let way = walk xs ended ys ended' (x ∷ []) rs rs' left left' ts us tt (cut-first x lawful.right.journal.entries.0) (omega (arith, low, count, length-append (x ∷ xs) ts)) (whole-rest x (xs ++ ts) rs lawful) rest
     (known_behind x xs rs b.run) (known_behind y ys rs' b'.run) behind in
-    by alls (either_way all 0 x y xs ys ended ended' left left' same way)
-  where
-    by : {all all' : List Text} → all ≡ all' → IsFront all 0 (x ∷ xs) ended left (y ∷ ys) ended' left' ⊎ IsFront all 0 (y ∷ ys) ended' left' (x ∷ xs) ended left
-        → IsFront all' 0 (x ∷ xs) ended left (y ∷ ys) ended' left' ⊎ IsFront all 0 (y ∷ ys) ended' left' (x ∷ xs) ended left
-    by e (inl f) = inl (subst (λ z. IsFront z 0 (x ∷ xs) ended left (y ∷ ys) ended' left') e f)
-    by e (inr f) = inr f
+    either_way [] x y xs ys ended ended' left left' same way
 
 -- ---- finished runs
 
@@ -122,28 +118,27 @@ cut_end n left behind e = (let feed = end_feed n in record { text_is = e ∙ sym
 pub run_front : (j behind : Journal) (rs : Records) → HasEntry j → IsRun (j ++ behind) rs → IsRun j (records_of (opened j))
 run_front [] behind rs has run = absurd has
 run_front (x ∷ xs) behind rs has run =
-    let j : Journal = x ∷ xs in
-    (run.0, front-lawful j (behind ++ added (j ++ behind)) rs tt (subst (λ l. Lawful l rs) (opened_behind j behind) run.1))
+    let j : Journal = x ∷ xs in (
+      run.0,
+      front-lawful j (behind ++ added (j ++ behind)) rs tt (subst (λ l. Lawful l rs) (opened_behind j behind) run.1),
+      each-front (λ before y. IsReadEntry config_in y) [] j behind run.2,
+    )
 
 has_more : (j : Journal) (x : Entry) → HasEntry (more j x)
 has_more [] x = tt
 has_more (first ∷ behind) x = tt
 
-names_front : (j behind : Journal) → HasEntry j → names (j ++ behind) ≡ names j
-names_front [] behind has = absurd has
-names_front (first ∷ xs) behind has = refl
-
 long_front : (j : Journal) (x : Entry) (xs j' : Journal) → j' ≡ j ++ (x ∷ xs) → j' ≡ more j x ++ xs
 long_front j x xs j' e = e ∙ sym (append_assoc j (x ∷ []) xs)
 
 -- an entry with which a longer run goes on may follow
-entry_follows : (j j' : Journal) (rs' : Records) (x : Entry) (xs : Journal) → j' ≡ j ++ (x ∷ xs) → IsRun j' rs' → GoesOn j (entry_feed (names j') x).line x (records_of (opened (more j x)))
+entry_follows : (j j' : Journal) (rs' : Records) (x : Entry) (xs : Journal) → j' ≡ j ++ (x ∷ xs) → IsRun j' rs' → GoesOn j (entry_feed (names j) x).line x (records_of (opened (more j x)))
 entry_follows j j' rs' x xs e run =
     let long : j' ≡ more j x ++ xs = long_front j x xs j' e in
     let moved : IsRun (more j x ++ xs) rs' = subst (λ z. IsRun z rs') long run in
     record {
       run = run_front (more j x) xs rs' (has_more j x) moved;
-      line_is = (entry_feed (names j') x).shown_is ∙ (λ i. trace_line (names (long i)) x) ∙ (λ i. trace_line (names_front (more j x) xs (has_more j x) i) x);
+      line_is = (entry_feed (names j) x).shown_is;
     }
 
 -- the end of a run that ended may follow
@@ -163,7 +158,7 @@ record ByEntry (j : Journal) (ended : Bool) (left : Text) (j' : Journal) : Type 
   behind : Text
   unended : ended ≡ false
   journal : j' ≡ j ++ (entry ∷ more_behind)
-  left_is : left ≡ trace_line (names j') entry ++ behind
+  left_is : left ≡ trace_line (names j) entry ++ behind
 
 -- by the end line, which is left
 record ByEnd (j : Journal) (ended : Bool) (left : Text) (j' : Journal) (ended' : Bool) (left' : Text) : Type 0 where
@@ -188,10 +183,10 @@ one_open m n e true h le = absurd (true-false h)
 one_open m n true false h le = omega (arith, le)
 one_open m n false false h le = omega (arith, le)
 
-goes_on : (j : Journal) (ended : Bool) (left : Text) (j' : Journal) (behind : Journal) (ended' : Bool) (left' : Text) → ended ≡ false → j' ≡ j ++ behind → left ≡ told (names j') (length j) behind ended' left'
+goes_on : (j : Journal) (ended : Bool) (left : Text) (j' : Journal) (behind : Journal) (ended' : Bool) (left' : Text) → ended ≡ false → j' ≡ j ++ behind → left ≡ told j behind ended' left'
     → Compared j ended left j' ended' left'
 goes_on j ended left j' (x ∷ xs) ended' left' open_run journal is =
-    inr (inl (record { entry = x; more_behind = xs; behind = told (names j') (suc (length j)) xs ended' left'; unended = open_run; journal = journal; left_is = is }))
+    inr (inl (record { entry = x; more_behind = xs; behind = told (more j x) xs ended' left'; unended = open_run; journal = journal; left_is = is }))
 goes_on j ended left j' [] true left' open_run journal is = inr (inr (record { unended = open_run; ends = refl; journal = journal ∙ append-nil j; left_is = is }))
 goes_on j ended left j' [] false left' open_run journal is =
     inl (let n = ap length (journal ∙ append-nil j) in one_open (length j') (length j) ended false refl (omega (arith, n)))
@@ -199,8 +194,7 @@ goes_on j ended left j' [] false left' open_run journal is =
 compared : (j : Journal) (ended : Bool) (left : Text) (j' : Journal) (ended' : Bool) (left' : Text) → IsFrontRun j ended left j' ended' left' ⊎ IsFrontRun j' ended' left' j ended left → Compared j ended left j' ended' left'
 compared j ended left j' ended' left' (inl (inl f)) = inl (both_ended (length j') (length j) ended ended' f.0 f.1 (ap length f.2))
 compared j ended left j' ended' left' (inl (inr f)) =
-    let count : 0 + length j ≡ length j = omega arith in
-    goes_on j ended left j' f.1.0 ended' left' f.0 f.1.1 (f.1.2 ∙ (λ i. told (names j') (count i) f.1.0 ended' left'))
+    goes_on j ended left j' f.1.0 ended' left' f.0 f.1.1 f.1.2
 compared j ended left j' ended' left' (inr (inl f)) = inl (both_ended (length j') (length j) ended ended' f.1 f.0 (sym (ap length f.2)))
 compared j ended left j' ended' left' (inr (inr f)) = inl (let n = ap length f.1.1 in one_open (length j') (length j) ended ended' f.0 (omega (arith, n, length-append j' f.1.0)))
 
@@ -230,13 +224,14 @@ lawful_opened : (j xs : Journal) (rs : Records) → HasEntry j → IsRun (j ++ x
 lawful_opened [] xs rs has run = absurd has
 lawful_opened (first ∷ behind) xs rs has run = run.1
 
-next_line : (j : Journal) (line : Text) (x : Entry) (rs : Records) → HasEntry j → GoesOn j line x rs → as_line line ≡ trace_line (names j) x
-next_line j line x rs has g = g.line_is ∙ (λ i. trace_line (names-more j x has i) x)
+pub read_next : (j : Journal) (x : Entry) (rs : Records) → HasEntry j → IsRun (more j x) rs → IsReadEntry config_in x
+read_next [] x rs has run = absurd has
+read_next (first ∷ behind) x rs has run = each-last (λ before y. IsReadEntry config_in y) [] (first ∷ behind) x run.2
 
 -- a journal without room for what stands next has no longer run
 module _ (j : Journal) (left : Text) (has : HasEntry j) (open_end : ends_segment j ≡ false) (short : length j < 2 ^ 64)
-    (x : Entry) (xs : Journal) (j' : Journal) (rs' : Records) (behind : Text) (e : j' ≡ j ++ (x ∷ xs)) (left_is : left ≡ trace_line (names j') x ++ behind) (run : IsRun j' rs') where
-  goes : GoesOn j (entry_feed (names j') x).line x (records_of (opened (more j x)))
+    (x : Entry) (xs : Journal) (j' : Journal) (rs' : Records) (behind : Text) (e : j' ≡ j ++ (x ∷ xs)) (left_is : left ≡ trace_line (names j) x ++ behind) (run : IsRun j' rs') where
+  goes : GoesOn j (entry_feed (names j) x).line x (records_of (opened (more j x)))
   goes = entry_follows j j' rs' x xs e run
 
   stands : Lawful (put j x) (records_of (opened (more j x)))
@@ -246,11 +241,11 @@ module _ (j : Journal) (left : Text) (has : HasEntry j) (open_end : ends_segment
   lacks_it (inl full) = inl (subst IsFull (opened_on j open_end) full)
   lacks_it (inr cannot) =
       let n = cannot.1 in
-      let cuts = cut_entry (names j') x left behind left_is in
-      let same = (one_cut n.line n.behind (entry_feed (names j') x).line behind n.cuts.one_line cuts.one_line (sym n.cuts.text_is ∙ cuts.text_is)).0 in
+      let cuts = cut_entry (names j) x left behind left_is in
+      let same = (one_cut n.line n.behind (entry_feed (names j) x).line behind n.cuts.one_line cuts.one_line (sym n.cuts.text_is ∙ cuts.text_is)).0 in
       inr (
         same_restart j n.line n.entry x n.records (records_of (opened (more j x))) has short (lawful_next j n.entry n.records has n.goes_on.run) stands
-            (next_line j n.line n.entry n.records has n.goes_on) (ap as_line same ∙ next_line j (entry_feed (names j') x).line x (records_of (opened (more j x))) has goes) n.restarts,
+            (read_next j n.entry n.records has n.goes_on.run) (read_next j x (records_of (opened (more j x))) has goes.run) n.goes_on.line_is (ap as_line same ∙ goes.line_is) n.restarts,
         subst CannotRestart (opened_on j open_end) cannot.0,
       )
 
@@ -263,14 +258,14 @@ module _ (j : Journal) (left : Text) (has : HasEntry j) (open_end : ends_segment
       let none = plain_behind j x (behind-of j x has stands.right.journal.entries) open_end in
       had_room j x none (within_front (put j x) front.0 (subst IsWithin ((λ i. opened (long i)) ∙ front.1) within))
 
-no_entry : (j : Journal) (left : Text) → HasNoRoom j left → HasNoAgain j left → (j' : Journal) (rs' : Records) (x : Entry) (xs : Journal) (behind : Text) → j' ≡ j ++ (x ∷ xs) → left ≡ trace_line (names j') x ++ behind
+no_entry : (j : Journal) (left : Text) → HasNoRoom j left → HasNoAgain j left → (j' : Journal) (rs' : Records) (x : Entry) (xs : Journal) (behind : Text) → j' ≡ j ++ (x ∷ xs) → left ≡ trace_line (names j) x ++ behind
     → IsRun j' rs' → IsWithin (opened j') → ⊥
 no_entry [] left (inl full) no_again j' rs' x xs behind e left_is run within = none_full full
 no_entry [] left (inr cannot) no_again j' rs' x xs behind e left_is run within = first_plain cannot.1.entry cannot.1.goes_on.run.0 cannot.1.restarts
 no_entry (first ∷ es) left lacks no_again j' rs' x xs behind e left_is run within = by (ends_segment (first ∷ es)) refl
   where
     by : (b : Bool) → ends_segment (first ∷ es) ≡ b → ⊥
-    by true ends = no_again (entry_feed (names j') x).line behind x (records_of (opened (more (first ∷ es) x))) (cut_entry (names j') x left behind left_is) ends (entry_follows (first ∷ es) j' rs' x xs e run)
+    by true ends = no_again (entry_feed (names (first ∷ es)) x).line behind x (records_of (opened (more (first ∷ es) x))) (cut_entry (names (first ∷ es)) x left behind left_is) ends (entry_follows (first ∷ es) j' rs' x xs e run)
     by false open_end =
         let count = ap length e ∙ length-append (first ∷ es) (x ∷ xs) in
         let whole = ap length (opened_is j') ∙ length-append j' (added j') in
@@ -297,8 +292,8 @@ module _ (text : Text) (j : Journal) (rs : Records) (ended : Bool) (left : Text)
 
       by : (j' : Journal) (rs' : Records) (ended' : Bool) (left' : Text) → Begins text j' rs' ended' left' → IsLonger j ended left j' ended' left' → ⊥
       by j' rs' ended' left' b' (inl e) =
-          let line : Text = (entry_feed (names j') e.entry).line in
-          open_stops line e.behind e.unended (stops line e.behind (cut_entry (names j') e.entry left e.behind e.left_is)) (inr (e.entry, records_of (opened (more j e.entry)), entry_follows j j' rs' e.entry e.more_behind e.journal b'.run))
+          let line : Text = (entry_feed (names j) e.entry).line in
+          open_stops line e.behind e.unended (stops line e.behind (cut_entry (names j) e.entry left e.behind e.left_is)) (inr (e.entry, records_of (opened (more j e.entry)), entry_follows j j' rs' e.entry e.more_behind e.journal b'.run))
       by j' rs' ended' left' b' (inr e) =
           let line : Text = (end_feed (length j)).line in
           let ends = b'.ends e.ends in

@@ -9,13 +9,15 @@ use Rattle.ha_journal.specs.declared.entry.Entry.TheVariants.{Boot, Line, Step, 
 use Rattle.ha_config.specs.Names.{automation_named}
 use Rattle.ha_config.specs.Sound.{are_in_name_order}
 use Rattle.ha_config.specs.Words.{Text}
-use Rattle.ha_journal.specs.Journal.{HasEntry, Journal, names, more}
+use Rattle.ha_journal.specs.Journal.{HasEntry, Journal, more}
 use Rattle.ha_model.specs.Records.{Records}
+use Rattle.ha_whole.specs.Trace.{names, trace_text}
 use Rattle.ha_whole.specs.Whole.{IsWithin, Lawful, ends_segment, is_quiet, opened}
 use Rattle.ha_config.specs.CheckText.{as_line}
 use Rattle.ha_journal.specs.Entries.{first_carry}
-use Rattle.ha_journal.specs.EntryText.{trace_line, trace_text}
-use Rattle.conf_auto.specs.Config.{config_of}
+use Rattle.ha_journal.specs.EntryText.{trace_line}
+use Rattle.ha_journal.specs.Commands.{AreRead}
+use Rattle.conf_auto.specs.Config.{config_in, config_of}
 use Rattle.ha_replay.specs.declared.boot.BootLine.{BootLine}
 use Rattle.ha_replay.specs.Boots.{HasUtf8, Moments, Switches, are_in_time, are_stored}
 use Rattle.ha_replay.specs.Traces.{IsEnd}
@@ -46,10 +48,11 @@ IsFirst (Again number start stored carry) = ⊥
 
 -- ---- runs
 
--- a run so far: nothing yet, or a journal with such a first entry that is lawful, opened where it ends with a Restart
+-- A run so far: nothing yet, or a journal with such a first entry that is lawful, opened where it ends with a Restart, and in which each
+-- Reload has the configuration that its text is read as.
 abbrev pub IsRun : Journal → Records → Type 0
 IsRun [] rs = rs ≡ []
-IsRun (first ∷ behind) rs = IsFirst first × Lawful (opened (first ∷ behind)) rs
+IsRun (first ∷ behind) rs = IsFirst first × Lawful (opened (first ∷ behind)) rs × AreRead config_in (first ∷ behind)
 
 -- The text begins with the trace of a run so far, with its end line where the run has ended, which is quiet then and ends with no Restart;
 -- the rest is left.
@@ -68,7 +71,7 @@ line_count j ended = length j + (if ended then 1 else 0)
 -- the line, with its LF, is that of an entry with which the run goes on
 pub record GoesOn (j : Journal) (line : Text) (x : Entry) (rs : Records) : Type 0 where
   pub run : IsRun (more j x) rs
-  pub line_is : as_line line ≡ trace_line (names (more j x)) x
+  pub line_is : as_line line ≡ trace_line (names j) x
 
 -- the line may stand next: it is that of an entry, or the end line
 abbrev pub MayFollow : Journal → Records → Text → Type 0

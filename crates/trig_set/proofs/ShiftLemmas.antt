@@ -1,7 +1,8 @@
 -- The states of entities after one more entry, by the entry and what is seen after it.
-use Rattle.std.proofs.Common.{◌≡◌, ℕ, suc, ◌+◌, ◌<◌, List, [], ◌∷◌, ◌++◌, length, take, Bool, true, false, true≢false, refl, sym, ap, subst, ◌∙◌, arith}
-use Rattle.std.specs.Prelude.{Option, Some, None, MatchOption, slice_get, find, is_some, map, option_map, option_and_then, codes, ◌||◌, if◌then◌else◌}
-use Rattle.std.specs.List.{enumerate_from, list_all}
+use Rattle.std.proofs.Common.{◌≡◌, ℕ, List, [], ◌∷◌, ◌++◌, length, Bool, true, false, true≢false, refl, sym, ap, subst, ◌∙◌, rules}
+use Rattle.std.proofs.Math.Seq.{take-length}
+use Rattle.std.specs.Prelude.{IsSome, Option, Some, None, MatchOption, find, is_some, map, nat_eq, option_map, option_and_then, codes, ◌||◌, if◌then◌else◌}
+use Rattle.std.specs.List.{list_all}
 use Rattle.std.specs.Option.{option_map_or}
 use Rattle.ha_value.specs.declared.value.EntityId.{EntityId}
 use Rattle.ha_config.specs.declared.config.Automation.{Automation}
@@ -16,10 +17,10 @@ use Rattle.ha_sight.specs.declared.helped.HelperChange.{HelperChange}
 use Rattle.ha_journal.specs.declared.event.BusEvent.{BusEvent}
 use Rattle.ha_journal.specs.Entries.{change_of, changes_in, report_in, gone_in, is_boot, is_restart, opens_segment}
 use Rattle.ha_journal.specs.Helpers.{finishes, helper_events, text_of}
-use Rattle.ha_journal.specs.Journal.{Journal, HasEntry, automations, helpers, now, more}
-use Rattle.ha_sight.specs.Sight.{switch_seen, Sight}
-use Rattle.ha_config.specs.Names.{automation_named}
-use Rattle.ha_journal.specs.States.{of_automation, of_helper, reported, states, switches_of}
+use Rattle.ha_journal.specs.Journal.{Journal, HasEntry, helpers, in_force, now, more}
+use Rattle.ha_sight.specs.Sight.{Automations, switch_at, switch_seen, Sight}
+use Rattle.ha_config.specs.Names.{named_among}
+use Rattle.ha_journal.specs.States.{of_automation, of_helper, reported, states, switches_seen}
 use Rattle.ha_sight.specs.StateStep.{next_object}
 use Rattle.ha_journal.specs.Switches.{is_on}
 use Rattle.ha_journal.specs.Moves.{sight}
@@ -35,73 +36,73 @@ use Rattle.trig_set.specs.Shifts.{AreMade, IsMade, changed_face, face_after, fac
 
 -- ---- switches
 
-module _ (test : Text × Bool → Bool) where
-  within : (k : ℕ) (all : List (Text × Bool)) (a : ℕ) → option_map (λ p. p.0) (find (λ p. test p.1) (enumerate_from k all)) ≡ Some a → a < k + length all
-  within k [] a h = cc
-  within k (p ∷ ps) a h = by (test p) (λ h. (let r = within (k + 1) ps a h in omega (arith, r))) h
-    where
-      by : (b : Bool) → (option_map (λ p. p.0) (find (λ p. test p.1) (enumerate_from (k + 1) ps)) ≡ Some a → a < k + suc (length ps))
-          → option_map (λ p. p.0) (if b then Some (k, p) else find (λ p. test p.1) (enumerate_from (k + 1) ps)) ≡ Some a → a < k + suc (length ps)
-      by true rest h = (let e : k ≡ a = cc in omega (arith, e))
-      by false rest h = rest h
+eq-self : (a b : ℕ) → a ≡ b → nat_eq a b ≡ true
+eq-self a b e = search (rules, e)
 
--- LAW: the place of an automation that is seen lies in the list
-pub place-within : (all : List (Text × Bool)) (e : EntityId) (a : ℕ) → automation_at all e ≡ Some a → a < length all
-place-within all e a h = by (same e.domain (codes "automation")) h
+eq-of : (a b : ℕ) → nat_eq a b ≡ true → a ≡ b
+eq-of a b e = search (rules, e)
+
+-- one that is found is found by its number
+found-seen : (test : ℕ × Text × Bool → Bool) (all : Automations) (a : ℕ) → option_map (λ (p : ℕ × Text × Bool). p.0) (find test all) ≡ Some a → IsSome (switch_at all a)
+found-seen test [] a h = absurd (let bad : ◌≡◌ {A = Option ℕ} None (Some a) = h in cc)
+found-seen test (p ∷ ps) a h = by (nat_eq p.0 a) (test p) refl h (found-seen test ps a)
   where
-    by : (b : Bool) → (if b then option_map (λ p. p.0) (find (λ p. same p.1.0 e.object) (enumerate_from 0 all)) else None) ≡ Some a → a < length all
-    by true h = (let r = within (λ p. same p.0 e.object) 0 all a h in omega (arith, r))
-    by false h = cc
+    by : (b c : Bool) → nat_eq p.0 a ≡ b → option_map (λ (q : ℕ × Text × Bool). q.0) (if c then Some p else find test ps) ≡ Some a
+        → (option_map (λ (q : ℕ × Text × Bool). q.0) (find test ps) ≡ Some a → IsSome (switch_at ps a))
+        → IsSome (option_map (λ (q : ℕ × Text × Bool). q.2) (if b then Some p else find (λ q. nat_eq q.0 a) ps))
+    by true c e g rec = refl
+    by false true e g rec = (let own : p.0 ≡ a = cc in absurd (let bad : ◌≡◌ {A = Bool} true false = sym (eq-self p.0 a own) ∙ e in cc))
+    by false false e g rec = rec g
+
+-- LAW: an automation that is seen has a switch
+pub automation-seen : (all : Automations) (e : EntityId) (a : ℕ) → automation_at all e ≡ Some a → IsSome (switch_at all a)
+automation-seen all e a h = by (same e.domain (codes "automation")) h
+  where
+    by : (b : Bool) → (if b then option_map (λ (p : ℕ × Text × Bool). p.0) (find (λ (p : ℕ × Text × Bool). same p.1 e.object) all) else None) ≡ Some a → IsSome (switch_at all a)
+    by true g = found-seen (λ p. same p.1 e.object) all a g
+    by false g = absurd (let bad : ◌≡◌ {A = Option ℕ} None (Some a) = g in cc)
 
 module _ (j : Journal) (name : Text) where
-  abbrev switch : ℕ × Automation → Text × Bool
-  switch p = (p.1.name, is_on j p.0)
+  abbrev Rules : Type 0
+  Rules = List (ℕ × Automation)
 
-  same-place : (k : ℕ) (all : List Automation) → option_map (λ p. p.0) (find (λ p. same p.1.0 name) (enumerate_from k (map switch (enumerate_from k all)))) ≡ option_map (λ p. p.0) (find (λ p. same p.1.name name) (enumerate_from k all))
-  same-place k [] = refl
-  same-place k (a ∷ more_of) = by (same a.name name) (same-place (k + 1) more_of)
+  -- automations with their switches
+  abbrev shown : Rules → Automations
+  shown ps = map {A = ℕ × Automation} {B = ℕ × Text × Bool} (λ p. (p.0, p.1.name, is_on j p.0)) ps
+
+  abbrev numbered : Automations → Option ℕ
+  numbered all = option_map (λ (p : ℕ × Text × Bool). p.0) (find (λ (p : ℕ × Text × Bool). same p.1 name) all)
+
+  -- the same is found under a name
+  same-number : (ps : Rules) → numbered (shown ps) ≡ named_among ps name
+  same-number [] = refl
+  same-number (p ∷ ps) = by (same p.1.name name) (same-number ps)
     where
-      by : (b : Bool)
-          → option_map (λ p. p.0) (find (λ p. same p.1.0 name) (enumerate_from (k + 1) (map switch (enumerate_from (k + 1) more_of)))) ≡ option_map (λ p. p.0) (find (λ p. same p.1.name name) (enumerate_from (k + 1) more_of))
-          → option_map (λ p. p.0) (if b then Some (k, switch (k, a)) else find (λ p. same p.1.0 name) (enumerate_from (k + 1) (map switch (enumerate_from (k + 1) more_of))))
-          ≡ option_map (λ p. p.0) (if b then Some (k, a) else find (λ p. same p.1.name name) (enumerate_from (k + 1) more_of))
-      by true rest = refl
-      by false rest = rest
+      by : (b : Bool) → numbered (shown ps) ≡ named_among ps name
+          → option_map (λ (q : ℕ × Text × Bool). q.0) (if b then Some (p.0, p.1.name, is_on j p.0) else find (λ (q : ℕ × Text × Bool). same q.1 name) (shown ps))
+          ≡ option_map (λ (q : ℕ × Automation). q.0) (if b then Some p else find (λ (q : ℕ × Automation). same q.1.name name) ps)
+      by true h = refl
+      by false h = h
 
-  -- what is seen at the place that is found
-  found-switch : (k : ℕ) (all : List Automation) (get : ℕ → Option (Text × Bool)) → ((n : ℕ) → get (k + n) ≡ slice_get (map switch (enumerate_from k all)) n)
-      → option_and_then (λ a. option_map (λ p. p.1) (get a)) (option_map (λ p. p.0) (find (λ p. same p.1.name name) (enumerate_from k all)))
-      ≡ option_map (is_on j) (option_map (λ p. p.0) (find (λ p. same p.1.name name) (enumerate_from k all)))
-  found-switch k [] get h = refl
-  found-switch k (a ∷ more_of) get h = by (same a.name name) (found-switch (k + 1) more_of get there)
+  -- and its switch is seen
+  switch-of : (ps : Rules) (a : ℕ) → named_among ps name ≡ Some a → switch_at (shown ps) a ≡ Some (is_on j a)
+  switch-of [] a h = absurd (let bad : ◌≡◌ {A = Option ℕ} None (Some a) = h in cc)
+  switch-of (p ∷ ps) a h = by (nat_eq p.0 a) (same p.1.name name) refl h (switch-of ps a)
     where
-      here : get k ≡ Some (switch (k, a))
-      here = (let e : k ≡ k + 0 = omega arith in ap get e ∙ h 0)
+      by : (b c : Bool) → nat_eq p.0 a ≡ b → option_map (λ (q : ℕ × Automation). q.0) (if c then Some p else find (λ (q : ℕ × Automation). same q.1.name name) ps) ≡ Some a
+          → (named_among ps name ≡ Some a → switch_at (shown ps) a ≡ Some (is_on j a))
+          → option_map (λ (q : ℕ × Text × Bool). q.2) (if b then Some (p.0, p.1.name, is_on j p.0) else find (λ (q : ℕ × Text × Bool). nat_eq q.0 a) (shown ps)) ≡ Some (is_on j a)
+      by true c e g rec = (let own : p.0 ≡ a = eq-of p.0 a e in λ i. Some (is_on j (own i)))
+      by false true e g rec = (let own : p.0 ≡ a = cc in absurd (let bad : ◌≡◌ {A = Bool} true false = sym (eq-self p.0 a own) ∙ e in cc))
+      by false false e g rec = rec g
 
-      there : (n : ℕ) → get (k + 1 + n) ≡ slice_get (map switch (enumerate_from (k + 1) more_of)) n
-      there n = (let e : k + 1 + n ≡ k + suc n = omega arith in ap get e ∙ h (suc n))
-
-      by : (b : Bool)
-          → option_and_then (λ a. option_map (λ p. p.1) (get a)) (option_map (λ p. p.0) (find (λ p. same p.1.name name) (enumerate_from (k + 1) more_of)))
-          ≡ option_map (is_on j) (option_map (λ p. p.0) (find (λ p. same p.1.name name) (enumerate_from (k + 1) more_of)))
-          → option_and_then (λ a. option_map (λ p. p.1) (get a)) (option_map (λ p. p.0) (if b then Some (k, a) else find (λ p. same p.1.name name) (enumerate_from (k + 1) more_of)))
-          ≡ option_map (is_on j) (option_map (λ p. p.0) (if b then Some (k, a) else find (λ p. same p.1.name name) (enumerate_from (k + 1) more_of)))
-      by true rest = ap (option_map (λ p. p.1)) here
-      by false rest = rest
-
-  get-at : (all : List (Text × Bool)) (n : ℕ) → slice_get all (0 + n) ≡ slice_get all n
-  get-at all n = (let e : 0 + n ≡ n = omega arith in ap (slice_get all) e)
-
-  -- LAW: the switch that is seen of a name is that of the automation of that name
-  switch-seen : option_and_then (λ a. option_map (λ p. p.1) (slice_get (switches_of j) a)) (option_map (λ p. p.0) (find (λ p. same p.1.0 name) (enumerate_from 0 (switches_of j))))
-      ≡ option_map (is_on j) (automation_named (automations j) name)
-  switch-seen =
-      ap (option_and_then (λ a. option_map (λ p. p.1) (slice_get (switches_of j) a))) (same-place 0 (automations j))
-      ∙ found-switch 0 (automations j) (slice_get (switches_of j)) (get-at (switches_of j))
-
-take-whole : (j : Journal) → take (length j) j ≡ j
-take-whole [] = refl
-take-whole (y ∷ ys) = (λ i. y ∷ take-whole ys i)
+  -- LAW: the switch that is seen of a name is that of the automation in force of that name
+  switch-seen : option_and_then (switch_at (switches_seen j)) (numbered (switches_seen j)) ≡ option_map (is_on j) (named_among (in_force j) name)
+  switch-seen = (λ i. option_and_then (switch_at (switches_seen j)) (same-number (in_force j) i)) ∙ by (named_among (in_force j) name) refl
+    where
+      by : (o : Option ℕ) → named_among (in_force j) name ≡ o → option_and_then (switch_at (switches_seen j)) o ≡ option_map (is_on j) o
+      by None e = refl
+      by (Some a) e = switch-of (in_force j) a e
 
 faces : (j : Journal) (o : Option ℕ) → face (option_map (of_automation j) o) ≡ option_map face_of_switch (option_map (is_on j) o)
 faces j None = refl
@@ -109,10 +110,10 @@ faces j (Some a) = refl
 
 automation-face : (j : Journal) (e : EntityId) → is_automation e ≡ true → face (states j e) ≡ option_map face_of_switch (option_and_then (switch_seen (sight j (length j))) (automation_at (sight j (length j)).automations e))
 automation-face j e h =
-    (λ i. face (if h i then option_map (of_automation j) (automation_named (automations j) e.object) else option_map_or (of_helper j) (helper_named (helpers j) e) (reported j e)))
-    ∙ faces j (automation_named (automations j) e.object)
+    (λ i. face (if h i then option_map (of_automation j) (named_among (in_force j) e.object) else option_map_or (of_helper j) (helper_named (helpers j) e) (reported j e)))
+    ∙ faces j (named_among (in_force j) e.object)
     ∙ ap (option_map face_of_switch) (sym (switch-seen j e.object))
-    ∙ (λ i. option_map face_of_switch (option_and_then (λ a. option_map (λ p. p.1) (slice_get (switches_of (sym (take-whole j) i)) a)) (if sym h i then option_map (λ p. p.0) (find (λ p. same p.1.0 e.object) (enumerate_from 0 (switches_of (sym (take-whole j) i)))) else None)))
+    ∙ (let all = sym (take-length j) in λ i. option_map face_of_switch (option_and_then (switch_at (switches_seen (all i))) (if sym h i then option_map (λ (p : ℕ × Text × Bool). p.0) (find (λ (p : ℕ × Text × Bool). same p.1 e.object) (switches_seen (all i))) else None)))
 
 -- ---- other entities
 
@@ -155,6 +156,7 @@ module _ (j : Journal) (e : EntityId) where
       by true = refl
       by false = refl
   next (Line k n Cmd.Restart) = ap face (reported-restart j e k n)
+  next (Line k n (Cmd.Reload text config)) = other (Line k n (Cmd.Reload text config)) refl refl refl
   next (Line k n (Cmd.Event kind pairs)) = other (Line k n (Cmd.Event kind pairs)) refl refl refl
   next (Line k n (Cmd.Moment at)) = other (Line k n (Cmd.Moment at)) refl refl refl
   next (Line k n (Cmd.Switch name on stop)) = other (Line k n (Cmd.Switch name on stop)) refl refl refl
@@ -181,7 +183,7 @@ module _ (j : Journal) (e : EntityId) where
     named k = helper_named (helpers k) e
 
     states-by : (k : Journal) → states k e ≡ option_map_or (of_helper k) (named k) (reported k e)
-    states-by k = (λ i. if plain i then option_map (of_automation k) (automation_named (automations k) e.object) else option_map_or (of_helper k) (named k) (reported k e))
+    states-by k = (λ i. if plain i then option_map (of_automation k) (named_among (in_force k) e.object) else option_map_or (of_helper k) (named k) (reported k e))
 
     of-nobody : named (more j x) ≡ None → changes_helpers j x ≡ true → face (states (more j x) e) ≡ next_face (helper_events j x) x e (face (states j e))
     of-nobody none helped =

@@ -196,7 +196,14 @@ impl Home {
             scripts: Many::make(alloc),
             helpers: Many::make(alloc),
         };
-        let view = View::make(&self.states, &config, &self.zone, moment(self.now));
+        let numbers = Many::make(alloc);
+        let view = View::make(
+            &self.states,
+            &config,
+            &numbers,
+            &self.zone,
+            moment(self.now),
+        );
         let place = self.place;
         self.place = place.saturating_add(1);
         match entries.get(0) {
@@ -257,7 +264,14 @@ impl Home {
             scripts: Many::make(alloc),
             helpers: Many::make(alloc),
         };
-        let view = View::make(&self.states, &config, &self.zone, moment(self.start));
+        let numbers = Many::make(alloc);
+        let view = View::make(
+            &self.states,
+            &config,
+            &numbers,
+            &self.zone,
+            moment(self.start),
+        );
         let fired = self.set.open_segment(alloc, &self.zone, &view)?;
         self.place = 1;
         Ok(are(fired.as_slice(), wanted))

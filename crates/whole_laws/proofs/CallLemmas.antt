@@ -20,7 +20,8 @@ use Rattle.ha_model.proofs.FoldLaws.{records-passes}
 use Rattle.ha_model.proofs.Passes.{ended, with_begins}
 use Rattle.ha_model.specs.Lawful as one
 use Rattle.ha_model.specs.Lawful.{record_of}
-use Rattle.ha_model.specs.Texts.{call_of_step, call_text, call_text_of}
+use Rattle.ha_model.specs.Texts.{call_of_step}
+use Rattle.ha_whole.specs.Trace.{call_text, call_text_of, names}
 use Rattle.ha_config.proofs.ListLemmas.{append-nil, none-some, some-same}
 use Rattle.ha_journal.proofs.MoreLemmas.{has-entry}
 use Rattle.ha_model.proofs.AppendLemmas.{SameUpTo}
@@ -241,14 +242,14 @@ module _ (rs rs' : Records) (same : SameNumbers rs rs') where
   text-same before (Line source number cmd) h = refl
   text-same before (Step worker serial branch item) h = by (call_in item)
     where
-      by : (o : Option Called) → option_map_or (call_of_step rs before (record { worker = worker; serial = serial; branch = branch; item = item })) o []
-          ≡ option_map_or (call_of_step rs' before (record { worker = worker; serial = serial; branch = branch; item = item })) o []
+      by : (o : Option Called) → option_map_or (call_of_step (names before) rs before (record { worker = worker; serial = serial; branch = branch; item = item })) o []
+          ≡ option_map_or (call_of_step (names before) rs' before (record { worker = worker; serial = serial; branch = branch; item = item })) o []
       by None = refl
       by (Some call) =
           let c = carried (segment before) in
           let within = found-within (front before) (segment before) c ((serial - c) - 1) rs h.0 h.1 in
           let there = get-there rs (serial - 1) (omega (arith, within)) in
-          step-same before (record { worker = worker; serial = serial; branch = branch; item = item }) call rs rs' there.0 same there.1
+          step-same (names before) before (record { worker = worker; serial = serial; branch = branch; item = item }) call rs rs' there.0 same there.1
 
   texts-same : (before xs : Journal) → EachAfter (IsRightEntry rs) before xs → texts_after (call_text_of rs) before xs ≡ texts_after (call_text_of rs') before xs
   texts-same before [] h = refl

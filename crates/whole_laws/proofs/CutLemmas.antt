@@ -1,13 +1,15 @@
 -- How a journal is cut, with one more entry.
 use Rattle.std.proofs.Common.{◌≡◌, ℕ, suc, ◌+◌, ◌-◌, List, [], ◌∷◌, ◌++◌, length, refl, sym, subst, ◌∙◌, arith, append_assoc}
-use Rattle.std.specs.Prelude.{Some, None}
+use Rattle.std.specs.Prelude.{Option, Some, None}
+use Rattle.std.specs.Option.{option_map_or}
 use Rattle.std.proofs.lemmas.List.Sums.{fold-append}
 use Rattle.ha_journal.specs.declared.entry.Entry.{Entry}
 use Rattle.ha_journal.specs.declared.entry.Entry.TheVariants.{Boot, Line, Step, Again}
 use Rattle.ha_config.specs.Words.{EachAfter, EachFrom}
-use Rattle.ha_journal.specs.Entries.{Reopening, again_in, BeginsSegment, IsBoot}
-use Rattle.ha_config.specs.Units.{units_of}
-use Rattle.ha_journal.specs.Journal.{Journal, HasEntry, automations, configured, more, units}
+use Rattle.ha_config.specs.declared.config.Config.{Config}
+use Rattle.ha_journal.specs.Entries.{Reopening, again_in, BeginsSegment, IsBoot, reload_in}
+use Rattle.ha_journal.specs.Force.{force, reloaded, in_place_of}
+use Rattle.ha_journal.specs.Journal.{Journal, HasEntry, automations, configured, more}
 use Rattle.ha_journal.specs.Journal as one
 use Rattle.ha_model.specs.Records as all
 use Rattle.ha_model.specs.Records.{Records}
@@ -15,7 +17,8 @@ use Rattle.ha_whole.specs.Segments.{Cut, alone, carried, counted_from, cut, cut_
 use Rattle.ha_whole.specs.Whole.{AreEntries, IsBehind, IsFirst, again_of, carry_of, placed_all, records_from, records_of}
 use Rattle.ha_config.proofs.ListLemmas.{append-nil, none-some}
 use Rattle.ha_laws.proofs.PrefixLaws.{has-more}
-use Rattle.ha_journal.proofs.MoreLemmas.{has-entry, length-more, automations-more, configured-more}
+use Rattle.ha_journal.proofs.ForceLaws.{configured-more, force-more}
+use Rattle.ha_journal.proofs.MoreLemmas.{has-entry, length-more}
 
 abbrev none_yet : Cut
 none_yet = record { closed = []; last = [] }
@@ -96,6 +99,21 @@ pub carried-on : (s : Journal) (x : Entry) → HasEntry s → carried (more s x)
 carried-on [] x h = absurd h
 carried-on (e ∷ es) x h = refl
 
+-- a Reload is one, read alone
+pub alone-reload : (n : ℕ) (x : Entry) → reload_in (counted_from n x) ≡ reload_in x
+alone-reload n (Boot text config stored start zone carry) = refl
+alone-reload n (Line source number cmd) = refl
+alone-reload n (Step worker serial branch item) = refl
+alone-reload n (Again number start stored carry) = refl
+
+-- the configuration in force with any entry more
+pub configured-told : (j : Journal) (x : Entry) → HasEntry j → configured (more j x) ≡ option_map_or (in_place_of (configured j)) (reload_in x) (configured j)
+configured-told j x h = (λ i. (force-more j x h i).config) ∙ by (reload_in x)
+  where
+    by : (o : Option Config) → (option_map_or (reloaded (force j)) o (force j)).config ≡ option_map_or (in_place_of (configured j)) o (configured j)
+    by None = refl
+    by (Some c) = refl
+
 -- with an entry that opens no segment
 pub cut-on : (j : Journal) (x : Entry) → IsCut j → HasEntry j → again_in x ≡ None → (IsBoot x → ⊥) → IsCut (more j x)
 cut-on j x c has e not_boot =
@@ -103,14 +121,16 @@ cut-on j x c has e not_boot =
     let y = alone s x in
     let on : segment (more j x) ≡ more s y = segment-on j x e in
     let closed = closed-on j x e in
+    let conf : configured (segment (more j x)) ≡ configured (more j x)
+    = (λ i. configured (on i)) ∙ configured-told s y (has-entry s c.alone)
+    ∙ (λ i. option_map_or (in_place_of (c.configured_are i)) (alone-reload (carried s) x i) (c.configured_are i))
+    ∙ sym (configured-told j x has) in
     record {
       alone = subst one.IsJournal (sym on) (journal-on s y c.alone (alone-goes-on (carried s) x e not_boot));
       length_is =
           (λ i. entries_in (closed i) + length (on i)) ∙ omega (arith, c.length_is, length-more s y, length-more j x);
-      automations_are =
-          (λ i. automations (on i)) ∙ sym (automations-more s y (has-entry s c.alone)) ∙ c.automations_are ∙ automations-more j x has;
-      configured_are =
-          (λ i. configured (on i)) ∙ sym (configured-more s y (has-entry s c.alone)) ∙ c.configured_are ∙ configured-more j x has;
+      automations_are = (λ i. (conf i).automations);
+      configured_are = conf;
       carried_is =
           (λ i. carried (on i)) ∙ carried-on s y (has-entry s c.alone) ∙ c.carried_is ∙ (λ i. length (records_from 0 (sym closed i)));
     }
@@ -120,14 +140,19 @@ pub record Opens (s : Journal) (a : Reopening) : Type 0 where
   pub boot : Entry
   pub is : reopened s a ≡ boot ∷ []
   pub is_boot : IsBoot boot
-  pub automations_are : automations (boot ∷ []) ≡ automations s
   pub configured_are : configured (boot ∷ []) ≡ configured s
   pub carried_is : carried (boot ∷ []) ≡ a.carry.serials
 
 pub reopens : (s : Journal) (a : Reopening) → one.IsJournal s → Opens s a
 reopens [] a h = absurd h
 reopens (Boot text config stored start zone carry ∷ es) a h =
-    record { boot = Boot text config (Some a.stored) a.start zone a.carry; is = refl; is_boot = tt; automations_are = refl; configured_are = refl; carried_is = refl }
+    record {
+      boot = Boot text (configured (Boot text config stored start zone carry ∷ es)) (Some a.stored) a.start zone a.carry;
+      is = refl;
+      is_boot = tt;
+      configured_are = refl;
+      carried_is = refl;
+    }
 reopens (Line source number cmd ∷ es) a h = absurd h.0
 reopens (Step worker serial branch item ∷ es) a h = absurd h.0
 reopens (Again number start stored carry ∷ es) a h = absurd h.0
@@ -141,13 +166,15 @@ cut-again j c has =
     let o = reopens s a c.alone in
     let on : segment (more j x) ≡ o.boot ∷ [] = segment-again j x a refl ∙ o.is in
     let closed : (cut (more j x)).closed ≡ segments j = closed-again j x a refl in
+    let conf : configured (segment (more j x)) ≡ configured (more j x)
+    = (λ i. configured (on i)) ∙ o.configured_are ∙ c.configured_are ∙ configured-more j x has refl in
     record {
       alone = subst one.IsJournal (sym on) (o.is_boot, tt);
       length_is =
           (λ i. entries_in (closed i) + length (on i))
           ∙ omega (arith, entries-snoc (cut j).closed s, c.length_is, length-more j x);
-      automations_are = (λ i. automations (on i)) ∙ o.automations_are ∙ c.automations_are ∙ automations-more j x has;
-      configured_are = (λ i. configured (on i)) ∙ o.configured_are ∙ c.configured_are ∙ configured-more j x has;
+      automations_are = (λ i. (conf i).automations);
+      configured_are = conf;
       carried_is = (λ i. carried (on i)) ∙ o.carried_is ∙ (λ i. length (records_from 0 (sym closed i)));
     }
 
@@ -169,12 +196,8 @@ cut-first (Line source number cmd) h = absurd h
 cut-first (Step worker serial branch item) h = absurd h
 cut-first (Again number start stored carry) h = absurd h
 
--- LAW: the last segment of a journal is itself a journal, with the entries behind those before it, of the same configuration,
+-- LAW: the last segment of a journal is itself a journal, with the entries behind those before it, with the same configuration in force,
 -- and it carries how many runs there were
 pub is-cut : (j : Journal) → AreEntries j → IsCut j
 is-cut [] h = absurd h
 is-cut (e ∷ es) h = cut-from (e ∷ []) es (cut-first e h.0) tt h.1
-
--- LAW: so it is of the same units
-pub units-are : (j : Journal) → IsCut j → units (segment j) ≡ units j
-units-are j c = (λ i. units_of (c.configured_are i))

@@ -33,7 +33,7 @@ each-behind P before (x ∷ xs) ys h = subst (λ l. EachAfter P l ys) (append_as
 
 turn-back : (j : Journal) (rs rs' : Records) → IsCut j → SameUpTo (length j) rs rs' → (x : Entry) → IsTurn rs' j x → IsTurn rs j x
 turn-back j rs rs' c s (Boot text config stored start zone carry) h = tt
-turn-back j rs rs' c s (Line k number cmd) h = (h.0, rested-told j rs rs' c s k ∙ h.1, h.2, h.3)
+turn-back j rs rs' c s (Line k number cmd) h = (h.0, rested-told j rs rs' c s k ∙ h.1, h.2, h.3, h.4)
 turn-back j rs rs' c s (Step k serial branch item) h =
     let e = ready-told j rs rs' c s in
     (subst (λ l. 0 < length l) (sym e) h.0, (λ i. one.pick k (e i)) ∙ h.1)

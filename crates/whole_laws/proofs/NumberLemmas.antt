@@ -1,6 +1,8 @@
 -- The records of a journal with one put more have the units and numbers that they had, and more behind them.
-use Rattle.std.proofs.Common.{◌≡◌, ℕ, ◌+◌, ◌≤◌, List, [], ◌∷◌, ◌++◌, length, Bool, true, false, refl, sym, subst, ◌∙◌, arith}
+use Rattle.std.proofs.Common.{◌≡◌, ℕ, ◌+◌, ◌<◌, ◌≤◌, List, [], ◌∷◌, ◌++◌, length, Bool, true, false, refl, sym, subst, ◌∙◌, arith}
 use Rattle.std.specs.Prelude.{Some, None, if◌then◌else◌}
+use Rattle.std.specs.Option.{option_map_or}
+use Rattle.ha_config.specs.declared.config.Automation.{Automation}
 use Rattle.ha_journal.specs.declared.entry.Entry.{Entry}
 use Rattle.ha_config.specs.Words.{Text}
 use Rattle.ha_config.specs.Names.{name_of}
@@ -16,7 +18,9 @@ use Rattle.ha_model.specs.Records.{Records, is_restart_mode, lets_in_after, mode
 use Rattle.ha_model.specs.RunSteps.{attempt_all, joined, replace_all, settled}
 use Rattle.ha_model.specs.RecordSteps.{records_after}
 use Rattle.ha_laws.proofs.CallGrowth.{numbers-append, numbers-same}
-use Rattle.ha_journal.proofs.MoreLemmas.{has-entry, units-more}
+use Rattle.ha_journal.proofs.ForceLaws.{unit-more}
+use Rattle.ha_journal.proofs.MoreLemmas.{has-entry}
+use Rattle.ha_model.proofs.KnownLaws.{AllKnown, all-known}
 use Rattle.ha_model.proofs.FoldLaws.{records-more}
 use Rattle.ha_whole.specs.Segments.{alone, carried_number, cut, entries_in, front, segment, segments}
 use Rattle.ha_whole.specs.Whole.{Right, again_of, placed_all, put, records_from, records_of}
@@ -77,16 +81,21 @@ numbers-behind : (front rs rs' : Records) → Keeps rs rs' → Keeps (front ++ r
 numbers-behind [] rs rs' h = h
 numbers-behind (r ∷ front) rs rs' h = (refl, refl, numbers-behind front rs rs' h)
 
--- placed records of segments that took over the same numbers
-numbers-placed : (n n' : ℕ) (s s' : Journal) → units s ≡ units s' → ((name : Text) → carried_number s name ≡ carried_number s' name)
-    → (rs rs' : Records) → Keeps rs rs' → Keeps (placed_all n s rs) (placed_all n' s' rs')
-numbers-placed n n' s s' a c [] rs' h = tt
-numbers-placed n n' s s' a c (r ∷ rs) [] h = absurd h
-numbers-placed n n' s s' a c (r ∷ rs) (r' ∷ rs') h = (
-  h.0,
-  (λ i. c (name_of (a i) (h.0 i)) i + h.1 i),
-  numbers-placed n n' s s' a c rs rs' h.2,
-)
+-- placed records of segments that took over the same numbers, whose units have the same names
+numbers-placed : (n n' : ℕ) (s s' : Journal) → ((a : ℕ) → a < length (units s) → name_of (units s) a ≡ name_of (units s') a) → ((name : Text) → carried_number s name ≡ carried_number s' name)
+    → (rs rs' : Records) → AllKnown (length (units s)) rs → Keeps rs rs' → Keeps (placed_all n s rs) (placed_all n' s' rs')
+numbers-placed n n' s s' names c [] rs' known h = tt
+numbers-placed n n' s s' names c (r ∷ rs) [] known h = absurd h
+numbers-placed n n' s s' names c (r ∷ rs) (r' ∷ rs') known h =
+    let name : name_of (units s) r.automation ≡ name_of (units s') r'.automation
+    = names r.automation known.0 ∙ (λ i. name_of (units s') (h.0 i)) in (
+      h.0,
+      (λ i. c (name i) i + h.1 i),
+      numbers-placed n n' s s' names c rs rs' known.1 h.2,
+    )
+
+name-on : (s : Journal) (x : Entry) (a : ℕ) → a < length (units s) → name_of (units s) a ≡ name_of (units (more s x)) a
+name-on s x a lt = (let e = sym (unit-more s x a lt) in λ i. option_map_or (λ (y : Automation). y.name) (e i) [])
 
 number-on : (s : Journal) (x : Entry) → HasEntry s → (name : Text) → carried_number s name ≡ carried_number (more s x) name
 number-on [] x h name = absurd h
@@ -101,7 +110,7 @@ numbers-on j x c e =
     let on : segment (more j x) ≡ more s y = segment-on j x e in
     let closed = closed-on j x e in
     let one : SameNumbers (all.records_of s) (all.records_of (more s y)) = subst (SameNumbers (all.records_of s)) (sym (records-more s y)) (numbers-after s (all.records_of s) y) in
-    let both = numbers-behind (closed_records j) _ _ (numbers-placed (front j) (front j) s (more s y) (units-more s y has) (number-on s y has) (all.records_of s) (all.records_of (more s y)) one) in
+    let both = numbers-behind (closed_records j) _ _ (numbers-placed (front j) (front j) s (more s y) (name-on s y) (number-on s y has) (all.records_of s) (all.records_of (more s y)) (all-known s) one) in
     let new : records_of (more j x) ≡ closed_records j ++ placed_all (front j) (more s y) (all.records_of (more s y))
     = records-cut (more j x) ∙ (λ i. records_from 0 (closed i) ++ placed_all (entries_in (closed i)) (on i) (all.records_of (on i))) in
     subst (SameNumbers (records_of j)) (sym new) (subst (λ rs. SameNumbers rs (closed_records j ++ placed_all (front j) (more s y) (all.records_of (more s y)))) (sym (records-cut j)) both)

@@ -1,5 +1,5 @@
 -- A lawful journal of one segment is lawful as a whole journal.
-use Rattle.std.proofs.Common.{◌≡◌, ℕ, ◌+◌, ◌-◌, ◌<◌, inl, inr, List, [], ◌∷◌, ◌++◌, length, map, false, refl, sym, subst, ◌∙◌, Option, append_assoc}
+use Rattle.std.proofs.Common.{◌≡◌, ℕ, ◌+◌, ◌-◌, ◌<◌, inl, inr, List, [], ◌∷◌, ◌++◌, length, map, false, refl, sym, subst, ◌∙◌, Option, append_assoc, append-nil}
 use Rattle.std.specs.Prelude.{Some, None, drop, option_map}
 use Rattle.std.specs.List.{list_any}
 use Rattle.std.proofs.lemmas.Bool.{or_parts}
@@ -10,6 +10,7 @@ use Rattle.ha_journal.specs.declared.entry.Entry.TheVariants.{Boot, Line, Step, 
 use Rattle.ha_config.specs.Words.{EachAfter, EachFrom, EachWith, Text}
 use Rattle.ha_config.specs.Names.{name_of}
 use Rattle.ha_journal.specs.Entries.{again_in, is_restart, BeginsSegment}
+use Rattle.ha_journal.proofs.ReloadLemmas.{fair-lets}
 use Rattle.ha_journal.specs.Journal.{Journal, HasEntry, more, units}
 use Rattle.ha_sight.specs.Scripts.{Branch}
 use Rattle.ha_model.specs.Records.{Records}
@@ -91,11 +92,11 @@ module _ (d : Journal) (a : Alone d) (rs : Records) where
       (λ i. map {A = ℕ × Branch} {B = ℕ × Branch} (λ p. (((λ i. carried (a.is_one.is i)) ∙ a.none.serials) i + p.0, p.1)) (one.ready (own-all i) (a.is_one.is i)))
       ∙ raised-none (one.ready rs d)
 
-  turn-whole : (x : Entry) → one.IsTurn rs d x → IsTurn rs d x
-  turn-whole (Boot text config stored start zone carry) h = tt
-  turn-whole (Again number start stored carry) h = tt
-  turn-whole (Line k number cmd) h = (h.0, rested-whole k ∙ h.1, h.2, h.3)
-  turn-whole (Step k serial branch item) h =
+  turn-whole : (x : Entry) → one.IsRightEntry rs d x → one.IsTurn rs d x → IsTurn rs d x
+  turn-whole (Boot text config stored start zone carry) right h = tt
+  turn-whole (Again number start stored carry) right h = tt
+  turn-whole (Line k number cmd) right h = (h.0, rested-whole k ∙ h.1, h.2, h.3, fair-lets d cmd right)
+  turn-whole (Step k serial branch item) right h =
       (subst (λ l. 0 < length l) (sym ready-whole) h.0, (λ i. one.pick k (ready-whole i)) ∙ h.1)
 
   due-whole : (xs : List Entry) → one.IsDue rs d xs → IsDue rs d xs
@@ -107,6 +108,10 @@ module _ (d : Journal) (a : Alone d) (rs : Records) where
   due-whole (Step k serial branch item ∷ xs) (inr closing) = inr closing
 
 -- ---- along the journal
+
+each-both : (P Q : Journal → Entry → Type 0) (d xs : Journal) → EachAfter P d xs → EachAfter Q d xs → EachAfter (λ d x. P d x × Q d x) d xs
+each-both P Q d [] p q = tt
+each-both P Q d (x ∷ xs) p q = ((p.0, q.0), each-both P Q (more d x) xs p.1 q.1)
 
 each-alone : (P Q : Journal → Entry → Type 0) → ((d : Journal) (x : Entry) → Alone d → P d x → Q d x) → (d xs : Journal) → HasEntry d → Alone d → HasNoAgain xs → EachAfter P d xs → EachAfter Q d xs
 each-alone P Q f d [] h a none p = tt
@@ -134,11 +139,7 @@ behind-all d (x ∷ xs) e none open_all n h = (here x e h.0, behind-all (more d 
     here (Step worker serial branch item) e other = e
 
 last-open : (d xs : Journal) → ends_segment d ≡ false → HasNoRestart xs → ends_segment (d ++ xs) ≡ false
-last-open d [] e h = (λ i. ends_segment (append-none d i)) ∙ e
-  where
-    append-none : (d : Journal) → d ++ [] ≡ d
-    append-none [] = refl
-    append-none (x ∷ xs) = (λ i. x ∷ append-none xs i)
+last-open d [] e h = (λ i. ends_segment (append-nil d i)) ∙ e
 last-open d (x ∷ xs) e h = (λ i. ends_segment (sym (append_assoc d (x ∷ []) xs) i)) ∙ last-open (more d x) xs (ends-more d x ∙ h.0) h.1
 
 first-ends : (boot : Entry) → IsFirst boot → ends_segment (boot ∷ []) ≡ false
@@ -190,6 +191,10 @@ one-lawful boot es rs first open_all h =
         records_are = h.right.records_are ∙ sym (one-segment (boot ∷ es) entries (first-plain boot first, none)).records_are;
         entries = (first-right rs boot first, each-alone (one.IsRightEntry rs) (IsRightEntry rs) (λ d x a p. right-whole d a rs x p) (boot ∷ []) es tt a none h.right.entries.1);
       };
-      turns = (first-turn rs boot first, each-alone (one.IsTurn rs) (IsTurn rs) (λ d x a p. turn-whole d a rs x p) (boot ∷ []) es tt a none h.turns.1);
+      turns = (
+        first-turn rs boot first,
+        each-alone (λ d x. one.IsRightEntry rs d x × one.IsTurn rs d x) (IsTurn rs) (λ d x a p. turn-whole d a rs x p.0 p.1) (boot ∷ []) es tt a none
+            (each-both (one.IsRightEntry rs) (one.IsTurn rs) (boot ∷ []) es h.right.entries.1 h.turns.1),
+      );
       closed = (first-due rs boot es first, due-alone rs (boot ∷ []) es tt a none h.closed.1);
     }

@@ -55,7 +55,7 @@ right-told j rs rs' c s x h =
 
 pub turn-told : (j : Journal) (rs rs' : Records) → IsCut j → SameUpTo (length j) rs rs' → (x : Entry) → IsTurn rs j x → IsTurn rs' j x
 turn-told j rs rs' c s (Boot text config stored start zone carry) h = tt
-turn-told j rs rs' c s (Line k number cmd) h = (h.0, sym (rested-told j rs rs' c s k) ∙ h.1, h.2, h.3)
+turn-told j rs rs' c s (Line k number cmd) h = (h.0, sym (rested-told j rs rs' c s k) ∙ h.1, h.2, h.3, h.4)
 turn-told j rs rs' c s (Step k serial branch item) h =
     let e = ready-told j rs rs' c s in
     (subst (λ l. 0 < length l) e h.0, (λ i. one.pick k (sym e i)) ∙ h.1)

@@ -1,24 +1,23 @@
 -- What one put appends: its entry, and behind a Restart the Again.
 use Rattle.std.proofs.Common.{◌≡◌, ℕ, ◌+◌, ◌-◌, ◌<◌, ◌≤◌, List, [], ◌∷◌, ◌++◌, length, take, Bool, true, false, cond, refl, sym, ap, subst, ◌∙◌, arith, append_assoc, length-append}
-use Rattle.std.specs.Prelude.{None, count_by, fold, ◌||◌, if◌then◌else◌}
+use Rattle.std.specs.Prelude.{None, Some, count_by, fold, ◌||◌, if◌then◌else◌}
 use Rattle.std.specs.List.{list_any}
 use Rattle.std.proofs.Math.Seq.{take-append_seam}
 use Rattle.ha_journal.specs.declared.entry.Entry.{Entry}
 use Rattle.ha_journal.specs.declared.entry.Entry.TheVariants.{Boot, Line, Step, Again}
 use Rattle.ha_config.specs.declared.command.Cmd.{Cmd}
-use Rattle.ha_config.specs.Fair.{no_automation, of_helper}
+use Rattle.ha_config.specs.Fair.{no_automation, of_helper, too_many_reloads}
 use Rattle.ha_config.specs.Helpers.{is_helper}
 use Rattle.ha_sight.specs.declared.item.Item.{Item}
-use Rattle.ha_journal.specs.Commands.{has_automation, put_as}
+use Rattle.ha_journal.specs.Commands.{has_automation, lets_reload, put_as}
 use Rattle.ha_journal.specs.Entries.{Reopening, again_in, is_again, is_restart, restarts}
-use Rattle.ha_journal.specs.Journal.{Journal, HasEntry, automations, helpers, more, units}
+use Rattle.ha_journal.specs.Journal.{Journal, HasEntry, helpers, more}
 use Rattle.ha_model.specs.Records.{last_is}
 use Rattle.ha_whole.specs.Segments.{cut, reopened, segment}
 use Rattle.ha_whole.specs.Whole.{AreEntries, AreShort, HasRoom, IsBehind, IsFirst, IsJournal, IsWithin, again_of, appended, before_put, carry_of, ends_segment, most_in_segment, put}
-use Rattle.ha_journal.proofs.MoreLemmas.{automations-more, length-more, units-more}
+use Rattle.ha_journal.proofs.MoreLemmas.{length-more}
 use Rattle.ha_model.proofs.LastEntry as last
 use Rattle.ha_config.proofs.ListLemmas.{true-false}
-use Rattle.ha_laws.proofs.PrefixLaws.{has-more}
 use Rattle.ha_laws.proofs.RightMore.{each-last}
 use Rattle.whole_laws.specs.Puts.{IsPut}
 use Rattle.whole_laws.proofs.CutLemmas.{closed-again, closed-on, segment-again, segment-on}
@@ -91,21 +90,15 @@ put-restarts j source number (Cmd.Trigger name skip) = named (has_automation j n
     named true = refl
     named false = refl
 put-restarts j source number Cmd.Restart = refl
+put-restarts j source number (Cmd.Reload text None) = refl
+put-restarts j source number (Cmd.Reload text (Some config)) = by (lets_reload j)
+  where
+    by : (b : Bool) → is_restart (Line source number (if b then Cmd.Reload text (Some config) else Cmd.Refused too_many_reloads)) ≡ false
+    by true = refl
+    by false = refl
 put-restarts j source number (Cmd.Refused code) = refl
 put-restarts j source number Cmd.Lost = refl
 put-restarts j source number Cmd.TooLong = refl
-
--- ---- parts of a journal with one put more
-
-pub automations-put : (j : Journal) (x : Entry) → HasEntry j → automations j ≡ automations (put j x)
-automations-put j x h =
-    by-way (λ k. automations j ≡ automations k) j x (λ e. automations-more j x h)
-    (λ e. automations-more j x h ∙ automations-more (more j x) (again_of (more j x)) (has-more j x h))
-
-pub units-put : (j : Journal) (x : Entry) → HasEntry j → units j ≡ units (put j x)
-units-put j x h =
-    by-way (λ k. units j ≡ units k) j x (λ e. units-more j x h)
-    (λ e. units-more j x h ∙ units-more (more j x) (again_of (more j x)) (has-more j x h))
 
 -- what tells the same with one entry more that is no Again's tells the same with one put more
 pub same-by-put : {X : Type 0} (f : Journal → X) (j : Journal) (x : Entry) → ((k : Journal) → f (more k (again_of k)) ≡ f k) → f (put j x) ≡ f (more j x)

@@ -11,12 +11,12 @@ ghost use Rattle.ha_config.specs.StoreText.{store_of};
 ghost use Rattle.ha_config.specs.Sound.{are_in_name_order};
 ghost use Rattle.ha_whole.specs.Named.{in_name_order, named};
 ghost use Rattle.whole_laws.specs.Apart.{AreApart};
-ghost use Rattle.ha_journal.specs.Journal.{Journal, HasEntry, automations, configured, IsJournal as IsJournalAlone, more, names, units, now};
+ghost use Rattle.ha_journal.specs.Journal.{Journal, HasEntry, automations, configured, IsJournal as IsJournalAlone, more, units, now};
 ghost use Rattle.ha_journal.specs.Entries.{IsBoot, first_carry, is_again, is_restart};
 ghost use Rattle.ha_journal.specs.Commands.{ArePutFrom, lines_of, placed_line};
-ghost use Rattle.ha_journal.specs.EntryText.{error_text, error_text_of, trace_line, trace_text};
+ghost use Rattle.ha_journal.specs.EntryText.{error_text, error_text_of, trace_line};
+ghost use Rattle.ha_whole.specs.Trace.{call_text, call_text_of, names, trace_text};
 ghost use Rattle.ha_model.specs.declared.record.Record.{Record};
-ghost use Rattle.ha_model.specs.Texts.{call_text, call_text_of};
 ghost use Rattle.ha_sight.specs.Items.{call_in};
 ghost use Rattle.ha_laws.specs.OneRun.{SameNumbers};
 ghost use Rattle.ha_sight.specs.Scripts.{Branch};
@@ -201,5 +201,5 @@ pub fn the_hall_light_is_stored()
 
 /// Where the last put changed nothing that the store keeps, the store's text stays.
 pub fn the_store_stays()
-    ensures { (j : Journal) (x : Entry) → AreEntries j → IsPut x → changes_store (put j x) ≡ false → store_text (put j x) ≡ store_text j }
+    ensures { (j : Journal) (x : Entry) → IsPut x → changes_store (put j x) ≡ false → store_text (put j x) ≡ store_text j }
 {}

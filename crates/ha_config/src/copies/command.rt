@@ -34,6 +34,10 @@ impl Plain for Cmd {
                 skip: *skip,
             }),
             Cmd::Restart => Ok(Cmd::Restart),
+            Cmd::Reload { text, config } => Ok(Cmd::Reload {
+                text: text.copy(alloc)?,
+                config: config.copy(alloc)?,
+            }),
             Cmd::Refused(code) => Ok(Cmd::Refused(*code)),
             Cmd::Lost => Ok(Cmd::Lost),
             Cmd::TooLong => Ok(Cmd::TooLong),
@@ -91,6 +95,13 @@ impl Plain for Cmd {
                 _ => false,
             },
             Cmd::Restart => matches!(other, Cmd::Restart),
+            Cmd::Reload { text, config } => match other {
+                Cmd::Reload {
+                    text: other_text,
+                    config: other_config,
+                } => text.same(other_text) && config.same(other_config),
+                _ => false,
+            },
             Cmd::Refused(a) => match other {
                 Cmd::Refused(b) => *a == *b,
                 _ => false,

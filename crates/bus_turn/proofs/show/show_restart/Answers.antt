@@ -1,13 +1,13 @@
 use Rattle.std.proofs.Common.{List, ◌++◌, subst}
 use Rattle.std.specs.Prelude.{None, Some, option_map}
 use Rattle.ha_config.specs.Words.{Text}
-use Rattle.ha_journal.specs.Journal.{names}
 use Rattle.ha_journal.specs.EntryText.{trace_line}
 use Rattle.bus_turn.specs.Shown.{saved_text}
 use Rattle.bus_turn.specs.States.{keeper_of, sink_of}
 use Rattle.bus_turn.specs.Writes.{WritesIn, fault_of}
 use Rattle.bus_turn.proofs.SinkThen.{lines-cut, lines-then}
 use Rattle.bus_turn.proofs.show.show_restart.Goals as goal
+use Rattle.ha_whole.specs.Trace.{names}
 
 pub returns-in-Err : goal.returns-in-Err
 returns-in-Err g c =

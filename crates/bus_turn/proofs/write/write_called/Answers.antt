@@ -1,7 +1,7 @@
 use Rattle.std.proofs.lemmas.Result.{on_ok_weaker}
-use Rattle.ha_model.specs.Texts.{call_text_of}
 use Rattle.bus_turn.proofs.CallLemmas.{called-here}
 use Rattle.bus_turn.proofs.write.write_called.Goals as goal
+use Rattle.ha_whole.specs.Trace.{call_text_of}
 
 pub returns : goal.returns
 returns g c = λ before is.

@@ -1,5 +1,5 @@
-use Rattle.conf_reload.specs.Equality.{same_script}
-use Rattle.conf_reload.proofs.EqualityLemmas.{decided, script-refl, script-sound}
+use Rattle.ha_config.specs.Equality.{same_script}
+use Rattle.ha_config.proofs.EqualityLemmas.{decided, script-refl, script-sound}
 use Rattle.conf_reload.proofs.kinds.same_scripts.Goals as goal
 
 pub returns : goal.returns

@@ -1,6 +1,6 @@
 use Rattle.std.proofs.Common.{◌+◌, ◌++◌, ◌∙◌, arith, length}
-use Rattle.conf_reload.specs.Equality.{same_automation, same_script}
-use Rattle.conf_reload.specs.Force.{fresh, numbered}
+use Rattle.ha_config.specs.Equality.{same_automation, same_script}
+use Rattle.ha_config.specs.Numbered.{fresh, numbered}
 use Rattle.conf_reload.specs.Plan.{numbers_of, rules_in, scripts_in}
 use Rattle.conf_reload.proofs.PlanLemmas.{below-later, fresh-few}
 use Rattle.conf_reload.proofs.numbers.plan.Goals as goal

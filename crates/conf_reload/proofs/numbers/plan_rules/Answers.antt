@@ -2,7 +2,7 @@ use Rattle.std.proofs.Common.{◌≡◌, ◌≤◌, ◌<◌, ◌+◌, ◌^◌, �
 use Rattle.std.specs.Prelude.{nat_lt}
 use Rattle.std.specs.List.{list_all}
 use Rattle.ha_config.specs.declared.config.Automation.{Automation}
-use Rattle.conf_reload.specs.Equality.{same_automation}
+use Rattle.ha_config.specs.Equality.{same_automation}
 use Rattle.conf_reload.proofs.PlanLemmas.{front-below, front-whole, plan-here}
 use Rattle.conf_reload.proofs.numbers.plan_rules.Goals as goal
 

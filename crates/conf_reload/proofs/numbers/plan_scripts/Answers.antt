@@ -2,7 +2,7 @@ use Rattle.std.proofs.Common.{◌≡◌, ◌<◌, ◌+◌, ◌^◌, ◌∙◌, �
 use Rattle.std.specs.Prelude.{nat_lt}
 use Rattle.std.specs.List.{list_all}
 use Rattle.ha_config.specs.declared.config.Script.{Script}
-use Rattle.conf_reload.specs.Equality.{same_script}
+use Rattle.ha_config.specs.Equality.{same_script}
 use Rattle.conf_reload.proofs.PlanLemmas.{behind-below, behind-whole, plan-here}
 use Rattle.conf_reload.proofs.numbers.plan_scripts.Goals as goal
 

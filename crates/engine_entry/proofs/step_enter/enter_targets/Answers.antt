@@ -1,9 +1,10 @@
-use Rattle.std.proofs.Common.{◌≡◌, ◌+◌, ◌<◌, List, length, sym, ap, subst, ◌∙◌, arith}
+use Rattle.std.proofs.Common.{◌≡◌, ◌+◌, ◌<◌, ℕ, Bool, List, length, sym, ap, subst, ◌∙◌, arith}
 use Rattle.ha_journal.specs.declared.entry.Entry.{Entry}
 use Rattle.ha_journal.specs.declared.entry.Entry.TheVariants.{Step}
 use Rattle.ha_sight.specs.declared.item.Item.{Item}
-use Rattle.ha_journal.specs.Journal.{automations}
-use Rattle.ha_journal.proofs.MoreLemmas.{automations-more, length-more}
+use Rattle.ha_config.specs.Numbered.{has_number}
+use Rattle.ha_journal.specs.Journal.{in_force}
+use Rattle.ha_journal.proofs.MoreLemmas.{length-more}
 use Rattle.timer_queue.specs.Timers.{Timer}
 use Rattle.trig_set.specs.Stands.{attached}
 use Rattle.wait_set.specs.Asked.{WaitTable}
@@ -11,12 +12,12 @@ use Rattle.std.proofs.Common.{false}
 use Rattle.std.specs.Prelude.{nat_eq}
 use Rattle.std.specs.List.{list_any}
 use Rattle.engine_parts.specs.Kept.{KeysBelow}
-use Rattle.engine_entry.specs.Lasts.{AreLasts}
+use Rattle.engine_entry.specs.Lasts.{AreLasts, knows}
 use Rattle.engine_parts.specs.Owners.{AreBelow}
 use Rattle.engine_parts.specs.Runs.{first_wait}
 use Rattle.engine_entry.specs.Stepping.{IsTaken}
 use Rattle.engine_entry.specs.Turned.{IsTurn, Target}
-use Rattle.engine_entry.proofs.LastLemmas.{switched-turn}
+use Rattle.engine_entry.proofs.LastLemmas.{knows-force, switched-turn}
 use Rattle.engine_entry.proofs.TakeLemmas.{none-early}
 use Rattle.engine_entry.proofs.step_enter.enter_targets.Goals as goal
 
@@ -24,10 +25,9 @@ pub enter_switches-requires : goal.enter_switches-requires
 enter_switches-requires c =
     let h = c.requires.here in
     let x : Entry = Step h.worker h.serial h.branch h.item in
-    let count : c.len-count.result ≡ length (automations h.j)
-    = c.len-count.ensures ∙ ap length (c.configuration.ensures.automations ∙ ap automations h.journal_is ∙ sym (automations-more h.j x h.some)) in
-    let lasts : AreLasts (length (automations h.j)) c.args.targets.now c.in_ok-last.last.items
-    = subst (λ n. AreLasts n c.args.targets.now c.in_ok-last.last.items) count (subst (λ (l : List Target). AreLasts c.len-count.result l c.in_ok-last.last.items) c.as_slice.ensures c.in_ok-last.ensures) in
+    let lasts : AreLasts (has_number (in_force h.j)) c.args.targets.now c.in_ok-last.last.items
+    = subst (λ (known : ℕ → Bool). AreLasts known c.args.targets.now c.in_ok-last.last.items) (knows-force h.j c.args.parts.now.switches h.sees.switches_stand)
+    (subst (λ (l : List Target). AreLasts (knows c.args.parts.now.switches) l c.in_ok-last.last.items) c.as_slice.ensures c.in_ok-last.ensures) in
     let turn : IsTurn h.j x c.in_ok-last.last.items
     = subst (λ (i : Item). IsTurn h.j (Step h.worker h.serial h.branch i) c.in_ok-last.last.items) (sym c.requires.item_is) (switched-turn h.j h.worker h.serial h.branch c.args.targets.now c.in_ok-last.last.items h.some lasts) in
     record {

@@ -4,10 +4,11 @@ use Rattle.ha_past.specs.Firings.{Owner}
 use Rattle.trig_set.specs.Stands.{attached}
 use Rattle.engine_entry.proofs.TakeLemmas.{none-named, untold-taken}
 use Rattle.engine_entry.proofs.step_take.attach_ask.Goals as goal
+use Rattle.engine_parts.specs.Runs.{first_wait}
 
 pub attach-requires-clause-fresh : goal.attach-requires-clause-fresh
 attach-requires-clause-fresh c =
-    let o : Owner = record { owner = 1024 + c.args.place; triggers = c.args.ask.triggers; since = c.args.place } in
+    let o : Owner = record { owner = first_wait + c.args.place; triggers = c.args.ask.triggers; since = c.args.place } in
     subst IsNone (sym (none-named o (attached c.args.triggers.now) c.requires.below)) refl
 
 pub returns-clause-untold : goal.returns-clause-untold

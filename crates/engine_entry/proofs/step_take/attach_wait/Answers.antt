@@ -5,6 +5,7 @@ use Rattle.ha_sight.specs.declared.waiting.WaitAsk.{WaitAsk}
 use Rattle.ha_config.specs.Sound.{are_sound_triggers}
 use Rattle.wait_set.specs.Asked.{added, is_of}
 use Rattle.engine_entry.proofs.step_take.attach_wait.Goals as goal
+use Rattle.engine_parts.specs.Runs.{first_wait}
 
 pub attach_ask-requires-clause-sound : goal.attach_ask-requires-clause-sound
 attach_ask-requires-clause-sound c = subst (λ (a : WaitAsk). IsTrue (are_sound_triggers a.triggers)) (sym c.taken-taken.ensures) c.requires.sound
@@ -15,5 +16,5 @@ attach_ask-requires-clause-free c =
 
 pub returns-clause-asks : goal.returns-clause-asks
 returns-clause-asks c =
-    subst (λ (a : WaitAsk). OnOk c.attach_ask.result (c.attach_ask.new.waits.asks ≡ added (record { owner = 1024 + c.args.place; place = c.args.place; ask = a; end = None }) c.args.waits.now.asks))
+    subst (λ (a : WaitAsk). OnOk c.attach_ask.result (c.attach_ask.new.waits.asks ≡ added (record { owner = first_wait + c.args.place; place = c.args.place; ask = a; end = None }) c.args.waits.now.asks))
     c.taken-taken.ensures c.attach_ask.ensures.asks

@@ -1,18 +1,12 @@
 use Rattle.std.proofs.Common.{◌≡◌, length, sym, ap, subst, ◌∙◌, arith}
 use Rattle.ha_journal.specs.Journal.{last_place}
-use Rattle.trig_set.specs.Stands.{attached}
 use Rattle.engine_parts.specs.declared.parts.Parts.{Parts}
 use Rattle.engine_parts.specs.Kept.{KeysBelow}
-use Rattle.engine_parts.specs.Owners.{attempts_by}
 use Rattle.engine_entry.specs.Stepping.{StepRuns}
-use Rattle.engine_parts.proofs.AttemptLemmas.{attempts-fired}
 use Rattle.engine_entry.proofs.step_wake.attend_step.Goals as goal
 
 pub returns-clause-fired : goal.returns-clause-fired
-returns-clause-fired c =
-    let k = c.args.journal.now in
-    ap attempts_by c.in_ok-fired.ensures.fired
-    ∙ attempts-fired k (last_place k) (attached c.take_over.new.parts.triggers) c.in_ok-take_over.ensures.entered.untold.owned.automations_attached
+returns-clause-fired c = c.in_ok-fired.ensures.fired
 
 pub returns-clause-going : goal.returns-clause-going
 returns-clause-going c rs progress h =

@@ -4,6 +4,7 @@ use Rattle.std.specs.List.{list_any}
 use Rattle.trig_set.specs.Stands.{attached}
 use Rattle.engine_parts.specs.Kept.{KeysBelow}
 use Rattle.engine_parts.specs.Owners.{AreBelow}
+use Rattle.engine_parts.specs.Runs.{first_wait}
 use Rattle.engine_entry.proofs.DelayLemmas.{keys-added}
 use Rattle.engine_entry.proofs.step_wake.take_over.Goals as goal
 
@@ -14,8 +15,8 @@ take_wait-requires c =
     let at : n ≡ c.place-place.result = omega (arith, h.here, c.place-place.ensures.place) in
     record {
       room = subst (λ m. m < 1048576) at h.room;
-      below = subst (λ m. AreBelow (1024 + m) (attached c.args.parts.now.triggers)) at h.below;
-      early = subst (λ m. list_any (λ a. nat_eq a.owner (1024 + m)) c.args.parts.now.waits.asks ≡ false) at h.early;
+      below = subst (λ m. AreBelow (first_wait + m) (attached c.args.parts.now.triggers)) at h.below;
+      early = subst (λ m. list_any (λ a. nat_eq a.owner (first_wait + m)) c.args.parts.now.waits.asks ≡ false) at h.early;
       taken = h.taken;
     }
 
@@ -32,7 +33,7 @@ returns-clause-entered c =
     let at : length h.entered.untold.j ≡ c.place-place.result = omega (arith, h.here, c.place-place.ensures.place) in
     let sees = h.entered.sees in
     record {
-      sees = record { looks = sees.looks; helpers_stand = sees.helpers_stand; switches_stand = sees.switches_stand; changed_is = sees.changed_is; sound = sees.sound };
+      sees = record { looks = sees.looks; helpers_stand = sees.helpers_stand; switches_stand = sees.switches_stand; changed_is = sees.changed_is; sound = sees.sound; few = sees.few; free_is = sees.free_is; ascending_is = sees.ascending_is };
       untold = c.in_ok-take_wait.ensures.untold k c.args.before.now h.entered.untold at;
       given_is = h.entered.given_is;
       keys_early = subst (KeysBelow (length k)) (sym c.in_ok-take_delay.ensures)

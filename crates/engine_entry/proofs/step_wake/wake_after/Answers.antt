@@ -1,8 +1,9 @@
-use Rattle.std.proofs.Common.{◌≡◌, ◌-◌, suc, length, sym, ap, subst, ◌∙◌, arith}
+use Rattle.std.proofs.Common.{◌≡◌, ◌-◌, suc, length, refl, sym, ap, subst, ◌∙◌, arith}
 use Rattle.std.specs.Prelude.{Some, slice_get}
 use Rattle.ha_journal.specs.declared.entry.Entry.TheVariants.{Step}
 use Rattle.ha_journal.specs.Journal.{last_place, units}
-use Rattle.ha_journal.proofs.MoreLemmas.{has-entry, length-more, units-more}
+use Rattle.ha_journal.proofs.ForceLaws.{units-more}
+use Rattle.ha_journal.proofs.MoreLemmas.{has-entry, length-more}
 use Rattle.ha_model.specs.Records.{actions_of}
 use Rattle.wait_set.specs.Timers.{timer_added}
 use Rattle.engine_parts.specs.Kept.{KeysBelow}
@@ -20,7 +21,7 @@ returns-clause-going c rs w0 w1 delays0 progress wait due h asks queue keys note
     let there : slice_get p.frames.items (h.serial - 1) ≡ Some (Some h.new) = ap (λ os. slice_get os (h.serial - 1)) h.slots ∙ get-set h.os (h.serial - 1) (Some h.old) (Some h.new) h.there in
     let script : actions_of (units k) h.new.automation ≡ h.new.script.value
     = ap (λ i. actions_of (units i) h.new.automation) h.journal_is
-    ∙ ap (λ u. actions_of u h.new.automation) (sym (units-more h.j (Step h.worker h.serial h.branch h.out.item) (has-entry h.j h.right.journal)))
+    ∙ ap (λ u. actions_of u h.new.automation) (sym (units-more h.j (Step h.worker h.serial h.branch h.out.item) (has-entry h.j h.right.journal) refl))
     ∙ ap (actions_of (units h.j)) (h.automation_is ∙ h.live.automation)
     ∙ sym h.stands.stands.script in
     step-woken-as rs w0 w1 delays0 p c.wake_step.new.delays c.wake_step.new.triggers c.wake_step.new.ready c.note_call.new.calls progress wait due c.place.result k h (sym (c.place.ensures.place ∙ last))

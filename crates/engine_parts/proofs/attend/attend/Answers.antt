@@ -1,21 +1,13 @@
-use Rattle.std.proofs.Common.{◌-◌, length, sym, ap, subst, ◌∙◌}
-use Rattle.trig_set.specs.Stands.{attached}
+use Rattle.std.proofs.Common.{sym, subst, ◌∙◌}
 use Rattle.engine_parts.specs.declared.parts.Parts.{Parts}
-use Rattle.engine_parts.specs.Owners.{attempts_by}
 use Rattle.wait_set.specs.Asked.{WaitTable}
 use Rattle.engine_parts.specs.Stages.{RunsBefore}
 use Rattle.engine_parts.specs.Waiting.{EndsGrow}
-use Rattle.engine_parts.proofs.AttemptLemmas.{attempts-fired}
 use Rattle.engine_parts.specs.Without.{without_owners}
 use Rattle.engine_parts.proofs.attend.attend.Goals as goal
 
 pub returns-clause-attached : goal.returns-clause-attached
 returns-clause-attached c = c.in_ok-wake_line.ensures.attached ∙ (λ i. without_owners (sym c.wake_line.ensures.waits i).fresh (c.in_ok-fired.ensures.attached i))
-
-pub returns-clause-fired : goal.returns-clause-fired
-returns-clause-fired c =
-    let k = c.args.journal.now in
-    ap attempts_by c.in_ok-fired.ensures.fired ∙ attempts-fired k (length k - 1) (attached c.args.parts.now.triggers) c.requires.untold.owned.automations_attached
 
 pub returns-clause-going : goal.returns-clause-going
 returns-clause-going c rs before =

@@ -36,7 +36,7 @@ returns-in-Some-clause-going c told gone k rs table going =
     let v : WaitTable = record { asks = finished s b c.args.place p.waits.asks; fresh = p.waits.fresh } in
     let all : GoingWith (so told k rs c.args.called c.args.place p.calls) gone k rs (record p { calls = c.run_ended.new.self; triggers = c.resume.new.parts.triggers; waits = v; ready = c.resume.new.parts.ready })
     = record {
-      sees = record { looks = going.sees.looks; helpers_stand = going.sees.helpers_stand; switches_stand = going.sees.switches_stand; changed_is = going.sees.changed_is; sound = going.sees.sound };
+      sees = record { looks = going.sees.looks; helpers_stand = going.sees.helpers_stand; switches_stand = going.sees.switches_stand; changed_is = going.sees.changed_is; sound = going.sees.sound; few = going.sees.few; free_is = going.sees.free_is; ascending_is = going.sees.ascending_is };
       triggers_stand = c.resume.ensures.triggers k going.triggers_stand;
       waits_stand = subst (λ (w : WaitTable). waits.StandsFor w.asks k) c.resume.ensures.asks (c.resume.ensures.waits k wait.0 wait.1 wait.3 wait.5 going.waits_stand);
       owned = c.resume.ensures.owned k wait.0 v wait.1 (omega (arith, wait.4)) (others-finished s c.args.place b wait.0 p.waits.asks going.owned.apart wait.1) (owned-woken s c.args.place b k p.triggers p.waits going.owned);
@@ -53,7 +53,7 @@ returns-in-None-clause-going c told gone k rs table going =
     let none : caller_of c.args.called p.calls ≡ None = sym c.run_ended.ensures.caller ∙ c.in-None.is in
     let runs = going.runs_kept in
     record {
-      sees = record { looks = going.sees.looks; helpers_stand = going.sees.helpers_stand; switches_stand = going.sees.switches_stand; changed_is = going.sees.changed_is; sound = going.sees.sound };
+      sees = record { looks = going.sees.looks; helpers_stand = going.sees.helpers_stand; switches_stand = going.sees.switches_stand; changed_is = going.sees.changed_is; sound = going.sees.sound; few = going.sees.few; free_is = going.sees.free_is; ascending_is = going.sees.ascending_is };
       triggers_stand = going.triggers_stand;
       waits_stand = going.waits_stand;
       owned = going.owned;

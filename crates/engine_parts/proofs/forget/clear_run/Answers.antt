@@ -27,7 +27,7 @@ returns-clause-going c told gone k rs numbered low high going =
     let runs : RunsKept told (also gone s) k rs p.delays rest (set p.frames.items (s - 1) None) (filter (λ (x : ℕ × Branch). not (nat_eq x.0 s)) p.ready.pairs.items)
     = run-gone told gone s k rs numbered low p.delays p.waits rest p.frames.items p.ready.pairs.items (asks-left s p.waits) (held-without k p.frames.items s None low p.waits.asks) going.runs_kept in
     record {
-      sees = record { looks = going.sees.looks; helpers_stand = going.sees.helpers_stand; switches_stand = going.sees.switches_stand; changed_is = going.sees.changed_is; sound = going.sees.sound };
+      sees = record { looks = going.sees.looks; helpers_stand = going.sees.helpers_stand; switches_stand = going.sees.switches_stand; changed_is = going.sees.changed_is; sound = going.sees.sound; few = going.sees.few; free_is = going.sees.free_is; ascending_is = going.sees.ascending_is };
       triggers_stand = c.detach_run.ensures.stands k going.triggers_stand;
       waits_stand = c.drop_run.ensures.stands k going.waits_stand;
       owned = subst (λ (w : WaitTable). Owned k c.detach_run.new.triggers w) (sym table)

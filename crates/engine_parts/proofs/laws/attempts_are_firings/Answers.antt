@@ -1,5 +1,5 @@
-use Rattle.engine_parts.proofs.AttemptLemmas.{attempts-fired}
+use Rattle.engine_parts.proofs.OrderLemmas.{attempts-ordered}
 use Rattle.engine_parts.proofs.laws.attempts_are_firings.Goals as goal
 
 pub returns : goal.returns
-returns c = attempts-fired
+returns c = λ j p os few up on. attempts-ordered j p os few up on

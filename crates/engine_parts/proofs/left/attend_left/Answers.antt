@@ -1,11 +1,11 @@
-use Rattle.std.proofs.Common.{◌-◌, length, sym, ap, subst, ◌∙◌}
+use Rattle.std.proofs.Common.{sym, subst, ◌∙◌}
+use Rattle.ha_journal.proofs.MoreLemmas.{has-entry}
 use Rattle.trig_set.specs.Stands.{attached}
 use Rattle.engine_parts.specs.declared.parts.Parts.{Parts}
-use Rattle.engine_parts.specs.Owners.{attempts_by}
 use Rattle.wait_set.specs.Asked.{WaitTable}
 use Rattle.engine_parts.specs.Stages.{RunsBefore}
 use Rattle.engine_parts.specs.Waiting.{EndsGrow}
-use Rattle.engine_parts.proofs.AttemptLemmas.{attempts-fired}
+use Rattle.engine_parts.proofs.OrderLemmas.{attempts-none}
 use Rattle.engine_parts.specs.Without.{without_owners}
 use Rattle.engine_parts.proofs.left.attend_left.Goals as goal
 
@@ -15,7 +15,8 @@ returns-clause-attached c = c.in_ok-wake_line.ensures.attached ∙ (λ i. withou
 pub returns-clause-fired : goal.returns-clause-fired
 returns-clause-fired c =
     let k = c.args.journal.now in
-    ap attempts_by (sym c.note_left.ensures.fired) ∙ attempts-fired k (length k - 1) (attached c.args.parts.now.triggers) c.requires.untold.untold.owned.automations_attached
+    let untold = c.requires.untold.untold in
+    attempts-none k (attached c.args.parts.now.triggers) (has-entry k untold.journal) c.requires.sees.few untold.owned.ascend untold.owned.automations_attached c.note_left.ensures.fired
 
 pub returns-clause-going : goal.returns-clause-going
 returns-clause-going c rs before =
@@ -25,12 +26,14 @@ returns-clause-going c rs before =
 pub returns-in_err-note_left-clause-fired : goal.returns-in_err-note_left-clause-fired
 returns-in_err-note_left-clause-fired c =
     let k = c.args.journal.now in
-    ap attempts_by (sym c.note_left.ensures.fired) ∙ attempts-fired k (length k - 1) (attached c.args.parts.now.triggers) c.requires.untold.untold.owned.automations_attached
+    let untold = c.requires.untold.untold in
+    attempts-none k (attached c.args.parts.now.triggers) (has-entry k untold.journal) c.requires.sees.few untold.owned.ascend untold.owned.automations_attached c.note_left.ensures.fired
 
 pub returns-in_err-wake_line-clause-fired : goal.returns-in_err-wake_line-clause-fired
 returns-in_err-wake_line-clause-fired c =
     let k = c.args.journal.now in
-    ap attempts_by (sym c.note_left.ensures.fired) ∙ attempts-fired k (length k - 1) (attached c.args.parts.now.triggers) c.requires.untold.untold.owned.automations_attached
+    let untold = c.requires.untold.untold in
+    attempts-none k (attached c.args.parts.now.triggers) (has-entry k untold.journal) c.requires.sees.few untold.owned.ascend untold.owned.automations_attached c.note_left.ensures.fired
 
 pub returns-clause-ended : goal.returns-clause-ended
 returns-clause-ended c serial =

@@ -1,9 +1,11 @@
 use Rattle.std.proofs.Common.{length, sym, subst, ◌∙◌}
 use Rattle.std.specs.Prelude.{IfOk}
+use Rattle.ha_journal.specs.Force.{force}
 use Rattle.ha_journal.specs.Journal.{Journal, IsJournal}
 use Rattle.ha_journal.specs.Moves.{sight}
 use Rattle.helper_set.specs.Kept.{StandsFor}
 use Rattle.script_step.specs.Taken.{out_of}
+use Rattle.unit_book.specs.Book.{Holds}
 use Rattle.whole_laws.proofs.CutLemmas.{is-cut}
 use Rattle.engine_parts.specs.Kept.{AreSound, Looks}
 use Rattle.engine_entry.specs.Stepping.{MaySlot, SlotStep}
@@ -19,10 +21,14 @@ make-behind-requires-clause-few c = lies-few c.args.journal.now c.args.bounds c.
 pub make-behind-requires-clause-front : goal.make-behind-requires-clause-front
 make-behind-requires-clause-front c = lies-front c.args.journal.now c.args.bounds c.requires.lies
 
+pub make-behind-requires-clause-held : goal.make-behind-requires-clause-held
+make-behind-requires-clause-held c =
+    subst (λ (i : Journal). Holds c.args.journal.now (force i) c.args.book.now) (sym (lies-seen c.args.journal.now c.args.bounds c.requires.lies)) c.requires.holds
+
 pub step_slot-requires-clause-looks : goal.step_slot-requires-clause-looks
 step_slot-requires-clause-looks c =
     let p = c.args.parts.now in
-    subst (λ (i : Journal). Looks i p.states p.zone p.at) (sym (c.make-behind.ensures ∙ lies-seen c.args.journal.now c.args.bounds c.requires.lies)) c.requires.looks
+    subst (λ (i : Journal). Looks i p.states p.numbers p.zone p.at) (sym (c.make-behind.ensures ∙ lies-seen c.args.journal.now c.args.bounds c.requires.lies)) c.requires.looks
 
 pub step_slot-requires-clause-helpers : goal.step_slot-requires-clause-helpers
 step_slot-requires-clause-helpers c =

@@ -19,11 +19,11 @@ pub drop_refused-requires : goal.drop_refused-requires
 drop_refused-requires c = c.admit_all.ensures.room
 
 pub returns-clause-begun : goal.returns-clause-begun
-returns-clause-begun c k begun going rested prepared =
+returns-clause-begun c k begun firsts going rested prepared =
     let old : c.args.runs.now.list ≡ [] = c.requires.none in
     let size : length k ≡ 1 = begun-length k begun in
     let table : IsTable k c.args.runs.now.list = subst (λ (l : Records). IsTable k l) (sym old) (begun-table k begun) in
-    let told = c.admit_all.ensures.all k (passing k) prepared (omega (arith, size)) (omega (arith, size)) table (subst (λ (l : Records). Going nobody k l c.args.parts.now) (sym old) going) in
+    let told = c.admit_all.ensures.all k (passing k) prepared firsts (omega (arith, size)) (omega (arith, size)) table (subst (λ (l : Records). Going nobody k l c.args.parts.now) (sym old) going) in
     let list : c.admit_all.new.runs.list ≡ records_of k = told.0 ∙ (λ i. all_tried k (old i) (passing k)) ∙ begun-records k begun in
     let flags : c.drop_refused.new.parts.rested.items ≡ trues 16 = ap (λ (v : Vec Bool). v.items) (c.drop_refused.ensures.rested ∙ c.admit_all.ensures.rested) ∙ rested in
     let all : GoingWith (call_end c.admit_all.new.runs.list) nobody k c.admit_all.new.runs.list c.drop_refused.new.parts

@@ -1,12 +1,13 @@
 use Rattle.std.proofs.Common.{◌≡◌, ℕ, ◌+◌, ◌-◌, List, [], ◌∷◌, length, filter, true, sym, ap, subst, ◌∙◌, refl, arith}
 use Rattle.std.specs.Prelude.{Option, None, Some}
-use Rattle.ha_config.specs.declared.config.Config.{Config}
-use Rattle.ha_config.specs.Sound.{IsSoundConfig}
+use Rattle.ha_config.specs.Sound.{is_sound_config}
+use Rattle.ha_config.specs.Units.{units_of}
+use Rattle.ha_config.proofs.UnitLemmas.{units-few}
 use Rattle.helper_set.specs.Kept as helped
 use Rattle.timer_queue.specs.Timers.{Timer}
 use Rattle.ha_journal.specs.declared.entry.Entry.{Entry}
 use Rattle.ha_journal.specs.declared.entry.Entry.TheVariants.{Boot}
-use Rattle.ha_journal.specs.Journal.{Journal, configured}
+use Rattle.ha_journal.specs.Journal.{Journal, helpers}
 use Rattle.ha_sight.specs.Scripts.{Branch}
 use Rattle.script_calls.specs.Waiting.{Waiting}
 use Rattle.script_step.specs.declared.frames.Frames.{Frames}
@@ -19,18 +20,24 @@ use Rattle.engine_parts.specs.Called.{CallsKept, told_by}
 use Rattle.engine_parts.specs.Kept.{AreOwned, Going, KeysBelow, SlotBut, nobody}
 use Rattle.engine_parts.specs.Owners.{AreAscending, AreBelow, is_automation}
 use Rattle.engine_parts.specs.Runs.{AreHeld, SlotsWith, first_wait}
-use Rattle.ha_engine.proofs.BeginLemmas.{boot-looks}
-use Rattle.engine_entry.proofs.OpenLemmas.{opened-ascend, opened-automations, opened-below}
-use Rattle.engine_entry.proofs.TurnedOwners.{owners-whole}
+use Rattle.engine_parts.specs.Numbers.{numbers_in}
+use Rattle.engine_parts.proofs.ViewLemmas.{true-of}
+use Rattle.ha_engine.proofs.BeginLemmas.{boot-ascends, boot-few, boot-looks, boot-numbers, boot-owners}
+use Rattle.engine_entry.proofs.OpenLemmas.{opened-ascend, opened-below}
 use Rattle.ha_engine.proofs.boot.first_parts.Goals as goal
+
+pub overflow_cast-free : goal.overflow_cast-free
+overflow_cast-free c =
+    let h = c.requires.begun in
+    let many : length c.args.numbers ≡ length (units_of h.config) = boot-numbers h.text h.config h.stored c.args.start c.args.zone h.carry c.args.numbers (c.requires.numbers ∙ ap numbers_in h.journal_is) in
+    let few = units-few h.config (true-of (is_sound_config h.config) h.sound) in
+    omega (arith, c.len-free.ensures, many, few)
 
 pub note_first-requires-clause-helpers : goal.note_first-requires-clause-helpers
 note_first-requires-clause-helpers c =
     let h = c.in_ok-states.ensures.begun in
-    let is : c.configuration.result.now ≡ h.config = c.configuration.ensures.configured ∙ ap configured h.journal_is in
     subst (λ (i : Journal). helped.StandsFor c.in_ok-helpers.helpers i) (sym h.journal_is)
-    (subst (λ (d : Config). helped.StandsFor c.in_ok-helpers.helpers (Boot h.text d h.stored c.args.start c.args.zone h.carry ∷ [])) is
-    (c.in_ok-helpers.ensures (subst IsSoundConfig (sym is) h.sound) h.text h.stored c.args.start c.args.zone h.carry))
+    (c.in_ok-helpers.ensures h.config (sym (c.first_configuration.ensures ∙ ap helpers h.journal_is)) h.sound h.text h.stored c.args.start c.args.zone h.carry)
 
 pub returns-clause-going : goal.returns-clause-going
 returns-clause-going c =
@@ -46,6 +53,9 @@ returns-clause-going c =
     let p : Parts = record {
       at = c.args.start;
       zone = c.args.zone;
+      numbers = c.args.numbers;
+      free = c.len-free.result;
+      ascending = true;
       states = table;
       helpers = c.in_ok-helpers.helpers;
       given = c.make-given.result;
@@ -63,24 +73,25 @@ returns-clause-going c =
       awaited = tt;
       callers = λ called s b e. absurd (let bad : ◌≡◌ {A = Option (ℕ × Branch)} None (Some (s, b)) = e in cc);
     } in
-    let is : c.configuration.result.now ≡ h.config = c.configuration.ensures.configured ∙ ap configured h.journal_is in
     let helped_stand : helped.StandsFor c.in_ok-helpers.helpers k
-    = subst (λ (d : Config). helped.StandsFor c.in_ok-helpers.helpers (Boot h.text d h.stored c.args.start c.args.zone h.carry ∷ [])) is
-    (c.in_ok-helpers.ensures (subst IsSoundConfig (sym is) h.sound) h.text h.stored c.args.start c.args.zone h.carry) in
+    = c.in_ok-helpers.ensures h.config (sym (c.first_configuration.ensures ∙ ap helpers h.journal_is)) h.sound h.text h.stored c.args.start c.args.zone h.carry in
     let going : Going nobody k [] p = record {
       sees = record {
-        looks = boot-looks h.text h.config h.stored c.args.start c.args.zone h.carry h.zone_read h.in_time table opened.stand;
+        looks = boot-looks h.text h.config h.stored c.args.start c.args.zone h.carry h.zone_read h.in_time table opened.stand c.args.numbers (c.requires.numbers ∙ ap numbers_in h.journal_is);
         helpers_stand = helped_stand;
         switches_stand = subst (λ (i : Journal). switches.StandsFor c.args.switches i) h.journal_is h.switches_stand;
-        changed_is = refl;
+        changed_is = λ plain. refl;
         sound = h.sound;
+        few = boot-few h.text h.config h.stored c.args.start c.args.zone h.carry h.sound;
+        free_is = c.len-free.ensures ∙ boot-numbers h.text h.config h.stored c.args.start c.args.zone h.carry c.args.numbers (c.requires.numbers ∙ ap numbers_in h.journal_is);
+        ascending_is = sym (boot-ascends h.text h.config h.stored c.args.start c.args.zone h.carry);
       };
       triggers_stand = subst (λ (i : Journal). triggers.StandsFor t' i) h.journal_is c.in_ok-fired.ensures.stands;
       waits_stand = c.make-waits.ensures.stands k;
       owned = record {
-        automations_attached = ap (filter is_automation) same ∙ opened-automations [] x refl h.sound table t opened ∙ sym (owners-whole k (omega arith));
-        ascend = subst (AreAscending 0) (sym same) (opened-ascend [] x refl h.sound table t opened);
-        early = subst (AreBelow (first_wait + length k)) (sym same) (opened-below [] x refl h.sound table t opened (first_wait + length k) (omega arith));
+        automations_attached = ap (filter is_automation) same ∙ boot-owners h.text h.config h.stored c.args.start c.args.zone h.carry h.sound table t opened;
+        ascend = subst (AreAscending 0) (sym same) (opened-ascend [] x refl refl h.sound table t opened);
+        early = subst (AreBelow (first_wait + length k)) (sym same) (opened-below [] x refl refl h.sound table t opened (first_wait + length k) (omega arith));
         waits_owned = subst (λ (l : List Asked). AreOwned (length k) (triggers.attached t') l) (sym c.make-waits.ensures.asks) tt;
         apart = subst (λ (l : List Asked). AreApart l) (sym c.make-waits.ensures.asks) tt;
       };

@@ -14,6 +14,7 @@ use Rattle.engine_parts.specs.Kept.{Going, nobody}
 use Rattle.ha_ready.specs.RestedFlags.{RestedKept}
 use Rattle.engine_parts.specs.Records.{HasRoom, IsTable}
 use Rattle.ha_engine.specs.Admits.{ArePrepared, from_end}
+use Rattle.ha_engine.specs.Named.{AreFirsts}
 use Rattle.ha_engine.specs.declared.admit.Prepared.{Prepared}
 use Rattle.ha_engine.proofs.ConcludeLemmas.{line-table, plain-records, plain-right}
 use Rattle.ha_engine.proofs.conclude.conclude.Goals as goal
@@ -28,7 +29,7 @@ prepare-requires c =
     let sees = h.going.sees in
     record {
       journal = right.journal;
-      sees = record { looks = sees.looks; helpers_stand = sees.helpers_stand; switches_stand = sees.switches_stand; changed_is = sees.changed_is; sound = sees.sound };
+      sees = record { looks = sees.looks; helpers_stand = sees.helpers_stand; switches_stand = sees.switches_stand; changed_is = sees.changed_is; sound = sees.sound; few = sees.few; free_is = sees.free_is; ascending_is = sees.ascending_is };
       fired = c.requires.fired;
     }
 
@@ -63,6 +64,7 @@ settle-requires c =
         going = subst (λ (l : Records). Going nobody k l c.make_room.new.parts) (sym old) (c.in_ok-make_room.ensures.going k rs h.going);
         rested_is = subst (λ (v : Vec Bool). RestedKept h.j rs v.items) (sym c.in_ok-make_room.ensures.rested) h.rested_is;
       };
+      named = subst (AreFirsts k) (sym c.make_room.ensures.firsts) c.requires.named;
       prepared = c.in_ok-stack.ensures;
       spare = subst (λ n. n ≤ c.make_room.new.runs.spare) c.len.ensures c.in_ok-make_room.ensures.spare;
       room = subst (λ n. HasRoom n c.make_room.new.parts) c.len.ensures c.in_ok-make_room.ensures.room;

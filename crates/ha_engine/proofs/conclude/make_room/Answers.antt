@@ -12,7 +12,7 @@ returns-clause-going c k rs going =
     let p = c.args.parts.now in
     let all : Going nobody k rs (record p { frames = c.reserve-2.new.self; ready = c.reserve_pairs.new.parts.ready })
     = record {
-      sees = record { looks = going.sees.looks; helpers_stand = going.sees.helpers_stand; switches_stand = going.sees.switches_stand; changed_is = going.sees.changed_is; sound = going.sees.sound };
+      sees = record { looks = going.sees.looks; helpers_stand = going.sees.helpers_stand; switches_stand = going.sees.switches_stand; changed_is = going.sees.changed_is; sound = going.sees.sound; few = going.sees.few; free_is = going.sees.free_is; ascending_is = going.sees.ascending_is };
       triggers_stand = going.triggers_stand;
       waits_stand = going.waits_stand;
       owned = going.owned;

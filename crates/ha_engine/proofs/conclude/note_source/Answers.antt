@@ -28,7 +28,7 @@ returns c j x rs is right known rested right' going =
     let source : c.last_source-source.result ≡ source_of x = c.last_source-source.ensures j x is in
     record {
       going = record {
-        sees = record { looks = going'.sees.looks; helpers_stand = going'.sees.helpers_stand; switches_stand = going'.sees.switches_stand; changed_is = going'.sees.changed_is; sound = going'.sees.sound };
+        sees = record { looks = going'.sees.looks; helpers_stand = going'.sees.helpers_stand; switches_stand = going'.sees.switches_stand; changed_is = going'.sees.changed_is; sound = going'.sees.sound; few = going'.sees.few; free_is = going'.sees.free_is; ascending_is = going'.sees.ascending_is };
         triggers_stand = going'.triggers_stand;
         waits_stand = going'.waits_stand;
         owned = going'.owned;

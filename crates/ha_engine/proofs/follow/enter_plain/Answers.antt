@@ -24,6 +24,9 @@ returns-in-Trigger-clause-entered c k rs h is plain = c.enter_other-in-Trigger.e
 pub returns-in-Restart-clause-entered : goal.returns-in-Restart-clause-entered
 returns-in-Restart-clause-entered c k rs h is plain = absurd (subst IsPlain c.in-Restart.is plain)
 
+pub returns-in-Reload-clause-entered : goal.returns-in-Reload-clause-entered
+returns-in-Reload-clause-entered c k rs h is plain = absurd (subst IsPlain c.in-Reload.is plain)
+
 pub returns-in-Refused-clause-entered : goal.returns-in-Refused-clause-entered
 returns-in-Refused-clause-entered c k rs h is plain = c.enter_other-in-Refused.ensures.entered k rs h (subst IsOther (sym (is ∙ c.in-Refused.is)) tt)
 

@@ -31,5 +31,6 @@ conclude-requires c =
         going = c.in_ok-fired.ensures.going c.args.runs.now.list (c.in_ok-before.ensures.runs c.args.journal.now c.args.runs.now.list before);
         rested_is = subst (λ (v : Vec Bool). RestedKept h.j c.args.runs.now.list v.items) (sym (c.in_ok-fired.ensures.rested ∙ c.in_ok-before.ensures.rested)) h.kept.rested_is;
       };
+      named = c.requires.named;
       fired = c.in_ok-fired.ensures.fired;
     }

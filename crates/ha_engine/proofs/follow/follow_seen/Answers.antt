@@ -11,11 +11,11 @@ use Rattle.ha_engine.proofs.follow.follow_seen.Goals as goal
 pub attend-requires : goal.attend-requires
 attend-requires c =
     subst (λ (b : Listed). Entered c.args.journal.now c.enter_report.new.parts b) (sym c.look_at.ensures)
-    (c.in_ok-before.ensures.entered c.args.journal.now c.args.runs.now.list c.requires.pushed c.requires.cmd_is)
+    (c.in_ok-before.ensures.entered c.args.journal.now c.args.runs.now.list c.requires.pushed.pushed c.requires.pushed.cmd_is)
 
 pub conclude-requires : goal.conclude-requires
 conclude-requires c =
-    let h = c.requires.pushed in
+    let h = c.requires.pushed.pushed in
     let k = c.args.journal.now in
     let rs = c.args.runs.now.list in
     let old = c.args.parts.now in
@@ -31,10 +31,11 @@ conclude-requires c =
         journal_is = h.journal_is;
         known = h.known;
         fair = h.fair;
-        plain = subst IsPlain (sym c.requires.cmd_is) tt;
+        plain = subst IsPlain (sym c.requires.pushed.cmd_is) tt;
         right = h.right;
         going = c.in_ok-fired.ensures.going rs (subst (λ (p : Parts). RunsBefore k rs p.waits p.delays p.frames.items p.ready.pairs.items p.calls) (sym rest) before);
         rested_is = subst (λ (v : Vec Bool). RestedKept h.j rs v.items) (sym (c.in_ok-fired.ensures.rested ∙ ap (λ (p : Parts). p.rested) rest)) h.kept.rested_is;
       };
+      named = c.requires.named;
       fired = c.in_ok-fired.ensures.fired;
     }

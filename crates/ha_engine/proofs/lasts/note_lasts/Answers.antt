@@ -11,17 +11,17 @@ pub runs-preserved : goal.runs-preserved
 runs-preserved c =
     let within = subst (λ n. c.runs.place < n) c.len-place-end.ensures c.runs-test.true in
     record {
-      lasts = noted-step c.args.at c.runs.place c.args.runs.now.list c.runs.lasts.items c.note_last.new.lasts.items c.automation-automation.result within c.automation-automation.ensures c.note_last.ensures.lasts
+      lasts = noted-step c.args.at c.runs.place c.args.runs.now.firsts c.args.runs.now.list c.runs.lasts.items c.note_last.new.lasts.items c.first-first.result within c.first-first.ensures c.note_last.ensures.lasts
           ∙ c.runs.invariant.lasts;
-      moved = (λ i. c.either-moved.ensures i || moved_by c.args.at (drop (c.runs.place + 1) c.args.runs.now.list) c.note_last.new.lasts.items)
-          ∙ moved-step c.args.at c.runs.place c.args.runs.now.list c.runs.lasts.items c.note_last.new.lasts.items c.automation-automation.result c.runs.moved c.note_last.result _ within
-          c.automation-automation.ensures c.note_last.ensures.lasts c.note_last.ensures.moved c.runs.invariant.moved;
+      moved = (λ i. c.either-moved.ensures i || moved_by c.args.at c.args.runs.now.firsts c.args.listed.now (drop (c.runs.place + 1) c.args.runs.now.list) c.note_last.new.lasts.items)
+          ∙ moved-step c.args.at c.runs.place c.args.runs.now.firsts c.args.listed.now c.args.runs.now.list c.runs.lasts.items c.note_last.new.lasts.items c.first-first.result c.runs.moved c.note_last.result _ within
+          c.first-first.ensures c.note_last.ensures.lasts c.note_last.ensures.moved c.runs.invariant.moved;
     }
 
 pub returns-clause-lasts : goal.returns-clause-lasts
 returns-clause-lasts c =
-    sym (noted-none c.args.at c.args.runs.now.list c.runs.place c.runs.lasts.items (omega (arith, c.runs-test.false, c.len-place-end.ensures))) ∙ c.runs.invariant.lasts
+    sym (noted-none c.args.at c.args.runs.now.firsts c.args.runs.now.list c.runs.place c.runs.lasts.items (omega (arith, c.runs-test.false, c.len-place-end.ensures))) ∙ c.runs.invariant.lasts
 
 pub returns-clause-moved : goal.returns-clause-moved
 returns-clause-moved c =
-    sym (moved-none c.args.at c.args.runs.now.list c.runs.place c.runs.lasts.items c.runs.moved (omega (arith, c.runs-test.false, c.len-place-end.ensures))) ∙ c.runs.invariant.moved
+    sym (moved-none c.args.at c.args.runs.now.firsts c.args.listed.now c.args.runs.now.list c.runs.place c.runs.lasts.items c.runs.moved (omega (arith, c.runs-test.false, c.len-place-end.ensures))) ∙ c.runs.invariant.moved

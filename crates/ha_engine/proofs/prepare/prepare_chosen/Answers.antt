@@ -13,12 +13,12 @@ chosen-preserved g c =
     let x : ℕ = get_or all n 0 in
     record {
       fits = omega (arith, c.chosen.invariant.fits);
-      done = λ k seen same also.
+      done = λ k seen known.
           (let next : c.chosen.left ≡ n + 1 = omega (arith, c.chosen-test.true) in
-          let put = subst (λ (e : Pairs). IsPut (passes k (last_place k) (asked_for x e c.args.skip)) k (n, asked_for x e c.args.skip) c.chosen.stack.items c.prepare_one.new.stack.items) c.in_ok-env.ensures (c.in_ok-prepare_one.ensures k seen same also) in
+          let put = subst (λ (e : Pairs). IsPut (passes k (last_place k) (asked_for x e c.args.skip)) k (n, asked_for x e c.args.skip) c.chosen.stack.items c.prepare_one.new.stack.items) c.in_ok-env.ensures (c.in_ok-prepare_one.ensures k seen known) in
           let rest : drop n all ≡ x ∷ drop c.chosen.left all
           = drop-cons all n 0 (omega (arith, c.chosen-test.true, c.chosen.invariant.fits)) ∙ (let e : suc n ≡ c.chosen.left = omega (arith, c.chosen-test.true) in ap (λ m. x ∷ drop m all) e) in
           subst (λ (l : List ℕ). ArePassing k n (map {A = ℕ} {B = Attempt} (λ a. asked_for a by_hand c.args.skip) l) c.prepare_one.new.stack.items) (sym rest)
           (passing-next k n c.chosen.left (asked_for x by_hand c.args.skip) (map {A = ℕ} {B = Attempt} (λ a. asked_for a by_hand c.args.skip) (drop c.chosen.left all)) c.chosen.stack.items c.prepare_one.new.stack.items next put
-          (c.chosen.invariant.done k seen same also)));
+          (c.chosen.invariant.done k seen known)));
     }

@@ -12,7 +12,7 @@ firings-init g c = record {
   rest = [];
   split = sym (append-nil c.args.fired);
   order = c.count_attempts-order.ensures ∙ ap (λ (l : List Firing). length (attempts_by l)) c.as_slice.ensures;
-  done = λ k seen same also. subst (λ (l : List Prepared). ArePassing k c.count_attempts-order.result [] l) (sym c.new-stack.ensures.items) tt;
+  done = λ k seen known. subst (λ (l : List Prepared). ArePassing k c.count_attempts-order.result [] l) (sym c.new-stack.ensures.items) tt;
 }
 
 pub prepare_firing-requires-clause-left : goal.prepare_firing-requires-clause-left
@@ -27,5 +27,5 @@ firings-preserved g c =
       rest = f ∷ rest;
       split = c.firings.invariant.split ∙ ap (λ (l : List Firing). l ++ rest) c.in-Some.ensures ∙ append_assoc c.pop.new.self (f ∷ []) rest;
       order = omega (arith, c.in_ok-order.ensures.order, c.firings.invariant.order, ap (λ (l : List Firing). length (attempts_by l)) c.in-Some.ensures, attempts-weigh c.pop.new.self f);
-      done = λ k seen same also. c.in_ok-order.ensures.done k rest seen same also (c.firings.invariant.done k seen same also);
+      done = λ k seen known. c.in_ok-order.ensures.done k rest seen known (c.firings.invariant.done k seen known);
     }

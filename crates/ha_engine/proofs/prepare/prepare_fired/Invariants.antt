@@ -1,7 +1,8 @@
 use Rattle.std.proofs.Common.{◌≡◌, suc, List, ◌++◌, length}
 use Rattle.ha_journal.specs.declared.firing.Firing.{Firing}
-use Rattle.ha_journal.specs.Journal.{Journal, automations, last_place, scripts}
+use Rattle.ha_journal.specs.Journal.{Journal, last_place}
 use Rattle.ha_journal.specs.Moves.{sight}
+use Rattle.ha_engine.specs.Knows.{IsKnown}
 use Rattle.ha_engine.specs.Admits.{ArePassing}
 use Rattle.engine_parts.specs.Owners.{attempts_by}
 use Rattle.ha_engine.proofs.prepare.prepare_fired.Given as goal
@@ -11,7 +12,7 @@ invariant-firings g l = record {
   rest : List Firing;
   split : l.initial.fired ≡ l.fired ++ rest;
   order : l.order ≡ length (attempts_by l.fired);
-  done : (k : Journal) → g.A.Answers.sight l.answers ≡ sight k (suc (last_place k)) → l.config.automations ≡ automations k → l.config.scripts ≡ scripts k → ArePassing k l.order (attempts_by rest) l.stack.items;
+  done : (k : Journal) → g.A.Answers.sight l.answers ≡ sight k (suc (last_place k)) → IsKnown k l.known → ArePassing k l.order (attempts_by rest) l.stack.items;
 }
 
 abbrev pub decreases-firings : goal.decreases-firings

@@ -1,14 +1,14 @@
-use Rattle.std.proofs.Common.{◌≡◌, not}
-use Rattle.std.specs.Prelude.{unwrap_or}
+use Rattle.std.proofs.Common.{◌≡◌, ℕ, take}
+use Rattle.std.specs.Prelude.{not, unwrap_or, zip}
 use Rattle.std.specs.List.{list_any}
+use Rattle.ha_config.specs.declared.config.Automation.{Automation}
 use Rattle.ha_config.specs.Equal.{same_flag}
-use Rattle.ha_journal.specs.Journal.{Journal, automations}
-use Rattle.ha_config.specs.Names.{initial_of}
+use Rattle.ha_journal.specs.Journal.{Journal, in_force}
 use Rattle.ha_journal.specs.Switches.{is_on}
-use Rattle.ha_config.specs.Words.{up_to}
 use Rattle.switch_book.specs.Book.{StandsFor}
 use Rattle.ha_engine.proofs.restart.moves_any.Given as goal
 
 abbrev pub invariant-rules : goal.invariant-rules
 invariant-rules l =
-    (j : Journal) → StandsFor l.switches j → l.rules ≡ automations j → l.changed ≡ list_any (λ a. not (same_flag (is_on j a) (unwrap_or (initial_of l.rules a) (is_on j a)))) (up_to l.at)
+    (j : Journal) → StandsFor l.switches j → zip l.numbers l.rules ≡ in_force j
+    → l.changed ≡ list_any (λ (p : ℕ × Automation). not (same_flag (is_on j p.0) (unwrap_or p.1.initial (is_on j p.0)))) (take l.at (in_force j))

@@ -1,13 +1,11 @@
 use Rattle.std.proofs.Common.{sym, subst, ◌∙◌}
 use Rattle.ha_journal.specs.Journal.{Journal, more}
 use Rattle.ha_whole.specs.Whole.{again_of}
-use Rattle.segment_carry.specs.Closing.{Closes}
+use Rattle.ha_engine.specs.Restarts.{ClosesWith}
 use Rattle.ha_engine.proofs.restart.push_again.Goals as goal
 
 pub make_again-requires : goal.make_again-requires
-make_again-requires c =
-    let p = c.args.parts.now in
-    subst (λ (i : Journal). Closes i c.args.bounds.front c.args.bounds.segments p.at c.args.runs.now p.switches c.args.lasts.now) (sym c.as_slice.ensures.value) c.requires.stands
+make_again-requires c = subst (λ (i : Journal). ClosesWith i c.args.bounds c.args.book.now c.args.runs.now c.args.parts.now c.args.lasts.now) (sym c.as_slice.ensures.value) c.requires.stands
 
 pub returns-clause-put : goal.returns-clause-put
 returns-clause-put c =

@@ -1,4 +1,4 @@
-use Rattle.std.proofs.Common.{◌≡◌, ◌+◌, suc, subst, arith}
+use Rattle.std.proofs.Common.{◌≡◌, ◌∙◌, ◌+◌, suc, subst, arith}
 use Rattle.std.specs.Prelude.{vec_len}
 use Rattle.engine_parts.specs.Records.{HasRoom}
 use Rattle.ha_engine.proofs.TellLemmas.{told-again, told-journal}
@@ -17,3 +17,6 @@ settle-requires-clause-room c =
     let n = vec_len c.in_ok-stack.stack in
     let more : c.len.result + 1 ≡ suc n = omega (arith, c.len.ensures) in
     c.tell_records.ensures.room n (subst (λ m. HasRoom m c.make_room.new.parts) more c.in_ok-make_room.ensures.room)
+
+pub settle-requires-clause-named : goal.settle-requires-clause-named
+settle-requires-clause-named c = c.tell_records.ensures.firsts ∙ c.make_room.ensures.firsts ∙ c.requires.named

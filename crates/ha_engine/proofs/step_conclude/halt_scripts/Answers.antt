@@ -12,6 +12,7 @@ scripts-preserved c =
       list = ap (halts_each p (drop (i + 1) ss)) c.stop_runs.ensures.list ∙ sym (at_drop_more (λ l. halts_each p l c.scripts.runs.list) ss i 0 c.scripts-test.true) ∙ c.scripts.invariant.list;
       kept = λ k at some table going. (let g = c.scripts.invariant.kept k at some table going in c.stop_runs.ensures.kept k at some g.0 g.1);
       closed = c.stop_runs.ensures.closed ∙ c.scripts.invariant.closed;
+      firsts = c.stop_runs.ensures.firsts ∙ c.scripts.invariant.firsts;
       spare = omega (arith, c.scripts.invariant.spare, c.stop_runs.ensures.spare);
       room = λ n h. c.stop_runs.ensures.room n (c.scripts.invariant.room n h);
       rested = c.stop_runs.ensures.rested ∙ c.scripts.invariant.rested;

@@ -10,6 +10,7 @@ invariant-scripts l = record {
   list : halts_each l.place (drop l.script-index l.scripts) l.runs.list ≡ halts_each l.place l.scripts l.initial.runs.list;
   kept : (k : Journal) → l.place ≡ last_place k → 0 < length k → IsTable k l.initial.runs.list → Going nobody k l.initial.runs.list l.initial.parts → IsTable k l.runs.list × Going nobody k l.runs.list l.parts;
   closed : l.runs.closed ≡ l.initial.runs.closed;
+  firsts : l.runs.firsts ≡ l.initial.runs.firsts;
   spare : l.initial.runs.spare ≤ l.runs.spare;
   room : (n : ℕ) → HasRoom n l.initial.parts → HasRoom n l.parts;
   rested : l.parts.rested ≡ l.initial.parts.rested;

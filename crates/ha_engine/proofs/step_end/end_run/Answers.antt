@@ -54,7 +54,8 @@ returns-in-Some-clause-kept c h going =
     let live = live-run s rs h.table.numbered c.requires.run in
     let is : begun_by s rs ≡ Some q = sym c.ended.ensures.answer ∙ c.in-Some.is in
     let found : record_of c.ended.new.self.list q ≡ Some (new k rs s c.args.cause h live p gone q is) = ap (λ (l : Records). record_of l q) (c.ended.ensures.list ∙ (λ i. ended_at s (c.place-place.ensures.place i) c.args.cause rs)) ∙ found-behind k rs s c.args.cause h live p gone q is in
+    let acts = c.begin_run.ensures.sound (new k rs s c.args.cause h live p gone q is) found in
     subst (λ (l : Records). Going nobody k l c.begin_run.new.parts) (sym (c.ended.ensures.list ∙ (λ i. ended_at s (c.place-place.ensures.place i) c.args.cause rs)))
-    (going-begun k rs s c.args.cause h live p gone q is c.begin_run.new.parts c.begin_run.ensures.rest
+    (going-begun k rs s c.args.cause h live p gone q is acts c.begin_run.new.parts c.begin_run.ensures.rest
     (c.begin_run.ensures.pairs (length rs) (left_branches (also nobody s) (told_by (also nobody s) k rs) rs k) (new k rs s c.args.cause h live p gone q is) gone.runs_kept.pairs_are (before-none k rs s c.args.cause h live p gone q is)
     (low k rs s c.args.cause h live p gone q is) (high k rs s c.args.cause h live p gone q is) found))

@@ -40,4 +40,5 @@ conclude_step-requires c =
         rested_is = subst (λ (v : Vec Bool). RestedKept r.j rs v.items) (sym (c.in_ok-fired.ensures.rested ∙ ap (λ (q : Parts). q.rested) c.in_ok-before.ensures.rest)) h.rested_is;
       };
       fired = c.in_ok-fired.ensures.fired;
+      named = c.requires.named;
     }

@@ -10,7 +10,7 @@ returns-in-Err-clause-failed g c = λ boot o.
     memory_failed boot c.lines.i c.args.lines c.in-Err.fault (g.C.Core.entries c.lines.core) (g.C.Core.runs c.lines.core) c.in-Err.ensures.memory (omega (arith, next)) (c.lines.invariant.on boot o)
 
 pub put_cmd-requires-clause-on : goal.put_cmd-requires-clause-on
-put_cmd-requires-clause-on g c = (c.requires.on.0, c.lines.invariant.on c.requires.on.0 c.requires.on.1)
+put_cmd-requires-clause-on g c κs within = (c.requires.on.0, c.lines.invariant.on c.requires.on.0 c.requires.on.1)
 
 pub returns-in-Err-put_cmd-clause-failed : goal.returns-in-Err-put_cmd-clause-failed
 returns-in-Err-put_cmd-clause-failed g c = λ boot o.

@@ -3,7 +3,7 @@ use Rattle.ha_rehearse.proofs.PutLemmas.{on_closing}
 use Rattle.ha_rehearse.proofs.puts.rehearse_lines.Goals as goal
 
 pub close-requires-clause-lawful : goal.close-requires-clause-lawful
-close-requires-clause-lawful g c = (c.in-Ok.ensures.on c.requires.on.0 c.requires.on.1).running.lawful
+close-requires-clause-lawful g c κs within = (c.in-Ok.ensures.on c.requires.on.0 c.requires.on.1).running.lawful
 
 pub returns-in-Ok-clause-closing : goal.returns-in-Ok-clause-closing
 returns-in-Ok-clause-closing g c =

@@ -4,7 +4,7 @@ use Rattle.std.proofs.lemmas.List.{length-map}
 use Rattle.crossbeam_channel.specs.Claims.{view}
 use Rattle.bus_pass.specs.Turns.{IsPassOf}
 use Rattle.ha_run.specs.Opened.{source_of}
-use Rattle.ha_run.specs.Team.{seat_of}
+use Rattle.ha_run.specs.Team.{AreReady, seat_of}
 use Rattle.ha_run.proofs.CrewLemmas.{hired_all, hired_none, hired_one, led, renumbered}
 use Rattle.ha_run.proofs.team.hire.Goals as goal
 
@@ -43,3 +43,12 @@ returns-clause-lead g c =
 
 pub returns-clause-passes : goal.returns-clause-passes
 returns-clause-passes g c = subst (λ z. All (λ w. IsPassOf c.args.turn.now w.pass) z) (sym c.from_vec.ensures) c.sources.invariant.hiring.passes
+
+pub returns-clause-ready : goal.returns-clause-ready
+returns-clause-ready g c =
+    let none : c.sources.sources ≡ [] = search rules in
+    let given = map (source_of g.S.Source.faults g.S.Source.left g.S.Source.name) c.args.sources in
+    let h = hired_all (seat_of (source_of g.S.Source.faults g.S.Source.left g.S.Source.name)) (λ w. IsPassOf c.args.turn.now w.pass)
+    given (view c.args.pass.now) (view c.sources.pass)
+    (map (source_of g.S.Source.faults g.S.Source.left g.S.Source.name) c.sources.sources) c.sources.workers.items c.sources.invariant.hiring (ap (map (source_of g.S.Source.faults g.S.Source.left g.S.Source.name)) none) in
+    subst (λ z. AreReady 0 given (map (seat_of (source_of g.S.Source.faults g.S.Source.left g.S.Source.name)) z)) (sym c.from_vec.ensures) h.0

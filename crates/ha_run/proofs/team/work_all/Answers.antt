@@ -15,5 +15,5 @@ pub returns-clause-done : goal.returns-clause-done
 returns-clause-done g c = λ before ready.
     let len : length c.for_each_mut.new.s ≡ length c.args.workers.now = search rules in
     let f = seat_of (source_of g.S.Source.faults g.S.Source.left g.S.Source.name) in
-    done_of f (λ w. IsPassOf c.args.turn.now w.pass) 0 before c.args.workers.now c.for_each_mut.new.s len ready
-    (λ i d h. let call = (c.for_each_mut.ensures i d h).1 in moved (λ a b. Works (f a) (f b)) _ _ _ _ call.argument_is call.left call.call.1)
+    done_of g.C.Prepare.Prepare.reads f 0 before c.args.workers.now c.for_each_mut.new.s len ready
+    (λ i d h. let call = (c.for_each_mut.ensures i d h).1 in moved (λ a b. Works g.C.Prepare.Prepare.reads (f a) (f b)) _ _ _ _ call.argument_is call.left call.call.1)

@@ -1,8 +1,9 @@
-use Rattle.std.proofs.Common.{◌≡◌, ◌∙◌, List, [], ◌++◌, ap, append_assoc, inl, refl, sym}
+use Rattle.std.proofs.Common.{◌≡◌, ◌∙◌, List, [], ◌++◌, ap, append_assoc, inl, map, refl, sym}
 use Rattle.std.specs.VecDeque.{deque_len}
 use Rattle.std.proofs.lemmas.Bool.{false≢true}
 use Rattle.std.proofs.lemmas.Map.Views.{exact_unsigned_eq}
 use Rattle.ha_config.specs.declared.command.Cmd.{Cmd}
+use Rattle.ha_config.specs.Fair.{prepared}
 use Rattle.ha_worker.proofs.CameLemmas.{came_none, came_still, came_then, no_items, none_of, some_came}
 use Rattle.ha_worker.proofs.puts.put_all.Goals as goal
 
@@ -25,7 +26,7 @@ returns-then-not-put_next-clause-some g c =
     let p = c.put_next.ensures.some in
     rw i.parts (
       p.0,
-      some_came c.args.id c.args.next.now c.cmds.next c.put_next.new.next i.put c.cmds.cmds.items p.0 c.args.bus.now c.cmds.bus c.put_next.new.bus i.came p.1,
+      some_came c.args.id c.args.next.now c.cmds.next c.put_next.new.next i.put (map (prepared g.C.Prepare.Prepare.reads) c.cmds.cmds.items) p.0 c.args.bus.now c.cmds.bus c.put_next.new.bus i.came p.1,
       λ e. absurd (false≢true e),
     )
 
@@ -43,7 +44,7 @@ cmds-preserved g c =
     record {
       put = i.put ++ p.1.put;
       free = none_of c.put_next.new.bus.first (sym c.put_next.ensures.fault ∙ c.if-not-put_next.false);
-      parts = i.parts ∙ ap (λ (z : List Cmd). i.put ++ z) (p.1.parts ∙ ap (λ (z : List Cmd). p.1.put ++ z) left) ∙ sym (append_assoc i.put p.1.put c.put_next.new.cmds.items);
+      parts = i.parts ∙ ap (λ (z : List Cmd). i.put ++ z) (p.1.parts ∙ ap (λ (z : List Cmd). p.1.put ++ z) left) ∙ sym (append_assoc i.put p.1.put (map (prepared g.C.Prepare.Prepare.reads) c.put_next.new.cmds.items));
       came = came_then c.args.id c.args.next.now c.cmds.next c.put_next.new.next i.put p.1.put c.args.bus.now c.cmds.bus c.put_next.new.bus i.came p.1.came;
       unshut = c.put_next.ensures.unshut;
       open_all = c.put_next.ensures.open_all;
@@ -56,7 +57,7 @@ returns-clause-some g c =
       [],
       record {
         put = i.put;
-        parts = i.parts ∙ ap (λ (z : List Cmd). i.put ++ z) none;
+        parts = i.parts ∙ ap (λ (z : List Cmd). i.put ++ map (prepared g.C.Prepare.Prepare.reads) z) none;
         came = came_still c.args.id c.args.next.now c.cmds.next i.put c.args.bus.now c.cmds.bus c.put_steps.new.bus i.came (c.put_steps.ensures.came c.cmds.next i.came.at);
         full = λ e. inl (c.put_steps.ensures.full e);
       },

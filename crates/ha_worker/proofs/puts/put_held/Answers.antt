@@ -1,13 +1,16 @@
-use Rattle.std.proofs.Common.{◌≡◌, ◌∙◌, [], ◌∷◌, Some, option_to_list, rules, sym}
+use Rattle.std.proofs.Common.{◌≡◌, ◌∙◌, List, [], ◌∷◌, Some, map, option_to_list, rules, sym}
 use Rattle.std.proofs.lemmas.Bool.{false≢true}
+use Rattle.ha_config.specs.declared.command.Cmd.{Cmd}
+use Rattle.ha_config.specs.Fair.{prepared}
 use Rattle.ha_worker.proofs.CameLemmas.{held_still, none_came, none_of, some_came}
 use Rattle.ha_worker.proofs.puts.put_held.Goals as goal
 
 pub returns-then-not-put_steps-clause-some : goal.returns-then-not-put_steps-clause-some
 returns-then-not-put_steps-clause-some g c =
-    let s = c.put_steps.ensures in (
-      option_to_list c.args.held.now,
-      none_came c.args.id c.args.next.now (option_to_list c.args.held.now) c.args.bus.now c.put_steps.new.bus (s.came c.args.next.now c.requires.at) s.full,
+    let s = c.put_steps.ensures in
+    let all : List Cmd = map (prepared g.C.Prepare.Prepare.reads) (option_to_list c.args.held.now) in (
+      all,
+      none_came c.args.id c.args.next.now all c.args.bus.now c.put_steps.new.bus (s.came c.args.next.now c.requires.at) s.full,
       λ e. absurd (false≢true e),
     )
 
@@ -31,7 +34,7 @@ returns-clause-some g c =
     let held : c.args.held.now ≡ Some c.in-Some.cmd = search rules in
     let p = c.put_line.ensures.some in
     rw held
-    (p.0, some_came c.args.id c.args.next.now c.args.next.now c.put_line.new.next [] (c.in-Some.cmd ∷ []) p.0 c.args.bus.now c.put_steps.new.bus c.put_line.new.bus (c.put_steps.ensures.came c.args.next.now c.requires.at) p.1, p.2)
+    (p.0, some_came c.args.id c.args.next.now c.args.next.now c.put_line.new.next [] (prepared g.C.Prepare.Prepare.reads c.in-Some.cmd ∷ []) p.0 c.args.bus.now c.put_steps.new.bus c.put_line.new.bus (c.put_steps.ensures.came c.args.next.now c.requires.at) p.1, p.2)
 
 pub returns-clause-unshut : goal.returns-clause-unshut
 returns-clause-unshut g c =

@@ -1,14 +1,16 @@
-use Rattle.std.proofs.Common.{◌≡◌, ◌∙◌, List, [], ◌∷◌, ◌++◌, ap, arith, length, rules, sym}
+use Rattle.std.proofs.Common.{◌≡◌, ◌∙◌, List, [], ◌∷◌, ◌++◌, ap, arith, length, map, rules, sym}
 use Rattle.std.proofs.lemmas.Bool.{false≢true}
 use Rattle.ha_config.specs.declared.command.Cmd.{Cmd}
+use Rattle.ha_config.specs.Fair.{prepared}
 use Rattle.ha_worker.proofs.CameLemmas.{none_came, none_of, some_came, some_of_more}
 use Rattle.ha_worker.proofs.puts.put_next.Goals as goal
 
 pub returns-then-not-put_steps-clause-some : goal.returns-then-not-put_steps-clause-some
 returns-then-not-put_steps-clause-some g c =
-    let s = c.put_steps.ensures in (
-      c.args.cmds.now.items,
-      none_came c.args.id c.args.next.now c.args.cmds.now.items c.args.bus.now c.put_steps.new.bus (s.came c.args.next.now c.requires.at) s.full,
+    let s = c.put_steps.ensures in
+    let all : List Cmd = map (prepared g.C.Prepare.Prepare.reads) c.args.cmds.now.items in (
+      all,
+      none_came c.args.id c.args.next.now all c.args.bus.now c.put_steps.new.bus (s.came c.args.next.now c.requires.at) s.full,
       λ e. absurd (false≢true e),
     )
 
@@ -37,13 +39,14 @@ put_line-requires-clause-fair g c κs within =
 
 pub returns-clause-some : goal.returns-clause-some
 returns-clause-some g c =
-    let rest = c.pop_front.new.self.items in
-    let parts : c.args.cmds.now.items ≡ c.in-Some.cmd ∷ rest = search rules in
+    let parts : c.args.cmds.now.items ≡ c.in-Some.cmd ∷ c.pop_front.new.self.items = search rules in
+    let rest : List Cmd = map (prepared g.C.Prepare.Prepare.reads) c.pop_front.new.self.items in
+    let first : Cmd = prepared g.C.Prepare.Prepare.reads c.in-Some.cmd in
     let p = c.put_line.ensures.some in
     rw parts (
       p.0 ++ rest,
-      some_of_more c.args.id c.args.next.now c.put_line.new.next (c.in-Some.cmd ∷ []) rest p.0 c.args.bus.now c.put_line.new.bus
-          (some_came c.args.id c.args.next.now c.args.next.now c.put_line.new.next [] (c.in-Some.cmd ∷ []) p.0 c.args.bus.now c.put_steps.new.bus c.put_line.new.bus (c.put_steps.ensures.came c.args.next.now c.requires.at) p.1),
+      some_of_more c.args.id c.args.next.now c.put_line.new.next (first ∷ []) rest p.0 c.args.bus.now c.put_line.new.bus
+          (some_came c.args.id c.args.next.now c.args.next.now c.put_line.new.next [] (first ∷ []) p.0 c.args.bus.now c.put_steps.new.bus c.put_line.new.bus (c.put_steps.ensures.came c.args.next.now c.requires.at) p.1),
       λ e. ap (λ (z : List Cmd). z ++ rest) (p.2 e),
     )
 

@@ -1,13 +1,14 @@
 use Rattle.std.proofs.Common.{◌≡◌, None, rules, subst, sym, refl}
 use Rattle.std.specs.Prelude.{IsSome}
 use Rattle.crossbeam_channel.specs.Claims.{view}
+use Rattle.bus_pass.specs.Reads.{prepared_in}
 use Rattle.ha_worker.proofs.GiveLemmas.{gave_same, may_back, no_line_then, took_holds, took_lines}
 use Rattle.ha_worker.proofs.turns.take_open.Goals as goal
 
 pub give-requires-clause-may : goal.give-requires-clause-may
 give-requires-clause-may g c κs within =
     let e = c.take-bus.ensures in
-    may_back c.args.id (view c.take-bus.new.pass) c.take-bus.result c.nothing.result (took_holds c.args.id (view c.args.pass.now) (view c.take-bus.new.pass) c.take-bus.result c.requires.one e.took e.tells e.running e.stored)
+    may_back c.args.id (view c.take-bus.new.pass) c.take-bus.result (prepared_in g.C.Prepare.Prepare.reads c.nothing.result) (took_holds c.args.id (view c.args.pass.now) (view c.take-bus.new.pass) c.take-bus.result c.requires.one e.took e.tells e.running e.stored)
 
 pub returns-then-is_some-clause-lines : goal.returns-then-is_some-clause-lines
 returns-then-is_some-clause-lines g c =

@@ -31,7 +31,7 @@ returns-in-Ok-clause-goes_on g c = λ text behind o e at.
     let r' = reached (g.C.Core.entries c.replay_line.new.core) (g.C.Core.runs c.replay_line.new.core) c.replay_line.new.closing c.replay_line.new.again in
     let t = entry_of a.line.now r r' c.in-Ok-false.field-0 (search (rules, c.in-Ok-false.field-0-test)) c.in-Ok-false.ensures.answer in
     let w = written a.line.now r r' t (s a.out.now) (s a.err.now) (s c.write_last.new.out) (s c.write_last.new.err) None c.in-Ok.ensures in
-    entry_taken text a.line.now behind r r' t c.requires.ready.stands o (g.K.Sink.written a.out.now) (g.K.Sink.written c.write_last.new.out) e (g.K.Sink.written a.err.now) (g.K.Sink.written c.write_last.new.err) at w.0.took w.1.took
+    entry_taken text a.line.now behind r r' t c.requires.ready.stands o (g.K.Sink.written a.out.now) (g.K.Sink.written c.write_last.new.out) e (g.K.Sink.written a.err.now) (g.K.Sink.written c.write_last.new.err) at c.journal.ensures.read w.0.took w.1.took
 
 pub returns-in-Ok-clause-out_counts : goal.returns-in-Ok-clause-out_counts
 returns-in-Ok-clause-out_counts g c =
@@ -85,7 +85,7 @@ returns-in-Err-write_last-clause-stops g c = λ text behind end o e one at.
     let r' = reached (g.C.Core.entries c.replay_line.new.core) (g.C.Core.runs c.replay_line.new.core) c.replay_line.new.closing c.replay_line.new.again in
     let t = entry_of a.line.now r r' c.in-Ok-false.field-0 (search (rules, c.in-Ok-false.field-0-test)) c.in-Ok-false.ensures.answer in
     let w = written a.line.now r r' t (s a.out.now) (s a.err.now) (s c.write_last.new.out) (s c.write_last.new.err) (Some c.in-Err-write_last.fault) c.in-Err-write_last.ensures in
-    entry_cut text a.line.now behind r r' t c.requires.ready.stands o (g.K.Sink.written a.out.now) (g.K.Sink.written c.write_last.new.out) e (g.K.Sink.written a.err.now) (g.K.Sink.written c.write_last.new.err) at
+    entry_cut text a.line.now behind r r' t c.requires.ready.stands o (g.K.Sink.written a.out.now) (g.K.Sink.written c.write_last.new.out) e (g.K.Sink.written a.err.now) (g.K.Sink.written c.write_last.new.err) at c.journal.ensures.read
     end c.unwritten.result c.unwritten.ensures.cut w.0.front w.1.front
 
 pub returns-in-Err-write_last-clause-cause : goal.returns-in-Err-write_last-clause-cause

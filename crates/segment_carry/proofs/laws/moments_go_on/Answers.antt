@@ -1,4 +1,5 @@
-use Rattle.segment_carry.proofs.LawLemmas.{carried-moments, found-moments}
+use Rattle.segment_carry.proofs.LawLemmas.{carried-moments}
+use Rattle.segment_carry.proofs.MomentLemmas.{found-moments}
 use Rattle.segment_carry.proofs.laws.moments_go_on.Goals as goal
 
 pub returns-clause-found : goal.returns-clause-found

@@ -3,7 +3,7 @@ use Rattle.serde_json.specs.Data.{Data, no_members, number, object, put, unsigne
 use Rattle.serde_json.specs.View.{members_view}
 use Rattle.serde_json.proofs.OnLiterals.{serde_json_on_literals}
 use Rattle.serde_json.proofs.Views.{view-Object}
-use Rattle.store_text.specs.Store.{put_all, put_moments}
+use Rattle.store_text.specs.Store.{Switches, by_names, put_all, put_moments}
 use Rattle.store_text.proofs.write.store_value.Goals as goal
 
 laid : (l a b : Data)
@@ -13,7 +13,7 @@ laid l a b = refl
 
 pub returns : goal.returns
 returns c =
-    let s = c.args.switches.now in
+    let s : Switches = by_names c.args.switches.now in
     let ms = c.args.last.now in
     let moments = view-Object c.in_ok-moments.moments ∙ ap object c.in_ok-moments.ensures in
     let flags = view-Object c.in_ok-flags.flags ∙ ap object c.in_ok-flags.ensures in

@@ -1,10 +1,8 @@
 use Rattle.std.proofs.Common.{ℕ, sym}
 use Rattle.std.specs.Prelude.{filter_map, option_map}
-use Rattle.std.specs.List.{enumerate_from}
-use Rattle.ha_config.specs.Names.{name_of}
 use Rattle.ha_config.specs.StoreText.{in_name_order, store_of}
 use Rattle.ha_config.specs.Words.{Text, or_else}
-use Rattle.ha_journal.specs.Journal.{automations, now, through}
+use Rattle.ha_journal.specs.Journal.{in_force, now, through}
 use Rattle.ha_journal.specs.States.{switches_of}
 use Rattle.ha_whole.specs.Lasts.{last_run, lasts_carried}
 use Rattle.ha_whole.specs.Named.{named}
@@ -14,5 +12,5 @@ use Rattle.whole_laws.proofs.laws.the_hall_light_is_stored.Goals as goal
 
 pub returns : goal.returns
 returns c = λ i. store_of (switches_of hall.journal) (in_name_order (filter_map (λ p. option_map {T = ℕ} {U = Text × ℕ} (λ at. (p.1.name, at))
-    (or_else (option_map (λ r. now (through hall.journal r.place)) (last_run p.0 (sym it_is_lawful.right.records_are i))) (named (name_of (automations hall.journal) p.0) (lasts_carried hall.journal))))
-    (enumerate_from 0 (automations hall.journal))))
+    (or_else (option_map (λ r. now (through hall.journal r.place)) (last_run hall.journal p.1.name (sym it_is_lawful.right.records_are i))) (named p.1.name (lasts_carried hall.journal))))
+    (in_force hall.journal)))

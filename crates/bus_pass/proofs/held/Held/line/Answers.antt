@@ -1,5 +1,6 @@
 use Rattle.std.proofs.Common.{◌≡◌, true, rules, subst, sym}
 use Rattle.ha_journal.specs.declared.entry.Entry.{Entry}
+use Rattle.ha_config.specs.Fair.{prepared}
 use Rattle.ha_journal.specs.Commands.{put_as}
 use Rattle.ha_journal.specs.Entries.{restarts}
 use Rattle.ha_whole.specs.Whole.{is_rested}
@@ -15,4 +16,4 @@ line-requires-clause-rested g c κs within =
 pub returns : goal.returns
 returns g c =
     let same : c.as_mut.result.now ≡ c.args.self.now = search rules in
-    subst (λ (b : BusView). Puts (restarts c.args.cmd) (λ x. x ≡ Entry.Line c.args.source c.args.number (put_as b.journal c.args.cmd)) b c.line.new.self) same c.line.ensures
+    subst (λ (b : BusView). Puts (restarts c.args.cmd) (λ x. x ≡ Entry.Line c.args.source c.args.number (put_as b.journal (prepared g.C.Prepare.Prepare.reads c.args.cmd))) b c.line.new.self) same c.line.ensures

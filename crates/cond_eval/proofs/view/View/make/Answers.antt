@@ -6,3 +6,6 @@ returns-clause-seen c = refl
 
 pub returns-clause-config : goal.returns-clause-config
 returns-clause-config c = refl
+
+pub returns-clause-numbers : goal.returns-clause-numbers
+returns-clause-numbers c = refl

@@ -12,21 +12,21 @@ pieces-init g c = record {
   same_end = refl;
   takes = c.requires.takes;
   empty = c.new-cmds.ensures.items;
-  reading = start_reading c.args.self.now.id (view c.args.self.now.pass) (source_of g.S.Source.faults g.S.Source.left g.S.Source.name c.args.self.now.source) c.args.cut.now c.most_bytes-room.result c.requires.fresh c.most_bytes-room.ensures;
+  reading = start_reading g.C.Prepare.Prepare.reads c.args.self.now.id (view c.args.self.now.pass) (source_of g.S.Source.faults g.S.Source.left g.S.Source.name c.args.self.now.source) c.args.cut.now c.most_bytes-room.result c.requires.fresh c.most_bytes-room.ensures;
 }
 
 pub returns-then-count-eq0-clause-ok : goal.returns-then-count-eq0-clause-ok
 returns-then-count-eq0-clause-ok g c =
     let s = source_of g.S.Source.faults g.S.Source.left g.S.Source.name in
     let p = c.in-Ok.ensures.ok in
-    read_end c.args.self.now.id (view c.args.self.now.pass) (view c.pieces.self.pass) (s c.args.self.now.source) (s c.pieces.self.source) (s c.pull.new.source) c.pieces.cut p.0 c.pieces.room c.pieces.invariant.reading (omega (arith, p.2, p.3)) p.4 c.pull.ensures.never_falls c.pull.ensures.same_name c.pull.new.cut p.1
+    read_end g.C.Prepare.Prepare.reads c.args.self.now.id (view c.args.self.now.pass) (view c.pieces.self.pass) (s c.args.self.now.source) (s c.pieces.self.source) (s c.pull.new.source) c.pieces.cut p.0 c.pieces.room c.pieces.invariant.reading (omega (arith, p.2, p.3)) p.4 c.pull.ensures.never_falls c.pull.ensures.same_name c.pull.new.cut p.1
     (p.2 ∙ c.if-count-eq0.true) (c.in-Ok.ensures.end c.if-count-eq0.true)
 
 pub returns-in-Err-Failed-clause-ok : goal.returns-in-Err-Failed-clause-ok
 returns-in-Err-Failed-clause-ok g c =
     let s = source_of g.S.Source.faults g.S.Source.left g.S.Source.name in
     let is = c.in-Err-Failed.is ∙ ap (λ (x : NoPiece). Err x) c.in-Err-Failed.field-0-is in
-    read_failed c.args.self.now.id (view c.args.self.now.pass) (view c.pieces.self.pass) (s c.args.self.now.source) (s c.pieces.self.source) (s c.pull.new.source) c.pieces.cut c.pull.new.cut c.pieces.room c.pieces.invariant.reading (c.pull.ensures.unread is) (c.pull.ensures.failed is)
+    read_failed g.C.Prepare.Prepare.reads c.args.self.now.id (view c.args.self.now.pass) (view c.pieces.self.pass) (s c.args.self.now.source) (s c.pieces.self.source) (s c.pull.new.source) c.pieces.cut c.pull.new.cut c.pieces.room c.pieces.invariant.reading (c.pull.ensures.unread is) (c.pull.ensures.failed is)
     c.pull.ensures.never_falls c.pull.ensures.same_name c.in-Err-Failed.ensures.cut_stays
 
 pub returns-in-Err-Memory-clause-some : goal.returns-in-Err-Memory-clause-some
@@ -34,7 +34,7 @@ returns-in-Err-Memory-clause-some g c =
     let s = source_of g.S.Source.faults g.S.Source.left g.S.Source.name in
     let is = c.in-Err-Memory.is ∙ ap (λ (x : NoPiece). Err x) c.in-Err-Memory.field-0-is in
     let l = c.pull.ensures.lost is in
-    read_lost c.args.self.now.id (view c.args.self.now.pass) (view c.pieces.self.pass) (s c.args.self.now.source) (s c.pieces.self.source) (s c.pull.new.source) c.pieces.cut l.0 c.pieces.room c.pieces.invariant.reading l.1 l.2 c.pull.ensures.never_falls c.pull.ensures.same_name
+    read_lost g.C.Prepare.Prepare.reads c.args.self.now.id (view c.args.self.now.pass) (view c.pieces.self.pass) (s c.args.self.now.source) (s c.pieces.self.source) (s c.pull.new.source) c.pieces.cut l.0 c.pieces.room c.pieces.invariant.reading l.1 l.2 c.pull.ensures.never_falls c.pull.ensures.same_name
 
 pub pieces-preserved : goal.pieces-preserved
 pieces-preserved g c =
@@ -49,7 +49,7 @@ pieces-preserved g c =
       takes = rw i.same_id at c.in-Ok-put_piece.ensures.takes;
       empty = c.in-Ok-put_piece.ensures.empty;
       reading = rw e.same.1
-          (read_on c.args.self.now.id (view c.args.self.now.pass) (view c.pieces.self.pass) (s c.args.self.now.source) (s c.pieces.self.source) (s c.pull.new.source) c.pieces.cut p.0 c.pieces.room i.reading (omega (arith, p.2, p.3)) p.4 c.pull.ensures.never_falls c.pull.ensures.same_name c.pull.new.cut p.1
+          (read_on g.C.Prepare.Prepare.reads c.args.self.now.id (view c.args.self.now.pass) (view c.pieces.self.pass) (s c.args.self.now.source) (s c.pieces.self.source) (s c.pull.new.source) c.pieces.cut p.0 c.pieces.room i.reading (omega (arith, p.2, p.3)) p.4 c.pull.ensures.never_falls c.pull.ensures.same_name c.pull.new.cut p.1
           (view c.put_piece.new.self.pass) c.put_piece.new.cut _ (omega (arith, p.2, p.3)) (rw i.same_id at c.in-Ok-put_piece.ensures.ok));
     }
 
@@ -59,11 +59,11 @@ returns-in-Err-clause-some g c =
     let i = c.pieces.invariant in
     let p = c.in-Ok.ensures.ok in
     rw c.put_piece.ensures.same.1
-    (read_some c.args.self.now.id (view c.args.self.now.pass) (view c.pieces.self.pass) (s c.args.self.now.source) (s c.pieces.self.source) (s c.pull.new.source) c.pieces.cut p.0 c.pieces.room i.reading (omega (arith, p.2, p.3)) p.4 c.pull.ensures.never_falls c.pull.ensures.same_name c.pull.new.cut p.1
+    (read_some g.C.Prepare.Prepare.reads c.args.self.now.id (view c.args.self.now.pass) (view c.pieces.self.pass) (s c.args.self.now.source) (s c.pieces.self.source) (s c.pull.new.source) c.pieces.cut p.0 c.pieces.room i.reading (omega (arith, p.2, p.3)) p.4 c.pull.ensures.never_falls c.pull.ensures.same_name c.pull.new.cut p.1
     (view c.put_piece.new.self.pass) (rw i.same_id at c.in-Err.ensures.some))
 
 pub returns-clause-ok : goal.returns-clause-ok
 returns-clause-ok g c =
     let s = source_of g.S.Source.faults g.S.Source.left g.S.Source.name in
-    read_past c.args.self.now.id (view c.args.self.now.pass) (view c.pieces.self.pass) (s c.args.self.now.source) (s c.pieces.self.source) (s c.read_past.new.source) c.pieces.cut c.pieces.room _ c.pieces.invariant.reading (omega (arith, c.pieces-test.false)) c.read_past.ensures.bound
+    read_past g.C.Prepare.Prepare.reads c.args.self.now.id (view c.args.self.now.pass) (view c.pieces.self.pass) (s c.args.self.now.source) (s c.pieces.self.source) (s c.read_past.new.source) c.pieces.cut c.pieces.room _ c.pieces.invariant.reading (omega (arith, c.pieces-test.false)) c.read_past.ensures.bound
     c.read_past.ensures.never_falls c.read_past.ensures.same_name

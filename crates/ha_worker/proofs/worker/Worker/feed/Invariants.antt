@@ -13,7 +13,7 @@ invariant-pieces g l = record {
   same_end : l.self.end ≡ l.initial.self.end;
   takes : Takes l.self.next l.initial.self.id (view l.self.pass);
   empty : l.cmds.items ≡ [];
-  reading : Reading l.initial.self.id (view l.initial.self.pass) (view l.self.pass) (source_state (g.S.Source.faults l.initial.self.source) (g.S.Source.left l.initial.self.source) (g.S.Source.name l.initial.self.source))
+  reading : Reading g.C.Prepare.Prepare.reads l.initial.self.id (view l.initial.self.pass) (view l.self.pass) (source_state (g.S.Source.faults l.initial.self.source) (g.S.Source.left l.initial.self.source) (g.S.Source.name l.initial.self.source))
       (source_state (g.S.Source.faults l.self.source) (g.S.Source.left l.self.source) (g.S.Source.name l.self.source)) l.cut l.room;
 }
 

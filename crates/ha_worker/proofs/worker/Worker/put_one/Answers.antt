@@ -1,8 +1,9 @@
-use Rattle.std.proofs.Common.{◌≡◌, ◌∙◌, option_to_list, rules, subst, sym}
+use Rattle.std.proofs.Common.{◌≡◌, ◌∙◌, map, option_to_list, rules, subst, sym}
 use Rattle.std.specs.Prelude.{IsSome}
 use Rattle.std.specs.List.{list_any}
 use Rattle.crossbeam_channel.specs.Claims.{view}
 use Rattle.ha_model.specs.Lawful.{shuts}
+use Rattle.ha_config.specs.Fair.{prepared}
 use Rattle.bus_pass.specs.Reads.{reading}
 use Rattle.ha_worker.specs.Views.{Takes}
 use Rattle.ha_worker.proofs.CameLemmas.{held_takes, none_of, some_of_none}
@@ -17,7 +18,7 @@ returns-in_default-clause-sits g c =
     sits_still c.args.self.now.next c.args.self.now.id (view c.args.self.now.pass) (view c.take_open.new.pass) c.requires.takes.sits t.lines (t.none c.in_default.is).0
 
 pub returns-in_default-clause-some : goal.returns-in_default-clause-some
-returns-in_default-clause-some g c = none_yet c.args.self.now.id (option_to_list c.args.held.now) (view c.args.self.now.pass) (view c.take_open.new.pass) c.take_open.ensures.lines
+returns-in_default-clause-some g c = none_yet c.args.self.now.id (map (prepared g.C.Prepare.Prepare.reads) (option_to_list c.args.held.now)) (view c.args.self.now.pass) (view c.take_open.new.pass) c.take_open.ensures.lines
 
 pub returns-in_default-clause-halt : goal.returns-in_default-clause-halt
 returns-in_default-clause-halt g c = (c.take_open.ensures.none c.in_default.is).1
@@ -37,7 +38,7 @@ pub give-requires-clause-may : goal.give-requires-clause-may
 give-requires-clause-may g c κs within =
     let h = c.in-Some.ensures.some in
     let r : c.one.result ≡ reading c.args.self.now.next c.put_held-done.new.next (option_to_list c.args.held.now) = search rules in
-    rw r (given_may c.args.self.now.id c.args.self.now.next c.put_held-done.new.next (option_to_list c.args.held.now) c.put_held-done.ensures.some.0 (view c.args.self.now.pass) (view c.take_open.new.pass) c.in-Some.bus c.put_held-done.new.bus c.requires.takes c.take_open.ensures.lines h.0 h.1 c.put_held-done.ensures.some.1)
+    rw r (given_may c.args.self.now.id c.args.self.now.next c.put_held-done.new.next (map (prepared g.C.Prepare.Prepare.reads) (option_to_list c.args.held.now)) c.put_held-done.ensures.some.0 (view c.args.self.now.pass) (view c.take_open.new.pass) c.in-Some.bus c.put_held-done.new.bus c.requires.takes c.take_open.ensures.lines h.0 h.1 c.put_held-done.ensures.some.1)
 
 pub give-requires-clause-running : goal.give-requires-clause-running
 give-requires-clause-running g c κs within = c.put_held-done.ensures.some.1.came.at.running
@@ -49,32 +50,32 @@ pub returns-then-not-done-clause-sits : goal.returns-then-not-done-clause-sits
 returns-then-not-done-clause-sits g c =
     let h = c.in-Some.ensures.some in
     let r : c.one.result ≡ reading c.args.self.now.next c.put_held-done.new.next (option_to_list c.args.held.now) = search rules in
-    given_sits c.args.self.now.id c.args.self.now.next c.put_held-done.new.next (option_to_list c.args.held.now) c.put_held-done.ensures.some.0 (view c.args.self.now.pass) (view c.take_open.new.pass) c.in-Some.bus c.put_held-done.new.bus c.requires.takes c.take_open.ensures.lines h.0 h.1 c.put_held-done.ensures.some.1 (view c.give.new.pass) (rw r at c.give.ensures.gave)
+    given_sits c.args.self.now.id c.args.self.now.next c.put_held-done.new.next (map (prepared g.C.Prepare.Prepare.reads) (option_to_list c.args.held.now)) c.put_held-done.ensures.some.0 (view c.args.self.now.pass) (view c.take_open.new.pass) c.in-Some.bus c.put_held-done.new.bus c.requires.takes c.take_open.ensures.lines h.0 h.1 c.put_held-done.ensures.some.1 (view c.give.new.pass) (rw r at c.give.ensures.gave)
 
 pub returns-then-not-done-clause-some : goal.returns-then-not-done-clause-some
 returns-then-not-done-clause-some g c =
     let h = c.in-Some.ensures.some in
     let r : c.one.result ≡ reading c.args.self.now.next c.put_held-done.new.next (option_to_list c.args.held.now) = search rules in
-    given_some c.args.self.now.id c.args.self.now.next c.put_held-done.new.next (option_to_list c.args.held.now) c.put_held-done.ensures.some.0 (view c.args.self.now.pass) (view c.take_open.new.pass) c.in-Some.bus c.put_held-done.new.bus c.requires.takes c.take_open.ensures.lines h.0 h.1 c.put_held-done.ensures.some.1 (view c.give.new.pass) (rw r at c.give.ensures.gave)
+    given_some c.args.self.now.id c.args.self.now.next c.put_held-done.new.next (map (prepared g.C.Prepare.Prepare.reads) (option_to_list c.args.held.now)) c.put_held-done.ensures.some.0 (view c.args.self.now.pass) (view c.take_open.new.pass) c.in-Some.bus c.put_held-done.new.bus c.requires.takes c.take_open.ensures.lines h.0 h.1 c.put_held-done.ensures.some.1 (view c.give.new.pass) (rw r at c.give.ensures.gave)
 
 pub returns-then-not-done-clause-halt : goal.returns-then-not-done-clause-halt
 returns-then-not-done-clause-halt g c =
     let h = c.in-Some.ensures.some in
     let r : c.one.result ≡ reading c.args.self.now.next c.put_held-done.new.next (option_to_list c.args.held.now) = search rules in
-    subst IsSome (sym (given_noted c.args.self.now.id c.args.self.now.next c.put_held-done.new.next (option_to_list c.args.held.now) c.put_held-done.ensures.some.0 (view c.args.self.now.pass) (view c.take_open.new.pass) c.in-Some.bus c.put_held-done.new.bus c.requires.takes c.take_open.ensures.lines h.0 h.1 c.put_held-done.ensures.some.1 (view c.give.new.pass) (rw r at c.give.ensures.gave)))
+    subst IsSome (sym (given_noted c.args.self.now.id c.args.self.now.next c.put_held-done.new.next (map (prepared g.C.Prepare.Prepare.reads) (option_to_list c.args.held.now)) c.put_held-done.ensures.some.0 (view c.args.self.now.pass) (view c.take_open.new.pass) c.in-Some.bus c.put_held-done.new.bus c.requires.takes c.take_open.ensures.lines h.0 h.1 c.put_held-done.ensures.some.1 (view c.give.new.pass) (rw r at c.give.ensures.gave)))
     (some_of_none c.put_held-done.new.bus.first (sym c.put_held-done.ensures.fault ∙ c.if-not-done.true))
 
 pub returns-clause-sits : goal.returns-clause-sits
 returns-clause-sits g c =
     let h = c.in-Some.ensures.some in
     let r : c.one.result ≡ reading c.args.self.now.next c.put_held-done.new.next (option_to_list c.args.held.now) = search rules in
-    given_sits c.args.self.now.id c.args.self.now.next c.put_held-done.new.next (option_to_list c.args.held.now) c.put_held-done.ensures.some.0 (view c.args.self.now.pass) (view c.take_open.new.pass) c.in-Some.bus c.put_held-done.new.bus c.requires.takes c.take_open.ensures.lines h.0 h.1 c.put_held-done.ensures.some.1 (view c.give.new.pass) (rw r at c.give.ensures.gave)
+    given_sits c.args.self.now.id c.args.self.now.next c.put_held-done.new.next (map (prepared g.C.Prepare.Prepare.reads) (option_to_list c.args.held.now)) c.put_held-done.ensures.some.0 (view c.args.self.now.pass) (view c.take_open.new.pass) c.in-Some.bus c.put_held-done.new.bus c.requires.takes c.take_open.ensures.lines h.0 h.1 c.put_held-done.ensures.some.1 (view c.give.new.pass) (rw r at c.give.ensures.gave)
 
 pub returns-clause-ok : goal.returns-clause-ok
 returns-clause-ok g c =
     let h = c.in-Some.ensures.some in
     let r : c.one.result ≡ reading c.args.self.now.next c.put_held-done.new.next (option_to_list c.args.held.now) = search rules in
-    given_all c.args.self.now.id c.args.self.now.next c.put_held-done.new.next (option_to_list c.args.held.now) c.put_held-done.ensures.some.0 (view c.args.self.now.pass) (view c.take_open.new.pass) c.in-Some.bus c.put_held-done.new.bus c.requires.takes c.take_open.ensures.lines h.0 h.1 c.put_held-done.ensures.some.1 (view c.give.new.pass) (rw r at c.give.ensures.gave)
+    given_all c.args.self.now.id c.args.self.now.next c.put_held-done.new.next (map (prepared g.C.Prepare.Prepare.reads) (option_to_list c.args.held.now)) c.put_held-done.ensures.some.0 (view c.args.self.now.pass) (view c.take_open.new.pass) c.in-Some.bus c.put_held-done.new.bus c.requires.takes c.take_open.ensures.lines h.0 h.1 c.put_held-done.ensures.some.1 (view c.give.new.pass) (rw r at c.give.ensures.gave)
     (c.put_held-done.ensures.some.2 c.if-not-done.false) (none_of c.put_held-done.new.bus.first (sym c.put_held-done.ensures.fault ∙ c.if-not-done.false))
 
 pub returns-clause-takes : goal.returns-clause-takes
@@ -82,4 +83,4 @@ returns-clause-takes g c =
     let h = c.in-Some.ensures.some in
     let r : c.one.result ≡ reading c.args.self.now.next c.put_held-done.new.next (option_to_list c.args.held.now) = search rules in
     held_takes (Takes c.put_held-done.new.next c.args.self.now.id (view c.give.new.pass)) c.args.held.now (list_any (shuts c.args.self.now.id) c.put_held-done.new.bus.journal) c.put_held-done.ensures.unshut
-    (given_takes c.args.self.now.id c.args.self.now.next c.put_held-done.new.next (option_to_list c.args.held.now) c.put_held-done.ensures.some.0 (view c.args.self.now.pass) (view c.take_open.new.pass) c.in-Some.bus c.put_held-done.new.bus c.requires.takes c.take_open.ensures.lines h.0 h.1 c.put_held-done.ensures.some.1 (view c.give.new.pass) (rw r at c.give.ensures.gave))
+    (given_takes c.args.self.now.id c.args.self.now.next c.put_held-done.new.next (map (prepared g.C.Prepare.Prepare.reads) (option_to_list c.args.held.now)) c.put_held-done.ensures.some.0 (view c.args.self.now.pass) (view c.take_open.new.pass) c.in-Some.bus c.put_held-done.new.bus c.requires.takes c.take_open.ensures.lines h.0 h.1 c.put_held-done.ensures.some.1 (view c.give.new.pass) (rw r at c.give.ensures.gave))

@@ -1,6 +1,7 @@
-use Rattle.std.proofs.Common.{◌≡◌, ◌∙◌, rules, subst, sym}
+use Rattle.std.proofs.Common.{◌≡◌, ◌∙◌, map, rules, subst, sym}
 use Rattle.std.specs.Prelude.{IsSome}
 use Rattle.crossbeam_channel.specs.Claims.{view}
+use Rattle.ha_config.specs.Fair.{prepared}
 use Rattle.bus_pass.specs.Reads.{reading}
 use Rattle.ha_worker.proofs.CameLemmas.{none_of, some_of_none}
 use Rattle.ha_worker.proofs.GiveLemmas.{sits_still}
@@ -14,7 +15,7 @@ returns-in_default-clause-sits g c =
     sits_still c.args.self.now.next c.args.self.now.id (view c.args.self.now.pass) (view c.take_open.new.pass) c.requires.takes.sits t.lines (t.none c.in_default.is).0
 
 pub returns-in_default-clause-some : goal.returns-in_default-clause-some
-returns-in_default-clause-some g c = none_yet c.args.self.now.id c.args.cmds.now.items (view c.args.self.now.pass) (view c.take_open.new.pass) c.take_open.ensures.lines
+returns-in_default-clause-some g c = none_yet c.args.self.now.id (map (prepared g.C.Prepare.Prepare.reads) c.args.cmds.now.items) (view c.args.self.now.pass) (view c.take_open.new.pass) c.take_open.ensures.lines
 
 pub returns-in_default-clause-halt : goal.returns-in_default-clause-halt
 returns-in_default-clause-halt g c = (c.take_open.ensures.none c.in_default.is).1
@@ -34,7 +35,7 @@ pub give-requires-clause-may : goal.give-requires-clause-may
 give-requires-clause-may g c κs within =
     let h = c.in-Some.ensures.some in
     let r : c.many.result ≡ reading c.args.self.now.next c.put_all-done.new.next c.args.cmds.now.items = search rules in
-    rw r (given_may c.args.self.now.id c.args.self.now.next c.put_all-done.new.next c.args.cmds.now.items c.put_all-done.ensures.some.0 (view c.args.self.now.pass) (view c.take_open.new.pass) c.in-Some.bus c.put_all-done.new.bus c.requires.takes c.take_open.ensures.lines h.0 h.1 c.put_all-done.ensures.some.1)
+    rw r (given_may c.args.self.now.id c.args.self.now.next c.put_all-done.new.next (map (prepared g.C.Prepare.Prepare.reads) c.args.cmds.now.items) c.put_all-done.ensures.some.0 (view c.args.self.now.pass) (view c.take_open.new.pass) c.in-Some.bus c.put_all-done.new.bus c.requires.takes c.take_open.ensures.lines h.0 h.1 c.put_all-done.ensures.some.1)
 
 pub give-requires-clause-running : goal.give-requires-clause-running
 give-requires-clause-running g c κs within = c.put_all-done.ensures.some.1.came.at.running
@@ -46,39 +47,39 @@ pub returns-then-not-done-clause-sits : goal.returns-then-not-done-clause-sits
 returns-then-not-done-clause-sits g c =
     let h = c.in-Some.ensures.some in
     let r : c.many.result ≡ reading c.args.self.now.next c.put_all-done.new.next c.args.cmds.now.items = search rules in
-    given_sits c.args.self.now.id c.args.self.now.next c.put_all-done.new.next c.args.cmds.now.items c.put_all-done.ensures.some.0 (view c.args.self.now.pass) (view c.take_open.new.pass) c.in-Some.bus c.put_all-done.new.bus c.requires.takes c.take_open.ensures.lines h.0 h.1 c.put_all-done.ensures.some.1 (view c.give.new.pass) (rw r at c.give.ensures.gave)
+    given_sits c.args.self.now.id c.args.self.now.next c.put_all-done.new.next (map (prepared g.C.Prepare.Prepare.reads) c.args.cmds.now.items) c.put_all-done.ensures.some.0 (view c.args.self.now.pass) (view c.take_open.new.pass) c.in-Some.bus c.put_all-done.new.bus c.requires.takes c.take_open.ensures.lines h.0 h.1 c.put_all-done.ensures.some.1 (view c.give.new.pass) (rw r at c.give.ensures.gave)
 
 pub returns-then-not-done-clause-some : goal.returns-then-not-done-clause-some
 returns-then-not-done-clause-some g c =
     let h = c.in-Some.ensures.some in
     let r : c.many.result ≡ reading c.args.self.now.next c.put_all-done.new.next c.args.cmds.now.items = search rules in
-    given_some c.args.self.now.id c.args.self.now.next c.put_all-done.new.next c.args.cmds.now.items c.put_all-done.ensures.some.0 (view c.args.self.now.pass) (view c.take_open.new.pass) c.in-Some.bus c.put_all-done.new.bus c.requires.takes c.take_open.ensures.lines h.0 h.1 c.put_all-done.ensures.some.1 (view c.give.new.pass) (rw r at c.give.ensures.gave)
+    given_some c.args.self.now.id c.args.self.now.next c.put_all-done.new.next (map (prepared g.C.Prepare.Prepare.reads) c.args.cmds.now.items) c.put_all-done.ensures.some.0 (view c.args.self.now.pass) (view c.take_open.new.pass) c.in-Some.bus c.put_all-done.new.bus c.requires.takes c.take_open.ensures.lines h.0 h.1 c.put_all-done.ensures.some.1 (view c.give.new.pass) (rw r at c.give.ensures.gave)
 
 pub returns-then-not-done-clause-halt : goal.returns-then-not-done-clause-halt
 returns-then-not-done-clause-halt g c =
     let h = c.in-Some.ensures.some in
     let r : c.many.result ≡ reading c.args.self.now.next c.put_all-done.new.next c.args.cmds.now.items = search rules in
-    subst IsSome (sym (given_noted c.args.self.now.id c.args.self.now.next c.put_all-done.new.next c.args.cmds.now.items c.put_all-done.ensures.some.0 (view c.args.self.now.pass) (view c.take_open.new.pass) c.in-Some.bus c.put_all-done.new.bus c.requires.takes c.take_open.ensures.lines h.0 h.1 c.put_all-done.ensures.some.1 (view c.give.new.pass) (rw r at c.give.ensures.gave)))
+    subst IsSome (sym (given_noted c.args.self.now.id c.args.self.now.next c.put_all-done.new.next (map (prepared g.C.Prepare.Prepare.reads) c.args.cmds.now.items) c.put_all-done.ensures.some.0 (view c.args.self.now.pass) (view c.take_open.new.pass) c.in-Some.bus c.put_all-done.new.bus c.requires.takes c.take_open.ensures.lines h.0 h.1 c.put_all-done.ensures.some.1 (view c.give.new.pass) (rw r at c.give.ensures.gave)))
     (some_of_none c.put_all-done.new.bus.first (sym c.put_all-done.ensures.fault ∙ c.if-not-done.true))
 
 pub returns-clause-sits : goal.returns-clause-sits
 returns-clause-sits g c =
     let h = c.in-Some.ensures.some in
     let r : c.many.result ≡ reading c.args.self.now.next c.put_all-done.new.next c.args.cmds.now.items = search rules in
-    given_sits c.args.self.now.id c.args.self.now.next c.put_all-done.new.next c.args.cmds.now.items c.put_all-done.ensures.some.0 (view c.args.self.now.pass) (view c.take_open.new.pass) c.in-Some.bus c.put_all-done.new.bus c.requires.takes c.take_open.ensures.lines h.0 h.1 c.put_all-done.ensures.some.1 (view c.give.new.pass) (rw r at c.give.ensures.gave)
+    given_sits c.args.self.now.id c.args.self.now.next c.put_all-done.new.next (map (prepared g.C.Prepare.Prepare.reads) c.args.cmds.now.items) c.put_all-done.ensures.some.0 (view c.args.self.now.pass) (view c.take_open.new.pass) c.in-Some.bus c.put_all-done.new.bus c.requires.takes c.take_open.ensures.lines h.0 h.1 c.put_all-done.ensures.some.1 (view c.give.new.pass) (rw r at c.give.ensures.gave)
 
 pub returns-clause-ok : goal.returns-clause-ok
 returns-clause-ok g c =
     let h = c.in-Some.ensures.some in
     let r : c.many.result ≡ reading c.args.self.now.next c.put_all-done.new.next c.args.cmds.now.items = search rules in
-    given_all c.args.self.now.id c.args.self.now.next c.put_all-done.new.next c.args.cmds.now.items c.put_all-done.ensures.some.0 (view c.args.self.now.pass) (view c.take_open.new.pass) c.in-Some.bus c.put_all-done.new.bus c.requires.takes c.take_open.ensures.lines h.0 h.1 c.put_all-done.ensures.some.1 (view c.give.new.pass) (rw r at c.give.ensures.gave)
+    given_all c.args.self.now.id c.args.self.now.next c.put_all-done.new.next (map (prepared g.C.Prepare.Prepare.reads) c.args.cmds.now.items) c.put_all-done.ensures.some.0 (view c.args.self.now.pass) (view c.take_open.new.pass) c.in-Some.bus c.put_all-done.new.bus c.requires.takes c.take_open.ensures.lines h.0 h.1 c.put_all-done.ensures.some.1 (view c.give.new.pass) (rw r at c.give.ensures.gave)
     (c.put_all-done.ensures.some.2 c.if-not-done.false) (none_of c.put_all-done.new.bus.first (sym c.put_all-done.ensures.fault ∙ c.if-not-done.false))
 
 pub returns-clause-takes : goal.returns-clause-takes
 returns-clause-takes g c =
     let h = c.in-Some.ensures.some in
     let r : c.many.result ≡ reading c.args.self.now.next c.put_all-done.new.next c.args.cmds.now.items = search rules in
-    given_takes c.args.self.now.id c.args.self.now.next c.put_all-done.new.next c.args.cmds.now.items c.put_all-done.ensures.some.0 (view c.args.self.now.pass) (view c.take_open.new.pass) c.in-Some.bus c.put_all-done.new.bus c.requires.takes c.take_open.ensures.lines h.0 h.1 c.put_all-done.ensures.some.1 (view c.give.new.pass) (rw r at c.give.ensures.gave) c.put_all-done.ensures.unshut
+    given_takes c.args.self.now.id c.args.self.now.next c.put_all-done.new.next (map (prepared g.C.Prepare.Prepare.reads) c.args.cmds.now.items) c.put_all-done.ensures.some.0 (view c.args.self.now.pass) (view c.take_open.new.pass) c.in-Some.bus c.put_all-done.new.bus c.requires.takes c.take_open.ensures.lines h.0 h.1 c.put_all-done.ensures.some.1 (view c.give.new.pass) (rw r at c.give.ensures.gave) c.put_all-done.ensures.unshut
 
 pub returns-clause-empty : goal.returns-clause-empty
 returns-clause-empty g c = c.put_all-done.ensures.empty c.if-not-done.false

@@ -5,7 +5,7 @@ use Rattle.helper_set.proofs.BootLemmas.{boot-stands}
 use Rattle.helper_set.proofs.set.Helpers.make.Goals as goal
 
 pub returns : goal.returns
-returns c sound text stored start zone carry =
+returns c d same sound text stored start zone carry =
     let kept = c.in_ok-kept.kept.items in
-    subst (λ q. Stands kept q (Boot text c.args.config.now stored start zone carry ∷ [])) (sym c.make-2.ensures)
-    (boot-stands c.args.config.now kept sound (c.in_ok-kept.ensures ∙ c.in_ok-begun.ensures ∙ ap (map first_kept) c.as_slice.ensures) text stored start zone carry)
+    subst (λ q. Stands kept q (Boot text d stored start zone carry ∷ [])) (sym c.make-2.ensures)
+    (boot-stands d kept sound (c.in_ok-kept.ensures ∙ c.in_ok-begun.ensures ∙ ap (map first_kept) (c.as_slice.ensures ∙ sym same)) text stored start zone carry)

@@ -12,5 +12,5 @@ pub returns : goal.returns
 returns c =
     c.automation_at.ensures
     ∙ (λ i. option_map (λ (r : Record). r.automation) (slice_get (drop c.self.inside.base (c.list.ensures i)) (c.args.serial - 1)))
-    ∙ over-automation c.self.inside.front c.self.inside.base c.self.inside.all.list c.self.invariant c.args.serial
+    ∙ over-automation c.self.inside.front c.self.inside.base c.self.inside.numbers c.self.inside.all.list c.self.invariant c.args.serial
     ∙ (λ i. option_map (λ (r : Record). r.automation) (record_of (c.self.view_is i).list c.args.serial))

@@ -8,6 +8,6 @@ overflow_sub-result c = omega (arith, c.self.invariant.within, c.count_of.ensure
 
 pub returns : goal.returns
 returns c =
-    let all = over-length c.self.inside.front c.self.inside.base c.self.inside.all.list c.self.invariant in
-    let here : c.count_of.result - c.self.inside.base ≡ length (own_in c.self.inside.front c.self.inside.base c.self.inside.all.list) = omega (arith, all, c.count_of.ensures, ap length c.list.ensures) in
+    let all = over-length c.self.inside.front c.self.inside.base c.self.inside.numbers c.self.inside.all.list c.self.invariant in
+    let here : c.count_of.result - c.self.inside.base ≡ length (own_in c.self.inside.front c.self.inside.base c.self.inside.numbers c.self.inside.all.list) = omega (arith, all, c.count_of.ensures, ap length c.list.ensures) in
     here ∙ (λ i. length (c.self.view_is i).list)

@@ -9,19 +9,19 @@ overflow_add-at c = omega (arith, c.self.invariant.most, c.requires)
 
 pub invariant_of-self : goal.invariant_of-self
 invariant_of-self c =
-    subst (StandsOver c.self.inside.front c.self.inside.base) (sym c.stop_all.ensures.list)
-    (over-stopped c.self.inside.front c.self.inside.base c.self.inside.all.list c.self.invariant c.args.automation c.args.place c.args.cause).over
+    subst (StandsOver c.self.inside.front c.self.inside.base c.self.inside.numbers) (sym c.stop_all.ensures.list)
+    (over-stopped c.self.inside.front c.self.inside.base c.self.inside.numbers c.self.inside.all.list c.self.invariant c.args.automation c.args.place c.args.cause).over
 
 pub returns-clause-list : goal.returns-clause-list
 returns-clause-list c =
-    ap (own_in c.self.inside.front c.self.inside.base) c.stop_all.ensures.list
-    ∙ (over-stopped c.self.inside.front c.self.inside.base c.self.inside.all.list c.self.invariant c.args.automation c.args.place c.args.cause).list
+    ap (own_in c.self.inside.front c.self.inside.base c.self.inside.numbers) c.stop_all.ensures.list
+    ∙ (over-stopped c.self.inside.front c.self.inside.base c.self.inside.numbers c.self.inside.all.list c.self.invariant c.args.automation c.args.place c.args.cause).list
     ∙ (λ i. stopped c.args.automation c.args.place c.args.cause (c.self.view_is i).list)
 
 pub returns-clause-closed : goal.returns-clause-closed
 returns-clause-closed c =
-    ap (closed_in c.self.inside.front c.self.inside.base) c.stop_all.ensures.list
-    ∙ (over-stopped c.self.inside.front c.self.inside.base c.self.inside.all.list c.self.invariant c.args.automation c.args.place c.args.cause).closed
+    ap (closed_in c.self.inside.front c.self.inside.base c.self.inside.numbers) c.stop_all.ensures.list
+    ∙ (over-stopped c.self.inside.front c.self.inside.base c.self.inside.numbers c.self.inside.all.list c.self.invariant c.args.automation c.args.place c.args.cause).closed
     ∙ (λ i. (c.self.view_is i).closed)
 
 pub returns-clause-spare : goal.returns-clause-spare

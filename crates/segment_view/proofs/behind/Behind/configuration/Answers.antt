@@ -1,20 +1,20 @@
-use Rattle.std.proofs.Common.{sym, subst, refl, ◌∙◌}
+use Rattle.std.proofs.Common.{ap, subst, ◌∙◌}
+use Rattle.ha_config.specs.declared.config.Config.{Config}
+use Rattle.ha_journal.specs.Force.{IsAlike, force}
 use Rattle.ha_journal.specs.Journal.{HasEntry, Journal, automations, configured}
-use Rattle.segment_view.proofs.ViewLemmas.{IsBootWith, automations-seen, configured-seen, no-other}
 use Rattle.segment_view.proofs.behind.Behind.configuration.Goals as goal
 
-pub unreachable-requires : goal.unreachable-requires
-unreachable-requires c = no-other c.self.inside.boot.now c.self.invariant.boots c.in_default.not-Boot
+pub configuration-requires : goal.configuration-requires
+configuration-requires c = (force c.self.inside.entries, c.self.invariant.held.holds)
 
 pub returns-clause-automations : goal.returns-clause-automations
 returns-clause-automations c =
-    sym ((λ i. automations (sym c.self.view_is i))
-    ∙ automations-seen c.self.inside.boot.now c.self.inside.opening.now c.self.inside.settled.now c.self.inside.base c.in-Boot.config (subst (λ x. IsBootWith x c.in-Boot.config) (sym c.in-Boot.is) refl))
+    ap (λ (x : Config). x.automations) (c.configuration.ensures (force c.self.inside.entries) c.self.invariant.held.holds)
+    ∙ ap (λ (j : Journal). automations j) c.self.view_is
 
 pub returns-clause-configured : goal.returns-clause-configured
 returns-clause-configured c =
-    sym ((λ i. configured (sym c.self.view_is i))
-    ∙ configured-seen c.self.inside.boot.now c.self.inside.opening.now c.self.inside.settled.now c.self.inside.base c.in-Boot.config (subst (λ x. IsBootWith x c.in-Boot.config) (sym c.in-Boot.is) refl))
+    subst (λ (j : Journal). IsAlike c.configuration.result.now (configured j)) c.self.view_is (c.configuration.ensures (force c.self.inside.entries) c.self.invariant.held.holds)
 
 pub returns-clause-some : goal.returns-clause-some
-returns-clause-some c = subst (λ (j : Journal). HasEntry j) c.self.view_is tt
+returns-clause-some c = subst (λ (j : Journal). HasEntry j) c.self.view_is c.self.invariant.held.some

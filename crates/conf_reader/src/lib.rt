@@ -1,0 +1,6 @@
+//! The reading of configurations that reloads go by.
+#![tactic(auto)]
+
+mod reader;
+
+pub use reader::Reader;

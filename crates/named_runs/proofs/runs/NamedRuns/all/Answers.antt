@@ -1,0 +1,6 @@
+use Rattle.std.proofs.Common.{◌∙◌}
+use Rattle.segment_runs.specs.Segment.{all_of}
+use Rattle.named_runs.proofs.runs.NamedRuns.all.Goals as goal
+
+pub returns : goal.returns
+returns c = c.all.ensures ∙ (λ i. all_of (c.self.view_is i).closed (c.self.view_is i).list)

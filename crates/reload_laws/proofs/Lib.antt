@@ -1,0 +1,11 @@
+pub mod EndLemmas
+pub mod KeptLemmas
+pub mod KeptRuns
+pub mod KeptUnits
+pub mod NumberLemmas
+pub mod ReloadLine
+pub mod SameForce
+pub mod SameHolds
+pub mod SameRuns
+pub mod SameSight
+pub mod SameTriggers

@@ -1,0 +1,4 @@
+pub mod BookLemmas
+pub mod FirstLemmas
+pub mod GrownLemmas
+pub mod StepLemmas
