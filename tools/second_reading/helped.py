@@ -35,6 +35,7 @@ SEES = call("notify.x", v="{{ states('counter.c') }}")
 UP = helped("counter.increment", "counter.c")
 START = helped("timer.start", "timer.t")
 STATES = call("notify.s", t="{{ states('timer.t') }}")
+TWENTY = [f"timer.t{n}" for n in range(20)]
 
 
 def b_tells(number: str, entity: str = "timer.t", kind: str = "timer.finished") -> str:
@@ -53,6 +54,18 @@ HELPED = [
         [go([helped("timer.start", "timer.u", "timer.t", "timer.u", "timer.no")]), at_event("timer.finished", TELLS, mode="parallel")],
         [event("go"), moment("20:00:09")], [b_tells("1/1"), b_tells("2/1", "timer.u")],
         helpers={"timer": {"t": {"duration": 5}, "u": {"duration": 3}}}),
+    Row("twenty timers finish at one moment, each for those who wait for it",
+        [go([helped("timer.start", *TWENTY, "timer.t0")]), at_event("timer.finished", TELLS, mode="parallel", max=20),
+         on({"trigger": "event", "event_type": "timer.finished", "event_data": {"entity_id": "timer.t17"}}, alias="c",
+            actions=[call("notify.c")]),
+         on({"trigger": "state", "entity_id": TWENTY, "to": "idle"}, alias="d", mode="parallel", max=20,
+            actions=[call("notify.d", id="{{ trigger.entity_id }}")]),
+         on({"trigger": "state", "entity_id": "timer.t9", "to": "idle"}, alias="e", actions=[call("notify.e")])],
+        [event("go"), moment("20:00:05")],
+        [b_tells(f"{at}/1", name) for at, name in enumerate(TWENTY, 1)] + [call_line("c", "1/1", "notify.c")]
+        + [call_line("d", f"{at}/1", "notify.d", f'{{"id":"{name}"}}') for at, name in enumerate(TWENTY, 1)]
+        + [call_line("e", "1/1", "notify.e")],
+        helpers={"timer": {f"t{n}": {"duration": 5 - n % 2} for n in range(20)}}),
     Row("a timer that is started anew", [go([START]), at_event("timer.restarted", TELLS), at_event("timer.finished", TELLS, alias="c")],
         [event("go"), moment("20:00:03"), event("go"), moment("20:00:07"), moment("20:00:08")],
         [b_tells("1/1", kind="timer.restarted"), call_line("c", "1/1", "notify.b", '{"id":"timer.t","kind":"timer.finished","e":"None"}')],
@@ -105,6 +118,10 @@ HELPED = [
     Row("a changed number comes into its bounds", [go([UP]), on({"trigger": "numeric_state", "entity_id": "counter.c", "above": 1}, alias="b",
                                                                 actions=[call("notify.b")])],
         [event("go"), event("go"), event("go")], [call_line("b", "1/1", "notify.b")], helpers={"counter": {"c": None}}),
+    Row("a changed number comes into its bounds again behind a restart",
+        [go([UP]), on({"trigger": "numeric_state", "entity_id": "counter.c", "above": 0}, alias="b", actions=[call("notify.b")])],
+        [event("go"), event("go"), RESTART, event("go")], [call_line("b", "1/1", "notify.b"), call_line("b", "2/1", "notify.b")],
+        helpers={"counter": {"c": None}}),
     Row("where no helper of the kind is configured the call is written", [go([helped("counter.increment", "counter.c"), helped("timer.start")])],
         [event("go")], [call_line("a", "1/1", "counter.increment", target='["counter.c"]')], helpers=T),
     Row("services that are none of helpers", [go([call("timer.change"), call("input_boolean.reload")])], [event("go")],

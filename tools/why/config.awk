@@ -14,9 +14,11 @@ function configure(text, root, list, scripts, i, listed_before) {
     script_names = ""
     if (kind[root] == "map") {
         scripts = get(root, "script")
-        read_helpers(root)
+        # (a reload brings no helpers: those of the boot stay)
+        if (!configured) read_helpers(root)
         root = get(root, "automation")
     }
+    configured = 1
     has_scripts = scripts && size[scripts]
     if (has_scripts) for (i = 1; i <= size[scripts]; i++) {
         is_script["script." key[scripts, i]] = 1

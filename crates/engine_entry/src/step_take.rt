@@ -41,7 +41,7 @@ fn attach_ask(
 {
     let owner = FIRST_WAIT + place;
     triggers.attach(alloc, owner, &ask.triggers, place)?;
-    waits.add(ask, owner, place)?;
+    waits.add(alloc, ask, owner, place)?;
     Ok(())
 }
 

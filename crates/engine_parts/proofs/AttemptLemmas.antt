@@ -1,5 +1,5 @@
 -- The attempts of an entry are the firings of the automations in force that are on, and the item of a step is its script's.
-use Rattle.std.proofs.Common.{◌≡◌, ℕ, List, [], ◌∷◌, ◌++◌, map, filter, Bool, true, false, refl, sym, ◌∙◌, append_assoc}
+use Rattle.std.proofs.Common.{◌≡◌, ℕ, List, [], ◌∷◌, ◌++◌, map, filter, Bool, true, false, refl, sym, ◌∙◌, append_assoc, append-nil}
 use Rattle.std.specs.Prelude.{Some, ◌&&◌, nat_lt, flat_map, option_and_then, if◌then◌else◌}
 use Rattle.std.specs.List.{enumerate_from}
 use Rattle.ha_config.specs.declared.config.Automation.{Automation}
@@ -26,10 +26,6 @@ use Rattle.engine_parts.proofs.RuleLemmas.{Rules, chosen, first-number, later-nu
 pub map-append : {X Y : Type 0} (f : X → Y) (xs ys : List X) → map f (xs ++ ys) ≡ map f xs ++ map f ys
 map-append f [] ys = refl
 map-append f (x ∷ xs) ys = (λ i. f x ∷ map-append f xs ys i)
-
-pub append-nil : {X : Type 0} (xs : List X) → xs ++ [] ≡ xs
-append-nil [] = refl
-append-nil (y ∷ ys) = (λ i. y ∷ append-nil ys i)
 
 pub filter-append : {X : Type 0} (p : X → Bool) (xs ys : List X) → filter p (xs ++ ys) ≡ filter p xs ++ filter p ys
 filter-append p [] ys = refl

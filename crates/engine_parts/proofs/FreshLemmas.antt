@@ -1,5 +1,5 @@
 -- A run that just begins, or waits.
-use Rattle.std.proofs.Common.{◌≡◌, ℕ, zero, suc, ◌+◌, ◌-◌, ◌<◌, ◌≤◌, List, [], ◌∷◌, ◌++◌, length, true, false, refl, sym, ap, subst, ◌∙◌, arith, append_assoc}
+use Rattle.std.proofs.Common.{◌≡◌, ℕ, zero, suc, ◌+◌, ◌-◌, ◌<◌, ◌≤◌, List, [], ◌∷◌, ◌++◌, length, true, false, refl, sym, ap, subst, ◌∙◌, arith, append_assoc, append-nil}
 use Rattle.std.specs.Prelude.{Option, Some, None, nat_eq, slice_get, if◌then◌else◌}
 use Rattle.std.specs.Option.{option_map_or}
 use Rattle.timer_queue.specs.Timers.{Timer}
@@ -79,10 +79,6 @@ get-end (x ∷ xs) y = get-end xs y
 length-snoc : {X : Type 0} (xs : List X) (y : X) → length (xs ++ (y ∷ [])) ≡ suc (length xs)
 length-snoc [] y = refl
 length-snoc (x ∷ xs) y = ap suc (length-snoc xs y)
-
-append-nil : {X : Type 0} (xs : List X) → xs ++ [] ≡ xs
-append-nil [] = refl
-append-nil (x ∷ xs) = ap (λ l. x ∷ l) (append-nil xs)
 
 slots-snoc : (P : Record → Option Frames → Type 0) (rs : Records) (os : List (Option Frames)) (r : Record) (o : Option Frames) → SlotsWith P rs os → P r o → SlotsWith P (rs ++ (r ∷ [])) (os ++ (o ∷ []))
 slots-snoc P [] [] r o h one = (one, tt)

@@ -42,3 +42,4 @@ pub mod PlacedLemmas
 pub mod EndedCallLemmas
 pub mod FinishedLemmas
 pub mod WokenLemmas
+pub mod TestedLemmas

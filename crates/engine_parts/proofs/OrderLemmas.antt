@@ -1,5 +1,5 @@
 -- The firings of automations, taken by the numbers in the order of the configuration, are the attempts by triggers.
-use Rattle.std.proofs.Common.{◌≡◌, ℕ, zero, suc, ◌+◌, ◌-◌, ◌*◌, ◌<◌, ◌≤◌, List, [], ◌∷◌, ◌++◌, length, map, filter, Bool, true, false, refl, sym, subst, ◌∙◌, rules, arith}
+use Rattle.std.proofs.Common.{◌≡◌, ℕ, zero, suc, ◌+◌, ◌-◌, ◌*◌, ◌<◌, ◌≤◌, List, [], ◌∷◌, ◌++◌, length, map, filter, Bool, true, false, refl, sym, subst, ◌∙◌, rules, arith, append-nil}
 use Rattle.std.specs.Prelude.{Option, Some, None, ◌&&◌, count_by, find, flat_map, nat_eq, nat_lt, slice_get, if◌then◌else◌}
 use Rattle.std.specs.List.{enumerate_from}
 use Rattle.std.specs.Option.{option_map_or}
@@ -17,7 +17,7 @@ use Rattle.ha_journal.proofs.ForceLaws.{in-force-units}
 use Rattle.engine_parts.specs.Numbers.{AreFew, is_ascending, rule_numbers}
 use Rattle.engine_parts.specs.Owners.{AreAscending, as_configured, attempt_by, attempts_by, is_attempt, is_automation, ordered, owner_on, owners_on}
 use Rattle.engine_parts.specs.Runs.{first_wait}
-use Rattle.engine_parts.proofs.AttemptLemmas.{append-nil, attempts-fired, filter-append, gives, kept-by, known, map-append, one-automation}
+use Rattle.engine_parts.proofs.AttemptLemmas.{attempts-fired, filter-append, gives, kept-by, known, map-append, one-automation}
 use Rattle.engine_parts.proofs.OwnerLemmas.{none-above}
 use Rattle.engine_parts.proofs.RuleLemmas.{Rules, above, eq-of, first-number, later-number, number-self, numbers_of}
 

@@ -1,5 +1,5 @@
 -- The firings of one owner among those of all.
-use Rattle.std.proofs.Common.{◌≡◌, ℕ, suc, ◌+◌, ◌<◌, List, [], ◌∷◌, ◌++◌, map, filter, Bool, true, false, refl, ◌∙◌, rules, arith}
+use Rattle.std.proofs.Common.{◌≡◌, ℕ, suc, ◌+◌, ◌<◌, List, [], ◌∷◌, ◌++◌, map, filter, Bool, true, false, refl, ◌∙◌, rules, arith, append-nil}
 use Rattle.std.specs.Prelude.{Option, Some, None, nat_eq, find, if◌then◌else◌}
 use Rattle.ha_journal.specs.declared.firing.Firing.{Firing}
 use Rattle.ha_journal.specs.Journal.{Journal}
@@ -27,10 +27,6 @@ none-above j p o n [] lt h = refl
 none-above j p o n (x ∷ os) lt h =
     filter-append (λ (f : Firing). nat_eq f.owner o) (firings_of j p x) (firings j p os)
     ∙ (λ i. kept-by (λ q. nat_eq q o) x false (above x.owner o (omega (arith, lt, h.0))) (fired_by j x.triggers x.since p) i ++ none-above j p o (suc x.owner) os (omega (arith, lt, h.0)) h.1 i)
-
-append-nil : {X : Type 0} (xs : List X) → xs ++ [] ≡ xs
-append-nil [] = refl
-append-nil (y ∷ ys) = (λ i. y ∷ append-nil ys i)
 
 -- LAW: the firings of an owner that is attached, among those of all, are its own, in order
 pub firings-of-one : (j : Journal) (p o n : ℕ) (os : List Owner) (w : Owner) → AreAscending n os → owner_named o os ≡ Some w → filter (λ (f : Firing). nat_eq f.owner o) (firings j p os) ≡ firings_of j p w

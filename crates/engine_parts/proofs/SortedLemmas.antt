@@ -1,5 +1,5 @@
 -- The firings of an owner among those that stand by their owners.
-use Rattle.std.proofs.Common.{◌≡◌, ◌∙◌, refl, sym, subst, ℕ, zero, suc, ◌+◌, ◌<◌, ◌≤◌, List, [], ◌∷◌, ◌++◌, length, get_or, take, map, filter, Bool, true, false, rules, arith}
+use Rattle.std.proofs.Common.{◌≡◌, ◌∙◌, refl, sym, subst, ℕ, zero, suc, ◌+◌, ◌<◌, ◌≤◌, List, [], ◌∷◌, ◌++◌, length, get_or, take, map, filter, Bool, true, false, rules, arith, append-nil}
 use Rattle.std.specs.Prelude.{nat_eq, nat_lt, if◌then◌else◌}
 use Rattle.ha_journal.specs.declared.firing.Firing.{Firing}
 use Rattle.ha_journal.specs.Journal.{Journal}
@@ -113,10 +113,6 @@ firings-sorted j p n (o ∷ os) h =
     sorted-own o n (fired_by j o.triggers o.since p) (firings j p os) h.0 (sorted-weaker (suc o.owner) o.owner (firings j p os) (omega arith) (firings-sorted j p (suc o.owner) os h.1))
 
 -- ---- the new list
-
-append-nil : (fs : List Firing) → fs ++ [] ≡ fs
-append-nil [] = refl
-append-nil (f ∷ fs) = (λ i. f ∷ append-nil fs i)
 
 -- LAW: before the first of the owner nothing is added
 pub none-added : (n at : ℕ) (made fs : List Firing) → at ≡ first_of n fs → made ≡ made ++ own n (take at fs)

@@ -1,5 +1,5 @@
 -- Firings and numbers one after the other.
-use Rattle.std.proofs.Common.{◌≡◌, ◌∙◌, refl, sym, ℕ, zero, suc, ◌+◌, ◌<◌, ◌≤◌, List, [], ◌∷◌, ◌++◌, length, get_or, take, drop, filter, Bool, true, false, rules, arith, append_assoc}
+use Rattle.std.proofs.Common.{◌≡◌, ◌∙◌, refl, sym, ℕ, zero, suc, ◌+◌, ◌<◌, ◌≤◌, List, [], ◌∷◌, ◌++◌, length, get_or, take, drop, filter, Bool, true, false, rules, arith, append_assoc, append-nil}
 use Rattle.std.specs.Prelude.{◌&&◌, nat_eq, nat_le, slice_index_or, if◌then◌else◌}
 use Rattle.ha_journal.specs.declared.firing.Firing.{Firing}
 use Rattle.engine_parts.specs.Numbers.{ascends_from}
@@ -22,10 +22,6 @@ filter-taken test xs i x lt is = (let up : i + 1 ≡ suc i = omega arith in λ k
 configured-next : (fs : List Firing) (ns : List ℕ) (i n : ℕ) → i < length ns → n ≡ get_or ns i n → as_configured (take (suc i) ns) fs ≡ as_configured (take i ns) fs ++ filter (λ (f : Firing). nat_eq f.owner n) fs
 configured-next fs [] i n lt is = absurd (omega (arith, lt))
 configured-next fs (m ∷ ns) zero n lt is = append-nil (filter (λ (f : Firing). nat_eq f.owner m) fs) ∙ (λ i. filter (λ (f : Firing). nat_eq f.owner (sym is i)) fs)
-  where
-    append-nil : (xs : List Firing) → xs ++ [] ≡ xs
-    append-nil [] = refl
-    append-nil (x ∷ xs) = (λ i. x ∷ append-nil xs i)
 configured-next fs (m ∷ ns) (suc i) n lt is =
     (λ k. filter (λ (f : Firing). nat_eq f.owner m) fs ++ configured-next fs ns i n (omega (arith, lt)) is k)
     ∙ sym (append_assoc (filter (λ (f : Firing). nat_eq f.owner m) fs) (as_configured (take i ns) fs) (filter (λ (f : Firing). nat_eq f.owner n) fs))

@@ -1,5 +1,5 @@
 -- The texts that an entry gives helpers, one after the other, and what they make of the states.
-use Rattle.std.proofs.Common.{◌≡◌, ℕ, zero, suc, ◌<◌, List, [], ◌∷◌, ◌++◌, length, take, get_or, map, Bool, true, false, true≢false, refl, sym, ap, subst, ◌∙◌, arith}
+use Rattle.std.proofs.Common.{◌≡◌, ℕ, zero, suc, ◌<◌, List, [], ◌∷◌, ◌++◌, length, take, get_or, map, Bool, true, false, true≢false, refl, sym, ap, subst, ◌∙◌, arith, append-nil}
 use Rattle.std.specs.Prelude.{Option, Some, None, MatchOption, codes, filter_map, find, is_some, option_map, not, ◌&&◌, ◌||◌, if◌then◌else◌}
 use Rattle.std.specs.List.{list_all, list_any}
 use Rattle.std.specs.Option.{option_map_or}
@@ -7,7 +7,7 @@ use Rattle.ha_value.specs.declared.value.EntityId.{EntityId}
 use Rattle.ha_config.specs.declared.helper.Helper.{Helper}
 use Rattle.ha_config.specs.Helpers.{helper_named, is_helper}
 use Rattle.ha_config.specs.Words.{Text, same, same_entity}
-use Rattle.ha_config.proofs.EqualLemmas.{and_left, and_right, entity-refl, entity-sound}
+use Rattle.ha_config.proofs.EqualLemmas.{and_left, and_right, entity-sound}
 use Rattle.ha_sight.specs.declared.helped.HelperChange.{HelperChange}
 use Rattle.ha_sight.specs.declared.state.StateObject.{StateObject}
 use Rattle.ha_sight.specs.StateStep.{next_object}
@@ -23,6 +23,9 @@ use Rattle.ha_journal.proofs.EventLaws.{helps-none, none-finish}
 use Rattle.ha_journal.proofs.HelperLaws.{finishes-not, no-change, text-more, text_with}
 use Rattle.ha_journal.proofs.NamedLaws.{before-is, finished-is, finished-nobody, named-is}
 use Rattle.ha_journal.proofs.MoreLemmas.{helpers-more}
+use Rattle.entity_places.specs.declared.places.Places.{Places}
+use Rattle.entity_places.specs.Placed.{ArePlaced, place_in}
+use Rattle.entity_places.proofs.PlaceLemmas.{placed-has}
 use Rattle.helper_set.specs.Kept.{AreOutside}
 use Rattle.state_laws.specs.Stands.{StandsFor, gives_text, sets_anew}
 use Rattle.state_laws.proofs.StateLaws.{states-helper, states-other}
@@ -30,7 +33,8 @@ use Rattle.state_table.specs.Anew.{is_automation}
 use Rattle.state_table.specs.Table.{at}
 use Rattle.state_table.specs.declared.table.StateTable.{StateTable}
 use Rattle.trig_set.specs.Next.{AreListed, Listed, changes_helpers, lists, reports, state_listed}
-use Rattle.engine_parts.specs.Texts.{AreGiven, AreTold, IsGiven, first_change, first_of, idle_change}
+use Rattle.trig_set.proofs.TabledLemmas.{same-turned}
+use Rattle.engine_parts.specs.Texts.{AreGiven, AreTold, IsGiven, change_is_of, first_change, first_of, idle_change}
 
 -- ---- lists
 
@@ -65,7 +69,7 @@ listed-snoc (q ∷ qs) p e = by (same_entity q.0 e) (listed-snoc qs p e)
     by true rest = refl
     by false rest = rest
 
-lists-is : (ps : Listed) (e : EntityId) → lists ps e ≡ is_some (state_listed ps e)
+pub lists-is : (ps : Listed) (e : EntityId) → lists ps e ≡ is_some (state_listed ps e)
 lists-is [] e = refl
 lists-is (q ∷ qs) e = by (same_entity q.0 e) (lists-is qs e)
   where
@@ -81,6 +85,14 @@ some-mapped f (Some x) = refl
 none-of : {X : Type 0} (o : Option X) → is_some o ≡ false → o ≡ None
 none-of None h = refl
 none-of (Some x) h = absurd (true≢false h)
+
+found-any : {X : Type 0} (p : X → Bool) (xs : List X) → is_some (find p xs) ≡ list_any p xs
+found-any p [] = refl
+found-any p (x ∷ xs) = by (p x) (found-any p xs)
+  where
+    by : (b : Bool) → is_some (find p xs) ≡ list_any p xs → is_some (if b then Some x else find p xs) ≡ (b || list_any p xs)
+    by true rest = refl
+    by false rest = rest
 
 -- ---- texts told one after the other
 
@@ -98,6 +110,10 @@ module _ (at-now : ℕ) (old : EntityId → Option StateObject) where
     -- whether it is among those before
     among : lists before c.entity ≡ is_some (first_of cs c.entity)
     among = lists-is before c.entity ∙ ap is_some (h.listed c.entity) ∙ some-mapped (λ d. old c.entity) (first_of cs c.entity)
+
+    -- LAW: the same, by a table that has the places of those before
+    pub listed-placed : (places : Places) → ArePlaced places change_is_of cs → lists before c.entity ≡ is_some (place_in places c.entity)
+    listed-placed places placed = among ∙ found-any (change_is_of c.entity) cs ∙ sym (placed-has places change_is_of cs placed c.entity)
 
     -- LAW: a change of a helper that is listed already counts for nothing
     pub told-again : lists before c.entity ≡ true → AreTold at-now old (cs ++ (c ∷ [])) table before
@@ -241,13 +257,9 @@ module _ (j : Journal) (x : Entry) (some : HasEntry j) where
   pub changes-given : is_boot x ≡ false → is_moment x ≡ false → changes_helpers j x ≡ true → AreGiven j x (changes_in x)
   changes-given boot still helped = record {
     texts = λ e. by e (change_of e x) refl (helper_named (helpers (more j x)) e) refl;
-    events = append-none (filter_map event_of_change (changes_in x)) ∙ (λ i. filter_map event_of_change (changes_in x) ++ map (timer_event (codes "timer.finished")) (sym (none-finish j x still) i));
+    events = sym (append-nil (filter_map event_of_change (changes_in x))) ∙ (λ i. filter_map event_of_change (changes_in x) ++ map (timer_event (codes "timer.finished")) (sym (none-finish j x still) i));
   }
     where
-      append-none : {X : Type 0} (xs : List X) → xs ≡ xs ++ []
-      append-none [] = refl
-      append-none (y ∷ ys) = (λ i. y ∷ append-none ys i)
-
       -- what is changed is a helper
       found-helped : (all : List Helper) (cs : List HelperChange) (e : EntityId) (c : HelperChange) → list_all (λ d. is_helper all d.entity) cs ≡ true → first_of cs e ≡ Some c → is_helper all e ≡ true
       found-helped all [] e c h q = cc
@@ -277,18 +289,9 @@ module _ (j : Journal) (x : Entry) (some : HasEntry j) where
       events-idle [] = refl
       events-idle (e ∷ es) = (λ i. timer_event (codes "timer.finished") e ∷ events-idle es i)
 
-      turned : (e f : EntityId) → same_entity e f ≡ same_entity f e
-      turned e f = of (same_entity e f) refl (same_entity f e) refl
-        where
-          of : (a : Bool) → same_entity e f ≡ a → (b : Bool) → same_entity f e ≡ b → a ≡ b
-          of true p true q = refl
-          of true p false q = absurd (true≢false (sym (ap (same_entity f) (entity-sound e f p) ∙ entity-refl f) ∙ q))
-          of false p true q = absurd (true≢false (sym (ap (same_entity e) (entity-sound f e q) ∙ entity-refl e) ∙ p))
-          of false p false q = refl
-
       first-idle : (es : List EntityId) (e : EntityId) → Found e (list_any (same_entity e) es) (first_of (map idle_change es) e)
       first-idle [] e = refl
-      first-idle (f ∷ fs) e = subst (λ b. Found e (b || list_any (same_entity e) fs) (if same_entity f e then Some (idle_change f) else first_of (map idle_change fs) e)) (sym (turned e f)) (of (same_entity f e) refl (first-idle fs e))
+      first-idle (f ∷ fs) e = subst (λ b. Found e (b || list_any (same_entity e) fs) (if same_entity f e then Some (idle_change f) else first_of (map idle_change fs) e)) (sym (same-turned e f)) (of (same_entity f e) refl (first-idle fs e))
         where
           of : (b : Bool) → same_entity f e ≡ b → Found e (list_any (same_entity e) fs) (first_of (map idle_change fs) e) → Found e (b || list_any (same_entity e) fs) (if b then Some (idle_change f) else first_of (map idle_change fs) e)
           of true one rest = (λ i. Some (idle_change (entity-sound f e one i)))

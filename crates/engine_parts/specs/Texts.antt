@@ -1,5 +1,5 @@
 -- The texts that an entry gives helpers.
-use Rattle.std.specs.Prelude.{◌≡◌, ℕ, false, List, [], Option, Some, None, MatchOption, codes, filter_map, find, option_map}
+use Rattle.std.specs.Prelude.{◌≡◌, ℕ, Bool, false, List, [], Option, Some, None, MatchOption, codes, filter_map, find, option_map}
 use Rattle.std.specs.Option.{option_map_or}
 use Rattle.ha_value.specs.declared.value.EntityId.{EntityId}
 use Rattle.ha_config.specs.declared.helper.Helper.{Helper}
@@ -16,6 +16,10 @@ use Rattle.state_laws.specs.Stands.{gives_text}
 use Rattle.state_table.specs.Table.{at}
 use Rattle.state_table.specs.declared.table.StateTable.{StateTable}
 use Rattle.trig_set.specs.Next.{Listed, state_listed}
+
+-- the change is of the entity
+abbrev pub change_is_of : EntityId → HelperChange → Bool
+change_is_of e c = same_entity c.entity e
 
 -- the first of these changes that is of an entity
 abbrev pub first_of : List HelperChange → EntityId → Option HelperChange

@@ -16,6 +16,7 @@ ghost use Rattle.engine_parts.specs.Without.{without_owners};
 use crate::note::note;
 use crate::order::ordered;
 use crate::parts::Parts;
+use crate::tested::tested_by;
 use crate::wake::wake;
 use ha_clock::{Moment, Zone};
 use ha_journal::{BusEvent, Firing};
@@ -52,6 +53,7 @@ fn note_last<'a>(
     ensures told { OnOk result (Told journal.entry.now waits.old triggers.new waits.new) }
     ensures fired { IfOk result (λ fired. fired ≡ firings journal.entry.now (length journal.entry.now - 1) (attached triggers.old)) }
 {
+    let tested = tested_by(waits, alloc, journal, &before)?;
     let view = Seeing::make(states, journal.configuration(), numbers, zone, at, helpers);
     // The borrow checker builds its plan only where a place has the type that the view holds.
     let _ = &view.view;
@@ -60,6 +62,7 @@ fn note_last<'a>(
         waits,
         alloc,
         journal.place(),
+        &tested,
         journal.last_entry(),
         before,
         given,

@@ -13,6 +13,7 @@ ghost use Rattle.engine_parts.specs.Without.{without_owners};
 use crate::attend::wake_line;
 use crate::note::note_waits;
 use crate::parts::Parts;
+use crate::tested::tested_for;
 use ha_clock::{Moment, Zone};
 use ha_value::{EntityId, Many, Value, Word};
 use helper_set::Helpers;
@@ -47,11 +48,12 @@ fn note_report<'a>(
     ensures fired { firings journal.entry.now (length journal.entry.now - 1) (attached triggers.old) ≡ [] }
 {
     triggers.note_left(alloc, entity, text, attributes, at)?;
+    let tested = tested_for(waits, alloc, journal, entity)?;
     let view = Seeing::make(states, journal.configuration(), numbers, zone, at, helpers);
     // The borrow checker builds its plan only where a place has the type that the view holds.
     let _ = &view.view;
     let fired = Many::make(alloc);
-    note_waits(waits, alloc, journal.place(), &fired, &view)?;
+    note_waits(waits, alloc, journal.place(), &tested, &fired, &view)?;
     Ok(())
 }
 

@@ -15,5 +15,6 @@ pub mod ready;
 pub mod rested;
 pub mod see;
 pub mod slots;
+pub mod tested;
 pub mod texts;
 pub mod wake;

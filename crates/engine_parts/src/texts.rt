@@ -1,5 +1,5 @@
 //! The texts that an entry gives helpers: their states, which are listed as they were, and the events.
-ghost use Rattle.std.specs.Prelude.{◌≡◌, ◌∷◌, ◌++◌, [], List, Option, Some, IfOk, OnOk, filter_map, map};
+ghost use Rattle.std.specs.Prelude.{◌≡◌, ◌∷◌, ◌++◌, [], List, Option, Some, IfOk, OnOk, filter_map, is_some, map};
 ghost use Rattle.std.specs.List.{cons_option};
 ghost use Rattle.ha_value.specs.declared.value.EntityId.{EntityId as Id};
 ghost use Rattle.ha_journal.specs.Helpers.{event_of_change, timer_event, timer_pairs};
@@ -7,8 +7,10 @@ ghost use Rattle.ha_sight.specs.declared.helped.HelperChange.{HelperChange as Ch
 ghost use Rattle.ha_sight.specs.declared.state.StateObject.{StateObject as State};
 ghost use Rattle.ha_sight.specs.StateStep.{next_object};
 ghost use Rattle.state_table.specs.Table.{ChangesAt, at as state_at};
-ghost use Rattle.engine_parts.specs.Texts.{AreTold, first_change, idle_change};
+ghost use Rattle.entity_places.specs.Placed.{ArePlaced, place_in, place_or};
+ghost use Rattle.engine_parts.specs.Texts.{AreTold, change_is_of, first_change, idle_change};
 
+use entity_places::{FEW, Places};
 use ha_clock::Moment;
 use ha_config::Helper;
 use ha_journal::BusEvent;
@@ -54,7 +56,7 @@ fn tell_first(
 }
 
 /// The same, of all changes, in their order.
-pub fn tell_all(
+fn tell_few(
     states: &mut StateTable,
     alloc: Global,
     changes: &[HelperChange],
@@ -67,6 +69,91 @@ pub fn tell_all(
         tell_first(states, alloc, &changes[place], now, &mut before)?;
     }
     Ok(before)
+}
+
+/// Whether an entity has a place in the table.
+fn is_placed(places: &Places, entity: &EntityId) -> bool
+    ensures { result ≡ is_some (place_in places.now entity.now) }
+{
+    places.place_of(entity).is_some()
+}
+
+/// What `tell` does, but for a helper of which the table has a change already.
+fn tell_new(
+    states: &mut StateTable,
+    alloc: Global,
+    change: &HelperChange,
+    now: Moment,
+    places: &Places,
+    before: &mut Before,
+) -> Result<(), AllocError>
+    ensures { OnOk result ((old : Id → Option State) (front : List Change) → AreTold now old front states.old before.old → ArePlaced places.now change_is_of front
+        → AreTold now old (front ++ change.now ∷ []) states.new before.new) }
+{
+    if is_placed(places, &change.entity) {
+        return Ok(());
+    }
+    tell(states, alloc, change, now, before)
+}
+
+/// The same; the table then has the change at its place.
+fn tell_placed(
+    states: &mut StateTable,
+    alloc: Global,
+    change: &HelperChange,
+    now: Moment,
+    place: usize,
+    places: &mut Places,
+    before: &mut Before,
+) -> Result<(), AllocError>
+    ensures told { OnOk result ((old : Id → Option State) (front : List Change) → AreTold now old front states.old before.old → ArePlaced places.old change_is_of front
+        → AreTold now old (front ++ change.now ∷ []) states.new before.new) }
+    ensures placed { OnOk result ((e : Id) → place_in places.new e ≡ place_or place (change_is_of e change.now) (place_in places.old e)) }
+{
+    tell_new(states, alloc, change, now, places, before)?;
+    places.put(alloc, &change.entity, place)?;
+    Ok(())
+}
+
+/// The same, of all changes, with a table of their places.
+fn tell_many(
+    states: &mut StateTable,
+    alloc: Global,
+    changes: &[HelperChange],
+    now: Moment,
+) -> Result<Before, AllocError>
+    ensures { IfOk result (λ before. AreTold now (state_at states.old) changes.now states.new before) }
+{
+    let mut before = Before::make(alloc);
+    let mut places = Places::make(alloc);
+    for place in 0..changes.len() {
+        tell_placed(
+            states,
+            alloc,
+            &changes[place],
+            now,
+            place,
+            &mut places,
+            &mut before,
+        )?;
+    }
+    Ok(before)
+}
+
+/// The states of helpers are those of these changes, in their order; those that they had are listed. Of several changes of one helper the
+/// first counts.
+pub fn tell_all(
+    states: &mut StateTable,
+    alloc: Global,
+    changes: &[HelperChange],
+    now: Moment,
+) -> Result<Before, AllocError>
+    ensures { IfOk result (λ before. AreTold now (state_at states.old) changes.now states.new before) }
+{
+    if changes.len() <= FEW {
+        return tell_few(states, alloc, changes, now);
+    }
+    tell_many(states, alloc, changes, now)
 }
 
 /// The data of a timer's event.

@@ -8,6 +8,7 @@ use Rattle.std.below.std_heap.proofs.GlobalAllocator.TheSendSync as allocator
 use Rattle.ha_clock.proofs.zone.Zone.TheSendSync as zone
 use Rattle.timer_queue.proofs.TimerQueue.TheSendSync as queue
 use Rattle.event_bus.proofs.index.Index.TheSendSync as index
+use Rattle.entity_places.proofs.places.Places.TheSendSync as places
 use Rattle.trig_set.specs.contracts.spot.Held as Held
 use Rattle.trig_set.specs.contracts.spot.Spot as Spot
 use Rattle.trig_set.specs.contracts.many_spots.Listed as Listed
@@ -15,6 +16,7 @@ use Rattle.trig_set.specs.contracts.owners.Attached as Attached
 use Rattle.trig_set.specs.contracts.ordered.Owners as Owners
 use Rattle.trig_set.specs.contracts.set.TrigSet as TrigSet
 use Rattle.trig_set.proofs.numbers.Numbers.TheSendSync as numbers
+use Rattle.trig_set.proofs.recent.Recent.TheSendSync as recent
 use Rattle.state_table.specs.contracts.table.StateTable as StateTable
 use Rattle.wait_set.specs.contracts.asked.Asked as Asked
 use Rattle.wait_set.specs.contracts.waits.Waits as Waits
@@ -47,7 +49,7 @@ owners_send : IsSend Owners.the_row
 owners_send = search (attached_send, crosses, entries) depth 60 fits 20000
 
 triggers_field : IsSend TrigSet.the_field.row
-triggers_field = search (owners_send, index.the_field_send, queue.the_send, zone.the_send, numbers.the_field_send, crosses, entries) depth 60 fits 20000
+triggers_field = search (owners_send, index.the_field_send, queue.the_send, zone.the_send, numbers.the_field_send, recent.the_field_send, crosses, entries) depth 60 fits 20000
 
 states_field : IsSend StateTable.the_field.row
 states_field = search (map.the_send, string.the_send, heap.the_send, allocator.the_frees, crosses, entries) depth 60 fits 20000
@@ -65,7 +67,7 @@ kept_send : IsSend Kept.the_row
 kept_send = search (last_send, entries) depth 60 fits 20000
 
 list_send : IsSend KeptList.the_row
-list_send = search (kept_send, map.the_send, string.the_send, heap.the_send, allocator.the_frees, crosses, entries) depth 60 fits 20000
+list_send = search (kept_send, places.the_field_send, places.the_send, crosses, entries) depth 60 fits 20000
 
 helpers_field : IsSend Helpers.the_field.row
 helpers_field = search (list_send, queue.the_send, crosses, entries) depth 60 fits 20000

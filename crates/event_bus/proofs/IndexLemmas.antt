@@ -1,11 +1,14 @@
 -- Each subject, and names one after the other.
-use Rattle.std.proofs.Common.{◌≡◌, ℕ, zero, suc, ◌+◌, ◌<◌, List, [], ◌∷◌, ◌++◌, length, take, get_or, Bool, true, false, refl, sym, ap, ◌∙◌}
-use Rattle.std.specs.Prelude.{not, ◌&&◌, ◌||◌}
+use Rattle.std.proofs.Common.{◌≡◌, ℕ, zero, suc, ◌+◌, ◌<◌, List, [], ◌∷◌, ◌++◌, length, take, get_or, Bool, true, false, refl, sym, ap, subst, ◌∙◌}
+use Rattle.std.specs.Prelude.{Option, Some, not, ◌&&◌, ◌||◌}
+use Rattle.std.specs.List.{list_any}
 use Rattle.std.proofs.lemmas.List.{take_more}
 use Rattle.ha_value.specs.declared.value.EntityId.{EntityId}
-use Rattle.ha_config.specs.Words.{Text, one_of, same}
+use Rattle.ha_config.specs.Words.{Text, one_of, same, same_entity}
 use Rattle.ha_config.proofs.EqualLemmas.{same-sound}
-use Rattle.event_bus.specs.Subjects.{Subject}
+use Rattle.event_bus.specs.declared.index.Index.{Index}
+use Rattle.event_bus.specs.Lists.{has, has_at, has_for}
+use Rattle.event_bus.specs.Subjects.{Subject, by_read, knows}
 use Rattle.event_bus.proofs.ListLemmas.{or-true}
 
 pub each-subject : (P : Subject → Type 0) → ((e : EntityId) → P (Subject.Entity e)) → ((q : Text) → P (Subject.Event q)) → P Subject.Moments → P Subject.Entries → (s : Subject) → P s
@@ -84,3 +87,35 @@ names-part q names at init mid new same is h = by (one_of q (take at names)) (an
 -- LAW: and all that was
 pub names-kept : (some init new : Bool) → new ≡ (some || init) → init ≡ true → new ≡ true
 names-kept some init new is h = is ∙ ap (λ c. some || c) h ∙ or-true some
+
+-- an index in which the entities alone have changed, by the entities that a template reads
+module _ (old new : Index) (n : ℕ) (read : Option (List EntityId)) (es : List EntityId) (is : read ≡ Some es) (events : new.events ≡ old.events) (moments : new.moments ≡ old.moments) (entries : new.entries ≡ old.entries) where
+  -- LAW: what is put under them is put for what is read
+  pub read-put : ((e : EntityId) → has_for new.entities e n ≡ (list_any (λ f. same_entity f e) es || has_for old.entities e n)) → (s : Subject) → knows new s n ≡ (by_read read s || knows old s n)
+  read-put own s = subst (λ r. knows new s n ≡ (by_read r s || knows old s n)) (sym is) (by s)
+    where
+      by : (s : Subject) → knows new s n ≡ (by_read (Some es) s || knows old s n)
+      by (Subject.Entity e) = own e
+      by (Subject.Event q) = ap (λ l. has_at l q n) events
+      by Subject.Moments = ap (λ l. has l n) moments
+      by Subject.Entries = ap (λ l. has l n) entries
+
+  -- LAW: or a part of it
+  pub read-part : ((e : EntityId) → has_for new.entities e n ≡ true → (list_any (λ f. same_entity f e) es || has_for old.entities e n) ≡ true) → (s : Subject) → knows new s n ≡ true → (by_read read s || knows old s n) ≡ true
+  read-part part s = subst (λ r. knows new s n ≡ true → (by_read r s || knows old s n) ≡ true) (sym is) (by s)
+    where
+      by : (s : Subject) → knows new s n ≡ true → (by_read (Some es) s || knows old s n) ≡ true
+      by (Subject.Entity e) h = part e h
+      by (Subject.Event q) h = sym (ap (λ l. has_at l q n) events) ∙ h
+      by Subject.Moments h = sym (ap (λ l. has l n) moments) ∙ h
+      by Subject.Entries h = sym (ap (λ l. has l n) entries) ∙ h
+
+  -- LAW: and what is taken from under them is taken
+  pub read-taken : ((e : EntityId) → has_for new.entities e n ≡ (not (list_any (λ f. same_entity f e) es) && has_for old.entities e n)) → (s : Subject) → knows new s n ≡ (not (by_read read s) && knows old s n)
+  read-taken own s = subst (λ r. knows new s n ≡ (not (by_read r s) && knows old s n)) (sym is) (by s)
+    where
+      by : (s : Subject) → knows new s n ≡ (not (by_read (Some es) s) && knows old s n)
+      by (Subject.Entity e) = own e
+      by (Subject.Event q) = ap (λ l. has_at l q n) events
+      by Subject.Moments = ap (λ l. has l n) moments
+      by Subject.Entries = ap (λ l. has l n) entries

@@ -3,17 +3,22 @@ ghost use Rattle.std.specs.Prelude.{◌≡◌, ◌&&◌, ◌||◌, ℕ, OnErr, O
 ghost use Rattle.std.specs.Option.{option_copied, option_map, option_map_or};
 ghost use Rattle.ha_config.specs.Words.{Text, one_of};
 ghost use Rattle.event_bus.specs.Lists.{has, has_at};
-ghost use Rattle.event_bus.specs.Subjects.{Subject, by_entity, by_entries, by_kinds, by_moments, concerns, knows};
+ghost use Rattle.ha_sight.specs.Rules.{is_template};
+ghost use Rattle.tpl_reads.specs.Reads.{entities_read as entities_read_lem};
+ghost use Rattle.event_bus.specs.Subjects.{Subject, by_entity, by_entries, by_kinds, by_moments, by_read, concerns, knows};
 
-use crate::lists::{Lists, at_place, put, put_at, put_for, take, take_at, take_for};
-use ha_config::TriggerRule;
-use ha_value::{EntityId, Word};
+use crate::lists::{
+    Lists, at_place, put, put_at, put_each, put_for, take, take_at, take_each, take_for,
+};
+use ha_config::{Template, TriggerRule};
+use ha_value::{EntityId, Many, Word};
 use indexmap::IndexMap;
 use std::alloc::{AllocError, Global};
 use std::collections::BTreeSet;
+use tpl_reads::entities_read;
 
-/// Owners of triggers, by number: those of state and numeric triggers by entity, of event triggers by type, of triggers on times, and of
-/// templates, which each entry concerns.
+/// Owners of triggers, by number: those of state and numeric triggers by entity, and those of templates by the entities that these read;
+/// of event triggers by type, of triggers on times, and of templates whose entities are not known, which each entry concerns.
 #[derive(Drop)]
 pub struct Index {
     pub entities: Lists,
@@ -108,6 +113,41 @@ impl Index {
         put(&mut self.entries, owner)
     }
 
+    /// An owner is concerned by the entities that a template reads; by each entry where they are not known. After an error it may be
+    /// concerned by a part of them.
+    pub fn put_read(
+        &mut self,
+        alloc: Global,
+        read: Option<&Many<EntityId>>,
+        owner: u64,
+    ) -> Result<(), AllocError>
+        ensures own { OnOk result ((s : Subject) → knows self.new s owner ≡ (by_read (option_copied read.entry) s || knows self.old s owner)) }
+        ensures part { (s : Subject) → knows self.new s owner ≡ true → (by_read (option_copied read.entry) s || knows self.old s owner) ≡ true }
+        ensures kept { (s : Subject) → knows self.old s owner ≡ true → knows self.new s owner ≡ true }
+        ensures others { (s : Subject) (n : ℕ) → nat_eq owner n ≡ false → knows self.new s n ≡ knows self.old s n }
+    {
+        match read {
+            Some(entities) => put_each(alloc, &mut self.entities, entities.as_slice(), owner),
+            None => self.put_entries(owner),
+        }
+    }
+
+    /// The same, of this template.
+    fn put_template(
+        &mut self,
+        alloc: Global,
+        template: &Template,
+        owner: u64,
+    ) -> Result<(), AllocError>
+        ensures own { OnOk result ((s : Subject) → knows self.new s owner ≡ (by_read (entities_read_lem template.now) s || knows self.old s owner)) }
+        ensures part { (s : Subject) → knows self.new s owner ≡ true → (by_read (entities_read_lem template.now) s || knows self.old s owner) ≡ true }
+        ensures kept { (s : Subject) → knows self.old s owner ≡ true → knows self.new s owner ≡ true }
+        ensures others { (s : Subject) (n : ℕ) → nat_eq owner n ≡ false → knows self.new s n ≡ knows self.old s n }
+    {
+        let read = entities_read(alloc, template)?;
+        self.put_read(alloc, read.as_ref(), owner)
+    }
+
     /// An owner has a trigger with this rule, for the entity if it has some. After an error the owner is known for what it was known for,
     /// and may be for a part of that trigger; the others are as before.
     pub fn put(
@@ -128,7 +168,10 @@ impl Index {
             TriggerRule::Event { kinds, .. } => self.put_kinds(alloc, kinds.as_slice(), owner),
             TriggerRule::Time(_) => self.put_moments(owner),
             TriggerRule::Pattern { .. } => self.put_moments(owner),
-            TriggerRule::Template(_) => self.put_entries(owner),
+            TriggerRule::Template(template) => match entity {
+                Some(_) => self.put_entries(owner),
+                None => self.put_template(alloc, template, owner),
+            },
             TriggerRule::Start => Ok(()),
         }
     }
@@ -168,8 +211,21 @@ impl Index {
         take(&mut self.entries, owner);
     }
 
-    /// An owner has no trigger with this rule, for the entity if it has some, any more. The others are as before.
+    /// An owner is no more concerned by the entities that a template reads; by each entry where they are not known. It takes no memory, so
+    /// the entities are lent.
+    pub fn take_read(&mut self, read: Option<&Many<EntityId>>, owner: u64)
+        ensures own { (s : Subject) → knows self.new s owner ≡ (not (by_read (option_copied read.entry) s) && knows self.old s owner) }
+        ensures others { (s : Subject) (n : ℕ) → nat_eq owner n ≡ false → knows self.new s n ≡ knows self.old s n }
+    {
+        match read {
+            Some(entities) => take_each(&mut self.entities, entities.as_slice(), owner),
+            None => self.take_entries(owner),
+        }
+    }
+
+    /// An owner has no trigger with this rule, which is no template, for the entity if it has some, any more. The others are as before.
     pub fn take(&mut self, rule: &TriggerRule, entity: Option<&EntityId>, owner: u64)
+        requires { is_template rule.now ≡ false }
         ensures own { (s : Subject) → knows self.new s owner ≡ (not (concerns rule.now (option_copied entity.entry) s) && knows self.old s owner) }
         ensures others { (s : Subject) (n : ℕ) → nat_eq owner n ≡ false → knows self.new s n ≡ knows self.old s n }
     {
@@ -179,7 +235,7 @@ impl Index {
             TriggerRule::Event { kinds, .. } => self.take_kinds(kinds.as_slice(), owner),
             TriggerRule::Time(_) => self.take_moments(owner),
             TriggerRule::Pattern { .. } => self.take_moments(owner),
-            TriggerRule::Template(_) => self.take_entries(owner),
+            TriggerRule::Template(_) => unreachable!(),
             TriggerRule::Start => {}
         }
     }

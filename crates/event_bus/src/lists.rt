@@ -1,6 +1,7 @@
 //! Numbers by name, each name with those that stand under it, in order.
 ghost use Rattle.std.specs.Prelude.{◌≡◌, ◌&&◌, ◌||◌, ℕ, IfOk, IfSome, OnErr, OnOk, Some, false, nat_eq, not, string_bytes, true};
 ghost use Rattle.std.specs.HashMap.{get_by_text};
+ghost use Rattle.std.specs.List.{list_any};
 ghost use Rattle.ha_value.specs.declared.value.EntityId.{EntityId as Entity};
 ghost use Rattle.ha_config.specs.Words.{Text, same, same_entity};
 ghost use Rattle.event_bus.specs.Lists.{has, has_at, has_for};
@@ -104,4 +105,32 @@ pub fn take_for(lists: &mut Lists, entity: &EntityId, number: u64)
     ensures others { (e : Entity) (n : ℕ) → nat_eq number n ≡ false → has_for lists.new e n ≡ has_for lists.old e n }
 {
     take_at(lists, entity.text(), number);
+}
+
+/// Puts a number under entities. After an error it may stand under a part of them.
+pub fn put_each(
+    alloc: Global,
+    lists: &mut Lists,
+    entities: &[EntityId],
+    number: u64,
+) -> Result<(), AllocError>
+    ensures own { OnOk result ((e : Entity) → has_for lists.new e number ≡ (list_any (λ f. same_entity f e) entities.now || has_for lists.old e number)) }
+    ensures part { (e : Entity) → has_for lists.new e number ≡ true → (list_any (λ f. same_entity f e) entities.now || has_for lists.old e number) ≡ true }
+    ensures kept { (e : Entity) → has_for lists.old e number ≡ true → has_for lists.new e number ≡ true }
+    ensures others { (e : Entity) (n : ℕ) → nat_eq number n ≡ false → has_for lists.new e n ≡ has_for lists.old e n }
+{
+    for at in 0..entities.len() {
+        put_for(alloc, lists, &entities[at], number)?;
+    }
+    Ok(())
+}
+
+/// Takes a number from under entities.
+pub fn take_each(lists: &mut Lists, entities: &[EntityId], number: u64)
+    ensures own { (e : Entity) → has_for lists.new e number ≡ (not (list_any (λ f. same_entity f e) entities.now) && has_for lists.old e number) }
+    ensures others { (e : Entity) (n : ℕ) → nat_eq number n ≡ false → has_for lists.new e n ≡ has_for lists.old e n }
+{
+    for at in 0..entities.len() {
+        take_for(lists, &entities[at], number);
+    }
 }

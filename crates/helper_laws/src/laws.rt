@@ -81,6 +81,12 @@ pub fn without_helpers_entries_give_their_own()
     ensures others { (j : Journal) (x : Entry) → helpers j ≡ [] → changes_in x ≡ [] → (e : EntityId) → event_for (Some e) (events_of j x) ≡ None }
 {}
 
+/// Where no helper is configured no entry of a right journal changes one. So each gives the number of its report and its own event alone, as
+/// `without_helpers_entries_give_their_own` says.
+pub fn without_helpers_entries_change_none()
+    ensures { (j : Journal) (rs : Records) → Right j rs → helpers j ≡ [] → EachAfter (λ before x. changes_in x ≡ []) [] j }
+{}
+
 /// Where no helper is configured a command stands for itself, and a call is done by the core exactly where it is one of scripts.
 pub fn without_helpers_calls_go_out()
     ensures report { (j : Journal) → helpers j ≡ [] → (e : EntityId) (text : Text) (attributes : Pairs) → put_as j (Cmd.Report e text attributes) ≡ Cmd.Report e text attributes }

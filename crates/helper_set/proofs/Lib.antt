@@ -3,7 +3,6 @@ mod PlaceSets
 mod MeantLemmas
 mod StandLemmas
 mod ListLemmas
-mod ListedLemmas
 mod FinishLemmas
 mod SeenLemmas
 mod BootLemmas

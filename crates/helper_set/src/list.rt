@@ -1,22 +1,16 @@
 //! The helpers that are kept, each found by its id.
-ghost use Rattle.std.specs.Prelude.{◌≡◌, ◌<◌, ◌++◌, ℕ, [], None, Some, IfOk, OnOk, is_some, length, nat_eq, option_map, slice_get, string_bytes, if◌then◌else◌};
-ghost use Rattle.std.specs.BTreeMap.{get_by_text};
-ghost use Rattle.ha_value.specs.declared.value.EntityId.{EntityId as Entity};
-ghost use Rattle.ha_value.specs.Ids.{for_id};
-ghost use Rattle.ha_config.specs.Words.{Text, same, same_entity};
+ghost use Rattle.std.specs.Prelude.{◌≡◌, ◌<◌, ◌++◌, ℕ, [], Some, IfOk, OnOk, length, nat_eq, option_map, slice_get, if◌then◌else◌};
+ghost use Rattle.entity_places.specs.Placed.{ArePlaced};
 ghost use Rattle.helper_set.specs.Changes.{kept_with};
-ghost use Rattle.helper_set.specs.Listed.{AreListed, HaveSameIds, place_or};
+ghost use Rattle.helper_set.specs.Listed.{HaveSameIds, kept_is_of};
 ghost use Rattle.helper_set.specs.Kept.{place_in};
 ghost use Rattle.helper_set.specs.Passes.{entity_at, idled};
 
 use crate::kept::{Kept, change, finish};
+use entity_places::Places;
 use ha_model::{EntityId, HelperChange, Many, Moment, Plain};
 use std::alloc::{AllocError, Global};
-use std::collections::BTreeMap;
 use std::marker::Model;
-
-/// Places by the texts of ids.
-type Places = BTreeMap<String, usize>;
 
 /// Helpers in order, with a table of their places, so that an id is found in the logarithm of their number. Their ids and places stay.
 #[derive(Drop)]
@@ -26,67 +20,23 @@ pub struct KeptList {
 }
 
 impl Model for KeptList {
-    ghost use Rattle.helper_set.specs.Listed.{AreListed, Listed};
+    ghost use Rattle.entity_places.specs.Placed.{ArePlaced};
+    ghost use Rattle.helper_set.specs.Listed.{Listed, kept_is_of};
 
     ghost Value = { Listed };
 
     ghost view = { λ k. record { items = k.list.items } };
 
-    ghost invariant = { λ k. AreListed k.places k.list.items };
-}
-
-/// The text as a key.
-fn key_of(alloc: Global, name: &str) -> Result<String, AllocError>
-    ensures { IfOk result (λ key. string_bytes key ≡ name.now) }
-{
-    String::from_str(alloc, name)
-}
-
-/// A text has this place.
-fn put_new(alloc: Global, places: &mut Places, name: &str, place: usize) -> Result<(), AllocError>
-    ensures { OnOk result ((q : Text) → get_by_text places.new q ≡ (if same name.now q then Some place else get_by_text places.old q)) }
-{
-    let key = key_of(alloc, name)?;
-    places.insert(key, place)?;
-    Ok(())
-}
-
-/// Whether a text has a place.
-fn has_place(places: &Places, name: &str) -> bool
-    ensures { result ≡ is_some (get_by_text places.now name.now) }
-{
-    places.get(name).is_some()
-}
-
-/// A text has this place, unless it has one.
-fn put_name(alloc: Global, places: &mut Places, name: &str, place: usize) -> Result<(), AllocError>
-    ensures { OnOk result ((q : Text) → get_by_text places.new q ≡ place_or place (same name.now q) (get_by_text places.old q)) }
-{
-    if has_place(places, name) {
-        return Ok(());
-    }
-    put_new(alloc, places, name, place)
-}
-
-/// An id has this place, unless it has one.
-fn put_place(
-    alloc: Global,
-    places: &mut Places,
-    entity: &EntityId,
-    place: usize,
-) -> Result<(), AllocError>
-    ensures { OnOk result ((e : Entity) → for_id None (get_by_text places.new) e ≡ place_or place (same_entity entity.now e) (for_id None (get_by_text places.old) e)) }
-{
-    put_name(alloc, places, entity.text(), place)
+    ghost invariant = { λ k. ArePlaced k.places kept_is_of k.list.items };
 }
 
 /// The places of all helpers; of several with one id, the first counts.
 fn all_places(alloc: Global, list: &[Kept]) -> Result<Places, AllocError>
-    ensures { IfOk result (λ places. AreListed places list.now) }
+    ensures { IfOk result (λ places. ArePlaced places kept_is_of list.now) }
 {
-    let mut places = BTreeMap::new(alloc);
+    let mut places = Places::make(alloc);
     for i in 0..list.len() {
-        put_place(alloc, &mut places, &list[i].helper.entity, i)?;
+        places.put(alloc, &list[i].helper.entity, i)?;
     }
     Ok(places)
 }
@@ -134,7 +84,7 @@ impl KeptList {
     {
         KeptList {
             list: Vec::new(alloc),
-            places: BTreeMap::new(alloc),
+            places: Places::make(alloc),
         }
     }
 
@@ -157,7 +107,7 @@ impl KeptList {
     pub fn place_in(&self, entity: &EntityId) -> Option<usize>
         ensures { result ≡ place_in self.now.items entity.now }
     {
-        self.places.get(entity.text()).copied()
+        self.places.place_of(entity)
     }
 
     /// The helper at a place is as the change says.

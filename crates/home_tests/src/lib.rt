@@ -33,3 +33,5 @@ mod sources;
 mod streams;
 #[cfg(test)]
 mod triggers;
+#[cfg(test)]
+mod waits;

@@ -2,6 +2,7 @@ pub mod EndLemmas
 pub mod KeptLemmas
 pub mod KeptRuns
 pub mod KeptUnits
+pub mod LiveLemmas
 pub mod NumberLemmas
 pub mod ReloadLine
 pub mod SameForce

@@ -32,7 +32,7 @@ ghost use Rattle.reload_laws.specs.Same.{ReloadsTheSame};
 /// has the switch that it had, and is on since then; the switch of a name is known since the same entry. What a place sees is the same, at
 /// the same moment: all states, switches, scripts and helpers. No trigger fires, nothing is attempted, and what is pending of a trigger's
 /// `for` is what was pending before, from the place at which it began. A run that has ended, or is of a unit in force, is the run that it was,
-/// with its begin, its end and its calls; and no run is new.
+/// with its begin, its end and its calls; and no run is new. So all records of a right journal stay.
 pub fn the_same_text_changes_nothing()
     ensures force { (j : Journal) (x : Entry) → ReloadsTheSame j x → force (more j x) ≡ force j }
     ensures switches { (j : Journal) (x : Entry) → ReloadsTheSame j x → (a : ℕ) → a < length (units j) → is_on (more j x) a ≡ is_on j a }
@@ -45,6 +45,12 @@ pub fn the_same_text_changes_nothing()
     ensures runs { (j : Journal) (x : Entry) → ReloadsTheSame j x → (s : ℕ) (r : Record) → record_of (records_of j) s ≡ Some r → (r.end ≡ None → has_unit (force j) r.automation ≡ true)
         → record_of (records_of (more j x)) s ≡ Some r }
     ensures none_new { (j : Journal) (x : Entry) → ReloadsTheSame j x → length (records_of (more j x)) ≡ length (records_of j) }
+    ensures records { (j : Journal) (x : Entry) (rs : Records) → ReloadsTheSame j x → Right j rs → records_of (more j x) ≡ records_of j }
+{}
+
+/// Each live run of a right journal is of a unit in force: a unit that is not in force runs nothing.
+pub fn live_runs_are_of_units_in_force()
+    ensures { (j : Journal) (rs : Records) → Right j rs → (s : ℕ) (r : Record) → record_of rs s ≡ Some r → r.end ≡ None → has_unit (force j) r.automation ≡ true }
 {}
 
 /// A unit is kept at a reload where it is in force, and the new configuration has one of its kind that is equal to it in every field; of

@@ -32,9 +32,10 @@ use Rattle.script_laws.proofs.FollowLemmas.{one-item, item-follows, place-follow
 use Rattle.script_laws.proofs.BesideLemmas.{list_end, ended-list, SameList, SameLists, beside-follows}
 use Rattle.script_laws.specs.Direct.{Standing, Left, Effect, leaves, items_then, nothing_then, in_turn, does, on_field, delays, waited_for, waits, begins_wait, in_block, chosen_list, turns_from, repeats, if_no_place, all_used, beside, kind_effect, action_effect, left_by_action, left_by, status_of, stands_open, outcome_of, left_by_script, calls}
 use Rattle.script_laws.specs.Made.{AreMade}
-use Rattle.script_laws.specs.Stands.{EachStands, GoesOn, NamesNoScript, next_in}
+use Rattle.script_laws.specs.Stands.{EachStands, GoesOn, NamesNoScript, next_in, sees_named}
 use Rattle.script_laws.specs.Used.{IsUsed}
 use Rattle.script_laws.proofs.HelpedLemmas.{call-helps, helped-cases}
+use Rattle.script_laws.proofs.NamedLemmas.{call-sees}
 use Rattle.script_laws.proofs.StandLemmas.{still-stands}
 use Rattle.script_laws.proofs.SameMeaning.{delay-same, begins-same, test-same, into-same, either-same, repeat-same, call-same}
 use Rattle.script_laws.proofs.UsedLemmas.{Uses, UsesWell, EachWell, inside-length, set-length, one-place, does-uses, place-uses, nothing-still, failed-still, nothing-uses, field-uses, then-uses, block-uses, either-uses, turns-use, beside-uses}
@@ -261,10 +262,10 @@ call-names s env service target fields none = by-service (service_of s env servi
 
 -- a call that waits: its second place, in its branch, is one before which the run that it started has ended
 waiting-uses : (item : Item) (p : Spot) (scopes : Scopes) (b : Branch) (rest : List Spot) → bytes_eq p.branch b ≡ true → (p.sight.scripts ≡ [] → NamesNoScript item)
-    → AreMade p.sight (changes_by item) → Uses scopes (p ∷ rest) (items_then (item ∷ []) (waits (call_ask scopes) true p.place scopes b rest))
-waiting-uses item p scopes b [] own names helps =
-    record { used = p ∷ []; places = refl; items = refl; none_left = λ e. refl; blocks = λ e. refl; stand = (record { waits = λ w. refl; names = names; helps = helps }, tt) }
-waiting-uses item p scopes b (s ∷ after) own names helps = by (bytes_eq s.branch b) refl (s.wait_end (call_ask scopes) p.place) refl
+    → AreMade p.sight (changes_by item) → sees_named p.sight item ≡ true → Uses scopes (p ∷ rest) (items_then (item ∷ []) (waits (call_ask scopes) true p.place scopes b rest))
+waiting-uses item p scopes b [] own names helps sees =
+    record { used = p ∷ []; places = refl; items = refl; none_left = λ e. refl; blocks = λ e. refl; stand = (record { waits = λ w. refl; names = names; helps = helps; sees = sees }, tt) }
+waiting-uses item p scopes b (s ∷ after) own names helps sees = by (bytes_eq s.branch b) refl (s.wait_end (call_ask scopes) p.place) refl
   where
     -- its branch is the call's
     goes : bytes_eq s.branch b ≡ true → (e : WaitEnd) → s.wait_end (call_ask scopes) p.place ≡ Some e → GoesOn false p.place (next_in p.branch (s ∷ []))
@@ -283,7 +284,7 @@ waiting-uses item p scopes b (s ∷ after) own names helps = by (bytes_eq s.bran
           items = refl;
           none_left = λ z. absurd cc;
           blocks = λ z. refl;
-          stand = (record { waits = λ w. goes same e is; names = names; helps = helps }, (still-stands false s Item.Nothing [] (nothing-still s), tt));
+          stand = (record { waits = λ w. goes same e is; names = names; helps = helps; sees = sees }, (still-stands false s Item.Nothing [] (nothing-still s), tt));
         }
 
     either : (c : Bool) (e : WaitEnd) → Uses scopes (p ∷ s ∷ after) (items_then (item ∷ []) (does Item.Nothing scopes after))
@@ -298,12 +299,12 @@ waiting-uses item p scopes b (s ∷ after) own names helps = by (bytes_eq s.bran
     by true same (Some e) is = either e.done e (ended same e is)
 
 call-uses : (item : Item) (p : Spot) (scopes : Scopes) (b : Branch) (rest : List Spot) → bytes_eq p.branch b ≡ true → (p.sight.scripts ≡ [] → NamesNoScript item)
-    → AreMade p.sight (changes_by item) → Uses scopes (p ∷ rest) (calls item p.place scopes b rest)
-call-uses item p scopes b rest own names helps = by (awaits_end item) refl
+    → AreMade p.sight (changes_by item) → sees_named p.sight item ≡ true → Uses scopes (p ∷ rest) (calls item p.place scopes b rest)
+call-uses item p scopes b rest own names helps sees = by (awaits_end item) refl
   where
     by : (c : Bool) → awaits_end item ≡ c → Uses scopes (p ∷ rest) (if c then items_then (item ∷ []) (waits (call_ask scopes) true p.place scopes b rest) else does item scopes rest)
-    by true e = waiting-uses item p scopes b rest own names helps
-    by false e = does-uses item scopes scopes p rest (e, names, helps) (λ z. refl)
+    by true e = waiting-uses item p scopes b rest own names helps sees
+    by false e = does-uses item scopes scopes p rest (e, names, helps, sees) (λ z. refl)
 
 begins-use : (test : Option Template) (triggers : List Trigger) (timeout : Option SpanForm) (go_on : Bool) (p : Spot) (scopes : Scopes) (b : Branch) (rest : List Spot)
     → Uses scopes (p ∷ rest) (begins_wait test triggers timeout go_on p scopes b rest)
@@ -323,7 +324,7 @@ repeat-uses : (kind : RepeatKind) (e : Effect) → UsesWell e → (p : Spot) (sc
 repeat-uses (RepeatKind.Count t) e h p scopes b rest =
     field-uses scopes p rest (λ n. turns_from e (count_loop n) b n 1 scopes p rest) (count_of p.sight (flat scopes) t) (λ n z. turns-use e h (count_loop n) b n 1 scopes p rest)
 repeat-uses (RepeatKind.Each fs) e h p scopes b rest =
-    field-uses scopes p rest (λ vs. turns_from e (each_loop vs) b (length vs) 1 scopes p rest) (ok_or (forms_of p.sight (flat scopes) fs) 1)
+    field-uses scopes p rest (λ vs. turns_from e (each_loop vs) b (length vs) 1 scopes p rest) (ok_or (forms_of p.sight (flat scopes) fs) template_fault)
     (λ vs z. turns-use e h (each_loop vs) b (length vs) 1 scopes p rest)
 repeat-uses (RepeatKind.While cs) e h p scopes b rest = turns-use e h (while_loop cs) b most_turns 1 scopes p rest
 repeat-uses (RepeatKind.Until cs) e h p scopes b rest = turns-use e h (until_loop cs) b most_turns 1 scopes p rest
@@ -332,7 +333,7 @@ kind-uses : (y : ActionKind-F KindProved ActionProved) (p : Spot) (scopes : Scop
     → Uses scopes (p ∷ rest) (kind_effect (map-ActionKind ActionKind Action (Spot → Effect) Effect left_by_kind left_by_action (plain_kind y)) p scopes b rest)
 kind-uses (ActionKind-F.Call service target fields) p scopes b rest own =
     call-uses (call_item p.sight (flat scopes) service target fields) p scopes b rest own (call-names p.sight (flat scopes) service target fields)
-    (call-helps p.sight (flat scopes) service target fields)
+    (call-helps p.sight (flat scopes) service target fields) (call-sees p.sight (flat scopes) service target fields)
 kind-uses (ActionKind-F.Delay form) p scopes b rest own =
     field-uses scopes p rest (λ d. nothing_then (delays (p.sight.now + d) scopes b rest)) (span_of p.sight (flat scopes) form)
     (λ d z. nothing-uses scopes p rest (delays (p.sight.now + d) scopes b rest) (delay-uses (p.sight.now + d) scopes b rest))
@@ -348,8 +349,8 @@ kind-uses (ActionKind-F.Parallel lists) p scopes b rest own = nothing-uses scope
 kind-uses (ActionKind-F.Block body) p scopes b rest own = into-uses (list body) (list-uses body) scopes b p rest
 kind-uses (ActionKind-F.Set pairs) p scopes b rest own = set-uses pairs p scopes rest (set_all pairs p.sight scopes) refl
 kind-uses (ActionKind-F.Fire event fields) p scopes b rest own =
-    field-uses scopes p rest (λ pairs. does (Item.Fired event pairs) scopes rest) (ok_or (fields_of p.sight (flat scopes) fields) 1)
-    (λ pairs z. does-uses (Item.Fired event pairs) scopes scopes p rest (refl, λ w. tt, tt) (λ w. refl))
+    field-uses scopes p rest (λ pairs. does (Item.Fired event pairs) scopes rest) (ok_or (fields_of p.sight (flat scopes) fields) template_fault)
+    (λ pairs z. does-uses (Item.Fired event pairs) scopes scopes p rest (refl, λ w. tt, tt, refl) (λ w. refl))
 kind-uses ActionKind-F.Stop p scopes b rest own = one-place scopes scopes p rest Item.Nothing Standing.Stopped refl (nothing-still p) (λ z. refl)
 kind-uses (ActionKind-F.Test c) p scopes b rest own = by (holds p.sight c (flat scopes))
   where

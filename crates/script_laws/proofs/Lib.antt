@@ -3,6 +3,7 @@ pub mod BesideLemmas
 pub mod SameMeaning
 pub mod MadeLemmas
 pub mod HelpedLemmas
+pub mod NamedLemmas
 pub mod StandLemmas
 pub mod UsedLemmas
 pub mod ByScript

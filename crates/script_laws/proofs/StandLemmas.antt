@@ -8,14 +8,14 @@ use Rattle.ha_sight.specs.Scripts.{Branch, Spot, on_side, side, take_item}
 use Rattle.ha_config.specs.Words.{last_of}
 use Rattle.ha_config.proofs.ListLemmas.{none-some, some-same, true-false}
 use Rattle.script_laws.specs.Made.{AreMade}
-use Rattle.script_laws.specs.Stands.{EachStands, GoesOn, NamesNoScript, Stands, next_in}
+use Rattle.script_laws.specs.Stands.{EachStands, GoesOn, NamesNoScript, Stands, next_in, sees_named}
 
--- an item that waits for no run, names none where no script is seen, and whose changes are made of what is seen
+-- an item that waits for no run, names none where no script is seen, whose changes are made of what is seen, and that names what is seen
 abbrev pub IsStill : Spot → Item → Type 0
-IsStill p item = (awaits_end item ≡ false) × (p.sight.scripts ≡ [] → NamesNoScript item) × AreMade p.sight (changes_by item)
+IsStill p item = (awaits_end item ≡ false) × (p.sight.scripts ≡ [] → NamesNoScript item) × AreMade p.sight (changes_by item) × (sees_named p.sight item ≡ true)
 
 pub still-stands : (unended : Bool) (p : Spot) (item : Item) (behind : List Spot) → IsStill p item → Stands unended p item behind
-still-stands unended p item behind h = record { waits = λ e. absurd (true-false (sym e ∙ h.0)); names = h.1; helps = h.2 }
+still-stands unended p item behind h = record { waits = λ e. absurd (true-false (sym e ∙ h.0)); names = h.1; helps = h.2; sees = h.3 }
 
 -- ---- more places behind
 
@@ -33,7 +33,7 @@ stand-append unended [] qs [] ys e h g = g
 stand-append unended [] qs (x ∷ xs) ys e h g = absurd (omega (arith, e))
 stand-append unended (p ∷ ps) qs [] ys e h g = absurd (omega (arith, e))
 stand-append unended (p ∷ ps) qs (x ∷ xs) ys e h g =
-    (record { waits = λ w. goes-longer unended p.place p.branch ps qs (h.0.waits w); names = h.0.names; helps = h.0.helps }, stand-append unended ps qs xs ys (omega (arith, e)) h.1 g)
+    (record { waits = λ w. goes-longer unended p.place p.branch ps qs (h.0.waits w); names = h.0.names; helps = h.0.helps; sees = h.0.sees }, stand-append unended ps qs xs ys (omega (arith, e)) h.1 g)
 
 -- the last item is that of the last place
 pub last-stands : (unended : Bool) (ps : List Spot) (q : Spot) (items : List Item) (item : Item) → length items ≡ length (ps ++ (q ∷ [])) → EachStands unended (ps ++ (q ∷ [])) items
@@ -55,7 +55,7 @@ pub stand-open : (unended : Bool) (ps : List Spot) (xs : List Item) → EachStan
 stand-open unended [] xs h = tt
 stand-open unended (p ∷ ps) [] h = tt
 stand-open unended (p ∷ ps) (x ∷ xs) h =
-    (record { waits = λ w. goes-open unended p.place (next_in p.branch ps) (h.0.waits w); names = h.0.names; helps = h.0.helps }, stand-open unended ps xs h.1)
+    (record { waits = λ w. goes-open unended p.place (next_in p.branch ps) (h.0.waits w); names = h.0.names; helps = h.0.helps; sees = h.0.sees }, stand-open unended ps xs h.1)
 
 none-stand : (unended : Bool) (ps : List Spot) → EachStands unended ps []
 none-stand unended [] = tt
@@ -114,7 +114,7 @@ module _ (unended : Bool) (b : Branch) (s : Spot) (ps : List Spot) where
   taken-stand k zero ((x ∷ xs) ∷ more) e h =
       let at : side b s ≡ k = omega (arith, e) in
       let own : EachStands unended (s ∷ on_side b k ps) (x ∷ xs) = subst (λ q. EachStands unended q (x ∷ xs)) (on-it b s ps k at) h.0 in (
-        record { waits = λ w. subst (GoesOn unended s.place) (next-on-side b s.branch k (own-side k at) ps) (own.0.waits w); names = own.0.names; helps = own.0.helps },
+        record { waits = λ w. subst (GoesOn unended s.place) (next-on-side b s.branch k (own-side k at) ps) (own.0.waits w); names = own.0.names; helps = own.0.helps; sees = own.0.sees },
         (own.1, later-sides b s ps unended (suc k) more (omega (arith, e)) h.1),
       )
   taken-stand k (suc d) (xs ∷ more) e h =

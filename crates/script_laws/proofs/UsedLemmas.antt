@@ -108,10 +108,10 @@ place-uses b scopes step h (p ∷ rest) = by (bytes_eq p.branch b) refl
 
 -- Nothing neither waits for a run nor names a script, and changes no helper, and a failure doesn't either
 pub nothing-still : (p : Spot) → IsStill p Item.Nothing
-nothing-still p = (refl, λ e. tt, tt)
+nothing-still p = (refl, λ e. tt, tt, refl)
 
 pub failed-still : (p : Spot) (code : ℕ) → IsStill p (Item.Failed code)
-failed-still p code = (refl, λ e. tt, tt)
+failed-still p code = (refl, λ e. tt, tt, refl)
 
 pub nothing-uses : (scopes : Scopes) (p : Spot) (rest : List Spot) (o : Option Left) → Uses scopes rest o → Uses scopes (p ∷ rest) (nothing_then o)
 nothing-uses scopes p rest None u = tt

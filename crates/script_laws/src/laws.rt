@@ -31,8 +31,9 @@ pub fn each_place_has_an_item()
 
 /// Behind a call that waits, its branch goes on at a place before which the run that it started has
 /// ended, and only an open script may have no such place yet. And where a place sees no script, its
-/// item neither starts nor ends runs of scripts; and each change of an item is one that a service
-/// makes of a helper that its place sees, by what is seen there.
+/// item neither starts nor ends runs of scripts; each change of an item is one that a service makes
+/// of a helper that its place sees, by what is seen there; and each automation and each script that
+/// it switches, triggers, starts or halts is one that its place sees.
 pub fn callers_wait_for_their_runs()
     ensures { (actions : List Action) (env : Pairs) (ps : List Spot) (o : Outcome)
         → whole actions env ps ≡ Some o → EachStands (is_open o.status) ps o.items }

@@ -24,4 +24,6 @@ mod said;
 #[cfg(test)]
 mod services;
 #[cfg(test)]
+mod spared;
+#[cfg(test)]
 mod waits;

@@ -187,14 +187,15 @@ fn told(alloc: Global, run: &Run) -> Result<Ends, AllocError> {
     }
 }
 
-/// The next entry was seen: the wait is told of it.
+/// The next entry was seen: the wait is told of it, and its template is tested whatever the entry changes.
 fn note(
     alloc: Global,
     run: &mut Run,
     fired: &Many<Firing>,
     view: &View<'_>,
 ) -> Result<(), AllocError> {
-    run.waits.note(alloc, run.place, fired, view)?;
+    let tested = run.waits.tested(alloc, 0)?;
+    run.waits.note(alloc, run.place, &tested, fired, view)?;
     run.place = run.place.saturating_add(1);
     Ok(())
 }
@@ -210,7 +211,7 @@ fn ask(
         return Ok(());
     };
     let mut waits = Waits::make(alloc);
-    waits.add(wait.taken(), run.place, run.place)?;
+    waits.add(alloc, wait.taken(), run.place, run.place)?;
     run.waits = waits;
     run.branch = branch;
     run.owner = run.place;

@@ -184,7 +184,7 @@ fn asked(alloc: Global, serial: u64) -> WaitAsk {
 /// Whether the wait of run 1, at entry 7, stays where another run goes, and goes with its own.
 fn goes_with_its_run(alloc: Global) -> Result<bool, AllocError> {
     let mut waits = Waits::make(alloc);
-    waits.add(asked(alloc, 1), 7, 3)?;
+    waits.add(alloc, asked(alloc, 1), 7, 3)?;
     let root: Branch = Many::make(alloc);
     let is_there = waits.owner_from(1, 0) == Some((7, 1)) && waits.owner_from(1, 1).is_none();
     let waits_still = waits.ended(1, &root).is_none() && waits.ended_now().is_empty();
@@ -212,7 +212,7 @@ fn is_named(end: Option<&WaitEnd>) -> bool {
 /// Whether the wait of run 1 stays where another run's is named an end, and ends by its own.
 fn ends_as_named(alloc: Global) -> Result<bool, AllocError> {
     let mut waits = Waits::make(alloc);
-    waits.add(asked(alloc, 1), 7, 3)?;
+    waits.add(alloc, asked(alloc, 1), 7, 3)?;
     let root: Branch = Many::make(alloc);
     let owned = waits.owner_of(1, &root) == Some(7) && waits.owner_of(2, &root).is_none();
     waits.finish(2, &root, 9);

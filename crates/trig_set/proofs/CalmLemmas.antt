@@ -1,6 +1,6 @@
 -- What an entry doesn't concern keeps what it keeps, and fires nothing.
 use Rattle.std.proofs.Common.{◌≡◌, ℕ, zero, suc, ◌<◌, List, [], ◌∷◌, ◌++◌, length, map, Bool, true, false, refl, sym, ap, subst, ◌∙◌}
-use Rattle.std.specs.Prelude.{Option, Some, None, MatchOption, flat_map, is_some, nat_lt, option_map, slice_get, ◌&&◌, if◌then◌else◌}
+use Rattle.std.specs.Prelude.{Option, Some, None, MatchOption, flat_map, is_some, nat_lt, option_map, slice_get, not, ◌&&◌, if◌then◌else◌}
 use Rattle.std.specs.List.{cons_option, list_all}
 use Rattle.std.specs.Option.{option_map_or}
 use Rattle.timer_queue.specs.Timers.{Timer, due_of}
@@ -9,6 +9,7 @@ use Rattle.ha_value.specs.declared.value.Num.{Num}
 use Rattle.ha_value.specs.declared.value.Value.{Value}
 use Rattle.ha_config.specs.declared.config.Trigger.{Trigger}
 use Rattle.ha_config.specs.declared.config.TriggerRule.{TriggerRule}
+use Rattle.ha_config.specs.declared.template.Template.{Template}
 use Rattle.ha_journal.specs.declared.entry.Entry.{Entry}
 use Rattle.ha_journal.specs.Entries.{event_in, is_moment, opens_segment}
 use Rattle.ha_config.specs.Equal.{same_flag}
@@ -21,20 +22,24 @@ use Rattle.ha_sight.specs.Sight.{Sight}
 use Rattle.ha_journal.specs.States.{states}
 use Rattle.ha_journal.specs.Moves.{latest_number, sight, looks}
 use Rattle.ha_sight.specs.Rules.{pair_holds, passed, given, is_template}
+use Rattle.ha_sight.specs.Templates.{rendered, says}
 use Rattle.ha_config.specs.Words.{Text, Pairs, one_of, same_entity}
 use Rattle.ha_config.proofs.EqualLemmas.{same-refl}
 use Rattle.ha_journal.proofs.EventLaws.{nobodys-named}
 use Rattle.ha_journal.proofs.HeldLaws.{latest-more}
+use Rattle.ha_journal.proofs.MoreLemmas.{length-more}
 use Rattle.ha_past.specs.Firings.{Owner, firings_of}
 use Rattle.ha_past.specs.Looks.{moves_with, or_else}
 use Rattle.ha_journal.specs.Holds.{watches}
-use Rattle.event_bus.specs.Subjects.{Subject, concerns}
+use Rattle.tpl_reads.specs.Reads.{entities_read}
+use Rattle.tpl_reads.proofs.TemplateLemmas.{rendered-same}
+use Rattle.event_bus.specs.Subjects.{Subject, by_read, concerns}
 use Rattle.trig_set.specs.declared.spot.Spot.{Spot}
 use Rattle.trig_set.specs.Kept.{All, AreTimed, AreWell, Keeps, KeepsAt, Moved, MovedAt, Settles, SpotsStand, cleared, firing_in, holding, holds_well, is_true, ripened, ripened_if}
 use Rattle.trig_set.specs.Next.{reports}
 use Rattle.trig_set.specs.Timed.{event_seen, firings_in, timed_in, timed_of}
 use Rattle.trig_set.proofs.KeptLemmas.{step-moved}
-use Rattle.trig_set.proofs.MovedLemmas.{moves-by, moves-not, own-skipped, unlisted-moves, unlisted-number, unlisted-stays, unreported}
+use Rattle.trig_set.proofs.MovedLemmas.{moves-by, moves-not, own-skipped, seen_now, seen_then, unlisted-moves, unlisted-number, unlisted-stays, unreported}
 use Rattle.trig_set.proofs.NoteLemmas.{spots-give, spots-stand}
 use Rattle.trig_set.proofs.RipeLemmas.{none-ripens}
 use Rattle.trig_set.proofs.TimedLemmas.{AreUnnamed, others-off, timed-off}
@@ -49,13 +54,15 @@ flag-refl : (b : Bool) → same_flag b b ≡ true
 flag-refl true = refl
 flag-refl false = refl
 
--- what the entry leaves of a spot as it is: the states of its entity, with no report of it; its events are of other types, those of helpers
--- too; it asks no template; and where it is a moment, the trigger is not one on times
+-- what the entry leaves of a spot as it is: the states of its entity, with no report of it, and of those that its template reads; its events are of
+-- other types, those of helpers too; it asks no template whose entities are not known; and where it is a moment, the trigger is not one on times.
+-- An entry behind the place at which it was attached was noted before
 pub record IsCalm (j : Journal) (x : Entry) (since : ℕ) (rule : TriggerRule) (e : Option EntityId) : Type 0 where
   pub apart : (f : EntityId) → concerns rule e (Subject.Entity f) ≡ true → nat_lt since (length j) ≡ true → (states (more j x) f ≡ states j f) × (reports f x ≡ false)
   pub unnamed : MatchOption (option_map (λ v. v.0) (event_in x)) (Unit {0}) (λ q. concerns rule e (Subject.Event q) ≡ false)
   pub others : AreUnnamed rule e (helper_events j x)
   pub plain : concerns rule e Subject.Entries ≡ false
+  pub late : nat_lt since (length j) ≡ true
   pub untimed : is_moment x ≡ true → concerns rule e Subject.Moments ≡ false
 
 module _ (j : Journal) (x : Entry) (t : Trigger) (since : ℕ) (h : HasEntry j) (opens : opens_segment x ≡ false) where
@@ -86,6 +93,24 @@ module _ (j : Journal) (x : Entry) (t : Trigger) (since : ℕ) (h : HasEntry j) 
       by true is = absurd (let bad : ◌≡◌ {A = Bool} true false = never-now is in cc)
       by false is = refl
 
+  -- the sights before and behind the entry agree on an entity whose state it does not change
+  seen-same : (f : EntityId) → states (more j x) f ≡ states j f → behind.states f ≡ before.states f
+  seen-same f same = (λ i. seen_then j x i f) ∙ same ∙ sym (λ i. seen_now j x i f)
+
+  -- a template is as true as before: the states that it reads are the same
+  same-truth : (u : Template) → IsCalm j x since (TriggerRule.Template u) None → says (rendered behind u []) ≡ says (rendered before u [])
+  same-truth u calm = by (entities_read u) refl
+    where
+      by : (o : Option (List EntityId)) → entities_read u ≡ o → says (rendered behind u []) ≡ says (rendered before u [])
+      by None is = absurd (never true refl (sym (ap (λ w. by_read w Subject.Entries) is) ∙ calm.plain))
+      by (Some es) is =
+          ap says (rendered-same behind before u es is
+          (λ f among. seen-same f (calm.apart f (ap (λ w. by_read w (Subject.Entity f)) is ∙ among) calm.late).0) [])
+
+  and-not : (b : Bool) → (b && not b) ≡ false
+  and-not true = refl
+  and-not false = refl
+
   -- it does not move
   idle : (rule : TriggerRule) (e : Option EntityId) → t.rule ≡ rule → IsCalm j x since rule e → nat_lt since (length j) ≡ true → None ≡ target e
   idle (TriggerRule.State entities attribute from to) (Some y) is calm lt = unlisted-moves j x t y entities attribute from to is (calm.apart y (entity-refl y) lt).0
@@ -101,7 +126,9 @@ module _ (j : Journal) (x : Entry) (t : Trigger) (since : ℕ) (h : HasEntry j) 
   idle (TriggerRule.Pattern hours minutes seconds) (Some y) is calm lt = off (TriggerRule.Pattern hours minutes seconds) (Some y) is refl
   idle (TriggerRule.Pattern hours minutes seconds) None is calm lt =
       off (TriggerRule.Pattern hours minutes seconds) None is (unpassed (passed (TriggerRule.Pattern hours minutes seconds) before.zone before.now behind.now) calm.untimed)
-  idle (TriggerRule.Template u) e is calm lt = absurd (never true refl calm.plain)
+  idle (TriggerRule.Template u) (Some y) is calm lt = absurd (never true refl calm.plain)
+  idle (TriggerRule.Template u) None is calm lt =
+      off (TriggerRule.Template u) None is ((λ i. same-truth u calm i && not (says (rendered before u []))) ∙ and-not (says (rendered before u [])))
   idle TriggerRule.Start (Some y) is calm lt = off TriggerRule.Start (Some y) is refl
   idle TriggerRule.Start None is calm lt = off TriggerRule.Start None is refl
 
@@ -122,17 +149,21 @@ module _ (j : Journal) (x : Entry) (t : Trigger) (since : ℕ) (h : HasEntry j) 
   steady (TriggerRule.Event kinds pairs) e calm lt may = absurd (never false may refl)
   steady (TriggerRule.Time seconds) e calm lt may = absurd (never false may refl)
   steady (TriggerRule.Pattern hours minutes seconds) e calm lt may = absurd (never false may refl)
-  steady (TriggerRule.Template u) e calm lt may = absurd (never true refl calm.plain)
+  steady (TriggerRule.Template u) None calm lt may =
+      sym (flag-refl (says (rendered before u []))) ∙ (λ i. same_flag (says (rendered before u [])) (sym (same-truth u calm) i))
+  steady (TriggerRule.Template u) (Some y) calm lt may = absurd (never true refl calm.plain)
   steady TriggerRule.Start e calm lt may = absurd (never false may refl)
 
-  bare-true : (rule : TriggerRule) (e : Option EntityId) (was : Bool) (seen : Sight) → IsCalm j x since rule e → (is_template rule ≡ false → was ≡ false) → was ≡ is_true seen rule
-  bare-true (TriggerRule.State entities attribute from to) e was seen calm bare = bare refl
-  bare-true (TriggerRule.Numeric entities attribute above below) e was seen calm bare = bare refl
-  bare-true (TriggerRule.Event kinds pairs) e was seen calm bare = bare refl
-  bare-true (TriggerRule.Time seconds) e was seen calm bare = bare refl
-  bare-true (TriggerRule.Pattern hours minutes seconds) e was seen calm bare = bare refl
-  bare-true (TriggerRule.Template u) e was seen calm bare = absurd (never true refl calm.plain)
-  bare-true TriggerRule.Start e was seen calm bare = bare refl
+  bare-true : (rule : TriggerRule) (e : Option EntityId) (was : Bool) → IsCalm j x since rule e → (is_template rule ≡ false → was ≡ false)
+      → (nat_lt since (length j) ≡ true → was ≡ is_true before rule) → was ≡ is_true (sight (more j x) (length (more j x))) rule
+  bare-true (TriggerRule.State entities attribute from to) e was calm bare kept = bare refl
+  bare-true (TriggerRule.Numeric entities attribute above below) e was calm bare kept = bare refl
+  bare-true (TriggerRule.Event kinds pairs) e was calm bare kept = bare refl
+  bare-true (TriggerRule.Time seconds) e was calm bare kept = bare refl
+  bare-true (TriggerRule.Pattern hours minutes seconds) e was calm bare kept = bare refl
+  bare-true (TriggerRule.Template u) (Some y) was calm bare kept = absurd (never true refl calm.plain)
+  bare-true (TriggerRule.Template u) None was calm bare kept = kept calm.late ∙ sym (same-truth u calm) ∙ ap (λ n. says (rendered (sight (more j x) n) u [])) (sym (length-more j x))
+  bare-true TriggerRule.Start e was calm bare kept = bare refl
 
   module _ (s : Spot) (well : holds_well t) (keeps : Keeps j t since s) (calm : IsCalm j x since t.rule s.entity) where
     kept-hold : {X : Type 0} (o : Option X) → o ≡ or_else o None
@@ -153,7 +184,7 @@ module _ (j : Journal) (x : Entry) (t : Trigger) (since : ℕ) (h : HasEntry j) 
     -- LAW: the entry moves the spot to itself
     pub calm-moved : Moved j x t since s
     calm-moved =
-        step-moved j x t since (now (more j x)) s.was true None s s (settles t.hold) well (bare-true t.rule s.entity s.was (sight (more j x) (length (more j x))) calm keeps.bare) keeps
+        step-moved j x t since (now (more j x)) s.was true None s s (settles t.hold) well (bare-true t.rule s.entity s.was calm keeps.bare keeps.was) keeps
         (λ lt may. steady t.rule s.entity calm lt may) no-move refl
 
 -- ---- all spots of an owner

@@ -1,11 +1,7 @@
 -- Lists that are gone through, with what is collected.
-use Rattle.std.proofs.Common.{◌≡◌, ℕ, zero, suc, ◌+◌, ◌<◌, List, [], ◌∷◌, ◌++◌, length, take, drop, map, get_or, refl, sym, ap, ◌∙◌, arith, append_assoc}
+use Rattle.std.proofs.Common.{◌≡◌, ℕ, zero, suc, ◌+◌, ◌<◌, List, [], ◌∷◌, ◌++◌, length, take, drop, map, get_or, refl, sym, ap, ◌∙◌, arith, append_assoc, append-nil}
 use Rattle.std.specs.Prelude.{Option, Some, None, filter_map, flat_map, slice_set}
 use Rattle.std.specs.List.{cons_option}
-
-pub append-none : {X : Type 0} (xs : List X) → xs ++ [] ≡ xs
-append-none [] = refl
-append-none (x ∷ xs) = (λ i. x ∷ append-none xs i)
 
 cons-append : {X : Type 0} (o : Option X) (xs ys : List X) → cons_option o (xs ++ ys) ≡ cons_option o xs ++ ys
 cons-append None xs ys = refl
@@ -50,7 +46,7 @@ module _ {X Y : Type 0} (f : X → Option Y) (g : X → X) (d : X) where
 module _ {X Y : Type 0} (f : X → List Y) (g : X → X) (d : X) where
   lists-next : (xs : List X) (n : ℕ) → n < length xs → flat_map f (take (suc n) xs) ≡ flat_map f (take n xs) ++ f (get_or xs n d)
   lists-next [] n lt = absurd (omega (arith, lt))
-  lists-next (x ∷ xs) zero lt = append-none (f x)
+  lists-next (x ∷ xs) zero lt = append-nil (f x)
   lists-next (x ∷ xs) (suc n) lt = (λ i. f x ++ lists-next xs n (omega (arith, lt)) i) ∙ sym (append_assoc (f x) (flat_map f (take n xs)) (f (get_or xs n d)))
 
   pub goes-lists : (xs cur : List X) (n : ℕ) (before old new : List Y) → n < length xs → cur ≡ gone g d n xs → old ≡ before ++ flat_map f (take n xs) → new ≡ old ++ f (get_or cur n d)

@@ -16,8 +16,10 @@ use Rattle.ha_config.specs.Words.{Text, same_entity}
 use Rattle.ha_config.proofs.EqualLemmas.{entity-sound}
 use Rattle.ha_past.specs.Firings.{firings_of}
 use Rattle.event_bus.specs.declared.index.Index.{Index}
+use Rattle.event_bus.specs.Lists.{has}
 use Rattle.event_bus.specs.Subjects.{Subject, concerns, knows}
 use Rattle.trig_set.specs.declared.owners.Attached.{Attached}
+use Rattle.trig_set.specs.declared.recent.Recent.{Recent}
 use Rattle.trig_set.specs.declared.scene.Scene.{Scene}
 use Rattle.trig_set.specs.declared.scene.Shift.{Shift}
 use Rattle.trig_set.specs.declared.spot.Spot.{Spot}
@@ -26,6 +28,7 @@ use Rattle.trig_set.specs.Kept.{All, place_of}
 use Rattle.trig_set.specs.Known.{AreKnown}
 use Rattle.trig_set.specs.Listed.{HasAt, HasFor}
 use Rattle.trig_set.specs.Next.{reports}
+use Rattle.trig_set.specs.Noted.{AreNoted}
 use Rattle.trig_set.specs.Order.{ascend, owner_of}
 use Rattle.trig_set.specs.Queued.{HasDue}
 use Rattle.trig_set.specs.Scenes.{Shows, face, shift_of}
@@ -33,6 +36,7 @@ use Rattle.trig_set.specs.Stands.{AllOwners, AtOwner, OwnerStands, firings_at}
 use Rattle.trig_set.proofs.ListedLemmas.{IsListed, known-listed}
 use Rattle.trig_set.proofs.CalmLemmas.{CalmAt, IsCalm, calm-quiet, calm-stand, never}
 use Rattle.trig_set.proofs.MovedLemmas.{has-past}
+use Rattle.trig_set.proofs.NotedLemmas.{noted-at}
 
 pub get-map : {X Y : Type 0} (f : X → Y) (xs : List X) (n : ℕ) → slice_get (map f xs) n ≡ option_map f (slice_get xs n)
 get-map f [] n = refl
@@ -54,11 +58,13 @@ unshifted index n e (c ∷ cs) aside h = by (same_entity c.entity e) refl (unshi
     by false s rest = rest
 
 -- an entry doesn't concern a number that the index may have: no segment opens with it, and the index doesn't have the number for it; of the
--- entities for which the index has the number it changes and reports none, since what has the number was attached
+-- entities for which the index has the number it changes and reports none, since what has the number was attached; and an entry behind that place
+-- was noted before
 pub record IsApart (index : Index) (queue : List Timer) (j : Journal) (x : Entry) (owner since : ℕ) : Type 0 where
   pub within : opens_segment x ≡ false
   pub journal : IsJournal (more j x)
   pub entries : knows index Subject.Entries owner ≡ false
+  pub late : nat_lt since (length j) ≡ true
   pub events : MatchOption (option_map (λ v. v.0) (event_in x)) (Unit {0}) (λ q. knows index (Subject.Event q) owner ≡ false)
   pub timed : (k : ℕ) → MatchOption (slice_get (helper_events j x) k) (Unit {0}) (λ v. knows index (Subject.Event v.kind) owner ≡ false)
   pub entities : (f : EntityId) → knows index (Subject.Entity f) owner ≡ true → nat_lt since (length j) ≡ true → (states (more j x) f ≡ states j f) × (reports f x ≡ false)
@@ -66,21 +72,22 @@ pub record IsApart (index : Index) (queue : List Timer) (j : Journal) (x : Entry
   pub later : is_moment x ≡ true → MatchOption (due_of owner queue) (Unit {0}) (λ d. now (more j x) < d)
 
 has-calm : (j : Journal) (x : Entry) (index : Index) (queue : List Timer) (owner since : ℕ) (t : Trigger) (e : Option EntityId) → IsApart index queue j x owner since → HasFor index owner t e → IsCalm j x since t.rule e
-has-calm j x index queue owner since t e apart has = record {
-  apart = λ f named lt. apart.entities f (has (Subject.Entity f) named) lt;
+has-calm j x index queue owner since t e apart named = record {
+  apart = λ f given lt. apart.entities f (named (Subject.Entity f) given) lt;
   unnamed = by (option_map (λ v. v.0) (event_in x)) apart.events;
   others = λ k. of (slice_get (helper_events j x) k) (apart.timed k);
-  plain = not-true (concerns t.rule e Subject.Entries) (knows index Subject.Entries owner) (has Subject.Entries) apart.entries;
-  untimed = λ moment. not-true (concerns t.rule e Subject.Moments) (knows index Subject.Moments owner) (has Subject.Moments) (apart.times moment);
+  plain = not-true (concerns t.rule e Subject.Entries) (knows index Subject.Entries owner) (named Subject.Entries) apart.entries;
+  late = apart.late;
+  untimed = λ moment. not-true (concerns t.rule e Subject.Moments) (knows index Subject.Moments owner) (named Subject.Moments) (apart.times moment);
 }
   where
     by : (o : Option Text) → MatchOption o (Unit {0}) (λ q. knows index (Subject.Event q) owner ≡ false) → MatchOption o (Unit {0}) (λ q. concerns t.rule e (Subject.Event q) ≡ false)
     by None k = tt
-    by (Some q) k = not-true (concerns t.rule e (Subject.Event q)) (knows index (Subject.Event q) owner) (has (Subject.Event q)) k
+    by (Some q) k = not-true (concerns t.rule e (Subject.Event q)) (knows index (Subject.Event q) owner) (named (Subject.Event q)) k
 
     of : (o : Option BusEvent) → MatchOption o (Unit {0}) (λ v. knows index (Subject.Event v.kind) owner ≡ false) → MatchOption o (Unit {0}) (λ v. concerns t.rule e (Subject.Event v.kind) ≡ false)
     of None k = tt
-    of (Some v) k = not-true (concerns t.rule e (Subject.Event v.kind)) (knows index (Subject.Event v.kind) owner) (has (Subject.Event v.kind)) k
+    of (Some v) k = not-true (concerns t.rule e (Subject.Event v.kind)) (knows index (Subject.Event v.kind) owner) (named (Subject.Event v.kind)) k
 
 module _ (index : Index) (queue : List Timer) (j : Journal) (x : Entry) where
   pub spot-calm : (owner since : ℕ) (triggers : List Trigger) (s : Spot) → IsApart index queue j x owner since → HasAt index owner triggers (s.trigger, s.entity) → CalmAt j x triggers since s
@@ -112,7 +119,7 @@ module _ (index : Index) (queue : List Timer) (j : Journal) (x : Entry) where
       let h = has-past j x apart.journal apart.within in
       let later = all-later a due apart in
       let calm = all-calm a stand listed apart in (
-        record { well = stand.well; spots = calm-stand j x a.triggers a.since h apart.within stand.well a.spots.items a.timers stand.spots calm later; listed = stand.listed },
+        record { well = stand.well; spots = calm-stand j x a.triggers a.since h apart.within stand.well a.spots.items a.timers stand.spots calm later; listed = stand.listed; reads = stand.reads },
         calm-quiet j x a.triggers a.since h apart.within stand.well a.spots.items a.timers stand.spots calm later a.owner,
       )
 
@@ -150,30 +157,34 @@ module _ (scene : Scene) (index : Index) (queue : List Timer) (j : Journal) wher
   abbrev x : Entry
   x = scene.entry.now
 
-  pub aside-apart : (owner since : ℕ) → Shows scene j since → IsAside index queue scene.to scene.shifts.now scene.events.now x owner → IsApart index queue j x owner since
-  aside-apart owner since shows aside = record {
+  pub aside-apart : (owner since : ℕ) → Shows scene j since → IsAside index queue scene.to scene.shifts.now scene.events.now x owner → nat_lt since (length j) ≡ true → IsApart index queue j x owner since
+  aside-apart owner since shows aside late = record {
     within = aside.within;
     journal = shows.journal;
     entries = aside.entries;
+    late = late;
     events = aside.events;
     timed = λ k. subst (λ vs. MatchOption (slice_get vs k) (Unit {0}) (λ v. knows index (Subject.Event v.kind) owner ≡ false)) shows.events (aside.timed k);
-    entities = λ f has lt.
+    entities = λ f given lt.
         subst (λ o. MatchOption o ((states (more j x) f ≡ states j f) × (reports f x ≡ false)) (λ c. (face c.old ≡ face (states j f)) × (face c.new ≡ face (states (more j x) f))))
-        (unshifted index owner f scene.shifts.now aside.entities has) (shows.shifts lt f);
+        (unshifted index owner f scene.shifts.now aside.entities given) (shows.shifts lt f);
     times = aside.times;
     later = λ moment. subst (λ to. MatchOption (due_of owner queue) (Unit {0}) (λ d. to < d)) shows.to (aside.later moment);
   }
 
   module _ (owners : List Attached) (known : AreKnown index (map owner_of owners)) (shows : AllOwners owners (λ a. Shows scene j a.since)) (stand : AllOwners owners (OwnerStands j))
       (queued : AllOwners owners (HasDue queue)) (n : ℕ)
-      (aside : AtOwner owners n (λ a. ascend (map owner_of owners) ≡ true → IsAside index queue scene.to scene.shifts.now scene.events.now x a.owner)) where
+      (recent : Recent) (noted : AreNoted recent (length j) (map owner_of owners))
+      (aside : AtOwner owners n (λ a. ascend (map owner_of owners) ≡ true → IsAside index queue scene.to scene.shifts.now scene.events.now x a.owner))
+      (old : AtOwner owners n (λ a. ascend (map owner_of owners) ≡ true → has recent.owners a.owner ≡ false)) where
     apart-at : AtOwner owners n (λ a. IsApart index queue j x a.owner a.since)
-    apart-at = by (slice_get owners n) (shows n) aside
+    apart-at = by (slice_get owners n) (shows n) aside old (noted-at recent (length j) owners n noted)
       where
         by : (o : Option Attached) → MatchOption o (Unit {0}) (λ a. Shows scene j a.since) → MatchOption o (Unit {0}) (λ a. ascend (map owner_of owners) ≡ true → IsAside index queue scene.to scene.shifts.now scene.events.now x a.owner)
+            → MatchOption o (Unit {0}) (λ a. ascend (map owner_of owners) ≡ true → has recent.owners a.owner ≡ false) → MatchOption o (Unit {0}) (λ a. has recent.owners a.owner ≡ false → nat_lt a.since (length j) ≡ true)
             → MatchOption o (Unit {0}) (λ a. IsApart index queue j x a.owner a.since)
-        by None s i = tt
-        by (Some a) s i = aside-apart a.owner a.since s (i known.ascend)
+        by None s i o l = tt
+        by (Some a) s i o l = aside-apart a.owner a.since s (i known.ascend) (l (o known.ascend))
 
     pub calm-stands : AtOwner owners n (OwnerStands (more j x))
     calm-stands = apart-stands index queue j x owners known stand queued n apart-at

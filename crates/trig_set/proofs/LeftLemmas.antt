@@ -1,5 +1,5 @@
 -- Places put into a set, and taken out, the least first.
-use Rattle.std.proofs.Common.{◌≡◌, ℕ, zero, suc, ◌+◌, ◌<◌, ◌≤◌, List, [], ◌∷◌, ◌++◌, length, get_or, Bool, true, false, refl, sym, subst, ◌∙◌, arith, nat_cmp, inl, inr}
+use Rattle.std.proofs.Common.{◌≡◌, ℕ, zero, suc, ◌+◌, ◌<◌, ◌≤◌, List, [], ◌∷◌, ◌++◌, length, get_or, Bool, true, false, refl, sym, subst, ◌∙◌, arith, append-nil, nat_cmp, inl, inr}
 use Rattle.std.specs.Prelude.{All, IsSome, IsTrue, ◌↔◌, MatchOption, None, Option, Some, flat_map, map, nat_eq, nat_le, slice_get, ◌||◌, if◌then◌else◌}
 use Rattle.std.specs.List.{list_any}
 use Rattle.std.specs.BTreeMap.{is_at}
@@ -72,10 +72,6 @@ none-left set variant n = by set.keys variant
     by [] v = refl
     by (k ∷ ks) v = absurd (let bad : ◌≡◌ {A = Bool} false true = v.1 (omega arith) in cc)
 
-pub append-none : {Y : Type 0} (xs : List Y) → xs ++ [] ≡ xs
-append-none [] = refl
-append-none (x ∷ xs) = (λ i. x ∷ append-none xs i)
-
 -- LAW: where nothing comes from a place on, what comes up to there is all
 pub flat-skip : {Y : Type 0} (f : ℕ → List Y) (a b : ℕ) → a ≤ b → ((n : ℕ) → a ≤ n → n < b → f n ≡ []) → flat_map f (up_to b) ≡ flat_map f (up_to a)
 flat-skip f zero zero le none = refl
@@ -86,7 +82,7 @@ flat-skip f a (suc b) le none = elim (eqb_tells a (suc b)) [
       (let e : suc b ≡ b + 1 = omega arith in λ i. flat_map f (up_to (e i)))
       ∙ flat-up f b
       ∙ (λ i. flat_map f (up_to b) ++ none b (omega (arith, le, apart)) (omega arith) i)
-      ∙ append-none (flat_map f (up_to b))
+      ∙ append-nil (flat_map f (up_to b))
       ∙ flat-skip f a b (omega (arith, le, apart)) (λ n from lt. none n from (omega (arith, lt))))
 ]
 

@@ -11,7 +11,6 @@ pub mod CalmLemmas
 pub mod ConcernLemmas
 pub mod AloneLemmas
 pub mod LeftLemmas
-pub mod AnyLemmas
 pub mod ListedLemmas
 pub mod HalvesLemmas
 pub mod OwnersLemmas
@@ -22,9 +21,12 @@ pub mod MovedLemmas
 pub mod BlankLemmas
 pub mod EqualLemmas
 pub mod TableLemmas
+pub mod TabledLemmas
 pub mod FirstLemmas
 pub mod ShiftLemmas
 pub mod OrderLemmas
 pub mod QueueLemmas
 pub mod BeginLemmas
 pub mod OpeningLemmas
+pub mod NotedLemmas
+pub mod ReadLemmas

@@ -16,7 +16,7 @@ use Rattle.trig_set.specs.Kept.{places_of}
 use Rattle.trig_set.specs.Known.{AreKnown, heed, heed_under, heeds}
 use Rattle.trig_set.specs.Listed.{HasAt, HasFor}
 use Rattle.trig_set.specs.Order.{ascend}
-use Rattle.trig_set.proofs.AnyLemmas.{any-at, or-false, or-true, or-turned}
+use Rattle.event_bus.proofs.AnyLemmas.{any-at, or-false, or-true, or-turned}
 use Rattle.trig_set.proofs.OrderLemmas.{placed-ascend, without-ascend}
 
 -- ---- what concerns the owners
@@ -197,7 +197,9 @@ heeds-for (TriggerRule.Numeric entities attribute above below) n e s at h =
 heeds-for (TriggerRule.Event kinds pairs) n e s at h = h
 heeds-for (TriggerRule.Time seconds) n e s at h = h
 heeds-for (TriggerRule.Pattern hours minutes seconds) n e s at h = h
-heeds-for (TriggerRule.Template t) n e s at h = h
+heeds-for (TriggerRule.Template t) n None s at h = h
+heeds-for (TriggerRule.Template t) zero (Some y) s at h = absurd (let bad : ◌≡◌ {A = Option (Option EntityId)} (Some None) (Some (Some y)) = at in cc)
+heeds-for (TriggerRule.Template t) (suc n) (Some y) s at h = absurd (let bad : ◌≡◌ {A = Option (Option EntityId)} None (Some (Some y)) = at in cc)
 heeds-for TriggerRule.Start n e s at h = h
 
 -- ---- the places of an owner's triggers

@@ -1,6 +1,6 @@
 -- Spots of which some are gone along: those that an entry may not move stay, and the others come in their order.
-use Rattle.std.proofs.Common.{◌≡◌, ℕ, zero, suc, ◌+◌, ◌<◌, ◌≤◌, List, [], ◌∷◌, ◌++◌, length, take, drop, map, Bool, true, false, refl, sym, ap, subst, ◌∙◌, arith, nat_cmp, append_assoc, inl, inr}
-use Rattle.std.specs.Prelude.{Option, Some, None, MatchOption, flat_map, nat_eq, option_map, slice_get, slice_set, ◌||◌}
+use Rattle.std.proofs.Common.{◌≡◌, ℕ, zero, suc, ◌+◌, ◌<◌, ◌≤◌, List, [], ◌∷◌, ◌++◌, length, take, drop, map, Bool, true, false, refl, sym, ap, subst, ◌∙◌, arith, nat_cmp, append_assoc, append-nil, inl, inr}
+use Rattle.std.specs.Prelude.{Option, Some, None, MatchOption, flat_map, nat_eq, nat_lt, option_map, slice_get, slice_set, ◌||◌}
 use Rattle.std.specs.List.{cons_option, list_any}
 use Rattle.std.specs.Option.{option_map_or}
 use Rattle.std.specs.BTreeMap.{is_at}
@@ -25,10 +25,9 @@ use Rattle.trig_set.specs.Places.{Turns}
 use Rattle.trig_set.specs.Scenes.{Shows}
 use Rattle.trig_set.specs.Timed.{Unfired, firings_in, timed_in}
 use Rattle.trig_set.proofs.CalmLemmas.{CalmAt, IsCalm, calm-moved, calm-untimed, none-fired}
-use Rattle.trig_set.proofs.CollectLemmas.{append-none}
 use Rattle.trig_set.proofs.ConcernLemmas.{aside-apart, get-map, spot-calm}
 use Rattle.trig_set.proofs.LeftLemmas.{is-at-other, put-apart}
-use Rattle.trig_set.proofs.MovedLemmas.{has-past}
+use Rattle.trig_set.proofs.MovedLemmas.{has-past, lt-is}
 
 -- ---- lists that are gone through, some places skipped
 
@@ -85,7 +84,7 @@ module _ {X Y : Type 0} (f : X → List Y) (g : X → X) where
   found-next : (xs : List X) (n : ℕ) → flat_map f (take (suc n) xs) ≡ flat_map f (take n xs) ++ option_map_or f (slice_get xs n) []
   found-next [] zero = refl
   found-next [] (suc n) = refl
-  found-next (x ∷ xs) zero = append-none (f x)
+  found-next (x ∷ xs) zero = append-nil (f x)
   found-next (x ∷ xs) (suc n) = (λ i. f x ++ found-next xs n i) ∙ sym (append_assoc (f x) (flat_map f (take n xs)) (option_map_or f (slice_get xs n) []))
 
   pub goes-on : (xs cur : List X) (n : ℕ) (before old new : List Y) → cur ≡ gone g n xs → old ≡ before ++ flat_map f (take n xs)
@@ -210,9 +209,13 @@ all-listed index triggers spots h n = elim (leb_tells (length spots) n) [
 -- ---- a spot that the index leaves aside
 
 module _ (scene : Scene) (j : Journal) (index : Index) (triggers : List Trigger) (since : ℕ) (shows : Shows scene j since) (within : opens_segment scene.entry.now ≡ false) (well : AreWell triggers)
-    (listed : AreIndexed index triggers (places_of [] triggers)) (spots : List Spot) (timers : List Timer) (stand : SpotsStand j triggers since spots timers) where
+    (listed : AreIndexed index triggers (places_of [] triggers)) (spots : List Spot) (timers : List Timer) (stand : SpotsStand j triggers since spots timers)
+    (late : since < scene.place) where
   abbrev x : Entry
   x = scene.entry.now
+
+  behind : nat_lt since (length j) ≡ true
+  behind = (let at = shows.at in lt-is since (length j) (omega (arith, late, at)))
 
   moved-at : (s : Spot) → KeepsAt j triggers since s → CalmAt j x triggers since s → MovedAt j x triggers since s
   moved-at s = by (slice_get triggers s.trigger) (well s.trigger)
@@ -228,7 +231,7 @@ module _ (scene : Scene) (j : Journal) (index : Index) (triggers : List Trigger)
       by : (o : Option Spot) → slice_get spots n ≡ o → MatchOption o (Unit {0}) (CalmAt j x triggers since)
       by None at = tt
       by (Some s) at =
-          spot-calm index [] j x n since triggers s (aside-apart scene index [] j n since shows aside)
+          spot-calm index [] j x n since triggers s (aside-apart scene index [] j n since shows aside behind)
           (subst (λ o. MatchOption o (Unit {0}) (HasAt index n triggers))
           (ap (λ l. slice_get l n) (sym stand.places) ∙ get-map place_of spots n ∙ ap (option_map place_of) at) (listed n))
 

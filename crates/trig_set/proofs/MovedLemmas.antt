@@ -48,10 +48,10 @@ use Rattle.ha_past.proofs.PastLemmas.{events-last, sight-more, sight-whole, zone
 use Rattle.ha_past.proofs.EntryLaws.{moves-at}
 
 module _ (j : Journal) (x : Entry) where
-  seen_now : (sight j (length j)).states ≡ states j
+  pub seen_now : (sight j (length j)).states ≡ states j
   seen_now = ap states (take_all (length j) j (omega arith))
 
-  seen_then : (sight (more j x) (suc (length j))).states ≡ states (more j x)
+  pub seen_then : (sight (more j x) (suc (length j))).states ≡ states (more j x)
   seen_then = ap states (through-last j x)
 
   -- LAW: where no segment opens, a trigger that was attached before moves where its rule holds by what is seen before and after

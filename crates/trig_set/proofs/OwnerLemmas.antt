@@ -1,5 +1,5 @@
 -- What the spots of an owner fire with is what its triggers fire with.
-use Rattle.std.proofs.Common.{◌≡◌, ℕ, suc, ◌+◌, List, [], ◌∷◌, ◌++◌, length, map, Bool, true, false, refl, sym, ap, subst, ◌∙◌, arith, append_assoc}
+use Rattle.std.proofs.Common.{◌≡◌, ℕ, suc, ◌+◌, List, [], ◌∷◌, ◌++◌, length, map, Bool, true, false, refl, sym, ap, subst, ◌∙◌, arith, append_assoc, append-nil}
 use Rattle.std.specs.Prelude.{Option, Some, None, MatchOption, filter_map, flat_map, nat_lt, slice_get, option_map, codes, ◌&&◌, if◌then◌else◌}
 use Rattle.std.specs.List.{cons_option, enumerate_from}
 use Rattle.std.specs.Option.{option_map_or}
@@ -35,10 +35,6 @@ pub consed : {X : Type 0} (o : Option X) (xs : List X) → cons_option o [] ++ x
 consed None xs = refl
 consed (Some x) xs = refl
 
-append-none : {X : Type 0} (xs : List X) → xs ++ [] ≡ xs
-append-none [] = refl
-append-none (x ∷ xs) = (λ i. x ∷ append-none xs i)
-
 module _ (j : Journal) (x : Entry) (o : Owner) (well : AreWell o.triggers) where
   abbrev firing_of : ℕ × Trigger → Option EntityId → Option Firing
   firing_of t e = firing_for (more j x) (length j) o t e
@@ -65,7 +61,7 @@ module _ (j : Journal) (x : Entry) (o : Owner) (well : AreWell o.triggers) where
     of-events : is_event t.rule ≡ true → flat_map firings_there (map (λ e. (k, e)) (entities_of t.rule)) ≡ firings_by (more j x) (length j) o (k, t)
     of-events event =
         (λ i. flat_map firings_there (map (λ e. (k, e)) (event-entities t.rule event i)))
-        ∙ append-none (firings_there (k, None))
+        ∙ append-nil (firings_there (k, None))
         ∙ (λ i. option_map_or (λ u. cons_option (firing_of (k, u) None) (timed_at k u)) (at i) [])
         ∙ (λ i. cons_option (firing_of (k, t) None) (timed-fires j x o k t event (event-holds t well-one event) i))
         ∙ sym (fires-for-each j x o k t event (event-holds t well-one event))

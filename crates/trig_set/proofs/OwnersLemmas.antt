@@ -1,6 +1,6 @@
 -- Owners gone through one after the other.
 use Rattle.std.proofs.lemmas.List.{take-append-le, take_all}
-use Rattle.std.proofs.Common.{take, drop, ◌≡◌, ℕ, zero, suc, ◌+◌, ◌≤◌, List, [], ◌∷◌, ◌++◌, length, map, false, refl, sym, ap, subst, ◌∙◌, arith, append_assoc}
+use Rattle.std.proofs.Common.{take, drop, ◌≡◌, ℕ, zero, suc, ◌+◌, ◌≤◌, List, [], ◌∷◌, ◌++◌, length, map, false, refl, sym, ap, subst, ◌∙◌, arith, append_assoc, append-nil}
 use Rattle.std.specs.Prelude.{Some, None, MatchOption, flat_map, slice_get, nat_eq}
 use Rattle.std.specs.Option.{option_map_or}
 use Rattle.std.proofs.lemmas.Bool.Decides.{nat_tests}
@@ -28,11 +28,7 @@ pub at-beyond : (P : Attached → Type 0) (xs : List Attached) (n : ℕ) → len
 at-beyond P xs n le = subst (λ o. MatchOption o (Unit {0}) P) (sym (get-beyond xs n le)) tt
 
 flat-snoc : {X Y : Type 0} (f : X → List Y) (xs : List X) (x : X) → flat_map f (xs ++ (x ∷ [])) ≡ flat_map f xs ++ f x
-flat-snoc f [] x = append-none (f x)
-  where
-    append-none : {Z : Type 0} (zs : List Z) → zs ++ [] ≡ zs
-    append-none [] = refl
-    append-none (z ∷ zs) = (λ i. z ∷ append-none zs i)
+flat-snoc f [] x = append-nil (f x)
 flat-snoc f (y ∷ ys) x = (λ i. f y ++ flat-snoc f ys x i) ∙ sym (append_assoc (f y) (flat_map f ys) (f x))
 
 pub flat-up : {Y : Type 0} (f : ℕ → List Y) (n : ℕ) → flat_map f (up_to (n + 1)) ≡ flat_map f (up_to n) ++ f n

@@ -12,7 +12,8 @@ use Rattle.ha_journal.specs.Moves.{sight}
 use Rattle.trig_set.specs.declared.owners.Attached.{Attached}
 use Rattle.trig_set.specs.Next.{has_earlier}
 use Rattle.trig_set.specs.Order.{owner_of}
-use Rattle.trig_set.specs.Stands.{AllOwners}
+use Rattle.trig_set.specs.Reads.{AreRead}
+use Rattle.trig_set.specs.Stands.{AllOwners, AtOwner, OwnerStands}
 
 -- the last entry of a journal that has others is no Boot and no Again
 each-last : (n : ℕ) (xs : List Entry) (x : Entry) → EachFrom (λ n x. ¬ BeginsSegment x) n (xs ++ (x ∷ [])) → BeginsSegment x → ⊥
@@ -49,6 +50,14 @@ each-owner owners Q f n = by (slice_get owners n) refl
     by : (o : Option Attached) → slice_get owners n ≡ o → MatchOption o (Unit {0}) Q
     by None e = tt
     by (Some a) e = f a n e
+
+-- of each owner it is kept what its templates read
+pub reads-of : (owners : List Attached) (j : Journal) → AllOwners owners (OwnerStands j) → (n : ℕ) → AtOwner owners n (λ a. AreRead a.triggers a.reads)
+reads-of owners j stand n = by (slice_get owners n) (stand n)
+  where
+    by : (o : Option Attached) → MatchOption o (Unit {0}) (OwnerStands j) → MatchOption o (Unit {0}) (λ a. AreRead a.triggers a.reads)
+    by None k = tt
+    by (Some a) k = k.reads
 
 pub now-seen : (k : Journal) → (sight k (length k)).now ≡ now k
 now-seen k = ap now (take_all (length k) k (omega arith))

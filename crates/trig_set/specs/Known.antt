@@ -6,17 +6,18 @@ use Rattle.ha_config.specs.declared.config.Trigger.{Trigger}
 use Rattle.ha_config.specs.declared.config.TriggerRule.{TriggerRule}
 use Rattle.ha_past.specs.Firings.{Owner}
 use Rattle.event_bus.specs.declared.index.Index.{Index}
-use Rattle.event_bus.specs.Subjects.{Subject, by_entity, by_entries, by_kinds, by_moments, knows}
+use Rattle.tpl_reads.specs.Reads.{entities_read}
+use Rattle.event_bus.specs.Subjects.{Subject, by_entity, by_kinds, by_moments, by_read, knows}
 use Rattle.trig_set.specs.Order.{ascend}
 
--- what concerns a trigger with this rule: its entities, its types of events, moments, or each entry
+-- what concerns a trigger with this rule: its entities, those that its template reads, its types of events, moments, or each entry
 abbrev pub heeds : TriggerRule → Subject → Bool
 heeds (TriggerRule.State entities attribute from to) s = list_any (λ e. by_entity (Some e) s) entities
 heeds (TriggerRule.Numeric entities attribute above below) s = list_any (λ e. by_entity (Some e) s) entities
 heeds (TriggerRule.Event kinds pairs) s = by_kinds kinds s
 heeds (TriggerRule.Time seconds) s = by_moments s
 heeds (TriggerRule.Pattern hours minutes seconds) s = by_moments s
-heeds (TriggerRule.Template t) s = by_entries s
+heeds (TriggerRule.Template t) s = by_read (entities_read t) s
 heeds TriggerRule.Start s = false
 
 -- one of the triggers is concerned by the subject

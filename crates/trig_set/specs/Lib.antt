@@ -9,6 +9,8 @@ pub mod Equality
 pub mod Shifts
 pub mod Order
 pub mod Known
+pub mod Noted
+pub mod Reads
 pub mod Listed
 pub mod Queued
 pub mod Concerned
@@ -16,3 +18,5 @@ pub mod Places
 pub mod Left
 pub mod Opening
 pub mod Timed
+pub mod Tabled
+pub mod Changes

@@ -12,8 +12,10 @@ use Rattle.trig_set.specs.declared.set.TrigSet.{TrigSet}
 use Rattle.ha_past.specs.Firings.{Owner, firings_of}
 use Rattle.trig_set.specs.Kept.{AreWell, SpotsStand}
 use Rattle.trig_set.specs.Known.{AreKnown}
+use Rattle.trig_set.specs.Noted.{AreNoted}
 use Rattle.trig_set.specs.Order.{owner_of}
 use Rattle.trig_set.specs.Queued.{HasDue}
+use Rattle.trig_set.specs.Reads.{AreRead}
 use Rattle.trig_set.specs.Table.{number_at}
 
 -- who has triggers attached
@@ -25,6 +27,7 @@ pub record OwnerStands (j : Journal) (a : Attached) : Type 0 where
   pub well : AreWell a.triggers
   pub spots : SpotsStand j a.triggers a.since a.spots.items a.timers
   pub listed : MatchOption a.listed (Unit {0}) (λ ts. ts ≡ a.triggers)
+  pub reads : AreRead a.triggers a.reads
 
 -- what holds of the owner at a place, and of all
 abbrev pub AtOwner : List Attached → ℕ → (Attached → Type 0) → Type 0
@@ -38,10 +41,11 @@ abbrev pub firings_at : Journal → Entry → List Attached → ℕ → List Fir
 firings_at j x owners n = option_map_or (λ a. firings_of (more j x) (length j) (owner_of a)) (slice_get owners n) []
 
 -- the set stands for a journal: for each owner its pending holds with their timers and the truth of its templates; the index of whom an
--- entry concerns; the queue of the owners by their earliest hold; the latest numbers, Now and the zone
+-- entry concerns, and who is recent; the queue of the owners by their earliest hold; the latest numbers, Now and the zone
 pub record StandsFor (s : TrigSet) (j : Journal) : Type 0 where
   pub owners : AllOwners s.owners (OwnerStands j)
   pub known : AreKnown s.index (attached s)
+  pub noted : AreNoted s.recent (length j) (attached s)
   pub queued : AllOwners s.owners (HasDue s.queue)
   pub at : s.now ≡ now j
   pub zone : HasEntry j → MatchOption s.zone ⊥ (λ z. z ≡ zone_of j)

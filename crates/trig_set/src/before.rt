@@ -1,5 +1,7 @@
 //! States before an entry. Those of one entity alone, as for most entries, take no list.
-ghost use Rattle.std.specs.Prelude.{◌≡◌, ◌∷◌, ◌++◌, [], IfOk, OnOk};
+ghost use Rattle.std.specs.Prelude.{◌≡◌, ◌<◌, ◌∷◌, ◌++◌, [], Option, IfOk, OnOk, length, slice_index_or};
+ghost use Rattle.ha_value.specs.declared.value.EntityId.{EntityId as Entity};
+ghost use Rattle.ha_sight.specs.declared.state.StateObject.{StateObject as State};
 ghost use Rattle.trig_set.specs.Next.{lists};
 
 use crate::scene::Shift;
@@ -80,6 +82,14 @@ fn is_among(several: &[(EntityId, Option<StateObject>)], entity: &EntityId) -> b
     several.iter().any(|listed| same_id(&listed.0, entity))
 }
 
+/// The entity at a place of these.
+fn entity_in(several: &[(EntityId, Option<StateObject>)], at: usize) -> &EntityId
+    requires { at < length several.now }
+    ensures { (d : Entity × Option State) → result.now ≡ (slice_index_or several.now at d).0 }
+{
+    &several[at].0
+}
+
 impl Before {
     /// No entities.
     pub fn make(alloc: Global) -> Before
@@ -116,6 +126,27 @@ impl Before {
         match &self.alone {
             Some(alone) => same_id(&alone.entity, entity),
             None => is_among(self.several.as_slice(), entity),
+        }
+    }
+
+    /// How many entities are listed.
+    pub fn len(&self) -> usize
+        ensures { result ≡ length self.now }
+    {
+        match &self.alone {
+            Some(_) => 1,
+            None => self.several.len(),
+        }
+    }
+
+    /// The entity that is listed at a place.
+    pub fn entity_at(&self, at: usize) -> &EntityId
+        requires { at < length self.now }
+        ensures { (d : Entity × Option State) → result.now ≡ (slice_index_or self.now at d).0 }
+    {
+        match &self.alone {
+            Some(alone) => &alone.entity,
+            None => entity_in(self.several.as_slice(), at),
         }
     }
 

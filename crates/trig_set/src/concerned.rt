@@ -11,10 +11,13 @@ ghost use Rattle.trig_set.specs.Queued.{IsLater};
 ghost use Rattle.trig_set.specs.Stands.{AtOwner};
 
 use crate::attached::is_moment;
+use crate::changes::Changes;
 use crate::event::kind_in;
+use crate::events::Events;
 use crate::moved::opens;
 use crate::owners::Attached;
 use crate::places::Places;
+use crate::recent::Recent;
 use crate::scene::Shift;
 use event_bus::Index;
 use ha_clock::Moment;
@@ -72,6 +75,21 @@ fn put_some(
     }
 }
 
+/// Puts in the places of those whom each entry concerns, and of those who are recent.
+fn put_entries(
+    index: &Index,
+    recent: &Recent,
+    owners: &[Attached],
+    places: &mut Places,
+) -> Result<(), AllocError>
+    ensures kept { OnOk result ((n : ℕ) → has places.new n ≡ false → has places.old n ≡ false) }
+    ensures entries { OnOk result (OfOthers owners.now places.new (λ m. knows index.now Subject.Entries m ≡ false)) }
+    ensures recent { OnOk result (OfOthers owners.now places.new (λ m. has recent.now.owners m ≡ false)) }
+{
+    put_places(owners, &index.entries, places)?;
+    put_places(owners, &recent.owners, places)
+}
+
 /// Puts in the places of those whom an event concerns.
 fn put_event(
     index: &Index,
@@ -88,8 +106,8 @@ fn put_event(
     }
 }
 
-/// Puts in the places of those whom an event of a helper concerns.
-fn put_timers(
+/// Puts in the places of those whom one of these events concerns.
+fn put_kinds(
     index: &Index,
     events: &[BusEvent],
     owners: &[Attached],
@@ -104,8 +122,21 @@ fn put_timers(
     Ok(())
 }
 
-/// Puts in the places of those whom a change of one of the entities concerns. `near` says where the index may have the only one.
-fn put_entities(
+/// Puts in the places of those whom an event of a helper concerns.
+fn put_timers(
+    index: &Index,
+    events: &Events<'_>,
+    owners: &[Attached],
+    places: &mut Places,
+) -> Result<(), AllocError>
+    ensures kept { OnOk result ((n : ℕ) → has places.new n ≡ false → has places.old n ≡ false) }
+    ensures aside { OnOk result (OfOthers owners.now places.new (λ m. (k : ℕ) → MatchOption (slice_get events.now k) (Unit {0}) (λ v. knows index.now (Subject.Event v.kind) m ≡ false))) }
+{
+    put_kinds(index, events.as_slice(), owners, places)
+}
+
+/// Puts in the places of those whom one of these changes concerns. `near` says where the index may have the only one.
+fn put_shifts(
     index: &Index,
     shifts: &[Shift],
     near: usize,
@@ -123,6 +154,20 @@ fn put_entities(
         )?;
     }
     Ok(())
+}
+
+/// Puts in the places of those whom a change of one of the entities concerns. `near` says where the index may have the only one.
+fn put_entities(
+    index: &Index,
+    shifts: &Changes<'_>,
+    near: usize,
+    owners: &[Attached],
+    places: &mut Places,
+) -> Result<(), AllocError>
+    ensures kept { OnOk result ((n : ℕ) → has places.new n ≡ false → has places.old n ≡ false) }
+    ensures aside { OnOk result (OfOthers owners.now places.new (λ m. (k : ℕ) → MatchOption (slice_get shifts.now k) (Unit {0}) (λ c. knows index.now (Subject.Entity c.entity) m ≡ false))) }
+{
+    put_shifts(index, shifts.as_slice(), near, owners, places)
 }
 
 /// Puts in the places of those who have a hold that is over. What the queue has for the others stays.
@@ -184,20 +229,22 @@ fn put_moment(
 fn some_places(
     alloc: Global,
     index: &Index,
+    recent: &Recent,
     entry: &Entry,
     to: Moment,
-    shifts: &[Shift],
-    events: &[BusEvent],
+    shifts: &Changes<'_>,
+    events: &Events<'_>,
     near: usize,
     owners: &[Attached],
     queue: &mut TimerQueue,
 ) -> Result<Places, AllocError>
     requires { opens_segment entry.now ≡ false }
     ensures aside { IfOk result (λ places. OfOthers owners.now places (IsAside index.now queue.old to shifts.now events.now entry.now)) }
+    ensures recent { IfOk result (λ places. OfOthers owners.now places (λ m. has recent.now.owners m ≡ false)) }
     ensures queue { IfOk result (λ places. OfOthers owners.now places (λ m. due_of m queue.new ≡ due_of m queue.old)) }
 {
     let mut places = Places::make(alloc);
-    put_places(owners, &index.entries, &mut places)?;
+    put_entries(index, recent, owners, &mut places)?;
     put_event(index, entry, owners, &mut places)?;
     put_timers(index, events, owners, &mut places)?;
     put_entities(index, shifts, near, owners, &mut places)?;
@@ -220,19 +267,23 @@ fn all_places(alloc: Global, owners: &[Attached]) -> Result<Places, AllocError>
 pub fn concerned(
     alloc: Global,
     index: &Index,
+    recent: &Recent,
     entry: &Entry,
     to: Moment,
-    shifts: &[Shift],
-    events: &[BusEvent],
+    shifts: &Changes<'_>,
+    events: &Events<'_>,
     near: usize,
     owners: &[Attached],
     queue: &mut TimerQueue,
 ) -> Result<Places, AllocError>
     ensures aside { IfOk result (λ places. OfOthers owners.now places (IsAside index.now queue.old to shifts.now events.now entry.now)) }
+    ensures recent { IfOk result (λ places. OfOthers owners.now places (λ m. has recent.now.owners m ≡ false)) }
     ensures queue { IfOk result (λ places. OfOthers owners.now places (λ m. due_of m queue.new ≡ due_of m queue.old)) }
 {
     if opens(entry) {
         return all_places(alloc, owners);
     }
-    some_places(alloc, index, entry, to, shifts, events, near, owners, queue)
+    some_places(
+        alloc, index, recent, entry, to, shifts, events, near, owners, queue,
+    )
 }

@@ -15,7 +15,9 @@ ghost use Rattle.trig_set.specs.Timed.{Unfired, firings_in};
 ghost use Rattle.trig_set.specs.Scenes.{Shows};
 
 use crate::attached::{collect_one, is_moment, note_spots, step_at, take_at};
+use crate::changes::Changes;
 use crate::event::kind_in;
+use crate::events::Events;
 use crate::moved::opens;
 use crate::places::Places;
 use crate::scene::{Scene, Shift};
@@ -181,8 +183,8 @@ fn put_named(index: &Index, entry: &Entry, places: &mut Places) -> Result<(), Al
     }
 }
 
-/// Puts in the places of the spots that an event of a helper concerns.
-fn put_timers(index: &Index, events: &[BusEvent], places: &mut Places) -> Result<(), AllocError>
+/// Puts in the places of the spots that one of these events concerns.
+fn put_kinds(index: &Index, events: &[BusEvent], places: &mut Places) -> Result<(), AllocError>
     ensures kept { OnOk result ((n : ℕ) → has places.new n ≡ false → has places.old n ≡ false) }
     ensures aside { OnOk result ((n : ℕ) → has places.new n ≡ false
         → (k : ℕ) → MatchOption (slice_get events.now k) (Unit {0}) (λ v. knows index.now (Subject.Event v.kind) n ≡ false)) }
@@ -193,8 +195,17 @@ fn put_timers(index: &Index, events: &[BusEvent], places: &mut Places) -> Result
     Ok(())
 }
 
-/// Puts in the places of the spots that a change of one of the entities concerns.
-fn put_shifted(index: &Index, shifts: &[Shift], places: &mut Places) -> Result<(), AllocError>
+/// Puts in the places of the spots that an event of a helper concerns.
+fn put_timers(index: &Index, events: &Events<'_>, places: &mut Places) -> Result<(), AllocError>
+    ensures kept { OnOk result ((n : ℕ) → has places.new n ≡ false → has places.old n ≡ false) }
+    ensures aside { OnOk result ((n : ℕ) → has places.new n ≡ false
+        → (k : ℕ) → MatchOption (slice_get events.now k) (Unit {0}) (λ v. knows index.now (Subject.Event v.kind) n ≡ false)) }
+{
+    put_kinds(index, events.as_slice(), places)
+}
+
+/// Puts in the places of the spots that one of these changes concerns.
+fn put_shifts(index: &Index, shifts: &[Shift], places: &mut Places) -> Result<(), AllocError>
     ensures kept { OnOk result ((n : ℕ) → has places.new n ≡ false → has places.old n ≡ false) }
     ensures aside { OnOk result ((n : ℕ) → has places.new n ≡ false
         → (k : ℕ) → MatchOption (slice_get shifts.now k) (Unit {0}) (λ c. knows index.now (Subject.Entity c.entity) n ≡ false)) }
@@ -203,6 +214,15 @@ fn put_shifted(index: &Index, shifts: &[Shift], places: &mut Places) -> Result<(
         put_any(index.of_entity(&shifts[at].entity), places)?;
     }
     Ok(())
+}
+
+/// Puts in the places of the spots that a change of one of the entities concerns.
+fn put_shifted(index: &Index, shifts: &Changes<'_>, places: &mut Places) -> Result<(), AllocError>
+    ensures kept { OnOk result ((n : ℕ) → has places.new n ≡ false → has places.old n ≡ false) }
+    ensures aside { OnOk result ((n : ℕ) → has places.new n ≡ false
+        → (k : ℕ) → MatchOption (slice_get shifts.now k) (Unit {0}) (λ c. knows index.now (Subject.Entity c.entity) n ≡ false)) }
+{
+    put_shifts(index, shifts.as_slice(), places)
 }
 
 /// Puts in the places of the spots that a moment concerns.
@@ -222,8 +242,8 @@ fn places_moved(
     alloc: Global,
     index: &Index,
     entry: &Entry,
-    shifts: &[Shift],
-    events: &[BusEvent],
+    shifts: &Changes<'_>,
+    events: &Events<'_>,
 ) -> Result<Places, AllocError>
     requires { opens_segment entry.now ≡ false }
     ensures { IfOk result (λ places. (n to : ℕ) → has places n ≡ false → IsAside index.now [] to shifts.now events.now entry.now n) }
@@ -393,6 +413,7 @@ fn note_some_spots<A: Answers>(
 ) -> Result<(), AllocError>
     requires in_time { scene.now.to ≤ last_moment }
     requires within { opens_segment scene.now.entry.now ≡ false }
+    requires late { since < scene.now.place }
     ensures stands { OnOk result ((j : Journal) → Shows scene.now j since → A.sight answers.now ≡ sight (more j scene.now.entry.now) (length (more j scene.now.entry.now))
         → AreWell triggers.now → AreIndexed index.now triggers.now (places_of [] triggers.now)
         → SpotsStand j triggers.now since spots.old timers.old → SpotsStand (more j scene.now.entry.now) triggers.now since spots.new timers.new) }
@@ -407,6 +428,17 @@ fn note_some_spots<A: Answers>(
     )?;
     ripen_noted_if(scene.entry, scene.to, spots, timers, &mut gone)?;
     collect_some(alloc, scene, owner, since, triggers, gone, spots, fired)
+}
+
+/// Whether an entry goes along all spots: where a segment opens with it, and where no entry behind the owner's place was noted yet.
+fn is_whole(scene: &Scene<'_>, since: u64) -> bool
+    ensures within { result ≡ false → opens_segment scene.now.entry.now ≡ false }
+    ensures late { result ≡ false → since < scene.now.place }
+{
+    if opens(scene.entry) {
+        return true;
+    }
+    scene.place <= since
 }
 
 /// What an entry makes of the spots of an owner that has many; what fires is appended.
@@ -430,7 +462,7 @@ pub fn note_listed<A: Answers>(
         → AreWell triggers.now → listed.now ≡ triggers.now → SpotsStand j triggers.now since spots.old timers.old
         → fired.new ≡ fired.old ++ firings_of (more j scene.now.entry.now) (length j) (record { owner = owner; triggers = triggers.now; since = since })) }
 {
-    if opens(scene.entry) {
+    if is_whole(scene, since) {
         return note_spots(
             alloc, scene, answers, owner, since, triggers, spots, timers, fired,
         );

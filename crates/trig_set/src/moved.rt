@@ -13,6 +13,7 @@ ghost use Rattle.trig_set.specs.Table.{number_among as number_among_lem, number_
 ghost use Rattle.ha_journal.specs.Holds.{watches};
 ghost use Rattle.trig_set.specs.Scenes.{Shows, shift_of as shift_of_lem};
 
+use crate::changes::Changes;
 use crate::equal::equal_flag;
 use crate::scene::{Scene, Shift};
 use ha_config::{Cmd, TriggerRule, same_id};
@@ -23,10 +24,10 @@ use trig_numeric::{in_bounds, number_in};
 use trig_state::state_stays;
 
 /// What the entry changes of an entity, if it is listed.
-pub fn shift_of<'a>(shifts: &'a [Shift], entity: &EntityId) -> Option<&'a Shift>
+pub fn shift_of<'a>(shifts: &'a Changes<'_>, entity: &EntityId) -> Option<&'a Shift>
     ensures { option_copied result ≡ shift_of_lem shifts.now entity.now }
 {
-    shifts.iter().find(|shift| same_id(&shift.entity, entity))
+    shifts.first_of(entity)
 }
 
 /// Whether what a state trigger watches of an entity stays.

@@ -8,6 +8,7 @@ ghost use Rattle.ha_journal.specs.Moves.{sight};
 ghost use Rattle.timer_queue.specs.Timers.{due_of};
 ghost use Rattle.ha_past.specs.Firings.{firings};
 ghost use Rattle.trig_set.specs.Known.{AreKnown};
+ghost use Rattle.trig_set.specs.Noted.{AreNoted};
 ghost use Rattle.trig_set.specs.Order.{ascend, owner_of};
 ghost use Rattle.trig_set.specs.Queued.{HasDue};
 ghost use Rattle.trig_set.specs.Scenes.{Shows};
@@ -17,6 +18,7 @@ use crate::attached::retime;
 use crate::concerned::concerned;
 use crate::owners::{Attached, note_at};
 use crate::places::Places;
+use crate::recent::Recent;
 use crate::scene::Scene;
 use event_bus::Index;
 use ha_journal::Firing;
@@ -107,15 +109,16 @@ fn note_list<A: Answers>(
     scene: &Scene<'_>,
     answers: &A,
     index: &Index,
+    recent: &Recent,
     owners: &mut [Attached],
     queue: &mut TimerQueue,
     fired: &mut Many<Firing>,
 ) -> Result<(), AllocError>
     requires { scene.now.to ≤ last_moment }
     ensures stands { OnOk result ((j : Journal) → AllOwners owners.old (λ a. Shows scene.now j a.since) → A.sight answers.now ≡ sight (more j scene.now.entry.now) (length (more j scene.now.entry.now))
-        → AllOwners owners.old (OwnerStands j) → AreKnown index.now (map owner_of owners.old) → AllOwners owners.old (HasDue queue.old) → AllOwners owners.new (OwnerStands (more j scene.now.entry.now))) }
+        → AllOwners owners.old (OwnerStands j) → AreKnown index.now (map owner_of owners.old) → AreNoted recent.now (length j) (map owner_of owners.old) → AllOwners owners.old (HasDue queue.old) → AllOwners owners.new (OwnerStands (more j scene.now.entry.now))) }
     ensures fired { OnOk result ((j : Journal) → AllOwners owners.old (λ a. Shows scene.now j a.since) → A.sight answers.now ≡ sight (more j scene.now.entry.now) (length (more j scene.now.entry.now))
-        → AllOwners owners.old (OwnerStands j) → AreKnown index.now (map owner_of owners.old) → AllOwners owners.old (HasDue queue.old)
+        → AllOwners owners.old (OwnerStands j) → AreKnown index.now (map owner_of owners.old) → AreNoted recent.now (length j) (map owner_of owners.old) → AllOwners owners.old (HasDue queue.old)
         → fired.new ≡ fired.old ++ flat_map (firings_at j scene.now.entry.now owners.old) (up_to (length owners.old))) }
     ensures queued { OnOk result (ascend (map owner_of owners.old) ≡ true → AllOwners owners.old (HasDue queue.old) → AllOwners owners.new (HasDue queue.new)) }
     ensures owners { map owner_of owners.new ≡ map owner_of owners.old }
@@ -123,6 +126,7 @@ fn note_list<A: Answers>(
     let places = concerned(
         alloc,
         index,
+        recent,
         scene.entry,
         scene.to,
         scene.shifts,
@@ -140,16 +144,17 @@ pub fn note_owners<A: Answers>(
     scene: &Scene<'_>,
     answers: &A,
     index: &Index,
+    recent: &Recent,
     owners: &mut Vec<Attached>,
     queue: &mut TimerQueue,
     fired: &mut Many<Firing>,
 ) -> Result<(), AllocError>
     requires { scene.now.to ≤ last_moment }
     ensures stands { OnOk result ((j : Journal) → AllOwners owners.old.items (λ a. Shows scene.now j a.since) → A.sight answers.now ≡ sight (more j scene.now.entry.now) (length (more j scene.now.entry.now))
-        → AllOwners owners.old.items (OwnerStands j) → AreKnown index.now (map owner_of owners.old.items) → AllOwners owners.old.items (HasDue queue.old)
+        → AllOwners owners.old.items (OwnerStands j) → AreKnown index.now (map owner_of owners.old.items) → AreNoted recent.now (length j) (map owner_of owners.old.items) → AllOwners owners.old.items (HasDue queue.old)
         → AllOwners owners.new.items (OwnerStands (more j scene.now.entry.now))) }
     ensures fired { OnOk result ((j : Journal) → AllOwners owners.old.items (λ a. Shows scene.now j a.since) → A.sight answers.now ≡ sight (more j scene.now.entry.now) (length (more j scene.now.entry.now))
-        → AllOwners owners.old.items (OwnerStands j) → AreKnown index.now (map owner_of owners.old.items) → AllOwners owners.old.items (HasDue queue.old)
+        → AllOwners owners.old.items (OwnerStands j) → AreKnown index.now (map owner_of owners.old.items) → AreNoted recent.now (length j) (map owner_of owners.old.items) → AllOwners owners.old.items (HasDue queue.old)
         → fired.new ≡ fired.old ++ firings (more j scene.now.entry.now) (length j) (map owner_of owners.old.items)) }
     ensures queued { OnOk result (ascend (map owner_of owners.old.items) ≡ true → AllOwners owners.old.items (HasDue queue.old) → AllOwners owners.new.items (HasDue queue.new)) }
     ensures owners { map owner_of owners.new.items ≡ map owner_of owners.old.items }
@@ -159,6 +164,7 @@ pub fn note_owners<A: Answers>(
         scene,
         answers,
         index,
+        recent,
         owners.as_mut_slice(),
         queue,
         fired,

@@ -1,5 +1,5 @@
 //! The owners, in the order of their numbers.
-ghost use Rattle.std.specs.Prelude.{◌≡◌, ◌≤◌, ◌++◌, ℕ, [], ◌∷◌, IsNone, List, OnErr, OnOk, length, map, true};
+ghost use Rattle.std.specs.Prelude.{◌≡◌, ◌≤◌, ◌++◌, ℕ, [], ◌∷◌, IfErr, IsNone, List, OnErr, OnOk, length, map, true};
 ghost use Rattle.ha_clock.specs.Local.{last_moment};
 ghost use Rattle.ha_journal.specs.declared.entry.Entry.{Entry};
 ghost use Rattle.ha_journal.specs.Entries.{IsBoot};
@@ -9,7 +9,9 @@ ghost use Rattle.ha_past.specs.Firings.{firings, owner_named, placed, without_ow
 ghost use Rattle.timer_queue.specs.Timers.{Timer, removed};
 ghost use Rattle.trig_set.specs.Known.{AreKnown};
 ghost use Rattle.trig_set.specs.Order.{ascend, owner_of};
+ghost use Rattle.trig_set.specs.Noted.{AreNoted};
 ghost use Rattle.trig_set.specs.Queued.{HasDue};
+ghost use Rattle.trig_set.specs.Reads.{AreRead};
 ghost use Rattle.trig_set.specs.Scenes.{Shows};
 ghost use Rattle.trig_set.specs.Stands.{AllOwners, OwnerStands};
 
@@ -17,12 +19,13 @@ use crate::concerned::place_of;
 use crate::noted::note_owners;
 use crate::opening::open_owners;
 use crate::owners::{Attached, unlist_owner};
+use crate::recent::Recent;
 use crate::scene::Scene;
 use event_bus::Index;
 use ha_journal::Firing;
 use ha_sight::Answers;
 use ha_value::Many;
-use std::alloc::{AllocError, Global};
+use std::alloc::{AllocError, AllocFailed, Global};
 use std::marker::Model;
 use timer_queue::TimerQueue;
 
@@ -61,13 +64,14 @@ impl Owners {
         }
     }
 
-    /// Puts an owner in at its place. After an error the owners are as before.
-    pub fn put_in(&mut self, attached: Attached) -> Result<(), AllocError>
+    /// Puts an owner in at its place. After an error, which hands it back, the owners are as before.
+    pub fn put_in(&mut self, attached: Attached) -> Result<(), AllocFailed<Attached>>
         requires { IsNone (owner_named attached.owner (map owner_of self.old)) }
         ensures ok { OnOk result (map owner_of self.new ≡ placed (owner_of attached) (map owner_of self.old)) }
         ensures stands { OnOk result ((j : Journal) → AllOwners self.old (OwnerStands j) → OwnerStands j attached → AllOwners self.new (OwnerStands j)) }
         ensures queued { OnOk result ((queue : List Timer) → AllOwners self.old (HasDue queue) → HasDue queue attached → AllOwners self.new (HasDue queue)) }
         ensures err { OnErr result (self.new ≡ self.old) }
+        ensures back { IfErr result (λ failed. failed.value ≡ attached) }
     {
         insert(&mut self.list, attached)
     }
@@ -83,7 +87,7 @@ impl Owners {
 
     /// An owner, if it is there, is listed in an index no more; the others are as before.
     pub fn unlist(&self, index: &mut Index, owner: u64)
-        ensures { AreKnown index.old (map owner_of self.now) → AreKnown index.new (without_owner owner (map owner_of self.now)) }
+        ensures { AllOwners self.now (λ a. AreRead a.triggers a.reads) → AreKnown index.old (map owner_of self.now) → AreKnown index.new (without_owner owner (map owner_of self.now)) }
     {
         unlist_owner(index, self.list.as_slice(), owner);
     }
@@ -95,20 +99,30 @@ impl Owners {
         scene: &Scene<'_>,
         answers: &A,
         index: &Index,
+        recent: &Recent,
         queue: &mut TimerQueue,
         fired: &mut Many<Firing>,
     ) -> Result<(), AllocError>
         requires { scene.now.to ≤ last_moment }
         ensures stands { OnOk result ((j : Journal) → AllOwners self.old (λ a. Shows scene.now j a.since) → A.sight answers.now ≡ sight (more j scene.now.entry.now) (length (more j scene.now.entry.now))
-            → AllOwners self.old (OwnerStands j) → AreKnown index.now (map owner_of self.old) → AllOwners self.old (HasDue queue.old)
+            → AllOwners self.old (OwnerStands j) → AreKnown index.now (map owner_of self.old) → AreNoted recent.now (length j) (map owner_of self.old) → AllOwners self.old (HasDue queue.old)
             → AllOwners self.new (OwnerStands (more j scene.now.entry.now))) }
         ensures fired { OnOk result ((j : Journal) → AllOwners self.old (λ a. Shows scene.now j a.since) → A.sight answers.now ≡ sight (more j scene.now.entry.now) (length (more j scene.now.entry.now))
-            → AllOwners self.old (OwnerStands j) → AreKnown index.now (map owner_of self.old) → AllOwners self.old (HasDue queue.old)
+            → AllOwners self.old (OwnerStands j) → AreKnown index.now (map owner_of self.old) → AreNoted recent.now (length j) (map owner_of self.old) → AllOwners self.old (HasDue queue.old)
             → fired.new ≡ fired.old ++ firings (more j scene.now.entry.now) (length j) (map owner_of self.old)) }
         ensures queued { OnOk result (ascend (map owner_of self.old) ≡ true → AllOwners self.old (HasDue queue.old) → AllOwners self.new (HasDue queue.new)) }
         ensures owners { map owner_of self.new ≡ map owner_of self.old }
     {
-        note_owners(alloc, scene, answers, index, &mut self.list, queue, fired)
+        note_owners(
+            alloc,
+            scene,
+            answers,
+            index,
+            recent,
+            &mut self.list,
+            queue,
+            fired,
+        )
     }
 
     /// What an opening makes of all owners; what fires is appended.
@@ -134,19 +148,22 @@ impl Owners {
     }
 }
 
-/// Puts an owner in at its place. After an error the owners are as before.
-fn insert(owners: &mut Vec<Attached>, attached: Attached) -> Result<(), AllocError>
+/// Puts an owner in at its place. After an error, which hands it back, the owners are as before.
+fn insert(owners: &mut Vec<Attached>, attached: Attached) -> Result<(), AllocFailed<Attached>>
     requires order { ascend (map owner_of owners.old.items) ≡ true }
     requires fresh { IsNone (owner_named attached.owner (map owner_of owners.old.items)) }
     ensures ok { OnOk result (map owner_of owners.new.items ≡ placed (owner_of attached) (map owner_of owners.old.items)) }
     ensures stands { OnOk result ((j : Journal) → AllOwners owners.old.items (OwnerStands j) → OwnerStands j attached → AllOwners owners.new.items (OwnerStands j)) }
     ensures queued { OnOk result ((queue : List Timer) → AllOwners owners.old.items (HasDue queue) → HasDue queue attached → AllOwners owners.new.items (HasDue queue)) }
     ensures err { OnErr result (owners.new.items ≡ owners.old.items) }
+    ensures back { IfErr result (λ failed. failed.value ≡ attached) }
     ensures order { ascend (map owner_of owners.new.items) ≡ true }
 {
     let place = place_of(owners.as_slice(), attached.owner);
-    owners.insert(place, attached)?;
-    Ok(())
+    match owners.insert(place, attached) {
+        Ok(()) => Ok(()),
+        Err(failed) => Err(failed),
+    }
 }
 
 /// Takes an owner out, if it is there.

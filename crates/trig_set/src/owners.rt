@@ -1,15 +1,17 @@
 //! One owner of triggers, with what is kept for it.
-ghost use Rattle.std.specs.Prelude.{◌≡◌, ◌≤◌, ◌<◌, ◌++◌, ℕ, List, IfOk, IsTrue, OnOk, length, map, false, nat_eq, slice_get};
+ghost use Rattle.std.specs.Prelude.{◌≡◌, ◌≤◌, ◌<◌, ◌++◌, ◌&&◌, ℕ, List, IfOk, IsTrue, OnOk, length, map, false, nat_eq, not, slice_get};
 ghost use Rattle.ha_clock.specs.Local.{last_moment};
 ghost use Rattle.ha_journal.specs.Journal.{Journal, more};
 ghost use Rattle.ha_config.specs.Sound.{are_sound_triggers};
 ghost use Rattle.ha_journal.specs.Moves.{sight};
 ghost use Rattle.timer_queue.specs.Timers.{Timer};
 ghost use Rattle.ha_past.specs.Firings.{firings_of, without_owner};
-ghost use Rattle.trig_set.specs.Known.{AreKnown};
+ghost use Rattle.event_bus.specs.Subjects.{Subject, knows};
+ghost use Rattle.trig_set.specs.Known.{AreKnown, heed};
 ghost use Rattle.trig_set.specs.Queued.{HasDue};
 ghost use Rattle.trig_set.specs.Order.{owner_of};
-ghost use Rattle.trig_set.specs.Stands.{AtOwner, OwnerStands, firings_at};
+ghost use Rattle.trig_set.specs.Reads.{AreRead};
+ghost use Rattle.trig_set.specs.Stands.{AllOwners, AtOwner, OwnerStands, firings_at};
 ghost use Rattle.trig_set.specs.Scenes.{Shows};
 
 use crate::attached::note_spots;
@@ -17,13 +19,14 @@ use crate::blank::add_triggers;
 use crate::concerned::place_of;
 use crate::listed::unlist;
 use crate::many_spots::{Listed, list_many, note_listed};
+use crate::reads::reads_of;
 use crate::scene::Scene;
 use crate::spot::Spot;
 use event_bus::Index;
 use ha_config::Trigger;
 use ha_journal::Firing;
 use ha_sight::Answers;
-use ha_value::{Many, Plain};
+use ha_value::{EntityId, Many, Plain};
 use std::alloc::{AllocError, Global};
 use timer_queue::TimerQueue;
 
@@ -39,6 +42,8 @@ pub struct Attached {
     pub timers: TimerQueue,
     /// Where a trigger has many entities: the places of the spots, by what concerns them.
     pub listed: Option<Listed>,
+    /// Of each trigger the entities that its template reads, where it has one and they are known: to be detached takes no memory.
+    pub reads: Many<Option<Many<EntityId>>>,
 }
 
 /// What the entry makes of an owner; what fires is appended.
@@ -104,6 +109,14 @@ pub fn note_at<A: Answers>(
     note_one(alloc, scene, answers, &mut owners[place], fired)
 }
 
+/// An owner is listed no more, under this number, for the triggers that are kept.
+pub fn unlist_attached(index: &mut Index, attached: &Attached, owner: u64)
+    ensures own { AreRead attached.now.triggers attached.now.reads → (s : Subject) → knows index.new s owner ≡ (not (heed attached.now.triggers s) && knows index.old s owner) }
+    ensures others { (s : Subject) (n : ℕ) → nat_eq owner n ≡ false → knows index.new s n ≡ knows index.old s n }
+{
+    unlist(index, attached.triggers.as_slice(), &attached.reads, owner);
+}
+
 /// What is kept for triggers that are attached: nothing is pending.
 pub fn fresh(
     alloc: Global,
@@ -115,10 +128,12 @@ pub fn fresh(
     ensures owner { IfOk result (λ a. owner_of a ≡ record { owner = owner; triggers = triggers.now; since = since }) }
     ensures stands { IfOk result (λ a. (j : Journal) → length j ≤ since → OwnerStands j a) }
     ensures due { IfOk result (λ a. (queue : List Timer) → HasDue queue a) }
+    ensures reads { IfOk result (λ a. AreRead a.triggers a.reads) }
 {
     let mut spots = Vec::new(alloc);
     add_triggers(alloc, triggers.as_slice(), &mut spots)?;
     let listed = list_many(alloc, triggers, spots.as_slice())?;
+    let reads = reads_of(alloc, triggers)?;
     Ok(Attached {
         owner,
         since,
@@ -126,15 +141,16 @@ pub fn fresh(
         spots,
         timers: TimerQueue::make(alloc),
         listed,
+        reads,
     })
 }
 
 /// An owner, if it is there, is listed in an index no more; the others are as before.
 pub fn unlist_owner(index: &mut Index, owners: &[Attached], owner: u64)
-    ensures { AreKnown index.old (map owner_of owners.now) → AreKnown index.new (without_owner owner (map owner_of owners.now)) }
+    ensures { AllOwners owners.now (λ a. AreRead a.triggers a.reads) → AreKnown index.old (map owner_of owners.now) → AreKnown index.new (without_owner owner (map owner_of owners.now)) }
 {
     let place = place_of(owners, owner);
     if place < owners.len() && owners[place].owner == owner {
-        unlist(index, owners[place].triggers.as_slice(), owner);
+        unlist_attached(index, &owners[place], owner);
     }
 }

@@ -12,17 +12,20 @@ ghost use Rattle.ha_sight.specs.Sight.{Sight};
 ghost use Rattle.ha_config.specs.Sound.{are_sound_triggers};
 ghost use Rattle.ha_past.specs.Firings.{Owner, owner_named, placed, without_owner, firings};
 ghost use Rattle.trig_set.specs.Known.{IsFree};
-ghost use Rattle.trig_set.specs.Left.{Leaves};
+ghost use Rattle.trig_set.specs.Left.{Leaves, NobodyRecent};
 ghost use Rattle.trig_set.specs.Next.{IsNext};
 ghost use Rattle.trig_set.specs.Opening.{Opens};
 ghost use Rattle.trig_set.specs.Stands.{attached, StandsFor};
 
 use crate::before::Before;
+use crate::changes::Changes;
+use crate::events::Events;
 use crate::left::asked;
-use crate::listed::{list, unlist};
+use crate::listed::list;
 use crate::numbers::Numbers;
 use crate::ordered::Owners;
-use crate::owners::fresh;
+use crate::owners::{fresh, unlist_attached};
+use crate::recent::Recent;
 use crate::scene::Scene;
 use crate::shifts::shifts_of;
 use event_bus::Index;
@@ -41,6 +44,8 @@ pub struct TrigSet {
     owners: Owners,
     /// Which owners each entity and each type of events concerns.
     index: Index,
+    /// Those that no entry was noted with.
+    recent: Recent,
     /// The earliest due of the holds of each owner that has some, under its number.
     queue: TimerQueue,
     /// Now.
@@ -59,6 +64,7 @@ impl TrigSet {
         TrigSet {
             owners: Owners::make(alloc),
             index: Index::make(alloc),
+            recent: Recent::make(alloc),
             queue: TimerQueue::make(alloc),
             now: Moment::at(0),
             zone: None,
@@ -85,12 +91,13 @@ impl TrigSet {
     {
         let attached = fresh(alloc, owner, triggers, place)?;
         let slice = triggers.as_slice();
-        list(alloc, &mut self.index, slice, owner)?;
+        self.recent.put(owner, place)?;
+        list(alloc, &mut self.index, slice, &attached.reads, owner)?;
         match self.owners.put_in(attached) {
             Ok(()) => Ok(()),
-            Err(fault) => {
-                unlist(&mut self.index, slice, owner);
-                Err(fault)
+            Err(failed) => {
+                unlist_attached(&mut self.index, &failed.value, owner);
+                Err(AllocError)
             }
         }
     }
@@ -112,6 +119,7 @@ impl TrigSet {
     {
         self.owners.clear();
         self.index.clear();
+        self.recent.clear();
         self.queue.clear();
     }
 
@@ -159,17 +167,18 @@ impl TrigSet {
         self.set_zone(alloc, zone)?;
         let mut fired = Many::make(alloc);
         self.owners.open_all(alloc, answers, &mut fired)?;
+        self.recent.note(0);
         self.now = answers.now();
         Ok(fired)
     }
 
-    /// None where the entity concerns nobody: no trigger is on it, and no trigger asks a template at each entry. Else a place for
-    /// `Before::look_at`, at which `note` finds at once whom the entity concerns.
+    /// None where the entity concerns nobody: no trigger is on it, no template reads it, no trigger asks a template at each entry, and
+    /// nobody was attached since the last entry. Else a place for `Before::look_at`, at which `note` finds at once whom the entity concerns.
     pub fn asked(&self, entity: &EntityId) -> Option<usize>
         ensures left { IsNone result ↔ Leaves self.entry.now entity.now }
-        ensures free { (j : Journal) → StandsFor self.entry.now j → IsNone result ↔ IsFree (attached self.entry.now) entity.now }
+        ensures free { (j : Journal) → StandsFor self.entry.now j → NobodyRecent self.entry.now → IsNone result ↔ IsFree (attached self.entry.now) entity.now }
     {
-        asked(&self.index, entity)
+        asked(&self.index, &self.recent, entity)
     }
 
     /// Notes the next entry, a report of an entity that concerns nobody, after which Now is `to`: nothing fires. It needs no states. After
@@ -219,15 +228,17 @@ impl TrigSet {
     {
         self.open(alloc, entry)?;
         let near = before.near();
-        let given = events.as_slice();
-        let shifts = shifts_of(alloc, entry, before, given, answers)?;
+        let listed = events.as_slice();
+        let given = Events::make(alloc, listed)?;
+        let shifts = shifts_of(alloc, entry, before, &given, answers)?;
+        let changes = Changes::make(alloc, shifts.as_slice())?;
         let to = answers.now();
         let mut fired = Many::make(alloc);
         let scene = Scene {
             place,
             entry,
-            shifts: shifts.as_slice(),
-            events: given,
+            shifts: &changes,
+            events: &given,
             near,
             zone: self.zone.as_ref(),
             numbers: &self.numbers,
@@ -239,10 +250,12 @@ impl TrigSet {
             &scene,
             answers,
             &self.index,
+            &self.recent,
             &mut self.queue,
             &mut fired,
         )?;
         self.numbers.note(alloc, entry)?;
+        self.recent.note(place);
         self.now = to;
         Ok(fired)
     }

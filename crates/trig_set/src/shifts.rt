@@ -1,10 +1,8 @@
 //! What an entry changes of each entity.
 ghost use Rattle.std.specs.Prelude.{◌≡◌, ◌∷◌, ◌++◌, [], ℕ, None, Some, Bool, IfOk, OnOk, codes, find, length, option_map, option_and_then, if◌then◌else◌};
-ghost use Rattle.std.specs.List.{list_any};
 ghost use Rattle.std.specs.Option.{option_copied};
 ghost use Rattle.ha_sight.specs.Calls.{automation_at};
 ghost use Rattle.ha_journal.specs.Entries.{change_of, report_in as report_in_lem};
-ghost use Rattle.ha_journal.specs.Helpers.{is_of};
 ghost use Rattle.ha_journal.specs.Journal.{Journal};
 ghost use Rattle.ha_sight.specs.Sight.{switch_seen};
 ghost use Rattle.ha_config.specs.Words.{Text, Pairs, same_entity};
@@ -14,10 +12,11 @@ ghost use Rattle.trig_set.specs.Shifts.{AreMade, IsMade, IsTold, face_after, fac
 
 use crate::attached::is_moment;
 use crate::before::Before;
+use crate::events::Events;
 use crate::scene::{Shift, Shifts};
 use ha_clock::Moment;
 use ha_config::{Cmd, same_id};
-use ha_journal::{BusEvent, Entry};
+use ha_journal::Entry;
 use ha_sight::{Answers, HelperChange, Item, StateObject};
 use ha_value::{EntityId, Many, Plain, Value, Word, copy_pairs};
 use std::alloc::{AllocError, Global};
@@ -110,27 +109,11 @@ fn change_among<'a>(changes: &'a [HelperChange], entity: &EntityId) -> Option<&'
         .find(|change| same_id(&change.entity, entity))
 }
 
-/// Whether the event is of this entity.
-fn is_of(event: &BusEvent, entity: &EntityId) -> bool
-    ensures { result ≡ is_of (Some entity.now) event.now }
-{
-    match &event.entity {
-        Some(own) => same_id(entity, own),
-        None => false,
-    }
-}
-
-fn is_of_any(events: &[BusEvent], entity: &EntityId) -> bool
-    ensures { result ≡ list_any (is_of (Some entity.now)) events.now }
-{
-    events.iter().any(|event| is_of(event, entity))
-}
-
 /// Whether the timer finishes with the entry, which gives these events of helpers.
-fn finishes_in(events: &[BusEvent], entry: &Entry, entity: &EntityId) -> bool
+fn finishes_in(events: &Events<'_>, entry: &Entry, entity: &EntityId) -> bool
     ensures { result ≡ finishes_in events.now entry.now entity.now }
 {
-    is_moment(entry) && is_of_any(events, entity)
+    is_moment(entry) && events.has(entity)
 }
 
 /// A state with this text and no attributes.
@@ -162,7 +145,7 @@ fn removes(entry: &Entry, entity: &EntityId) -> bool
 fn next_state(
     alloc: Global,
     entry: &Entry,
-    events: &[BusEvent],
+    events: &Events<'_>,
     entity: &EntityId,
     old: &Option<StateObject>,
     now: Moment,
@@ -182,7 +165,7 @@ fn next_state(
 fn unreported_state(
     alloc: Global,
     entry: &Entry,
-    events: &[BusEvent],
+    events: &Events<'_>,
     entity: &EntityId,
     old: &Option<StateObject>,
     now: Moment,
@@ -203,7 +186,7 @@ fn unreported_state(
 fn new_state<A: Answers>(
     alloc: Global,
     entry: &Entry,
-    events: &[BusEvent],
+    events: &Events<'_>,
     entity: &EntityId,
     old: &Option<StateObject>,
     answers: &A,
@@ -222,7 +205,7 @@ fn new_state<A: Answers>(
 fn shift<A: Answers>(
     alloc: Global,
     entry: &Entry,
-    events: &[BusEvent],
+    events: &Events<'_>,
     listed: &(EntityId, Option<StateObject>),
     answers: &A,
 ) -> Result<Shift, AllocError>
@@ -241,7 +224,7 @@ fn shift<A: Answers>(
 fn shift_alone<A: Answers>(
     alloc: Global,
     entry: &Entry,
-    events: &[BusEvent],
+    events: &Events<'_>,
     alone: &mut Shift,
     answers: &A,
 ) -> Result<(), AllocError>
@@ -257,7 +240,7 @@ fn shift_alone<A: Answers>(
 fn push_shift<A: Answers>(
     alloc: Global,
     entry: &Entry,
-    events: &[BusEvent],
+    events: &Events<'_>,
     listed: &(EntityId, Option<StateObject>),
     answers: &A,
     shifts: &mut Many<Shift>,
@@ -272,7 +255,7 @@ fn push_shift<A: Answers>(
 fn shifts_of_several<A: Answers>(
     alloc: Global,
     entry: &Entry,
-    events: &[BusEvent],
+    events: &Events<'_>,
     before: &Many<(EntityId, Option<StateObject>)>,
     answers: &A,
 ) -> Result<Many<Shift>, AllocError>
@@ -293,7 +276,7 @@ pub fn shifts_of<A: Answers>(
     alloc: Global,
     entry: &Entry,
     before: Before,
-    events: &[BusEvent],
+    events: &Events<'_>,
     answers: &A,
 ) -> Result<Shifts, AllocError>
     ensures { IfOk result (λ shifts. (j : Journal) → IsTold j entry.now before events.now (A.sight answers.now) → AreShifts (shifts_in shifts) j entry.now) }

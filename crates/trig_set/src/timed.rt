@@ -2,13 +2,14 @@
 ghost use Rattle.std.specs.Prelude.{◌≡◌, ◌&&◌, ◌++◌, ◌∷◌, [], Some, None, IfOk, OnOk, codes, filter_map, map, nat_lt, option_map, slice_get, take, if◌then◌else◌};
 ghost use Rattle.std.specs.List.{cons_option};
 ghost use Rattle.std.specs.Option.{option_copied, option_map_or};
-ghost use Rattle.ha_journal.specs.Helpers.{event_for, is_of};
+ghost use Rattle.ha_journal.specs.Helpers.{event_for};
 ghost use Rattle.ha_sight.specs.Rules.{is_event};
 ghost use Rattle.trig_set.specs.Timed as timed;
 
 use crate::event::is_named;
+use crate::events::Events;
 use crate::scene::Scene;
-use ha_config::{Trigger, TriggerRule, same_id};
+use ha_config::{Trigger, TriggerRule};
 use ha_journal::{BusEvent, Firing};
 use ha_sight::{Env, TriggerData};
 use ha_value::{EntityId, Many, Plain};
@@ -49,29 +50,28 @@ fn given_with(
     }
 }
 
-/// Whether the event is of this entity, or of nobody.
-fn is_for(entity: Option<&EntityId>, event: &BusEvent) -> bool
-    ensures { result ≡ is_of (option_copied entity.entry) event.now }
+/// The first of these events that is of nobody. Those of helpers are none.
+fn of_nobody(events: &[BusEvent]) -> Option<&BusEvent>
+    ensures { option_copied result ≡ event_for None events.now }
 {
-    match (entity, &event.entity) {
-        (Some(one), Some(other)) => same_id(one, other),
-        (None, None) => true,
-        _ => false,
-    }
+    events.iter().find(|event| event.entity.is_none())
 }
 
-/// The first of these events that is of the entity.
-fn event_for<'a>(events: &'a [BusEvent], entity: Option<&EntityId>) -> Option<&'a BusEvent>
+/// The first of these events that is of the entity, or of nobody.
+fn event_for<'a>(events: &'a Events<'_>, entity: Option<&EntityId>) -> Option<&'a BusEvent>
     ensures { option_copied result ≡ event_for (option_copied entity.entry) events.now }
 {
-    events.iter().find(|event| is_for(entity, event))
+    match entity {
+        Some(entity) => events.first_of(entity),
+        None => of_nobody(events.as_slice()),
+    }
 }
 
 /// What an event trigger gives with the first of these events that is of the entity, if it names it.
 pub fn given_for(
     alloc: Global,
     trigger: &Trigger,
-    events: &[BusEvent],
+    events: &Events<'_>,
     entity: Option<&EntityId>,
 ) -> Result<Option<TriggerData>, AllocError>
     ensures { IfOk result (λ v. v ≡ timed.given_for trigger.now events.now (option_copied entity.entry)) }
@@ -125,7 +125,7 @@ fn push_for(
     owner: u64,
     index: u32,
     trigger: &Trigger,
-    events: &[BusEvent],
+    events: &Events<'_>,
     entity: &Option<EntityId>,
     fired: &mut Many<Firing>,
 ) -> Result<(), AllocError>
@@ -141,19 +141,20 @@ fn push_each(
     owner: u64,
     index: u32,
     trigger: &Trigger,
-    events: &[BusEvent],
+    events: &Events<'_>,
     fired: &mut Many<Firing>,
 ) -> Result<(), AllocError>
     ensures { OnOk result (fired.new ≡ fired.old ++ timed.timed_by owner index trigger.now events.now) }
 {
-    for at in 0..events.len() {
+    let list = events.as_slice();
+    for at in 0..list.len() {
         push_for(
             alloc,
             owner,
             index,
             trigger,
             events,
-            &events[at].entity,
+            &list[at].entity,
             fired,
         )?;
     }

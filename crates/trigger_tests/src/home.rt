@@ -370,3 +370,40 @@ pub fn goes_at_eight(
 {
     goes(alloc, "UTC", EIGHT, triggers, &[], rows)
 }
+
+/// Whether exactly the wanted triggers, which are attached at a place, fire at each of these entries, from eight in the evening on.
+pub fn goes_from(
+    alloc: Global,
+    triggers: &Many<Trigger>,
+    place: u64,
+    rows: &[Expected<'_>],
+) -> Result<bool, AllocError>
+    requires { IsTrue (are_sound_triggers triggers.now) }
+{
+    let mut set = TrigSet::make(alloc);
+    set.attach(alloc, 0, triggers, place)?;
+    let mut home = Home::make(alloc, "UTC", EIGHT, set)?;
+    if !home.starts(alloc, &[])? {
+        return Ok(false);
+    }
+    home.goes_on(alloc, rows)
+}
+
+/// Whether exactly the wanted triggers fire at each of these entries, and at the later ones, before which they are attached again.
+pub fn goes_again(
+    alloc: Global,
+    triggers: &Many<Trigger>,
+    rows: &[Expected<'_>],
+    later: &[Expected<'_>],
+) -> Result<bool, AllocError>
+    requires { IsTrue (are_sound_triggers triggers.now) }
+{
+    let mut home = home_with(alloc, "UTC", EIGHT, triggers)?;
+    if !home.starts(alloc, &[])? || !home.goes_on(alloc, rows)? {
+        return Ok(false);
+    }
+    home.set.clear();
+    let place = home.place;
+    home.set.attach(alloc, 0, triggers, place)?;
+    home.goes_on(alloc, later)
+}

@@ -8,6 +8,10 @@ mod home;
 #[cfg(test)]
 mod many;
 #[cfg(test)]
+mod next_times;
+#[cfg(test)]
+mod reads;
+#[cfg(test)]
 mod rules;
 #[cfg(test)]
 mod templates;

@@ -6,7 +6,7 @@ use Rattle.std.specs.List.Sorted.{IsNonDecreasingBy, IsPartitionPoint}
 use Rattle.std.specs.BTreeMap.{is_at}
 use Rattle.std.specs.BTreeSet.{BTreeSet, IsLowerBound, Updates}
 use Rattle.std.specs.Ordering.{is_gt}
-use Rattle.std.proofs.lemmas.Bool.{cases_lt}
+use Rattle.std.proofs.lemmas.Bool.{cases_lt, eqb-true}
 use Rattle.std.proofs.lemmas.Bool.Decides.{eqb_tells, nat_tests}
 use Rattle.ha_journal.specs.declared.firing.Firing.{Firing}
 use Rattle.wait_set.specs.declared.asked.Asked.{Asked}
@@ -19,6 +19,11 @@ rising asks asc i j d le lt = elim (eqb_tells i j) [
   | inl same ↦ subst (λ (k : ℕ). (get_or asks i d).owner ≤ (get_or asks k d).owner) same.1 (omega arith)
   | inr other ↦ (let apart = other.1 in let up = asc i j d (omega (arith, le, apart)) lt in omega (arith, up))
 ]
+
+-- LEMMA: those before the place have lesser owners
+pub lesser-before : (asks : List Asked) (o i n : ℕ) (d : Asked) → IsPartitionPoint (λ (y : Asked). ltb y.owner o ≡ true) (λ (y : Asked). ltb y.owner o ≡ false) asks i
+    → n < i → (get_or asks n d).owner < o
+lesser-before asks o i n d point before = ltb-true _ _ (point.0 n d (omega arith) before)
 
 -- LEMMA: among waits that ascend, one of an owner stands behind those of lesser owners
 pub found-place : (asks : List Asked) (o i n : ℕ) (d : Asked) → Ascend asks → IsPartitionPoint (λ (y : Asked). ltb y.owner o ≡ true) (λ (y : Asked). ltb y.owner o ≡ false) asks i
@@ -66,6 +71,13 @@ module _ (old new : BTreeSet ℕ) (p : ℕ) (updates : Updates nat_cmp old new p
 
   pub put-apart : (n : ℕ) → has new n ≡ false → p ≡ n → ⊥
   put-apart n none same = (let bad : ◌≡◌ {A = Bool} true false = sym put-here ∙ (λ i. has new (same i)) ∙ none in cc)
+
+  pub put-other : (n : ℕ) → has new n ≡ false → nat_eq p n ≡ false
+  put-other n none = by (nat_eq p n) refl
+    where
+      by : (b : Bool) → nat_eq p n ≡ b → nat_eq p n ≡ false
+      by true e = absurd (put-apart n none (eqb-true p n e))
+      by false e = e
 
 -- ---- one is taken out, the least
 

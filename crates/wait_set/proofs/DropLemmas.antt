@@ -7,7 +7,8 @@ use Rattle.std.proofs.lemmas.Bool.{cases_lt, eqb-true}
 use Rattle.std.proofs.lemmas.List.Elements.{All-cons, All-head, All-nil, All-tail}
 use Rattle.timer_queue.specs.Timers.{Timer, removed}
 use Rattle.wait_set.specs.declared.asked.Asked.{Asked}
-use Rattle.wait_set.specs.Concern.{Ascend, has}
+use Rattle.wait_set.specs.Concern.{Ascend}
+use Rattle.wait_set.specs.Readers.{Reads, read_by}
 use Rattle.wait_set.specs.Runs.{AllBefore, AreUnlisted, IsPaired, Pair, has_pair}
 use Rattle.wait_set.specs.Timers.{AreApart, AreFound, AreKept, AreTimed}
 use Rattle.wait_set.proofs.CutLemmas.{apart-cut, cut-length, or-left, or-right, timed-cut, without}
@@ -76,8 +77,8 @@ found-cut i o asks old new ordered lt own rest found =
     })
 
 -- LEMMA: and all is kept, without its timer too
-pub kept-cut : (i o : ℕ) (asks : List Asked) (ts ts' : List Timer) (old new : BTreeSet ℕ) (runs runs' : BTreeSet Pair) (ordered : Bool) → i < length asks → ((d : Asked) → o ≡ (get_or asks i d).owner)
-    → ts' ≡ removed o ts → ((n : ℕ) → nat_eq o n ≡ false → has new n ≡ has old n) → ((s n : ℕ) → nat_eq o n ≡ false → has_pair runs' s n ≡ has_pair runs s n)
+pub kept-cut : (i o : ℕ) (asks : List Asked) (ts ts' : List Timer) (old new : Reads) (runs runs' : BTreeSet Pair) (ordered : Bool) → i < length asks → ((d : Asked) → o ≡ (get_or asks i d).owner)
+    → ts' ≡ removed o ts → ((n : ℕ) → nat_eq o n ≡ false → read_by n new ≡ read_by n old) → ((s n : ℕ) → nat_eq o n ≡ false → has_pair runs' s n ≡ has_pair runs s n)
     → AreKept asks ts old runs ordered → AreKept (without i asks) ts' new runs' ordered
 kept-cut i o asks ts ts' old new runs runs' ordered lt own timers tests rest kept =
     (let x = at-place i asks lt in let same : x.0.owner ≡ o = ap (λ (a : Asked). a.owner) x.1 ∙ sym (own x.0) in record {

@@ -2,10 +2,11 @@
 use Rattle.std.proofs.Common.{◌≡◌, ℕ, zero, suc, ◌<◌, ◌≤◌, List, [], ◌∷◌, ◌++◌, length, take, drop, get_or, set, Bool, true, false, refl, sym, ap, subst, ◌∙◌, arith, Option}
 use Rattle.std.specs.Prelude.{Some, None, option_map, ◌&&◌, if◌then◌else◌}
 use Rattle.ha_journal.specs.Journal.{Journal}
+use Rattle.ha_sight.specs.declared.waiting.WaitEnd.{WaitEnd}
 use Rattle.ha_config.specs.Words.{same}
 use Rattle.ha_sight.specs.Scripts.{Branch}
 use Rattle.wait_set.specs.declared.asked.Asked.{Asked}
-use Rattle.wait_set.specs.Asked.{finished, is_bare, is_of, wait_of, with_end}
+use Rattle.wait_set.specs.Asked.{finished, is_bare, is_of, named_end, wait_of, with_end}
 use Rattle.wait_set.specs.Runs.{HasNone}
 use Rattle.wait_set.specs.Stands.{StandsFor}
 
@@ -33,6 +34,7 @@ finished-stands j s b p (z ∷ zs) a found bare lt stands = by (is_of s b z) fou
             begun = stands.0.begun;
             fresh = λ at. absurd (let early : z.place < length j = subst (λ (w : Asked). w.place < length j) (sym same) lt in omega (arith, early, at));
             end = λ full. absurd (let never : ◌≡◌ {A = Bool} true false = sym (ap (λ (w : Asked). is_bare w.ask) same ∙ bare) ∙ full in cc);
+            unmet = λ begun none. absurd (let bad : ◌≡◌ {A = Option WaitEnd} (Some (named_end p)) None = none in cc);
           },
           stands.1,
         )

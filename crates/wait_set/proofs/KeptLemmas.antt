@@ -1,6 +1,6 @@
 -- What a set keeps beside its waits, when one of them changes, goes or comes.
 use Rattle.std.proofs.Common.{◌≡◌, ℕ, zero, suc, ◌-◌, ◌<◌, List, [], ◌∷◌, length, set, get_or, filter, length-set, All, Bool, true, false, not, refl, sym, ap, subst, ◌∙◌, arith, Option, inl, inr}
-use Rattle.std.specs.Prelude.{Some, None, nat_eq, is_some, is_none, slice_get, ◌&&◌}
+use Rattle.std.specs.Prelude.{Some, None, MatchOption, nat_eq, is_some, is_none, option_map, slice_get, ◌&&◌}
 use Rattle.std.specs.BTreeSet.{BTreeSet}
 use Rattle.std.specs.List.{list_any}
 use Rattle.std.proofs.lemmas.Bool.{cases_lt}
@@ -8,11 +8,14 @@ use Rattle.std.proofs.lemmas.List.Elements.{All-cons, All-filter, All-head, All-
 use Rattle.std.proofs.lemmas.List.Kept.{AllPairs-filter}
 use Rattle.std.proofs.lemmas.List.Quantifiers.{all_pairs_push}
 use Rattle.std.proofs.lemmas.Option.{slice_get-get_or}
+use Rattle.ha_config.specs.declared.template.Template.{Template}
 use Rattle.ha_sight.specs.declared.waiting.WaitEnd.{WaitEnd}
+use Rattle.tpl_reads.specs.Reads.{Written, entities_read}
 use Rattle.timer_queue.specs.Timers.{Timer, removed}
 use Rattle.wait_set.specs.declared.asked.Asked.{Asked}
 use Rattle.wait_set.specs.Asked.{added, is_of}
-use Rattle.wait_set.specs.Concern.{Ascend, has}
+use Rattle.wait_set.specs.Concern.{Ascend}
+use Rattle.wait_set.specs.Readers.{Reads, read_by}
 use Rattle.wait_set.specs.Runs.{IsPaired, Pair, has_pair}
 use Rattle.wait_set.specs.Timers.{AreApart, AreFound, AreKept, AreTimed, IsListed, due_in, is_asking}
 use Rattle.wait_set.proofs.CutLemmas.{or-left, or-right, without}
@@ -62,11 +65,12 @@ asking-kept x y ask some asks = by x.end refl
         never (Some v) h g = cc
 
 -- LEMMA: all is kept where a wait stays as it was, but for what is not told of it
-pub kept-noted : (i : ℕ) (asks : List Asked) (x y : Asked) (ts : List Timer) (testing : BTreeSet ℕ) (runs : BTreeSet Pair) (ordered : Bool) → AreKept asks ts testing runs ordered → i < length asks → x ≡ get_or asks i x → y.owner ≡ x.owner
-    → y.ask ≡ x.ask → due_in y ≡ due_in x → (is_asking y ≡ true → is_asking x ≡ true) → AreKept (set asks i y) ts testing runs ordered
-kept-noted i asks x y ts testing runs ordered kept lt is same ask due asking = record {
+pub kept-noted : (i : ℕ) (asks : List Asked) (x y : Asked) (ts : List Timer) (reads : Reads) (runs : BTreeSet Pair) (ordered : Bool) → AreKept asks ts reads runs ordered → i < length asks → x ≡ get_or asks i x → y.owner ≡ x.owner
+    → y.ask ≡ x.ask → due_in y ≡ due_in x → (is_asking y ≡ true → is_asking x ≡ true) → AreKept (set asks i y) ts reads runs ordered
+kept-noted i asks x y ts reads runs ordered kept lt is same ask due asking = record {
   timed = timed-noted i asks x y ts kept.timed lt is same due;
-  listed = All-set (IsListed testing) asks i y (λ h. (λ k. has testing (same k)) ∙ subst (IsListed testing) (sym is) (kept.listed i x lt) (asking h)) kept.listed;
+  listed = All-set (IsListed reads) asks i y
+      (λ h. (λ k. read_by (same k) reads) ∙ subst (IsListed reads) (sym is) (kept.listed i x lt) (asking h) ∙ (λ k. option_map entities_read (sym ask k).test)) kept.listed;
   paired = paired-set i asks x y runs lt is same ask kept.paired;
   order = λ up. ascend-set i asks x y lt is same (kept.order up);
 }
@@ -80,7 +84,7 @@ gone P y ended asks = absurd (by y.end ended asks)
     by None h g = cc
     by (Some w) h g = cc
 
-module _ (old new : BTreeSet ℕ) (o : ℕ) (rest : (n : ℕ) → nat_eq o n ≡ false → has new n ≡ has old n) where
+module _ (old new : Reads) (o : ℕ) (rest : (n : ℕ) → nat_eq o n ≡ false → read_by n new ≡ read_by n old) where
   listed-others : (zs : List Asked) → list_any (λ b. nat_eq b.owner o) zs ≡ false → All (IsListed old) zs → All (IsListed new) zs
   listed-others [] none all = All-nil (IsListed new)
   listed-others (z ∷ zs) none all =
@@ -91,7 +95,7 @@ module _ (old new : BTreeSet ℕ) (o : ℕ) (rest : (n : ℕ) → nat_eq o n ≡
   listed-ended : (i : ℕ) (asks : List Asked) (x y : Asked) → AreApart asks → All (IsListed old) asks → i < length asks → x ≡ get_or asks i x → x.owner ≡ o → is_some y.end ≡ true → All (IsListed new) (set asks i y)
   listed-ended i [] x y apart all lt is own ended = absurd (omega arith)
   listed-ended zero (z ∷ zs) x y apart all lt is own ended =
-      All-cons (IsListed new) y zs (gone (λ a. has new a.owner ≡ true) y ended)
+      All-cons (IsListed new) y zs (gone (λ a. read_by a.owner new ≡ option_map entities_read a.ask.test) y ended)
       (listed-others zs ((λ k. list_any (λ b. nat_eq b.owner ((sym own ∙ ap (λ (a : Asked). a.owner) is) k)) zs) ∙ apart.0) (All-tail (IsListed old) z zs all))
   listed-ended (suc i) (z ∷ zs) x y apart all lt is own ended =
       All-cons (IsListed new) z (set zs i y)
@@ -109,8 +113,8 @@ module _ (old new : BTreeSet ℕ) (o : ℕ) (rest : (n : ℕ) → nat_eq o n ≡
       (listed-cut i zs x apart.1 (All-tail (IsListed old) z zs all) (omega arith) is own)
 
 -- LEMMA: all is kept where a wait ends, and its timer goes
-pub kept-ended : (i : ℕ) (asks : List Asked) (x y : Asked) (ts ts' : List Timer) (old new : BTreeSet ℕ) (runs runs' : BTreeSet Pair) (ordered : Bool) → AreKept asks ts old runs ordered → i < length asks → x ≡ get_or asks i x → y.owner ≡ x.owner → y.ask ≡ x.ask
-    → is_some y.end ≡ true → ts' ≡ removed x.owner ts → ((n : ℕ) → nat_eq x.owner n ≡ false → has new n ≡ has old n) → runs' ≡ runs → AreKept (set asks i y) ts' new runs' ordered
+pub kept-ended : (i : ℕ) (asks : List Asked) (x y : Asked) (ts ts' : List Timer) (old new : Reads) (runs runs' : BTreeSet Pair) (ordered : Bool) → AreKept asks ts old runs ordered → i < length asks → x ≡ get_or asks i x → y.owner ≡ x.owner → y.ask ≡ x.ask
+    → is_some y.end ≡ true → ts' ≡ removed x.owner ts → ((n : ℕ) → nat_eq x.owner n ≡ false → read_by n new ≡ read_by n old) → runs' ≡ runs → AreKept (set asks i y) ts' new runs' ordered
 kept-ended i asks x y ts ts' old new runs runs' ordered kept lt is same ask ended timers rest alike = record {
   timed = subst (AreTimed (set asks i y)) (sym timers) (timed-ended i asks x y ts kept.timed lt is same (due-lost y ended));
   listed = listed-ended old new x.owner rest i asks x y kept.timed.apart kept.listed lt is refl ended;
@@ -120,14 +124,22 @@ kept-ended i asks x y ts ts' old new runs runs' ordered kept lt is same ask ende
 
 -- ---- one comes
 
-pub kept-added : (a : Asked) (asks : List Asked) (ts ts' : List Timer) (old new : BTreeSet ℕ) (runs runs' : BTreeSet Pair) (ordered stays : Bool) → AreKept asks ts old runs ordered → AreTimed (added a asks) ts'
-    → (is_some a.ask.test ≡ true → has new a.owner ≡ true) → ((n : ℕ) → has old n ≡ true → has new n ≡ true)
+-- what is kept of a wait that asks a template, by cases
+kept-of : (o : Option Template) (kept : Option Written) → MatchOption o (Unit {0}) (λ t. kept ≡ Some (entities_read t)) → is_some o ≡ true → kept ≡ option_map entities_read o
+kept-of None kept h some = absurd (let bad : ◌≡◌ {A = Bool} false true = some in cc)
+kept-of (Some t) kept h some = h
+
+-- LEMMA: all is kept where a wait comes, of whose owner no other has one
+pub kept-added : (a : Asked) (asks : List Asked) (ts ts' : List Timer) (old new : Reads) (runs runs' : BTreeSet Pair) (ordered stays : Bool) → AreKept asks ts old runs ordered → AreTimed (added a asks) ts'
+    → list_any (λ b. nat_eq b.owner a.owner) asks ≡ false → MatchOption a.ask.test (Unit {0}) (λ t. read_by a.owner new ≡ Some (entities_read t))
+    → ((n : ℕ) → nat_eq a.owner n ≡ false → read_by n new ≡ read_by n old)
     → All (IsPaired runs') (added a asks)
     → (stays ≡ true → (ordered ≡ true) × (Ascend asks → All (λ (b : Asked). b.owner < a.owner) asks)) → AreKept (added a asks) ts' new runs' stays
-kept-added a asks ts ts' old new runs runs' ordered stays kept timed here more paired above = record {
+kept-added a asks ts ts' old new runs runs' ordered stays kept timed none here others paired above = record {
   timed = timed;
   paired = paired;
-  listed = All-push (IsListed new) left a (All-filter keep (IsListed new) asks (All-weaker (IsListed old) (IsListed new) (λ b was asks. more b.owner (was asks)) asks kept.listed)) (λ asks. here (right (is_none a.end) (is_some a.ask.test) asks));
+  listed = All-push (IsListed new) left a (All-filter keep (IsListed new) asks (listed-others old new a.owner others asks none kept.listed))
+      (λ asking. kept-of a.ask.test (read_by a.owner new) here (right (is_none a.end) (is_some a.ask.test) asking));
   order = λ up. all_pairs_push (λ (b c : Asked). b.owner < c.owner) left a (AllPairs-filter (λ (b c : Asked). b.owner < c.owner) keep asks (kept.order (above up).0))
       (All-filter keep (λ (b : Asked). b.owner < a.owner) asks ((above up).1 (kept.order (above up).0)));
 }
@@ -142,20 +154,21 @@ kept-added a asks ts ts' old new runs runs' ordered stays kept timed here more p
     right true q h = h
     right false q h = cc
 
--- LEMMA: more may be listed
-pub kept-listed : (asks : List Asked) (ts ts' : List Timer) (old new : BTreeSet ℕ) (runs runs' : BTreeSet Pair) (ordered : Bool) → AreKept asks ts old runs ordered → AreTimed asks ts' → ((n : ℕ) → has old n ≡ true → has new n ≡ true)
+-- LEMMA: more may be listed, and of an owner whom no wait has anything be kept
+pub kept-listed : (o : ℕ) (asks : List Asked) (ts ts' : List Timer) (old new : Reads) (runs runs' : BTreeSet Pair) (ordered : Bool) → AreKept asks ts old runs ordered → AreTimed asks ts'
+    → list_any (λ b. nat_eq b.owner o) asks ≡ false → ((n : ℕ) → nat_eq o n ≡ false → read_by n new ≡ read_by n old)
     → ((s o : ℕ) → has_pair runs s o ≡ true → has_pair runs' s o ≡ true) → AreKept asks ts' new runs' ordered
-kept-listed asks ts ts' old new runs runs' ordered kept timed more rest = record {
+kept-listed o asks ts ts' old new runs runs' ordered kept timed none others rest = record {
   timed = timed;
   paired = All-weaker (IsPaired runs) (IsPaired runs') (λ b was. rest b.ask.serial b.owner was) asks kept.paired;
-  listed = All-weaker (IsListed old) (IsListed new) (λ b was asks. more b.owner (was asks)) asks kept.listed;
+  listed = listed-others old new o others asks none kept.listed;
   order = kept.order;
 }
 
 -- LEMMA: and each is found
-pub found-of : (asks : List Asked) (ts : List Timer) (testing : BTreeSet ℕ) (runs runs' : BTreeSet Pair) (ordered : Bool) → AreKept asks ts testing runs ordered → ((s o : ℕ) → has_pair runs s o ≡ true → has_pair runs' s o ≡ true)
+pub found-of : (asks : List Asked) (ts : List Timer) (reads : Reads) (runs runs' : BTreeSet Pair) (ordered : Bool) → AreKept asks ts reads runs ordered → ((s o : ℕ) → has_pair runs s o ≡ true → has_pair runs' s o ≡ true)
     → AreFound asks runs' ordered
-found-of asks ts testing runs runs' ordered kept rest = record {
+found-of asks ts reads runs runs' ordered kept rest = record {
   apart = kept.timed.apart;
   paired = All-weaker (IsPaired runs) (IsPaired runs') (λ b was. rest b.ask.serial b.owner was) asks kept.paired;
   order = kept.order;

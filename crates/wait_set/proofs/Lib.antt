@@ -10,9 +10,12 @@ pub mod ConcernLemmas
 pub mod NotedLemmas
 pub mod CalmLemmas
 pub mod KeptLemmas
+pub mod ReaderLemmas
 pub mod RunLemmas
 pub mod PairLemmas
 pub mod DropLemmas
 pub mod OnLemmas
 pub mod FinishLemmas
 pub mod BareLemmas
+pub mod QuietLemmas
+pub mod TestedLemmas

@@ -57,14 +57,29 @@ or-same : (e a b : Option WaitEnd) → (e ≡ None → a ≡ b) → or_else e a 
 or-same None a b h = h refl
 or-same (Some x) a b h = refl
 
+-- a wait that is pending behind an entry has a template that is not true there
+unmet-noted : (place : ℕ) (seen : Sight) (values : List Value) (given : WaitAsk) (e : Option WaitEnd) → or_else e (end_now place seen values given) ≡ None
+    → option_map_or (λ t. says (rendered seen t given.env)) given.test false ≡ false
+unmet-noted place seen values given (Some w) none = absurd (let bad : ◌≡◌ {A = Option WaitEnd} (Some w) None = none in cc)
+unmet-noted place seen values given None none =
+    by (option_map_or (λ t. says (rendered seen t given.env)) given.test false) (is_some (first_of_list values)) (is_late seen given) none
+  where
+    by : (met told late : Bool) → (if (met || told) || late then Some (end_with place seen values given) else None) ≡ None → met ≡ false
+    by true told late h = absurd (let bad : ◌≡◌ {A = Option WaitEnd} (Some (end_with place seen values given)) None = h in cc)
+    by false told late h = refl
+
 noted-stands-one : (j : Journal) (x : Entry) → HasEntry j → (place : ℕ) → place ≡ length j → (seen : Sight) → seen ≡ sight (more j x) (suc place) → (fired : List Firing) (a : Asked)
     → (a.end ≡ None → (ask : Ask) → a.ask.triggers ≡ ask.triggers → fired_values a.owner fired ≡ all_fired (more j x) ask a.place place) → StandsOne j a → StandsOne (more j x) (noted_one place seen fired a)
 noted-stands-one j x h place at seen sees fired a fires stands = record {
   begun = omega (arith, length-more j x, stands.begun);
   fresh = λ e. absurd (omega (arith, e, length-more j x, stands.begun));
   end = λ full ask is. ends full ask is;
+  unmet = λ begun none. (λ i. option_map_or (λ t. says (rendered (seen-is i) t a.ask.env)) a.ask.test false) ∙ unmet-noted place seen (fired_values a.owner fired) a.ask a.end none;
 }
   where
+    seen-is : sight (more j x) (length (more j x)) ≡ seen
+    seen-is = (let long : length (more j x) ≡ suc place = omega (arith, at, length-more j x) in λ i. sight (more j x) (long i)) ∙ sym sees
+
     before : is_bare a.ask ≡ false → (ask : Ask) → IsAsk (more j x) a.place a.ask ask → a.end ≡ wait_end j ask a.place
     before full ask is = by (nat_le (suc a.place) (length j)) refl
       where
@@ -111,7 +126,12 @@ snoc-stands j (b ∷ asks) a s one = (s.0, snoc-stands j asks a s.1 one)
 pub added-stands : (j : Journal) (asks : List Asked) (a : Asked) → HasEntry j → a.place ≡ length j → a.end ≡ None → StandsFor asks j → StandsFor (added a asks) j
 added-stands j asks a h at none s =
     snoc-stands j (filter (λ b. not (is_of a.ask.serial a.ask.branch b)) asks) a (kept-stands (λ b. not (is_of a.ask.serial a.ask.branch b)) j asks s)
-    (record { begun = omega (arith, at); fresh = λ e. none; end = λ full ask is. none ∙ sym (not-begun j h ask) ∙ (λ i. wait_end j ask (sym at i)) })
+    (record {
+      begun = omega (arith, at);
+      fresh = λ e. none;
+      end = λ full ask is. none ∙ sym (not-begun j h ask) ∙ (λ i. wait_end j ask (sym at i));
+      unmet = λ before pending. absurd (omega (arith, at, before));
+    })
 
 -- LAW: without the waits of a run the others stand
 pub dropped-stands : (j : Journal) (serial : ℕ) (asks : List Asked) → StandsFor asks j → StandsFor (without_run serial asks) j

@@ -1,4 +1,4 @@
-//! Which waits an entry concerns: those for whose owners something fires, those whose due has come, and those that ask a template.
+//! Which waits an entry concerns: those for whose owners something fires, those whose due has come, and those whose templates are tested.
 ghost use Rattle.std.specs.Prelude.{◌≡◌, ◌<◌, ℕ, IfOk, IfSome, OnOk, Some, false, length, nat_eq, slice_index_or};
 ghost use Rattle.std.specs.List.{list_any};
 ghost use Rattle.wait_set.specs.declared.asked.Asked.{Asked as Wait};
@@ -13,9 +13,10 @@ use std::collections::BTreeSet;
 use timer_queue::TimerQueue;
 
 /// The place behind those of lesser owners, found by halves.
-fn place_from(asks: &[Asked], owner: u64) -> usize
+pub fn place_from(asks: &[Asked], owner: u64) -> usize
     requires { Ascend asks.now }
-    ensures { (n : ℕ) (d : Wait) → n < length asks.now → (slice_index_or asks.now n d).owner ≡ owner → result ≡ n }
+    ensures here { (n : ℕ) (d : Wait) → n < length asks.now → (slice_index_or asks.now n d).owner ≡ owner → result ≡ n }
+    ensures before { (n : ℕ) (d : Wait) → n < result → n < length asks.now → (slice_index_or asks.now n d).owner < owner }
 {
     asks.partition_point(|asked| asked.owner < owner)
 }
@@ -92,17 +93,17 @@ fn put_due(asks: &[Asked], owners: &[u64], places: &mut BTreeSet<usize>) -> Resu
 }
 
 /// The places of the waits for whose owners something fires, of those whose timer is due, and of
-/// those whose owners are among `testing`.
+/// those whose owners are among `tested`.
 pub fn concerned(
     alloc: Global,
     asks: &[Asked],
     timers: &TimerQueue,
-    testing: &BTreeSet<u64>,
+    tested: &BTreeSet<u64>,
     fired: &[Firing],
     now: Moment,
 ) -> Result<BTreeSet<usize>, AllocError>
     requires { Ascend asks.now }
-    ensures tests { IfOk result (λ places. OfOthers (λ a. has testing.now a.owner ≡ false) places asks.now) }
+    ensures tests { IfOk result (λ places. OfOthers (λ a. has tested.now a.owner ≡ false) places asks.now) }
     ensures fires { IfOk result (λ places. OfOthers (λ a. fires_for fired.now a.owner ≡ false) places asks.now) }
     ensures dues { IfOk result (λ places. OfOthers (λ a. IsLater now timers.now a.owner) places asks.now) }
 {
@@ -110,6 +111,6 @@ pub fn concerned(
     let due = timers.due_keys(alloc, now)?;
     put_due(asks, due.as_slice(), &mut places)?;
     put_fired(asks, fired, &mut places)?;
-    put_owners(asks, testing, &mut places)?;
+    put_owners(asks, tested, &mut places)?;
     Ok(places)
 }

@@ -1,7 +1,8 @@
 //! The waits at an entry: each is noted, or those alone that it concerns.
-ghost use Rattle.std.specs.Prelude.{◌≡◌, ◌++◌, Bool, OnOk};
+ghost use Rattle.std.specs.Prelude.{◌≡◌, ◌++◌, All, Bool, OnOk};
 ghost use Rattle.wait_set.specs.Asked.{ended_at, noted, noted_at, owners_ended};
-ghost use Rattle.wait_set.specs.Concern.{IsStill, OfOthers};
+ghost use Rattle.wait_set.specs.Concern.{IsStill, OfOthers, has};
+ghost use Rattle.wait_set.specs.Tested.{TestedOrQuiet};
 ghost use Rattle.wait_set.specs.Timers.{AreKept};
 
 use crate::asked::{Asked, note_one};
@@ -26,8 +27,8 @@ fn note_at<A: Answers>(
 ) -> Result<(), AllocError>
     ensures ok { OnOk result (asks.new.items ≡ noted_at place (A.sight answers.now) fired.now at asks.old.items) }
     ensures fresh { OnOk result (fresh.new.items ≡ fresh.old.items ++ ended_at place (A.sight answers.now) fired.now at asks.old.items) }
-    ensures kept { (ordered : Bool) → AreKept asks.old.items pending.old.timers pending.old.testing pending.old.runs ordered
-        → AreKept asks.new.items pending.new.timers pending.new.testing pending.new.runs ordered }
+    ensures kept { (ordered : Bool) → AreKept asks.old.items pending.old.timers pending.old.readers pending.old.runs ordered
+        → AreKept asks.new.items pending.new.timers pending.new.readers pending.new.runs ordered }
 {
     if at >= asks.len() {
         return Ok(());
@@ -53,8 +54,8 @@ fn note_all<A: Answers>(
 ) -> Result<(), AllocError>
     ensures ok { OnOk result (asks.new.items ≡ noted place (A.sight answers.now) fired.now asks.old.items) }
     ensures fresh { OnOk result (fresh.new.items ≡ fresh.old.items ++ owners_ended place (A.sight answers.now) fired.now asks.old.items) }
-    ensures kept { (ordered : Bool) → AreKept asks.old.items pending.old.timers pending.old.testing pending.old.runs ordered
-        → AreKept asks.new.items pending.new.timers pending.new.testing pending.new.runs ordered }
+    ensures kept { (ordered : Bool) → AreKept asks.old.items pending.old.timers pending.old.readers pending.old.runs ordered
+        → AreKept asks.new.items pending.new.timers pending.new.readers pending.new.runs ordered }
 {
     for at in 0..asks.len() {
         note_at(alloc, at, asks, fresh, pending, place, fired, answers)?;
@@ -76,8 +77,8 @@ fn note_some<A: Answers>(
     requires { OfOthers (IsStill place (A.sight answers.now) fired.now) places asks.old.items }
     ensures ok { OnOk result (asks.new.items ≡ noted place (A.sight answers.now) fired.now asks.old.items) }
     ensures fresh { OnOk result (fresh.new.items ≡ fresh.old.items ++ owners_ended place (A.sight answers.now) fired.now asks.old.items) }
-    ensures kept { (ordered : Bool) → AreKept asks.old.items pending.old.timers pending.old.testing pending.old.runs ordered
-        → AreKept asks.new.items pending.new.timers pending.new.testing pending.new.runs ordered }
+    ensures kept { (ordered : Bool) → AreKept asks.old.items pending.old.timers pending.old.readers pending.old.runs ordered
+        → AreKept asks.new.items pending.new.timers pending.new.readers pending.new.runs ordered }
 {
     let mut left = places;
     'places: while let Some(at) = left.pop_first() {
@@ -95,13 +96,15 @@ pub(crate) fn note_entry<A: Answers>(
     pending: &mut Pending,
     ordered: bool,
     place: u64,
+    tested: &BTreeSet<u64>,
     fired: &Many<Firing>,
     answers: &A,
 ) -> Result<(), AllocError>
-    requires { AreKept asks.old.items pending.old.timers pending.old.testing pending.old.runs ordered }
+    requires kept { AreKept asks.old.items pending.old.timers pending.old.readers pending.old.runs ordered }
+    requires quiet { All (TestedOrQuiet (A.sight answers.now) (has tested.now)) asks.old.items }
     ensures ok { OnOk result (asks.new.items ≡ noted place (A.sight answers.now) fired.now asks.old.items) }
     ensures fresh { OnOk result (fresh.new.items ≡ fresh.old.items ++ owners_ended place (A.sight answers.now) fired.now asks.old.items) }
-    ensures kept { AreKept asks.new.items pending.new.timers pending.new.testing pending.new.runs ordered }
+    ensures kept { AreKept asks.new.items pending.new.timers pending.new.readers pending.new.runs ordered }
 {
     if asks.is_empty() || !ordered {
         return note_all(alloc, asks, fresh, pending, place, fired, answers);
@@ -110,7 +113,7 @@ pub(crate) fn note_entry<A: Answers>(
         alloc,
         asks.as_slice(),
         &pending.timers,
-        &pending.testing,
+        tested,
         fired.as_slice(),
         answers.now(),
     )?;

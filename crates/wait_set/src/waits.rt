@@ -1,13 +1,17 @@
 //! The set of pending and ended waits.
-ghost use Rattle.std.specs.Prelude.{◌≡◌, ◌≤◌, ◌<◌, ◌-◌, suc, take, drop, filter, not, vec_capacity, [], ◌∷◌, ◌++◌, All, IfSome, IsNone, OnOk, OnErr, None, Some, true, false, length, nat_eq, is_none, is_some, option_map, ◌||◌, ◌&&◌, ℕ};
+ghost use Rattle.std.specs.Prelude.{◌≡◌, ◌≤◌, ◌<◌, ◌-◌, suc, take, drop, filter, not, vec_capacity, [], ◌∷◌, ◌++◌, All, Bool, IfOk, IfSome, IsNone, OnOk, OnErr, None, Some, true, false, length, nat_eq, is_none, is_some, option_map, ◌||◌, ◌&&◌, ℕ};
 ghost use Rattle.std.specs.List.{list_any};
+ghost use Rattle.ha_value.specs.declared.value.EntityId.{EntityId as Entity};
+ghost use Rattle.ha_config.specs.Words.{same_entity};
 ghost use Rattle.ha_journal.specs.declared.entry.Entry.{Entry};
 ghost use Rattle.ha_journal.specs.Journal.{HasEntry, Journal, more};
 ghost use Rattle.ha_sight.specs.Scripts.{Branch as Path};
 ghost use Rattle.wait_set.specs.declared.asked.Asked.{Asked as Wait};
 ghost use Rattle.wait_set.specs.Asked.{added, end_of, finished, is_bare, is_of, noted, owners_ended, owners_of, wait_of, without_run};
 ghost use Rattle.wait_set.specs.Concern.{Ascend, has};
+ghost use Rattle.wait_set.specs.Readers.{is_reader};
 ghost use Rattle.wait_set.specs.Stands.{IsNext, StandsFor};
+ghost use Rattle.wait_set.specs.Tested.{TestedOrQuiet, TestedOrSpared};
 ghost use Rattle.wait_set.specs.Runs.{AllBefore, AreUnlisted, IsPaired, has_pair};
 ghost use Rattle.wait_set.specs.Timers.{AreFound, AreKept, AreTimed, timer_added};
 ghost use Rattle.timer_queue.specs.Timers.{due_of};
@@ -15,11 +19,13 @@ ghost use Rattle.timer_queue.specs.Timers.{due_of};
 use crate::asked::{Asked, is_of};
 use crate::note::note_entry;
 use crate::pending::{Pending, list_ask, settle};
+use crate::readers::Readers;
 use crate::runs::{ask_of, next_place, owner_from, owner_in, place_in_branch, unlist};
+use crate::tested::{add_readers, tested_from};
 use ha_clock::Moment;
 use ha_journal::Firing;
 use ha_sight::{Answers, Branch, Ended, WaitAsk, WaitEnd};
-use ha_value::Many;
+use ha_value::{EntityId, Many};
 use std::alloc::{AllocError, Global};
 use std::collections::BTreeSet;
 use std::marker::Model;
@@ -52,7 +58,7 @@ impl Model for Waits {
 
     ghost view = { λ w. record { asks = w.asks.items; fresh = w.fresh.items } };
 
-    ghost invariant = { λ w. AreKept w.asks.items w.pending.timers w.pending.testing w.pending.runs w.ordered };
+    ghost invariant = { λ w. AreKept w.asks.items w.pending.timers w.pending.readers w.pending.runs w.ordered };
 }
 
 impl Waits {
@@ -67,7 +73,7 @@ impl Waits {
             fresh: Vec::new(alloc),
             pending: Pending {
                 timers: TimerQueue::make(alloc),
-                testing: BTreeSet::new(alloc),
+                readers: Readers::make(alloc),
                 runs: BTreeSet::new(alloc),
             },
             ordered: true,
@@ -76,7 +82,13 @@ impl Waits {
 
     /// A wait, asked for by the step at `place`; its triggers are attached under `owner`. An ended
     /// wait of its run and branch gives way to it. After an error all is as before.
-    pub fn add(&mut self, ask: WaitAsk, owner: u64, place: u64) -> Result<(), AllocError>
+    pub fn add(
+        &mut self,
+        alloc: Global,
+        ask: WaitAsk,
+        owner: u64,
+        place: u64,
+    ) -> Result<(), AllocError>
         requires owner { list_any (λ a. nat_eq a.owner owner) self.old.asks ≡ false }
         requires pending { list_any (λ a. is_of ask.serial ask.branch a && is_none a.end) self.old.asks ≡ false }
         ensures ok { OnOk result (self.new.asks ≡ added (record { owner = owner; place = place; ask = ask; end = None }) self.old.asks) }
@@ -85,7 +97,7 @@ impl Waits {
         ensures stands { OnOk result ((j : Journal) → HasEntry j → StandsFor self.old.asks j → place ≡ length j → StandsFor self.new.asks j) }
     {
         let ordered = stay_ordered(self.ordered, self.asks.as_slice(), owner);
-        list_ask(&mut self.pending, &ask, owner)?;
+        list_ask(&mut self.pending, alloc, &ask, owner)?;
         add_one(
             &mut self.asks,
             &mut self.pending.timers,
@@ -102,15 +114,47 @@ impl Waits {
         Ok(())
     }
 
+    /// The owners of the waits whose templates the next entry tests, where it changes no state: of
+    /// those whose templates' entities are not all written in them, and of those that have an owner
+    /// from `from` on, with which no entry was noted yet.
+    pub fn tested(&self, alloc: Global, from: u64) -> Result<BTreeSet<u64>, AllocError>
+        ensures { IfOk result (λ tested. All (TestedOrSpared from (λ e. false) (has tested)) self.now.asks) }
+    {
+        let tested = tested_from(
+            alloc,
+            self.asks.as_slice(),
+            &self.pending.readers,
+            self.ordered,
+            from,
+        )?;
+        Ok(tested)
+    }
+
+    /// Adds those whose templates read an entity whose state it changes.
+    pub fn add_readers(
+        &self,
+        entity: &EntityId,
+        tested: &mut BTreeSet<u64>,
+    ) -> Result<(), AllocError>
+        ensures { OnOk result ((from : ℕ) (changes : Entity → Bool) → All (TestedOrSpared from changes (has tested.old)) self.now.asks
+            → All (TestedOrSpared from (λ e. same_entity entity.now e || changes e) (has tested.new)) self.now.asks) }
+    {
+        add_readers(self.asks.as_slice(), &self.pending.readers, entity, tested)?;
+        Ok(())
+    }
+
     /// Notes the next entry, where `answers` holds what is seen after it, and `fired` what fires
-    /// at it, of other owners too. After an error the set may only be dropped.
+    /// at it, of other owners too. Of templates it asks those of the owners in `tested` alone. After
+    /// an error the set may only be dropped.
     pub fn note<A: Answers>(
         &mut self,
         alloc: Global,
         place: u64,
+        tested: &BTreeSet<u64>,
         fired: &Many<Firing>,
         answers: &A,
     ) -> Result<(), AllocError>
+        requires quiet { All (TestedOrQuiet (A.sight answers.now) (has tested.now)) self.old.asks }
         ensures ok { OnOk result (self.new.asks ≡ noted place (A.sight answers.now) fired.now self.old.asks) }
         ensures fresh { OnOk result (self.new.fresh ≡ owners_ended place (A.sight answers.now) fired.now self.old.asks) }
         ensures told { OnOk result ((serial : ℕ) (branch : Path) (a : Wait) → wait_of serial branch self.old.asks ≡ Some a
@@ -125,6 +169,7 @@ impl Waits {
             &mut self.pending,
             self.ordered,
             place,
+            tested,
             fired,
             answers,
         )?;
@@ -227,9 +272,9 @@ fn finish_one(
     branch: &Branch,
     place: u64,
 )
-    requires { AreKept asks.old.items pending.old.timers pending.old.testing pending.old.runs ordered }
+    requires { AreKept asks.old.items pending.old.timers pending.old.readers pending.old.runs ordered }
     ensures asks { asks.new.items ≡ finished serial branch.now place asks.old.items }
-    ensures kept { AreKept asks.new.items pending.new.timers pending.new.testing pending.new.runs ordered }
+    ensures kept { AreKept asks.new.items pending.new.timers pending.new.readers pending.new.runs ordered }
 {
     let at = place_in_branch(asks.as_slice(), &pending.runs, ordered, serial, branch);
     if at >= asks.len() {
@@ -382,11 +427,11 @@ fn stay_ordered(ordered: bool, asks: &[Asked], owner: u64) -> bool
 
 /// Takes the waits of a run out, with what is kept of them.
 fn drop_all(asks: &mut Vec<Asked>, pending: &mut Pending, ordered: bool, serial: u64)
-    requires { AreKept asks.old.items pending.old.timers pending.old.testing pending.old.runs ordered }
+    requires { AreKept asks.old.items pending.old.timers pending.old.readers pending.old.runs ordered }
     ensures rest { asks.new.items ≡ without_run serial asks.old.items }
-    ensures kept { AreKept asks.new.items pending.new.timers pending.new.testing pending.new.runs ordered }
+    ensures kept { AreKept asks.new.items pending.new.timers pending.new.readers pending.new.runs ordered }
     ensures unlisted { AreUnlisted asks.old.items asks.new.items (has_pair pending.old.runs serial) (has_pair pending.new.runs serial) }
-    ensures settled { AreUnlisted asks.old.items asks.new.items (has pending.old.testing) (has pending.new.testing) }
+    ensures settled { AreUnlisted asks.old.items asks.new.items (is_reader pending.old.readers) (is_reader pending.new.readers) }
 {
     let mut at = 0;
     'asks: while at < asks.len() {
@@ -404,14 +449,14 @@ fn drop_next(
     from: usize,
 ) -> usize
     requires fits { from < length asks.old.items }
-    requires kept { AreKept asks.old.items pending.old.timers pending.old.testing pending.old.runs ordered }
+    requires kept { AreKept asks.old.items pending.old.timers pending.old.readers pending.old.runs ordered }
     ensures fits { result ≤ length asks.new.items }
     ensures smaller { length asks.new.items - result < length asks.old.items - from }
     ensures rest { without_run serial asks.new.items ≡ without_run serial asks.old.items }
     ensures before { AllBefore (λ a. not (nat_eq a.ask.serial serial)) asks.old.items from → AllBefore (λ a. not (nat_eq a.ask.serial serial)) asks.new.items result }
-    ensures kept { AreKept asks.new.items pending.new.timers pending.new.testing pending.new.runs ordered }
+    ensures kept { AreKept asks.new.items pending.new.timers pending.new.readers pending.new.runs ordered }
     ensures unlisted { AreUnlisted asks.old.items asks.new.items (has_pair pending.old.runs serial) (has_pair pending.new.runs serial) }
-    ensures settled { AreUnlisted asks.old.items asks.new.items (has pending.old.testing) (has pending.new.testing) }
+    ensures settled { AreUnlisted asks.old.items asks.new.items (is_reader pending.old.readers) (is_reader pending.new.readers) }
 {
     let at = next_place(asks.as_slice(), &pending.runs, ordered, serial, from);
     if at >= asks.len() {

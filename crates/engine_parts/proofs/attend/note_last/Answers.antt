@@ -6,13 +6,22 @@ use Rattle.script_calls.specs.Seen as shown
 use Rattle.trig_set.specs.Next.{IsNext}
 use Rattle.ha_past.specs.Firings.{firings}
 use Rattle.trig_set.specs.Stands as triggers
+use Rattle.wait_set.specs.Concern.{has}
 use Rattle.wait_set.specs.Stands as waits
 use Rattle.engine_parts.proofs.NoteEntry.{untold-next, untold-told, told-by}
+use Rattle.engine_parts.proofs.TestedLemmas.{tested-quiet}
 use Rattle.engine_parts.proofs.ViewLemmas.{helpers-shown, place-seen, units-numbered}
 use Rattle.engine_parts.proofs.attend.note_last.Goals as goal
 
-pub note-requires : goal.note-requires
-note-requires c = record { in_time = c.make-view.ensures.timely }
+pub note-requires-clause-in_time : goal.note-requires-clause-in_time
+note-requires-clause-in_time c = c.make-view.ensures.timely
+
+pub note-requires-clause-quiet : goal.note-requires-clause-quiet
+note-requires-clause-quiet c =
+    let k = c.args.journal.now in
+    let sees =
+    c.make-view.ensures.sees ∙ place-seen k c.args.states.now c.args.numbers.now c.configuration.result.now c.args.zone.now c.args.at c.args.helpers.now c.requires.looks c.requires.sound (has-entry k c.requires.untold.journal) c.requires.helpers c.configuration.ensures.configured in
+    tested-quiet k c.args.triggers.now c.args.waits.now c.args.before c.requires.untold (shown.sees c.make-view.result) (has c.in_ok-tested.tested) sees c.in_ok-tested.ensures
 
 pub returns-clause-told : goal.returns-clause-told
 returns-clause-told c =

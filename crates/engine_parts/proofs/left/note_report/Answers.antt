@@ -6,14 +6,24 @@ use Rattle.ha_journal.specs.Moves.{sight}
 use Rattle.ha_journal.proofs.MoreLemmas.{has-entry}
 use Rattle.script_calls.specs.Seen as shown
 use Rattle.trig_set.specs.Stands as triggers
+use Rattle.wait_set.specs.Concern.{has}
 use Rattle.wait_set.specs.Stands as waits
 use Rattle.engine_parts.proofs.NoteEntry.{told-by}
 use Rattle.engine_parts.proofs.NoteLeft.{left-next, left-none, left-now, left-quiet, left-waits, report}
+use Rattle.engine_parts.proofs.TestedLemmas.{tested-quiet}
 use Rattle.engine_parts.proofs.ViewLemmas.{helpers-shown, place-seen, units-numbered}
 use Rattle.engine_parts.proofs.left.note_report.Goals as goal
 
 pub note_left-requires : goal.note_left-requires
 note_left-requires c = record { left = c.requires.untold.left }
+
+pub note_waits-requires : goal.note_waits-requires
+note_waits-requires c =
+    let k = c.args.journal.now in
+    let h = c.requires.untold in
+    let sees =
+    c.make-view.ensures.sees ∙ place-seen k c.args.states.now c.args.numbers.now c.configuration.result.now c.args.zone.now c.args.at c.args.helpers.now c.requires.looks c.requires.sound (has-entry k h.untold.journal) c.requires.helpers c.configuration.ensures.configured in
+    record { quiet = tested-quiet k c.args.triggers.now c.args.waits.now ((c.args.entity.now, h.old) ∷ []) h.untold (shown.sees c.make-view.result) (has c.in_ok-tested.tested) sees c.in_ok-tested.ensures }
 
 pub returns-clause-told : goal.returns-clause-told
 returns-clause-told c =
@@ -52,6 +62,16 @@ returns-clause-fired c =
 
 pub returns-in_err-note_left-clause-fired : goal.returns-in_err-note_left-clause-fired
 returns-in_err-note_left-clause-fired c =
+    let k = c.args.journal.now in
+    let t = c.args.triggers.now in
+    let w = c.args.waits.now in
+    let e = c.args.entity.now in
+    let text = c.args.text.now in
+    let attributes = c.args.attributes.now in
+    left-none k t w e text attributes c.requires.untold (left-quiet k t w e text attributes c.requires.untold c.args.states.now c.args.numbers.now c.args.zone.now c.args.at c.requires.looks c.note_left.ensures.fired)
+
+pub returns-in_err-tested-clause-fired : goal.returns-in_err-tested-clause-fired
+returns-in_err-tested-clause-fired c =
     let k = c.args.journal.now in
     let t = c.args.triggers.now in
     let w = c.args.waits.now in

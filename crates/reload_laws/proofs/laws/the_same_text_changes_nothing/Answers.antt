@@ -1,7 +1,7 @@
 use Rattle.ha_journal.proofs.SinceLaws.{on-kept}
 use Rattle.reload_laws.proofs.SameForce.{force-same}
 use Rattle.reload_laws.proofs.SameSight.{known-same, sight-same, since-same}
-use Rattle.reload_laws.proofs.SameTriggers.{attempts-same, fires-same, holds-same, new-same, runs-same}
+use Rattle.reload_laws.proofs.SameTriggers.{attempts-same, fires-same, holds-same, new-same, records-same, runs-same}
 use Rattle.reload_laws.proofs.laws.the_same_text_changes_nothing.Goals as goal
 
 pub returns-clause-force : goal.returns-clause-force
@@ -33,3 +33,6 @@ returns-clause-runs c j x s n r found there = runs-same j x s n r found there
 
 pub returns-clause-none_new : goal.returns-clause-none_new
 returns-clause-none_new c j x s = new-same j x s
+
+pub returns-clause-records : goal.returns-clause-records
+returns-clause-records c j x rs s right = records-same j x s rs right

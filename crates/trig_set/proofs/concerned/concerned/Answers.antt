@@ -1,4 +1,5 @@
-use Rattle.std.proofs.Common.{◌≡◌}
+use Rattle.std.proofs.Common.{◌≡◌, false}
+use Rattle.event_bus.specs.Lists.{has}
 use Rattle.timer_queue.specs.Timers.{due_of}
 use Rattle.trig_set.specs.Concerned.{IsAside}
 use Rattle.trig_set.proofs.LeftLemmas.{others-none}
@@ -12,3 +13,7 @@ returns-then-opens-clause-aside c =
 pub returns-then-opens-clause-queue : goal.returns-then-opens-clause-queue
 returns-then-opens-clause-queue c =
     ok-then _ _ c.all_places.result (λ places beyond. others-none c.args.owners.now places (λ m. due_of m c.args.queue.now ≡ due_of m c.args.queue.now) beyond) c.all_places.ensures
+
+pub returns-then-opens-clause-recent : goal.returns-then-opens-clause-recent
+returns-then-opens-clause-recent c =
+    ok-then _ _ c.all_places.result (λ places beyond. others-none c.args.owners.now places (λ m. has c.args.recent.now.owners m ≡ false) beyond) c.all_places.ensures

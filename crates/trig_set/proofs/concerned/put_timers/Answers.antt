@@ -1,25 +1,11 @@
-use Rattle.std.proofs.Common.{◌≡◌, ◌∙◌, sym, arith, inl, inr, length, false}
-use Rattle.std.proofs.lemmas.Bool.Decides.{leb_tells}
+use Rattle.std.proofs.Common.{◌≡◌, ℕ, List, false, subst}
+use Rattle.std.specs.Prelude.{MatchOption, OnOk, slice_get}
 use Rattle.event_bus.specs.Subjects.{Subject, knows}
-use Rattle.trig_set.proofs.LeftLemmas.{event-beyond, events-more, others-more, others-then, others-two}
+use Rattle.ha_journal.specs.declared.event.BusEvent.{BusEvent}
+use Rattle.trig_set.specs.Concerned.{OfOthers}
 use Rattle.trig_set.proofs.concerned.put_timers.Goals as goal
-
-pub loop-place-preserved : goal.loop-place-preserved
-loop-place-preserved c =
-    let kept = c.in_ok-put_some.ensures.kept in
-    record {
-      kept = λ n none. c.loop-place.invariant.kept n (kept n none);
-      aside =
-          others-two c.args.owners.now c.put_some.new.places _ _ _
-          (λ m told here. events-more c.args.index.now c.args.events.now m c.loop-place.place c.index-events-place.result c.loop-place-test.true told (sym (c.of_event.ensures m) ∙ here))
-          (others-more c.args.owners.now c.loop-place.places c.put_some.new.places _ kept c.loop-place.invariant.aside) c.in_ok-put_some.ensures.aside;
-    }
 
 pub returns-clause-aside : goal.returns-clause-aside
 returns-clause-aside c =
-    others-then c.args.owners.now c.loop-place.places _ _
-    (λ m told k. elim (leb_tells (length c.args.events.now) k) [
-      | inl beyond ↦ event-beyond (λ v. knows c.args.index.now (Subject.Event v.kind) m ≡ false) c.args.events.now k beyond.1
-      | inr within ↦ (let below = within.1 in told k (omega (arith, below)))
-    ])
-    c.loop-place.invariant.aside
+    subst (λ (l : List BusEvent). OnOk c.put_kinds.result (OfOthers c.args.owners.now c.put_kinds.new.places (λ m. (k : ℕ) → MatchOption (slice_get l k) (Unit {0}) (λ v. knows c.args.index.now (Subject.Event v.kind) m ≡ false))))
+    c.as_slice.ensures c.put_kinds.ensures.aside

@@ -1,5 +1,6 @@
 use Rattle.std.proofs.Common.{◌≡◌, ℕ, true, false}
 use Rattle.std.specs.Prelude.{MatchOption, option_map, slice_get}
+use Rattle.event_bus.specs.Lists.{has}
 use Rattle.event_bus.specs.Subjects.{Subject, knows}
 use Rattle.ha_journal.specs.Entries.{event_in, is_moment}
 use Rattle.timer_queue.specs.Timers.{due_of}
@@ -34,8 +35,22 @@ returns-clause-aside c =
     (others-two owners third (λ m. entries m × events m) timed (λ m. (entries m × events m) × timed m) (λ m a t. (a, t))
     (others-more owners second third (λ m. entries m × events m) timers-kept
     (others-two owners second entries events (λ m. entries m × events m) (λ m e k. (e, k))
-    (others-more owners c.put_places.new.places second entries c.in_ok-put_event.ensures.kept c.in_ok-put_places.ensures.aside)
+    (others-more owners c.put_entries.new.places second entries c.in_ok-put_event.ensures.kept c.in_ok-put_entries.ensures.entries)
     c.in_ok-put_event.ensures.aside))
     c.in_ok-put_timers.ensures.aside))
     c.in_ok-put_entities.ensures.aside))
     (others-two owners fifth times later (λ m. times m × later m) (λ m t l. (t, l)) c.in_ok-put_moment.ensures.times c.in_ok-put_moment.ensures.later)
+
+pub returns-clause-recent : goal.returns-clause-recent
+returns-clause-recent c =
+    let owners = c.args.owners.now in
+    let given = λ (m : ℕ). has c.args.recent.now.owners m ≡ false in
+    let fourth = c.put_entities.new.places in
+    let third = c.put_timers.new.places in
+    let second = c.put_event.new.places in
+    let timers-kept = c.in_ok-put_timers.ensures.kept in
+    let entities-kept = c.in_ok-put_entities.ensures.kept in
+    others-more owners fourth c.put_moment.new.places given c.in_ok-put_moment.ensures.kept
+    (others-more owners third fourth given entities-kept
+    (others-more owners second third given timers-kept
+    (others-more owners c.put_entries.new.places second given c.in_ok-put_event.ensures.kept c.in_ok-put_entries.ensures.recent)))

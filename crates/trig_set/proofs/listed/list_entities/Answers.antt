@@ -1,7 +1,7 @@
 use Rattle.std.proofs.Common.{◌∙◌, sym}
 use Rattle.std.specs.Prelude.{Some, ◌||◌}
 use Rattle.event_bus.specs.Subjects.{concerns, knows}
-use Rattle.trig_set.proofs.AnyLemmas.{any-part, any-put}
+use Rattle.event_bus.proofs.AnyLemmas.{any-part, any-put}
 use Rattle.trig_set.proofs.listed.list_entities.Goals as goal
 
 pub loop-place-preserved : goal.loop-place-preserved

@@ -1,7 +1,11 @@
 use Rattle.std.proofs.Common.{◌∙◌}
 use Rattle.trig_set.specs.Known.{heeds}
-use Rattle.trig_set.proofs.AnyLemmas.{any-part, any-put}
+use Rattle.event_bus.proofs.AnyLemmas.{any-part, any-put}
+use Rattle.trig_set.proofs.ReadLemmas.{read-there}
 use Rattle.trig_set.proofs.listed.list_some.Goals as goal
+
+pub list_trigger-requires : goal.list_trigger-requires
+list_trigger-requires c = c.read_at.ensures ∙ read-there c.args.triggers.now c.args.reads.now c.loop-place.place c.index-triggers-place.result c.requires c.loop-place-test.true
 
 pub loop-place-preserved : goal.loop-place-preserved
 loop-place-preserved c = record {

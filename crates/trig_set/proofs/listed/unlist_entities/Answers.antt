@@ -1,7 +1,7 @@
 use Rattle.std.proofs.Common.{◌∙◌}
 use Rattle.std.specs.Prelude.{Some, not, ◌&&◌}
 use Rattle.event_bus.specs.Subjects.{concerns, knows}
-use Rattle.trig_set.proofs.AnyLemmas.{any-taken}
+use Rattle.event_bus.proofs.AnyLemmas.{any-taken}
 use Rattle.trig_set.proofs.listed.unlist_entities.Goals as goal
 
 pub loop-place-preserved : goal.loop-place-preserved

@@ -1,8 +1,8 @@
-use Rattle.std.proofs.Common.{◌∙◌, ◌+◌, ◌++◌, zero, ap, arith, length, refl, sym}
+use Rattle.std.proofs.Common.{◌∙◌, ◌+◌, ◌++◌, zero, ap, append-nil, arith, length, refl, sym}
 use Rattle.ha_past.specs.Firings.{Owner}
 use Rattle.trig_set.specs.Kept.{cleared}
 use Rattle.trig_set.specs.Timed.{firings_in}
-use Rattle.trig_set.proofs.LeftLemmas.{append-none, left-before, left-else, left-from, none-left}
+use Rattle.trig_set.proofs.LeftLemmas.{left-before, left-else, left-from, none-left}
 use Rattle.trig_set.proofs.ManyLemmas.{goes-on, goes-set, skip-found, skip-set, unfired-none, unfired-same, whole-found, whole-set}
 use Rattle.trig_set.proofs.OwnersLemmas.{apart}
 use Rattle.trig_set.proofs.many_spots.collect_some.Goals as goal
@@ -13,7 +13,7 @@ places-init c = record {
   ahead = λ n there. omega arith;
   behind = λ n from. refl;
   spots = λ unfired. refl;
-  fired = λ unfired. sym (append-none c.args.fired.now);
+  fired = λ unfired. sym (append-nil c.args.fired.now);
 }
 
 pub places-preserved : goal.places-preserved

@@ -15,7 +15,7 @@ returns-clause-stands g c =
     (λ e j shows sees well listed stand.
     let ripe = c.in_ok-ripen_noted_if.ensures.ripe (c.in_ok-step_some.ensures.timed stand.timed) in
     let calm : (n : ℕ) → has c.in_ok-places.places n ≡ false → At c.args.spots.now n (MovedAt j c.args.scene.now.entry.now c.args.triggers.now c.args.since)
-    = λ n none. aside-moved c.args.scene.now j c.args.index.now c.args.triggers.now c.args.since shows c.requires.within well listed c.args.spots.now c.args.timers.now stand n (c.in_ok-places.ensures n c.args.scene.now.to none) in
+    = λ n none. aside-moved c.args.scene.now j c.args.index.now c.args.triggers.now c.args.since shows c.requires.within well listed c.args.spots.now c.args.timers.now stand c.requires.late n (c.in_ok-places.ensures n c.args.scene.now.to none) in
     let o : Owner = record { owner = c.args.owner; triggers = c.args.triggers.now; since = c.args.since } in
     let place = c.args.scene.now.place in
     let events = c.args.scene.now.events.now in
@@ -23,7 +23,7 @@ returns-clause-stands g c =
     = λ n none.
     let ripened = c.in_ok-ripen_noted_if.ensures.elsewhere n none in
     left-unfired o place events j c.args.triggers.now c.args.since c.args.spots.now c.step_some.new.spots c.ripen_noted_if.new.spots n stand.kept
-    (aside-untimed c.args.scene.now j c.args.index.now c.args.triggers.now c.args.since shows c.requires.within well listed c.args.spots.now c.args.timers.now stand c.args.owner n
+    (aside-untimed c.args.scene.now j c.args.index.now c.args.triggers.now c.args.since shows c.requires.within well listed c.args.spots.now c.args.timers.now stand c.requires.late c.args.owner n
     (c.in_ok-places.ensures n c.args.scene.now.to (c.in_ok-step_some.ensures.aside n ripened.0)))
     (c.in_ok-step_some.ensures.elsewhere n ripened.0).1 ripened.1 in
     spots-stand j c.args.scene.now.entry.now c.args.triggers.now c.args.since well c.args.scene.now.to c.step_some.new.spots c.collect_some.new.spots c.ripen_noted_if.new.timers shows.to
@@ -39,7 +39,7 @@ returns-clause-fired g c =
     (λ e j shows sees well listed stand.
     let ripe = c.in_ok-ripen_noted_if.ensures.ripe (c.in_ok-step_some.ensures.timed stand.timed) in
     let calm : (n : ℕ) → has c.in_ok-places.places n ≡ false → At c.args.spots.now n (MovedAt j c.args.scene.now.entry.now c.args.triggers.now c.args.since)
-    = λ n none. aside-moved c.args.scene.now j c.args.index.now c.args.triggers.now c.args.since shows c.requires.within well listed c.args.spots.now c.args.timers.now stand n (c.in_ok-places.ensures n c.args.scene.now.to none) in
+    = λ n none. aside-moved c.args.scene.now j c.args.index.now c.args.triggers.now c.args.since shows c.requires.within well listed c.args.spots.now c.args.timers.now stand c.requires.late n (c.in_ok-places.ensures n c.args.scene.now.to none) in
     let o : Owner = record { owner = c.args.owner; triggers = c.args.triggers.now; since = c.args.since } in
     let place = c.args.scene.now.place in
     let events = c.args.scene.now.events.now in
@@ -47,7 +47,7 @@ returns-clause-fired g c =
     = λ n none.
     let ripened = c.in_ok-ripen_noted_if.ensures.elsewhere n none in
     left-unfired o place events j c.args.triggers.now c.args.since c.args.spots.now c.step_some.new.spots c.ripen_noted_if.new.spots n stand.kept
-    (aside-untimed c.args.scene.now j c.args.index.now c.args.triggers.now c.args.since shows c.requires.within well listed c.args.spots.now c.args.timers.now stand c.args.owner n
+    (aside-untimed c.args.scene.now j c.args.index.now c.args.triggers.now c.args.since shows c.requires.within well listed c.args.spots.now c.args.timers.now stand c.requires.late c.args.owner n
     (c.in_ok-places.ensures n c.args.scene.now.to (c.in_ok-step_some.ensures.aside n ripened.0)))
     (c.in_ok-step_some.ensures.elsewhere n ripened.0).1 ripened.1 in
     spots-give j c.args.scene.now.entry.now c.args.triggers.now c.args.since well c.args.owner c.args.scene.now.to c.step_some.new.spots c.args.fired.now c.collect_some.new.fired shows.to

@@ -1,4 +1,4 @@
-use Rattle.std.proofs.Common.{◌≡◌, ◌∙◌, ◌+◌, ◌++◌, zero, refl, sym, ap, subst, arith, append_assoc, inl, inr, length, false}
+use Rattle.std.proofs.Common.{◌≡◌, ◌∙◌, ◌+◌, ◌++◌, zero, refl, sym, ap, subst, arith, append_assoc, append-nil, inl, inr, length, false}
 use Rattle.std.specs.Prelude.{flat_map}
 use Rattle.std.proofs.lemmas.Bool.Decides.{eqb_tells, leb_tells}
 use Rattle.event_bus.specs.Lists.{has}
@@ -9,7 +9,7 @@ use Rattle.trig_set.specs.Queued.{HasDue}
 use Rattle.trig_set.specs.Scenes.{Shows}
 use Rattle.trig_set.specs.Stands.{AtOwner, OwnerStands, firings_at}
 use Rattle.trig_set.proofs.CalmLemmas.{never}
-use Rattle.trig_set.proofs.LeftLemmas.{append-none, flat-skip, left-before, left-else, left-from, left-here, none-left}
+use Rattle.trig_set.proofs.LeftLemmas.{flat-skip, left-before, left-else, left-from, left-here, none-left}
 use Rattle.trig_set.proofs.OwnersLemmas.{apart, at-along, fired-along, fires-beyond, flat-up}
 use Rattle.trig_set.proofs.noted.note_some.Goals as goal
 
@@ -22,7 +22,7 @@ places-init g c = record {
   next = zero;
   ahead = λ n there. omega arith;
   behind = λ n from. refl;
-  fired = λ j shows sees all calm. sym (append-none c.args.fired.now);
+  fired = λ j shows sees all calm. sym (append-nil c.args.fired.now);
 }
 
 pub places-preserved : goal.places-preserved

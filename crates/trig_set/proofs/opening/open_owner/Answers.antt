@@ -14,5 +14,6 @@ returns-clause-stands g c =
       spots = subst (λ l. SpotsStand (x ∷ []) a.triggers a.since l a.timers) (sym (written a.spots.len c.open_listed.new.spots a.spots.items (a.spots.ok.0 ∙ ap length (sym v) ∙ sym c.open_listed.auto.spots)))
           (f x a.since a.timers boot sees stands.well (subst (λ l. SpotsStand [] a.triggers a.since l a.timers) (sym v) stands.spots));
       listed = stands.listed;
+      reads = stands.reads;
     })
     c.open_listed.ensures.stands

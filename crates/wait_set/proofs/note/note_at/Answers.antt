@@ -17,7 +17,7 @@ returns-then-at-len-clause-fresh g c =
 
 pub returns-in_err-ends-clause-kept : goal.returns-in_err-ends-clause-kept
 returns-in_err-ends-clause-kept g c ordered kept =
-    subst (λ xs. AreKept xs c.args.pending.now.timers c.args.pending.now.testing c.args.pending.now.runs ordered)
+    subst (λ xs. AreKept xs c.args.pending.now.timers c.args.pending.now.readers c.args.pending.now.runs ordered)
     (sym (set-read c.args.at c.args.asks.now.items c.index_mut-asked.result.now c.note_one.new.asked (omega (arith, c.if-at-len.false, c.len.ensures)) c.index_mut-asked.ensures.value c.in_err-ends.ensures.err)) kept
 
 pub returns-then-not-ends-clause-ok : goal.returns-then-not-ends-clause-ok
@@ -38,7 +38,7 @@ returns-then-not-ends-clause-kept g c ordered kept =
     let same = c.in_ok-ends.ensures.ok in
     let stays = ends-none x y c.in_ok-ends.ends c.in_ok-ends.ensures.ends c.if-not-ends.true in
     let some = stays-some x y _ (ap (λ a. a.end) same) in
-    kept-noted c.args.at c.args.asks.now.items x y c.args.pending.now.timers c.args.pending.now.testing c.args.pending.now.runs ordered kept (omega (arith, c.if-at-len.false, c.len.ensures)) c.index_mut-asked.ensures.value (ap (λ a. a.owner) same)
+    kept-noted c.args.at c.args.asks.now.items x y c.args.pending.now.timers c.args.pending.now.readers c.args.pending.now.runs ordered kept (omega (arith, c.if-at-len.false, c.len.ensures)) c.index_mut-asked.ensures.value (ap (λ a. a.owner) same)
     (ap (λ a. a.ask) same) (due-kept x y (ap (λ a. a.ask) same) stays x.end refl some) (asking-kept x y (ap (λ a. a.ask) same) some)
 
 pub returns-clause-ok : goal.returns-clause-ok
@@ -57,6 +57,6 @@ pub returns-clause-kept : goal.returns-clause-kept
 returns-clause-kept g c ordered kept =
     let x = c.index_mut-asked.result.now in
     let y = c.note_one.new.asked in
-    kept-ended c.args.at c.args.asks.now.items x y c.args.pending.now.timers c.mark.new.pending.timers c.args.pending.now.testing c.mark.new.pending.testing c.args.pending.now.runs c.mark.new.pending.runs ordered kept
+    kept-ended c.args.at c.args.asks.now.items x y c.args.pending.now.timers c.mark.new.pending.timers c.args.pending.now.readers c.mark.new.pending.readers c.args.pending.now.runs c.mark.new.pending.runs ordered kept
     (omega (arith, c.if-at-len.false, c.len.ensures)) c.index_mut-asked.ensures.value (ap (λ a. a.owner) c.in_ok-ends.ensures.ok) (ap (λ a. a.ask) c.in_ok-ends.ensures.ok)
-    (ends-some x y c.in_ok-ends.ends c.in_ok-ends.ensures.ends c.if-not-ends.false) c.mark.ensures.timers c.mark.ensures.testing c.mark.ensures.runs
+    (ends-some x y c.in_ok-ends.ends c.in_ok-ends.ensures.ends c.if-not-ends.false) c.mark.ensures.timers c.mark.ensures.readers c.mark.ensures.runs

@@ -15,5 +15,5 @@ invariant-places g l = record {
   still : (n : ℕ) (d : Asked) → next ≤ n → n < length l.asks.items → has l.left n ≡ false → IsStill l.place (g.A.Answers.sight l.answers) l.fired (get_or l.asks.items n d);
   rest : take next l.asks.items ++ noted l.place (g.A.Answers.sight l.answers) l.fired (drop next l.asks.items) ≡ noted l.place (g.A.Answers.sight l.answers) l.fired l.initial.asks.items;
   fresh : l.fresh.items ++ owners_ended l.place (g.A.Answers.sight l.answers) l.fired (drop next l.asks.items) ≡ l.initial.fresh.items ++ owners_ended l.place (g.A.Answers.sight l.answers) l.fired l.initial.asks.items;
-  kept : (ordered : Bool) → AreKept l.initial.asks.items l.initial.pending.timers l.initial.pending.testing l.initial.pending.runs ordered → AreKept l.asks.items l.pending.timers l.pending.testing l.pending.runs ordered;
+  kept : (ordered : Bool) → AreKept l.initial.asks.items l.initial.pending.timers l.initial.pending.readers l.initial.pending.runs ordered → AreKept l.asks.items l.pending.timers l.pending.readers l.pending.runs ordered;
 }

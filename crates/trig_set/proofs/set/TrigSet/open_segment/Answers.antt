@@ -1,4 +1,4 @@
-use Rattle.std.proofs.Common.{◌≡◌, [], ◌∷◌, ◌++◌, ◌∙◌, ap, map, subst, sym, None}
+use Rattle.std.proofs.Common.{◌≡◌, [], ◌∷◌, ◌++◌, ◌∙◌, ap, map, subst, sym, None, arith}
 use Rattle.std.specs.Prelude.{MatchOption, if◌then◌else◌}
 use Rattle.ha_journal.specs.Journal.{zone_of}
 use Rattle.ha_journal.specs.Moves.{report_number}
@@ -6,6 +6,7 @@ use Rattle.ha_journal.proofs.HeldLaws.{latest-more}
 use Rattle.ha_past.specs.Firings.{firings}
 use Rattle.ha_past.specs.Looks.{or_else}
 use Rattle.trig_set.specs.Known.{AreKnown}
+use Rattle.trig_set.specs.Noted.{AreNoted}
 use Rattle.trig_set.specs.Order.{owner_of}
 use Rattle.trig_set.specs.Queued.{HasDue}
 use Rattle.trig_set.specs.Stands.{AllOwners, OwnerStands, attached}
@@ -19,10 +20,12 @@ returns-clause-stands g c x stands opens =
     let r = c.set_zone.ensures.rest in
     let items = ap (λ s. s.owners) r in
     let known = subst (λ s. AreKnown s.index (attached s)) (sym r) stands.known in
+    let noted = subst (λ s. AreNoted s.recent 0 (attached s)) (sym r) stands.noted in
     let queued = subst (λ s. AllOwners s.owners (HasDue s.queue)) (sym r) stands.queued in
     record {
       owners = c.in_ok-open_all.ensures.stands x opens.boot opens.sees (subst (λ l. AllOwners l (OwnerStands [])) (sym items) stands.owners);
       known = subst (AreKnown c.set_zone.new.self.index) (sym c.open_all.ensures.owners) known;
+      noted = subst (AreNoted c.note.new.self 1) (sym c.open_all.ensures.owners) (c.note.ensures 1 (attached c.set_zone.new.self) (omega arith) noted);
       queued = c.in_ok-open_all.ensures.queued c.set_zone.new.self.queue queued;
       at = c.now-self.ensures ∙ (λ i. (opens.sees i).now) ∙ now-seen (x ∷ []);
       zone = λ h. subst (λ o. MatchOption o ⊥ (λ z. z ≡ zone_of (x ∷ []))) (sym c.in_ok-set_zone.ensures.zone) (sym opens.zone);

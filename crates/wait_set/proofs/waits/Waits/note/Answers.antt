@@ -1,12 +1,18 @@
 use Rattle.std.proofs.Common.{sym, subst}
 use Rattle.ha_journal.specs.Journal.{more}
 use Rattle.wait_set.specs.Stands.{StandsFor}
-use Rattle.std.proofs.Common.{◌∙◌, ap, ◌||◌, ◌++◌, nat_eq, is_some}
+use Rattle.std.proofs.Common.{◌∙◌, ap, ◌||◌, ◌++◌, All, nat_eq, is_some}
 use Rattle.std.specs.List.{list_any}
-use Rattle.wait_set.specs.Asked.{end_of, owners_ended}
+use Rattle.wait_set.specs.Asked.{WaitTable, end_of, owners_ended}
+use Rattle.wait_set.specs.Concern.{has}
+use Rattle.wait_set.specs.Tested.{TestedOrQuiet}
 use Rattle.wait_set.proofs.FreshLemmas.{fresh-tells}
 use Rattle.wait_set.proofs.StandsLaws.{noted-stands}
 use Rattle.wait_set.proofs.waits.Waits.note.Goals as goal
+
+pub note_entry-requires-clause-quiet : goal.note_entry-requires-clause-quiet
+note_entry-requires-clause-quiet g c =
+    subst (λ (w : WaitTable). All (TestedOrQuiet (g.A.Answers.sight c.args.answers.now) (has c.args.tested.now)) w.asks) (sym c.self.view_is) c.requires.quiet
 
 pub returns-clause-stands : goal.returns-clause-stands
 returns-clause-stands g c =

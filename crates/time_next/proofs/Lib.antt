@@ -1,0 +1,4 @@
+pub mod DayLemmas
+pub mod ChangeLemmas
+pub mod ZoneLemmas
+pub mod NextLemmas
